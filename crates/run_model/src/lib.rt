@@ -2,19 +2,27 @@
 //! is made in.
 #![tactic(auto)]
 
+mod answers;
 mod bounds;
+mod commands;
 mod faults;
 mod limits;
 mod moments;
 mod refusals;
+mod scopes;
+mod tasks;
 mod texts;
 
+pub use answers::{Answer, GroupLook, Look, Reply, Started, TaskInfo, TaskLook};
 pub use bounds::{
     FINISH_ROOM, GREATEST_LIMIT, GREATEST_MOMENT, MOST_GROUPS, MOST_SCOPES, MOST_TASKS, NAME_LEN,
     SESSION_LEN, TEXT_LEN,
 };
+pub use commands::{Command, Step, Wish};
 pub use faults::{Fault, Trouble};
 pub use limits::Limit;
 pub use moments::Moment;
 pub use refusals::Refusal;
+pub use scopes::{Hit, Kind, Reason, Scope};
+pub use tasks::{Group, Outcome, Phase, Stage, Task};
 pub use texts::{Name, Text};
