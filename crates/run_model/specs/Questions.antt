@@ -1,5 +1,5 @@
 -- What the questions answer, read off the rows.
-use Rattle.std.specs.Prelude.{ℕ, List, Option, Some, None, slice_get}
+use Rattle.std.specs.Prelude.{ℕ, Option, slice_get}
 use Rattle.std.specs.Option.{option_map}
 use Rattle.run_model.specs.declared.answers.Look.{Look}
 use Rattle.run_model.specs.declared.answers.GroupLook.{GroupLook}

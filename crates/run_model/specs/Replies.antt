@@ -1,5 +1,8 @@
 -- What a call is answered: its event, or the first refusal that holds.
-use Rattle.std.specs.Prelude.{ℕ, ◌+◌, ◌*◌, nat_lt, nat_le, Bool, true, false, not, ◌&&◌, ◌||◌, if◌then◌else◌, List, [], ◌∷◌, length, Option, Some, None, Result, Ok, Err, is_some, is_none, slice_get, unwrap_or}
+use Rattle.std.specs.Prelude.{
+    ℕ, ◌+◌, ◌*◌, nat_lt, nat_le, Bool, false, not, ◌&&◌, if◌then◌else◌, List, [], ◌∷◌, length,
+    Option, Some, None, Result, Ok, Err, is_some, is_none, slice_get, unwrap_or
+}
 use Rattle.std.specs.Option.{option_map, option_map_or, option_and_then}
 use Rattle.run_model.specs.declared.bounds.TheConstants.{GREATEST_MOMENT, SESSION_LEN, FINISH_ROOM}
 use Rattle.run_model.specs.declared.scopes.Kind.{Kind}
@@ -18,11 +21,16 @@ use Rattle.run_model.specs.declared.refusals.Refusal.{Refusal}
 use Rattle.run_model.specs.declared.refusals.Refusal.TheVariants as refusal
 use Rattle.run_model.specs.Event.{Event}
 use Rattle.run_model.specs.Event as event
-use Rattle.run_model.specs.State.{State, TreeState, WorkState, scope_named, group_named}
+use Rattle.run_model.specs.State.{State, scope_named, group_named}
 use Rattle.run_model.specs.Scopes.{is_done}
-use Rattle.run_model.specs.Tasks.{running_count, unfinished_in, first_ready, is_running_task, phase_of}
+use Rattle.run_model.specs.Tasks.{
+    running_count, unfinished_in, first_ready, is_running_task, phase_of
+}
 use Rattle.run_model.specs.Step.{step}
-use Rattle.run_model.specs.Allowed.{has_scope_room, has_group_room, has_task_room, is_scope_name_free, is_group_name_free, is_cancellable, takes_cause, has_kind, is_idle, has_seat}
+use Rattle.run_model.specs.Allowed.{
+    has_scope_room, has_group_room, has_task_room, is_scope_name_free, is_group_name_free,
+    is_cancellable, takes_cause, has_kind, is_idle, has_seat
+}
 use Rattle.run_model.specs.Records.{record_len}
 
 -- ---- the event that a command asks for
@@ -45,7 +53,8 @@ abbrev pub group_of : State → List ℕ → ℕ
 group_of p name = unwrap_or (group_named p.work name) 0
 
 abbrev pub event_of : State → Command → Event
-event_of p (command.Derive name parent wish) = event.Derive name (scope_of p parent) (kind_made p.tree.clock wish)
+event_of p (command.Derive name parent wish) =
+    event.Derive name (scope_of p parent) (kind_made p.tree.clock wish)
 event_of p (command.Cancel scope cause) = event.Cancel (scope_of p scope) cause
 event_of p (command.Advance moment) = event.Advance moment
 event_of p (command.Group name parent) = event.Group name (scope_of p parent)
@@ -128,7 +137,8 @@ unless (t ∷ tests) x = if t.0 then Err t.1 else unless tests x
 
 -- The log has no room for the record and for the finish of each task that then runs.
 abbrev pub is_full : State → ℕ → Event → Bool
-is_full p log event = nat_lt SESSION_LEN (log + record_len event + FINISH_ROOM * running_count (step p event).work.tasks)
+is_full p log event =
+    nat_lt SESSION_LEN (log + record_len event + FINISH_ROOM * running_count (step p event).work.tasks)
 
 abbrev pub with_room : State → ℕ → Event → Result (Option Event) Refusal
 with_room p log event = if is_full p log event then Err refusal.SessionFull else Ok (Some event)
@@ -145,25 +155,29 @@ and_then (Err e) f = Err e
 -- The event of a command, none where it repeats a wait, or the first refusal, where the session's
 -- log has so many bytes. SessionFull is asked last.
 abbrev pub decide : State → ℕ → Command → Result (Option Event) Refusal
-decide p log call = and_then (unless (refusals p call) call) (λ c. if is_repeated p c then Ok None else with_room p log (event_of p c))
+decide p log call =
+    and_then (unless (refusals p call) call) (λ c. if is_repeated p c then Ok None else with_room p log (event_of p c))
 
 -- ---- answers
 
 -- The number of the task that a go or a try submits, and whether it is ready then.
 abbrev pub submission : State → State → Answer
-submission p q = answer.Task (length p.work.tasks) (unwrap_or (phase_of q.work (length p.work.tasks)) phase.Held)
+submission p q =
+    answer.Task (length p.work.tasks) (unwrap_or (phase_of q.work (length p.work.tasks)) phase.Held)
 
 -- What an accepted command is answered, read off the state p before it and the state q after it.
 abbrev pub answer_of : State → State → Command → Answer
 answer_of p q (command.Derive name parent wish) = answer.Scope (length p.tree.scopes)
 answer_of p q (command.Cancel scope cause) = answer.Done
 answer_of p q (command.Advance moment) = answer.Done
-answer_of p q (command.Group name parent) = answer.Group (length p.work.groups) (Some (length p.tree.scopes))
+answer_of p q (command.Group name parent) =
+    answer.Group (length p.work.groups) (Some (length p.tree.scopes))
 answer_of p q (command.Bare name scope) = answer.Group (length p.work.groups) None
 answer_of p q (command.SetLimit group limit) = answer.Done
 answer_of p q (command.Go group job argument) = submission p q
 answer_of p q (command.TryGo group job argument) = submission p q
-answer_of p q (command.Wait group) = answer.Waited (option_and_then (λ row. row.error) (slice_get q.work.groups (group_of p group)))
+answer_of p q (command.Wait group) =
+    answer.Waited (option_and_then (λ row. row.error) (slice_get q.work.groups (group_of p group)))
 
 abbrev pub state_after : State → Option Event → State
 state_after p None = p
@@ -180,11 +194,13 @@ start_refusals p = (is_none (first_ready p.work), refusal.NothingReady) ∷ []
 
 -- A start is of the ready task with the least number.
 abbrev pub decide_start : State → ℕ → Result (Option Event) Refusal
-decide_start p log = and_then (unless (start_refusals p) (event.Start (unwrap_or (first_ready p.work) 0))) (with_room p log)
+decide_start p log =
+    and_then (unless (start_refusals p) (event.Start (unwrap_or (first_ready p.work) 0))) (with_room p log)
 
 -- Whether the scope that a task lives in is done.
 abbrev pub is_task_done : State → Task → Bool
-is_task_done p task = option_map_or (λ group. is_done p.tree.scopes group.scope) (slice_get p.work.groups task.group) false
+is_task_done p task =
+    option_map_or (λ group. is_done p.tree.scopes group.scope) (slice_get p.work.groups task.group) false
 
 -- What the start of task n is answered.
 abbrev pub started_of : State → ℕ → Option Started
@@ -200,7 +216,8 @@ ok_or (Some x) e = Ok x
 
 -- What a start is answered.
 abbrev pub reply_start : State → ℕ → Result Started Refusal
-reply_start p log = and_then (decide_start p log) (λ made. ok_or (option_and_then (started_of p) (first_ready p.work)) refusal.NothingReady)
+reply_start p log =
+    and_then (decide_start p log) (λ made. ok_or (option_and_then (started_of p) (first_ready p.work)) refusal.NothingReady)
 
 abbrev pub finish_refusals : State → ℕ → List (Bool × Refusal)
 finish_refusals p n =

@@ -1,5 +1,5 @@
 -- The rows of a state: each is made by one function, and changed at its place.
-use Rattle.std.specs.Prelude.{ℕ, zero, suc, Bool, true, false, List, [], ◌∷◌, Option, Some, None, codes}
+use Rattle.std.specs.Prelude.{ℕ, zero, suc, Bool, false, List, [], ◌∷◌, Option, Some, None, codes}
 use Rattle.run_model.specs.declared.scopes.Kind.{Kind}
 use Rattle.run_model.specs.declared.scopes.Kind.TheVariants as kind
 use Rattle.run_model.specs.declared.scopes.Scope.{Scope}
@@ -17,11 +17,13 @@ root = new_scope (codes "root") 0 kind.Root
 
 -- A new group has no limit and no error, and was not waited for.
 abbrev pub new_group : List ℕ → ℕ → Bool → Group
-new_group name scope bare = record { name = name; scope = scope; bare = bare; limit = None; waited = false; error = None }
+new_group name scope bare =
+    record { name = name; scope = scope; bare = bare; limit = None; waited = false; error = None }
 
 -- A new task was not started.
 abbrev pub new_task : ℕ → List ℕ → List ℕ → Task
-new_task group job argument = record { group = group; job = job; argument = argument; stage = stage.Fresh }
+new_task group job argument =
+    record { group = group; job = job; argument = argument; stage = stage.Fresh }
 
 -- The row of this number is changed so, and the others stay.
 abbrev pub at_row : {X : Type 0} → (X → X) → ℕ → List X → List X

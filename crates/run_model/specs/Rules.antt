@@ -1,5 +1,8 @@
 -- What holds of every state that a store can keep.
-use Rattle.std.specs.Prelude.{◌≡◌, ◌<◌, ◌≤◌, ◌⊎◌, ◌↔◌, ℕ, ◌==◌, Bool, true, false, ◌||◌, ◌&&◌, List, length, Option, Some, None, IsTrue, IsSome, slice_get}
+use Rattle.std.specs.Prelude.{
+    ◌≡◌, ◌<◌, ◌≤◌, ◌⊎◌, ◌↔◌, ℕ, ◌==◌, Bool, true, false, ◌&&◌, length, Some, IsTrue, IsSome,
+    slice_get
+}
 use Rattle.std.specs.List.{list_any}
 use Rattle.run_model.specs.declared.bounds.TheConstants.{MOST_SCOPES, MOST_GROUPS, MOST_TASKS}
 use Rattle.run_model.specs.declared.scopes.Kind.{Kind}
@@ -13,7 +16,7 @@ use Rattle.run_model.specs.Rows.{root}
 use Rattle.run_model.specs.State.{State, TreeState, WorkState}
 use Rattle.run_model.specs.Scopes.{AreOrdered, is_root, own_hit, own_deadline}
 use Rattle.run_model.specs.Allowed.{has_kind}
-use Rattle.run_model.specs.Tasks.{is_running, is_unfinished, is_lost, unfinished_in, is_admitted}
+use Rattle.run_model.specs.Tasks.{is_running, is_lost, unfinished_in, is_admitted}
 
 -- ---- well formed
 
@@ -47,8 +50,10 @@ pub record AreNumbered (p : State) : Type 0 where
   pub few_tasks : length p.work.tasks ≤ MOST_TASKS
   pub rooted : slice_get p.tree.scopes 0 ≡ Some root
   pub one_root : (s : ℕ) (row : Scope) → HasScope p.tree s row → is_root row.kind ≡ true → s ≡ 0
-  pub scope_names : (s t : ℕ) (a b : Scope) → HasScope p.tree s a → HasScope p.tree t b → a.name ≡ b.name → s ≡ t
-  pub group_names : (g h : ℕ) (a b : Group) → HasGroup p.work g a → HasGroup p.work h b → a.name ≡ b.name → g ≡ h
+  pub scope_names : (s t : ℕ) (a b : Scope) → HasScope p.tree s a → HasScope p.tree t b
+      → a.name ≡ b.name → s ≡ t
+  pub group_names : (g h : ℕ) (a b : Group) → HasGroup p.work g a → HasGroup p.work h b
+      → a.name ≡ b.name → g ≡ h
   pub ordered : AreOrdered p.tree.scopes
   pub scopes : (g : ℕ) (row : Group) → HasGroup p.work g row → row.scope < length p.tree.scopes
   pub groups : (n : ℕ) (row : Task) → HasTask p.work n row → row.group < length p.work.groups
@@ -64,15 +69,18 @@ can_be_hit _ = false
 -- 2. A hit stands only on a scope that can be cancelled, came with one of the events, and its
 -- moment was reached.
 pub record AreHits (p : State) : Type 0 where
-  pub kinds : (s : ℕ) (row : Scope) → HasScope p.tree s row → IsSome row.hit → can_be_hit row.kind ≡ true
+  pub kinds : (s : ℕ) (row : Scope) → HasScope p.tree s row → IsSome row.hit
+      → can_be_hit row.kind ≡ true
   pub counted : (s : ℕ) (hit : Hit) → own_hit p.tree.scopes s ≡ Some hit → 1 ≤ hit.event
   pub past : ArePast p.tree p.count
 
 -- 3. Only a deadline is exceeded, and the hit's moment is that deadline; a deadline that has come
 -- was hit.
 pub record AreDeadlines (t : TreeState) : Type 0 where
-  pub own : (s : ℕ) (row : Scope) (hit : Hit) → HasScope t s row → row.hit ≡ Some hit → hit.reason ≡ DeadlineExceeded → own_deadline row.kind ≡ Some hit.moment
-  pub come : (s moment : ℕ) (row : Scope) → HasScope t s row → own_deadline row.kind ≡ Some moment → moment ≤ t.clock → IsSome row.hit
+  pub own : (s : ℕ) (row : Scope) (hit : Hit) → HasScope t s row → row.hit ≡ Some hit
+      → hit.reason ≡ DeadlineExceeded → own_deadline row.kind ≡ Some hit.moment
+  pub come : (s moment : ℕ) (row : Scope) → HasScope t s row → own_deadline row.kind ≡ Some moment
+      → moment ≤ t.clock → IsSome row.hit
 
 -- Group g has this row, isn't bare, and lives in scope s.
 pub record Owns (w : WorkState) (g : ℕ) (group : Group) (s : ℕ) : Type 0 where
@@ -87,14 +95,18 @@ is_group_kind _ = false
 -- 4. Each group scope belongs to exactly one group that isn't bare, which has its name; each group
 -- that isn't bare has such a scope.
 pub record AreGroupScopes (p : State) : Type 0 where
-  pub owned : (s : ℕ) (row : Scope) → HasScope p.tree s row → is_group_kind row.kind ≡ true → (g : ℕ) × (group : Group) × Owns p.work g group s × (group.name ≡ row.name)
+  pub owned : (s : ℕ) (row : Scope) → HasScope p.tree s row → is_group_kind row.kind ≡ true
+      → (g : ℕ) × (group : Group) × Owns p.work g group s × (group.name ≡ row.name)
   pub once : (s g h : ℕ) (a b : Group) → Owns p.work g a s → Owns p.work h b s → g ≡ h
-  pub own : (g s : ℕ) (group : Group) → Owns p.work g group s → IsTrue (has_kind is_group_kind p.tree s)
+  pub own : (g s : ℕ) (group : Group) → Owns p.work g group s
+      → IsTrue (has_kind is_group_kind p.tree s)
 
 -- 5. Each running task is admitted; a group that was waited for has no unfinished task.
 pub record AreAdmitted (w : WorkState) : Type 0 where
-  pub running : (n : ℕ) (row : Task) → HasTask w n row → is_running row.stage ≡ true → is_admitted w n row ≡ true
-  pub waited : (g : ℕ) (row : Group) → HasGroup w g row → row.waited ≡ true → unfinished_in g w.tasks ≡ 0
+  pub running : (n : ℕ) (row : Task) → HasTask w n row → is_running row.stage ≡ true
+      → is_admitted w n row ≡ true
+  pub waited : (g : ℕ) (row : Group) → HasGroup w g row → row.waited ≡ true
+      → unfinished_in g w.tasks ≡ 0
 
 -- A task of the group ended in failure or was interrupted.
 abbrev pub has_lost : WorkState → ℕ → Bool
@@ -103,8 +115,10 @@ has_lost w g = list_any (λ task. task.group == g && is_lost task.stage) w.tasks
 -- 6. A group has a first error exactly where a task of it was lost; the scope of a group that isn't
 -- bare and has an error or was waited for was hit.
 pub record AreErrors (p : State) : Type 0 where
-  pub exact : (g : ℕ) (row : Group) → HasGroup p.work g row → IsSome row.error ↔ IsTrue (has_lost p.work g)
-  pub ended : (g s : ℕ) (row : Group) → Owns p.work g row s → IsSome row.error ⊎ (row.waited ≡ true) → IsSome (own_hit p.tree.scopes s)
+  pub exact : (g : ℕ) (row : Group) → HasGroup p.work g row
+      → IsSome row.error ↔ IsTrue (has_lost p.work g)
+  pub ended : (g s : ℕ) (row : Group) → Owns p.work g row s → IsSome row.error ⊎ (row.waited ≡ true)
+      → IsSome (own_hit p.tree.scopes s)
 
 -- A state is consistent where all six hold: exactly such a state can be read from an image.
 pub record IsConsistent (p : State) : Type 0 where

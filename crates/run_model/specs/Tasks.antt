@@ -1,5 +1,8 @@
 -- What the rows say of a task: whether it is admitted, ready or held.
-use Rattle.std.specs.Prelude.{ℕ, ◌==◌, nat_lt, Bool, true, false, ◌&&◌, not, if◌then◌else◌, List, length, take, Option, Some, None, slice_get, filter, find, count_by}
+use Rattle.std.specs.Prelude.{
+    ℕ, ◌==◌, nat_lt, Bool, true, false, ◌&&◌, if◌then◌else◌, List, length, take, Option, Some, None,
+    slice_get, filter, find, count_by
+}
 use Rattle.std.specs.List.{range_with_len}
 use Rattle.std.specs.Option.{option_map, option_map_or, option_and_then}
 use Rattle.run_model.specs.declared.tasks.Stage.{Stage}
@@ -50,7 +53,8 @@ is_admitted w n task = admits (limit_of w task.group) (unfinished_in task.group 
 
 -- A task is ready where it is fresh and admitted.
 abbrev pub is_ready : WorkState → ℕ → Bool
-is_ready w n = option_map_or (λ task. is_fresh task.stage && is_admitted w n task) (slice_get w.tasks n) false
+is_ready w n =
+    option_map_or (λ task. is_fresh task.stage && is_admitted w n task) (slice_get w.tasks n) false
 
 abbrev pub task_numbers : WorkState → List ℕ
 task_numbers w = range_with_len 0 (length w.tasks)

@@ -13,11 +13,13 @@ is_name_byte b = (nat_le 97 b && nat_le b 122) || (nat_le 48 b && nat_le b 57) |
 
 -- A text is 1 to 64 text bytes.
 abbrev pub is_text : List ℕ → Bool
-is_text bytes = nat_le 1 (length bytes) && nat_le (length bytes) TEXT_LEN && list_all is_text_byte bytes
+is_text bytes =
+    nat_le 1 (length bytes) && nat_le (length bytes) TEXT_LEN && list_all is_text_byte bytes
 
 -- A name is 1 to 32 name bytes.
 abbrev pub is_name : List ℕ → Bool
-is_name bytes = nat_le 1 (length bytes) && nat_le (length bytes) NAME_LEN && list_all is_name_byte bytes
+is_name bytes =
+    nat_le 1 (length bytes) && nat_le (length bytes) NAME_LEN && list_all is_name_byte bytes
 
 abbrev pub IsText : List ℕ → Type 0
 IsText bytes = IsTrue (is_text bytes)
