@@ -1,8 +1,7 @@
 -- What a call is answered: its event, or the first refusal that holds.
-use Rattle.std.specs.Prelude.{
-    ℕ, ◌+◌, ◌*◌, nat_lt, nat_le, Bool, false, not, ◌&&◌, if◌then◌else◌, List, [], ◌∷◌, length,
-    Option, Some, None, Result, Ok, Err, is_some, is_none, slice_get, unwrap_or
-}
+use Rattle.std.specs.Prelude.{ℕ, ◌+◌, ◌*◌, nat_lt, nat_le, Bool, false, not, ◌&&◌, if◌then◌else◌}
+use Rattle.std.specs.Prelude.{List, [], ◌∷◌, length, Option, Some, None, Result, Ok, Err, is_some}
+use Rattle.std.specs.Prelude.{is_none, slice_get, unwrap_or}
 use Rattle.std.specs.Option.{option_map, option_map_or, option_and_then}
 use Rattle.run_model.specs.declared.bounds.TheConstants.{GREATEST_MOMENT, SESSION_LEN, FINISH_ROOM}
 use Rattle.run_model.specs.declared.scopes.Kind.{Kind}
@@ -23,14 +22,12 @@ use Rattle.run_model.specs.Event.{Event}
 use Rattle.run_model.specs.Event as event
 use Rattle.run_model.specs.State.{State, scope_named, group_named}
 use Rattle.run_model.specs.Scopes.{is_done}
-use Rattle.run_model.specs.Tasks.{
-    running_count, unfinished_in, first_ready, is_running_task, phase_of
-}
+use Rattle.run_model.specs.Tasks.{running_count, unfinished_in, first_ready, is_running_task}
+use Rattle.run_model.specs.Tasks.{phase_of}
 use Rattle.run_model.specs.Step.{step}
-use Rattle.run_model.specs.Allowed.{
-    has_scope_room, has_group_room, has_task_room, is_scope_name_free, is_group_name_free,
-    is_cancellable, takes_cause, has_kind, is_idle, has_seat
-}
+use Rattle.run_model.specs.Allowed.{has_scope_room, has_group_room, has_task_room}
+use Rattle.run_model.specs.Allowed.{is_scope_name_free, is_group_name_free, is_cancellable}
+use Rattle.run_model.specs.Allowed.{takes_cause, has_kind, is_idle, has_seat}
 use Rattle.run_model.specs.Records.{record_len}
 
 -- ---- the event that a command asks for
@@ -74,6 +71,10 @@ lacks_group p name = is_group_name_free p.work name
 
 abbrev pub has_waited : State → ℕ → Bool
 has_waited p g = option_map_or (λ group. group.waited) (slice_get p.work.groups g) false
+
+-- How many tasks of the group of this name are unfinished.
+abbrev pub unfinished_of : State → List ℕ → ℕ
+unfinished_of p name = unfinished_in (group_of p name) p.work.tasks
 
 -- A timeout may lead past the greatest moment.
 abbrev pub is_past_moments : ℕ → Wish → Bool
@@ -127,7 +128,7 @@ refusals p (command.TryGo group job argument) =
     ∷ []
 refusals p (command.Wait group) =
     (lacks_group p group, refusal.NoSuchGroup)
-    ∷ (not (is_idle p.work (group_of p group)), refusal.Unfinished (unfinished_in (group_of p group) p.work.tasks))
+    ∷ (not (is_idle p.work (group_of p group)), refusal.Unfinished (unfinished_of p group))
     ∷ []
 
 -- The value, or the refusal of the first test that holds.
@@ -135,10 +136,13 @@ abbrev pub unless : {X : Type 0} → List (Bool × Refusal) → X → Result X R
 unless [] x = Ok x
 unless (t ∷ tests) x = if t.0 then Err t.1 else unless tests x
 
+-- The room that is kept for the finish of each running task.
+abbrev pub reserve : State → ℕ
+reserve p = FINISH_ROOM * running_count p.work.tasks
+
 -- The log has no room for the record and for the finish of each task that then runs.
 abbrev pub is_full : State → ℕ → Event → Bool
-is_full p log event =
-    nat_lt SESSION_LEN (log + record_len event + FINISH_ROOM * running_count (step p event).work.tasks)
+is_full p log event = nat_lt SESSION_LEN (log + record_len event + reserve (step p event))
 
 abbrev pub with_room : State → ℕ → Event → Result (Option Event) Refusal
 with_room p log event = if is_full p log event then Err refusal.SessionFull else Ok (Some event)
@@ -148,7 +152,8 @@ abbrev pub is_repeated : State → Command → Bool
 is_repeated p (command.Wait group) = has_waited p (group_of p group)
 is_repeated p _ = false
 
-abbrev pub and_then : {X Y : Type 0} → Result X Refusal → (X → Result Y Refusal) → Result Y Refusal
+abbrev pub and_then :
+    {X Y : Type 0} → Result X Refusal → (X → Result Y Refusal) → Result Y Refusal
 and_then (Ok x) f = f x
 and_then (Err e) f = Err e
 
@@ -156,7 +161,8 @@ and_then (Err e) f = Err e
 -- log has so many bytes. SessionFull is asked last.
 abbrev pub decide : State → ℕ → Command → Result (Option Event) Refusal
 decide p log call =
-    and_then (unless (refusals p call) call) (λ c. if is_repeated p c then Ok None else with_room p log (event_of p c))
+    and_then (unless (refusals p call) call)
+    (λ c. if is_repeated p c then Ok None else with_room p log (event_of p c))
 
 -- ---- answers
 
@@ -195,12 +201,14 @@ start_refusals p = (is_none (first_ready p.work), refusal.NothingReady) ∷ []
 -- A start is of the ready task with the least number.
 abbrev pub decide_start : State → ℕ → Result (Option Event) Refusal
 decide_start p log =
-    and_then (unless (start_refusals p) (event.Start (unwrap_or (first_ready p.work) 0))) (with_room p log)
+    and_then (unless (start_refusals p) (event.Start (unwrap_or (first_ready p.work) 0)))
+    (with_room p log)
 
 -- Whether the scope that a task lives in is done.
 abbrev pub is_task_done : State → Task → Bool
 is_task_done p task =
-    option_map_or (λ group. is_done p.tree.scopes group.scope) (slice_get p.work.groups task.group) false
+    option_map_or (λ group. is_done p.tree.scopes group.scope)
+    (slice_get p.work.groups task.group) false
 
 -- What the start of task n is answered.
 abbrev pub started_of : State → ℕ → Option Started
@@ -217,7 +225,8 @@ ok_or (Some x) e = Ok x
 -- What a start is answered.
 abbrev pub reply_start : State → ℕ → Result Started Refusal
 reply_start p log =
-    and_then (decide_start p log) (λ made. ok_or (option_and_then (started_of p) (first_ready p.work)) refusal.NothingReady)
+    and_then (decide_start p log)
+    (λ made. ok_or (option_and_then (started_of p) (first_ready p.work)) refusal.NothingReady)
 
 abbrev pub finish_refusals : State → ℕ → List (Bool × Refusal)
 finish_refusals p n =

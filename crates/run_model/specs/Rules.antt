@@ -1,8 +1,6 @@
 -- What holds of every state that a store can keep.
-use Rattle.std.specs.Prelude.{
-    ◌≡◌, ◌<◌, ◌≤◌, ◌⊎◌, ◌↔◌, ℕ, ◌==◌, Bool, true, false, ◌&&◌, length, Some, IsTrue, IsSome,
-    slice_get
-}
+use Rattle.std.specs.Prelude.{◌≡◌, ◌<◌, ◌≤◌, ◌⊎◌, ◌↔◌, ℕ, ◌==◌, Bool, true, false, ◌&&◌, length}
+use Rattle.std.specs.Prelude.{Some, IsTrue, IsSome, slice_get}
 use Rattle.std.specs.List.{list_any}
 use Rattle.run_model.specs.declared.bounds.TheConstants.{MOST_SCOPES, MOST_GROUPS, MOST_TASKS}
 use Rattle.run_model.specs.declared.scopes.Kind.{Kind}

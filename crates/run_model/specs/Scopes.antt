@@ -1,8 +1,6 @@
 -- What the rows say of a scope: whether it is done and why, its deadline, its values.
-use Rattle.std.specs.Prelude.{
-    ◌≡◌, ◌<◌, ℕ, zero, suc, Bool, true, false, if◌then◌else◌, List, [], ◌∷◌, Option, Some, None,
-    slice_get, is_some, min
-}
+use Rattle.std.specs.Prelude.{◌≡◌, ◌<◌, ℕ, zero, suc, Bool, true, false, if◌then◌else◌, List, []}
+use Rattle.std.specs.Prelude.{◌∷◌, Option, Some, None, slice_get, is_some, min}
 use Rattle.std.specs.List.{filter_map}
 use Rattle.std.specs.Option.{option_map, option_and_then}
 use Rattle.std.specs.Ordering.{nat_cmp, ordering_then, is_lt}
@@ -62,7 +60,8 @@ hit_at r = option_map (λ hit. (r.0, hit)) r.1.hit
 -- Hits go by event, then by moment, then by the number of the scope.
 abbrev pub comes_before : ℕ × Hit → ℕ × Hit → Bool
 comes_before a b =
-    is_lt (ordering_then (nat_cmp a.1.event b.1.event) (ordering_then (nat_cmp a.1.moment b.1.moment) (nat_cmp a.0 b.0)))
+    is_lt (ordering_then (nat_cmp a.1.event b.1.event)
+    (ordering_then (nat_cmp a.1.moment b.1.moment) (nat_cmp a.0 b.0)))
 
 -- The first of two hits, where there may be one alone.
 abbrev pub first_of : Option (ℕ × Hit) → ℕ × Hit → ℕ × Hit

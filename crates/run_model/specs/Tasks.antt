@@ -1,8 +1,6 @@
 -- What the rows say of a task: whether it is admitted, ready or held.
-use Rattle.std.specs.Prelude.{
-    ℕ, ◌==◌, nat_lt, Bool, true, false, ◌&&◌, if◌then◌else◌, List, length, take, Option, Some, None,
-    slice_get, filter, find, count_by
-}
+use Rattle.std.specs.Prelude.{ℕ, ◌==◌, nat_lt, Bool, true, false, ◌&&◌, if◌then◌else◌, List, length}
+use Rattle.std.specs.Prelude.{take, Option, Some, None, slice_get, filter, find, count_by}
 use Rattle.std.specs.List.{range_with_len}
 use Rattle.std.specs.Option.{option_map, option_map_or, option_and_then}
 use Rattle.run_model.specs.declared.tasks.Stage.{Stage}
@@ -47,7 +45,8 @@ admits (Some most) n = nat_lt n most
 abbrev pub limit_of : WorkState → ℕ → Option ℕ
 limit_of w g = option_and_then (λ group. group.limit) (slice_get w.groups g)
 
--- An unfinished task is admitted while fewer than limit unfinished tasks of its group have lesser numbers.
+-- An unfinished task is admitted while fewer than limit unfinished tasks of its group have lesser
+-- numbers.
 abbrev pub is_admitted : WorkState → ℕ → Task → Bool
 is_admitted w n task = admits (limit_of w task.group) (unfinished_in task.group (take n w.tasks))
 

@@ -1,7 +1,6 @@
 -- What an event changes of the work, each change written once.
-use Rattle.std.specs.Prelude.{
-    ℕ, Bool, true, List, [], ◌∷◌, ◌++◌, Option, Some, None, slice_get, codes
-}
+use Rattle.std.specs.Prelude.{ℕ, Bool, true, List, [], ◌∷◌, ◌++◌, Option, Some, None, slice_get}
+use Rattle.std.specs.Prelude.{codes}
 use Rattle.std.specs.Option.{option_map_or}
 use Rattle.run_model.specs.declared.tasks.Group.{Group}
 use Rattle.run_model.specs.declared.tasks.Task.{Task}

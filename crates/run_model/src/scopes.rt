@@ -86,7 +86,12 @@ impl Hit {
     pub fn copy(&self) -> Hit
         ensures { result ≡ self.now }
     {
-        Hit { event: self.event, moment: self.moment, reason: self.reason, cause: self.cause.copy() }
+        Hit {
+            event: self.event,
+            moment: self.moment,
+            reason: self.reason,
+            cause: self.cause.copy(),
+        }
     }
 }
 
@@ -108,7 +113,12 @@ impl Scope {
     pub fn new(name: Name, parent: u16, kind: Kind) -> Scope
         ensures { result ≡ new_scope name parent kind }
     {
-        Scope { name, parent, kind, hit: None }
+        Scope {
+            name,
+            parent,
+            kind,
+            hit: None,
+        }
     }
 }
 

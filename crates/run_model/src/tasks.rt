@@ -81,7 +81,14 @@ impl Group {
     pub fn new(name: Name, scope: u16, bare: bool) -> Group
         ensures { result ≡ new_group name scope bare }
     {
-        Group { name, scope, bare, limit: Limit::none(), waited: false, error: None }
+        Group {
+            name,
+            scope,
+            bare,
+            limit: Limit::none(),
+            waited: false,
+            error: None,
+        }
     }
 }
 
@@ -103,6 +110,11 @@ impl Task {
     pub fn new(group: u16, job: Name, argument: Name) -> Task
         ensures { result ≡ new_task group job argument }
     {
-        Task { group, job, argument, stage: Stage::Fresh }
+        Task {
+            group,
+            job,
+            argument,
+            stage: Stage::Fresh,
+        }
     }
 }

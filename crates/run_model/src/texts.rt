@@ -8,7 +8,8 @@ ghost use Rattle.std.specs.List.{list_all};
 ghost use Rattle.std.specs.Str.{bytes_eq};
 ghost use Rattle.std.specs.Cmp.{partial_equiv_from_equiv};
 ghost use Rattle.std.specs.Cmp.Lexicographic.{nat_list_eq_equiv};
-ghost use Rattle.run_model.specs.Texts.{IsName, IsText, is_name, is_name_byte, is_text, is_text_byte};
+ghost use Rattle.run_model.specs.Texts.{IsName, IsText, is_name, is_name_byte, is_text};
+ghost use Rattle.run_model.specs.Texts.{is_text_byte};
 
 use crate::bounds::{NAME_LEN, TEXT_LEN};
 use arrayvec::ArrayVec;
