@@ -3,10 +3,11 @@
 use crate::faults::Fault;
 use crate::limits::Limit;
 use crate::moments::Moment;
+use crate::names::Name;
 use crate::refusals::Refusal;
 use crate::scopes::Reason;
 use crate::tasks::Phase;
-use crate::texts::{Name, Text};
+use crate::texts::Text;
 
 /// What an accepted command is answered.
 #[derive(Clone, Debug, Drop, PartialEq, Eq)]

@@ -2,8 +2,9 @@
 
 use crate::limits::Limit;
 use crate::moments::Moment;
+use crate::names::Name;
 use crate::tasks::Outcome;
-use crate::texts::{Name, Text};
+use crate::texts::Text;
 
 /// The kind of scope that a caller wishes for.
 #[derive(Clone, Debug, Drop, PartialEq, Eq)]

@@ -9,7 +9,8 @@ ghost use Rattle.run_model.specs.Rows.{new_scope};
 ghost use Rattle.run_model.specs.Reasons.{reason_text};
 
 use crate::moments::Moment;
-use crate::texts::{Name, Text};
+use crate::names::Name;
+use crate::texts::Text;
 
 /// Why a scope is done: what Go's `Err` says.
 #[derive(Clone, Copy, Debug, PartialEq, Eq)]
