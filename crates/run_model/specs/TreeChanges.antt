@@ -11,7 +11,7 @@ use Rattle.run_model.specs.Reasons.{reason_text}
 use Rattle.run_model.specs.Rows.{new_scope, at_row, or_else}
 use Rattle.run_model.specs.State.{TreeState}
 
--- A row keeps the hit that it has.
+-- A row gets this hit, unless it has one.
 abbrev pub with_hit : Hit → Scope → Scope
 with_hit hit row = record row { hit = or_else row.hit hit }
 
@@ -35,13 +35,13 @@ expiry e moment cause =
       cause = unwrap_or cause (reason_text DeadlineExceeded);
     }
 
--- The hit that a scope of this kind gets at this clock: one of a deadline that has come.
+-- The hit that event e makes of a deadline that has come; other kinds have none.
 abbrev pub hit_due : ℕ → ℕ → Kind → Option Hit
 hit_due e clock (kind.Deadline moment cause) =
     if nat_le moment clock then Some (expiry e moment cause) else None
 hit_due e clock _ = None
 
--- A row as event e leaves it at this clock.
+-- A row after event e, at this clock: a deadline that has come is exceeded.
 abbrev pub tick : ℕ → ℕ → Scope → Scope
 tick e clock row = option_map_or (λ hit. with_hit hit row) (hit_due e clock row.kind) row
 

@@ -70,7 +70,7 @@ pub struct Look {
     pub name: Name,
     /// Why it is done and with which cause, where it is done.
     pub done: Option<(Reason, Text)>,
-    /// The least deadline of it and the scopes above it that end it.
+    /// The least deadline of it and the scopes above it, up to the first detached one.
     pub deadline: Option<Moment>,
 }
 
