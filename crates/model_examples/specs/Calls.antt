@@ -1,6 +1,6 @@
 -- Steps and replies in short, as the examples write them.
 use Prim.Native.String.{String}
-use Rattle.std.specs.Prelude.{ℕ, Some, None, codes, false}
+use Rattle.std.specs.Prelude.{ℕ, Some, None, codes, true, false}
 use Rattle.run_model.specs.declared.tasks.Outcome.TheVariants.{Success, Failure}
 use Rattle.run_model.specs.declared.commands.Wish.{Wish}
 use Rattle.run_model.specs.declared.commands.Command.TheVariants as command
@@ -9,6 +9,7 @@ use Rattle.run_model.specs.declared.commands.Step.TheVariants as step
 use Rattle.run_model.specs.declared.answers.Answer.TheVariants as answer
 use Rattle.run_model.specs.declared.answers.Reply.{Reply}
 use Rattle.run_model.specs.declared.answers.Reply.TheVariants as reply
+use Rattle.run_model.specs.declared.faults.Fault.{Fault}
 use Rattle.run_model.specs.declared.refusals.Refusal.{Refusal}
 use Rattle.run_model.specs.declared.tasks.Phase.{Phase}
 
@@ -53,6 +54,12 @@ finish task = step.Finish task Success
 abbrev pub fail : ℕ → String → Step
 fail task error = step.Finish task (Failure (codes error))
 
+abbrev pub flush : Step
+flush = step.Flush
+
+abbrev pub checkpoint : Step
+checkpoint = step.Checkpoint
+
 -- ---- replies
 
 abbrev pub scope_made : ℕ → Reply
@@ -83,8 +90,22 @@ started event task job argument = reply.Started (record {
   done = false;
 })
 
+-- The scope of the task was done before it was started.
+abbrev pub started_late : ℕ → ℕ → String → String → Reply
+started_late event task job argument = reply.Started (record {
+  event = event;
+  info = record { task = task; job = codes job; argument = codes argument };
+  done = true;
+})
+
 abbrev pub finished : ℕ → Reply
 finished event = reply.Finished event
 
 abbrev pub refused : Refusal → Reply
 refused why = reply.Refused why
+
+abbrev pub acked : ℕ → Reply
+acked count = reply.Acked count
+
+abbrev pub faulty : Fault → Reply
+faulty fault = reply.Faulty fault

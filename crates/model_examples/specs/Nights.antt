@@ -16,7 +16,7 @@ use Rattle.run_model.specs.Session.{opened, session_after, replies}
 use Rattle.model_examples.specs.Calls.{derive, cancel, cancel_only, advance, group, bare, set_limit}
 use Rattle.model_examples.specs.Calls.{go, try_go, wait, start, finish, fail, scope_made}
 use Rattle.model_examples.specs.Calls.{group_made, bare_made, done, submitted, started, finished}
-use Rattle.model_examples.specs.Calls.{waited, waited_with, refused}
+use Rattle.model_examples.specs.Calls.{waited, waited_with, refused, started_late}
 
 -- A night is a list of steps, each with the reply that is expected.
 abbrev pub Night : Type 0
@@ -132,6 +132,46 @@ deadlines_round_a_detached_scope =
     ∷ (advance 100, done)
     ∷ []
 
+-- Three advances pass three nested deadlines, the child's own last.
+abbrev pub nested_deadlines : Night
+nested_deadlines =
+    (derive "p" "root" (Deadline 30 (Some (codes "thirty"))), scope_made 1)
+    ∷ (derive "c" "p" (Deadline 10 (Some (codes "ten"))), scope_made 2)
+    ∷ (derive "d" "c" (Deadline 20 (Some (codes "twenty"))), scope_made 3)
+    ∷ (advance 5, done)
+    ∷ (advance 10, done)
+    ∷ (advance 25, done)
+    ∷ []
+
+-- Two values of one key, with a detached scope between.
+abbrev pub nested_values : Night
+nested_values =
+    (derive "v" "root" (Value (codes "k") (codes "far")), scope_made 1)
+    ∷ (derive "d" "v" Detached, scope_made 2)
+    ∷ (derive "w" "d" (Value (codes "k") (codes "near")), scope_made 3)
+    ∷ (derive "x" "w" (Value (codes "j") (codes "other")), scope_made 4)
+    ∷ (derive "z" "d" Cancel, scope_made 5)
+    ∷ []
+
+-- Calls that could be refused for two reasons or more.
+abbrev pub orders_of_refusals : Night
+orders_of_refusals =
+    (derive "d" "root" (Deadline 10 None), scope_made 1)
+    ∷ (cancel "d" "x", refused refusal.CauseNotTaken)
+    ∷ (cancel "root" "x", refused refusal.NotCancellable)
+    ∷ (cancel "nobody" "x", refused refusal.NoSuchScope)
+    ∷ (advance 10, done)
+    ∷ (cancel "d" "x", refused refusal.CauseNotTaken)
+    ∷ (cancel_only "d", refused refusal.AlreadyDone)
+    ∷ (derive "d" "nobody" (Timeout 999999999999 None), refused refusal.NoSuchScope)
+    ∷ (derive "d" "root" (Timeout 999999999999 None), refused refusal.NameTaken)
+    ∷ (derive "e" "root" (Timeout 252999999990 None), scope_made 2)
+    ∷ (derive "f" "root" (Timeout 252999999991 None), refused refusal.MomentOutOfRange)
+    ∷ (group "root" "root", refused refusal.NameTaken)
+    ∷ (bare "root" "root", bare_made 0)
+    ∷ (group "root" "nobody", refused refusal.NoSuchScope)
+    ∷ []
+
 -- ---- groups
 
 -- A limit of two, and three tasks.
@@ -184,7 +224,7 @@ bare_group =
     ∷ (wait "h", waited)
     ∷ []
 
--- A name that is taken, a scope, a group and a task that there aren't, and nothing ready.
+-- A name that is taken, a scope, a group and a task that aren't there, and nothing ready.
 abbrev pub refused_calls : Night
 refused_calls =
     (group "g" "root", group_made 0 1)
@@ -217,6 +257,65 @@ stopped_night =
     ∷ (go "g" "copy" "a", submitted 0 phase.Ready)
     ∷ (go "g" "copy" "b", submitted 1 phase.Held)
     ∷ (start, started 6 0 "copy" "a")
+    ∷ []
+
+-- A group's task fails below a scope that is done.
+abbrev pub error_below_a_done_scope : Night
+error_below_a_done_scope =
+    (derive "p" "root" Cause, scope_made 1)
+    ∷ (group "g" "p", group_made 0 2)
+    ∷ (go "g" "copy" "a", submitted 0 phase.Ready)
+    ∷ (cancel "p" "stop", done)
+    ∷ (start, started_late 6 0 "copy" "a")
+    ∷ (fail 0 "bad", finished 7)
+    ∷ []
+
+-- A bare group whose tasks live in another group's scope.
+abbrev pub bare_group_in_a_groups_scope : Night
+bare_group_in_a_groups_scope =
+    (group "g" "root", group_made 0 1)
+    ∷ (bare "h" "g", bare_made 1)
+    ∷ (go "h" "copy" "a", submitted 0 phase.Ready)
+    ∷ (go "h" "copy" "b", submitted 1 phase.Ready)
+    ∷ (start, started 6 0 "copy" "a")
+    ∷ (fail 0 "bad", finished 7)
+    ∷ (wait "h", refused (refusal.Unfinished 1))
+    ∷ (wait "g", waited)
+    ∷ (start, started_late 9 1 "copy" "b")
+    ∷ (finish 1, finished 10)
+    ∷ (wait "h", waited_with "bad")
+    ∷ (go "h" "copy" "c", refused refusal.Waited)
+    ∷ (set_limit "h" 3, refused refusal.Waited)
+    ∷ []
+
+-- A limit is set again once all tasks have finished.
+abbrev pub limit_set_again : Night
+limit_set_again =
+    (group "g" "root", group_made 0 1)
+    ∷ (set_limit "g" 1, done)
+    ∷ (go "g" "copy" "a", submitted 0 phase.Ready)
+    ∷ (go "g" "copy" "b", submitted 1 phase.Held)
+    ∷ (set_limit "g" 2, refused refusal.LimitWhileActive)
+    ∷ (start, started 6 0 "copy" "a")
+    ∷ (start, refused refusal.NothingReady)
+    ∷ (finish 0, finished 7)
+    ∷ (set_limit "g" 2, refused refusal.LimitWhileActive)
+    ∷ (start, started 8 1 "copy" "b")
+    ∷ (finish 1, finished 9)
+    ∷ (set_limit "g" 0, done)
+    ∷ (try_go "g" "copy" "c", refused refusal.AtLimit)
+    ∷ (go "g" "copy" "c", submitted 2 phase.Held)
+    ∷ []
+
+-- Two groups, one below the other, each with a running task.
+abbrev pub nested_groups : Night
+nested_groups =
+    (group "a" "root", group_made 0 1)
+    ∷ (group "b" "a", group_made 1 2)
+    ∷ (go "b" "copy" "x", submitted 0 phase.Ready)
+    ∷ (go "a" "copy" "y", submitted 1 phase.Ready)
+    ∷ (start, started 6 0 "copy" "x")
+    ∷ (start, started 7 1 "copy" "y")
     ∷ []
 
 -- The state of a store that was opened so many times more.

@@ -4,7 +4,8 @@ ghost use Rattle.std.specs.Prelude.{◌≡◌};
 ghost use Rattle.run_model.specs.declared.bounds.TheConstants.{TEXT_LEN, NAME_LEN};
 ghost use Rattle.run_model.specs.declared.bounds.TheConstants.{GREATEST_MOMENT, GREATEST_LIMIT};
 ghost use Rattle.run_model.specs.declared.bounds.TheConstants.{MOST_SCOPES, MOST_GROUPS};
-ghost use Rattle.run_model.specs.declared.bounds.TheConstants.{MOST_TASKS, SESSION_LEN, FINISH_ROOM};
+ghost use Rattle.run_model.specs.declared.bounds.TheConstants.{MOST_TASKS, SESSION_LEN};
+ghost use Rattle.run_model.specs.declared.bounds.TheConstants.{FINISH_ROOM};
 
 /// The bounds that the definitions are read with.
 pub fn the_bounds_are_these()

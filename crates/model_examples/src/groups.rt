@@ -6,6 +6,9 @@ ghost use Rattle.run_model.specs.declared.tasks.Phase.TheVariants as phase;
 ghost use Rattle.run_model.specs.Scopes.{reason_of, cause_of};
 ghost use Rattle.run_model.specs.Tasks.{phase_of};
 ghost use Rattle.run_model.specs.Questions.{group_look_of, task_look_of};
+ghost use Rattle.model_examples.specs.Nights.{error_below_a_done_scope, nested_groups};
+ghost use Rattle.model_examples.specs.Nights.{limit_set_again};
+ghost use Rattle.model_examples.specs.Nights.{bare_group_in_a_groups_scope};
 ghost use Rattle.model_examples.specs.Nights.{IsAnswered, state_of, reason_after, cause_after};
 ghost use Rattle.model_examples.specs.Nights.{limited_group, limit_of_zero, first_error};
 ghost use Rattle.model_examples.specs.Nights.{bare_group, refused_calls, two_jobs, stopped_night};
@@ -89,4 +92,31 @@ pub fn a_running_task_is_interrupted()
     ensures cause { cause_of (reopened 1 stopped_night).tree.scopes 1 ≡ Some (codes "interrupted") }
     ensures count { (reopened 1 stopped_night).count ≡ 7 }
     ensures again { reopened 2 stopped_night ≡ record (reopened 1 stopped_night) { count = 8 } }
+{}
+
+/// An error of a group below a done scope changes no cause, and a task is told as it starts.
+pub fn an_error_below_a_done_scope_changes_no_cause()
+    ensures answers { IsAnswered error_below_a_done_scope }
+    ensures cause { cause_after error_below_a_done_scope 2 ≡ Some (codes "stop") }
+{}
+
+/// A bare group's error cancels nothing; its tasks are told that the scope they live in is done.
+pub fn a_bare_group_lives_in_any_scope()
+    ensures answers { IsAnswered bare_group_in_a_groups_scope }
+    ensures cause { cause_after bare_group_in_a_groups_scope 1 ≡ Some (codes "context canceled") }
+{}
+
+/// A limit is set only while no task of the group is held, ready or running.
+pub fn a_limit_is_set_between_tasks()
+    ensures { IsAnswered limit_set_again }
+{}
+
+/// Two groups that one opening interrupts, one below the other, have the same cause.
+pub fn nested_groups_are_interrupted_together()
+    ensures answers { IsAnswered nested_groups }
+    ensures above { cause_of (reopened 1 nested_groups).tree.scopes 1
+        ≡ Some (codes "interrupted") }
+    ensures below { cause_of (reopened 1 nested_groups).tree.scopes 2
+        ≡ Some (codes "interrupted") }
+    ensures count { (reopened 1 nested_groups).count ≡ 8 }
 {}

@@ -8,6 +8,8 @@
 
 pub mod bounds;
 pub mod groups;
+pub mod records;
 pub mod scopes;
+pub mod sessions;
 #[cfg(test)]
 mod tests;

@@ -9,6 +9,7 @@ ghost use Rattle.model_examples.specs.Nights.{child_cancelled_first, child_cance
 ghost use Rattle.model_examples.specs.Nights.{equal_deadlines, child_deadline_first, detached_part};
 ghost use Rattle.model_examples.specs.Nights.{deadlines_at_the_clock, timeout_past_all_moments};
 ghost use Rattle.model_examples.specs.Nights.{deadline_of_a_done_scope};
+ghost use Rattle.model_examples.specs.Nights.{nested_deadlines, nested_values, orders_of_refusals};
 ghost use Rattle.model_examples.specs.Nights.{deadlines_round_a_detached_scope};
 
 /// A cancelled parent ends its child, which has the parent's cause.
@@ -48,6 +49,8 @@ pub fn equal_deadlines_pass_in_order_of_number()
 pub fn deadlines_pass_in_order_of_moment()
     ensures answers { IsAnswered child_deadline_first }
     ensures parent { cause_after child_deadline_first 1 ≡ Some (codes "p") }
+    ensures parent_reason { reason_after child_deadline_first 1 ≡ Some DeadlineExceeded }
+    ensures child_reason { reason_after child_deadline_first 2 ≡ Some DeadlineExceeded }
     ensures child { cause_after child_deadline_first 2 ≡ Some (codes "c") }
     ensures parent_deadline { deadline_after child_deadline_first 1 ≡ Some 150 }
     ensures child_deadline { deadline_after child_deadline_first 2 ≡ Some 100 }
@@ -77,7 +80,7 @@ pub fn a_deadline_at_the_clock_is_exceeded_at_once()
     ensures count { (state_of deadlines_at_the_clock).count ≡ 4 }
 {}
 
-/// A timeout past the greatest moment is refused; a value is found at its scope and below alone.
+/// A timeout past the greatest moment is refused; a value is not found above its scope.
 pub fn a_timeout_past_the_greatest_moment_is_refused()
     ensures answers { IsAnswered timeout_past_all_moments }
     ensures value { value_after timeout_past_all_moments 1 (codes "k") ≡ Some (codes "x") }
@@ -113,6 +116,32 @@ pub fn deadlines_stop_at_a_detached_scope()
     ensures detached { reason_after deadlines_round_a_detached_scope 3 ≡ None }
     ensures detached_deadline { deadline_after deadlines_round_a_detached_scope 3 ≡ None }
     ensures below { cause_after deadlines_round_a_detached_scope 4 ≡ Some (codes "e") }
+    ensures below_reason { reason_after deadlines_round_a_detached_scope 4
+        ≡ Some DeadlineExceeded }
     ensures below_deadline { deadline_after deadlines_round_a_detached_scope 4 ≡ Some 70 }
     ensures count { (state_of deadlines_round_a_detached_scope).count ≡ 7 }
+{}
+
+/// The first deadline that passes on a chain is the cause, also where an own one passes later.
+pub fn the_first_deadline_on_the_chain_is_the_cause()
+    ensures answers { IsAnswered nested_deadlines }
+    ensures cause { cause_after nested_deadlines 3 ≡ Some (codes "ten") }
+    ensures parent { cause_after nested_deadlines 2 ≡ Some (codes "ten") }
+    ensures live { reason_after nested_deadlines 1 ≡ None }
+    ensures deadline { deadline_after nested_deadlines 3 ≡ Some 10 }
+{}
+
+/// The nearest value of a key counts, and a value of another key hides none.
+pub fn the_nearest_value_counts()
+    ensures answers { IsAnswered nested_values }
+    ensures far { value_after nested_values 2 (codes "k") ≡ Some (codes "far") }
+    ensures near { value_after nested_values 4 (codes "k") ≡ Some (codes "near") }
+    ensures other { value_after nested_values 4 (codes "j") ≡ Some (codes "other") }
+    ensures beside { value_after nested_values 5 (codes "k") ≡ Some (codes "far") }
+    ensures missing { value_after nested_values 5 (codes "j") ≡ None }
+{}
+
+/// Of several reasons for a refusal, the first in order is answered.
+pub fn refusals_come_in_order()
+    ensures { IsAnswered orders_of_refusals }
 {}
