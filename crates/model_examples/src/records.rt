@@ -9,10 +9,10 @@ ghost use Rattle.run_model.specs.Records.{record_len};
 /// How many bytes a record has: 3 for the tag and the length, and those of the fields.
 pub fn a_record_has_so_many_bytes()
     ensures derive { record_len (event.Derive (codes "a") 0 kind.Cause) ≡ 8 }
-    ensures deadline { record_len (event.Derive (codes "p") 0 (kind.Deadline 100 (Some (codes "p"))))
-        ≡ 18 }
-    ensures value { record_len (event.Derive (codes "v") 0 (kind.Value (codes "region") (codes "eu")))
-        ≡ 18 }
+    ensures deadline { record_len (event.Derive (codes "p") 0
+        (kind.Deadline 100 (Some (codes "p")))) ≡ 18 }
+    ensures value { record_len (event.Derive (codes "v") 0
+        (kind.Value (codes "region") (codes "eu"))) ≡ 18 }
     ensures cancel { record_len (event.Cancel 1 (Some (codes "disk"))) ≡ 10 }
     ensures cancel_alone { record_len (event.Cancel 1 None) ≡ 6 }
     ensures advance { record_len (event.Advance 1704074400) ≡ 11 }
