@@ -1,2 +1,4 @@
 pub mod Folds
 pub mod Interrupts
+pub mod Numbering
+pub mod Shapes

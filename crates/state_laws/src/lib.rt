@@ -5,3 +5,4 @@
 #![tactic(auto)]
 
 pub mod restarts;
+pub mod rules;

@@ -1,0 +1,5 @@
+use Rattle.state_laws.proofs.rules.events_keep_the_rules.Goals as goal
+use Rattle.state_laws.proofs.Numbering.{numbered_kept, numbered_scope}
+
+pub returns : goal.returns
+returns c = λ p q event kept after. ?
