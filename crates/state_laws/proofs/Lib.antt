@@ -1,4 +1,5 @@
 pub mod Folds
 pub mod Interrupts
 pub mod Numbering
+pub mod RightHits
 pub mod Shapes
