@@ -1,5 +1,6 @@
 pub mod Folds
 pub mod Interrupts
 pub mod Numbering
+pub mod Owners
 pub mod RightHits
 pub mod Shapes
