@@ -1,3 +1,4 @@
+pub mod Admission
 pub mod Folds
 pub mod Interrupts
 pub mod Numbering
