@@ -1,8 +1,6 @@
 -- Steps and replies in short, as the examples write them.
 use Prim.Native.String.{String}
-use Rattle.std.specs.Prelude.{ℕ, List, [], ◌∷◌, Option, Some, None, codes, false}
-use Rattle.std.specs.Option.{option_map}
-use Rattle.run_model.specs.declared.scopes.Reason.{Reason}
+use Rattle.std.specs.Prelude.{ℕ, Some, None, codes, false}
 use Rattle.run_model.specs.declared.tasks.Outcome.TheVariants.{Success, Failure}
 use Rattle.run_model.specs.declared.commands.Wish.{Wish}
 use Rattle.run_model.specs.declared.commands.Command.TheVariants as command
@@ -13,8 +11,6 @@ use Rattle.run_model.specs.declared.answers.Reply.{Reply}
 use Rattle.run_model.specs.declared.answers.Reply.TheVariants as reply
 use Rattle.run_model.specs.declared.refusals.Refusal.{Refusal}
 use Rattle.run_model.specs.declared.tasks.Phase.{Phase}
-use Rattle.run_model.specs.State.{State}
-use Rattle.run_model.specs.Scopes.{cause_of, reason_of}
 
 -- ---- steps
 

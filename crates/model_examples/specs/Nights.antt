@@ -1,204 +1,225 @@
--- The steps of the examples, each a short night in a newly opened store.
-use Rattle.std.specs.Prelude.{ℕ, zero, suc, List, [], ◌∷◌, ◌++◌, Option, Some, None, codes}
+-- The examples: each is a short night in a newly opened store, step by step with its reply.
+use Rattle.std.specs.Prelude.{◌≡◌, ℕ, zero, suc, List, [], ◌∷◌, ◌++◌, map, Option, Some, None}
+use Rattle.std.specs.Prelude.{codes}
 use Rattle.run_model.specs.declared.scopes.Reason.{Reason}
-use Rattle.run_model.specs.declared.commands.Wish.TheVariants.{Cancel, Cause, Deadline, Timeout, Value, Detached}
+use Rattle.run_model.specs.declared.commands.Wish.TheVariants.{Cancel, Cause, Deadline, Timeout}
+use Rattle.run_model.specs.declared.commands.Wish.TheVariants.{Value, Detached}
 use Rattle.run_model.specs.declared.commands.Step.{Step}
+use Rattle.run_model.specs.declared.answers.Reply.{Reply}
+use Rattle.run_model.specs.declared.refusals.Refusal.TheVariants as refusal
+use Rattle.run_model.specs.declared.tasks.Phase.TheVariants as phase
 use Rattle.run_model.specs.State.{State}
 use Rattle.run_model.specs.Scopes.{reason_of, cause_of, deadline_of, value_of}
 use Rattle.run_model.specs.Event.{Restart}
 use Rattle.run_model.specs.Step.{step}
-use Rattle.run_model.specs.Session.{opened, session_after}
-use Rattle.model_examples.specs.Calls.{derive, cancel, cancel_only, advance, group, bare, set_limit, go, try_go, wait, start, finish, fail}
+use Rattle.run_model.specs.Session.{opened, session_after, replies}
+use Rattle.model_examples.specs.Calls.{derive, cancel, cancel_only, advance, group, bare, set_limit}
+use Rattle.model_examples.specs.Calls.{go, try_go, wait, start, finish, fail, scope_made}
+use Rattle.model_examples.specs.Calls.{group_made, bare_made, done, submitted, started, finished}
+use Rattle.model_examples.specs.Calls.{waited, waited_with, refused}
 
--- ---- what is asked of the state that the steps leave
+-- A night is a list of steps, each with the reply that is expected.
+abbrev pub Night : Type 0
+Night = List (Step × Reply)
 
-abbrev pub state_of : List Step → State
-state_of steps = (session_after opened steps).state
+abbrev pub steps_of : Night → List Step
+steps_of night = map (λ line. line.0) night
 
-abbrev pub reason_after : List Step → ℕ → Option Reason
-reason_after steps s = reason_of (state_of steps).tree.scopes s
+-- The steps are answered as expected.
+abbrev pub IsAnswered : Night → Type 0
+IsAnswered night = replies opened (steps_of night) ≡ map (λ line. line.1) night
 
-abbrev pub cause_after : List Step → ℕ → Option (List ℕ)
-cause_after steps s = cause_of (state_of steps).tree.scopes s
+-- ---- what is asked of the state that a night leaves
 
-abbrev pub deadline_after : List Step → ℕ → Option ℕ
-deadline_after steps s = deadline_of (state_of steps).tree.scopes s
+abbrev pub state_of : Night → State
+state_of night = (session_after opened (steps_of night)).state
 
-abbrev pub value_after : List Step → ℕ → List ℕ → Option (List ℕ)
-value_after steps s key = value_of (state_of steps).tree.scopes s key
+abbrev pub reason_after : Night → ℕ → Option Reason
+reason_after night s = reason_of (state_of night).tree.scopes s
+
+abbrev pub cause_after : Night → ℕ → Option (List ℕ)
+cause_after night s = cause_of (state_of night).tree.scopes s
+
+abbrev pub deadline_after : Night → ℕ → Option ℕ
+deadline_after night s = deadline_of (state_of night).tree.scopes s
+
+abbrev pub value_after : Night → ℕ → List ℕ → Option (List ℕ)
+value_after night s key = value_of (state_of night).tree.scopes s key
 
 -- ---- scopes
 
 -- The parent is cancelled, and the child with it.
-abbrev pub parent_cancelled : List Step
+abbrev pub parent_cancelled : Night
 parent_cancelled =
-    derive "a" "root" Cause
-    ∷ derive "b" "a" Cancel
-    ∷ cancel "a" "disk"
+    (derive "a" "root" Cause, scope_made 1)
+    ∷ (derive "b" "a" Cancel, scope_made 2)
+    ∷ (cancel "a" "disk", done)
     ∷ []
 
 -- The child is cancelled, and its parent afterwards.
-abbrev pub child_cancelled_first : List Step
+abbrev pub child_cancelled_first : Night
 child_cancelled_first =
-    derive "p" "root" Cause
-    ∷ derive "c" "p" Cause
-    ∷ cancel "c" "a"
-    ∷ cancel "p" "b"
+    (derive "p" "root" Cause, scope_made 1)
+    ∷ (derive "c" "p" Cause, scope_made 2)
+    ∷ (cancel "c" "a", done)
+    ∷ (cancel "p" "b", done)
     ∷ []
 
-abbrev pub child_cancelled_again : List Step
-child_cancelled_again = child_cancelled_first ++ cancel "c" "again" ∷ []
+-- A scope that is done is cancelled again.
+abbrev pub child_cancelled_again : Night
+child_cancelled_again =
+    child_cancelled_first ++ (cancel "c" "again", refused refusal.AlreadyDone) ∷ []
 
 -- One advance passes two deadlines of the same moment.
-abbrev pub equal_deadlines : List Step
+abbrev pub equal_deadlines : Night
 equal_deadlines =
-    derive "p" "root" (Deadline 100 (Some (codes "p")))
-    ∷ derive "c" "p" (Deadline 100 (Some (codes "c")))
-    ∷ advance 200
+    (derive "p" "root" (Deadline 100 (Some (codes "p"))), scope_made 1)
+    ∷ (derive "c" "p" (Deadline 100 (Some (codes "c"))), scope_made 2)
+    ∷ (advance 200, done)
     ∷ []
 
 -- One advance passes the child's deadline, and then its parent's.
-abbrev pub child_deadline_first : List Step
+abbrev pub child_deadline_first : Night
 child_deadline_first =
-    derive "p" "root" (Deadline 150 (Some (codes "p")))
-    ∷ derive "c" "p" (Deadline 100 (Some (codes "c")))
-    ∷ advance 200
+    (derive "p" "root" (Deadline 150 (Some (codes "p"))), scope_made 1)
+    ∷ (derive "c" "p" (Deadline 100 (Some (codes "c"))), scope_made 2)
+    ∷ (advance 200, done)
     ∷ []
 
 -- A value, a cause below it, a detached scope below that, and a scope below the detached one.
-abbrev pub detached_part : List Step
+abbrev pub detached_part : Night
 detached_part =
-    derive "v" "root" (Value (codes "region") (codes "eu"))
-    ∷ derive "x" "v" Cause
-    ∷ derive "d" "x" Detached
-    ∷ derive "k" "d" Cancel
-    ∷ cancel "x" "stop"
+    (derive "v" "root" (Value (codes "region") (codes "eu")), scope_made 1)
+    ∷ (derive "x" "v" Cause, scope_made 2)
+    ∷ (derive "d" "x" Detached, scope_made 3)
+    ∷ (derive "k" "d" Cancel, scope_made 4)
+    ∷ (cancel "x" "stop", done)
     ∷ []
 
 -- A timeout of 0, a deadline at the clock, and an advance to the clock.
-abbrev pub deadlines_at_the_clock : List Step
+abbrev pub deadlines_at_the_clock : Night
 deadlines_at_the_clock =
-    advance 1704074400
-    ∷ derive "t" "root" (Timeout 0 None)
-    ∷ derive "u" "root" (Deadline 1704074400 None)
-    ∷ advance 1704074400
+    (advance 1704074400, done)
+    ∷ (derive "t" "root" (Timeout 0 None), scope_made 1)
+    ∷ (derive "u" "root" (Deadline 1704074400 None), scope_made 2)
+    ∷ (advance 1704074400, refused refusal.ClockNotForward)
     ∷ []
 
 -- One second more than the greatest moment.
-abbrev pub timeout_past_all_moments : List Step
+abbrev pub timeout_past_all_moments : Night
 timeout_past_all_moments =
-    derive "v" "root" (Value (codes "k") (codes "x"))
-    ∷ derive "t" "root" (Timeout 253000000001 None)
+    (derive "v" "root" (Value (codes "k") (codes "x")), scope_made 1)
+    ∷ (derive "t" "root" (Timeout 253000000001 None), refused refusal.MomentOutOfRange)
     ∷ []
 
 -- A deadline passes on a scope that its parent's cancellation has ended.
-abbrev pub deadline_of_a_done_scope : List Step
+abbrev pub deadline_of_a_done_scope : Night
 deadline_of_a_done_scope =
-    derive "p" "root" Cause
-    ∷ derive "c" "p" (Deadline 50 (Some (codes "late")))
-    ∷ cancel "p" "stop"
-    ∷ advance 60
+    (derive "p" "root" Cause, scope_made 1)
+    ∷ (derive "c" "p" (Deadline 50 (Some (codes "late"))), scope_made 2)
+    ∷ (cancel "p" "stop", done)
+    ∷ (advance 60, done)
     ∷ []
 
 -- A cancelled deadline, and a detached part with a deadline of its own.
-abbrev pub deadlines_round_a_detached_scope : List Step
+abbrev pub deadlines_round_a_detached_scope : Night
 deadlines_round_a_detached_scope =
-    derive "p" "root" (Deadline 100 (Some (codes "p")))
-    ∷ derive "c" "p" (Deadline 50 (Some (codes "c")))
-    ∷ derive "d" "c" Detached
-    ∷ derive "e" "d" (Deadline 70 (Some (codes "e")))
-    ∷ cancel_only "c"
-    ∷ advance 100
+    (derive "p" "root" (Deadline 100 (Some (codes "p"))), scope_made 1)
+    ∷ (derive "c" "p" (Deadline 50 (Some (codes "c"))), scope_made 2)
+    ∷ (derive "d" "c" Detached, scope_made 3)
+    ∷ (derive "e" "d" (Deadline 70 (Some (codes "e"))), scope_made 4)
+    ∷ (cancel_only "c", done)
+    ∷ (advance 100, done)
     ∷ []
 
 -- ---- groups
 
 -- A limit of two, and three tasks.
-abbrev pub limited_group : List Step
+abbrev pub limited_group : Night
 limited_group =
-    group "g" "root"
-    ∷ set_limit "g" 2
-    ∷ go "g" "copy" "a"
-    ∷ go "g" "copy" "b"
-    ∷ go "g" "copy" "c"
-    ∷ try_go "g" "copy" "d"
-    ∷ start
-    ∷ finish 0
-    ∷ wait "g"
-    ∷ set_limit "g" 3
+    (group "g" "root", group_made 0 1)
+    ∷ (set_limit "g" 2, done)
+    ∷ (go "g" "copy" "a", submitted 0 phase.Ready)
+    ∷ (go "g" "copy" "b", submitted 1 phase.Ready)
+    ∷ (go "g" "copy" "c", submitted 2 phase.Held)
+    ∷ (try_go "g" "copy" "d", refused refusal.AtLimit)
+    ∷ (start, started 7 0 "copy" "a")
+    ∷ (finish 0, finished 8)
+    ∷ (wait "g", refused (refusal.Unfinished 2))
+    ∷ (set_limit "g" 3, refused refusal.LimitWhileActive)
     ∷ []
 
 -- A limit of zero admits none.
-abbrev pub limit_of_zero : List Step
+abbrev pub limit_of_zero : Night
 limit_of_zero =
-    group "g" "root"
-    ∷ set_limit "g" 0
-    ∷ go "g" "copy" "a"
-    ∷ start
-    ∷ try_go "g" "copy" "b"
-    ∷ wait "g"
+    (group "g" "root", group_made 0 1)
+    ∷ (set_limit "g" 0, done)
+    ∷ (go "g" "copy" "a", submitted 0 phase.Held)
+    ∷ (start, refused refusal.NothingReady)
+    ∷ (try_go "g" "copy" "b", refused refusal.AtLimit)
+    ∷ (wait "g", refused (refusal.Unfinished 1))
     ∷ []
 
 -- The second task fails first, and the group is waited for twice.
-abbrev pub first_error : List Step
+abbrev pub first_error : Night
 first_error =
-    group "g" "root"
-    ∷ go "g" "copy" "a"
-    ∷ go "g" "copy" "b"
-    ∷ start
-    ∷ start
-    ∷ fail 1 "x"
-    ∷ fail 0 "y"
-    ∷ wait "g"
-    ∷ wait "g"
-    ∷ go "g" "copy" "c"
+    (group "g" "root", group_made 0 1)
+    ∷ (go "g" "copy" "a", submitted 0 phase.Ready)
+    ∷ (go "g" "copy" "b", submitted 1 phase.Ready)
+    ∷ (start, started 5 0 "copy" "a")
+    ∷ (start, started 6 1 "copy" "b")
+    ∷ (fail 1 "x", finished 7)
+    ∷ (fail 0 "y", finished 8)
+    ∷ (wait "g", waited_with "x")
+    ∷ (wait "g", waited_with "x")
+    ∷ (go "g" "copy" "c", refused refusal.Waited)
     ∷ []
 
 -- A group and a bare group, both waited for.
-abbrev pub bare_group : List Step
+abbrev pub bare_group : Night
 bare_group =
-    group "g" "root"
-    ∷ bare "h" "root"
-    ∷ wait "g"
-    ∷ wait "h"
+    (group "g" "root", group_made 0 1)
+    ∷ (bare "h" "root", bare_made 1)
+    ∷ (wait "g", waited)
+    ∷ (wait "h", waited)
     ∷ []
 
 -- A name that is taken, a scope, a group and a task that there aren't, and nothing ready.
-abbrev pub refused_calls : List Step
+abbrev pub refused_calls : Night
 refused_calls =
-    group "g" "root"
-    ∷ bare "g" "root"
-    ∷ group "h" "no"
-    ∷ go "x" "copy" "a"
-    ∷ set_limit "g" 64
-    ∷ finish 0
-    ∷ start
+    (group "g" "root", group_made 0 1)
+    ∷ (bare "g" "root", refused refusal.NameTaken)
+    ∷ (group "h" "no", refused refusal.NoSuchScope)
+    ∷ (go "x" "copy" "a", refused refusal.NoSuchGroup)
+    ∷ (set_limit "g" 64, done)
+    ∷ (finish 0, refused refusal.NoSuchTask)
+    ∷ (start, refused refusal.NothingReady)
     ∷ []
 
 -- Two jobs, of which one fails.
-abbrev pub two_jobs : List Step
+abbrev pub two_jobs : Night
 two_jobs =
-    group "g" "root"
-    ∷ go "g" "spin" "1"
-    ∷ go "g" "copy" "a"
-    ∷ go "g" "spin" "2"
-    ∷ start
-    ∷ start
-    ∷ fail 0 "x"
-    ∷ finish 1
+    (group "g" "root", group_made 0 1)
+    ∷ (go "g" "spin" "1", submitted 0 phase.Ready)
+    ∷ (go "g" "copy" "a", submitted 1 phase.Ready)
+    ∷ (go "g" "spin" "2", submitted 2 phase.Ready)
+    ∷ (start, started 6 0 "spin" "1")
+    ∷ (start, started 7 1 "copy" "a")
+    ∷ (fail 0 "x", finished 8)
+    ∷ (finish 1, finished 9)
     ∷ []
 
 -- One of two tasks runs when the runner stops.
-abbrev pub stopped_night : List Step
+abbrev pub stopped_night : Night
 stopped_night =
-    group "g" "root"
-    ∷ set_limit "g" 1
-    ∷ go "g" "copy" "a"
-    ∷ go "g" "copy" "b"
-    ∷ start
+    (group "g" "root", group_made 0 1)
+    ∷ (set_limit "g" 1, done)
+    ∷ (go "g" "copy" "a", submitted 0 phase.Ready)
+    ∷ (go "g" "copy" "b", submitted 1 phase.Held)
+    ∷ (start, started 6 0 "copy" "a")
     ∷ []
 
 -- The state of a store that was opened so many times more.
-abbrev pub reopened : ℕ → List Step → State
-reopened zero steps = state_of steps
-reopened (suc n) steps = step (reopened n steps) Restart
+abbrev pub reopened : ℕ → Night → State
+reopened zero night = state_of night
+reopened (suc n) night = step (reopened n night) Restart

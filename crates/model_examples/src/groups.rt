@@ -2,78 +2,91 @@
 
 ghost use Rattle.std.specs.Prelude.{◌≡◌, [], ◌∷◌, true, false, codes};
 ghost use Rattle.run_model.specs.declared.scopes.Reason.TheVariants.{Canceled};
-ghost use Rattle.run_model.specs.declared.refusals.Refusal.TheVariants as refusal;
 ghost use Rattle.run_model.specs.declared.tasks.Phase.TheVariants as phase;
 ghost use Rattle.run_model.specs.Scopes.{reason_of, cause_of};
 ghost use Rattle.run_model.specs.Tasks.{phase_of};
 ghost use Rattle.run_model.specs.Questions.{group_look_of, task_look_of};
-ghost use Rattle.run_model.specs.Session.{opened, replies};
-ghost use Rattle.model_examples.specs.Calls.{scope_made, group_made, bare_made, done, submitted, started, finished, waited, waited_with, refused};
-ghost use Rattle.model_examples.specs.Nights.{state_of, reason_after, cause_after, limited_group, limit_of_zero, first_error, bare_group, refused_calls, two_jobs, stopped_night, reopened};
+ghost use Rattle.model_examples.specs.Nights.{IsAnswered, state_of, reason_after, cause_after};
+ghost use Rattle.model_examples.specs.Nights.{limited_group, limit_of_zero, first_error};
+ghost use Rattle.model_examples.specs.Nights.{bare_group, refused_calls, two_jobs, stopped_night};
+ghost use Rattle.model_examples.specs.Nights.{reopened};
 
 /// A task past the limit is held until one before it has finished.
 pub fn a_limit_holds_the_third_task()
-    ensures answers { replies opened limited_group ≡ group_made 0 1 ∷ done ∷ submitted 0 phase.Ready ∷ submitted 1 phase.Ready ∷ submitted 2 phase.Held ∷ refused refusal.AtLimit ∷ started 7 0 "copy" "a" ∷ finished 8 ∷ refused (refusal.Unfinished 2) ∷ refused refusal.LimitWhileActive ∷ [] }
+    ensures answers { IsAnswered limited_group }
     ensures admitted { phase_of (state_of limited_group).work 2 ≡ Some phase.Ready }
     ensures count { (state_of limited_group).count ≡ 8 }
-{
-}
+{}
 
 /// A limit of zero admits no task.
 pub fn a_limit_of_zero_admits_none()
-    ensures { replies opened limit_of_zero ≡ group_made 0 1 ∷ done ∷ submitted 0 phase.Held ∷ refused refusal.NothingReady ∷ refused refusal.AtLimit ∷ refused (refusal.Unfinished 1) ∷ [] }
-{
-}
+    ensures { IsAnswered limit_of_zero }
+{}
 
 /// The first error that comes is the group's, is what each wait repeats, and is its scope's cause.
 pub fn the_first_error_is_the_groups()
-    ensures answers { replies opened first_error ≡ group_made 0 1 ∷ submitted 0 phase.Ready ∷ submitted 1 phase.Ready ∷ started 5 0 "copy" "a" ∷ started 6 1 "copy" "b" ∷ finished 7 ∷ finished 8 ∷ waited_with "x" ∷ waited_with "x" ∷ refused refusal.Waited ∷ [] }
+    ensures answers { IsAnswered first_error }
     ensures reason { reason_after first_error 1 ≡ Some Canceled }
     ensures cause { cause_after first_error 1 ≡ Some (codes "x") }
-    ensures result { group_look_of (state_of first_error) 0 ≡ Some (record { name = codes "g"; scope = 1; unfinished = 0; limit = None; waited = true; error = Some (codes "x") }) }
+    ensures result { group_look_of (state_of first_error) 0 ≡ Some (record {
+      name = codes "g";
+      scope = 1;
+      unfinished = 0;
+      limit = None;
+      waited = true;
+      error = Some (codes "x");
+    }) }
     ensures count { (state_of first_error).count ≡ 9 }
-{
-}
+{}
 
 /// A wait ends a group's own scope, and a bare group has none to end.
 pub fn a_bare_group_ends_no_scope()
-    ensures answers { replies opened bare_group ≡ group_made 0 1 ∷ bare_made 1 ∷ waited ∷ waited ∷ [] }
+    ensures answers { IsAnswered bare_group }
     ensures reason { reason_after bare_group 1 ≡ Some Canceled }
     ensures cause { cause_after bare_group 1 ≡ Some (codes "context canceled") }
     ensures root { reason_after bare_group 0 ≡ None }
     ensures count { (state_of bare_group).count ≡ 5 }
-{
-}
+{}
 
 /// What isn't there or is taken is refused, and a refused step is no event.
 pub fn refused_steps_are_no_events()
-    ensures answers { replies opened refused_calls ≡ group_made 0 1 ∷ refused refusal.NameTaken ∷ refused refusal.NoSuchScope ∷ refused refusal.NoSuchGroup ∷ done ∷ refused refusal.NoSuchTask ∷ refused refusal.NothingReady ∷ [] }
+    ensures answers { IsAnswered refused_calls }
     ensures count { (state_of refused_calls).count ≡ 3 }
-{
-}
+{}
 
 /// The ready task with the least number is started, whichever job it does.
 pub fn tasks_start_in_order_of_number()
-    ensures answers { replies opened two_jobs ≡ group_made 0 1 ∷ submitted 0 phase.Ready ∷ submitted 1 phase.Ready ∷ submitted 2 phase.Ready ∷ started 6 0 "spin" "1" ∷ started 7 1 "copy" "a" ∷ finished 8 ∷ finished 9 ∷ [] }
+    ensures answers { IsAnswered two_jobs }
     ensures failed { phase_of (state_of two_jobs).work 0 ≡ Some (phase.Failure (codes "x")) }
     ensures ended { phase_of (state_of two_jobs).work 1 ≡ Some phase.Success }
     ensures ready { phase_of (state_of two_jobs).work 2 ≡ Some phase.Ready }
     ensures count { (state_of two_jobs).count ≡ 9 }
-{
-}
+{}
 
 /// A task that runs when the runner stops is interrupted at the next opening: an error of its
 /// group, which ends the group's scope and admits the held task. One more opening changes nothing
 /// but the count.
 pub fn a_running_task_is_interrupted()
-    ensures running { task_look_of (state_of stopped_night) 0 ≡ Some (record { group = 0; job = codes "copy"; argument = codes "a"; phase = phase.Running }) }
-    ensures held { task_look_of (state_of stopped_night) 1 ≡ Some (record { group = 0; job = codes "copy"; argument = codes "b"; phase = phase.Held }) }
+    ensures answers { IsAnswered stopped_night }
+    ensures running { task_look_of (state_of stopped_night) 0 ≡ Some (record {
+      group = 0;
+      job = codes "copy";
+      argument = codes "a";
+      phase = phase.Running;
+    }) }
+    ensures held { phase_of (state_of stopped_night).work 1 ≡ Some phase.Held }
     ensures interrupted { phase_of (reopened 1 stopped_night).work 0 ≡ Some phase.Interrupted }
     ensures ready { phase_of (reopened 1 stopped_night).work 1 ≡ Some phase.Ready }
-    ensures result { group_look_of (reopened 1 stopped_night) 0 ≡ Some (record { name = codes "g"; scope = 1; unfinished = 1; limit = Some 1; waited = false; error = Some (codes "interrupted") }) }
+    ensures result { group_look_of (reopened 1 stopped_night) 0 ≡ Some (record {
+      name = codes "g";
+      scope = 1;
+      unfinished = 1;
+      limit = Some 1;
+      waited = false;
+      error = Some (codes "interrupted");
+    }) }
     ensures reason { reason_of (reopened 1 stopped_night).tree.scopes 1 ≡ Some Canceled }
     ensures cause { cause_of (reopened 1 stopped_night).tree.scopes 1 ≡ Some (codes "interrupted") }
     ensures count { (reopened 1 stopped_night).count ≡ 7 }
     ensures again { reopened 2 stopped_night ≡ record (reopened 1 stopped_night) { count = 8 } }
-{
-}
+{}

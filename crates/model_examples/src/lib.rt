@@ -2,8 +2,12 @@
 //! questions say behind them.
 //!
 //! Each function has an empty body, and its clauses are the example: they are computed from the
-//! definitions of `run_model` alone, without any of the code that a store runs.
+//! definitions of `run_model` alone, without any of the code that a store runs. The tests call
+//! `run_model`'s values.
 #![tactic(auto)]
 
+pub mod bounds;
 pub mod groups;
 pub mod scopes;
+#[cfg(test)]
+mod tests;

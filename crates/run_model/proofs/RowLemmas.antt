@@ -1,8 +1,6 @@
 -- Rows that are changed at one place, pushed at the end, or changed all alike.
-use Rattle.std.proofs.Common.{
-    ◌≡◌, ◌≢◌, ◌⊎◌, ◌<◌, ℕ, zero, suc, List, [], ◌∷◌, ◌++◌, length, map, Some, slice_get, inl, inr,
-    refl, sym, ap, arith
-}
+use Rattle.std.proofs.Common.{◌≡◌, ◌≢◌, ◌⊎◌, ◌<◌, ℕ, zero, suc, List, [], ◌∷◌, ◌++◌, length, map}
+use Rattle.std.proofs.Common.{Some, slice_get, inl, inr, refl, sym, ap, arith}
 use Rattle.std.proofs.lemmas.Option.{none-some, same_Some}
 use Rattle.std.specs.Option.{option_map}
 use Rattle.run_model.specs.Rows.{at_row}
@@ -40,7 +38,8 @@ map-at_row f change (suc n) (row ∷ rows) same =
     ap (λ ys. f row ∷ ys) (map-at_row f change n rows same)
 
 -- Where a row of the changed rows comes from.
-pub record RowChanged {X : Type 0} (change : X → X) (n m : ℕ) (rows : List X) (row : X) : Type 0 where
+pub record RowChanged
+    {X : Type 0} (change : X → X) (n m : ℕ) (rows : List X) (row : X) : Type 0 where
   pub old : X
   pub found : slice_get rows m ≡ Some old
   pub here : m ≡ n
@@ -51,11 +50,24 @@ pub at_row_cases : {X : Type 0} (change : X → X) (n m : ℕ) (rows : List X) (
     → ((m ≢ n) × (slice_get rows m ≡ Some row)) ⊎ RowChanged change n m rows row
 at_row_cases change n m [] row found = absurd (none-some row found)
 at_row_cases change zero zero (r ∷ rows) row found =
-    inr (record { old = r; found = refl; here = refl; changed = sym (same_Some (change r) row found) })
+    inr (record {
+      old = r;
+      found = refl;
+      here = refl;
+      changed = sym (same_Some (change r) row found);
+    })
 at_row_cases change zero (suc m) (r ∷ rows) row found = inl (λ e. omega (arith, e), found)
 at_row_cases change (suc n) zero (r ∷ rows) row found = inl (λ e. omega (arith, e), found)
 at_row_cases change (suc n) (suc m) (r ∷ rows) row found =
-    elim (at_row_cases change n m rows row found) [ inl other ↦ inl (λ e. other.0 (omega (arith, e)), other.1) | inr same ↦ inr (record { old = same.old; found = same.found; here = ap suc same.here; changed = same.changed }) ]
+    elim (at_row_cases change n m rows row found) [
+      | inl other ↦ inl (λ e. other.0 (omega (arith, e)), other.1)
+      | inr same ↦ inr (record {
+        old = same.old;
+        found = same.found;
+        here = ap suc same.here;
+        changed = same.changed;
+      })
+    ]
 
 -- ---- at the end
 
@@ -79,7 +91,8 @@ push_cases [] new zero row found = inr (refl, sym (same_Some new row found))
 push_cases [] new (suc m) row found = absurd (none-some row found)
 push_cases (r ∷ rows) new zero row found = inl found
 push_cases (r ∷ rows) new (suc m) row found =
-    elim (push_cases rows new m row found) [ inl old ↦ inl old | inr last ↦ inr (ap suc last.0, last.1) ]
+    elim (push_cases rows new m row found)
+    [ inl old ↦ inl old | inr last ↦ inr (ap suc last.0, last.1) ]
 
 -- ---- all alike
 

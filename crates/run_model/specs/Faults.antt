@@ -3,6 +3,7 @@ use Rattle.std.specs.Prelude.{ℕ, List, codes}
 use Rattle.run_model.specs.declared.faults.Fault.{Fault}
 use Rattle.run_model.specs.declared.faults.Fault.TheVariants as fault
 
+-- The number that is printed.
 abbrev pub fault_number : Fault → ℕ
 fault_number fault.Memory = 1
 fault_number fault.DiskFailed = 2
@@ -15,6 +16,7 @@ fault_number fault.BadRecord = 8
 fault_number fault.BadEvent = 9
 fault_number fault.NumbersSpent = 10
 
+-- The name that is printed.
 abbrev pub fault_name : Fault → List ℕ
 fault_name fault.Memory = codes "Memory"
 fault_name fault.DiskFailed = codes "DiskFailed"

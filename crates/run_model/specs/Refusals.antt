@@ -3,6 +3,7 @@ use Rattle.std.specs.Prelude.{ℕ, List, codes}
 use Rattle.run_model.specs.declared.refusals.Refusal.{Refusal}
 use Rattle.run_model.specs.declared.refusals.Refusal.TheVariants as refusal
 
+-- The number that is printed.
 abbrev pub refusal_number : Refusal → ℕ
 refusal_number refusal.NoSuchScope = 1
 refusal_number refusal.NoSuchGroup = 2
@@ -28,6 +29,7 @@ refusal_number refusal.SessionFull = 21
 refusal_number refusal.Broken = 22
 refusal_number refusal.NoValue = 23
 
+-- The name that is printed.
 abbrev pub refusal_name : Refusal → List ℕ
 refusal_name refusal.NoSuchScope = codes "NoSuchScope"
 refusal_name refusal.NoSuchGroup = codes "NoSuchGroup"

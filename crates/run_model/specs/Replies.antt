@@ -1,9 +1,8 @@
 -- What a call is answered: its event, or the first refusal that holds.
-use Rattle.std.specs.Prelude.{
-    ℕ, ◌+◌, ◌*◌, nat_lt, nat_le, Bool, false, not, ◌&&◌, if◌then◌else◌, List, [], ◌∷◌, length,
-    Option, Some, None, Result, Ok, Err, is_some, is_none, slice_get, unwrap_or
-}
-use Rattle.std.specs.Option.{option_map, option_map_or, option_and_then}
+use Rattle.std.specs.Prelude.{ℕ, ◌+◌, ◌*◌, nat_lt, nat_le, Bool, false, not, ◌&&◌, if◌then◌else◌}
+use Rattle.std.specs.Prelude.{List, [], ◌∷◌, length, Option, Some, None, Result, Ok, Err, is_some}
+use Rattle.std.specs.Prelude.{slice_get, unwrap_or}
+use Rattle.std.specs.Option.{option_map, option_map_or, option_and_then, ok_or}
 use Rattle.run_model.specs.declared.bounds.TheConstants.{GREATEST_MOMENT, SESSION_LEN, FINISH_ROOM}
 use Rattle.run_model.specs.declared.scopes.Kind.{Kind}
 use Rattle.run_model.specs.declared.scopes.Kind.TheVariants as kind
@@ -23,14 +22,12 @@ use Rattle.run_model.specs.Event.{Event}
 use Rattle.run_model.specs.Event as event
 use Rattle.run_model.specs.State.{State, scope_named, group_named}
 use Rattle.run_model.specs.Scopes.{is_done}
-use Rattle.run_model.specs.Tasks.{
-    running_count, unfinished_in, first_ready, is_running_task, phase_of
-}
+use Rattle.run_model.specs.Tasks.{running_count, unfinished_in, first_ready, is_running_task}
+use Rattle.run_model.specs.Tasks.{phase_of}
 use Rattle.run_model.specs.Step.{step}
-use Rattle.run_model.specs.Allowed.{
-    has_scope_room, has_group_room, has_task_room, is_scope_name_free, is_group_name_free,
-    is_cancellable, takes_cause, has_kind, is_idle, has_seat
-}
+use Rattle.run_model.specs.Allowed.{has_scope_room, has_group_room, has_task_room}
+use Rattle.run_model.specs.Allowed.{is_scope_name_free, is_group_name_free, is_cancellable}
+use Rattle.run_model.specs.Allowed.{takes_cause, has_kind, is_idle, admits_one_more}
 use Rattle.run_model.specs.Records.{record_len}
 
 -- ---- the event that a command asks for
@@ -44,14 +41,15 @@ kind_made clock (wish.Timeout seconds cause) = kind.Deadline (clock + seconds) c
 kind_made clock (wish.Value key text) = kind.Value key text
 kind_made clock wish.Detached = kind.Detached
 
--- The scope of this name, where there is one.
+-- The number of the scope of this name. Where there is none, it is a number that no scope has.
 abbrev pub scope_of : State → List ℕ → ℕ
-scope_of p name = unwrap_or (scope_named p.tree name) 0
+scope_of p name = unwrap_or (scope_named p.tree name) (length p.tree.scopes)
 
--- The group of this name, where there is one.
+-- The number of the group of this name. Where there is none, it is a number that no group has.
 abbrev pub group_of : State → List ℕ → ℕ
-group_of p name = unwrap_or (group_named p.work name) 0
+group_of p name = unwrap_or (group_named p.work name) (length p.work.groups)
 
+-- The event that an accepted command is.
 abbrev pub event_of : State → Command → Event
 event_of p (command.Derive name parent wish) =
     event.Derive name (scope_of p parent) (kind_made p.tree.clock wish)
@@ -66,21 +64,29 @@ event_of p (command.Wait group) = event.Wait (group_of p group)
 
 -- ---- refusals
 
+-- There is no scope of this name.
 abbrev pub lacks_scope : State → List ℕ → Bool
 lacks_scope p name = is_scope_name_free p.tree name
 
+-- There is no group of this name.
 abbrev pub lacks_group : State → List ℕ → Bool
 lacks_group p name = is_group_name_free p.work name
 
+-- There is a group of this number, and it was waited for.
 abbrev pub has_waited : State → ℕ → Bool
 has_waited p g = option_map_or (λ group. group.waited) (slice_get p.work.groups g) false
 
--- A timeout may lead past the greatest moment.
+-- How many tasks of the group of this name are unfinished.
+abbrev pub unfinished_of : State → List ℕ → ℕ
+unfinished_of p name = unfinished_in (group_of p name) p.work.tasks
+
+-- A timeout that leads past the greatest moment.
 abbrev pub is_past_moments : ℕ → Wish → Bool
 is_past_moments clock (wish.Timeout seconds cause) = nat_lt GREATEST_MOMENT (clock + seconds)
 is_past_moments clock _ = false
 
--- Each refusal of a command but SessionFull, with its test, in the order in which they are asked.
+-- Why a command is refused, each with its test, in the order in which they are asked. Two are not
+-- here: Broken is a fact of the book and is asked before all, and SessionFull is asked last.
 abbrev pub refusals : State → Command → List (Bool × Refusal)
 refusals p (command.Derive name parent wish) =
     (lacks_scope p parent, refusal.NoSuchScope)
@@ -123,32 +129,39 @@ refusals p (command.TryGo group job argument) =
     (lacks_group p group, refusal.NoSuchGroup)
     ∷ (has_waited p (group_of p group), refusal.Waited)
     ∷ (not (has_task_room p.work), refusal.TooManyTasks)
-    ∷ (not (has_seat p.work (group_of p group)), refusal.AtLimit)
+    ∷ (not (admits_one_more p.work (group_of p group)), refusal.AtLimit)
     ∷ []
 refusals p (command.Wait group) =
     (lacks_group p group, refusal.NoSuchGroup)
-    ∷ (not (is_idle p.work (group_of p group)), refusal.Unfinished (unfinished_in (group_of p group) p.work.tasks))
+    ∷ (not (is_idle p.work (group_of p group)), refusal.Unfinished (unfinished_of p group))
     ∷ []
 
--- The value, or the refusal of the first test that holds.
-abbrev pub unless : {X : Type 0} → List (Bool × Refusal) → X → Result X Refusal
-unless [] x = Ok x
-unless (t ∷ tests) x = if t.0 then Err t.1 else unless tests x
+-- The refusal of the first test that holds, else this answer.
+abbrev pub unless :
+    {X : Type 0} → List (Bool × Refusal) → Result X Refusal → Result X Refusal
+unless [] answer = answer
+unless (t ∷ tests) answer = if t.0 then Err t.1 else unless tests answer
+
+-- The room that is kept for the finish of each running task.
+abbrev pub reserve : State → ℕ
+reserve p = FINISH_ROOM * running_count p.work.tasks
 
 -- The log has no room for the record and for the finish of each task that then runs.
 abbrev pub is_full : State → ℕ → Event → Bool
-is_full p log event =
-    nat_lt SESSION_LEN (log + record_len event + FINISH_ROOM * running_count (step p event).work.tasks)
+is_full p log event = nat_lt SESSION_LEN (log + record_len event + reserve (step p event))
 
-abbrev pub with_room : State → ℕ → Event → Result (Option Event) Refusal
-with_room p log event = if is_full p log event then Err refusal.SessionFull else Ok (Some event)
+-- The event, if the log has room.
+abbrev pub if_room : State → ℕ → Event → Result (Option Event) Refusal
+if_room p log event = if is_full p log event then Err refusal.SessionFull else Ok (Some event)
 
 -- A wait for a group that was waited for is answered again, and is no event.
 abbrev pub is_repeated : State → Command → Bool
 is_repeated p (command.Wait group) = has_waited p (group_of p group)
 is_repeated p _ = false
 
-abbrev pub and_then : {X Y : Type 0} → Result X Refusal → (X → Result Y Refusal) → Result Y Refusal
+-- An answer from a first one, unless that is a refusal.
+abbrev pub and_then :
+    {X Y : Type 0} → Result X Refusal → (X → Result Y Refusal) → Result Y Refusal
 and_then (Ok x) f = f x
 and_then (Err e) f = Err e
 
@@ -156,7 +169,8 @@ and_then (Err e) f = Err e
 -- log has so many bytes. SessionFull is asked last.
 abbrev pub decide : State → ℕ → Command → Result (Option Event) Refusal
 decide p log call =
-    and_then (unless (refusals p call) call) (λ c. if is_repeated p c then Ok None else with_room p log (event_of p c))
+    unless (refusals p call)
+    (if is_repeated p call then Ok None else if_room p log (event_of p call))
 
 -- ---- answers
 
@@ -179,6 +193,7 @@ answer_of p q (command.TryGo group job argument) = submission p q
 answer_of p q (command.Wait group) =
     answer.Waited (option_and_then (λ row. row.error) (slice_get q.work.groups (group_of p group)))
 
+-- The state after a decision.
 abbrev pub state_after : State → Option Event → State
 state_after p None = p
 state_after p (Some event) = step p event
@@ -189,18 +204,17 @@ reply p log call = and_then (decide p log call) (λ made. Ok (answer_of p (state
 
 -- ---- start and finish
 
-abbrev pub start_refusals : State → List (Bool × Refusal)
-start_refusals p = (is_none (first_ready p.work), refusal.NothingReady) ∷ []
-
 -- A start is of the ready task with the least number.
 abbrev pub decide_start : State → ℕ → Result (Option Event) Refusal
 decide_start p log =
-    and_then (unless (start_refusals p) (event.Start (unwrap_or (first_ready p.work) 0))) (with_room p log)
+    and_then (ok_or (first_ready p.work) refusal.NothingReady)
+    (λ n. if_room p log (event.Start n))
 
 -- Whether the scope that a task lives in is done.
 abbrev pub is_task_done : State → Task → Bool
 is_task_done p task =
-    option_map_or (λ group. is_done p.tree.scopes group.scope) (slice_get p.work.groups task.group) false
+    option_map_or (λ group. is_done p.tree.scopes group.scope)
+    (slice_get p.work.groups task.group) false
 
 -- What the start of task n is answered.
 abbrev pub started_of : State → ℕ → Option Started
@@ -210,15 +224,13 @@ started_of p n = option_map (λ task. record {
   done = is_task_done p task;
 }) (slice_get p.work.tasks n)
 
-abbrev pub ok_or : {X : Type 0} → Option X → Refusal → Result X Refusal
-ok_or None e = Err e
-ok_or (Some x) e = Ok x
-
 -- What a start is answered.
 abbrev pub reply_start : State → ℕ → Result Started Refusal
 reply_start p log =
-    and_then (decide_start p log) (λ made. ok_or (option_and_then (started_of p) (first_ready p.work)) refusal.NothingReady)
+    and_then (decide_start p log)
+    (λ made. ok_or (option_and_then (started_of p) (first_ready p.work)) refusal.NothingReady)
 
+-- Why a finish is refused, in the order in which it is asked.
 abbrev pub finish_refusals : State → ℕ → List (Bool × Refusal)
 finish_refusals p n =
     (nat_le (length p.work.tasks) n, refusal.NoSuchTask)
@@ -227,7 +239,7 @@ finish_refusals p n =
 
 -- The log keeps room for each running task, so a finish is never refused for room.
 abbrev pub decide_finish : State → ℕ → Outcome → Result (Option Event) Refusal
-decide_finish p n outcome = unless (finish_refusals p n) (Some (event.Finish n outcome))
+decide_finish p n outcome = unless (finish_refusals p n) (Ok (Some (event.Finish n outcome)))
 
 -- A finish is answered the number of its event.
 abbrev pub reply_finish : State → ℕ → Outcome → Result ℕ Refusal

@@ -1,8 +1,6 @@
 -- What holds of every state that a store can keep.
-use Rattle.std.specs.Prelude.{
-    ◌≡◌, ◌<◌, ◌≤◌, ◌⊎◌, ◌↔◌, ℕ, ◌==◌, Bool, true, false, ◌&&◌, length, Some, IsTrue, IsSome,
-    slice_get
-}
+use Rattle.std.specs.Prelude.{◌≡◌, ◌<◌, ◌≤◌, ◌⊎◌, ◌↔◌, ℕ, ◌==◌, Bool, true, false, ◌&&◌, length}
+use Rattle.std.specs.Prelude.{Some, IsTrue, IsSome, slice_get}
 use Rattle.std.specs.List.{list_any}
 use Rattle.run_model.specs.declared.bounds.TheConstants.{MOST_SCOPES, MOST_GROUPS, MOST_TASKS}
 use Rattle.run_model.specs.declared.scopes.Kind.{Kind}
@@ -10,17 +8,17 @@ use Rattle.run_model.specs.declared.scopes.Kind.TheVariants as kind
 use Rattle.run_model.specs.declared.scopes.Reason.TheVariants.{DeadlineExceeded}
 use Rattle.run_model.specs.declared.scopes.Hit.{Hit}
 use Rattle.run_model.specs.declared.scopes.Scope.{Scope}
-use Rattle.run_model.specs.declared.tasks.Group.{Group}
+use Rattle.run_model.specs.declared.groups.Group.{Group}
 use Rattle.run_model.specs.declared.tasks.Task.{Task}
 use Rattle.run_model.specs.Rows.{root}
 use Rattle.run_model.specs.State.{State, TreeState, WorkState}
 use Rattle.run_model.specs.Scopes.{AreOrdered, is_root, own_hit, own_deadline}
 use Rattle.run_model.specs.Allowed.{has_kind}
-use Rattle.run_model.specs.Tasks.{is_running, is_lost, unfinished_in, is_admitted}
+use Rattle.run_model.specs.Tasks.{is_running, ended_in_error, unfinished_in, is_admitted}
 
 -- ---- well formed
 
--- Each hit came with one of the first so many events, at a moment that the clock has reached.
+-- No hit has an event past the count, or a moment past the clock.
 pub record ArePast (t : TreeState) (count : ℕ) : Type 0 where
   pub events : (s : ℕ) (hit : Hit) → own_hit t.scopes s ≡ Some hit → hit.event ≤ count
   pub moments : (s : ℕ) (hit : Hit) → own_hit t.scopes s ≡ Some hit → hit.moment ≤ t.clock
@@ -32,13 +30,15 @@ pub record IsWellFormed (p : State) : Type 0 where
 
 -- ---- the six rules of a state that an image can keep
 
--- Each scope of this number has this row.
+-- There is a scope of this number, and this is its row.
 abbrev pub HasScope : TreeState → ℕ → Scope → Type 0
 HasScope t s row = slice_get t.scopes s ≡ Some row
 
+-- There is a group of this number, and this is its row.
 abbrev pub HasGroup : WorkState → ℕ → Group → Type 0
 HasGroup w g row = slice_get w.groups g ≡ Some row
 
+-- There is a task of this number, and this is its row.
 abbrev pub HasTask : WorkState → ℕ → Task → Type 0
 HasTask w n row = slice_get w.tasks n ≡ Some row
 
@@ -66,16 +66,16 @@ can_be_hit (kind.Deadline moment cause) = true
 can_be_hit kind.Group = true
 can_be_hit _ = false
 
--- 2. A hit stands only on a scope that can be cancelled, came with one of the events, and its
--- moment was reached.
+-- 2. A hit stands only on a cancel, cause, deadline or group scope; its event is 1 to the count,
+-- and its moment is at most the clock.
 pub record AreHits (p : State) : Type 0 where
   pub kinds : (s : ℕ) (row : Scope) → HasScope p.tree s row → IsSome row.hit
       → can_be_hit row.kind ≡ true
   pub counted : (s : ℕ) (hit : Hit) → own_hit p.tree.scopes s ≡ Some hit → 1 ≤ hit.event
   pub past : ArePast p.tree p.count
 
--- 3. Only a deadline is exceeded, and the hit's moment is that deadline; a deadline that has come
--- was hit.
+-- 3. Only a deadline scope is exceeded, and the hit's moment is its deadline; a scope whose
+-- deadline has come has a hit.
 pub record AreDeadlines (t : TreeState) : Type 0 where
   pub own : (s : ℕ) (row : Scope) (hit : Hit) → HasScope t s row → row.hit ≡ Some hit
       → hit.reason ≡ DeadlineExceeded → own_deadline row.kind ≡ Some hit.moment
@@ -88,6 +88,7 @@ pub record Owns (w : WorkState) (g : ℕ) (group : Group) (s : ℕ) : Type 0 whe
   pub not_bare : group.bare ≡ false
   pub scope : group.scope ≡ s
 
+-- A group's own scope.
 abbrev pub is_group_kind : Kind → Bool
 is_group_kind kind.Group = true
 is_group_kind _ = false
@@ -109,18 +110,19 @@ pub record AreAdmitted (w : WorkState) : Type 0 where
       → unfinished_in g w.tasks ≡ 0
 
 -- A task of the group ended in failure or was interrupted.
-abbrev pub has_lost : WorkState → ℕ → Bool
-has_lost w g = list_any (λ task. task.group == g && is_lost task.stage) w.tasks
+abbrev pub has_task_error : WorkState → ℕ → Bool
+has_task_error w g = list_any (λ task. task.group == g && ended_in_error task.stage) w.tasks
 
 -- 6. A group has a first error exactly where a task of it was lost; the scope of a group that isn't
 -- bare and has an error or was waited for was hit.
 pub record AreErrors (p : State) : Type 0 where
   pub exact : (g : ℕ) (row : Group) → HasGroup p.work g row
-      → IsSome row.error ↔ IsTrue (has_lost p.work g)
+      → IsSome row.error ↔ IsTrue (has_task_error p.work g)
   pub ended : (g s : ℕ) (row : Group) → Owns p.work g row s → IsSome row.error ⊎ (row.waited ≡ true)
       → IsSome (own_hit p.tree.scopes s)
 
--- A state is consistent where all six hold: exactly such a state can be read from an image.
+-- A state is consistent where all six hold. An image keeps exactly such a state, with each field in
+-- range and a count below 2^63.
 pub record IsConsistent (p : State) : Type 0 where
   pub numbered : AreNumbered p
   pub hits : AreHits p

@@ -1,8 +1,6 @@
 -- What the rows say of a scope: whether it is done and why, its deadline, its values.
-use Rattle.std.specs.Prelude.{
-    ◌≡◌, ◌<◌, ℕ, zero, suc, Bool, true, false, if◌then◌else◌, List, [], ◌∷◌, Option, Some, None,
-    slice_get, is_some, min
-}
+use Rattle.std.specs.Prelude.{◌≡◌, ◌<◌, ℕ, zero, suc, Bool, true, false, if◌then◌else◌, List, []}
+use Rattle.std.specs.Prelude.{◌∷◌, Option, Some, None, slice_get, is_some, min}
 use Rattle.std.specs.List.{filter_map}
 use Rattle.std.specs.Option.{option_map, option_and_then}
 use Rattle.std.specs.Ordering.{nat_cmp, ordering_then, is_lt}
@@ -13,10 +11,12 @@ use Rattle.run_model.specs.declared.scopes.Hit.{Hit}
 use Rattle.run_model.specs.declared.scopes.Reason.{Reason}
 use Rattle.run_model.specs.declared.scopes.Scope.{Scope}
 
+-- Root's kind, which root alone has.
 abbrev pub is_root : Kind → Bool
 is_root kind.Root = true
 is_root _ = false
 
+-- A scope that is not done when its parent is.
 abbrev pub is_detached : Kind → Bool
 is_detached kind.Detached = true
 is_detached _ = false
@@ -32,6 +32,7 @@ abbrev pub upwards : (ℕ → List Numbered) → ℕ → Option Scope → List N
 upwards above s None = []
 upwards above s (Some row) = (s, row) ∷ (if is_root row.kind then [] else above row.parent)
 
+-- The row and those above it, but no more than so many.
 abbrev pub line_within : ℕ → List Scope → ℕ → List Numbered
 line_within zero rows s = []
 line_within (suc most) rows s = upwards (line_within most rows) s (slice_get rows s)
@@ -41,6 +42,7 @@ line_within (suc most) rows s = upwards (line_within most rows) s (slice_get row
 abbrev pub line : List Scope → ℕ → List Numbered
 line rows s = line_within (suc s) rows s
 
+-- The rows before the first detached one.
 abbrev pub before_detached : List Numbered → List Numbered
 before_detached [] = []
 before_detached (r ∷ rs) = if is_detached r.1.kind then [] else r ∷ before_detached rs
@@ -62,7 +64,8 @@ hit_at r = option_map (λ hit. (r.0, hit)) r.1.hit
 -- Hits go by event, then by moment, then by the number of the scope.
 abbrev pub comes_before : ℕ × Hit → ℕ × Hit → Bool
 comes_before a b =
-    is_lt (ordering_then (nat_cmp a.1.event b.1.event) (ordering_then (nat_cmp a.1.moment b.1.moment) (nat_cmp a.0 b.0)))
+    is_lt (ordering_then (nat_cmp a.1.event b.1.event)
+    (ordering_then (nat_cmp a.1.moment b.1.moment) (nat_cmp a.0 b.0)))
 
 -- The first of two hits, where there may be one alone.
 abbrev pub first_of : Option (ℕ × Hit) → ℕ × Hit → ℕ × Hit
@@ -86,14 +89,17 @@ ending rows s = option_map (λ a. a.1) (first_hit rows s)
 abbrev pub is_done : List Scope → ℕ → Bool
 is_done rows s = is_some (ending rows s)
 
+-- Why a scope is done; none while it is live.
 abbrev pub reason_of : List Scope → ℕ → Option Reason
 reason_of rows s = option_map (λ hit. hit.reason) (ending rows s)
 
+-- The cause of a done scope; none while it is live.
 abbrev pub cause_of : List Scope → ℕ → Option (List ℕ)
 cause_of rows s = option_map (λ hit. hit.cause) (ending rows s)
 
 -- ---- deadlines and values
 
+-- The deadline that a scope of this kind has by itself.
 abbrev pub own_deadline : Kind → Option ℕ
 own_deadline (kind.Deadline moment cause) = Some moment
 own_deadline _ = None
@@ -103,6 +109,7 @@ abbrev pub lesser : ℕ → Option ℕ → Option ℕ
 lesser a None = Some a
 lesser a (Some b) = Some (min a b)
 
+-- The least of these moments; none of none.
 abbrev pub least_moment : List ℕ → Option ℕ
 least_moment [] = None
 least_moment (a ∷ rest) = lesser a (least_moment rest)

@@ -21,8 +21,10 @@ abbrev pub is_name : List ℕ → Bool
 is_name bytes =
     nat_le 1 (length bytes) && nat_le (length bytes) NAME_LEN && list_all is_name_byte bytes
 
+-- These bytes are a text.
 abbrev pub IsText : List ℕ → Type 0
 IsText bytes = IsTrue (is_text bytes)
 
+-- These bytes are a name.
 abbrev pub IsName : List ℕ → Type 0
 IsName bytes = IsTrue (is_name bytes)

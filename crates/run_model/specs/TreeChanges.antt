@@ -1,7 +1,6 @@
 -- What an event changes of the tree, each change written once.
-use Rattle.std.specs.Prelude.{
-    ℕ, nat_le, if◌then◌else◌, List, [], ◌∷◌, ◌++◌, map, Option, Some, None, unwrap_or
-}
+use Rattle.std.specs.Prelude.{ℕ, nat_le, if◌then◌else◌, List, [], ◌∷◌, ◌++◌, map, Option, Some}
+use Rattle.std.specs.Prelude.{None, unwrap_or}
 use Rattle.std.specs.Option.{option_map_or}
 use Rattle.run_model.specs.declared.scopes.Kind.{Kind}
 use Rattle.run_model.specs.declared.scopes.Kind.TheVariants as kind
@@ -12,27 +11,37 @@ use Rattle.run_model.specs.Reasons.{reason_text}
 use Rattle.run_model.specs.Rows.{new_scope, at_row, or_else}
 use Rattle.run_model.specs.State.{TreeState}
 
--- A row keeps the hit that it has.
+-- A row gets this hit, unless it has one.
 abbrev pub with_hit : Hit → Scope → Scope
 with_hit hit row = record row { hit = or_else row.hit hit }
 
--- The hit of a cancellation: its moment is the clock, and its cause the given text, else Canceled's.
+-- The hit of a cancellation: its moment is the clock, its cause the given text, else Canceled's.
 abbrev pub cancellation : ℕ → ℕ → Option (List ℕ) → Hit
 cancellation e clock cause =
-    record { event = e; moment = clock; reason = Canceled; cause = unwrap_or cause (reason_text Canceled) }
+    record {
+      event = e;
+      moment = clock;
+      reason = Canceled;
+      cause = unwrap_or cause (reason_text Canceled);
+    }
 
 -- The hit of a passed deadline: its moment is the deadline.
 abbrev pub expiry : ℕ → ℕ → Option (List ℕ) → Hit
 expiry e moment cause =
-    record { event = e; moment = moment; reason = DeadlineExceeded; cause = unwrap_or cause (reason_text DeadlineExceeded) }
+    record {
+      event = e;
+      moment = moment;
+      reason = DeadlineExceeded;
+      cause = unwrap_or cause (reason_text DeadlineExceeded);
+    }
 
--- The hit that a scope of this kind gets at this clock: one of a deadline that has come.
+-- The hit that event e makes of a deadline that has come; other kinds have none.
 abbrev pub hit_due : ℕ → ℕ → Kind → Option Hit
 hit_due e clock (kind.Deadline moment cause) =
     if nat_le moment clock then Some (expiry e moment cause) else None
 hit_due e clock _ = None
 
--- A row as event e leaves it at this clock.
+-- A row after event e, at this clock: a deadline that has come is exceeded.
 abbrev pub tick : ℕ → ℕ → Scope → Scope
 tick e clock row = option_map_or (λ hit. with_hit hit row) (hit_due e clock row.kind) row
 

@@ -3,10 +3,11 @@
 use crate::faults::Fault;
 use crate::limits::Limit;
 use crate::moments::Moment;
+use crate::names::Name;
 use crate::refusals::Refusal;
 use crate::scopes::Reason;
 use crate::tasks::Phase;
-use crate::texts::{Name, Text};
+use crate::texts::Text;
 
 /// What an accepted command is answered.
 #[derive(Clone, Debug, Drop, PartialEq, Eq)]
@@ -69,7 +70,7 @@ pub struct Look {
     pub name: Name,
     /// Why it is done and with which cause, where it is done.
     pub done: Option<(Reason, Text)>,
-    /// The least deadline of it and the scopes above it that end it.
+    /// The least deadline of it and the scopes above it, up to the first detached one.
     pub deadline: Option<Moment>,
 }
 

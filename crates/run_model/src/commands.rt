@@ -2,8 +2,9 @@
 
 use crate::limits::Limit;
 use crate::moments::Moment;
+use crate::names::Name;
 use crate::tasks::Outcome;
-use crate::texts::{Name, Text};
+use crate::texts::Text;
 
 /// The kind of scope that a caller wishes for.
 #[derive(Clone, Debug, Drop, PartialEq, Eq)]
@@ -26,23 +27,51 @@ pub enum Wish {
 #[derive(Clone, Debug, Drop, PartialEq, Eq)]
 pub enum Command {
     /// Derives a scope of this name from a parent.
-    Derive { name: Name, parent: Name, wish: Wish },
+    Derive {
+        name: Name,
+        parent: Name,
+        wish: Wish,
+    },
     /// Cancels a scope, with this cause.
-    Cancel { scope: Name, cause: Option<Text> },
+    Cancel {
+        scope: Name,
+        cause: Option<Text>,
+    },
     /// Moves the clock to this moment.
-    Advance { moment: Moment },
+    Advance {
+        moment: Moment,
+    },
     /// Makes a group and a scope of this name, derived from a parent, that the group cancels.
-    Group { name: Name, parent: Name },
+    Group {
+        name: Name,
+        parent: Name,
+    },
     /// Makes a group of this name whose tasks live in a scope that it doesn't cancel.
-    Bare { name: Name, scope: Name },
+    Bare {
+        name: Name,
+        scope: Name,
+    },
     /// Sets how many tasks of the group may be active.
-    SetLimit { group: Name, limit: Limit },
+    SetLimit {
+        group: Name,
+        limit: Limit,
+    },
     /// Submits a task, which is held while the limit doesn't admit it.
-    Go { group: Name, job: Name, argument: Name },
+    Go {
+        group: Name,
+        job: Name,
+        argument: Name,
+    },
     /// Submits a task only if the limit admits it now.
-    TryGo { group: Name, job: Name, argument: Name },
+    TryGo {
+        group: Name,
+        job: Name,
+        argument: Name,
+    },
     /// Asks for the first error of a group whose tasks have all finished.
-    Wait { group: Name },
+    Wait {
+        group: Name,
+    },
 }
 
 /// One step of a session.

@@ -15,7 +15,7 @@ pub enum Fault {
     DiskFailed,
     /// No slot is open.
     NotAStore,
-    /// The disk has not the size of a store.
+    /// The disk doesn't have the size of a store.
     WrongSize,
     /// An open slot is malformed.
     BadSlot,

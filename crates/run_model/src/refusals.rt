@@ -40,15 +40,15 @@ pub enum Refusal {
     Unfinished(u16),
     /// The moment is not greater than the clock.
     ClockNotForward,
-    /// The moment is past the greatest one.
+    /// The moment is before 0 or past the greatest one.
     MomentOutOfRange,
     /// No task is ready.
     NothingReady,
     /// The task is not running.
     NotRunning,
-    /// The session's log has no room for the record.
+    /// The session's log has no room for the record beside what is kept for the running tasks.
     SessionFull,
-    /// The device failed, so the book takes no step until it is opened again.
+    /// The device failed, so the book takes no step until the store is opened again.
     Broken,
     /// The scope has no value of this key.
     NoValue,

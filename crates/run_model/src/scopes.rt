@@ -9,7 +9,8 @@ ghost use Rattle.run_model.specs.Rows.{new_scope};
 ghost use Rattle.run_model.specs.Reasons.{reason_text};
 
 use crate::moments::Moment;
-use crate::texts::{Name, Text};
+use crate::names::Name;
+use crate::texts::Text;
 
 /// Why a scope is done: what Go's `Err` says.
 #[derive(Clone, Copy, Debug, PartialEq, Eq)]
@@ -86,7 +87,12 @@ impl Hit {
     pub fn copy(&self) -> Hit
         ensures { result ≡ self.now }
     {
-        Hit { event: self.event, moment: self.moment, reason: self.reason, cause: self.cause.copy() }
+        Hit {
+            event: self.event,
+            moment: self.moment,
+            reason: self.reason,
+            cause: self.cause.copy(),
+        }
     }
 }
 
@@ -108,7 +114,12 @@ impl Scope {
     pub fn new(name: Name, parent: u16, kind: Kind) -> Scope
         ensures { result ≡ new_scope name parent kind }
     {
-        Scope { name, parent, kind, hit: None }
+        Scope {
+            name,
+            parent,
+            kind,
+            hit: None,
+        }
     }
 }
 

@@ -1,10 +1,10 @@
-//! Groups and tasks: what `errgroup` collects and runs.
+//! A task is one run of a job: how far it is, how it ended, and its row.
 
 ghost use Rattle.std.specs.Prelude.{◌≡◌};
-ghost use Rattle.run_model.specs.Rows.{new_group, new_task};
+ghost use Rattle.run_model.specs.Rows.{new_task};
 
-use crate::limits::Limit;
-use crate::texts::{Name, Text};
+use crate::names::Name;
+use crate::texts::Text;
 
 /// How a task ended.
 #[derive(Clone, Debug, Drop, PartialEq, Eq)]
@@ -59,32 +59,6 @@ pub enum Phase {
     Interrupted,
 }
 
-/// The row of a group. Its number is its place.
-#[derive(Clone, Debug, Drop, PartialEq, Eq)]
-pub struct Group {
-    /// What it is called.
-    pub name: Name,
-    /// The scope that its tasks live in.
-    pub scope: u16,
-    /// Whether it lives in a scope that isn't its own, and so cancels nothing.
-    pub bare: bool,
-    /// How many of its tasks may be active.
-    pub limit: Limit,
-    /// Whether it was waited for.
-    pub waited: bool,
-    /// The first error of a task of it.
-    pub error: Option<Text>,
-}
-
-impl Group {
-    /// The row of a group without limit, error or wait.
-    pub fn new(name: Name, scope: u16, bare: bool) -> Group
-        ensures { result ≡ new_group name scope bare }
-    {
-        Group { name, scope, bare, limit: Limit::none(), waited: false, error: None }
-    }
-}
-
 /// The row of a task. Its number is its place.
 #[derive(Clone, Debug, Drop, PartialEq, Eq)]
 pub struct Task {
@@ -103,6 +77,11 @@ impl Task {
     pub fn new(group: u16, job: Name, argument: Name) -> Task
         ensures { result ≡ new_task group job argument }
     {
-        Task { group, job, argument, stage: Stage::Fresh }
+        Task {
+            group,
+            job,
+            argument,
+            stage: Stage::Fresh,
+        }
     }
 }
