@@ -12,7 +12,7 @@ use Rattle.std.proofs.lemmas.Bool.{
 use Rattle.std.proofs.lemmas.List.{take-append-le}
 use Rattle.std.proofs.lemmas.List.Sums.{sum_by-cons}
 use Rattle.std.proofs.lemmas.Option.{none-some, same_Some, slice_get_within}
-use Rattle.run_model.specs.declared.tasks.Group.{Group}
+use Rattle.run_model.specs.declared.groups.Group.{Group}
 use Rattle.run_model.specs.declared.tasks.Task.{Task}
 use Rattle.run_model.specs.declared.tasks.Stage.{Stage}
 use Rattle.run_model.specs.Rows.{at_row}
@@ -73,6 +73,13 @@ count_found test (row ∷ rows) (suc n) x found is = let rest = count_found test
 
 -- ---- ranks
 
+running_unfinished : (s : Stage) → is_running s ≡ true → is_unfinished s ≡ true
+running_unfinished stage.Fresh is = refl
+running_unfinished stage.Running is = refl
+running_unfinished stage.Success is = is
+running_unfinished (stage.Failure text) is = is
+running_unfinished stage.Interrupted is = is
+
 -- A task that is at most as unfinished as before puts no more unfinished ones before any other.
 unfinished_at : (stage : Stage) (n g : ℕ) (rows : List Task)
     → ((x : Task) → slice_get rows n ≡ Some x → is_unfinished stage ≡ true → is_unfinished x.stage ≡ true)
@@ -121,20 +128,14 @@ pub admitted_stage : (w : WorkState) (groups : List Group) (n : ℕ) (stage : St
     → ((x : Task) → HasTask w n x → is_running stage ≡ true → is_admitted w n x ≡ true)
     → AreAdmitted w → AreAdmitted (record { groups = groups; tasks = at_row (with_stage stage) n w.tasks })
 admitted_stage w groups n stage terms less ready old =
-    let still : (m : ℕ) (row x : Task) → row.group ≡ x.group → is_admitted w m x ≡ true → is_admitted (record { groups = groups; tasks = at_row (with_stage stage) n w.tasks }) m row ≡ true = λ m row x same is. rw (same, limits_alike IsSameTerms w.groups groups (λ x y r. r.limit) terms x.group) (admits_less (limit_of w x.group) (unfinished_in x.group (take m w.tasks)) (unfinished_in x.group (take m (at_row (with_stage stage) n w.tasks))) (rank_at stage n m x.group w.tasks less) is) in
+    let v : WorkState = record { groups = groups; tasks = at_row (with_stage stage) n w.tasks } in
+    let still : (m : ℕ) (row x : Task) → is_running row.stage ≡ true → row.group ≡ x.group → is_admitted w m x ≡ true → is_admitted v m row ≡ true = λ m row x runs same is. and_from (is_unfinished row.stage) (admits (limit_of v row.group) (unfinished_in row.group (take m v.tasks))) (running_unfinished row.stage runs) (rw (same, limits_alike IsSameTerms w.groups groups (λ x y r. r.limit) terms x.group) (admits_less (limit_of w x.group) (unfinished_in x.group (take m w.tasks)) (unfinished_in x.group (take m (at_row (with_stage stage) n w.tasks))) (rank_at stage n m x.group w.tasks less) (and_parts (is_unfinished x.stage) (admits (limit_of w x.group) (unfinished_in x.group (take m w.tasks))) is).1)) in
     record {
-      running = λ m row found is. elim (at_row_cases (with_stage stage) n m w.tasks row found) [ inl other ↦ still m row row refl (old.running m row other.1 is) | inr here ↦ still m row here.old (ap (λ task. task.group) here.changed) (rw (here.here) (ready here.old (rw (here.here) at here.found) (rw (here.changed) at is))) ];
+      running = λ m row found is. elim (at_row_cases (with_stage stage) n m w.tasks row found) [ inl other ↦ still m row row is refl (old.running m row other.1 is) | inr here ↦ still m row here.old is (ap (λ task. task.group) here.changed) (rw (here.here) (ready here.old (rw (here.here) at here.found) (rw (here.changed) at is))) ];
       waited = λ g row found is. let was = terms.back g row found in let none = old.waited g was.0 was.1 (sym was.2.waited ∙ is) in omega (arith, unfinished_at stage n g w.tasks less, none);
     }
 
 -- ---- a group changes its terms
-
-running_unfinished : (s : Stage) → is_running s ≡ true → is_unfinished s ≡ true
-running_unfinished stage.Fresh is = refl
-running_unfinished stage.Running is = refl
-running_unfinished stage.Success is = is
-running_unfinished (stage.Failure text) is = is
-running_unfinished stage.Interrupted is = is
 
 -- A group without unfinished tasks has no running one.
 none_of : (w : WorkState) (g n : ℕ) (row : Task) → unfinished_in g w.tasks ≡ 0 → HasTask w n row → is_running row.stage ≡ true → row.group ≢ g

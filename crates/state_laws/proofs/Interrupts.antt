@@ -8,19 +8,20 @@ use Rattle.std.specs.Option.{option_map, option_map_or}
 use Rattle.std.proofs.lemmas.Option.{slice_get-map, slice_get_within}
 use Rattle.run_model.specs.declared.scopes.Scope.{Scope}
 use Rattle.run_model.specs.declared.scopes.Hit.{Hit}
-use Rattle.run_model.specs.declared.tasks.Group.{Group}
+use Rattle.run_model.specs.declared.groups.Group.{Group}
 use Rattle.run_model.specs.declared.tasks.Task.{Task}
 use Rattle.run_model.specs.declared.tasks.Stage.{Stage}
 use Rattle.run_model.specs.declared.tasks.Stage.TheVariants as stage
 use Rattle.run_model.specs.Event as event
 use Rattle.run_model.specs.Rows.{at_row, or_else}
 use Rattle.run_model.specs.State.{State, TreeState, WorkState}
-use Rattle.run_model.specs.Step.{step, own_scope, after_task_end, after_group_end}
+use Rattle.run_model.specs.Step.{step, own_scope, after_task_end, after_group_cancel}
 use Rattle.run_model.specs.Tasks.{is_running, is_running_task, running_tasks}
 use Rattle.run_model.specs.TreeChanges.{with_hit, cancellation, after_cancel}
 use Rattle.run_model.specs.WorkChanges.{
     with_stage, with_error, group_of_task, after_interrupt, interruption
 }
+use Rattle.run_model.proofs.RowLemmas.{length-at_row}
 use Rattle.state_laws.specs.Restarts.{
     IsRestart, has_running, lives_in, hosts_running, task_restarted, group_restarted, scope_restarted
 }
@@ -30,18 +31,20 @@ use Rattle.state_laws.proofs.Folds.{
 
 -- ---- the folds of a restart, each over one list of rows
 
-group_stays : (stage : Stage) (b : Bool) (o : Option Task)
-    → option_map_or (λ task. task.group) (option_map (changed_if (with_stage stage) b) o) 0
-        ≡ option_map_or (λ task. task.group) o 0
-group_stays stage b None = refl
-group_stays stage true (Some task) = refl
-group_stays stage false (Some task) = refl
+group_stays : (stage : Stage) (b : Bool) (o : Option Task) (none : ℕ)
+    → option_map_or (λ task. task.group) (option_map (changed_if (with_stage stage) b) o) none
+        ≡ option_map_or (λ task. task.group) o none
+group_stays stage b None none = refl
+group_stays stage true (Some task) none = refl
+group_stays stage false (Some task) none = refl
 
 pub group_of_task_stays : (stage : Stage) (n m : ℕ) (groups : List Group) (w : WorkState)
+    → length groups ≡ length w.groups
     → group_of_task (record { groups = groups; tasks = at_row (with_stage stage) n w.tasks }) m ≡ group_of_task w m
-group_of_task_stays stage n m groups w =
-    ap (λ o. option_map_or (λ task. task.group) o 0) (at_key_reads (with_stage stage) (Some n) w.tasks m)
-    ∙ group_stays stage (n == m) (slice_get w.tasks m)
+group_of_task_stays stage n m groups w same =
+    ap (λ o. option_map_or (λ task. task.group) o (length groups)) (at_key_reads (with_stage stage) (Some n) w.tasks m)
+    ∙ group_stays stage (n == m) (slice_get w.tasks m) (length groups)
+    ∙ ap (λ none. option_map_or (λ task. task.group) (slice_get w.tasks m) none) same
 
 tasks_fold : (ns : List ℕ) (w : WorkState)
     → (fold after_interrupt w ns).tasks ≡ fold (λ rows n. at_key (with_stage stage.Interrupted) (Some n) rows) w.tasks ns
@@ -52,7 +55,7 @@ groups_fold : (group_of : ℕ → ℕ) (ns : List ℕ) (w : WorkState) → ((n :
     → (fold after_interrupt w ns).groups ≡ fold (λ rows n. at_key (with_error interruption) (Some (group_of n)) rows) w.groups ns
 groups_fold group_of [] w same = refl
 groups_fold group_of (n ∷ ns) w same =
-    groups_fold group_of ns (after_interrupt w n) (λ m. group_of_task_stays stage.Interrupted n m (after_interrupt w n).groups w ∙ same m)
+    groups_fold group_of ns (after_interrupt w n) (λ m. group_of_task_stays stage.Interrupted n m (after_interrupt w n).groups w (length-at_row (with_error interruption) (group_of_task w n) w.groups) ∙ same m)
     ∙ ap (λ g. fold (λ rows k. at_key (with_error interruption) (Some (group_of k)) rows) (at_row (with_error interruption) g w.groups) ns) (same n)
 
 -- A cancellation of this scope, where there is one.
@@ -93,7 +96,7 @@ running_found : (w : WorkState) (n : ℕ) (row : Task) → slice_get w.tasks n �
 running_found w n row found = ap (λ o. option_map_or (λ task. is_running task.stage) o false) found
 
 group_found : (w : WorkState) (n : ℕ) (row : Task) → slice_get w.tasks n ≡ Some row → group_of_task w n ≡ row.group
-group_found w n row found = ap (λ o. option_map_or (λ task. task.group) o 0) found
+group_found w n row found = ap (λ o. option_map_or (λ task. task.group) o (length w.groups)) found
 
 option_map_same : {X Y : Type 0} (f g : X → Y) (o : Option X) → ((x : X) → o ≡ Some x → f x ≡ g x) → option_map f o ≡ option_map g o
 option_map_same f g None same = refl

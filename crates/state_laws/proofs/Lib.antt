@@ -1,7 +1,10 @@
 pub mod Admission
+pub mod Ends
+pub mod FirstErrors
 pub mod Folds
 pub mod Interrupts
 pub mod Numbering
 pub mod Owners
 pub mod RightHits
 pub mod Shapes
+pub mod Steps

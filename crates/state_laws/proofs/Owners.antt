@@ -9,7 +9,7 @@ use Rattle.std.proofs.lemmas.Bool.{both_ways}
 use Rattle.std.proofs.lemmas.Option.{slice_get_within}
 use Rattle.run_model.specs.declared.scopes.Kind.{Kind}
 use Rattle.run_model.specs.declared.scopes.Scope.{Scope}
-use Rattle.run_model.specs.declared.tasks.Group.{Group}
+use Rattle.run_model.specs.declared.groups.Group.{Group}
 use Rattle.run_model.specs.State.{State, TreeState, WorkState}
 use Rattle.run_model.specs.Allowed.{has_kind}
 use Rattle.run_model.specs.Rules.{AreGroupScopes, HasScope, HasGroup, Owns, is_group_kind}

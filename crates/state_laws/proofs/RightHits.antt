@@ -42,7 +42,7 @@ AreRight n t = (s : ℕ) (row : Scope) → HasScope t s row → IsRightScope n t
 
 -- ---- from the rules, and back
 
-some_hit : {X : Type 0} (o : Option X) → IsSome o → (x : X) × (o ≡ Some x)
+pub some_hit : {X : Type 0} (o : Option X) → IsSome o → (x : X) × (o ≡ Some x)
 some_hit None is = absurd (both_ways false refl is)
 some_hit (Some x) is = (x, refl)
 
@@ -99,7 +99,7 @@ either_hit : (n clock : ℕ) (kind : Kind) (o : Option Hit) (new hit : Hit)
 either_hit n clock kind None new hit old right is = rw (← same_Some new hit is) right
 either_hit n clock kind (Some x) new hit old right is = old hit is
 
-or_else_some : {X : Type 0} (o : Option X) (x : X) → IsSome (or_else o x)
+pub or_else_some : {X : Type 0} (o : Option X) (x : X) → IsSome (or_else o x)
 or_else_some None x = refl
 or_else_some (Some y) x = refl
 

@@ -1,0 +1,252 @@
+-- Each event, from a consistent state to a consistent one.
+use Rattle.std.proofs.Common.{
+    ◌≡◌, ◌≢◌, ◌⊎◌, ◌<◌, ◌≤◌, ◌+◌, ◌==◌, ◌&&◌, ◌||◌, ℕ, zero, suc, Bool, true, false, not, List, [], ◌∷◌, ◌++◌, length,
+    map, fold, Option, Some, None, slice_get, inl, inr, refl, sym, ap, subst, ◌∙◌, arith
+}
+use Rattle.std.specs.Prelude.{IsSome, IsTrue, is_none, nat_lt, if◌then◌else◌}
+use Rattle.std.specs.Option.{option_map, option_map_or, option_and_then}
+use Rattle.std.proofs.lemmas.Bool.{both_ways, and_parts, ltb-true, eqb-true, not-true, leb-true}
+use Rattle.std.proofs.lemmas.List.{length_push}
+use Rattle.std.proofs.lemmas.Option.{none-some, same_Some, slice_get_within, cond_some, slice_get-map}
+use Rattle.run_model.specs.declared.bounds.TheConstants.{MOST_SCOPES, MOST_GROUPS, MOST_TASKS}
+use Rattle.run_model.specs.declared.scopes.Kind.{Kind}
+use Rattle.run_model.specs.declared.scopes.Kind.TheVariants as kind
+use Rattle.run_model.specs.declared.scopes.Scope.{Scope}
+use Rattle.run_model.specs.declared.groups.Group.{Group}
+use Rattle.run_model.specs.declared.tasks.Task.{Task}
+use Rattle.run_model.specs.declared.tasks.Stage.{Stage}
+use Rattle.run_model.specs.declared.tasks.Stage.TheVariants as stage
+use Rattle.run_model.specs.declared.tasks.Outcome.TheVariants as outcome
+use Rattle.run_model.specs.Event.{Event}
+use Rattle.run_model.specs.Event as event
+use Rattle.run_model.specs.Rows.{root, new_scope, new_group, new_task, at_row, or_else}
+use Rattle.run_model.specs.State.{State, TreeState, WorkState}
+use Rattle.run_model.specs.Scopes.{is_root, is_done}
+use Rattle.run_model.specs.declared.scopes.Hit.{Hit}
+use Rattle.run_model.specs.Allowed.{
+    allowed, is_derivable, is_cancellable, takes_cause, has_kind, has_scope, is_scope_name_free,
+    is_group_name_free, has_scope_room, has_group_room, has_task_room, is_open, is_idle, admits_one_more
+}
+use Rattle.run_model.specs.Step.{step, after_task_end, after_group_cancel}
+use Rattle.run_model.specs.Tasks.{
+    is_fresh, is_running, is_unfinished, ended_in_error, is_ready, is_admitted, unfinished_in, running_tasks
+}
+use Rattle.run_model.specs.TreeChanges.{with_hit, hit_due, tick, after_derive, after_cancel, after_advance}
+use Rattle.run_model.specs.WorkChanges.{with_stage, with_limit, after_limit, after_finish, after_interrupt}
+use Rattle.run_model.specs.Rules.{IsConsistent, HasGroup, HasTask, can_be_hit, is_group_kind}
+use Rattle.run_model.proofs.RowLemmas.{push_cases}
+use Rattle.state_laws.proofs.Shapes.{
+    AreAlike, alike_same, alike_at, alike_map, IsSameScope, scope_same, tick_same, IsSameGroup, group_same,
+    IsSameTask, task_same
+}
+use Rattle.state_laws.proofs.Numbering.{
+    numbered_kept, numbered_scope, numbered_group, numbered_task, name_is_free
+}
+use Rattle.state_laws.proofs.Owners.{kind_row, row_kind, owners_kept, owners_scope, owners_bare, owners_made}
+use Rattle.state_laws.proofs.RightHits.{
+    AreRight, are_right, later_right, right_pushed, right_advanced, hits_right, deadlines_right,
+    or_else_some
+}
+use Rattle.state_laws.proofs.Admission.{admitted_group, admitted_task, admitted_limit}
+use Rattle.state_laws.proofs.FirstErrors.{
+    AreHitsKept, hits_alike, hits_pushed, errors_tree, errors_group, errors_alike, IsSameEnd, end_same, lost_pushed
+}
+use Rattle.state_laws.proofs.Ends.{IsHit, hit_none, hit_cancelled, consistent_lost, consistent_stage, consistent_wait}
+
+-- ---- what the tests of an allowed event say
+
+derived_kind : (k : Kind) → is_derivable k ≡ true → (is_root k ≡ false) × (is_group_kind k ≡ false)
+derived_kind kind.Root is = absurd (both_ways false refl is)
+derived_kind kind.Cancel is = (refl, refl)
+derived_kind kind.Cause is = (refl, refl)
+derived_kind (kind.Deadline moment cause) is = (refl, refl)
+derived_kind (kind.Value key text) is = (refl, refl)
+derived_kind kind.Detached is = (refl, refl)
+derived_kind kind.Group is = absurd (both_ways false refl is)
+
+cancelled_kind : (k : Kind) → is_cancellable k ≡ true → can_be_hit k ≡ true
+cancelled_kind kind.Root is = is
+cancelled_kind kind.Cancel is = refl
+cancelled_kind kind.Cause is = refl
+cancelled_kind (kind.Deadline moment cause) is = refl
+cancelled_kind (kind.Value key text) is = is
+cancelled_kind kind.Detached is = is
+cancelled_kind kind.Group is = refl
+
+group_by : (test : Group → Bool) (o : Option Group) → option_map_or test o false ≡ true → (row : Group) × (o ≡ Some row) × (test row ≡ true)
+group_by test None is = absurd (both_ways false refl is)
+group_by test (Some row) is = (row, refl, is)
+
+all_three : (a b c : Bool) → (a && b && c) ≡ true → (a ≡ true) × (b ≡ true) × (c ≡ true)
+all_three a b c is = let last = and_parts (a && b) c is in let first = and_parts a b last.0 in (first.0, first.1, last.1)
+
+all_four : (a b c d : Bool) → (a && b && c && d) ≡ true → (a ≡ true) × (b ≡ true) × (c ≡ true) × (d ≡ true)
+all_four a b c d is = let last = and_parts (a && b && c) d is in let first = all_three a b c last.0 in (first.0, first.1, first.2, last.1)
+
+all_five : (a b c d e : Bool) → (a && b && c && d && e) ≡ true → (a ≡ true) × (b ≡ true) × (c ≡ true) × (d ≡ true) × (e ≡ true)
+all_five a b c d e is = let last = and_parts (a && b && c && d) e is in let first = all_four a b c d last.0 in (first.0, first.1, first.2, first.3, last.1)
+
+-- ---- the tree's events
+
+right_now : (p : State) (e : ℕ) → p.count ≤ e → IsConsistent p → AreRight e p.tree
+right_now p e more kept = later_right p.count e p.tree more (are_right p kept.hits kept.deadlines)
+
+derived : (p : State) (name : List ℕ) (parent : ℕ) (k : Kind) → is_derivable k ≡ true → has_scope p.tree parent ≡ true
+    → is_scope_name_free p.tree name ≡ true → has_scope_room p.tree ≡ true
+    → IsConsistent p → IsConsistent (step p (event.Derive name parent k))
+derived p name parent k derivable known free room kept =
+    let e : ℕ = p.count + 1 in
+    let new = tick e p.tree.clock (new_scope name parent k) in
+    let same : IsSameScope (new_scope name parent k) new = tick_same e p.tree.clock (new_scope name parent k) in
+    let kinds = derived_kind k derivable in
+    let right : AreRight e (after_derive e name parent k p.tree) = right_pushed e name parent k p.tree (omega arith) (right_now p e (omega arith) kept) in
+    record {
+      numbered = numbered_scope p e p.tree.clock new (ltb-true (length p.tree.scopes) MOST_SCOPES room) (rw (same.parent) (ltb-true parent (length p.tree.scopes) known)) (rw (same.kind) kinds.0) (λ s a found is. name_is_free (λ row. row.name) name p.tree.scopes free s a found (is ∙ same.name)) kept.numbered;
+      hits = hits_right e (after_derive e name parent k p.tree) p.work right;
+      deadlines = deadlines_right e (after_derive e name parent k p.tree) right;
+      group_scopes = owners_scope p e p.tree.clock new (rw (same.kind) kinds.1) kept.group_scopes;
+      admitted = kept.admitted;
+      errors = errors_tree p e (after_derive e name parent k p.tree) (hits_pushed p.tree p.tree.clock new) kept.errors;
+    }
+
+-- Hits alone came.
+consistent_hit : (p : State) (e : ℕ) (u : TreeState) → IsHit e p.tree u → IsConsistent p
+    → IsConsistent (record { count = e; tree = u; work = p.work })
+consistent_hit p e u hit kept =
+    let groups : AreAlike IsSameGroup p.work.groups p.work.groups = alike_same IsSameGroup p.work.groups group_same in
+    record {
+      numbered = numbered_kept p (record { count = e; tree = u; work = p.work }) hit.same groups (alike_same IsSameTask p.work.tasks task_same) hit.rooted kept.numbered;
+      hits = hits_right e u p.work hit.right;
+      deadlines = deadlines_right e u hit.right;
+      group_scopes = owners_kept p (record { count = e; tree = u; work = p.work }) hit.same groups kept.group_scopes;
+      admitted = kept.admitted;
+      errors = errors_tree p e u hit.kept kept.errors;
+    }
+
+cancelled : (p : State) (s : ℕ) (cause : Option (List ℕ)) → has_kind is_cancellable p.tree s ≡ true → IsConsistent p
+    → IsConsistent (step p (event.Cancel s cause))
+cancelled p s cause is kept =
+    let row = kind_row is_cancellable p.tree s is in
+    consistent_hit p (p.count + 1) (after_cancel (p.count + 1) s cause p.tree)
+      (hit_cancelled (p.count + 1) s cause p.tree (omega arith) kept.numbered.rooted (row_kind can_be_hit p.tree s row.0 row.1 (cancelled_kind row.0.kind row.2)) (right_now p (p.count + 1) (omega arith) kept))
+      kept
+
+hit_stays : (o : Option Hit) (row : Scope) → IsSome row.hit → IsSome (option_map_or (λ hit. with_hit hit row) o row).hit
+hit_stays None row is = is
+hit_stays (Some hit) row is = or_else_some row.hit hit
+
+advanced : (p : State) (moment : ℕ) → p.tree.clock < moment → IsConsistent p → IsConsistent (step p (event.Advance moment))
+advanced p moment later kept =
+    let e : ℕ = p.count + 1 in
+    consistent_hit p e (after_advance e moment p.tree) (record {
+      same = alike_map IsSameScope (tick e moment) p.tree.scopes (tick_same e moment);
+      rooted = slice_get-map (tick e moment) p.tree.scopes 0 ∙ ap (option_map (tick e moment)) kept.numbered.rooted;
+      right = right_advanced p.count e moment p.tree (omega arith) (omega arith) (omega (arith, later)) (are_right p kept.hits kept.deadlines);
+      kept = hits_alike p.tree (after_advance e moment p.tree) (alike_map (λ x y. IsSome x.hit → IsSome y.hit) (tick e moment) p.tree.scopes (λ x is. hit_stays (hit_due e moment x.kind) x is));
+    }) kept
+
+-- ---- groups
+
+made : (p : State) (name : List ℕ) (parent : ℕ) → has_scope p.tree parent ≡ true
+    → is_scope_name_free p.tree name ≡ true → is_group_name_free p.work name ≡ true
+    → has_scope_room p.tree ≡ true → has_group_room p.work ≡ true
+    → IsConsistent p → IsConsistent (step p (event.Group name parent))
+made p name parent known free group_free room group_room kept =
+    let e : ℕ = p.count + 1 in
+    let row = new_scope name parent kind.Group in
+    let new = new_group name (length p.tree.scopes) false in
+    let u : TreeState = record { clock = p.tree.clock; scopes = p.tree.scopes ++ row ∷ [] } in
+    let v : WorkState = record { groups = p.work.groups ++ new ∷ []; tasks = p.work.tasks } in
+    let right : AreRight e u = right_pushed e name parent kind.Group p.tree (omega arith) (right_now p e (omega arith) kept) in
+    record {
+      numbered = numbered_group (record { count = e; tree = u; work = p.work }) e new (ltb-true (length p.work.groups) MOST_GROUPS group_room) (rw (length_push p.tree.scopes row) (omega arith)) (name_is_free (λ group. group.name) name p.work.groups group_free)
+        (numbered_scope p e p.tree.clock row (ltb-true (length p.tree.scopes) MOST_SCOPES room) (ltb-true parent (length p.tree.scopes) known) refl (name_is_free (λ scope. scope.name) name p.tree.scopes free) kept.numbered);
+      hits = hits_right e u v right;
+      deadlines = deadlines_right e u right;
+      group_scopes = owners_made p e p.tree.clock row new refl refl refl refl kept.numbered.scopes kept.group_scopes;
+      admitted = admitted_group p.work new refl kept.numbered.groups kept.admitted;
+      errors = errors_group p e u new (hits_pushed p.tree p.tree.clock row) refl refl kept.numbered.groups kept.errors;
+    }
+
+made_bare : (p : State) (name : List ℕ) (s : ℕ) → has_scope p.tree s ≡ true
+    → is_group_name_free p.work name ≡ true → has_group_room p.work ≡ true
+    → IsConsistent p → IsConsistent (step p (event.Bare name s))
+made_bare p name s known free room kept =
+    let e : ℕ = p.count + 1 in
+    let new = new_group name s true in
+    let v : WorkState = record { groups = p.work.groups ++ new ∷ []; tasks = p.work.tasks } in
+    record {
+      numbered = numbered_group p e new (ltb-true (length p.work.groups) MOST_GROUPS room) (ltb-true s (length p.tree.scopes) known) (name_is_free (λ group. group.name) name p.work.groups free) kept.numbered;
+      hits = hits_right e p.tree v (right_now p e (omega arith) kept);
+      deadlines = kept.deadlines;
+      group_scopes = owners_bare p e new refl kept.group_scopes;
+      admitted = admitted_group p.work new refl kept.numbered.groups kept.admitted;
+      errors = errors_group p e p.tree new (λ s is. is) refl refl kept.numbered.groups kept.errors;
+    }
+
+limited : (p : State) (g : ℕ) (limit : Option ℕ) → unfinished_in g p.work.tasks ≡ 0 → IsConsistent p
+    → IsConsistent (step p (event.SetLimit g limit))
+limited p g limit idle kept =
+    let e : ℕ = p.count + 1 in
+    let v = after_limit g limit p.work in
+    let scopes : AreAlike IsSameScope p.tree.scopes p.tree.scopes = alike_same IsSameScope p.tree.scopes scope_same in
+    let groups : AreAlike IsSameGroup p.work.groups v.groups = alike_at IsSameGroup (with_limit limit) g p.work.groups group_same (λ x at. record { name = refl; scope = refl; bare = refl }) in
+    record {
+      numbered = numbered_kept p (record { count = e; tree = p.tree; work = v }) scopes groups (alike_same IsSameTask p.work.tasks task_same) kept.numbered.rooted kept.numbered;
+      hits = hits_right e p.tree v (right_now p e (omega arith) kept);
+      deadlines = kept.deadlines;
+      group_scopes = owners_kept p (record { count = e; tree = p.tree; work = v }) scopes groups kept.group_scopes;
+      admitted = admitted_limit p.work g limit idle kept.admitted;
+      errors = errors_alike p e v (alike_at IsSameEnd (with_limit limit) g p.work.groups end_same (λ x at. record { scope = refl; bare = refl; waited = refl; error = refl })) (λ h. refl) kept.errors;
+    }
+
+-- ---- tasks
+
+submitted : (p : State) (g : ℕ) (job argument : List ℕ) → is_open p.work g ≡ true → has_task_room p.work ≡ true
+    → IsConsistent p → IsConsistent (step p (event.Go g job argument))
+submitted p g job argument is room kept =
+    let e : ℕ = p.count + 1 in
+    let new = new_task g job argument in
+    let v : WorkState = record { groups = p.work.groups; tasks = p.work.tasks ++ new ∷ [] } in
+    let group = group_by (λ group. not group.waited) (slice_get p.work.groups g) is in
+    let scopes : AreAlike IsSameScope p.tree.scopes p.tree.scopes = alike_same IsSameScope p.tree.scopes scope_same in
+    let groups : AreAlike IsSameGroup p.work.groups p.work.groups = alike_same IsSameGroup p.work.groups group_same in
+    record {
+      numbered = numbered_task p e new (ltb-true (length p.work.tasks) MOST_TASKS room) (slice_get_within p.work.groups g group.0 group.1) kept.numbered;
+      hits = hits_right e p.tree v (right_now p e (omega arith) kept);
+      deadlines = kept.deadlines;
+      group_scopes = owners_kept p (record { count = e; tree = p.tree; work = v }) scopes groups kept.group_scopes;
+      admitted = admitted_task p.work new refl (λ row found. ap (λ r. r.waited) (same_Some row group.0 (sym found ∙ group.1)) ∙ not-true group.0.waited group.2) kept.admitted;
+      errors = errors_alike p e v (alike_same IsSameEnd p.work.groups end_same) (λ h. lost_pushed p.work new h refl) kept.errors;
+    }
+
+pub kept_by : (p : State) (event : Event) → IsConsistent p → allowed p event ≡ true → IsConsistent (step p event)
+kept_by p (event.Derive name parent k) kept is =
+    let parts = all_four (is_derivable k) (has_scope p.tree parent) (is_scope_name_free p.tree name) (has_scope_room p.tree) is in
+    derived p name parent k parts.0 parts.1 parts.2 parts.3 kept
+kept_by p (event.Cancel s cause) kept is =
+    let parts = all_three (has_kind is_cancellable p.tree s) (is_none cause || has_kind takes_cause p.tree s) (not (is_done p.tree.scopes s)) is in
+    cancelled p s cause parts.0 kept
+kept_by p (event.Advance moment) kept is = advanced p moment (ltb-true p.tree.clock moment is) kept
+kept_by p (event.Group name parent) kept is =
+    let parts = all_five (has_scope p.tree parent) (is_scope_name_free p.tree name) (is_group_name_free p.work name) (has_scope_room p.tree) (has_group_room p.work) is in
+    made p name parent parts.0 parts.1 parts.2 parts.3 parts.4 kept
+kept_by p (event.Bare name s) kept is =
+    let parts = all_three (has_scope p.tree s) (is_group_name_free p.work name) (has_group_room p.work) is in
+    made_bare p name s parts.0 parts.1 parts.2 kept
+kept_by p (event.SetLimit g limit) kept is =
+    let parts = and_parts (is_open p.work g) (is_idle p.work g) is in
+    limited p g limit (eqb-true (unfinished_in g p.work.tasks) 0 parts.1) kept
+kept_by p (event.Go g job argument) kept is =
+    let parts = and_parts (is_open p.work g) (has_task_room p.work) is in
+    submitted p g job argument parts.0 parts.1 kept
+kept_by p (event.TryGo g job argument) kept is =
+    let parts = all_three (is_open p.work g) (has_task_room p.work) (admits_one_more p.work g) is in
+    submitted p g job argument parts.0 parts.1 kept
+kept_by p (event.Start n) kept is = ?
+kept_by p (event.Finish n outcome.Success) kept is = ?
+kept_by p (event.Finish n (outcome.Failure text)) kept is = ?
+kept_by p (event.Wait g) kept is =
+    let parts = and_parts (is_open p.work g) (is_idle p.work g) is in
+    consistent_wait p (p.count + 1) g (omega arith) (omega arith) (eqb-true (unfinished_in g p.work.tasks) 0 parts.1) kept
+kept_by p event.Restart kept is = ?
