@@ -3,11 +3,12 @@ use Rattle.std.proofs.Common.{
     ◌≡◌, ◌≢◌, ◌⊎◌, ◌<◌, ◌≤◌, ◌+◌, ◌==◌, ◌&&◌, ◌||◌, ℕ, zero, suc, Bool, true, false, not, List, [], ◌∷◌, ◌++◌, length,
     map, fold, Option, Some, None, slice_get, inl, inr, refl, sym, ap, subst, ◌∙◌, arith
 }
-use Rattle.std.specs.Prelude.{IsSome, IsTrue, is_none, nat_lt, if◌then◌else◌}
+use Rattle.std.specs.List.{list_all, range_with_len}
+use Rattle.std.specs.Prelude.{find, filter, IsSome, IsTrue, is_none, nat_lt, if◌then◌else◌}
 use Rattle.std.specs.Option.{option_map, option_map_or, option_and_then}
-use Rattle.std.proofs.lemmas.Bool.{both_ways, and_parts, ltb-true, eqb-true, not-true, leb-true}
+use Rattle.std.proofs.lemmas.Bool.{both_ways, and_parts, and_from, lt-ltb, ltb-true, eqb-true, not-true, leb-true}
 use Rattle.std.proofs.lemmas.List.{length_push}
-use Rattle.std.proofs.lemmas.Option.{none-some, same_Some, slice_get_within, cond_some, slice_get-map}
+use Rattle.std.proofs.lemmas.Option.{none-some, same_Some, slice_get_within, cond_some, slice_get-map, option_and_then_some}
 use Rattle.run_model.specs.declared.bounds.TheConstants.{MOST_SCOPES, MOST_GROUPS, MOST_TASKS}
 use Rattle.run_model.specs.declared.scopes.Kind.{Kind}
 use Rattle.run_model.specs.declared.scopes.Kind.TheVariants as kind
@@ -24,17 +25,23 @@ use Rattle.run_model.specs.State.{State, TreeState, WorkState}
 use Rattle.run_model.specs.Scopes.{is_root, is_done}
 use Rattle.run_model.specs.declared.scopes.Hit.{Hit}
 use Rattle.run_model.specs.Allowed.{
-    allowed, is_derivable, is_cancellable, takes_cause, has_kind, has_scope, is_scope_name_free,
-    is_group_name_free, has_scope_room, has_group_room, has_task_room, is_open, is_idle, admits_one_more
+    allowed, after, run, is_derivable, is_cancellable, takes_cause, has_kind, has_scope, is_scope_name_free,
+    is_group_name_free, has_scope_room, has_group_room, has_task_room, is_open, is_idle, admits_one_more,
+    is_first_ready
 }
-use Rattle.run_model.specs.Step.{step, after_task_end, after_group_cancel}
+use Rattle.run_model.specs.Step.{step, own_scope, after_task_end, after_group_cancel}
 use Rattle.run_model.specs.Tasks.{
-    is_fresh, is_running, is_unfinished, ended_in_error, is_ready, is_admitted, unfinished_in, running_tasks
+    is_fresh, is_running, is_unfinished, ended_in_error, is_ready, is_admitted, first_ready, is_running_task,
+    task_numbers, unfinished_in, running_tasks
 }
 use Rattle.run_model.specs.TreeChanges.{with_hit, hit_due, tick, after_derive, after_cancel, after_advance}
-use Rattle.run_model.specs.WorkChanges.{with_stage, with_limit, after_limit, after_finish, after_interrupt}
+use Rattle.run_model.specs.WorkChanges.{
+    with_stage, with_error, with_limit, group_of_task, interruption, after_limit, after_interrupt
+}
 use Rattle.run_model.specs.Rules.{IsConsistent, HasGroup, HasTask, can_be_hit, is_group_kind}
-use Rattle.run_model.proofs.RowLemmas.{push_cases}
+use Rattle.run_model.proofs.RowLemmas.{length-at_row}
+use Rattle.state_laws.proofs.Folds.{at_key_reads, changed_if}
+use Rattle.state_laws.proofs.Interrupts.{group_of_task_stays}
 use Rattle.state_laws.proofs.Shapes.{
     AreAlike, alike_same, alike_at, alike_map, IsSameScope, scope_same, tick_same, IsSameGroup, group_same,
     IsSameTask, task_same
@@ -73,9 +80,9 @@ cancelled_kind (kind.Value key text) is = is
 cancelled_kind kind.Detached is = is
 cancelled_kind kind.Group is = refl
 
-group_by : (test : Group → Bool) (o : Option Group) → option_map_or test o false ≡ true → (row : Group) × (o ≡ Some row) × (test row ≡ true)
-group_by test None is = absurd (both_ways false refl is)
-group_by test (Some row) is = (row, refl, is)
+passing : {X : Type 0} (test : X → Bool) (o : Option X) → option_map_or test o false ≡ true → (x : X) × (o ≡ Some x) × (test x ≡ true)
+passing test None is = absurd (both_ways false refl is)
+passing test (Some x) is = (x, refl, is)
 
 all_three : (a b c : Bool) → (a && b && c) ≡ true → (a ≡ true) × (b ≡ true) × (c ≡ true)
 all_three a b c is = let last = and_parts (a && b) c is in let first = and_parts a b last.0 in (first.0, first.1, last.1)
@@ -208,7 +215,7 @@ submitted p g job argument is room kept =
     let e : ℕ = p.count + 1 in
     let new = new_task g job argument in
     let v : WorkState = record { groups = p.work.groups; tasks = p.work.tasks ++ new ∷ [] } in
-    let group = group_by (λ group. not group.waited) (slice_get p.work.groups g) is in
+    let group = passing (λ group. not group.waited) (slice_get p.work.groups g) is in
     let scopes : AreAlike IsSameScope p.tree.scopes p.tree.scopes = alike_same IsSameScope p.tree.scopes scope_same in
     let groups : AreAlike IsSameGroup p.work.groups p.work.groups = alike_same IsSameGroup p.work.groups group_same in
     record {
@@ -219,6 +226,131 @@ submitted p g job argument is room kept =
       admitted = admitted_task p.work new refl (λ row found. ap (λ r. r.waited) (same_Some row group.0 (sym found ∙ group.1)) ∙ not-true group.0.waited group.2) kept.admitted;
       errors = errors_alike p e v (alike_same IsSameEnd p.work.groups end_same) (λ h. lost_pushed p.work new h refl) kept.errors;
     }
+
+fresh_stage : (s : Stage) → is_fresh s ≡ true → (is_unfinished s ≡ true) × (ended_in_error s ≡ false)
+fresh_stage stage.Fresh is = (refl, refl)
+fresh_stage stage.Running is = absurd (both_ways false refl is)
+fresh_stage stage.Success is = absurd (both_ways false refl is)
+fresh_stage (stage.Failure text) is = absurd (both_ways false refl is)
+fresh_stage stage.Interrupted is = absurd (both_ways false refl is)
+
+running_stage : (s : Stage) → is_running s ≡ true → ended_in_error s ≡ false
+running_stage stage.Fresh is = refl
+running_stage stage.Running is = refl
+running_stage stage.Success is = refl
+running_stage (stage.Failure text) is = absurd (both_ways false refl is)
+running_stage stage.Interrupted is = absurd (both_ways false refl is)
+
+chosen : {X : Type 0} (b : Bool) (x z : X) (rest : Option X) → (if b then Some x else rest) ≡ Some z → ((b ≡ true) × (x ≡ z)) ⊎ (rest ≡ Some z)
+chosen true x z rest is = inl (refl, same_Some x z is)
+chosen false x z rest is = inr is
+
+found_passes : {X : Type 0} (test : X → Bool) (xs : List X) (z : X) → find test xs ≡ Some z → test z ≡ true
+found_passes test [] z is = absurd (none-some z is)
+found_passes test (x ∷ xs) z is = elim (chosen (test x) x z (find test xs) is) [ inl here ↦ ap test (sym here.1) ∙ here.0 | inr later ↦ found_passes test xs z later ]
+
+first_is_ready : (w : WorkState) (n : ℕ) → is_first_ready w n ≡ true → is_ready w n ≡ true
+first_is_ready w n is =
+    let first = passing (λ first. first == n) (first_ready w) is in
+    ap (is_ready w) (sym (eqb-true first.0 n first.2)) ∙ found_passes (is_ready w) (task_numbers w) first.0 first.1
+
+started : (p : State) (n : ℕ) → is_first_ready p.work n ≡ true → IsConsistent p → IsConsistent (step p (event.Start n))
+started p n is kept =
+    let row = passing (λ task. is_fresh task.stage && is_admitted p.work n task) (slice_get p.work.tasks n) (first_is_ready p.work n is) in
+    let parts = and_parts (is_fresh row.0.stage) (is_admitted p.work n row.0) row.2 in
+    let fresh = fresh_stage row.0.stage parts.0 in
+    let same : (x : Task) → HasTask p.work n x → row.0 ≡ x = λ x at. same_Some row.0 x (sym row.1 ∙ at) in
+    consistent_stage p (p.count + 1) n stage.Running (omega arith)
+      (λ x at runs. ap (λ r. is_unfinished r.stage) (sym (same x at)) ∙ fresh.0)
+      (λ x at runs. ap (is_admitted p.work n) (sym (same x at)) ∙ parts.1)
+      (λ x at. sym fresh.1 ∙ ap (λ r. ended_in_error r.stage) (same x at))
+      kept
+
+succeeded : (p : State) (n : ℕ) → is_running_task p.work n ≡ true → IsConsistent p
+    → IsConsistent (step p (event.Finish n outcome.Success))
+succeeded p n is kept =
+    let row = passing (λ task. is_running task.stage) (slice_get p.work.tasks n) is in
+    consistent_stage p (p.count + 1) n stage.Success (omega arith)
+      (λ x at unfinished. absurd (both_ways false refl unfinished))
+      (λ x at runs. absurd (both_ways false refl runs))
+      (λ x at. sym (running_stage row.0.stage row.2) ∙ ap (λ r. ended_in_error r.stage) (same_Some row.0 x (sym row.1 ∙ at)))
+      kept
+
+failed : (p : State) (n : ℕ) (text : List ℕ) → is_running_task p.work n ≡ true → IsConsistent p
+    → IsConsistent (step p (event.Finish n (outcome.Failure text)))
+failed p n text is kept =
+    let row = passing (λ task. is_running task.stage) (slice_get p.work.tasks n) is in
+    consistent_lost p (p.count + 1) n text (stage.Failure text) row.0 (omega arith) (omega arith) row.1 refl refl refl kept
+
+-- ---- a restart, one task after another
+
+own_if : (b : Bool) (o : Option Group) (text : List ℕ)
+    → option_and_then (λ group. if group.bare then None else Some group.scope) (option_map (changed_if (with_error text) b) o)
+        ≡ option_and_then (λ group. if group.bare then None else Some group.scope) o
+own_if b None text = refl
+own_if true (Some row) text = refl
+own_if false (Some row) text = refl
+
+-- An error of a group leaves it its scope.
+own_scope_stays : (text : List ℕ) (g h : ℕ) (tasks : List Task) (w : WorkState)
+    → own_scope (record { groups = at_row (with_error text) g w.groups; tasks = tasks }) h ≡ own_scope w h
+own_scope_stays text g h tasks w =
+    ap (λ o. option_and_then (λ group. if group.bare then None else Some group.scope) o) (at_key_reads (with_error text) (Some g) w.groups h)
+    ∙ own_if (g == h) (slice_get w.groups h) text
+
+row_below : {X : Type 0} (rows : List X) (n : ℕ) → n < length rows → (x : X) × (slice_get rows n ≡ Some x)
+row_below [] n less = absurd (omega (arith, less))
+row_below (x ∷ rows) zero less = (x, refl)
+row_below (x ∷ rows) (suc n) less = row_below rows n (omega (arith, less))
+
+-- The groups have the scopes, and the tasks the groups, that they have in this work.
+record IsSameWork (w : WorkState) (v : WorkState) : Type 0 where
+  tasks : length v.tasks ≡ length w.tasks
+  group_of : (n : ℕ) → group_of_task v n ≡ group_of_task w n
+  own : (g : ℕ) → own_scope v g ≡ own_scope w g
+
+same_interrupted : (w v : WorkState) (n : ℕ) → IsSameWork w v → IsSameWork w (after_interrupt v n)
+same_interrupted w v n same = record {
+  tasks = length-at_row (with_stage stage.Interrupted) n v.tasks ∙ same.tasks;
+  group_of = λ m. group_of_task_stays stage.Interrupted n m (after_interrupt v n).groups v (length-at_row (with_error interruption) (group_of_task v n) v.groups) ∙ same.group_of m;
+  own = λ g. own_scope_stays interruption (group_of_task v n) g (after_interrupt v n).tasks v ∙ same.own g;
+}
+
+interrupted : (e : ℕ) (w : WorkState) (ns : List ℕ) (p : State) → p.count ≡ e → 1 ≤ e → IsSameWork w p.work
+    → list_all (λ n. nat_lt n (length w.tasks)) ns ≡ true → IsConsistent p
+    → IsConsistent (record { count = e; tree = fold (λ t n. after_task_end e w n (Some interruption) t) p.tree ns; work = fold after_interrupt p.work ns })
+interrupted e w [] p count counted same known kept =
+    let P : ℕ → Type 0 = λ n. IsConsistent (record { count = n; tree = p.tree; work = p.work }) in
+    subst P count kept
+interrupted e w (n ∷ ns) p count counted same known kept =
+    let parts = and_parts (nat_lt n (length w.tasks)) (list_all (λ n. nat_lt n (length w.tasks)) ns) known in
+    let less : n < length w.tasks = ltb-true n (length w.tasks) parts.0 in
+    let row = row_below p.work.tasks n (omega (arith, less, same.tasks)) in
+    let u = after_task_end e w n (Some interruption) p.tree in
+    let same_end : after_task_end e p.work n (Some interruption) p.tree ≡ u =
+      ap (λ g. after_group_cancel e p.work g (Some interruption) p.tree) (same.group_of n)
+      ∙ ap (λ o. option_map_or (λ s. after_cancel e s (Some interruption) p.tree) o p.tree) (same.own (group_of_task w n)) in
+    let P : TreeState → Type 0 = λ t. IsConsistent (record { count = e; tree = t; work = after_interrupt p.work n }) in
+    interrupted e w ns (record { count = e; tree = u; work = after_interrupt p.work n }) refl counted
+      (same_interrupted w p.work n same) parts.1
+      (subst P same_end (consistent_lost p e n interruption stage.Interrupted row.0 (omega (arith, count)) counted row.1 refl refl refl kept))
+
+all_if : (test : ℕ → Bool) (b : Bool) (n : ℕ) (ns : List ℕ) → test n ≡ true → list_all test ns ≡ true → list_all test (if b then n ∷ ns else ns) ≡ true
+all_if test true n ns is all = and_from (test n) (list_all test ns) is all
+all_if test false n ns is all = all
+
+all_below : (test : ℕ → Bool) (most a n : ℕ) → a + n ≤ most → list_all (λ k. nat_lt k most) (filter test (range_with_len a n)) ≡ true
+all_below test most a zero within = refl
+all_below test most a (suc n) within =
+    all_if (λ k. nat_lt k most) (test a) a (filter test (range_with_len (a + 1) n)) (lt-ltb a most (omega (arith, within))) (all_below test most (a + 1) n (omega (arith, within)))
+
+reopened : (p : State) → IsConsistent p → IsConsistent (step p event.Restart)
+reopened p kept =
+    let e : ℕ = p.count + 1 in
+    interrupted e p.work (running_tasks p.work) (record { count = e; tree = p.tree; work = p.work }) refl (omega arith)
+      (record { tasks = refl; group_of = λ n. refl; own = λ g. refl })
+      (all_below (is_running_task p.work) (length p.work.tasks) 0 (length p.work.tasks) (omega arith))
+      (consistent_hit p e p.tree (hit_none e p.tree kept.numbered.rooted (right_now p e (omega arith) kept)) kept)
 
 pub kept_by : (p : State) (event : Event) → IsConsistent p → allowed p event ≡ true → IsConsistent (step p event)
 kept_by p (event.Derive name parent k) kept is =
@@ -243,10 +375,23 @@ kept_by p (event.Go g job argument) kept is =
 kept_by p (event.TryGo g job argument) kept is =
     let parts = all_three (is_open p.work g) (has_task_room p.work) (admits_one_more p.work g) is in
     submitted p g job argument parts.0 parts.1 kept
-kept_by p (event.Start n) kept is = ?
-kept_by p (event.Finish n outcome.Success) kept is = ?
-kept_by p (event.Finish n (outcome.Failure text)) kept is = ?
+kept_by p (event.Start n) kept is = started p n is kept
+kept_by p (event.Finish n outcome.Success) kept is = succeeded p n is kept
+kept_by p (event.Finish n (outcome.Failure text)) kept is = failed p n text is kept
 kept_by p (event.Wait g) kept is =
     let parts = and_parts (is_open p.work g) (is_idle p.work g) is in
     consistent_wait p (p.count + 1) g (omega arith) (omega arith) (eqb-true (unfinished_in g p.work.tasks) 0 parts.1) kept
-kept_by p event.Restart kept is = ?
+kept_by p event.Restart kept is = reopened p kept
+
+-- ---- an event that is allowed, and a run of them
+
+pub event_keeps : (p q : State) (event : Event) → IsConsistent p → after p event ≡ Some q → IsConsistent q
+event_keeps p q event kept led =
+    let parts = cond_some (allowed p event) (step p event) q led in
+    subst IsConsistent parts.1 (kept_by p event kept parts.0)
+
+pub run_keeps : (events : List Event) (p q : State) → IsConsistent p → run p events ≡ Some q → IsConsistent q
+run_keeps [] p q kept led = subst IsConsistent (same_Some p q led) kept
+run_keeps (event ∷ events) p q kept led =
+    option_and_then_some (λ next. run next events) (after p event) q led
+      (λ next first rest. run_keeps events next q (event_keeps p next event kept first) rest)
