@@ -4,7 +4,8 @@ use Rattle.std.proofs.Common.{
     None, slice_get, refl, sym, ap, ◌∙◌, arith
 }
 use Rattle.std.specs.List.{list_any, range_with_len}
-use Rattle.std.specs.Option.{option_map, option_map_or}
+use Rattle.std.specs.Prelude.{not, if◌then◌else◌}
+use Rattle.std.specs.Option.{option_map, option_map_or, option_and_then}
 use Rattle.std.proofs.lemmas.Option.{slice_get-map, slice_get_within}
 use Rattle.run_model.specs.declared.scopes.Scope.{Scope}
 use Rattle.run_model.specs.declared.scopes.Hit.{Hit}
@@ -23,7 +24,8 @@ use Rattle.run_model.specs.WorkChanges.{
 }
 use Rattle.run_model.proofs.RowLemmas.{length-at_row}
 use Rattle.state_laws.specs.Restarts.{
-    IsRestart, has_running, lives_in, hosts_running, task_restarted, group_restarted, scope_restarted
+    IsRestart, has_running, lives_in, hosts_running, stage_restarted, error_restarted, hit_restarted,
+    task_restarted, group_restarted, scope_restarted
 }
 use Rattle.state_laws.proofs.Folds.{
     same_rows, at_key, at_key_reads, is_key, changed_if, fold_reads, any_picked, number_picked
@@ -90,7 +92,7 @@ error_twice text row = ap (λ error. record row { error = error }) (or_else_twic
 hit_twice : (hit : Hit) (row : Scope) → with_hit hit (with_hit hit row) ≡ with_hit hit row
 hit_twice hit row = ap (λ hit. record row { hit = hit }) (or_else_twice row.hit hit)
 
--- ---- the rows behind a restart
+-- ---- the tasks that a restart goes through
 
 running_found : (w : WorkState) (n : ℕ) (row : Task) → slice_get w.tasks n ≡ Some row → is_running_task w n ≡ is_running row.stage
 running_found w n row found = ap (λ o. option_map_or (λ task. is_running task.stage) o false) found
@@ -102,12 +104,65 @@ option_map_same : {X Y : Type 0} (f g : X → Y) (o : Option X) → ((x : X) →
 option_map_same f g None same = refl
 option_map_same f g (Some x) same = ap Some (same x refl)
 
--- Of a group, a task that runs is one of those that a restart goes through.
-any_of_group : (test : ℕ → Bool) (w : WorkState)
-    → list_any (λ n. test (group_of_task w n)) (running_tasks w) ≡ list_any (λ task. test task.group && is_running task.stage) w.tasks
-any_of_group test w =
-    any_picked (is_running_task w) (λ n. test (group_of_task w n)) (λ task. test task.group && is_running task.stage) w.tasks 0
-      (λ n m row found e. let same : m ≡ n = omega (arith, e) in let here : slice_get w.tasks m ≡ Some row = rw same found in rw (running_found w m row here, group_found w m row here))
+-- Of a group that passes, a task that runs is one of those that a restart goes through.
+any_of_group : (test pass : ℕ → Bool) (w : WorkState) → ((g : ℕ) → test g ≡ pass g)
+    → list_any (λ n. test (group_of_task w n)) (running_tasks w) ≡ list_any (λ task. pass task.group && is_running task.stage) w.tasks
+any_of_group test pass w same =
+    any_picked (is_running_task w) (λ n. test (group_of_task w n)) (λ task. pass task.group && is_running task.stage) w.tasks 0
+      (λ n m row found e. let at : m ≡ n = omega (arith, e) in let here : slice_get w.tasks m ≡ Some row = rw at found in rw (running_found w m row here, group_found w m row here, same row.group) refl)
+
+-- ---- a row by its cases
+
+stage_by : (s : Stage) → (if is_running s then stage.Interrupted else s) ≡ stage_restarted s
+stage_by stage.Fresh = refl
+stage_by stage.Running = refl
+stage_by stage.Success = refl
+stage_by (stage.Failure text) = refl
+stage_by stage.Interrupted = refl
+
+task_if : (b : Bool) (row : Task) → changed_if (with_stage stage.Interrupted) b row ≡ record row { stage = if b then stage.Interrupted else row.stage }
+task_if true row = refl
+task_if false row = refl
+
+task_by : (row : Task) → changed_if (with_stage stage.Interrupted) (is_running row.stage) row ≡ task_restarted row
+task_by row = task_if (is_running row.stage) row ∙ ap (λ s. record row { stage = s }) (stage_by row.stage)
+
+error_by : (b : Bool) (o : Option (List ℕ)) → (if b then or_else o interruption else o) ≡ error_restarted b o
+error_by true None = refl
+error_by true (Some text) = refl
+error_by false None = refl
+error_by false (Some text) = refl
+
+group_if : (b : Bool) (row : Group) → changed_if (with_error interruption) b row ≡ record row { error = if b then or_else row.error interruption else row.error }
+group_if true row = refl
+group_if false row = refl
+
+group_by : (b : Bool) (row : Group) → changed_if (with_error interruption) b row ≡ record row { error = error_restarted b row.error }
+group_by b row = group_if b row ∙ ap (λ error. record row { error = error }) (error_by b row.error)
+
+hit_by : (b : Bool) (hit : Hit) (o : Option Hit) → (if b then or_else o hit else o) ≡ hit_restarted b hit o
+hit_by true hit None = refl
+hit_by true hit (Some old) = refl
+hit_by false hit None = refl
+hit_by false hit (Some old) = refl
+
+scope_if : (b : Bool) (hit : Hit) (row : Scope) → changed_if (with_hit hit) b row ≡ record row { hit = if b then or_else row.hit hit else row.hit }
+scope_if true hit row = refl
+scope_if false hit row = refl
+
+scope_by : (b : Bool) (hit : Hit) (row : Scope) → changed_if (with_hit hit) b row ≡ record row { hit = hit_restarted b hit row.hit }
+scope_by b hit row = scope_if b hit row ∙ ap (λ o. record row { hit = o }) (hit_by b hit row.hit)
+
+lives_if : (b : Bool) (scope s : ℕ) → is_key s (if b then None else Some scope) ≡ (not b && scope == s)
+lives_if true scope s = refl
+lives_if false scope s = refl
+
+lives_by : (o : Option Group) (s : ℕ) → is_key s (option_and_then (λ group. if group.bare then None else Some group.scope) o)
+    ≡ option_map_or (λ group. not group.bare && group.scope == s) o false
+lives_by None s = refl
+lives_by (Some row) s = lives_if row.bare row.scope s
+
+-- ---- the rows behind a restart
 
 task_at : (w : WorkState) (m : ℕ)
     → slice_get (fold after_interrupt w (running_tasks w)).tasks m ≡ option_map task_restarted (slice_get w.tasks m)
@@ -115,40 +170,45 @@ task_at w m =
     ap (λ rows. slice_get rows m) (tasks_fold (running_tasks w) w)
     ∙ fold_reads (with_stage stage.Interrupted) stage_twice (λ n. Some n) (running_tasks w) w.tasks m
     ∙ option_map_same (changed_if (with_stage stage.Interrupted) (list_any (λ n. n == m) (running_tasks w))) task_restarted (slice_get w.tasks m)
-        (λ row found. ap (λ b. changed_if (with_stage stage.Interrupted) b row) (number_picked (is_running_task w) m 0 (length w.tasks) (omega arith) (omega (arith, slice_get_within w.tasks m row found)) ∙ running_found w m row found))
+        (λ row found. ap (λ b. changed_if (with_stage stage.Interrupted) b row) (number_picked (is_running_task w) m 0 (length w.tasks) (omega arith) (omega (arith, slice_get_within w.tasks m row found)) ∙ running_found w m row found) ∙ task_by row)
 
-group_at : (w : WorkState) (g : ℕ)
-    → slice_get (fold after_interrupt w (running_tasks w)).groups g ≡ option_map (group_restarted w g) (slice_get w.groups g)
-group_at w g =
-    ap (λ rows. slice_get rows g) (groups_fold (group_of_task w) (running_tasks w) w (λ n. refl))
-    ∙ fold_reads (with_error interruption) (error_twice interruption) (λ n. Some (group_of_task w n)) (running_tasks w) w.groups g
-    ∙ ap (λ b. option_map (changed_if (with_error interruption) b) (slice_get w.groups g)) (any_of_group (λ h. h == g) w)
+group_at : (p : State) (g : ℕ)
+    → slice_get (fold after_interrupt p.work (running_tasks p.work)).groups g ≡ option_map (group_restarted p g) (slice_get p.work.groups g)
+group_at p g =
+    ap (λ rows. slice_get rows g) (groups_fold (group_of_task p.work) (running_tasks p.work) p.work (λ n. refl))
+    ∙ fold_reads (with_error interruption) (error_twice interruption) (λ n. Some (group_of_task p.work n)) (running_tasks p.work) p.work.groups g
+    ∙ ap (λ b. option_map (changed_if (with_error interruption) b) (slice_get p.work.groups g)) (any_of_group (λ h. h == g) (λ h. h == g) p.work (λ h. refl))
+    ∙ option_map_same (changed_if (with_error interruption) (has_running p.work g)) (group_restarted p g) (slice_get p.work.groups g) (λ row found. group_by (has_running p.work g) row)
 
-scope_at : (e : ℕ) (w : WorkState) (t : TreeState) (s : ℕ)
-    → slice_get (fold (λ t n. after_task_end e w n (Some interruption) t) t (running_tasks w)).scopes s
-        ≡ option_map (changed_if (with_hit (cancellation e t.clock (Some interruption))) (hosts_running w s)) (slice_get t.scopes s)
-scope_at e w t s =
-    ap (λ t. slice_get t.scopes s) (scopes_fold e w (running_tasks w) t)
-    ∙ fold_reads (with_hit (cancellation e t.clock (Some interruption))) (hit_twice (cancellation e t.clock (Some interruption))) (λ n. own_scope w (group_of_task w n)) (running_tasks w) t.scopes s
-    ∙ ap (λ b. option_map (changed_if (with_hit (cancellation e t.clock (Some interruption))) b) (slice_get t.scopes s)) (any_of_group (λ g. lives_in w g s) w)
+scope_at : (p : State) (s : ℕ)
+    → slice_get (fold (λ t n. after_task_end (p.count + 1) p.work n (Some interruption) t) p.tree (running_tasks p.work)).scopes s
+        ≡ option_map (scope_restarted p s) (slice_get p.tree.scopes s)
+scope_at p s =
+    let w = p.work in
+    let hit = cancellation (p.count + 1) p.tree.clock (Some interruption) in
+    ap (λ t. slice_get t.scopes s) (scopes_fold (p.count + 1) w (running_tasks w) p.tree)
+    ∙ fold_reads (with_hit hit) (hit_twice hit) (λ n. own_scope w (group_of_task w n)) (running_tasks w) p.tree.scopes s
+    ∙ ap (λ b. option_map (changed_if (with_hit hit) b) (slice_get p.tree.scopes s)) (any_of_group (λ g. is_key s (own_scope w g)) (λ g. lives_in w g s) w (λ g. lives_by (slice_get w.groups g) s))
+    ∙ option_map_same (changed_if (with_hit hit) (hosts_running w s)) (scope_restarted p s) (slice_get p.tree.scopes s) (λ row found. scope_by (hosts_running w s) hit row)
 
-stopped : (s : Stage) (row : Task) → row.stage ≡ s → is_running (task_restarted row).stage ≡ false
-stopped stage.Fresh row e = rw e refl
-stopped stage.Running row e = rw e refl
-stopped stage.Success row e = rw e refl
-stopped (stage.Failure text) row e = rw e refl
-stopped stage.Interrupted row e = rw e refl
+not_running : (s : Stage) → is_running (stage_restarted s) ≡ false
+not_running stage.Fresh = refl
+not_running stage.Running = refl
+not_running stage.Success = refl
+not_running (stage.Failure text) = refl
+not_running stage.Interrupted = refl
 
 none_runs : (o : Option Task) → option_map_or (λ task. is_running task.stage) (option_map task_restarted o) false ≡ false
 none_runs None = refl
-none_runs (Some row) = stopped row.stage row refl
+none_runs (Some row) = not_running row.stage
 
+-- A restart leaves what the law says.
 pub restarted : (p : State) → IsRestart p (step p event.Restart)
 restarted p = record {
   counted = refl;
   clock = ap (λ t. t.clock) (scopes_fold (p.count + 1) p.work (running_tasks p.work) p.tree);
   none_running = λ n. ap (λ o. option_map_or (λ task. is_running task.stage) o false) (task_at p.work n) ∙ none_runs (slice_get p.work.tasks n);
   tasks = same_rows (fold after_interrupt p.work (running_tasks p.work)).tasks (map task_restarted p.work.tasks) (λ m. task_at p.work m ∙ sym (slice_get-map task_restarted p.work.tasks m));
-  groups = λ g. group_at p.work g;
-  scopes = λ s. scope_at (p.count + 1) p.work p.tree s;
+  groups = λ g. group_at p g;
+  scopes = λ s. scope_at p s;
 }
