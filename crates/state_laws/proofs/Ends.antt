@@ -93,7 +93,7 @@ owner_if : (b : Bool) (scope s : ℕ) → (if b then None else Some scope) ≡ S
 owner_if true scope s is = absurd (none-some s is)
 owner_if false scope s is = (refl, same_Some scope s is)
 
-owner_found : (w : WorkState) (g s : ℕ) (o : Option Group) → slice_get w.groups g ≡ o
+pub owner_found : (w : WorkState) (g s : ℕ) (o : Option Group) → slice_get w.groups g ≡ o
     → option_and_then (λ group. if group.bare then None else Some group.scope) o ≡ Some s
     → (row : Group) × Owns w g row s
 owner_found w g s None found is = absurd (none-some s is)

@@ -1,4 +1,5 @@
 pub mod Admission
+pub mod EndedOnce
 pub mod Ends
 pub mod FirstErrors
 pub mod Folds
@@ -7,4 +8,5 @@ pub mod Numbering
 pub mod Owners
 pub mod RightHits
 pub mod Shapes
+pub mod Starting
 pub mod Steps

@@ -1,2 +1,3 @@
+pub mod GroupEnds
 pub mod Kept
 pub mod Restarts

@@ -4,5 +4,6 @@
 //! `run_model` alone, which every promise of the layers above is made in.
 #![tactic(auto)]
 
+pub mod group_ends;
 pub mod restarts;
 pub mod rules;

@@ -1,0 +1,11 @@
+use Rattle.std.proofs.Common.{◌+◌, Some, None}
+use Rattle.run_model.specs.WorkChanges.{group_of_task}
+use Rattle.state_laws.proofs.group_ends.a_group_ends_once.Goals as goal
+use Rattle.state_laws.proofs.EndedOnce.{ended_once}
+
+pub returns : goal.returns
+returns c = record {
+  error = λ p n text row. ended_once p (group_of_task p.work n) (p.count + 1) row (Some text);
+  wait = λ p g row. ended_once p g (p.count + 1) row None;
+  cancel = ended_once;
+}
