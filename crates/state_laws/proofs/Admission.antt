@@ -1,13 +1,17 @@
 -- Running tasks stay admitted, and groups that were waited for stay idle.
-use Rattle.std.proofs.Common.{
-    ◌≡◌, ◌≢◌, ◌⊎◌, ◌<◌, ◌≤◌, ◌+◌, ◌==◌, ◌&&◌, ℕ, zero, suc, Bool, true, false, List, [], ◌∷◌, ◌++◌, length, take,
-    Option, Some, None, slice_get, inl, inr, refl, sym, ap, ◌∙◌, arith
-}
+use Rattle.std.proofs.Common.{◌≡◌, ◌≢◌, ◌<◌, ◌≤◌, ◌+◌, ◌==◌, ◌&&◌, ℕ, zero, suc, Bool, true, false, List, [], ◌∷◌, ◌++◌, length, take, Option, Some, None, slice_get, inl, inr, refl, sym, ap, ◌∙◌, arith}
 use Rattle.std.specs.Prelude.{count_by, if◌then◌else◌}
 use Rattle.std.specs.Option.{option_and_then}
 use Rattle.std.proofs.lemmas.Bool.{
-    and_parts, and_from, both_ways, ltb-true, lt-ltb, cases_eq, eq-eqb, ne_eqb,
-    and_left
+  and_parts,
+  and_from,
+  both_ways,
+  ltb-true,
+  lt-ltb,
+  cases_eq,
+  eq-eqb,
+  ne_eqb,
+  and_left,
 }
 use Rattle.std.proofs.lemmas.List.{take-append-le}
 use Rattle.std.proofs.lemmas.List.Sums.{sum_by-cons}
@@ -18,7 +22,12 @@ use Rattle.run_model.specs.declared.tasks.Stage.{Stage}
 use Rattle.run_model.specs.Rows.{at_row}
 use Rattle.run_model.specs.State.{WorkState}
 use Rattle.run_model.specs.Tasks.{
-    is_running, is_unfinished, unfinished_in, admits, limit_of, is_admitted
+  is_running,
+  is_unfinished,
+  unfinished_in,
+  admits,
+  limit_of,
+  is_admitted,
 }
 use Rattle.run_model.specs.declared.tasks.Stage.TheVariants as stage
 use Rattle.run_model.specs.WorkChanges.{with_stage, with_limit, with_wait, after_limit, after_wait}
@@ -86,7 +95,7 @@ unfinished_at : (stage : Stage) (n g : ℕ) (rows : List Task)
     → unfinished_in g (at_row (with_stage stage) n rows) ≤ unfinished_in g rows
 unfinished_at stage n g rows less =
     count_at (λ task. task.group == g && is_unfinished task.stage) (with_stage stage) n rows
-      (λ x found is. let parts = and_parts (x.group == g) (is_unfinished stage) is in and_from (x.group == g) (is_unfinished x.stage) parts.0 (less x found parts.1))
+    (λ x found is. let parts = and_parts (x.group == g) (is_unfinished stage) is in and_from (x.group == g) (is_unfinished x.stage) parts.0 (less x found parts.1))
 
 rank_at : (stage : Stage) (n m g : ℕ) (rows : List Task)
     → ((x : Task) → slice_get rows n ≡ Some x → is_unfinished stage ≡ true → is_unfinished x.stage ≡ true)

@@ -1,19 +1,17 @@
 -- A group that has ended cancels nothing more.
-use Rattle.std.proofs.Common.{◌≡◌, ◌⊎◌, ℕ, zero, suc, Bool, true, false, List, [], ◌∷◌, Option}
+use Rattle.std.proofs.Common.{◌≡◌, ℕ, zero, suc, false, List, [], ◌∷◌, Option}
 use Rattle.std.proofs.Common.{Some, None, slice_get, refl, sym, ap, subst, ◌∙◌}
 use Rattle.std.specs.Prelude.{IsSome}
 use Rattle.std.specs.Option.{option_map_or}
 use Rattle.std.proofs.lemmas.Bool.{both_ways}
 use Rattle.std.proofs.lemmas.Option.{same_Some}
 use Rattle.run_model.specs.declared.groups.Group.{Group}
-use Rattle.run_model.specs.declared.scopes.Hit.{Hit}
-use Rattle.run_model.specs.declared.scopes.Scope.{Scope}
 use Rattle.run_model.specs.Rows.{at_row, or_else}
 use Rattle.run_model.specs.State.{State, TreeState}
 use Rattle.run_model.specs.Scopes.{own_hit}
 use Rattle.run_model.specs.Step.{own_scope, after_group_cancel}
 use Rattle.run_model.specs.TreeChanges.{with_hit, cancellation, after_cancel}
-use Rattle.run_model.specs.Rules.{IsConsistent, HasScope, HasGroup}
+use Rattle.run_model.specs.Rules.{IsConsistent, HasGroup}
 use Rattle.state_laws.specs.GroupEnds.{HasEnded}
 use Rattle.state_laws.proofs.Ends.{owner_found}
 use Rattle.state_laws.proofs.RightHits.{own_hit_of}
@@ -32,7 +30,7 @@ had_one (Some y) x is = refl
 hit_before : (e s : ℕ) (cause : Option (List ℕ)) (t : TreeState) → IsSome (own_hit t.scopes s) → after_cancel e s cause t ≡ t
 hit_before e s cause t is =
     ap (λ rows. record t { scopes = rows }) (at_row_same (with_hit (cancellation e t.clock cause)) s t.scopes
-      (λ row found. ap (λ o. record row { hit = o }) (had_one row.hit (cancellation e t.clock cause) (rw (own_hit_of t.scopes s row found) at is))))
+    (λ row found. ap (λ o. record row { hit = o }) (had_one row.hit (cancellation e t.clock cause) (rw (own_hit_of t.scopes s row found) at is))))
 
 ended_by : (p : State) (g e : ℕ) (row : Group) (cause : Option (List ℕ)) (o : Option ℕ) → own_scope p.work g ≡ o
     → IsConsistent p → HasGroup p.work g row → HasEnded row

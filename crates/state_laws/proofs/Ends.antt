@@ -1,21 +1,16 @@
 -- A scope is hit by a cancel, or because a group of it ended.
-use Rattle.std.proofs.Common.{
-    ◌≡◌, ◌≢◌, ◌⊎◌, ◌<◌, ◌≤◌, ◌==◌, ◌&&◌, ℕ, Bool, true, false, List, [], ◌∷◌, length, Option, Some, None, slice_get, inl,
-    inr, refl, sym, ap, subst, ◌∙◌, arith
-}
-use Rattle.std.specs.Prelude.{IsSome, IsTrue, if◌then◌else◌}
-use Rattle.std.specs.List.{list_any}
+use Rattle.std.proofs.Common.{◌≡◌, ◌≢◌, ◌≤◌, ◌==◌, ◌&&◌, ℕ, Bool, true, false, List, length, Option, Some, None, slice_get, refl, sym, ap, subst, ◌∙◌}
+use Rattle.std.specs.Prelude.{IsSome, if◌then◌else◌}
 use Rattle.std.specs.Option.{option_map, option_map_or, option_and_then}
 use Rattle.std.proofs.lemmas.Bool.{both_ways, and_left, and_from, ne_eqb, eq-eqb}
-use Rattle.std.proofs.lemmas.Option.{none-some, same_Some, slice_get_within}
+use Rattle.std.proofs.lemmas.Option.{none-some, same_Some}
 use Rattle.run_model.specs.declared.scopes.Kind.{Kind}
 use Rattle.run_model.specs.declared.scopes.Kind.TheVariants as kind
 use Rattle.run_model.specs.declared.scopes.Scope.{Scope}
 use Rattle.run_model.specs.declared.groups.Group.{Group}
 use Rattle.run_model.specs.declared.tasks.Task.{Task}
 use Rattle.run_model.specs.declared.tasks.Stage.{Stage}
-use Rattle.run_model.specs.declared.tasks.Stage.TheVariants as stage
-use Rattle.run_model.specs.Rows.{root, at_row, or_else}
+use Rattle.run_model.specs.Rows.{root, at_row}
 use Rattle.run_model.specs.State.{State, TreeState, WorkState}
 use Rattle.run_model.specs.Scopes.{own_hit}
 use Rattle.run_model.specs.Allowed.{has_kind}
@@ -23,24 +18,50 @@ use Rattle.run_model.specs.Step.{own_scope, after_group_cancel, after_task_end}
 use Rattle.run_model.specs.Tasks.{is_running, is_unfinished, ended_in_error, unfinished_in, is_admitted}
 use Rattle.run_model.specs.TreeChanges.{with_hit, cancellation, after_cancel}
 use Rattle.run_model.specs.WorkChanges.{
-    with_stage, with_error, with_wait, group_of_task, after_end, after_wait
+  with_stage,
+  with_error,
+  with_wait,
+  group_of_task,
+  after_end,
+  after_wait,
 }
-use Rattle.run_model.specs.Rules.{
-    IsConsistent, HasScope, HasGroup, HasTask, Owns, AreGroupScopes, can_be_hit, is_group_kind, has_task_error
-}
+use Rattle.run_model.specs.Rules.{IsConsistent, HasScope, HasTask, Owns, AreGroupScopes, can_be_hit, is_group_kind}
 use Rattle.run_model.proofs.RowLemmas.{slice_get-at_row_same, slice_get-at_row_other}
 use Rattle.state_laws.proofs.Shapes.{
-    AreAlike, alike_same, alike_at, IsSameScope, scope_same, IsSameGroup, group_same, IsSameTask, task_same
+  AreAlike,
+  alike_same,
+  alike_at,
+  IsSameScope,
+  scope_same,
+  IsSameGroup,
+  group_same,
+  IsSameTask,
+  task_same,
 }
 use Rattle.state_laws.proofs.Numbering.{numbered_kept}
 use Rattle.state_laws.proofs.Owners.{kind_row, row_kind, owners_kept}
 use Rattle.state_laws.proofs.RightHits.{
-    AreRight, are_right, later_right, right_cancelled, right_cancellation, hits_right, deadlines_right,
-    own_hit_of, or_else_some
+  AreRight,
+  are_right,
+  later_right,
+  right_cancelled,
+  right_cancellation,
+  hits_right,
+  deadlines_right,
+  own_hit_of,
+  or_else_some,
 }
 use Rattle.state_laws.proofs.Admission.{IsSameTerms, terms_same, admitted_stage, admitted_wait}
 use Rattle.state_laws.proofs.FirstErrors.{
-    AreHitsKept, hits_cancelled, errors_changed, errors_alike, IsSameEnd, end_same, lost_at, any_at, any_found
+  AreHitsKept,
+  hits_cancelled,
+  errors_changed,
+  errors_alike,
+  IsSameEnd,
+  end_same,
+  lost_at,
+  any_at,
+  any_found,
 }
 
 -- The second tree is the first one with hits that came with event e.
@@ -159,11 +180,11 @@ consistent_lost p e n text stage row more counted found lost finished stopped ke
       group_scopes = owners_kept p (record { count = e; tree = u; work = v }) hit.same groups kept.group_scopes;
       admitted = admitted_stage p.work v.groups n stage (alike_at IsSameTerms (with_error text) g p.work.groups terms_same (λ x at. record { limit = refl; waited = refl })) (λ x at is. absurd (both_ways (is_unfinished stage) finished is)) (λ x at is. absurd (both_ways (is_running stage) stopped is)) kept.admitted;
       errors = errors_changed p e g u v.tasks (with_error text) hit.kept
-        (λ s group owns. own_hit_ended e p g s group (Some text) kept owns)
-        (λ x. record { name = refl; scope = refl; bare = refl })
-        (λ h other. any_at (λ task. task.group == h && ended_in_error task.stage) (with_stage stage) n p.work.tasks (λ x at. let not : (x.group == h) ≡ false = ne_eqb x.group h (λ same. other (sym same ∙ ap (λ r. r.group) (same_Some x row (sym at ∙ found)) ∙ sym of_group)) in and_left (x.group == h) (ended_in_error stage) not ∙ sym (and_left (x.group == h) (ended_in_error x.stage) not)))
-        (λ x at. (λ is. any_found (λ task. task.group == g && ended_in_error task.stage) v.tasks n (with_stage stage row) (slice_get-at_row_same (with_stage stage) n p.work.tasks ∙ ap (option_map (with_stage stage)) found) (and_from (row.group == g) (ended_in_error stage) (eq-eqb row.group g (sym of_group)) lost), λ is. or_else_some x.error text))
-        kept.errors;
+          (λ s group owns. own_hit_ended e p g s group (Some text) kept owns)
+          (λ x. record { name = refl; scope = refl; bare = refl })
+          (λ h other. any_at (λ task. task.group == h && ended_in_error task.stage) (with_stage stage) n p.work.tasks (λ x at. let not : (x.group == h) ≡ false = ne_eqb x.group h (λ same. other (sym same ∙ ap (λ r. r.group) (same_Some x row (sym at ∙ found)) ∙ sym of_group)) in and_left (x.group == h) (ended_in_error stage) not ∙ sym (and_left (x.group == h) (ended_in_error x.stage) not)))
+          (λ x at. (λ is. any_found (λ task. task.group == g && ended_in_error task.stage) v.tasks n (with_stage stage row) (slice_get-at_row_same (with_stage stage) n p.work.tasks ∙ ap (option_map (with_stage stage)) found) (and_from (row.group == g) (ended_in_error stage) (eq-eqb row.group g (sym of_group)) lost), λ is. or_else_some x.error text))
+          kept.errors;
     }
 
 -- A task's stage changed, and neither ended its group.
@@ -201,9 +222,9 @@ consistent_wait p e g more counted idle kept =
       group_scopes = owners_kept p (record { count = e; tree = u; work = v }) hit.same groups kept.group_scopes;
       admitted = admitted_wait p.work g idle kept.admitted;
       errors = errors_changed p e g u p.work.tasks with_wait hit.kept
-        (λ s group owns. own_hit_ended e p g s group None kept owns)
-        (λ x. record { name = refl; scope = refl; bare = refl })
-        (λ h other. refl)
-        (λ x at. kept.errors.exact g x at)
-        kept.errors;
+          (λ s group owns. own_hit_ended e p g s group None kept owns)
+          (λ x. record { name = refl; scope = refl; bare = refl })
+          (λ h other. refl)
+          (λ x at. kept.errors.exact g x at)
+          kept.errors;
     }

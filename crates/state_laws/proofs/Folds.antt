@@ -1,12 +1,9 @@
 -- Rows that are changed one after another, each by the same change.
-use Rattle.std.proofs.Common.{
-    ◌≡◌, ◌≢◌, ◌⊎◌, ◌<◌, ◌≤◌, ◌+◌, ◌==◌, ◌&&◌, ◌||◌, ℕ, zero, suc, Bool, true, false, List, [], ◌∷◌, length,
-    map, filter, fold, Option, Some, None, slice_get, if◌then◌else◌, inl, inr, refl, sym, ap, ◌∙◌, arith
-}
+use Rattle.std.proofs.Common.{◌≡◌, ◌<◌, ◌≤◌, ◌+◌, ◌==◌, ◌&&◌, ◌||◌, ℕ, zero, suc, Bool, true, false, List, [], ◌∷◌, length, filter, fold, Option, Some, None, slice_get, if◌then◌else◌, inl, inr, refl, sym, ap, ◌∙◌, arith}
 use Rattle.std.specs.List.{list_any, range_with_len}
 use Rattle.std.specs.Option.{option_map, option_map_or}
 use Rattle.std.proofs.lemmas.Option.{none-some, same_Some}
-use Rattle.std.proofs.lemmas.Bool.{cases_eq, eq-eqb, ne_eqb, eqb-true, eqb-false}
+use Rattle.std.proofs.lemmas.Bool.{cases_eq, eq-eqb, ne_eqb}
 use Rattle.run_model.specs.Rows.{at_row}
 use Rattle.run_model.proofs.RowLemmas.{slice_get-at_row_same, slice_get-at_row_other}
 
@@ -49,7 +46,7 @@ option_map_twice change twice false b (Some x) = refl
 pub fold_reads : {X : Type 0} (change : X → X) → ((x : X) → change (change x) ≡ change x)
     → (key : ℕ → Option ℕ) (ns : List ℕ) (rows : List X) (m : ℕ)
     → slice_get (fold (λ changed n. at_key change (key n) changed) rows ns) m
-        ≡ option_map (changed_if change (list_any (λ n. is_key m (key n)) ns)) (slice_get rows m)
+    ≡ option_map (changed_if change (list_any (λ n. is_key m (key n)) ns)) (slice_get rows m)
 fold_reads change twice key [] rows m = elim (slice_get rows m) as (λ o. o ≡ option_map (λ x. x) o) [ None ↦ refl | Some x ↦ refl ]
 fold_reads change twice key (n ∷ ns) rows m =
     fold_reads change twice key ns (at_key change (key n) rows) m

@@ -1,9 +1,6 @@
 -- What a restart makes of the rows.
-use Rattle.std.proofs.Common.{
-    ◌≡◌, ◌<◌, ◌≤◌, ◌+◌, ◌==◌, ◌&&◌, ℕ, Bool, true, false, List, [], ◌∷◌, length, map, fold, Option, Some,
-    None, slice_get, refl, sym, ap, ◌∙◌, arith
-}
-use Rattle.std.specs.List.{list_any, range_with_len}
+use Rattle.std.proofs.Common.{◌≡◌, ◌+◌, ◌==◌, ◌&&◌, ℕ, Bool, true, false, List, [], ◌∷◌, length, map, fold, Option, Some, None, slice_get, refl, sym, ap, ◌∙◌, arith}
+use Rattle.std.specs.List.{list_any}
 use Rattle.std.specs.Prelude.{not, if◌then◌else◌}
 use Rattle.std.specs.Option.{option_map, option_map_or, option_and_then}
 use Rattle.std.proofs.lemmas.Option.{slice_get-map, slice_get_within}
@@ -16,26 +13,45 @@ use Rattle.run_model.specs.declared.tasks.Stage.TheVariants as stage
 use Rattle.run_model.specs.Event as event
 use Rattle.run_model.specs.Rows.{at_row, or_else}
 use Rattle.run_model.specs.State.{State, TreeState, WorkState}
-use Rattle.run_model.specs.Step.{step, own_scope, after_task_end, after_group_cancel}
+use Rattle.run_model.specs.Step.{step, own_scope, after_task_end}
 use Rattle.run_model.specs.Tasks.{is_running, is_running_task, running_tasks}
 use Rattle.run_model.specs.TreeChanges.{with_hit, cancellation, after_cancel}
 use Rattle.run_model.specs.WorkChanges.{
-    with_stage, with_error, group_of_task, after_interrupt, interruption
+  with_stage,
+  with_error,
+  group_of_task,
+  after_interrupt,
+  interruption,
 }
 use Rattle.run_model.proofs.RowLemmas.{length-at_row}
 use Rattle.state_laws.specs.Restarts.{
-    IsRestart, has_running, lives_in, hosts_running, stage_restarted, error_restarted, hit_restarted,
-    task_restarted, group_restarted, scope_restarted
+  IsRestart,
+  has_running,
+  lives_in,
+  hosts_running,
+  stage_restarted,
+  error_restarted,
+  hit_restarted,
+  task_restarted,
+  group_restarted,
+  scope_restarted,
 }
 use Rattle.state_laws.proofs.Folds.{
-    same_rows, at_key, at_key_reads, is_key, changed_if, fold_reads, any_picked, number_picked
+  same_rows,
+  at_key,
+  at_key_reads,
+  is_key,
+  changed_if,
+  fold_reads,
+  any_picked,
+  number_picked,
 }
 
 -- ---- the folds of a restart, each over one list of rows
 
 group_stays : (stage : Stage) (b : Bool) (o : Option Task) (none : ℕ)
     → option_map_or (λ task. task.group) (option_map (changed_if (with_stage stage) b) o) none
-        ≡ option_map_or (λ task. task.group) o none
+    ≡ option_map_or (λ task. task.group) o none
 group_stays stage b None none = refl
 group_stays stage true (Some task) none = refl
 group_stays stage false (Some task) none = refl
@@ -71,7 +87,7 @@ group_end_is e text (Some s) t = refl
 
 scopes_fold : (e : ℕ) (w : WorkState) (ns : List ℕ) (t : TreeState)
     → fold (λ t n. after_task_end e w n (Some interruption) t) t ns
-        ≡ record t { scopes = fold (λ rows n. at_key (with_hit (cancellation e t.clock (Some interruption))) (own_scope w (group_of_task w n)) rows) t.scopes ns }
+    ≡ record t { scopes = fold (λ rows n. at_key (with_hit (cancellation e t.clock (Some interruption))) (own_scope w (group_of_task w n)) rows) t.scopes ns }
 scopes_fold e w [] t = refl
 scopes_fold e w (n ∷ ns) t =
     ap (λ u. fold (λ t n. after_task_end e w n (Some interruption) t) u ns) (group_end_is e interruption (own_scope w (group_of_task w n)) t)
@@ -109,7 +125,7 @@ any_of_group : (test pass : ℕ → Bool) (w : WorkState) → ((g : ℕ) → tes
     → list_any (λ n. test (group_of_task w n)) (running_tasks w) ≡ list_any (λ task. pass task.group && is_running task.stage) w.tasks
 any_of_group test pass w same =
     any_picked (is_running_task w) (λ n. test (group_of_task w n)) (λ task. pass task.group && is_running task.stage) w.tasks 0
-      (λ n m row found e. let at : m ≡ n = omega (arith, e) in let here : slice_get w.tasks m ≡ Some row = rw at found in rw (running_found w m row here, group_found w m row here, same row.group) refl)
+    (λ n m row found e. let at : m ≡ n = omega (arith, e) in let here : slice_get w.tasks m ≡ Some row = rw at found in rw (running_found w m row here, group_found w m row here, same row.group) refl)
 
 -- ---- a row by its cases
 
@@ -170,7 +186,7 @@ task_at w m =
     ap (λ rows. slice_get rows m) (tasks_fold (running_tasks w) w)
     ∙ fold_reads (with_stage stage.Interrupted) stage_twice (λ n. Some n) (running_tasks w) w.tasks m
     ∙ option_map_same (changed_if (with_stage stage.Interrupted) (list_any (λ n. n == m) (running_tasks w))) task_restarted (slice_get w.tasks m)
-        (λ row found. ap (λ b. changed_if (with_stage stage.Interrupted) b row) (number_picked (is_running_task w) m 0 (length w.tasks) (omega arith) (omega (arith, slice_get_within w.tasks m row found)) ∙ running_found w m row found) ∙ task_by row)
+    (λ row found. ap (λ b. changed_if (with_stage stage.Interrupted) b row) (number_picked (is_running_task w) m 0 (length w.tasks) (omega arith) (omega (arith, slice_get_within w.tasks m row found)) ∙ running_found w m row found) ∙ task_by row)
 
 group_at : (p : State) (g : ℕ)
     → slice_get (fold after_interrupt p.work (running_tasks p.work)).groups g ≡ option_map (group_restarted p g) (slice_get p.work.groups g)
@@ -182,7 +198,7 @@ group_at p g =
 
 scope_at : (p : State) (s : ℕ)
     → slice_get (fold (λ t n. after_task_end (p.count + 1) p.work n (Some interruption) t) p.tree (running_tasks p.work)).scopes s
-        ≡ option_map (scope_restarted p s) (slice_get p.tree.scopes s)
+    ≡ option_map (scope_restarted p s) (slice_get p.tree.scopes s)
 scope_at p s =
     let w = p.work in
     let hit = cancellation (p.count + 1) p.tree.clock (Some interruption) in

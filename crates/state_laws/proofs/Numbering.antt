@@ -1,8 +1,5 @@
 -- Rows stay within the limits, names distinct, and what a row names exists.
-use Rattle.std.proofs.Common.{
-    ◌≡◌, ◌⊎◌, ◌<◌, ◌≤◌, ℕ, Bool, true, false, List, [], ◌∷◌, ◌++◌, length, Some, None, slice_get, inl, inr,
-    refl, sym, ap, ◌∙◌, arith
-}
+use Rattle.std.proofs.Common.{◌≡◌, ◌<◌, ◌≤◌, ℕ, Bool, true, false, List, [], ◌∷◌, ◌++◌, length, Some, None, slice_get, inl, inr, refl, sym, ap, ◌∙◌, arith}
 use Rattle.std.specs.Prelude.{is_none, position, nat_lt, if◌then◌else◌}
 use Rattle.std.specs.List.{position_or_len}
 use Rattle.std.specs.Str.{bytes_eq}
@@ -16,9 +13,9 @@ use Rattle.run_model.specs.declared.scopes.Scope.{Scope}
 use Rattle.run_model.specs.declared.groups.Group.{Group}
 use Rattle.run_model.specs.declared.tasks.Task.{Task}
 use Rattle.run_model.specs.Rows.{root}
-use Rattle.run_model.specs.State.{State, TreeState, WorkState}
+use Rattle.run_model.specs.State.{State}
 use Rattle.run_model.specs.Scopes.{is_root}
-use Rattle.run_model.specs.Rules.{AreNumbered, HasScope, HasGroup, HasTask}
+use Rattle.run_model.specs.Rules.{AreNumbered}
 use Rattle.run_model.proofs.RowLemmas.{push_cases, slice_get-push_left}
 use Rattle.state_laws.proofs.Shapes.{AreAlike, IsSameScope, IsSameGroup, IsSameTask}
 

@@ -1,10 +1,7 @@
 -- Hits stay on scopes that can be cancelled, of the past, and as deadlines want them.
-use Rattle.std.proofs.Common.{
-    ◌≡◌, ◌≢◌, ◌⊎◌, ◌<◌, ◌≤◌, ◌+◌, ℕ, Bool, true, false, List, [], ◌∷◌, ◌++◌, length, map, Option, Some, None, slice_get, inl,
-    inr, refl, sym, ap, ◌∙◌, arith
-}
-use Rattle.std.specs.Prelude.{is_some, nat_le, unwrap_or, IsSome, if◌then◌else◌}
-use Rattle.std.specs.Option.{option_map, option_map_or, option_and_then}
+use Rattle.std.proofs.Common.{◌≡◌, ◌≤◌, ℕ, Bool, true, false, List, Option, Some, None, slice_get, inl, inr, refl, sym, ap, ◌∙◌, arith}
+use Rattle.std.specs.Prelude.{is_some, nat_le, IsSome, if◌then◌else◌}
+use Rattle.std.specs.Option.{option_map_or, option_and_then}
 use Rattle.std.proofs.lemmas.Bool.{leb-true, le-leb, both_ways}
 use Rattle.std.proofs.lemmas.Option.{none-some, same_Some}
 use Rattle.run_model.specs.declared.scopes.Kind.{Kind}
@@ -16,9 +13,15 @@ use Rattle.run_model.specs.Rows.{at_row, or_else, new_scope}
 use Rattle.run_model.specs.State.{State, TreeState, WorkState}
 use Rattle.run_model.specs.Scopes.{own_hit, own_deadline}
 use Rattle.run_model.specs.TreeChanges.{
-    with_hit, tick, hit_due, expiry, cancellation, after_derive, after_advance
+  with_hit,
+  tick,
+  hit_due,
+  expiry,
+  cancellation,
+  after_derive,
+  after_advance,
 }
-use Rattle.run_model.specs.Rules.{ArePast, AreHits, AreDeadlines, HasScope, can_be_hit}
+use Rattle.run_model.specs.Rules.{AreHits, AreDeadlines, HasScope, can_be_hit}
 use Rattle.run_model.proofs.RowLemmas.{push_cases, at_row_cases, map_cases}
 
 -- A hit that a row of this kind can have behind n events, at this clock.

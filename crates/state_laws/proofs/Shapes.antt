@@ -1,10 +1,7 @@
 -- Rows that an event changes at their places, and what it leaves alone of each.
-use Rattle.std.proofs.Common.{
-    ◌≡◌, ◌⊎◌, ◌<◌, ℕ, Bool, true, false, List, [], ◌∷◌, ◌++◌, length, map, Option, Some, None, slice_get, inl, inr,
-    refl, sym, ap, ◌∙◌, arith
-}
+use Rattle.std.proofs.Common.{◌≡◌, ℕ, List, length, map, Option, Some, None, slice_get, inl, inr, refl, ap, ◌∙◌}
 use Rattle.std.specs.Option.{option_map, option_map_or}
-use Rattle.std.proofs.lemmas.Option.{none-some, same_Some, slice_get-map}
+use Rattle.std.proofs.lemmas.Option.{slice_get-map}
 use Rattle.std.proofs.lemmas.List.{length-map}
 use Rattle.std.proofs.lemmas.Bool.{cases_eq}
 use Rattle.run_model.specs.declared.scopes.Scope.{Scope}
@@ -14,7 +11,11 @@ use Rattle.run_model.specs.declared.tasks.Task.{Task}
 use Rattle.run_model.specs.Rows.{at_row}
 use Rattle.run_model.specs.TreeChanges.{with_hit, tick, hit_due}
 use Rattle.run_model.proofs.RowLemmas.{
-    at_row_cases, map_cases, length-at_row, slice_get-at_row_same, slice_get-at_row_other
+  at_row_cases,
+  map_cases,
+  length-at_row,
+  slice_get-at_row_same,
+  slice_get-at_row_other,
 }
 
 -- Each old row has a new one at its place that is related to it, and each new one an old one.

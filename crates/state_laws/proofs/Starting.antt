@@ -1,6 +1,6 @@
 -- The state of a store that was formatted: root alone.
-use Rattle.std.proofs.Common.{◌≡◌, ◌⊎◌, ◌<◌, ◌≤◌, ℕ, Bool, true, false, List, [], ◌∷◌, length}
-use Rattle.std.proofs.Common.{Option, Some, None, slice_get, inl, inr, refl, sym, ap, ◌∙◌, arith}
+use Rattle.std.proofs.Common.{◌≡◌, ℕ, []}
+use Rattle.std.proofs.Common.{inl, inr, refl, sym, ap, ◌∙◌, arith}
 use Rattle.std.proofs.lemmas.Bool.{both_ways}
 use Rattle.std.proofs.lemmas.Option.{none-some}
 use Rattle.run_model.specs.declared.scopes.Scope.{Scope}
@@ -8,7 +8,7 @@ use Rattle.run_model.specs.declared.groups.Group.{Group}
 use Rattle.run_model.specs.Rows.{root}
 use Rattle.run_model.specs.Scopes.{is_root, own_deadline}
 use Rattle.run_model.specs.State.{formatted, new_tree, new_work}
-use Rattle.run_model.specs.Rules.{IsConsistent, HasScope, HasGroup, HasTask, is_group_kind}
+use Rattle.run_model.specs.Rules.{IsConsistent, HasScope, HasGroup, is_group_kind}
 use Rattle.run_model.proofs.RowLemmas.{push_cases}
 use Rattle.state_laws.proofs.RightHits.{AreRight, hits_right, deadlines_right}
 

@@ -1,12 +1,9 @@
 -- Each event, from a consistent state to a consistent one.
-use Rattle.std.proofs.Common.{
-    ◌≡◌, ◌≢◌, ◌⊎◌, ◌<◌, ◌≤◌, ◌+◌, ◌==◌, ◌&&◌, ◌||◌, ℕ, zero, suc, Bool, true, false, not, List, [], ◌∷◌, ◌++◌, length,
-    map, fold, Option, Some, None, slice_get, inl, inr, refl, sym, ap, subst, ◌∙◌, arith
-}
+use Rattle.std.proofs.Common.{◌≡◌, ◌⊎◌, ◌<◌, ◌≤◌, ◌+◌, ◌==◌, ◌&&◌, ◌||◌, ℕ, zero, suc, Bool, true, false, not, List, [], ◌∷◌, ◌++◌, length, fold, Option, Some, None, slice_get, inl, inr, refl, sym, ap, subst, ◌∙◌, arith}
 use Rattle.std.specs.List.{list_all, range_with_len}
-use Rattle.std.specs.Prelude.{find, filter, IsSome, IsTrue, is_none, nat_lt, if◌then◌else◌}
+use Rattle.std.specs.Prelude.{find, filter, IsSome, is_none, nat_lt, if◌then◌else◌}
 use Rattle.std.specs.Option.{option_map, option_map_or, option_and_then}
-use Rattle.std.proofs.lemmas.Bool.{both_ways, and_parts, and_from, lt-ltb, ltb-true, eqb-true, not-true, leb-true}
+use Rattle.std.proofs.lemmas.Bool.{both_ways, and_parts, and_from, lt-ltb, ltb-true, eqb-true, not-true}
 use Rattle.std.proofs.lemmas.List.{length_push}
 use Rattle.std.proofs.lemmas.Option.{none-some, same_Some, slice_get_within, cond_some, slice_get-map, option_and_then_some}
 use Rattle.run_model.specs.declared.bounds.TheConstants.{MOST_SCOPES, MOST_GROUPS, MOST_TASKS}
@@ -20,44 +17,90 @@ use Rattle.run_model.specs.declared.tasks.Stage.TheVariants as stage
 use Rattle.run_model.specs.declared.tasks.Outcome.TheVariants as outcome
 use Rattle.run_model.specs.Event.{Event}
 use Rattle.run_model.specs.Event as event
-use Rattle.run_model.specs.Rows.{root, new_scope, new_group, new_task, at_row, or_else}
+use Rattle.run_model.specs.Rows.{new_scope, new_group, new_task, at_row}
 use Rattle.run_model.specs.State.{State, TreeState, WorkState}
 use Rattle.run_model.specs.Scopes.{is_root, is_done}
 use Rattle.run_model.specs.declared.scopes.Hit.{Hit}
 use Rattle.run_model.specs.Allowed.{
-    allowed, after, run, is_derivable, is_cancellable, takes_cause, has_kind, has_scope, is_scope_name_free,
-    is_group_name_free, has_scope_room, has_group_room, has_task_room, is_open, is_idle, admits_one_more,
-    is_first_ready
+  allowed,
+  after,
+  run,
+  is_derivable,
+  is_cancellable,
+  takes_cause,
+  has_kind,
+  has_scope,
+  is_scope_name_free,
+  is_group_name_free,
+  has_scope_room,
+  has_group_room,
+  has_task_room,
+  is_open,
+  is_idle,
+  admits_one_more,
+  is_first_ready,
 }
 use Rattle.run_model.specs.Step.{step, own_scope, after_task_end, after_group_cancel}
 use Rattle.run_model.specs.Tasks.{
-    is_fresh, is_running, is_unfinished, ended_in_error, is_ready, is_admitted, first_ready, is_running_task,
-    task_numbers, unfinished_in, running_tasks
+  is_fresh,
+  is_running,
+  is_unfinished,
+  ended_in_error,
+  is_ready,
+  is_admitted,
+  first_ready,
+  is_running_task,
+  task_numbers,
+  unfinished_in,
+  running_tasks,
 }
 use Rattle.run_model.specs.TreeChanges.{with_hit, hit_due, tick, after_derive, after_cancel, after_advance}
 use Rattle.run_model.specs.WorkChanges.{
-    with_stage, with_error, with_limit, group_of_task, interruption, after_limit, after_interrupt
+  with_stage,
+  with_error,
+  with_limit,
+  group_of_task,
+  interruption,
+  after_limit,
+  after_interrupt,
 }
-use Rattle.run_model.specs.Rules.{IsConsistent, HasGroup, HasTask, can_be_hit, is_group_kind}
+use Rattle.run_model.specs.Rules.{IsConsistent, HasTask, can_be_hit, is_group_kind}
 use Rattle.run_model.proofs.RowLemmas.{length-at_row}
 use Rattle.state_laws.proofs.Folds.{at_key_reads, changed_if}
 use Rattle.state_laws.proofs.Interrupts.{group_of_task_stays}
 use Rattle.state_laws.proofs.Shapes.{
-    AreAlike, alike_same, alike_at, alike_map, IsSameScope, scope_same, tick_same, IsSameGroup, group_same,
-    IsSameTask, task_same
+  AreAlike,
+  alike_same,
+  alike_at,
+  alike_map,
+  IsSameScope,
+  scope_same,
+  tick_same,
+  IsSameGroup,
+  group_same,
+  IsSameTask,
+  task_same,
 }
 use Rattle.state_laws.proofs.Numbering.{
-    numbered_kept, numbered_scope, numbered_group, numbered_task, name_is_free
+  numbered_kept,
+  numbered_scope,
+  numbered_group,
+  numbered_task,
+  name_is_free,
 }
 use Rattle.state_laws.proofs.Owners.{kind_row, row_kind, owners_kept, owners_scope, owners_bare, owners_made}
 use Rattle.state_laws.proofs.RightHits.{
-    AreRight, are_right, later_right, right_pushed, right_advanced, hits_right, deadlines_right,
-    or_else_some
+  AreRight,
+  are_right,
+  later_right,
+  right_pushed,
+  right_advanced,
+  hits_right,
+  deadlines_right,
+  or_else_some,
 }
 use Rattle.state_laws.proofs.Admission.{admitted_group, admitted_task, admitted_limit}
-use Rattle.state_laws.proofs.FirstErrors.{
-    AreHitsKept, hits_alike, hits_pushed, errors_tree, errors_group, errors_alike, IsSameEnd, end_same, lost_pushed
-}
+use Rattle.state_laws.proofs.FirstErrors.{hits_alike, hits_pushed, errors_tree, errors_group, errors_alike, IsSameEnd, end_same, lost_pushed}
 use Rattle.state_laws.proofs.Ends.{IsHit, hit_none, hit_cancelled, consistent_lost, consistent_stage, consistent_wait}
 
 -- ---- what the tests of an allowed event say
@@ -135,8 +178,8 @@ cancelled : (p : State) (s : ℕ) (cause : Option (List ℕ)) → has_kind is_ca
 cancelled p s cause is kept =
     let row = kind_row is_cancellable p.tree s is in
     consistent_hit p (p.count + 1) (after_cancel (p.count + 1) s cause p.tree)
-      (hit_cancelled (p.count + 1) s cause p.tree (omega arith) kept.numbered.rooted (row_kind can_be_hit p.tree s row.0 row.1 (cancelled_kind row.0.kind row.2)) (right_now p (p.count + 1) (omega arith) kept))
-      kept
+    (hit_cancelled (p.count + 1) s cause p.tree (omega arith) kept.numbered.rooted (row_kind can_be_hit p.tree s row.0 row.1 (cancelled_kind row.0.kind row.2)) (right_now p (p.count + 1) (omega arith) kept))
+    kept
 
 hit_stays : (o : Option Hit) (row : Scope) → IsSome row.hit → IsSome (option_map_or (λ hit. with_hit hit row) o row).hit
 hit_stays None row is = is
@@ -167,7 +210,7 @@ made p name parent known free group_free room group_room kept =
     let right : AreRight e u = right_pushed e name parent kind.Group p.tree (omega arith) (right_now p e (omega arith) kept) in
     record {
       numbered = numbered_group (record { count = e; tree = u; work = p.work }) e new (ltb-true (length p.work.groups) MOST_GROUPS group_room) (rw (length_push p.tree.scopes row) (omega arith)) (name_is_free (λ group. group.name) name p.work.groups group_free)
-        (numbered_scope p e p.tree.clock row (ltb-true (length p.tree.scopes) MOST_SCOPES room) (ltb-true parent (length p.tree.scopes) known) refl (name_is_free (λ scope. scope.name) name p.tree.scopes free) kept.numbered);
+          (numbered_scope p e p.tree.clock row (ltb-true (length p.tree.scopes) MOST_SCOPES room) (ltb-true parent (length p.tree.scopes) known) refl (name_is_free (λ scope. scope.name) name p.tree.scopes free) kept.numbered);
       hits = hits_right e u v right;
       deadlines = deadlines_right e u right;
       group_scopes = owners_made p e p.tree.clock row new refl refl refl refl kept.numbered.scopes kept.group_scopes;
@@ -261,20 +304,20 @@ started p n is kept =
     let fresh = fresh_stage row.0.stage parts.0 in
     let same : (x : Task) → HasTask p.work n x → row.0 ≡ x = λ x at. same_Some row.0 x (sym row.1 ∙ at) in
     consistent_stage p (p.count + 1) n stage.Running (omega arith)
-      (λ x at runs. ap (λ r. is_unfinished r.stage) (sym (same x at)) ∙ fresh.0)
-      (λ x at runs. ap (is_admitted p.work n) (sym (same x at)) ∙ parts.1)
-      (λ x at. sym fresh.1 ∙ ap (λ r. ended_in_error r.stage) (same x at))
-      kept
+    (λ x at runs. ap (λ r. is_unfinished r.stage) (sym (same x at)) ∙ fresh.0)
+    (λ x at runs. ap (is_admitted p.work n) (sym (same x at)) ∙ parts.1)
+    (λ x at. sym fresh.1 ∙ ap (λ r. ended_in_error r.stage) (same x at))
+    kept
 
 succeeded : (p : State) (n : ℕ) → is_running_task p.work n ≡ true → IsConsistent p
     → IsConsistent (step p (event.Finish n outcome.Success))
 succeeded p n is kept =
     let row = passing (λ task. is_running task.stage) (slice_get p.work.tasks n) is in
     consistent_stage p (p.count + 1) n stage.Success (omega arith)
-      (λ x at unfinished. absurd (both_ways false refl unfinished))
-      (λ x at runs. absurd (both_ways false refl runs))
-      (λ x at. sym (running_stage row.0.stage row.2) ∙ ap (λ r. ended_in_error r.stage) (same_Some row.0 x (sym row.1 ∙ at)))
-      kept
+    (λ x at unfinished. absurd (both_ways false refl unfinished))
+    (λ x at runs. absurd (both_ways false refl runs))
+    (λ x at. sym (running_stage row.0.stage row.2) ∙ ap (λ r. ended_in_error r.stage) (same_Some row.0 x (sym row.1 ∙ at)))
+    kept
 
 failed : (p : State) (n : ℕ) (text : List ℕ) → is_running_task p.work n ≡ true → IsConsistent p
     → IsConsistent (step p (event.Finish n (outcome.Failure text)))
@@ -286,7 +329,7 @@ failed p n text is kept =
 
 own_if : (b : Bool) (o : Option Group) (text : List ℕ)
     → option_and_then (λ group. if group.bare then None else Some group.scope) (option_map (changed_if (with_error text) b) o)
-        ≡ option_and_then (λ group. if group.bare then None else Some group.scope) o
+    ≡ option_and_then (λ group. if group.bare then None else Some group.scope) o
 own_if b None text = refl
 own_if true (Some row) text = refl
 own_if false (Some row) text = refl
@@ -328,12 +371,12 @@ interrupted e w (n ∷ ns) p count counted same known kept =
     let row = row_below p.work.tasks n (omega (arith, less, same.tasks)) in
     let u = after_task_end e w n (Some interruption) p.tree in
     let same_end : after_task_end e p.work n (Some interruption) p.tree ≡ u =
-      ap (λ g. after_group_cancel e p.work g (Some interruption) p.tree) (same.group_of n)
-      ∙ ap (λ o. option_map_or (λ s. after_cancel e s (Some interruption) p.tree) o p.tree) (same.own (group_of_task w n)) in
+    ap (λ g. after_group_cancel e p.work g (Some interruption) p.tree) (same.group_of n)
+    ∙ ap (λ o. option_map_or (λ s. after_cancel e s (Some interruption) p.tree) o p.tree) (same.own (group_of_task w n)) in
     let P : TreeState → Type 0 = λ t. IsConsistent (record { count = e; tree = t; work = after_interrupt p.work n }) in
     interrupted e w ns (record { count = e; tree = u; work = after_interrupt p.work n }) refl counted
-      (same_interrupted w p.work n same) parts.1
-      (subst P same_end (consistent_lost p e n interruption stage.Interrupted row.0 (omega (arith, count)) counted row.1 refl refl refl kept))
+    (same_interrupted w p.work n same) parts.1
+    (subst P same_end (consistent_lost p e n interruption stage.Interrupted row.0 (omega (arith, count)) counted row.1 refl refl refl kept))
 
 all_if : (test : ℕ → Bool) (b : Bool) (n : ℕ) (ns : List ℕ) → test n ≡ true → list_all test ns ≡ true → list_all test (if b then n ∷ ns else ns) ≡ true
 all_if test true n ns is all = and_from (test n) (list_all test ns) is all
@@ -348,9 +391,9 @@ reopened : (p : State) → IsConsistent p → IsConsistent (step p event.Restart
 reopened p kept =
     let e : ℕ = p.count + 1 in
     interrupted e p.work (running_tasks p.work) (record { count = e; tree = p.tree; work = p.work }) refl (omega arith)
-      (record { tasks = refl; group_of = λ n. refl; own = λ g. refl })
-      (all_below (is_running_task p.work) (length p.work.tasks) 0 (length p.work.tasks) (omega arith))
-      (consistent_hit p e p.tree (hit_none e p.tree kept.numbered.rooted (right_now p e (omega arith) kept)) kept)
+    (record { tasks = refl; group_of = λ n. refl; own = λ g. refl })
+    (all_below (is_running_task p.work) (length p.work.tasks) 0 (length p.work.tasks) (omega arith))
+    (consistent_hit p e p.tree (hit_none e p.tree kept.numbered.rooted (right_now p e (omega arith) kept)) kept)
 
 pub kept_by : (p : State) (event : Event) → IsConsistent p → allowed p event ≡ true → IsConsistent (step p event)
 kept_by p (event.Derive name parent k) kept is =
@@ -394,4 +437,4 @@ pub run_keeps : (events : List Event) (p q : State) → IsConsistent p → run p
 run_keeps [] p q kept led = subst IsConsistent (same_Some p q led) kept
 run_keeps (event ∷ events) p q kept led =
     option_and_then_some (λ next. run next events) (after p event) q led
-      (λ next first rest. run_keeps events next q (event_keeps p next event kept first) rest)
+    (λ next first rest. run_keeps events next q (event_keeps p next event kept first) rest)

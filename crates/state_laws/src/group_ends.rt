@@ -15,5 +15,4 @@ pub fn a_group_ends_once()
     ensures error { (p : State) (n : ℕ) (text : List ℕ) (row : Group) → IsConsistent p → HasGroup p.work (group_of_task p.work n) row → HasEnded row → (step p (event.Finish n (outcome.Failure text))).tree ≡ p.tree }
     ensures wait { (p : State) (g : ℕ) (row : Group) → IsConsistent p → HasGroup p.work g row → HasEnded row → (step p (event.Wait g)).tree ≡ p.tree }
     ensures cancel { (p : State) (g e : ℕ) (row : Group) (cause : Option (List ℕ)) → IsConsistent p → HasGroup p.work g row → HasEnded row → after_group_cancel e p.work g cause p.tree ≡ p.tree }
-{
-}
+{}

@@ -9,5 +9,4 @@ ghost use Rattle.state_laws.specs.Restarts.{IsRestart};
 /// and the first errors and hits that these make.
 pub fn a_restart_interrupts_what_was_running()
     ensures { (p : State) → IsRestart p (step p event.Restart) }
-{
-}
+{}

@@ -8,17 +8,14 @@ ghost use Rattle.state_laws.specs.Kept.{IsKeptByEvents, IsKeptByRuns};
 pub fn events_keep_the_rules()
     ensures events { IsKeptByEvents IsConsistent }
     ensures runs { IsKeptByRuns IsConsistent }
-{
-}
+{}
 
 /// The six rules hold of a store that was formatted.
 pub fn the_rules_hold_at_first()
     ensures { IsConsistent formatted }
-{
-}
+{}
 
 /// A state that keeps the six rules is well formed.
 pub fn the_rules_make_well_formed()
     ensures { (p : State) → IsConsistent p → IsWellFormed p }
-{
-}
+{}
