@@ -27,13 +27,18 @@ had_one None x is = absurd (both_ways false refl is)
 had_one (Some y) x is = refl
 
 -- A scope that was hit stays as it is.
-hit_before : (e s : ℕ) (cause : Option (List ℕ)) (t : TreeState) → IsSome (own_hit t.scopes s) → after_cancel e s cause t ≡ t
+hit_before : (e s : ℕ) (cause : Option (List ℕ)) (t : TreeState) → IsSome (own_hit t.scopes s)
+    → after_cancel e s cause t ≡ t
 hit_before e s cause t is =
-    ap (λ rows. record t { scopes = rows }) (at_row_same (with_hit (cancellation e t.clock cause)) s t.scopes
-    (λ row found. ap (λ o. record row { hit = o }) (had_one row.hit (cancellation e t.clock cause) (rw (own_hit_of t.scopes s row found) at is))))
+    ap (λ rows. record t { scopes = rows })
+      (at_row_same (with_hit (cancellation e t.clock cause)) s t.scopes
+         (λ row found.
+           ap (λ o. record row { hit = o })
+             (had_one row.hit (cancellation e t.clock cause)
+                (rw (own_hit_of t.scopes s row found) at is))))
 
-ended_by : (p : State) (g e : ℕ) (row : Group) (cause : Option (List ℕ)) (o : Option ℕ) → own_scope p.work g ≡ o
-    → IsConsistent p → HasGroup p.work g row → HasEnded row
+ended_by : (p : State) (g e : ℕ) (row : Group) (cause : Option (List ℕ)) (o : Option ℕ)
+    → own_scope p.work g ≡ o → IsConsistent p → HasGroup p.work g row → HasEnded row
     → option_map_or (λ s. after_cancel e s cause p.tree) o p.tree ≡ p.tree
 ended_by p g e row cause None own kept found ended = refl
 ended_by p g e row cause (Some s) own kept found ended =
@@ -41,6 +46,7 @@ ended_by p g e row cause (Some s) own kept found ended =
     let same : row ≡ owner.0 = same_Some row owner.0 (sym found ∙ owner.1.found) in
     hit_before e s cause p.tree (kept.errors.ended g s owner.0 owner.1 (subst HasEnded same ended))
 
-pub ended_once : (p : State) (g e : ℕ) (row : Group) (cause : Option (List ℕ)) → IsConsistent p → HasGroup p.work g row
-    → HasEnded row → after_group_cancel e p.work g cause p.tree ≡ p.tree
-ended_once p g e row cause kept found ended = ended_by p g e row cause (own_scope p.work g) refl kept found ended
+pub ended_once : (p : State) (g e : ℕ) (row : Group) (cause : Option (List ℕ)) → IsConsistent p
+    → HasGroup p.work g row → HasEnded row → after_group_cancel e p.work g cause p.tree ≡ p.tree
+ended_once p g e row cause kept found ended =
+    ended_by p g e row cause (own_scope p.work g) refl kept found ended

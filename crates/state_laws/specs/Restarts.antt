@@ -70,7 +70,7 @@ pub record IsRestart (p q : State) : Type 0 where
   pub clock : q.tree.clock ≡ p.tree.clock
   pub none_running : (n : ℕ) → is_running_task q.work n ≡ false
   pub tasks : q.work.tasks ≡ map task_restarted p.work.tasks
-  pub groups : (g : ℕ) → slice_get q.work.groups g
-      ≡ option_map (group_restarted p g) (slice_get p.work.groups g)
-  pub scopes : (s : ℕ) → slice_get q.tree.scopes s
-      ≡ option_map (scope_restarted p s) (slice_get p.tree.scopes s)
+  pub groups : (g : ℕ)
+      → slice_get q.work.groups g ≡ option_map (group_restarted p g) (slice_get p.work.groups g)
+  pub scopes : (s : ℕ)
+      → slice_get q.tree.scopes s ≡ option_map (scope_restarted p s) (slice_get p.tree.scopes s)
