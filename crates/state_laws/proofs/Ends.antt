@@ -1,5 +1,6 @@
 -- A scope is hit by a cancel, or because a group of it ended.
-use Rattle.std.proofs.Common.{◌≡◌, ◌≢◌, ◌≤◌, ◌==◌, ◌&&◌, ℕ, Bool, true, false, List, length, Option}
+use Rattle.std.proofs.Common.{◌≡◌, ◌≢◌, ◌≤◌, ◌==◌, ◌&&◌, ℕ, Bool, true, false, List, length}
+use Rattle.std.proofs.Common.{Option}
 use Rattle.std.proofs.Common.{Some, None, slice_get, refl, sym, ap, subst, ◌∙◌}
 use Rattle.std.specs.Prelude.{IsSome, if◌then◌else◌}
 use Rattle.std.specs.Option.{option_map, option_map_or, option_and_then}
@@ -19,9 +20,11 @@ use Rattle.run_model.specs.Step.{own_scope, after_group_cancel, after_task_end}
 use Rattle.run_model.specs.Tasks.{is_running, is_unfinished, ended_in_error, unfinished_in}
 use Rattle.run_model.specs.Tasks.{is_admitted}
 use Rattle.run_model.specs.TreeChanges.{with_hit, cancellation, after_cancel}
-use Rattle.run_model.specs.WorkChanges.{with_stage, with_error, with_wait, group_of_task, after_end}
+use Rattle.run_model.specs.WorkChanges.{with_stage, with_error, with_wait, group_of_task}
+use Rattle.run_model.specs.WorkChanges.{after_end}
 use Rattle.run_model.specs.WorkChanges.{after_wait}
-use Rattle.run_model.specs.Rules.{IsConsistent, HasScope, HasTask, Owns, AreGroupScopes, can_be_hit}
+use Rattle.run_model.specs.Rules.{IsConsistent, HasScope, HasTask, Owns, AreGroupScopes}
+use Rattle.run_model.specs.Rules.{can_be_hit}
 use Rattle.run_model.specs.Rules.{is_group_kind}
 use Rattle.run_model.proofs.RowLemmas.{slice_get-at_row_same, slice_get-at_row_other}
 use Rattle.state_laws.proofs.Shapes.{AreAlike, alike_same, alike_at, IsSameScope, scope_same}
@@ -29,10 +32,12 @@ use Rattle.state_laws.proofs.Shapes.{IsSameGroup, group_same, IsSameTask, task_s
 use Rattle.state_laws.proofs.Numbering.{numbered_kept}
 use Rattle.state_laws.proofs.Owners.{kind_row, row_kind, owners_kept}
 use Rattle.state_laws.proofs.RightHits.{AreRight, are_right, later_right, right_cancelled}
-use Rattle.state_laws.proofs.RightHits.{right_cancellation, hits_right, deadlines_right, own_hit_of}
+use Rattle.state_laws.proofs.RightHits.{right_cancellation, hits_right, deadlines_right}
+use Rattle.state_laws.proofs.RightHits.{own_hit_of}
 use Rattle.state_laws.proofs.RightHits.{or_else_some}
 use Rattle.state_laws.proofs.Admission.{IsSameTerms, terms_same, admitted_stage, admitted_wait}
-use Rattle.state_laws.proofs.FirstErrors.{AreHitsKept, hits_cancelled, errors_changed, errors_alike}
+use Rattle.state_laws.proofs.FirstErrors.{AreHitsKept, hits_cancelled, errors_changed}
+use Rattle.state_laws.proofs.FirstErrors.{errors_alike}
 use Rattle.state_laws.proofs.FirstErrors.{IsSameEnd, end_same, lost_at, any_at, any_found}
 
 -- The second tree is the first one with hits that came with event e.
@@ -55,7 +60,7 @@ not_root : (t : TreeState) (s : ℕ) (row : Scope) → slice_get t.scopes 0 ≡ 
     → HasScope t s row → can_be_hit row.kind ≡ true → 0 ≢ s
 not_root t s row rooted found is same =
     let here : root ≡ row =
-      same_Some root row (sym rooted ∙ ap (slice_get t.scopes) same ∙ found) in
+    same_Some root row (sym rooted ∙ ap (slice_get t.scopes) same ∙ found) in
     both_ways (can_be_hit row.kind) (ap (λ r. can_be_hit r.kind) (sym here)) is
 
 -- A cancelled scope of a kind that can be hit.
@@ -66,34 +71,35 @@ hit_cancelled e s cause t counted rooted is right =
     let row = kind_row can_be_hit t s is in
     record {
       same =
-        alike_at IsSameScope (with_hit (cancellation e t.clock cause)) s t.scopes scope_same
+          alike_at IsSameScope (with_hit (cancellation e t.clock cause)) s t.scopes scope_same
           (λ x found. record { name = refl; parent = refl; kind = refl });
       rooted =
-        slice_get-at_row_other (with_hit (cancellation e t.clock cause)) s 0 t.scopes
-            (not_root t s row.0 rooted row.1 row.2)
-        ∙ rooted;
+          slice_get-at_row_other (with_hit (cancellation e t.clock cause)) s 0 t.scopes
+          (not_root t s row.0 rooted row.1 row.2)
+          ∙ rooted;
       right =
-        right_cancelled e s (cancellation e t.clock cause) t
+          right_cancelled e s (cancellation e t.clock cause) t
           (λ x found.
-            right_cancellation e t.clock cause x.kind counted
-              (ap (λ r. can_be_hit r.kind) (same_Some x row.0 (sym found ∙ row.1)) ∙ row.2)) right;
+          right_cancellation e t.clock cause x.kind counted
+          (ap (λ r. can_be_hit r.kind) (same_Some x row.0 (sym found ∙ row.1)) ∙ row.2)) right;
       kept = hits_cancelled e s cause t;
     }
 
-cancelled_hit : (e s : ℕ) (cause : Option (List ℕ)) (t : TreeState) (row : Scope) → HasScope t s row
-    → IsSome (own_hit (after_cancel e s cause t).scopes s)
+cancelled_hit : (e s : ℕ) (cause : Option (List ℕ)) (t : TreeState) (row : Scope)
+    → HasScope t s row → IsSome (own_hit (after_cancel e s cause t).scopes s)
 cancelled_hit e s cause t row found =
     let hit = cancellation e t.clock cause in
     rw
-      (own_hit_of (at_row (with_hit hit) s t.scopes) s (with_hit hit row)
-         (slice_get-at_row_same (with_hit hit) s t.scopes ∙ ap (option_map (with_hit hit)) found))
-      (or_else_some row.hit hit)
+    (own_hit_of (at_row (with_hit hit) s t.scopes) s (with_hit hit row)
+    (slice_get-at_row_same (with_hit hit) s t.scopes ∙ ap (option_map (with_hit hit)) found))
+    (or_else_some row.hit hit)
 
 -- ---- a group ends
 
 own_scope_of : (w : WorkState) (g s : ℕ) (row : Group) → Owns w g row s → own_scope w g ≡ Some s
 own_scope_of w g s row owns =
-    ap (λ o. option_and_then (λ group. if group.bare then None else Some group.scope) o) owns.found
+    ap (λ o. option_and_then (λ group. if group.bare then None else Some group.scope) o)
+    owns.found
     ∙ ap (λ b. if b then None else Some row.scope) owns.not_bare
     ∙ ap Some owns.scope
 
@@ -139,7 +145,7 @@ pub hit_ended : (e : ℕ) (p : State) (g : ℕ) (cause : Option (List ℕ)) → 
     → IsConsistent p → IsHit e p.tree (after_group_cancel e p.work g cause p.tree)
 hit_ended e p g cause more counted kept =
     end_by e p g cause (own_scope p.work g) refl counted kept.numbered.rooted kept.group_scopes
-      (later_right p.count e p.tree more (are_right p kept.hits kept.deadlines))
+    (later_right p.count e p.tree more (are_right p kept.hits kept.deadlines))
 
 -- The group's own scope is hit then.
 pub own_hit_ended : (e : ℕ) (p : State) (g s : ℕ) (row : Group) (cause : Option (List ℕ))
@@ -148,10 +154,10 @@ pub own_hit_ended : (e : ℕ) (p : State) (g s : ℕ) (row : Group) (cause : Opt
 own_hit_ended e p g s row cause kept owns =
     let found = kind_row is_group_kind p.tree s (kept.group_scopes.own g s row owns) in
     let P : Option ℕ → Type 0 =
-      λ o.
-        IsSome (own_hit (option_map_or (λ s. after_cancel e s cause p.tree) o p.tree).scopes s) in
+    λ o.
+    IsSome (own_hit (option_map_or (λ s. after_cancel e s cause p.tree) o p.tree).scopes s) in
     subst P (sym (own_scope_of p.work g s row owns))
-      (cancelled_hit e s cause p.tree found.0 found.1)
+    (cancelled_hit e s cause p.tree found.0 found.1)
 
 -- ---- the work of a group that ends
 
@@ -165,11 +171,11 @@ pub consistent_lost : (p : State) (e n : ℕ) (text : List ℕ) (stage : Stage) 
     → p.count ≤ e → 1 ≤ e → HasTask p.work n row → ended_in_error stage ≡ true
     → is_unfinished stage ≡ false → is_running stage ≡ false → IsConsistent p
     → IsConsistent
-        (record {
-           count = e;
-           tree = after_task_end e p.work n (Some text) p.tree;
-           work = after_end n stage (Some text) p.work;
-         })
+    (record {
+      count = e;
+      tree = after_task_end e p.work n (Some text) p.tree;
+      work = after_end n stage (Some text) p.work;
+    })
 consistent_lost p e n text stage row more counted found lost finished stopped kept =
     let g = group_of_task p.work n in
     let of_group : g ≡ row.group = group_of_found p.work n row found in
@@ -177,120 +183,125 @@ consistent_lost p e n text stage row more counted found lost finished stopped ke
     let v = after_end n stage (Some text) p.work in
     let hit = hit_ended e p g (Some text) more counted kept in
     let groups : AreAlike IsSameGroup p.work.groups v.groups =
-      alike_at IsSameGroup (with_error text) g p.work.groups group_same
-        (λ x at. record { name = refl; scope = refl; bare = refl }) in
+    alike_at IsSameGroup (with_error text) g p.work.groups group_same
+    (λ x at. record { name = refl; scope = refl; bare = refl }) in
     record {
       numbered =
-        numbered_kept p (record { count = e; tree = u; work = v }) hit.same groups
+          numbered_kept p (record { count = e; tree = u; work = v }) hit.same groups
           (alike_at IsSameTask (with_stage stage) n p.work.tasks task_same
-             (λ x at. record { group = refl })) hit.rooted kept.numbered;
+          (λ x at. record { group = refl })) hit.rooted kept.numbered;
       hits = hits_right e u v hit.right;
       deadlines = deadlines_right e u hit.right;
       group_scopes =
-        owners_kept p (record { count = e; tree = u; work = v }) hit.same groups kept.group_scopes;
+          owners_kept p (record { count = e; tree = u; work = v }) hit.same groups
+          kept.group_scopes;
       admitted =
-        admitted_stage p.work v.groups n stage
+          admitted_stage p.work v.groups n stage
           (alike_at IsSameTerms (with_error text) g p.work.groups terms_same
-             (λ x at. record { limit = refl; waited = refl }))
+          (λ x at. record { limit = refl; waited = refl }))
           (λ x at is. absurd (both_ways (is_unfinished stage) finished is))
           (λ x at is. absurd (both_ways (is_running stage) stopped is)) kept.admitted;
       errors =
-        errors_changed p e g u v.tasks (with_error text) hit.kept
+          errors_changed p e g u v.tasks (with_error text) hit.kept
           (λ s group owns. own_hit_ended e p g s group (Some text) kept owns)
           (λ x. record { name = refl; scope = refl; bare = refl })
           (λ h other.
-            any_at (λ task. task.group == h && ended_in_error task.stage) (with_stage stage) n
-              p.work.tasks
-              (λ x at.
-                let not : (x.group == h) ≡ false =
-                  ne_eqb x.group h
-                    (λ same.
-                      other
-                        (sym same
-                         ∙ ap (λ r. r.group) (same_Some x row (sym at ∙ found))
-                         ∙ sym of_group)) in
-                and_left (x.group == h) (ended_in_error stage) not
-                ∙ sym (and_left (x.group == h) (ended_in_error x.stage) not)))
+          any_at (λ task. task.group == h && ended_in_error task.stage) (with_stage stage) n
+          p.work.tasks
           (λ x at.
-            (λ is.
-               any_found (λ task. task.group == g && ended_in_error task.stage) v.tasks n
-                 (with_stage stage row)
-                 (slice_get-at_row_same (with_stage stage) n p.work.tasks
-                  ∙ ap (option_map (with_stage stage)) found)
-                 (and_from (row.group == g) (ended_in_error stage)
-                    (eq-eqb row.group g (sym of_group)) lost), λ is. or_else_some x.error text))
-          kept.errors;
+          let not : (x.group == h) ≡ false =
+          ne_eqb x.group h
+          (λ same.
+          other
+          (sym same
+          ∙ ap (λ r. r.group) (same_Some x row (sym at ∙ found))
+          ∙ sym of_group)) in
+          and_left (x.group == h) (ended_in_error stage) not
+          ∙ sym (and_left (x.group == h) (ended_in_error x.stage) not)))
+          (λ x at. (
+            λ is.
+                any_found (λ task. task.group == g && ended_in_error task.stage) v.tasks n
+                (with_stage stage row)
+                (slice_get-at_row_same (with_stage stage) n p.work.tasks
+                ∙ ap (option_map (with_stage stage)) found)
+                (and_from (row.group == g) (ended_in_error stage)
+                (eq-eqb row.group g (sym of_group)) lost),
+            λ is. or_else_some x.error text,
+          )) kept.errors;
     }
 
 -- A task's stage changed, and neither ended its group.
 pub consistent_stage : (p : State) (e n : ℕ) (stage : Stage) → p.count ≤ e
-    → ((x : Task) → HasTask p.work n x → is_unfinished stage ≡ true → is_unfinished x.stage ≡ true)
-    → ((x : Task) → HasTask p.work n x → is_running stage ≡ true → is_admitted p.work n x ≡ true)
+    → ((x : Task) → HasTask p.work n x → is_unfinished stage ≡ true
+    → is_unfinished x.stage ≡ true)
+    → ((x : Task) → HasTask p.work n x → is_running stage ≡ true
+    → is_admitted p.work n x ≡ true)
     → ((x : Task) → HasTask p.work n x → ended_in_error stage ≡ ended_in_error x.stage)
     → IsConsistent p
     → IsConsistent
-        (record {
-           count = e;
-           tree = p.tree;
-           work = record {
-             groups = p.work.groups;
-             tasks = at_row (with_stage stage) n p.work.tasks;
-           };
-         })
+    (record {
+      count = e;
+      tree = p.tree;
+      work = record {
+        groups = p.work.groups;
+        tasks = at_row (with_stage stage) n p.work.tasks;
+      };
+    })
 consistent_stage p e n stage more less ready lost kept =
     let v : WorkState =
-      record { groups = p.work.groups; tasks = at_row (with_stage stage) n p.work.tasks } in
+    record { groups = p.work.groups; tasks = at_row (with_stage stage) n p.work.tasks } in
     let scopes : AreAlike IsSameScope p.tree.scopes p.tree.scopes =
-      alike_same IsSameScope p.tree.scopes scope_same in
+    alike_same IsSameScope p.tree.scopes scope_same in
     let groups : AreAlike IsSameGroup p.work.groups p.work.groups =
-      alike_same IsSameGroup p.work.groups group_same in
+    alike_same IsSameGroup p.work.groups group_same in
     record {
       numbered =
-        numbered_kept p (record { count = e; tree = p.tree; work = v }) scopes groups
+          numbered_kept p (record { count = e; tree = p.tree; work = v }) scopes groups
           (alike_at IsSameTask (with_stage stage) n p.work.tasks task_same
-             (λ x at. record { group = refl })) kept.numbered.rooted kept.numbered;
+          (λ x at. record { group = refl })) kept.numbered.rooted kept.numbered;
       hits =
-        hits_right e p.tree v
+          hits_right e p.tree v
           (later_right p.count e p.tree more (are_right p kept.hits kept.deadlines));
       deadlines = kept.deadlines;
       group_scopes =
-        owners_kept p (record { count = e; tree = p.tree; work = v }) scopes groups
+          owners_kept p (record { count = e; tree = p.tree; work = v }) scopes groups
           kept.group_scopes;
       admitted =
-        admitted_stage p.work p.work.groups n stage
+          admitted_stage p.work p.work.groups n stage
           (alike_same IsSameTerms p.work.groups terms_same) less ready kept.admitted;
       errors =
-        errors_alike p e v (alike_same IsSameEnd p.work.groups end_same)
+          errors_alike p e v (alike_same IsSameEnd p.work.groups end_same)
           (λ g. lost_at p.work p.work.groups n g stage lost) kept.errors;
     }
 
 -- A group was waited for.
-pub consistent_wait : (p : State) (e g : ℕ) → p.count ≤ e → 1 ≤ e → unfinished_in g p.work.tasks ≡ 0
-    → IsConsistent p
+pub consistent_wait : (p : State) (e g : ℕ) → p.count ≤ e → 1 ≤ e
+    → unfinished_in g p.work.tasks ≡ 0 → IsConsistent p
     → IsConsistent
-        (record {
-           count = e;
-           tree = after_group_cancel e p.work g None p.tree;
-           work = after_wait g p.work;
-         })
+    (record {
+      count = e;
+      tree = after_group_cancel e p.work g None p.tree;
+      work = after_wait g p.work;
+    })
 consistent_wait p e g more counted idle kept =
     let u = after_group_cancel e p.work g None p.tree in
     let v = after_wait g p.work in
     let hit = hit_ended e p g None more counted kept in
     let groups : AreAlike IsSameGroup p.work.groups v.groups =
-      alike_at IsSameGroup with_wait g p.work.groups group_same
-        (λ x at. record { name = refl; scope = refl; bare = refl }) in
+    alike_at IsSameGroup with_wait g p.work.groups group_same
+    (λ x at. record { name = refl; scope = refl; bare = refl }) in
     record {
       numbered =
-        numbered_kept p (record { count = e; tree = u; work = v }) hit.same groups
+          numbered_kept p (record { count = e; tree = u; work = v }) hit.same groups
           (alike_same IsSameTask p.work.tasks task_same) hit.rooted kept.numbered;
       hits = hits_right e u v hit.right;
       deadlines = deadlines_right e u hit.right;
       group_scopes =
-        owners_kept p (record { count = e; tree = u; work = v }) hit.same groups kept.group_scopes;
+          owners_kept p (record { count = e; tree = u; work = v }) hit.same groups
+          kept.group_scopes;
       admitted = admitted_wait p.work g idle kept.admitted;
       errors =
-        errors_changed p e g u p.work.tasks with_wait hit.kept
+          errors_changed p e g u p.work.tasks with_wait hit.kept
           (λ s group owns. own_hit_ended e p g s group None kept owns)
           (λ x. record { name = refl; scope = refl; bare = refl }) (λ h other. refl)
           (λ x at. kept.errors.exact g x at) kept.errors;

@@ -1,6 +1,7 @@
 -- What a restart makes of the rows.
 use Rattle.std.proofs.Common.{◌≡◌, ◌+◌, ◌==◌, ◌&&◌, ℕ, Bool, true, false, List, [], ◌∷◌, length}
-use Rattle.std.proofs.Common.{map, fold, Option, Some, None, slice_get, refl, sym, ap, ◌∙◌, arith}
+use Rattle.std.proofs.Common.{map, fold, Option, Some, None, slice_get, refl, sym, ap, ◌∙◌}
+use Rattle.std.proofs.Common.{arith}
 use Rattle.std.specs.List.{list_any}
 use Rattle.std.specs.Prelude.{not, if◌then◌else◌}
 use Rattle.std.specs.Option.{option_map, option_map_or, option_and_then}
@@ -23,7 +24,8 @@ use Rattle.run_model.proofs.RowLemmas.{length-at_row}
 use Rattle.state_laws.specs.Restarts.{IsRestart, has_running, lives_in, hosts_running}
 use Rattle.state_laws.specs.Restarts.{stage_restarted, error_restarted, hit_restarted}
 use Rattle.state_laws.specs.Restarts.{task_restarted, group_restarted, scope_restarted}
-use Rattle.state_laws.proofs.Folds.{same_rows, at_key, at_key_reads, is_key, changed_if, fold_reads}
+use Rattle.state_laws.proofs.Folds.{same_rows, at_key, at_key_reads, is_key, changed_if}
+use Rattle.state_laws.proofs.Folds.{fold_reads}
 use Rattle.state_laws.proofs.Folds.{any_picked, number_picked}
 
 -- ---- the folds of a restart, each over one list of rows
@@ -38,34 +40,34 @@ group_stays stage false (Some task) none = refl
 pub group_of_task_stays : (stage : Stage) (n m : ℕ) (groups : List Group) (w : WorkState)
     → length groups ≡ length w.groups
     → group_of_task (record { groups = groups; tasks = at_row (with_stage stage) n w.tasks }) m
-        ≡ group_of_task w m
+    ≡ group_of_task w m
 group_of_task_stays stage n m groups w same =
     ap (λ o. option_map_or (λ task. task.group) o (length groups))
-        (at_key_reads (with_stage stage) (Some n) w.tasks m)
+    (at_key_reads (with_stage stage) (Some n) w.tasks m)
     ∙ group_stays stage (n == m) (slice_get w.tasks m) (length groups)
     ∙ ap (λ none. option_map_or (λ task. task.group) (slice_get w.tasks m) none) same
 
 tasks_fold : (ns : List ℕ) (w : WorkState)
     → (fold after_interrupt w ns).tasks
-        ≡ fold (λ rows n. at_key (with_stage stage.Interrupted) (Some n) rows) w.tasks ns
+    ≡ fold (λ rows n. at_key (with_stage stage.Interrupted) (Some n) rows) w.tasks ns
 tasks_fold [] w = refl
 tasks_fold (n ∷ ns) w = tasks_fold ns (after_interrupt w n)
 
 groups_fold : (group_of : ℕ → ℕ) (ns : List ℕ) (w : WorkState)
     → ((n : ℕ) → group_of_task w n ≡ group_of n)
     → (fold after_interrupt w ns).groups
-        ≡ fold (λ rows n. at_key (with_error interruption) (Some (group_of n)) rows) w.groups ns
+    ≡ fold (λ rows n. at_key (with_error interruption) (Some (group_of n)) rows) w.groups ns
 groups_fold group_of [] w same = refl
 groups_fold group_of (n ∷ ns) w same =
     groups_fold group_of ns (after_interrupt w n)
-        (λ m.
-          group_of_task_stays stage.Interrupted n m (after_interrupt w n).groups w
-              (length-at_row (with_error interruption) (group_of_task w n) w.groups)
-          ∙ same m)
+    (λ m.
+    group_of_task_stays stage.Interrupted n m (after_interrupt w n).groups w
+    (length-at_row (with_error interruption) (group_of_task w n) w.groups)
+    ∙ same m)
     ∙ ap
-        (λ g.
-          fold (λ rows k. at_key (with_error interruption) (Some (group_of k)) rows)
-            (at_row (with_error interruption) g w.groups) ns) (same n)
+    (λ g.
+    fold (λ rows k. at_key (with_error interruption) (Some (group_of k)) rows)
+    (at_row (with_error interruption) g w.groups) ns) (same n)
 
 -- A cancellation of this scope, where there is one.
 abbrev pub cancelled : ℕ → List ℕ → Option ℕ → TreeState → TreeState
@@ -80,17 +82,17 @@ group_end_is e text (Some s) t = refl
 
 scopes_fold : (e : ℕ) (w : WorkState) (ns : List ℕ) (t : TreeState)
     → fold (λ t n. after_task_end e w n (Some interruption) t) t ns
-        ≡ record t {
-            scopes =
-              fold
-                (λ rows n.
-                  at_key (with_hit (cancellation e t.clock (Some interruption)))
-                    (own_scope w (group_of_task w n)) rows) t.scopes ns;
-          }
+    ≡ record t {
+      scopes =
+          fold
+          (λ rows n.
+          at_key (with_hit (cancellation e t.clock (Some interruption)))
+          (own_scope w (group_of_task w n)) rows) t.scopes ns;
+    }
 scopes_fold e w [] t = refl
 scopes_fold e w (n ∷ ns) t =
     ap (λ u. fold (λ t n. after_task_end e w n (Some interruption) t) u ns)
-        (group_end_is e interruption (own_scope w (group_of_task w n)) t)
+    (group_end_is e interruption (own_scope w (group_of_task w n)) t)
     ∙ scopes_fold e w ns (cancelled e interruption (own_scope w (group_of_task w n)) t)
 
 -- ---- a change that comes twice
@@ -101,7 +103,7 @@ or_else_twice (Some y) x = refl
 
 stage_twice : (row : Task)
     → with_stage stage.Interrupted (with_stage stage.Interrupted row)
-        ≡ with_stage stage.Interrupted row
+    ≡ with_stage stage.Interrupted row
 stage_twice row = refl
 
 error_twice : (text : List ℕ) (row : Group)
@@ -115,28 +117,30 @@ hit_twice hit row = ap (λ hit. record row { hit = hit }) (or_else_twice row.hit
 
 running_found : (w : WorkState) (n : ℕ) (row : Task) → slice_get w.tasks n ≡ Some row
     → is_running_task w n ≡ is_running row.stage
-running_found w n row found = ap (λ o. option_map_or (λ task. is_running task.stage) o false) found
+running_found w n row found =
+    ap (λ o. option_map_or (λ task. is_running task.stage) o false) found
 
 group_found : (w : WorkState) (n : ℕ) (row : Task) → slice_get w.tasks n ≡ Some row
     → group_of_task w n ≡ row.group
-group_found w n row found = ap (λ o. option_map_or (λ task. task.group) o (length w.groups)) found
+group_found w n row found =
+    ap (λ o. option_map_or (λ task. task.group) o (length w.groups)) found
 
-option_map_same : {X Y : Type 0} (f g : X → Y) (o : Option X) → ((x : X) → o ≡ Some x → f x ≡ g x)
-    → option_map f o ≡ option_map g o
+option_map_same : {X Y : Type 0} (f g : X → Y) (o : Option X)
+    → ((x : X) → o ≡ Some x → f x ≡ g x) → option_map f o ≡ option_map g o
 option_map_same f g None same = refl
 option_map_same f g (Some x) same = ap Some (same x refl)
 
 -- Of a group that passes, a task that runs is one of those that a restart goes through.
 any_of_group : (test pass : ℕ → Bool) (w : WorkState) → ((g : ℕ) → test g ≡ pass g)
     → list_any (λ n. test (group_of_task w n)) (running_tasks w)
-        ≡ list_any (λ task. pass task.group && is_running task.stage) w.tasks
+    ≡ list_any (λ task. pass task.group && is_running task.stage) w.tasks
 any_of_group test pass w same =
     any_picked (is_running_task w) (λ n. test (group_of_task w n))
-      (λ task. pass task.group && is_running task.stage) w.tasks 0
-      (λ n m row found e.
-        let at : m ≡ n = omega (arith, e) in
-        let here : slice_get w.tasks m ≡ Some row = rw at found in
-        rw (running_found w m row here, group_found w m row here, same row.group) refl)
+    (λ task. pass task.group && is_running task.stage) w.tasks 0
+    (λ n m row found e.
+    let at : m ≡ n = omega (arith, e) in
+    let here : slice_get w.tasks m ≡ Some row = rw at found in
+    rw (running_found w m row here, group_found w m row here, same row.group) refl)
 
 -- ---- a row by its cases
 
@@ -149,7 +153,7 @@ stage_by stage.Interrupted = refl
 
 task_if : (b : Bool) (row : Task)
     → changed_if (with_stage stage.Interrupted) b row
-        ≡ record row { stage = if b then stage.Interrupted else row.stage }
+    ≡ record row { stage = if b then stage.Interrupted else row.stage }
 task_if true row = refl
 task_if false row = refl
 
@@ -167,14 +171,15 @@ error_by false (Some text) = refl
 
 group_if : (b : Bool) (row : Group)
     → changed_if (with_error interruption) b row
-        ≡ record row { error = if b then or_else row.error interruption else row.error }
+    ≡ record row { error = if b then or_else row.error interruption else row.error }
 group_if true row = refl
 group_if false row = refl
 
 group_by : (b : Bool) (row : Group)
     → changed_if (with_error interruption) b row
-        ≡ record row { error = error_restarted b row.error }
-group_by b row = group_if b row ∙ ap (λ error. record row { error = error }) (error_by b row.error)
+    ≡ record row { error = error_restarted b row.error }
+group_by b row =
+    group_if b row ∙ ap (λ error. record row { error = error }) (error_by b row.error)
 
 hit_by : (b : Bool) (hit : Hit) (o : Option Hit)
     → (if b then or_else o hit else o) ≡ hit_restarted b hit o
@@ -185,13 +190,14 @@ hit_by false hit (Some old) = refl
 
 scope_if : (b : Bool) (hit : Hit) (row : Scope)
     → changed_if (with_hit hit) b row
-        ≡ record row { hit = if b then or_else row.hit hit else row.hit }
+    ≡ record row { hit = if b then or_else row.hit hit else row.hit }
 scope_if true hit row = refl
 scope_if false hit row = refl
 
 scope_by : (b : Bool) (hit : Hit) (row : Scope)
     → changed_if (with_hit hit) b row ≡ record row { hit = hit_restarted b hit row.hit }
-scope_by b hit row = scope_if b hit row ∙ ap (λ o. record row { hit = o }) (hit_by b hit row.hit)
+scope_by b hit row =
+    scope_if b hit row ∙ ap (λ o. record row { hit = o }) (hit_by b hit row.hit)
 
 lives_if : (b : Bool) (scope s : ℕ)
     → is_key s (if b then None else Some scope) ≡ (not b && scope == s)
@@ -200,7 +206,7 @@ lives_if false scope s = refl
 
 lives_by : (o : Option Group) (s : ℕ)
     → is_key s (option_and_then (λ group. if group.bare then None else Some group.scope) o)
-        ≡ option_map_or (λ group. not group.bare && group.scope == s) o false
+    ≡ option_map_or (λ group. not group.bare && group.scope == s) o false
 lives_by None s = refl
 lives_by (Some row) s = lives_if row.bare row.scope s
 
@@ -208,51 +214,51 @@ lives_by (Some row) s = lives_if row.bare row.scope s
 
 task_at : (w : WorkState) (m : ℕ)
     → slice_get (fold after_interrupt w (running_tasks w)).tasks m
-        ≡ option_map task_restarted (slice_get w.tasks m)
+    ≡ option_map task_restarted (slice_get w.tasks m)
 task_at w m =
     ap (λ rows. slice_get rows m) (tasks_fold (running_tasks w) w)
-    ∙ fold_reads (with_stage stage.Interrupted) stage_twice (λ n. Some n) (running_tasks w) w.tasks
-        m
+    ∙ fold_reads (with_stage stage.Interrupted) stage_twice (λ n. Some n) (running_tasks w)
+    w.tasks m
     ∙ option_map_same
-        (changed_if (with_stage stage.Interrupted) (list_any (λ n. n == m) (running_tasks w)))
-        task_restarted (slice_get w.tasks m)
-        (λ row found.
-          ap (λ b. changed_if (with_stage stage.Interrupted) b row)
-              (number_picked (is_running_task w) m 0 (length w.tasks) (omega arith)
-                   (omega (arith, slice_get_within w.tasks m row found))
-               ∙ running_found w m row found)
-          ∙ task_by row)
+    (changed_if (with_stage stage.Interrupted) (list_any (λ n. n == m) (running_tasks w)))
+    task_restarted (slice_get w.tasks m)
+    (λ row found.
+    ap (λ b. changed_if (with_stage stage.Interrupted) b row)
+    (number_picked (is_running_task w) m 0 (length w.tasks) (omega arith)
+    (omega (arith, slice_get_within w.tasks m row found))
+    ∙ running_found w m row found)
+    ∙ task_by row)
 
 group_at : (p : State) (g : ℕ)
     → slice_get (fold after_interrupt p.work (running_tasks p.work)).groups g
-        ≡ option_map (group_restarted p g) (slice_get p.work.groups g)
+    ≡ option_map (group_restarted p g) (slice_get p.work.groups g)
 group_at p g =
     ap (λ rows. slice_get rows g)
-        (groups_fold (group_of_task p.work) (running_tasks p.work) p.work (λ n. refl))
+    (groups_fold (group_of_task p.work) (running_tasks p.work) p.work (λ n. refl))
     ∙ fold_reads (with_error interruption) (error_twice interruption)
-        (λ n. Some (group_of_task p.work n)) (running_tasks p.work) p.work.groups g
+    (λ n. Some (group_of_task p.work n)) (running_tasks p.work) p.work.groups g
     ∙ ap (λ b. option_map (changed_if (with_error interruption) b) (slice_get p.work.groups g))
-        (any_of_group (λ h. h == g) (λ h. h == g) p.work (λ h. refl))
+    (any_of_group (λ h. h == g) (λ h. h == g) p.work (λ h. refl))
     ∙ option_map_same (changed_if (with_error interruption) (has_running p.work g))
-        (group_restarted p g) (slice_get p.work.groups g)
-        (λ row found. group_by (has_running p.work g) row)
+    (group_restarted p g) (slice_get p.work.groups g)
+    (λ row found. group_by (has_running p.work g) row)
 
 scope_at : (p : State) (s : ℕ)
     → slice_get
-          (fold (λ t n. after_task_end (p.count + 1) p.work n (Some interruption) t) p.tree
-             (running_tasks p.work)).scopes s
-        ≡ option_map (scope_restarted p s) (slice_get p.tree.scopes s)
+    (fold (λ t n. after_task_end (p.count + 1) p.work n (Some interruption) t) p.tree
+    (running_tasks p.work)).scopes s
+    ≡ option_map (scope_restarted p s) (slice_get p.tree.scopes s)
 scope_at p s =
     let w = p.work in
     let hit = cancellation (p.count + 1) p.tree.clock (Some interruption) in
     ap (λ t. slice_get t.scopes s) (scopes_fold (p.count + 1) w (running_tasks w) p.tree)
     ∙ fold_reads (with_hit hit) (hit_twice hit) (λ n. own_scope w (group_of_task w n))
-        (running_tasks w) p.tree.scopes s
+    (running_tasks w) p.tree.scopes s
     ∙ ap (λ b. option_map (changed_if (with_hit hit) b) (slice_get p.tree.scopes s))
-        (any_of_group (λ g. is_key s (own_scope w g)) (λ g. lives_in w g s) w
-           (λ g. lives_by (slice_get w.groups g) s))
+    (any_of_group (λ g. is_key s (own_scope w g)) (λ g. lives_in w g s) w
+    (λ g. lives_by (slice_get w.groups g) s))
     ∙ option_map_same (changed_if (with_hit hit) (hosts_running w s)) (scope_restarted p s)
-        (slice_get p.tree.scopes s) (λ row found. scope_by (hosts_running w s) hit row)
+    (slice_get p.tree.scopes s) (λ row found. scope_by (hosts_running w s) hit row)
 
 not_running : (s : Stage) → is_running (stage_restarted s) ≡ false
 not_running stage.Fresh = refl
@@ -272,11 +278,11 @@ restarted p = record {
   counted = refl;
   clock = ap (λ t. t.clock) (scopes_fold (p.count + 1) p.work (running_tasks p.work) p.tree);
   none_running =
-    λ n.
+      λ n.
       ap (λ o. option_map_or (λ task. is_running task.stage) o false) (task_at p.work n)
       ∙ none_runs (slice_get p.work.tasks n);
   tasks =
-    same_rows (fold after_interrupt p.work (running_tasks p.work)).tasks
+      same_rows (fold after_interrupt p.work (running_tasks p.work)).tasks
       (map task_restarted p.work.tasks)
       (λ m. task_at p.work m ∙ sym (slice_get-map task_restarted p.work.tasks m));
   groups = λ g. group_at p g;

@@ -31,28 +31,28 @@ numbered_kept p q scopes groups tasks rooted old = record {
   few_tasks = rw (tasks.same_length) old.few_tasks;
   rooted = rooted;
   one_root =
-    λ s row found root.
+      λ s row found root.
       let was = scopes.back s row found in old.one_root s was.0 was.1 (rw (was.2.kind) at root);
   scope_names =
-    λ s t a b found_a found_b same.
+      λ s t a b found_a found_b same.
       let x = scopes.back s a found_a in
       let y = scopes.back t b found_b in
       old.scope_names s t x.0 y.0 x.1 y.1 (sym x.2.name ∙ same ∙ y.2.name);
   group_names =
-    λ g h a b found_a found_b same.
+      λ g h a b found_a found_b same.
       let x = groups.back g a found_a in
       let y = groups.back h b found_b in
       old.group_names g h x.0 y.0 x.1 y.1 (sym x.2.name ∙ same ∙ y.2.name);
   ordered =
-    λ s row found other.
+      λ s row found other.
       let was = scopes.back s row found in
       rw (was.2.parent) (old.ordered s was.0 was.1 (rw (was.2.kind) at other));
   scopes =
-    λ g row found.
+      λ g row found.
       let was = groups.back g row found in
       rw (was.2.scope, scopes.same_length) (old.scopes g was.0 was.1);
   groups =
-    λ n row found.
+      λ n row found.
       let was = tasks.back n row found in
       rw (was.2.group, groups.same_length) (old.groups n was.0 was.1);
 }
@@ -61,8 +61,9 @@ numbered_kept p q scopes groups tasks rooted old = record {
 
 -- A row that no row of its name comes before keeps names distinct.
 names_pushed : {X : Type 0} (name : X → List ℕ) (rows : List X) (new : X)
-    → ((s t : ℕ) (a b : X) → slice_get rows s ≡ Some a → slice_get rows t ≡ Some b → name a ≡ name b
-       → s ≡ t) → ((s : ℕ) (a : X) → slice_get rows s ≡ Some a → name a ≡ name new → ⊥)
+    → ((s t : ℕ) (a b : X) → slice_get rows s ≡ Some a → slice_get rows t ≡ Some b
+    → name a ≡ name b → s ≡ t)
+    → ((s : ℕ) (a : X) → slice_get rows s ≡ Some a → name a ≡ name new → ⊥)
     → (s t : ℕ) (a b : X) → slice_get (rows ++ new ∷ []) s ≡ Some a
     → slice_get (rows ++ new ∷ []) t ≡ Some b → name a ≡ name b → s ≡ t
 names_pushed name rows new distinct free s t a b found_a found_b same =
@@ -88,9 +89,9 @@ unfound : {X : Type 0} (test : X → Bool) (rows : List X) → is_none (position
     → (s : ℕ) (a : X) → slice_get rows s ≡ Some a → test a ≡ false
 unfound test rows none s a found =
     let past : length rows ≤ position_or_len test rows =
-      ltb-false (position_or_len test rows) (length rows)
-        (none_when (nat_lt (position_or_len test rows) (length rows)) (position_or_len test rows)
-           none) in
+    ltb-false (position_or_len test rows) (length rows)
+    (none_when (nat_lt (position_or_len test rows) (length rows)) (position_or_len test rows)
+    none) in
     let less : s < length rows = slice_get_within rows s a found in
     ap test (sym (get_or_from_slice_get rows s a a found))
     ∙ fails_before_first test rows s a (omega (arith, past, less))
@@ -100,28 +101,29 @@ pub name_is_free : {X : Type 0} (name : X → List ℕ) (new : List ℕ) (rows :
     → is_none (position (λ row. bytes_eq new (name row)) rows) ≡ true
     → (s : ℕ) (a : X) → slice_get rows s ≡ Some a → name a ≡ new → ⊥
 name_is_free name new rows none s a found same =
-    both_ways (bytes_eq new (name a)) (unfound (λ row. bytes_eq new (name row)) rows none s a found)
-      ((bytes_eq-Decides new (name a)).1 (sym same))
+    both_ways (bytes_eq new (name a))
+    (unfound (λ row. bytes_eq new (name row)) rows none s a found)
+    ((bytes_eq-Decides new (name a)).1 (sym same))
 
 pub numbered_scope : (p : State) (n c : ℕ) (new : Scope) → length p.tree.scopes < MOST_SCOPES
     → new.parent < length p.tree.scopes → is_root new.kind ≡ false
     → ((s : ℕ) (a : Scope) → slice_get p.tree.scopes s ≡ Some a → a.name ≡ new.name → ⊥)
     → AreNumbered p
     → AreNumbered
-        (record {
-           count = n;
-           tree = record { clock = c; scopes = p.tree.scopes ++ new ∷ [] };
-           work = p.work;
-         })
+    (record {
+      count = n;
+      tree = record { clock = c; scopes = p.tree.scopes ++ new ∷ [] };
+      work = p.work;
+    })
 numbered_scope p n c new room parent other free old = record {
   few_scopes = rw (length_push p.tree.scopes new) (omega (arith, room));
   few_groups = old.few_groups;
   few_tasks = old.few_tasks;
   rooted =
-    slice_get-push_left p.tree.scopes new 0 (slice_get_within p.tree.scopes 0 root old.rooted)
-    ∙ old.rooted;
+      slice_get-push_left p.tree.scopes new 0 (slice_get_within p.tree.scopes 0 root old.rooted)
+      ∙ old.rooted;
   one_root =
-    λ s row found is_it.
+      λ s row found is_it.
       elim (push_cases p.tree.scopes new s row found) [
         | inl was ↦ old.one_root s row was is_it
         | inr last ↦ absurd (both_ways (is_root new.kind) other (rw (last.1) at is_it))
@@ -129,13 +131,13 @@ numbered_scope p n c new room parent other free old = record {
   scope_names = names_pushed (λ row. row.name) p.tree.scopes new old.scope_names free;
   group_names = old.group_names;
   ordered =
-    λ s row found not_root.
+      λ s row found not_root.
       elim (push_cases p.tree.scopes new s row found) [
         | inl was ↦ old.ordered s row was not_root
         | inr last ↦ rw (last.0, last.1) parent
       ];
   scopes =
-    λ g row found. rw (length_push p.tree.scopes new) (omega (arith, old.scopes g row found));
+      λ g row found. rw (length_push p.tree.scopes new) (omega (arith, old.scopes g row found));
   groups = old.groups;
 }
 
@@ -144,11 +146,11 @@ pub numbered_group : (p : State) (n : ℕ) (new : Group) → length p.work.group
     → ((g : ℕ) (a : Group) → slice_get p.work.groups g ≡ Some a → a.name ≡ new.name → ⊥)
     → AreNumbered p
     → AreNumbered
-        (record {
-           count = n;
-           tree = p.tree;
-           work = record { groups = p.work.groups ++ new ∷ []; tasks = p.work.tasks };
-         })
+    (record {
+      count = n;
+      tree = p.tree;
+      work = record { groups = p.work.groups ++ new ∷ []; tasks = p.work.tasks };
+    })
 numbered_group p n new room scope free old = record {
   few_scopes = old.few_scopes;
   few_groups = rw (length_push p.work.groups new) (omega (arith, room));
@@ -159,23 +161,23 @@ numbered_group p n new room scope free old = record {
   group_names = names_pushed (λ row. row.name) p.work.groups new old.group_names free;
   ordered = old.ordered;
   scopes =
-    λ g row found.
+      λ g row found.
       elim (push_cases p.work.groups new g row found) [
         | inl was ↦ old.scopes g row was
         | inr last ↦ rw (last.1) scope
       ];
   groups =
-    λ n row found. rw (length_push p.work.groups new) (omega (arith, old.groups n row found));
+      λ n row found. rw (length_push p.work.groups new) (omega (arith, old.groups n row found));
 }
 
 pub numbered_task : (p : State) (n : ℕ) (new : Task) → length p.work.tasks < MOST_TASKS
     → new.group < length p.work.groups → AreNumbered p
     → AreNumbered
-        (record {
-           count = n;
-           tree = p.tree;
-           work = record { groups = p.work.groups; tasks = p.work.tasks ++ new ∷ [] };
-         })
+    (record {
+      count = n;
+      tree = p.tree;
+      work = record { groups = p.work.groups; tasks = p.work.tasks ++ new ∷ [] };
+    })
 numbered_task p n new room group old = record {
   few_scopes = old.few_scopes;
   few_groups = old.few_groups;
@@ -187,7 +189,7 @@ numbered_task p n new room group old = record {
   ordered = old.ordered;
   scopes = old.scopes;
   groups =
-    λ n row found.
+      λ n row found.
       elim (push_cases p.work.tasks new n row found) [
         | inl was ↦ old.groups n row was
         | inr last ↦ rw (last.1) group

@@ -1,5 +1,6 @@
 -- Hits stay on scopes that can be cancelled, of the past, and as deadlines want them.
-use Rattle.std.proofs.Common.{◌≡◌, ◌≤◌, ℕ, Bool, true, false, List, Option, Some, None, slice_get}
+use Rattle.std.proofs.Common.{◌≡◌, ◌≤◌, ℕ, Bool, true, false, List, Option, Some, None}
+use Rattle.std.proofs.Common.{slice_get}
 use Rattle.std.proofs.Common.{inl, inr, refl, sym, ap, ◌∙◌, arith}
 use Rattle.std.specs.Prelude.{is_some, nat_le, IsSome, if◌then◌else◌}
 use Rattle.std.specs.Option.{option_map_or, option_and_then}
@@ -13,7 +14,8 @@ use Rattle.run_model.specs.declared.scopes.Scope.{Scope}
 use Rattle.run_model.specs.Rows.{at_row, or_else, new_scope}
 use Rattle.run_model.specs.State.{State, TreeState, WorkState}
 use Rattle.run_model.specs.Scopes.{own_hit, own_deadline}
-use Rattle.run_model.specs.TreeChanges.{with_hit, tick, hit_due, expiry, cancellation, after_derive}
+use Rattle.run_model.specs.TreeChanges.{with_hit, tick, hit_due, expiry, cancellation}
+use Rattle.run_model.specs.TreeChanges.{after_derive}
 use Rattle.run_model.specs.TreeChanges.{after_advance}
 use Rattle.run_model.specs.Rules.{AreHits, AreDeadlines, HasScope, can_be_hit}
 use Rattle.run_model.proofs.RowLemmas.{push_cases, at_row_cases, map_cases}
@@ -55,8 +57,9 @@ own_hit_of rows s row found = ap (λ o. option_and_then (λ row. row.hit) o) fou
 pub are_right : (p : State) → AreHits p → AreDeadlines p.tree → AreRight p.count p.tree
 are_right p hits deadlines s row found = record {
   hit =
-    λ hit has.
-      let own : own_hit p.tree.scopes s ≡ Some hit = own_hit_of p.tree.scopes s row found ∙ has in
+      λ hit has.
+      let own : own_hit p.tree.scopes s ≡ Some hit =
+      own_hit_of p.tree.scopes s row found ∙ has in
       record {
         kind = hits.kinds s row found (ap is_some has);
         counted = hits.counted s hit own;
@@ -71,18 +74,19 @@ pub hits_right : (n : ℕ) (t : TreeState) (w : WorkState) → AreRight n t
     → AreHits (record { count = n; tree = t; work = w })
 hits_right n t w right = record {
   kinds =
-    λ s row found is. let hit = some_hit row.hit is in ((right s row found).hit hit.0 hit.1).kind;
+      λ s row found is.
+      let hit = some_hit row.hit is in ((right s row found).hit hit.0 hit.1).kind;
   counted =
-    λ s hit own.
+      λ s hit own.
       let row = hit_of (slice_get t.scopes s) hit own in
       ((right s row.0 row.1).hit hit row.2).counted;
   past = record {
     events =
-      λ s hit own.
+        λ s hit own.
         let row = hit_of (slice_get t.scopes s) hit own in
         ((right s row.0 row.1).hit hit row.2).event;
     moments =
-      λ s hit own.
+        λ s hit own.
         let row = hit_of (slice_get t.scopes s) hit own in
         ((right s row.0 row.1).hit hit row.2).moment;
   };
@@ -121,10 +125,10 @@ pub right_hit : (n m clock : ℕ) (row : Scope) (new : Hit) → n ≤ m → IsRi
     → IsRightHit m clock row.kind new → IsRightScope m clock (with_hit new row)
 right_hit n m clock row new more right new_right = record {
   hit =
-    λ hit is.
+      λ hit is.
       either_hit m clock row.kind row.hit new hit
-        (λ old has. later_hit n m clock clock row.kind old more (omega arith) (right.hit old has))
-        new_right is;
+      (λ old has. later_hit n m clock clock row.kind old more (omega arith) (right.hit old has))
+      new_right is;
   come = λ moment is reached. or_else_some row.hit new;
 }
 
@@ -142,7 +146,7 @@ due : (b : Bool) (e clock m : ℕ) (cause : Option (List ℕ)) (row : Scope) →
     → row.kind ≡ kind.Deadline m cause → nat_le m clock ≡ b
     → ((hit : Hit) → row.hit ≡ Some hit → IsRightHit e clock row.kind hit)
     → IsRightScope e clock
-        (option_map_or (λ hit. with_hit hit row) (if b then Some (expiry e m cause) else None) row)
+    (option_map_or (λ hit. with_hit hit row) (if b then Some (expiry e m cause) else None) row)
 due true e clock m cause row counted is reached right = record {
   hit = λ hit has. either_hit e clock row.kind row.hit (expiry e m cause) hit right (record {
     kind = ap can_be_hit is;
@@ -156,9 +160,10 @@ due true e clock m cause row counted is reached right = record {
 due false e clock m cause row counted is reached right = record {
   hit = right;
   come =
-    λ moment has passed.
+      λ moment has passed.
       let same : m ≡ moment = same_Some m moment (sym (ap own_deadline is) ∙ has) in
-      absurd (both_ways (nat_le m clock) reached (le-leb m clock (omega (arith, same, passed))));
+      absurd
+      (both_ways (nat_le m clock) reached (le-leb m clock (omega (arith, same, passed))));
 }
 
 tick_of : (of : Kind) (e clock : ℕ) (row : Scope) → 1 ≤ e → row.kind ≡ of
@@ -171,7 +176,8 @@ tick_of (kind.Deadline m cause) e clock row counted is right =
     due (nat_le m clock) e clock m cause row counted is refl right
 tick_of (kind.Value key text) e clock row counted is right =
     undue e clock row (ap own_deadline is) right
-tick_of kind.Detached e clock row counted is right = undue e clock row (ap own_deadline is) right
+tick_of kind.Detached e clock row counted is right =
+    undue e clock row (ap own_deadline is) right
 tick_of kind.Group e clock row counted is right = undue e clock row (ap own_deadline is) right
 
 -- It is right where the hit that it had was.
@@ -185,7 +191,8 @@ right_tick e clock row counted right = tick_of row.kind e clock row counted refl
 later_scope : (n m clock : ℕ) (row : Scope) → n ≤ m → IsRightScope n clock row
     → IsRightScope m clock row
 later_scope n m clock row more right = record {
-  hit = λ hit has. later_hit n m clock clock row.kind hit more (omega arith) (right.hit hit has);
+  hit =
+      λ hit has. later_hit n m clock clock row.kind hit more (omega arith) (right.hit hit has);
   come = right.come;
 }
 
@@ -199,8 +206,8 @@ right_pushed e name parent of t counted right s row found =
       | inl was ↦ right s row was
       | inr last ↦
           rw (last.1)
-            (right_tick e t.clock (new_scope name parent of) counted
-               (λ hit has. absurd (none-some hit has)))
+          (right_tick e t.clock (new_scope name parent of) counted
+          (λ hit has. absurd (none-some hit has)))
     ]
 
 pub right_advanced : (n e moment : ℕ) (t : TreeState) → n ≤ e → 1 ≤ e → t.clock ≤ moment
@@ -208,10 +215,10 @@ pub right_advanced : (n e moment : ℕ) (t : TreeState) → n ≤ e → 1 ≤ e 
 right_advanced n e moment t more counted passed right s row found =
     let was = map_cases (tick e moment) s t.scopes row found in
     rw (was.2)
-      (right_tick e moment was.0 counted
-         (λ hit has.
-           later_hit n e t.clock moment was.0.kind hit more passed
-             ((right s was.0 was.1).hit hit has)))
+    (right_tick e moment was.0 counted
+    (λ hit has.
+    later_hit n e t.clock moment was.0.kind hit more passed
+    ((right s was.0 was.1).hit hit has)))
 
 pub right_cancelled : (e s : ℕ) (hit : Hit) (t : TreeState)
     → ((row : Scope) → HasScope t s row → IsRightHit e t.clock row.kind hit) → AreRight e t
@@ -221,8 +228,8 @@ right_cancelled e s hit t new right k row found =
       | inl other ↦ right k row other.1
       | inr here ↦
           rw (here.changed)
-            (right_hit e e t.clock here.old hit (omega arith) (right k here.old here.found)
-               (new here.old (rw (here.here) at here.found)))
+          (right_hit e e t.clock here.old hit (omega arith) (right k here.old here.found)
+          (new here.old (rw (here.here) at here.found)))
     ]
 
 -- A cancellation is right on each scope that can be cancelled.

@@ -1,5 +1,6 @@
 -- Rows that an event changes at their places, and what it leaves alone of each.
-use Rattle.std.proofs.Common.{◌≡◌, ℕ, List, length, map, Option, Some, None, slice_get, inl, inr}
+use Rattle.std.proofs.Common.{◌≡◌, ℕ, List, length, map, Option, Some, None, slice_get, inl}
+use Rattle.std.proofs.Common.{inr}
 use Rattle.std.proofs.Common.{refl, ap, ◌∙◌}
 use Rattle.std.specs.Option.{option_map, option_map_or}
 use Rattle.std.proofs.lemmas.Option.{slice_get-map}
@@ -36,21 +37,24 @@ pub alike_at : {X : Type 0} (R : X → X → Type 0) (change : X → X) (k : ℕ
 alike_at R change k rows same changed = record {
   same_length = length-at_row change k rows;
   forth =
-    λ n x found.
+      λ n x found.
       elim (cases_eq n k) [
-        | inl e ↦
-            (change x,
-             rw e (slice_get-at_row_same change k rows ∙ ap (option_map change) (rw e at found)),
-             changed x (rw e at found))
+        | inl e ↦ (
+          change x,
+          rw e (slice_get-at_row_same change k rows ∙ ap (option_map change) (rw e at found)),
+          changed x (rw e at found),
+        )
         | inr other ↦ (x, slice_get-at_row_other change k n rows other ∙ found, same x)
       ];
   back =
-    λ n y found.
+      λ n y found.
       elim (at_row_cases change k n rows y found) [
         | inl old ↦ (y, old.1, same y)
-        | inr here ↦
-            (here.old, here.found,
-             rw (here.changed) (changed here.old (rw (here.here) at here.found)))
+        | inr here ↦ (
+          here.old,
+          here.found,
+          rw (here.changed) (changed here.old (rw (here.here) at here.found)),
+        )
       ];
 }
 
@@ -62,9 +66,10 @@ pub alike_map : {X : Type 0} (R : X → X → Type 0) (change : X → X) (rows :
 alike_map R change rows changed = record {
   same_length = length-map rows change;
   forth =
-    λ n x found. (change x, slice_get-map change rows n ∙ ap (option_map change) found, changed x);
+      λ n x found.
+      (change x, slice_get-map change rows n ∙ ap (option_map change) found, changed x);
   back =
-    λ n y found.
+      λ n y found.
       let old = map_cases change n rows y found in
       (old.0, old.1, related R old.0 y (change old.0) old.2 (changed old.0));
 }

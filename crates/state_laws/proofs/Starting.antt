@@ -29,7 +29,7 @@ root_right s row found =
     record {
       hit = λ hit has. absurd (none-some hit (ap (λ r. r.hit) (sym is) ∙ has));
       come =
-        λ moment due reached.
+          λ moment due reached.
           absurd (none-some moment (ap (λ r. own_deadline r.kind) (sym is) ∙ due));
     }
 
@@ -42,13 +42,14 @@ formatted_consistent = record {
     rooted = refl;
     one_root = λ s row found is. (root_alone s row found).0;
     scope_names =
-      λ s t a b found_a found_b same. (root_alone s a found_a).0 ∙ sym (root_alone t b found_b).0;
+        λ s t a b found_a found_b same.
+        (root_alone s a found_a).0 ∙ sym (root_alone t b found_b).0;
     group_names = λ g h a b found_a found_b same. no_group g a found_a;
     ordered =
-      λ s row found other.
+        λ s row found other.
         absurd
-          (both_ways (is_root row.kind) other
-             (ap (λ r. is_root r.kind) (root_alone s row found).1));
+        (both_ways (is_root row.kind) other
+        (ap (λ r. is_root r.kind) (root_alone s row found).1));
     scopes = λ g row found. no_group g row found;
     groups = λ n row found. absurd (none-some row found);
   };
@@ -56,10 +57,10 @@ formatted_consistent = record {
   deadlines = deadlines_right 0 new_tree root_right;
   group_scopes = record {
     owned =
-      λ s row found is.
+        λ s row found is.
         absurd
-          (both_ways (is_group_kind row.kind)
-             (ap (λ r. is_group_kind r.kind) (root_alone s row found).1) is);
+        (both_ways (is_group_kind row.kind)
+        (ap (λ r. is_group_kind r.kind) (root_alone s row found).1) is);
     once = λ s g h a b owns_a owns_b. no_group g a owns_a.found;
     own = λ g s group owns. no_group g group owns.found;
   };

@@ -1,5 +1,6 @@
 -- Each event, from a consistent state to a consistent one.
-use Rattle.std.proofs.Common.{◌≡◌, ◌⊎◌, ◌<◌, ◌≤◌, ◌+◌, ◌==◌, ◌&&◌, ◌||◌, ℕ, zero, suc, Bool, true}
+use Rattle.std.proofs.Common.{◌≡◌, ◌⊎◌, ◌<◌, ◌≤◌, ◌+◌, ◌==◌, ◌&&◌, ◌||◌, ℕ, zero, suc, Bool}
+use Rattle.std.proofs.Common.{true}
 use Rattle.std.proofs.Common.{false, not, List, [], ◌∷◌, ◌++◌, length, fold, Option, Some, None}
 use Rattle.std.proofs.Common.{slice_get, inl, inr, refl, sym, ap, subst, ◌∙◌, arith}
 use Rattle.std.specs.List.{list_all, range_with_len}
@@ -25,9 +26,11 @@ use Rattle.run_model.specs.Rows.{new_scope, new_group, new_task, at_row}
 use Rattle.run_model.specs.State.{State, TreeState, WorkState}
 use Rattle.run_model.specs.Scopes.{is_root, is_done}
 use Rattle.run_model.specs.declared.scopes.Hit.{Hit}
-use Rattle.run_model.specs.Allowed.{allowed, after, run, is_derivable, is_cancellable, takes_cause}
+use Rattle.run_model.specs.Allowed.{allowed, after, run, is_derivable, is_cancellable}
+use Rattle.run_model.specs.Allowed.{takes_cause}
 use Rattle.run_model.specs.Allowed.{has_kind, has_scope, is_scope_name_free, is_group_name_free}
-use Rattle.run_model.specs.Allowed.{has_scope_room, has_group_room, has_task_room, is_open, is_idle}
+use Rattle.run_model.specs.Allowed.{has_scope_room, has_group_room, has_task_room, is_open}
+use Rattle.run_model.specs.Allowed.{is_idle}
 use Rattle.run_model.specs.Allowed.{admits_one_more, is_first_ready}
 use Rattle.run_model.specs.Step.{step, own_scope, after_task_end, after_group_cancel}
 use Rattle.run_model.specs.Tasks.{is_fresh, is_running, is_unfinished, ended_in_error, is_ready}
@@ -49,7 +52,8 @@ use Rattle.state_laws.proofs.Numbering.{numbered_task, name_is_free}
 use Rattle.state_laws.proofs.Owners.{kind_row, row_kind, owners_kept, owners_scope, owners_bare}
 use Rattle.state_laws.proofs.Owners.{owners_made}
 use Rattle.state_laws.proofs.RightHits.{AreRight, are_right, later_right, right_pushed}
-use Rattle.state_laws.proofs.RightHits.{right_advanced, hits_right, deadlines_right, or_else_some}
+use Rattle.state_laws.proofs.RightHits.{right_advanced, hits_right, deadlines_right}
+use Rattle.state_laws.proofs.RightHits.{or_else_some}
 use Rattle.state_laws.proofs.Admission.{admitted_group, admitted_task, admitted_limit}
 use Rattle.state_laws.proofs.FirstErrors.{hits_alike, hits_pushed, errors_tree, errors_group}
 use Rattle.state_laws.proofs.FirstErrors.{errors_alike, IsSameEnd, end_same, lost_pushed}
@@ -58,7 +62,8 @@ use Rattle.state_laws.proofs.Ends.{consistent_stage, consistent_wait}
 
 -- ---- what the tests of an allowed event say
 
-derived_kind : (k : Kind) → is_derivable k ≡ true → (is_root k ≡ false) × (is_group_kind k ≡ false)
+derived_kind : (k : Kind) → is_derivable k ≡ true
+    → (is_root k ≡ false) × (is_group_kind k ≡ false)
 derived_kind kind.Root is = absurd (both_ways false refl is)
 derived_kind kind.Cancel is = (refl, refl)
 derived_kind kind.Cause is = (refl, refl)
@@ -101,7 +106,8 @@ all_five a b c d e is =
 -- ---- the tree's events
 
 right_now : (p : State) (e : ℕ) → p.count ≤ e → IsConsistent p → AreRight e p.tree
-right_now p e more kept = later_right p.count e p.tree more (are_right p kept.hits kept.deadlines)
+right_now p e more kept =
+    later_right p.count e p.tree more (are_right p kept.hits kept.deadlines)
 
 derived : (p : State) (name : List ℕ) (parent : ℕ) (k : Kind) → is_derivable k ≡ true
     → has_scope p.tree parent ≡ true → is_scope_name_free p.tree name ≡ true
@@ -111,24 +117,26 @@ derived p name parent k derivable known free room kept =
     let e : ℕ = p.count + 1 in
     let new = tick e p.tree.clock (new_scope name parent k) in
     let same : IsSameScope (new_scope name parent k) new =
-      tick_same e p.tree.clock (new_scope name parent k) in
+    tick_same e p.tree.clock (new_scope name parent k) in
     let kinds = derived_kind k derivable in
     let right : AreRight e (after_derive e name parent k p.tree) =
-      right_pushed e name parent k p.tree (omega arith) (right_now p e (omega arith) kept) in
+    right_pushed e name parent k p.tree (omega arith) (right_now p e (omega arith) kept) in
     record {
       numbered =
-        numbered_scope p e p.tree.clock new (ltb-true (length p.tree.scopes) MOST_SCOPES room)
-          (rw (same.parent) (ltb-true parent (length p.tree.scopes) known)) (rw (same.kind) kinds.0)
+          numbered_scope p e p.tree.clock new (ltb-true (length p.tree.scopes) MOST_SCOPES room)
+          (rw (same.parent) (ltb-true parent (length p.tree.scopes) known))
+          (rw (same.kind) kinds.0)
           (λ s a found is.
-            name_is_free (λ row. row.name) name p.tree.scopes free s a found (is ∙ same.name))
+          name_is_free (λ row. row.name) name p.tree.scopes free s a found (is ∙ same.name))
           kept.numbered;
       hits = hits_right e (after_derive e name parent k p.tree) p.work right;
       deadlines = deadlines_right e (after_derive e name parent k p.tree) right;
-      group_scopes = owners_scope p e p.tree.clock new (rw (same.kind) kinds.1) kept.group_scopes;
+      group_scopes =
+          owners_scope p e p.tree.clock new (rw (same.kind) kinds.1) kept.group_scopes;
       admitted = kept.admitted;
       errors =
-        errors_tree p e (after_derive e name parent k p.tree) (hits_pushed p.tree p.tree.clock new)
-          kept.errors;
+          errors_tree p e (after_derive e name parent k p.tree)
+          (hits_pushed p.tree p.tree.clock new) kept.errors;
     }
 
 -- Hits alone came.
@@ -136,28 +144,29 @@ consistent_hit : (p : State) (e : ℕ) (u : TreeState) → IsHit e p.tree u → 
     → IsConsistent (record { count = e; tree = u; work = p.work })
 consistent_hit p e u hit kept =
     let groups : AreAlike IsSameGroup p.work.groups p.work.groups =
-      alike_same IsSameGroup p.work.groups group_same in
+    alike_same IsSameGroup p.work.groups group_same in
     record {
       numbered =
-        numbered_kept p (record { count = e; tree = u; work = p.work }) hit.same groups
+          numbered_kept p (record { count = e; tree = u; work = p.work }) hit.same groups
           (alike_same IsSameTask p.work.tasks task_same) hit.rooted kept.numbered;
       hits = hits_right e u p.work hit.right;
       deadlines = deadlines_right e u hit.right;
       group_scopes =
-        owners_kept p (record { count = e; tree = u; work = p.work }) hit.same groups
+          owners_kept p (record { count = e; tree = u; work = p.work }) hit.same groups
           kept.group_scopes;
       admitted = kept.admitted;
       errors = errors_tree p e u hit.kept kept.errors;
     }
 
-cancelled : (p : State) (s : ℕ) (cause : Option (List ℕ)) → has_kind is_cancellable p.tree s ≡ true
-    → IsConsistent p → IsConsistent (step p (event.Cancel s cause))
+cancelled : (p : State) (s : ℕ) (cause : Option (List ℕ))
+    → has_kind is_cancellable p.tree s ≡ true → IsConsistent p
+    → IsConsistent (step p (event.Cancel s cause))
 cancelled p s cause is kept =
     let row = kind_row is_cancellable p.tree s is in
     consistent_hit p (p.count + 1) (after_cancel (p.count + 1) s cause p.tree)
-      (hit_cancelled (p.count + 1) s cause p.tree (omega arith) kept.numbered.rooted
-         (row_kind can_be_hit p.tree s row.0 row.1 (cancelled_kind row.0.kind row.2))
-         (right_now p (p.count + 1) (omega arith) kept)) kept
+    (hit_cancelled (p.count + 1) s cause p.tree (omega arith) kept.numbered.rooted
+    (row_kind can_be_hit p.tree s row.0 row.1 (cancelled_kind row.0.kind row.2))
+    (right_now p (p.count + 1) (omega arith) kept)) kept
 
 hit_stays : (o : Option Hit) (row : Scope) → IsSome row.hit
     → IsSome (option_map_or (λ hit. with_hit hit row) o row).hit
@@ -169,19 +178,19 @@ advanced : (p : State) (moment : ℕ) → p.tree.clock < moment → IsConsistent
 advanced p moment later kept =
     let e : ℕ = p.count + 1 in
     consistent_hit p e (after_advance e moment p.tree)
-      (record {
-         same = alike_map IsSameScope (tick e moment) p.tree.scopes (tick_same e moment);
-         rooted =
-           slice_get-map (tick e moment) p.tree.scopes 0
-           ∙ ap (option_map (tick e moment)) kept.numbered.rooted;
-         right =
-           right_advanced p.count e moment p.tree (omega arith) (omega arith) (omega (arith, later))
-             (are_right p kept.hits kept.deadlines);
-         kept =
-           hits_alike p.tree (after_advance e moment p.tree)
-             (alike_map (λ x y. IsSome x.hit → IsSome y.hit) (tick e moment) p.tree.scopes
-                (λ x is. hit_stays (hit_due e moment x.kind) x is));
-       }) kept
+    (record {
+      same = alike_map IsSameScope (tick e moment) p.tree.scopes (tick_same e moment);
+      rooted =
+          slice_get-map (tick e moment) p.tree.scopes 0
+          ∙ ap (option_map (tick e moment)) kept.numbered.rooted;
+      right =
+          right_advanced p.count e moment p.tree (omega arith) (omega arith)
+          (omega (arith, later)) (are_right p kept.hits kept.deadlines);
+      kept =
+          hits_alike p.tree (after_advance e moment p.tree)
+          (alike_map (λ x y. IsSome x.hit → IsSome y.hit) (tick e moment) p.tree.scopes
+          (λ x is. hit_stays (hit_due e moment x.kind) x is));
+    }) kept
 
 -- ---- groups
 
@@ -196,26 +205,27 @@ made p name parent known free group_free room group_room kept =
     let u : TreeState = record { clock = p.tree.clock; scopes = p.tree.scopes ++ row ∷ [] } in
     let v : WorkState = record { groups = p.work.groups ++ new ∷ []; tasks = p.work.tasks } in
     let right : AreRight e u =
-      right_pushed e name parent kind.Group p.tree (omega arith)
-        (right_now p e (omega arith) kept) in
+    right_pushed e name parent kind.Group p.tree (omega arith)
+    (right_now p e (omega arith) kept) in
     record {
       numbered =
-        numbered_group (record { count = e; tree = u; work = p.work }) e new
+          numbered_group (record { count = e; tree = u; work = p.work }) e new
           (ltb-true (length p.work.groups) MOST_GROUPS group_room)
           (rw (length_push p.tree.scopes row) (omega arith))
           (name_is_free (λ group. group.name) name p.work.groups group_free)
-          (numbered_scope p e p.tree.clock row (ltb-true (length p.tree.scopes) MOST_SCOPES room)
-             (ltb-true parent (length p.tree.scopes) known) refl
-             (name_is_free (λ scope. scope.name) name p.tree.scopes free) kept.numbered);
+          (numbered_scope p e p.tree.clock row
+          (ltb-true (length p.tree.scopes) MOST_SCOPES room)
+          (ltb-true parent (length p.tree.scopes) known) refl
+          (name_is_free (λ scope. scope.name) name p.tree.scopes free) kept.numbered);
       hits = hits_right e u v right;
       deadlines = deadlines_right e u right;
       group_scopes =
-        owners_made p e p.tree.clock row new refl refl refl refl kept.numbered.scopes
+          owners_made p e p.tree.clock row new refl refl refl refl kept.numbered.scopes
           kept.group_scopes;
       admitted = admitted_group p.work new refl kept.numbered.groups kept.admitted;
       errors =
-        errors_group p e u new (hits_pushed p.tree p.tree.clock row) refl refl kept.numbered.groups
-          kept.errors;
+          errors_group p e u new (hits_pushed p.tree p.tree.clock row) refl refl
+          kept.numbered.groups kept.errors;
     }
 
 made_bare : (p : State) (name : List ℕ) (s : ℕ) → has_scope p.tree s ≡ true
@@ -227,72 +237,74 @@ made_bare p name s known free room kept =
     let v : WorkState = record { groups = p.work.groups ++ new ∷ []; tasks = p.work.tasks } in
     record {
       numbered =
-        numbered_group p e new (ltb-true (length p.work.groups) MOST_GROUPS room)
+          numbered_group p e new (ltb-true (length p.work.groups) MOST_GROUPS room)
           (ltb-true s (length p.tree.scopes) known)
           (name_is_free (λ group. group.name) name p.work.groups free) kept.numbered;
       hits = hits_right e p.tree v (right_now p e (omega arith) kept);
       deadlines = kept.deadlines;
       group_scopes = owners_bare p e new refl kept.group_scopes;
       admitted = admitted_group p.work new refl kept.numbered.groups kept.admitted;
-      errors = errors_group p e p.tree new (λ s is. is) refl refl kept.numbered.groups kept.errors;
+      errors =
+          errors_group p e p.tree new (λ s is. is) refl refl kept.numbered.groups kept.errors;
     }
 
-limited : (p : State) (g : ℕ) (limit : Option ℕ) → unfinished_in g p.work.tasks ≡ 0 → IsConsistent p
-    → IsConsistent (step p (event.SetLimit g limit))
+limited : (p : State) (g : ℕ) (limit : Option ℕ) → unfinished_in g p.work.tasks ≡ 0
+    → IsConsistent p → IsConsistent (step p (event.SetLimit g limit))
 limited p g limit idle kept =
     let e : ℕ = p.count + 1 in
     let v = after_limit g limit p.work in
     let scopes : AreAlike IsSameScope p.tree.scopes p.tree.scopes =
-      alike_same IsSameScope p.tree.scopes scope_same in
+    alike_same IsSameScope p.tree.scopes scope_same in
     let groups : AreAlike IsSameGroup p.work.groups v.groups =
-      alike_at IsSameGroup (with_limit limit) g p.work.groups group_same
-        (λ x at. record { name = refl; scope = refl; bare = refl }) in
+    alike_at IsSameGroup (with_limit limit) g p.work.groups group_same
+    (λ x at. record { name = refl; scope = refl; bare = refl }) in
     record {
       numbered =
-        numbered_kept p (record { count = e; tree = p.tree; work = v }) scopes groups
+          numbered_kept p (record { count = e; tree = p.tree; work = v }) scopes groups
           (alike_same IsSameTask p.work.tasks task_same) kept.numbered.rooted kept.numbered;
       hits = hits_right e p.tree v (right_now p e (omega arith) kept);
       deadlines = kept.deadlines;
       group_scopes =
-        owners_kept p (record { count = e; tree = p.tree; work = v }) scopes groups
+          owners_kept p (record { count = e; tree = p.tree; work = v }) scopes groups
           kept.group_scopes;
       admitted = admitted_limit p.work g limit idle kept.admitted;
       errors =
-        errors_alike p e v
+          errors_alike p e v
           (alike_at IsSameEnd (with_limit limit) g p.work.groups end_same
-             (λ x at. record { scope = refl; bare = refl; waited = refl; error = refl }))
+          (λ x at. record { scope = refl; bare = refl; waited = refl; error = refl }))
           (λ h. refl) kept.errors;
     }
 
 -- ---- tasks
 
 submitted : (p : State) (g : ℕ) (job argument : List ℕ) → is_open p.work g ≡ true
-    → has_task_room p.work ≡ true → IsConsistent p → IsConsistent (step p (event.Go g job argument))
+    → has_task_room p.work ≡ true → IsConsistent p
+    → IsConsistent (step p (event.Go g job argument))
 submitted p g job argument is room kept =
     let e : ℕ = p.count + 1 in
     let new = new_task g job argument in
     let v : WorkState = record { groups = p.work.groups; tasks = p.work.tasks ++ new ∷ [] } in
     let group = passing (λ group. not group.waited) (slice_get p.work.groups g) is in
     let scopes : AreAlike IsSameScope p.tree.scopes p.tree.scopes =
-      alike_same IsSameScope p.tree.scopes scope_same in
+    alike_same IsSameScope p.tree.scopes scope_same in
     let groups : AreAlike IsSameGroup p.work.groups p.work.groups =
-      alike_same IsSameGroup p.work.groups group_same in
+    alike_same IsSameGroup p.work.groups group_same in
     record {
       numbered =
-        numbered_task p e new (ltb-true (length p.work.tasks) MOST_TASKS room)
+          numbered_task p e new (ltb-true (length p.work.tasks) MOST_TASKS room)
           (slice_get_within p.work.groups g group.0 group.1) kept.numbered;
       hits = hits_right e p.tree v (right_now p e (omega arith) kept);
       deadlines = kept.deadlines;
       group_scopes =
-        owners_kept p (record { count = e; tree = p.tree; work = v }) scopes groups
+          owners_kept p (record { count = e; tree = p.tree; work = v }) scopes groups
           kept.group_scopes;
       admitted =
-        admitted_task p.work new refl
+          admitted_task p.work new refl
           (λ row found.
-            ap (λ r. r.waited) (same_Some row group.0 (sym found ∙ group.1))
-            ∙ not-true group.0.waited group.2) kept.admitted;
+          ap (λ r. r.waited) (same_Some row group.0 (sym found ∙ group.1))
+          ∙ not-true group.0.waited group.2) kept.admitted;
       errors =
-        errors_alike p e v (alike_same IsSameEnd p.work.groups end_same)
+          errors_alike p e v (alike_same IsSameEnd p.work.groups end_same)
           (λ h. lost_pushed p.work new h refl) kept.errors;
     }
 
@@ -311,8 +323,8 @@ running_stage stage.Success is = refl
 running_stage (stage.Failure text) is = absurd (both_ways false refl is)
 running_stage stage.Interrupted is = absurd (both_ways false refl is)
 
-chosen : {X : Type 0} (b : Bool) (x z : X) (rest : Option X) → (if b then Some x else rest) ≡ Some z
-    → ((b ≡ true) × (x ≡ z)) ⊎ (rest ≡ Some z)
+chosen : {X : Type 0} (b : Bool) (x z : X) (rest : Option X)
+    → (if b then Some x else rest) ≡ Some z → ((b ≡ true) × (x ≡ z)) ⊎ (rest ≡ Some z)
 chosen true x z rest is = inl (refl, same_Some x z is)
 chosen false x z rest is = inr is
 
@@ -335,41 +347,41 @@ started : (p : State) (n : ℕ) → is_first_ready p.work n ≡ true → IsConsi
     → IsConsistent (step p (event.Start n))
 started p n is kept =
     let row =
-      passing (λ task. is_fresh task.stage && is_admitted p.work n task) (slice_get p.work.tasks n)
-        (first_is_ready p.work n is) in
+    passing (λ task. is_fresh task.stage && is_admitted p.work n task)
+    (slice_get p.work.tasks n) (first_is_ready p.work n is) in
     let parts = and_parts (is_fresh row.0.stage) (is_admitted p.work n row.0) row.2 in
     let fresh = fresh_stage row.0.stage parts.0 in
     let same : (x : Task) → HasTask p.work n x → row.0 ≡ x =
-      λ x at. same_Some row.0 x (sym row.1 ∙ at) in
+    λ x at. same_Some row.0 x (sym row.1 ∙ at) in
     consistent_stage p (p.count + 1) n stage.Running (omega arith)
-      (λ x at runs. ap (λ r. is_unfinished r.stage) (sym (same x at)) ∙ fresh.0)
-      (λ x at runs. ap (is_admitted p.work n) (sym (same x at)) ∙ parts.1)
-      (λ x at. sym fresh.1 ∙ ap (λ r. ended_in_error r.stage) (same x at)) kept
+    (λ x at runs. ap (λ r. is_unfinished r.stage) (sym (same x at)) ∙ fresh.0)
+    (λ x at runs. ap (is_admitted p.work n) (sym (same x at)) ∙ parts.1)
+    (λ x at. sym fresh.1 ∙ ap (λ r. ended_in_error r.stage) (same x at)) kept
 
 succeeded : (p : State) (n : ℕ) → is_running_task p.work n ≡ true → IsConsistent p
     → IsConsistent (step p (event.Finish n outcome.Success))
 succeeded p n is kept =
     let row = passing (λ task. is_running task.stage) (slice_get p.work.tasks n) is in
     consistent_stage p (p.count + 1) n stage.Success (omega arith)
-      (λ x at unfinished. absurd (both_ways false refl unfinished))
-      (λ x at runs. absurd (both_ways false refl runs))
-      (λ x at.
-        sym (running_stage row.0.stage row.2)
-        ∙ ap (λ r. ended_in_error r.stage) (same_Some row.0 x (sym row.1 ∙ at))) kept
+    (λ x at unfinished. absurd (both_ways false refl unfinished))
+    (λ x at runs. absurd (both_ways false refl runs))
+    (λ x at.
+    sym (running_stage row.0.stage row.2)
+    ∙ ap (λ r. ended_in_error r.stage) (same_Some row.0 x (sym row.1 ∙ at))) kept
 
 failed : (p : State) (n : ℕ) (text : List ℕ) → is_running_task p.work n ≡ true → IsConsistent p
     → IsConsistent (step p (event.Finish n (outcome.Failure text)))
 failed p n text is kept =
     let row = passing (λ task. is_running task.stage) (slice_get p.work.tasks n) is in
-    consistent_lost p (p.count + 1) n text (stage.Failure text) row.0 (omega arith) (omega arith)
-      row.1 refl refl refl kept
+    consistent_lost p (p.count + 1) n text (stage.Failure text) row.0 (omega arith)
+    (omega arith) row.1 refl refl refl kept
 
 -- ---- a restart, one task after another
 
 own_if : (b : Bool) (o : Option Group) (text : List ℕ)
     → option_and_then (λ group. if group.bare then None else Some group.scope)
-          (option_map (changed_if (with_error text) b) o)
-        ≡ option_and_then (λ group. if group.bare then None else Some group.scope) o
+    (option_map (changed_if (with_error text) b) o)
+    ≡ option_and_then (λ group. if group.bare then None else Some group.scope) o
 own_if b None text = refl
 own_if true (Some row) text = refl
 own_if false (Some row) text = refl
@@ -377,10 +389,10 @@ own_if false (Some row) text = refl
 -- An error of a group leaves it its scope.
 own_scope_stays : (text : List ℕ) (g h : ℕ) (tasks : List Task) (w : WorkState)
     → own_scope (record { groups = at_row (with_error text) g w.groups; tasks = tasks }) h
-        ≡ own_scope w h
+    ≡ own_scope w h
 own_scope_stays text g h tasks w =
     ap (λ o. option_and_then (λ group. if group.bare then None else Some group.scope) o)
-        (at_key_reads (with_error text) (Some g) w.groups h)
+    (at_key_reads (with_error text) (Some g) w.groups h)
     ∙ own_if (g == h) (slice_get w.groups h) text
 
 row_below : {X : Type 0} (rows : List X) (n : ℕ) → n < length rows
@@ -395,47 +407,51 @@ record IsSameWork (w : WorkState) (v : WorkState) : Type 0 where
   group_of : (n : ℕ) → group_of_task v n ≡ group_of_task w n
   own : (g : ℕ) → own_scope v g ≡ own_scope w g
 
-same_interrupted : (w v : WorkState) (n : ℕ) → IsSameWork w v → IsSameWork w (after_interrupt v n)
+same_interrupted : (w v : WorkState) (n : ℕ) → IsSameWork w v
+    → IsSameWork w (after_interrupt v n)
 same_interrupted w v n same = record {
   tasks = length-at_row (with_stage stage.Interrupted) n v.tasks ∙ same.tasks;
   group_of =
-    λ m.
+      λ m.
       group_of_task_stays stage.Interrupted n m (after_interrupt v n).groups v
-          (length-at_row (with_error interruption) (group_of_task v n) v.groups)
+      (length-at_row (with_error interruption) (group_of_task v n) v.groups)
       ∙ same.group_of m;
   own =
-    λ g.
-      own_scope_stays interruption (group_of_task v n) g (after_interrupt v n).tasks v ∙ same.own g;
+      λ g.
+      own_scope_stays interruption (group_of_task v n) g (after_interrupt v n).tasks v
+      ∙ same.own g;
 }
 
 interrupted : (e : ℕ) (w : WorkState) (ns : List ℕ) (p : State) → p.count ≡ e → 1 ≤ e
     → IsSameWork w p.work → list_all (λ n. nat_lt n (length w.tasks)) ns ≡ true → IsConsistent p
     → IsConsistent
-        (record {
-           count = e;
-           tree = fold (λ t n. after_task_end e w n (Some interruption) t) p.tree ns;
-           work = fold after_interrupt p.work ns;
-         })
+    (record {
+      count = e;
+      tree = fold (λ t n. after_task_end e w n (Some interruption) t) p.tree ns;
+      work = fold after_interrupt p.work ns;
+    })
 interrupted e w [] p count counted same known kept =
-    let P : ℕ → Type 0 = λ n. IsConsistent (record { count = n; tree = p.tree; work = p.work }) in
+    let P : ℕ → Type 0 =
+    λ n. IsConsistent (record { count = n; tree = p.tree; work = p.work }) in
     subst P count kept
 interrupted e w (n ∷ ns) p count counted same known kept =
     let parts =
-      and_parts (nat_lt n (length w.tasks)) (list_all (λ n. nat_lt n (length w.tasks)) ns) known in
+    and_parts (nat_lt n (length w.tasks)) (list_all (λ n. nat_lt n (length w.tasks)) ns)
+    known in
     let less : n < length w.tasks = ltb-true n (length w.tasks) parts.0 in
     let row = row_below p.work.tasks n (omega (arith, less, same.tasks)) in
     let u = after_task_end e w n (Some interruption) p.tree in
     let same_end : after_task_end e p.work n (Some interruption) p.tree ≡ u =
-      ap (λ g. after_group_cancel e p.work g (Some interruption) p.tree) (same.group_of n)
-      ∙ ap (λ o. option_map_or (λ s. after_cancel e s (Some interruption) p.tree) o p.tree)
-          (same.own (group_of_task w n)) in
+    ap (λ g. after_group_cancel e p.work g (Some interruption) p.tree) (same.group_of n)
+    ∙ ap (λ o. option_map_or (λ s. after_cancel e s (Some interruption) p.tree) o p.tree)
+    (same.own (group_of_task w n)) in
     let P : TreeState → Type 0 =
-      λ t. IsConsistent (record { count = e; tree = t; work = after_interrupt p.work n }) in
+    λ t. IsConsistent (record { count = e; tree = t; work = after_interrupt p.work n }) in
     interrupted e w ns (record { count = e; tree = u; work = after_interrupt p.work n }) refl
-      counted (same_interrupted w p.work n same) parts.1
-      (subst P same_end
-         (consistent_lost p e n interruption stage.Interrupted row.0 (omega (arith, count)) counted
-            row.1 refl refl refl kept))
+    counted (same_interrupted w p.work n same) parts.1
+    (subst P same_end
+    (consistent_lost p e n interruption stage.Interrupted row.0 (omega (arith, count))
+    counted row.1 refl refl refl kept))
 
 all_if : (test : ℕ → Bool) (b : Bool) (n : ℕ) (ns : List ℕ) → test n ≡ true
     → list_all test ns ≡ true → list_all test (if b then n ∷ ns else ns) ≡ true
@@ -447,40 +463,43 @@ all_below : (test : ℕ → Bool) (most a n : ℕ) → a + n ≤ most
 all_below test most a zero within = refl
 all_below test most a (suc n) within =
     all_if (λ k. nat_lt k most) (test a) a (filter test (range_with_len (a + 1) n))
-      (lt-ltb a most (omega (arith, within)))
-      (all_below test most (a + 1) n (omega (arith, within)))
+    (lt-ltb a most (omega (arith, within)))
+    (all_below test most (a + 1) n (omega (arith, within)))
 
 reopened : (p : State) → IsConsistent p → IsConsistent (step p event.Restart)
 reopened p kept =
     let e : ℕ = p.count + 1 in
-    interrupted e p.work (running_tasks p.work) (record { count = e; tree = p.tree; work = p.work })
-      refl (omega arith) (record { tasks = refl; group_of = λ n. refl; own = λ g. refl })
-      (all_below (is_running_task p.work) (length p.work.tasks) 0 (length p.work.tasks)
-         (omega arith))
-      (consistent_hit p e p.tree
-         (hit_none e p.tree kept.numbered.rooted (right_now p e (omega arith) kept)) kept)
+    interrupted e p.work (running_tasks p.work)
+    (record { count = e; tree = p.tree; work = p.work }) refl (omega arith)
+    (record { tasks = refl; group_of = λ n. refl; own = λ g. refl })
+    (all_below (is_running_task p.work) (length p.work.tasks) 0 (length p.work.tasks)
+    (omega arith))
+    (consistent_hit p e p.tree
+    (hit_none e p.tree kept.numbered.rooted (right_now p e (omega arith) kept)) kept)
 
 pub kept_by : (p : State) (event : Event) → IsConsistent p → allowed p event ≡ true
     → IsConsistent (step p event)
 kept_by p (event.Derive name parent k) kept is =
     let parts =
-      all_four (is_derivable k) (has_scope p.tree parent) (is_scope_name_free p.tree name)
-        (has_scope_room p.tree) is in
+    all_four (is_derivable k) (has_scope p.tree parent) (is_scope_name_free p.tree name)
+    (has_scope_room p.tree) is in
     derived p name parent k parts.0 parts.1 parts.2 parts.3 kept
 kept_by p (event.Cancel s cause) kept is =
     let parts =
-      all_three (has_kind is_cancellable p.tree s) (is_none cause || has_kind takes_cause p.tree s)
-        (not (is_done p.tree.scopes s)) is in
+    all_three (has_kind is_cancellable p.tree s)
+    (is_none cause || has_kind takes_cause p.tree s) (not (is_done p.tree.scopes s)) is in
     cancelled p s cause parts.0 kept
-kept_by p (event.Advance moment) kept is = advanced p moment (ltb-true p.tree.clock moment is) kept
+kept_by p (event.Advance moment) kept is =
+    advanced p moment (ltb-true p.tree.clock moment is) kept
 kept_by p (event.Group name parent) kept is =
     let parts =
-      all_five (has_scope p.tree parent) (is_scope_name_free p.tree name)
-        (is_group_name_free p.work name) (has_scope_room p.tree) (has_group_room p.work) is in
+    all_five (has_scope p.tree parent) (is_scope_name_free p.tree name)
+    (is_group_name_free p.work name) (has_scope_room p.tree) (has_group_room p.work) is in
     made p name parent parts.0 parts.1 parts.2 parts.3 parts.4 kept
 kept_by p (event.Bare name s) kept is =
     let parts =
-      all_three (has_scope p.tree s) (is_group_name_free p.work name) (has_group_room p.work) is in
+    all_three (has_scope p.tree s) (is_group_name_free p.work name) (has_group_room p.work)
+    is in
     made_bare p name s parts.0 parts.1 parts.2 kept
 kept_by p (event.SetLimit g limit) kept is =
     let parts = and_parts (is_open p.work g) (is_idle p.work g) is in
@@ -489,7 +508,8 @@ kept_by p (event.Go g job argument) kept is =
     let parts = and_parts (is_open p.work g) (has_task_room p.work) is in
     submitted p g job argument parts.0 parts.1 kept
 kept_by p (event.TryGo g job argument) kept is =
-    let parts = all_three (is_open p.work g) (has_task_room p.work) (admits_one_more p.work g) is in
+    let parts =
+    all_three (is_open p.work g) (has_task_room p.work) (admits_one_more p.work g) is in
     submitted p g job argument parts.0 parts.1 kept
 kept_by p (event.Start n) kept is = started p n is kept
 kept_by p (event.Finish n outcome.Success) kept is = succeeded p n is kept
@@ -497,7 +517,7 @@ kept_by p (event.Finish n (outcome.Failure text)) kept is = failed p n text is k
 kept_by p (event.Wait g) kept is =
     let parts = and_parts (is_open p.work g) (is_idle p.work g) is in
     consistent_wait p (p.count + 1) g (omega arith) (omega arith)
-      (eqb-true (unfinished_in g p.work.tasks) 0 parts.1) kept
+    (eqb-true (unfinished_in g p.work.tasks) 0 parts.1) kept
 kept_by p event.Restart kept is = reopened p kept
 
 -- ---- an event that is allowed, and a run of them

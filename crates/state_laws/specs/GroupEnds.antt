@@ -1,7 +1,12 @@
 -- Groups that have ended.
-use Rattle.std.specs.Prelude.{◌≡◌, ◌⊎◌, true, IsSome}
+use Rattle.std.specs.Prelude.{◌≡◌, ◌⊎◌, ℕ, true, IsSome}
 use Rattle.run_model.specs.declared.groups.Group.{Group}
+use Rattle.run_model.specs.State.{State}
+use Rattle.run_model.specs.Rules.{IsConsistent, HasGroup}
 
--- The group has an error, or was waited for.
-abbrev pub HasEnded : Group → Type 0
-HasEnded row = IsSome row.error ⊎ (row.waited ≡ true)
+-- In a consistent state, this group has an error or was waited for.
+pub record HasGroupEnded (p : State) (g : ℕ) : Type 0 where
+  pub kept : IsConsistent p
+  pub row : Group
+  pub found : HasGroup p.work g row
+  pub ended : IsSome row.error ⊎ (row.waited ≡ true)

@@ -5,7 +5,7 @@ use Rattle.state_laws.proofs.EndedOnce.{ended_once}
 
 pub returns : goal.returns
 returns c = record {
-  error = λ p n text row. ended_once p (group_of_task p.work n) (p.count + 1) row (Some text);
-  wait = λ p g row. ended_once p g (p.count + 1) row None;
-  cancel = ended_once;
+  errors = λ p n text. ended_once p (group_of_task p.work n) (p.count + 1) (Some text);
+  waits = λ p g. ended_once p g (p.count + 1) None;
+  cancels = ended_once;
 }
