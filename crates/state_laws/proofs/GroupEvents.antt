@@ -1,0 +1,139 @@
+-- The events of groups keep the rules.
+use Rattle.std.proofs.Common.{◌≡◌, ◌≢◌, ◌≤◌, ◌==◌, ◌&&◌, ℕ, Bool, true, false, List, length}
+use Rattle.std.proofs.Common.{Option, Some, None, slice_get, refl, sym, ap, subst, ◌∙◌, ◌⊎◌, ◌<◌}
+use Rattle.std.proofs.Common.{◌+◌, ◌||◌, zero, suc, not, [], ◌∷◌, ◌++◌, fold, inl, inr, arith}
+use Rattle.std.specs.Prelude.{IsSome, if◌then◌else◌, find, filter, is_none, nat_lt}
+use Rattle.std.specs.Option.{option_map, option_map_or, option_and_then}
+use Rattle.std.proofs.lemmas.Bool.{both_ways, and_left, and_from, ne_eqb, eq-eqb, and_parts}
+use Rattle.std.proofs.lemmas.Bool.{lt-ltb, ltb-true, eqb-true, not-true}
+use Rattle.std.proofs.lemmas.Option.{none-some, same_Some, slice_get_within, cond_some}
+use Rattle.std.proofs.lemmas.Option.{slice_get-map, option_and_then_some}
+use Rattle.run_model.specs.declared.scopes.Kind.{Kind}
+use Rattle.run_model.specs.declared.scopes.Scope.{Scope}
+use Rattle.run_model.specs.declared.groups.Group.{Group}
+use Rattle.run_model.specs.declared.tasks.Task.{Task}
+use Rattle.run_model.specs.declared.tasks.Stage.{Stage}
+use Rattle.run_model.specs.Rows.{root, at_row, new_scope, new_group, new_task}
+use Rattle.run_model.specs.State.{State, TreeState, WorkState}
+use Rattle.run_model.specs.Scopes.{own_hit, is_root, is_done}
+use Rattle.run_model.specs.Allowed.{has_kind, allowed, after, run, is_derivable, is_cancellable}
+use Rattle.run_model.specs.Allowed.{takes_cause, has_scope, is_scope_name_free, is_group_name_free}
+use Rattle.run_model.specs.Allowed.{has_scope_room, has_group_room, has_task_room, is_open}
+use Rattle.run_model.specs.Allowed.{is_idle, admits_one_more, is_first_ready}
+use Rattle.run_model.specs.Step.{own_scope, after_group_cancel, after_task_end, step}
+use Rattle.run_model.specs.Tasks.{is_running, is_unfinished, ended_in_error, unfinished_in}
+use Rattle.run_model.specs.Tasks.{is_admitted, is_fresh, is_ready, first_ready, is_running_task}
+use Rattle.run_model.specs.Tasks.{task_numbers, running_tasks}
+use Rattle.run_model.specs.TreeChanges.{with_hit, cancellation, after_cancel, hit_due, tick}
+use Rattle.run_model.specs.TreeChanges.{after_derive, after_advance}
+use Rattle.run_model.specs.WorkChanges.{with_stage, with_error, with_wait, group_of_task}
+use Rattle.run_model.specs.WorkChanges.{after_end, after_wait, with_limit, interruption}
+use Rattle.run_model.specs.WorkChanges.{after_limit, after_interrupt}
+use Rattle.run_model.specs.Rules.{IsConsistent, HasScope, HasTask, Owns, AreGroupScopes}
+use Rattle.run_model.specs.Rules.{can_be_hit, is_group_kind}
+use Rattle.run_model.proofs.RowLemmas.{slice_get-at_row_same, slice_get-at_row_other}
+use Rattle.run_model.proofs.RowLemmas.{length-at_row}
+use Rattle.state_laws.proofs.Shapes.{AreAlike, alike_same, alike_at, IsSameScope, scope_same}
+use Rattle.state_laws.proofs.Shapes.{IsSameGroup, group_same, IsSameTask, task_same, alike_map}
+use Rattle.state_laws.proofs.Shapes.{tick_same}
+use Rattle.state_laws.proofs.Numbering.{numbered_kept, numbered_scope, numbered_group}
+use Rattle.state_laws.proofs.Numbering.{numbered_task, name_is_free}
+use Rattle.state_laws.proofs.Owners.{kind_row, row_kind, owners_kept, owners_scope, owners_bare}
+use Rattle.state_laws.proofs.Owners.{owners_made}
+use Rattle.state_laws.proofs.RightHits.{AreRight, are_right, later_right, right_cancelled}
+use Rattle.state_laws.proofs.RightHits.{right_cancellation, hits_right, deadlines_right}
+use Rattle.state_laws.proofs.RightHits.{own_hit_of, or_else_some, right_pushed, right_advanced}
+use Rattle.state_laws.proofs.Admission.{IsSameTerms, terms_same, admitted_stage, admitted_wait}
+use Rattle.state_laws.proofs.Admission.{admitted_group, admitted_task, admitted_limit}
+use Rattle.state_laws.proofs.FirstErrors.{AreHitsKept, hits_cancelled, errors_changed}
+use Rattle.state_laws.proofs.FirstErrors.{errors_alike, IsSameEnd, end_same, lost_at, any_at}
+use Rattle.state_laws.proofs.FirstErrors.{any_found, hits_alike, hits_pushed, errors_tree}
+use Rattle.state_laws.proofs.FirstErrors.{errors_group, lost_pushed}
+use Rattle.std.specs.List.{list_all, range_with_len}
+use Rattle.std.proofs.lemmas.List.{length_push}
+use Rattle.run_model.specs.declared.bounds.TheConstants.{MOST_SCOPES, MOST_GROUPS, MOST_TASKS}
+use Rattle.run_model.specs.Event.{Event}
+use Rattle.run_model.specs.declared.scopes.Hit.{Hit}
+use Rattle.state_laws.proofs.Folds.{at_key_reads, changed_if}
+use Rattle.state_laws.proofs.Interrupts.{group_of_task_stays}
+use Rattle.state_laws.proofs.Tests.{derived_kind, cancelled_kind, group_kind_hit, passing}
+use Rattle.state_laws.proofs.Tests.{all_three, all_four, all_five, fresh_stage, running_stage}
+use Rattle.state_laws.proofs.Tests.{chosen, found_passes, first_is_ready}
+use Rattle.state_laws.proofs.Changes.{IsHit, hit_none, right_now, hit_now, rows_change}
+use Rattle.state_laws.proofs.Changes.{hits_change, stage_changed}
+use Rattle.state_laws.proofs.Ends.{hit_cancelled, owner_found, hit_ended, own_hit_ended}
+use Rattle.state_laws.proofs.Ends.{consistent_lost, consistent_wait}
+use Rattle.state_laws.proofs.TreeEvents.{derived, cancelled, advanced}
+use Rattle.run_model.specs.declared.scopes.Kind.TheVariants as kind
+use Rattle.run_model.specs.declared.tasks.Stage.TheVariants as stage
+use Rattle.run_model.specs.declared.tasks.Outcome.TheVariants as outcome
+use Rattle.run_model.specs.Event as event
+
+pub made : (p : State) (name : List ℕ) (parent : ℕ) → has_scope p.tree parent ≡ true
+    → is_scope_name_free p.tree name ≡ true → is_group_name_free p.work name ≡ true
+    → has_scope_room p.tree ≡ true → has_group_room p.work ≡ true
+    → IsConsistent p → IsConsistent (step p (event.Group name parent))
+made p name parent known free group_free room group_room kept =
+    let e : ℕ = p.count + 1 in
+    let row = new_scope name parent kind.Group in
+    let new = new_group name (length p.tree.scopes) false in
+    let u : TreeState = record { clock = p.tree.clock; scopes = p.tree.scopes ++ row ∷ [] } in
+    let v : WorkState = record { groups = p.work.groups ++ new ∷ []; tasks = p.work.tasks } in
+    let right : AreRight e u =
+    right_pushed e name parent kind.Group p.tree (omega arith)
+    (right_now p e (omega arith) kept) in
+    record {
+      numbered =
+          numbered_group (record { count = e; tree = u; work = p.work }) e new
+          (ltb-true (length p.work.groups) MOST_GROUPS group_room)
+          (rw (length_push p.tree.scopes row) (omega arith))
+          (name_is_free (λ group. group.name) name p.work.groups group_free)
+          (numbered_scope p e p.tree.clock row
+          (ltb-true (length p.tree.scopes) MOST_SCOPES room)
+          (ltb-true parent (length p.tree.scopes) known) refl
+          (name_is_free (λ scope. scope.name) name p.tree.scopes free) kept.numbered);
+      hits = hits_right e u v right;
+      deadlines = deadlines_right e u right;
+      group_scopes =
+          owners_made p e p.tree.clock row new refl refl refl refl kept.numbered.scopes
+          kept.group_scopes;
+      admitted = admitted_group p.work new refl kept.numbered.groups kept.admitted;
+      errors =
+          errors_group p e u new (hits_pushed p.tree p.tree.clock row) refl refl
+          kept.numbered.groups kept.errors;
+    }
+
+pub made_bare : (p : State) (name : List ℕ) (s : ℕ) → has_scope p.tree s ≡ true
+    → is_group_name_free p.work name ≡ true → has_group_room p.work ≡ true
+    → IsConsistent p → IsConsistent (step p (event.Bare name s))
+made_bare p name s known free room kept =
+    let e : ℕ = p.count + 1 in
+    let new = new_group name s true in
+    let v : WorkState = record { groups = p.work.groups ++ new ∷ []; tasks = p.work.tasks } in
+    record {
+      numbered =
+          numbered_group p e new (ltb-true (length p.work.groups) MOST_GROUPS room)
+          (ltb-true s (length p.tree.scopes) known)
+          (name_is_free (λ group. group.name) name p.work.groups free) kept.numbered;
+      hits = hits_right e p.tree v (right_now p e (omega arith) kept);
+      deadlines = kept.deadlines;
+      group_scopes = owners_bare p e new refl kept.group_scopes;
+      admitted = admitted_group p.work new refl kept.numbered.groups kept.admitted;
+      errors =
+          errors_group p e p.tree new (λ s is. is) refl refl kept.numbered.groups kept.errors;
+    }
+
+pub limited : (p : State) (g : ℕ) (limit : Option ℕ) → unfinished_in g p.work.tasks ≡ 0
+    → IsConsistent p → IsConsistent (step p (event.SetLimit g limit))
+limited p g limit idle kept =
+    let e : ℕ = p.count + 1 in
+    let v = after_limit g limit p.work in
+    rows_change p e p.tree v (hit_now p e (omega arith) kept)
+      (alike_at IsSameGroup (with_limit limit) g p.work.groups group_same
+         (λ x at. record { name = refl; scope = refl; bare = refl }))
+      (alike_same IsSameTask p.work.tasks task_same)
+      (admitted_limit p.work g limit idle kept.admitted)
+      (errors_alike p e v
+         (alike_at IsSameEnd (with_limit limit) g p.work.groups end_same
+            (λ x at. record { scope = refl; bare = refl; waited = refl; error = refl }))
+         (λ h. refl) kept.errors) kept
