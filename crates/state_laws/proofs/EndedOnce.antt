@@ -1,14 +1,14 @@
 -- A group that has ended cancels nothing more.
-use Rattle.std.proofs.Common.{◌≡◌, ◌⊎◌, ℕ, zero, suc, true, false, List, [], ◌∷◌, Option}
-use Rattle.std.proofs.Common.{Some, None, slice_get, refl, sym, ap, subst, ◌∙◌}
-use Rattle.std.specs.Prelude.{IsSome}
+use Rattle.std.proofs.Common.{◌≡◌, ◌⊎◌, ℕ, zero, suc, true, false, List, [], ◌∷◌, Option, Some}
+use Rattle.std.proofs.Common.{None, slice_get, refl, sym, ap, subst, ◌∙◌}
 use Rattle.std.specs.Option.{option_map_or}
+use Rattle.std.specs.Prelude.{IsSome}
 use Rattle.std.proofs.lemmas.Bool.{both_ways}
 use Rattle.std.proofs.lemmas.Option.{same_Some}
 use Rattle.run_model.specs.declared.groups.Group.{Group}
 use Rattle.run_model.specs.Rows.{at_row, or_else}
-use Rattle.run_model.specs.State.{State, TreeState}
 use Rattle.run_model.specs.Scopes.{own_hit}
+use Rattle.run_model.specs.State.{State, TreeState}
 use Rattle.run_model.specs.Step.{own_scope, after_group_cancel}
 use Rattle.run_model.specs.TreeChanges.{with_hit, cancellation, after_cancel}
 use Rattle.state_laws.specs.GroupEnds.{HasGroupEnded}

@@ -1,71 +1,36 @@
 -- A scope is hit by a cancel, or because a group of it ended.
-use Rattle.std.proofs.Common.{◌≡◌, ◌≢◌, ◌≤◌, ◌==◌, ◌&&◌, ℕ, Bool, true, false, List, length}
-use Rattle.std.proofs.Common.{Option, Some, None, slice_get, refl, sym, ap, subst, ◌∙◌, ◌⊎◌, ◌<◌}
-use Rattle.std.proofs.Common.{◌+◌, ◌||◌, zero, suc, not, [], ◌∷◌, ◌++◌, fold, inl, inr, arith}
-use Rattle.std.specs.Prelude.{IsSome, if◌then◌else◌, find, filter, is_none, nat_lt}
+use Rattle.std.proofs.Common.{◌≡◌, ◌≢◌, ◌≤◌, ◌==◌, ◌&&◌, ℕ, Bool, true, false, List, length, Option}
+use Rattle.std.proofs.Common.{Some, None, slice_get, refl, sym, ap, subst, ◌∙◌}
+use Rattle.std.specs.List.{list_any}
 use Rattle.std.specs.Option.{option_map, option_map_or, option_and_then}
-use Rattle.std.proofs.lemmas.Bool.{both_ways, and_left, and_from, ne_eqb, eq-eqb, and_parts}
-use Rattle.std.proofs.lemmas.Bool.{lt-ltb, ltb-true, eqb-true, not-true}
-use Rattle.std.proofs.lemmas.Option.{none-some, same_Some, slice_get_within, cond_some}
-use Rattle.std.proofs.lemmas.Option.{slice_get-map, option_and_then_some}
-use Rattle.run_model.specs.declared.scopes.Kind.{Kind}
-use Rattle.run_model.specs.declared.scopes.Scope.{Scope}
+use Rattle.std.specs.Prelude.{IsSome, if◌then◌else◌}
+use Rattle.std.proofs.lemmas.Bool.{both_ways, and_left, and_from, ne_eqb, eq-eqb}
+use Rattle.std.proofs.lemmas.Option.{none-some, same_Some}
 use Rattle.run_model.specs.declared.groups.Group.{Group}
-use Rattle.run_model.specs.declared.tasks.Task.{Task}
+use Rattle.run_model.specs.declared.scopes.Scope.{Scope}
 use Rattle.run_model.specs.declared.tasks.Stage.{Stage}
-use Rattle.run_model.specs.Rows.{root, at_row, new_scope, new_group, new_task}
+use Rattle.run_model.specs.declared.tasks.Task.{Task}
+use Rattle.run_model.specs.Allowed.{has_kind}
+use Rattle.run_model.specs.Rows.{root, at_row}
+use Rattle.run_model.specs.Rules.{IsConsistent, HasScope, HasTask, Owns, AreGroupScopes, can_be_hit}
+use Rattle.run_model.specs.Rules.{is_group_kind, has_task_error}
+use Rattle.run_model.specs.Scopes.{own_hit}
 use Rattle.run_model.specs.State.{State, TreeState, WorkState}
-use Rattle.run_model.specs.Scopes.{own_hit, is_root, is_done}
-use Rattle.run_model.specs.Allowed.{has_kind, allowed, after, run, is_derivable, is_cancellable}
-use Rattle.run_model.specs.Allowed.{takes_cause, has_scope, is_scope_name_free, is_group_name_free}
-use Rattle.run_model.specs.Allowed.{has_scope_room, has_group_room, has_task_room, is_open}
-use Rattle.run_model.specs.Allowed.{is_idle, admits_one_more, is_first_ready}
-use Rattle.run_model.specs.Step.{own_scope, after_group_cancel, after_task_end, step}
+use Rattle.run_model.specs.Step.{own_scope, after_group_cancel, after_task_end}
 use Rattle.run_model.specs.Tasks.{is_running, is_unfinished, ended_in_error, unfinished_in}
-use Rattle.run_model.specs.Tasks.{is_admitted, is_fresh, is_ready, first_ready, is_running_task}
-use Rattle.run_model.specs.Tasks.{task_numbers, running_tasks}
-use Rattle.run_model.specs.TreeChanges.{with_hit, cancellation, after_cancel, hit_due, tick}
-use Rattle.run_model.specs.TreeChanges.{after_derive, after_advance}
-use Rattle.run_model.specs.WorkChanges.{with_stage, with_error, with_wait, group_of_task}
-use Rattle.run_model.specs.WorkChanges.{after_end, after_wait, with_limit, interruption}
-use Rattle.run_model.specs.WorkChanges.{after_limit, after_interrupt}
-use Rattle.run_model.specs.Rules.{IsConsistent, HasScope, HasTask, Owns, AreGroupScopes}
-use Rattle.run_model.specs.Rules.{can_be_hit, is_group_kind, AreAdmitted, AreErrors}
-use Rattle.run_model.specs.Rules.{has_task_error}
+use Rattle.run_model.specs.TreeChanges.{with_hit, cancellation, after_cancel}
+use Rattle.run_model.specs.WorkChanges.{with_stage, with_error, with_wait, group_of_task, after_end}
+use Rattle.run_model.specs.WorkChanges.{after_wait}
 use Rattle.run_model.proofs.RowLemmas.{slice_get-at_row_same, slice_get-at_row_other}
-use Rattle.run_model.proofs.RowLemmas.{length-at_row}
-use Rattle.state_laws.proofs.Shapes.{AreAlike, alike_same, alike_at, IsSameScope, scope_same}
-use Rattle.state_laws.proofs.Shapes.{IsSameGroup, group_same, IsSameTask, task_same, alike_map}
-use Rattle.state_laws.proofs.Shapes.{tick_same}
-use Rattle.state_laws.proofs.Numbering.{numbered_kept, numbered_scope, numbered_group}
-use Rattle.state_laws.proofs.Numbering.{numbered_task, name_is_free}
-use Rattle.state_laws.proofs.Owners.{kind_row, row_kind, owners_kept, owners_scope, owners_bare}
-use Rattle.state_laws.proofs.Owners.{owners_made}
-use Rattle.state_laws.proofs.RightHits.{AreRight, are_right, later_right, right_cancelled}
-use Rattle.state_laws.proofs.RightHits.{right_cancellation, hits_right, deadlines_right}
-use Rattle.state_laws.proofs.RightHits.{own_hit_of, or_else_some, right_pushed, right_advanced}
 use Rattle.state_laws.proofs.Admission.{IsSameTerms, terms_same, admitted_stage, admitted_wait}
-use Rattle.state_laws.proofs.Admission.{admitted_group, admitted_task, admitted_limit}
-use Rattle.state_laws.proofs.FirstErrors.{AreHitsKept, hits_cancelled, errors_changed}
-use Rattle.state_laws.proofs.FirstErrors.{errors_alike, IsSameEnd, end_same, lost_at, any_at}
-use Rattle.state_laws.proofs.FirstErrors.{any_found, hits_alike, hits_pushed, errors_tree}
-use Rattle.state_laws.proofs.FirstErrors.{errors_group, lost_pushed}
-use Rattle.std.specs.List.{list_all, range_with_len, list_any}
-use Rattle.std.proofs.lemmas.List.{length_push}
-use Rattle.run_model.specs.declared.bounds.TheConstants.{MOST_SCOPES, MOST_GROUPS, MOST_TASKS}
-use Rattle.run_model.specs.Event.{Event}
-use Rattle.run_model.specs.declared.scopes.Hit.{Hit}
-use Rattle.state_laws.proofs.Folds.{at_key_reads, changed_if}
-use Rattle.state_laws.proofs.Interrupts.{group_of_task_stays}
-use Rattle.state_laws.proofs.Tests.{derived_kind, cancelled_kind, group_kind_hit, passing}
-use Rattle.state_laws.proofs.Tests.{all_three, all_four, all_five, fresh_stage, running_stage}
-use Rattle.state_laws.proofs.Tests.{chosen, found_passes, first_is_ready}
-use Rattle.state_laws.proofs.Changes.{IsHit, hit_none, right_now, hit_now, rows_change}
-use Rattle.state_laws.proofs.Changes.{hits_change, stage_changed}
-use Rattle.run_model.specs.declared.scopes.Kind.TheVariants as kind
-use Rattle.run_model.specs.declared.tasks.Stage.TheVariants as stage
-use Rattle.run_model.specs.declared.tasks.Outcome.TheVariants as outcome
-use Rattle.run_model.specs.Event as event
+use Rattle.state_laws.proofs.Changes.{IsHit, hit_none, rows_change}
+use Rattle.state_laws.proofs.FirstErrors.{hits_cancelled, errors_changed, any_at, any_found}
+use Rattle.state_laws.proofs.Owners.{kind_row, row_kind}
+use Rattle.state_laws.proofs.RightHits.{AreRight, are_right, later_right, right_cancelled}
+use Rattle.state_laws.proofs.RightHits.{right_cancellation, own_hit_of, or_else_some}
+use Rattle.state_laws.proofs.Shapes.{alike_same, alike_at, IsSameScope, scope_same, IsSameGroup}
+use Rattle.state_laws.proofs.Shapes.{group_same, IsSameTask, task_same}
+use Rattle.state_laws.proofs.Tests.{group_kind_hit}
 
 not_root : (t : TreeState) (s : ℕ) (row : Scope) → slice_get t.scopes 0 ≡ Some root
     → HasScope t s row → can_be_hit row.kind ≡ true → 0 ≢ s
@@ -168,38 +133,38 @@ group_of_found w n row found =
 lost_elsewhere : (w : WorkState) (n g h : ℕ) (stage : Stage) (row : Task) → HasTask w n row
     → g ≡ row.group → h ≢ g
     → list_any (λ task. task.group == h && ended_in_error task.stage)
-          (at_row (with_stage stage) n w.tasks) ≡ has_task_error w h
+    (at_row (with_stage stage) n w.tasks) ≡ has_task_error w h
 lost_elsewhere w n g h stage row found of_group other =
     any_at (λ task. task.group == h && ended_in_error task.stage) (with_stage stage) n w.tasks
-      (λ x at.
-        let same : x.group ≡ g =
-          ap (λ r. r.group) (same_Some x row (sym at ∙ found)) ∙ sym of_group in
-        let not : (x.group == h) ≡ false = ne_eqb x.group h (λ is. other (sym is ∙ same)) in
-        and_left (x.group == h) (ended_in_error stage) not
-        ∙ sym (and_left (x.group == h) (ended_in_error x.stage) not))
+    (λ x at.
+    let same : x.group ≡ g =
+    ap (λ r. r.group) (same_Some x row (sym at ∙ found)) ∙ sym of_group in
+    let not : (x.group == h) ≡ false = ne_eqb x.group h (λ is. other (sym is ∙ same)) in
+    and_left (x.group == h) (ended_in_error stage) not
+    ∙ sym (and_left (x.group == h) (ended_in_error x.stage) not))
 
 lost_here : (w : WorkState) (n g : ℕ) (stage : Stage) (row : Task) → HasTask w n row
     → g ≡ row.group → ended_in_error stage ≡ true
     → list_any (λ task. task.group == g && ended_in_error task.stage)
-          (at_row (with_stage stage) n w.tasks) ≡ true
+    (at_row (with_stage stage) n w.tasks) ≡ true
 lost_here w n g stage row found of_group lost =
     any_found (λ task. task.group == g && ended_in_error task.stage)
-      (at_row (with_stage stage) n w.tasks) n (with_stage stage row)
-      (slice_get-at_row_same (with_stage stage) n w.tasks
-       ∙ ap (option_map (with_stage stage)) found)
-      (and_from (row.group == g) (ended_in_error stage) (eq-eqb row.group g (sym of_group))
-         lost)
+    (at_row (with_stage stage) n w.tasks) n (with_stage stage row)
+    (slice_get-at_row_same (with_stage stage) n w.tasks
+    ∙ ap (option_map (with_stage stage)) found)
+    (and_from (row.group == g) (ended_in_error stage) (eq-eqb row.group g (sym of_group))
+    lost)
 
 -- A task ended in an error.
 pub consistent_lost : (p : State) (e n : ℕ) (text : List ℕ) (stage : Stage) (row : Task)
     → p.count ≤ e → 1 ≤ e → HasTask p.work n row → ended_in_error stage ≡ true
     → is_unfinished stage ≡ false → is_running stage ≡ false → IsConsistent p
     → IsConsistent
-        (record {
-           count = e;
-           tree = after_task_end e p.work n (Some text) p.tree;
-           work = after_end n stage (Some text) p.work;
-         })
+    (record {
+      count = e;
+      tree = after_task_end e p.work n (Some text) p.tree;
+      work = after_end n stage (Some text) p.work;
+    })
 consistent_lost p e n text stage row more counted found lost finished stopped kept =
     let g = group_of_task p.work n in
     let of_group : g ≡ row.group = group_of_found p.work n row found in
@@ -207,40 +172,41 @@ consistent_lost p e n text stage row more counted found lost finished stopped ke
     let v = after_end n stage (Some text) p.work in
     let hit = hit_ended e p g (Some text) more counted kept in
     rows_change p e u v hit
-      (alike_at IsSameGroup (with_error text) g p.work.groups group_same
-         (λ x at. record { name = refl; scope = refl; bare = refl }))
-      (alike_at IsSameTask (with_stage stage) n p.work.tasks task_same
-         (λ x at. record { group = refl }))
-      (admitted_stage p.work v.groups n stage
-         (alike_at IsSameTerms (with_error text) g p.work.groups terms_same
-            (λ x at. record { limit = refl; waited = refl }))
-         (λ x at is. absurd (both_ways (is_unfinished stage) finished is))
-         (λ x at is. absurd (both_ways (is_running stage) stopped is)) kept.admitted)
-      (errors_changed p e g u v.tasks (with_error text) hit.kept
-         (λ s group owns. own_hit_ended e p g s group (Some text) kept owns)
-         (λ x. record { name = refl; scope = refl; bare = refl })
-         (λ h other. lost_elsewhere p.work n g h stage row found of_group other)
-         (λ x at.
-           (λ is. lost_here p.work n g stage row found of_group lost,
-            λ is. or_else_some x.error text)) kept.errors) kept
+    (alike_at IsSameGroup (with_error text) g p.work.groups group_same
+    (λ x at. record { name = refl; scope = refl; bare = refl }))
+    (alike_at IsSameTask (with_stage stage) n p.work.tasks task_same
+    (λ x at. record { group = refl }))
+    (admitted_stage p.work v.groups n stage
+    (alike_at IsSameTerms (with_error text) g p.work.groups terms_same
+    (λ x at. record { limit = refl; waited = refl }))
+    (λ x at is. absurd (both_ways (is_unfinished stage) finished is))
+    (λ x at is. absurd (both_ways (is_running stage) stopped is)) kept.admitted)
+    (errors_changed p e g u v.tasks (with_error text) hit.kept
+    (λ s group owns. own_hit_ended e p g s group (Some text) kept owns)
+    (λ x. record { name = refl; scope = refl; bare = refl })
+    (λ h other. lost_elsewhere p.work n g h stage row found of_group other)
+    (λ x at. (
+      λ is. lost_here p.work n g stage row found of_group lost,
+      λ is. or_else_some x.error text,
+    )) kept.errors) kept
 
 -- A group was waited for.
 pub consistent_wait : (p : State) (e g : ℕ) → p.count ≤ e → 1 ≤ e
     → unfinished_in g p.work.tasks ≡ 0 → IsConsistent p
     → IsConsistent
-        (record {
-           count = e;
-           tree = after_group_cancel e p.work g None p.tree;
-           work = after_wait g p.work;
-         })
+    (record {
+      count = e;
+      tree = after_group_cancel e p.work g None p.tree;
+      work = after_wait g p.work;
+    })
 consistent_wait p e g more counted idle kept =
     let u = after_group_cancel e p.work g None p.tree in
     let hit = hit_ended e p g None more counted kept in
     rows_change p e u (after_wait g p.work) hit
-      (alike_at IsSameGroup with_wait g p.work.groups group_same
-         (λ x at. record { name = refl; scope = refl; bare = refl }))
-      (alike_same IsSameTask p.work.tasks task_same) (admitted_wait p.work g idle kept.admitted)
-      (errors_changed p e g u p.work.tasks with_wait hit.kept
-         (λ s group owns. own_hit_ended e p g s group None kept owns)
-         (λ x. record { name = refl; scope = refl; bare = refl }) (λ h other. refl)
-         (kept.errors.exact g) kept.errors) kept
+    (alike_at IsSameGroup with_wait g p.work.groups group_same
+    (λ x at. record { name = refl; scope = refl; bare = refl }))
+    (alike_same IsSameTask p.work.tasks task_same) (admitted_wait p.work g idle kept.admitted)
+    (errors_changed p e g u p.work.tasks with_wait hit.kept
+    (λ s group owns. own_hit_ended e p g s group None kept owns)
+    (λ x. record { name = refl; scope = refl; bare = refl }) (λ h other. refl)
+    (kept.errors.exact g) kept.errors) kept

@@ -1,28 +1,26 @@
 -- A group keeps an error exactly where a task of it was lost, and where it ended its scope is hit.
-use Rattle.std.proofs.Common.{◌≡◌, ◌≢◌, ◌↔◌, ◌<◌, ◌==◌, ◌&&◌, ◌||◌, ℕ, zero, suc, Bool, true}
-use Rattle.std.proofs.Common.{false}
-use Rattle.std.proofs.Common.{List, [], ◌∷◌, ◌++◌, length, Option, Some, None, slice_get, inl}
-use Rattle.std.proofs.Common.{inr}
+use Rattle.std.proofs.Common.{◌≡◌, ◌≢◌, ◌↔◌, ◌<◌, ◌==◌, ◌&&◌, ◌||◌, ℕ, zero, suc, Bool, true, false}
+use Rattle.std.proofs.Common.{List, [], ◌∷◌, ◌++◌, length, Option, Some, None, slice_get, inl, inr}
 use Rattle.std.proofs.Common.{refl, sym, ap, ◌∙◌, arith}
-use Rattle.std.specs.Prelude.{is_some, IsSome, IsTrue}
 use Rattle.std.specs.List.{list_any}
 use Rattle.std.specs.Option.{option_and_then}
+use Rattle.std.specs.Prelude.{is_some, IsSome, IsTrue}
 use Rattle.std.proofs.lemmas.Bool.{and_parts, and_right, both_ways, eqb-true, or_cases}
 use Rattle.std.proofs.lemmas.Option.{none-some, same_Some, slice_get_within}
-use Rattle.run_model.specs.declared.scopes.Scope.{Scope}
 use Rattle.run_model.specs.declared.groups.Group.{Group}
-use Rattle.run_model.specs.declared.tasks.Task.{Task}
+use Rattle.run_model.specs.declared.scopes.Scope.{Scope}
 use Rattle.run_model.specs.declared.tasks.Stage.{Stage}
+use Rattle.run_model.specs.declared.tasks.Task.{Task}
 use Rattle.run_model.specs.Rows.{at_row}
-use Rattle.run_model.specs.State.{State, TreeState, WorkState}
+use Rattle.run_model.specs.Rules.{AreErrors, HasGroup, HasTask, Owns, has_task_error}
 use Rattle.run_model.specs.Scopes.{own_hit}
+use Rattle.run_model.specs.State.{State, TreeState, WorkState}
 use Rattle.run_model.specs.Tasks.{ended_in_error}
 use Rattle.run_model.specs.TreeChanges.{with_hit, cancellation, after_cancel}
 use Rattle.run_model.specs.WorkChanges.{with_stage}
-use Rattle.run_model.specs.Rules.{AreErrors, HasGroup, HasTask, Owns, has_task_error}
 use Rattle.run_model.proofs.RowLemmas.{at_row_cases, push_cases, slice_get-push_left}
-use Rattle.state_laws.proofs.Shapes.{AreAlike, alike_at, IsSameGroup}
 use Rattle.state_laws.proofs.RightHits.{own_hit_of, or_else_some}
+use Rattle.state_laws.proofs.Shapes.{AreAlike, alike_at, IsSameGroup}
 
 -- ---- whether a row passes
 

@@ -1,17 +1,16 @@
 -- What a restart makes of the rows.
 use Rattle.std.proofs.Common.{◌≡◌, ◌+◌, ◌==◌, ◌&&◌, ℕ, Bool, true, false, List, [], ◌∷◌, length}
-use Rattle.std.proofs.Common.{map, fold, Option, Some, None, slice_get, refl, sym, ap, ◌∙◌}
-use Rattle.std.proofs.Common.{arith}
+use Rattle.std.proofs.Common.{map, fold, Option, Some, None, slice_get, refl, sym, ap, ◌∙◌, arith}
 use Rattle.std.specs.List.{list_any}
-use Rattle.std.specs.Prelude.{not, if◌then◌else◌}
 use Rattle.std.specs.Option.{option_map, option_map_or, option_and_then}
+use Rattle.std.specs.Prelude.{not, if◌then◌else◌}
 use Rattle.std.proofs.lemmas.Option.{slice_get-map, slice_get_within}
-use Rattle.run_model.specs.declared.scopes.Scope.{Scope}
-use Rattle.run_model.specs.declared.scopes.Hit.{Hit}
 use Rattle.run_model.specs.declared.groups.Group.{Group}
-use Rattle.run_model.specs.declared.tasks.Task.{Task}
+use Rattle.run_model.specs.declared.scopes.Hit.{Hit}
+use Rattle.run_model.specs.declared.scopes.Scope.{Scope}
 use Rattle.run_model.specs.declared.tasks.Stage.{Stage}
 use Rattle.run_model.specs.declared.tasks.Stage.TheVariants as stage
+use Rattle.run_model.specs.declared.tasks.Task.{Task}
 use Rattle.run_model.specs.Event as event
 use Rattle.run_model.specs.Rows.{at_row, or_else}
 use Rattle.run_model.specs.State.{State, TreeState, WorkState}
@@ -24,8 +23,7 @@ use Rattle.run_model.proofs.RowLemmas.{length-at_row}
 use Rattle.state_laws.specs.Restarts.{IsRestart, has_running, lives_in, hosts_running}
 use Rattle.state_laws.specs.Restarts.{stage_restarted, error_restarted, hit_restarted}
 use Rattle.state_laws.specs.Restarts.{task_restarted, group_restarted, scope_restarted}
-use Rattle.state_laws.proofs.Folds.{same_rows, at_key, at_key_reads, is_key, changed_if}
-use Rattle.state_laws.proofs.Folds.{fold_reads}
+use Rattle.state_laws.proofs.Folds.{same_rows, at_key, at_key_reads, is_key, changed_if, fold_reads}
 use Rattle.state_laws.proofs.Folds.{any_picked, number_picked}
 
 -- ---- the folds of a restart, each over one list of rows

@@ -1,22 +1,22 @@
 -- Rows stay within the limits, names distinct, and what a row names exists.
 use Rattle.std.proofs.Common.{◌≡◌, ◌<◌, ◌≤◌, ℕ, Bool, true, false, List, [], ◌∷◌, ◌++◌, length}
 use Rattle.std.proofs.Common.{Some, None, slice_get, inl, inr, refl, sym, ap, ◌∙◌, arith}
-use Rattle.std.specs.Prelude.{is_none, position, nat_lt, if◌then◌else◌}
 use Rattle.std.specs.List.{position_or_len}
+use Rattle.std.specs.Prelude.{is_none, position, nat_lt, if◌then◌else◌}
 use Rattle.std.specs.Str.{bytes_eq}
-use Rattle.std.proofs.lemmas.Slice.Eq.{bytes_eq-Decides}
 use Rattle.std.proofs.lemmas.Bool.{both_ways, ltb-false}
 use Rattle.std.proofs.lemmas.List.{length_push}
-use Rattle.std.proofs.lemmas.Option.{get_or_from_slice_get, slice_get_within}
 use Rattle.std.proofs.lemmas.List.Sums.{fails_before_first}
+use Rattle.std.proofs.lemmas.Option.{get_or_from_slice_get, slice_get_within}
+use Rattle.std.proofs.lemmas.Slice.Eq.{bytes_eq-Decides}
 use Rattle.run_model.specs.declared.bounds.TheConstants.{MOST_SCOPES, MOST_GROUPS, MOST_TASKS}
-use Rattle.run_model.specs.declared.scopes.Scope.{Scope}
 use Rattle.run_model.specs.declared.groups.Group.{Group}
+use Rattle.run_model.specs.declared.scopes.Scope.{Scope}
 use Rattle.run_model.specs.declared.tasks.Task.{Task}
 use Rattle.run_model.specs.Rows.{root}
-use Rattle.run_model.specs.State.{State}
-use Rattle.run_model.specs.Scopes.{is_root}
 use Rattle.run_model.specs.Rules.{AreNumbered}
+use Rattle.run_model.specs.Scopes.{is_root}
+use Rattle.run_model.specs.State.{State}
 use Rattle.run_model.proofs.RowLemmas.{push_cases, slice_get-push_left}
 use Rattle.state_laws.proofs.Shapes.{AreAlike, IsSameScope, IsSameGroup, IsSameTask}
 

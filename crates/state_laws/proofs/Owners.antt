@@ -1,16 +1,15 @@
 -- Each group scope stays that of exactly one group, and each group but a bare one keeps its scope.
-use Rattle.std.proofs.Common.{◌≡◌, ◌⊎◌, ◌<◌, ℕ, Bool, true, false, [], ◌∷◌, ◌++◌, length}
-use Rattle.std.proofs.Common.{Option}
+use Rattle.std.proofs.Common.{◌≡◌, ◌⊎◌, ◌<◌, ℕ, Bool, true, false, [], ◌∷◌, ◌++◌, length, Option}
 use Rattle.std.proofs.Common.{Some, None, slice_get, inl, inr, refl, sym, ap, ◌∙◌, arith}
 use Rattle.std.specs.Option.{option_map_or}
 use Rattle.std.proofs.lemmas.Bool.{both_ways}
 use Rattle.std.proofs.lemmas.Option.{slice_get_within}
+use Rattle.run_model.specs.declared.groups.Group.{Group}
 use Rattle.run_model.specs.declared.scopes.Kind.{Kind}
 use Rattle.run_model.specs.declared.scopes.Scope.{Scope}
-use Rattle.run_model.specs.declared.groups.Group.{Group}
-use Rattle.run_model.specs.State.{State, TreeState, WorkState}
 use Rattle.run_model.specs.Allowed.{has_kind}
 use Rattle.run_model.specs.Rules.{AreGroupScopes, HasScope, HasGroup, Owns, is_group_kind}
+use Rattle.run_model.specs.State.{State, TreeState, WorkState}
 use Rattle.run_model.proofs.RowLemmas.{push_cases, slice_get-push_left, slice_get-push_last}
 use Rattle.state_laws.proofs.Shapes.{AreAlike, IsSameScope, IsSameGroup}
 

@@ -1,23 +1,21 @@
 -- Hits stay on scopes that can be cancelled, of the past, and as deadlines want them.
-use Rattle.std.proofs.Common.{◌≡◌, ◌≤◌, ℕ, Bool, true, false, List, Option, Some, None}
-use Rattle.std.proofs.Common.{slice_get}
+use Rattle.std.proofs.Common.{◌≡◌, ◌≤◌, ℕ, Bool, true, false, List, Option, Some, None, slice_get}
 use Rattle.std.proofs.Common.{inl, inr, refl, sym, ap, ◌∙◌, arith}
-use Rattle.std.specs.Prelude.{is_some, nat_le, IsSome, if◌then◌else◌}
 use Rattle.std.specs.Option.{option_map_or, option_and_then}
+use Rattle.std.specs.Prelude.{is_some, nat_le, IsSome, if◌then◌else◌}
 use Rattle.std.proofs.lemmas.Bool.{leb-true, le-leb, both_ways}
 use Rattle.std.proofs.lemmas.Option.{none-some, same_Some}
+use Rattle.run_model.specs.declared.scopes.Hit.{Hit}
 use Rattle.run_model.specs.declared.scopes.Kind.{Kind}
 use Rattle.run_model.specs.declared.scopes.Kind.TheVariants as kind
 use Rattle.run_model.specs.declared.scopes.Reason.TheVariants.{Canceled, DeadlineExceeded}
-use Rattle.run_model.specs.declared.scopes.Hit.{Hit}
 use Rattle.run_model.specs.declared.scopes.Scope.{Scope}
 use Rattle.run_model.specs.Rows.{at_row, or_else, new_scope}
-use Rattle.run_model.specs.State.{State, TreeState, WorkState}
-use Rattle.run_model.specs.Scopes.{own_hit, own_deadline}
-use Rattle.run_model.specs.TreeChanges.{with_hit, tick, hit_due, expiry, cancellation}
-use Rattle.run_model.specs.TreeChanges.{after_derive}
-use Rattle.run_model.specs.TreeChanges.{after_advance}
 use Rattle.run_model.specs.Rules.{AreHits, AreDeadlines, HasScope, can_be_hit}
+use Rattle.run_model.specs.Scopes.{own_hit, own_deadline}
+use Rattle.run_model.specs.State.{State, TreeState, WorkState}
+use Rattle.run_model.specs.TreeChanges.{with_hit, tick, hit_due, expiry, cancellation, after_derive}
+use Rattle.run_model.specs.TreeChanges.{after_advance}
 use Rattle.run_model.proofs.RowLemmas.{push_cases, at_row_cases, map_cases}
 
 -- A hit that a row of this kind can have behind n events, at this clock.

@@ -1,14 +1,13 @@
 -- Rows that an event changes at their places, and what it leaves alone of each.
-use Rattle.std.proofs.Common.{◌≡◌, ℕ, List, length, map, Option, Some, None, slice_get, inl}
-use Rattle.std.proofs.Common.{inr}
+use Rattle.std.proofs.Common.{◌≡◌, ℕ, List, length, map, Option, Some, None, slice_get, inl, inr}
 use Rattle.std.proofs.Common.{refl, ap, ◌∙◌}
 use Rattle.std.specs.Option.{option_map, option_map_or}
-use Rattle.std.proofs.lemmas.Option.{slice_get-map}
-use Rattle.std.proofs.lemmas.List.{length-map}
 use Rattle.std.proofs.lemmas.Bool.{cases_eq}
-use Rattle.run_model.specs.declared.scopes.Scope.{Scope}
-use Rattle.run_model.specs.declared.scopes.Hit.{Hit}
+use Rattle.std.proofs.lemmas.List.{length-map}
+use Rattle.std.proofs.lemmas.Option.{slice_get-map}
 use Rattle.run_model.specs.declared.groups.Group.{Group}
+use Rattle.run_model.specs.declared.scopes.Hit.{Hit}
+use Rattle.run_model.specs.declared.scopes.Scope.{Scope}
 use Rattle.run_model.specs.declared.tasks.Task.{Task}
 use Rattle.run_model.specs.Rows.{at_row}
 use Rattle.run_model.specs.TreeChanges.{with_hit, tick, hit_due}

@@ -1,14 +1,13 @@
 -- The state of a store that was formatted: root alone.
-use Rattle.std.proofs.Common.{◌≡◌, ℕ, []}
-use Rattle.std.proofs.Common.{inl, inr, refl, sym, ap, ◌∙◌, arith}
+use Rattle.std.proofs.Common.{◌≡◌, ℕ, [], inl, inr, refl, sym, ap, ◌∙◌, arith}
 use Rattle.std.proofs.lemmas.Bool.{both_ways}
 use Rattle.std.proofs.lemmas.Option.{none-some}
-use Rattle.run_model.specs.declared.scopes.Scope.{Scope}
 use Rattle.run_model.specs.declared.groups.Group.{Group}
+use Rattle.run_model.specs.declared.scopes.Scope.{Scope}
 use Rattle.run_model.specs.Rows.{root}
+use Rattle.run_model.specs.Rules.{IsConsistent, HasScope, HasGroup, is_group_kind}
 use Rattle.run_model.specs.Scopes.{is_root, own_deadline}
 use Rattle.run_model.specs.State.{formatted, new_tree, new_work}
-use Rattle.run_model.specs.Rules.{IsConsistent, HasScope, HasGroup, is_group_kind}
 use Rattle.run_model.proofs.RowLemmas.{push_cases}
 use Rattle.state_laws.proofs.RightHits.{AreRight, hits_right, deadlines_right}
 

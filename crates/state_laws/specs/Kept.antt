@@ -1,9 +1,9 @@
 -- What every event keeps.
 use Rattle.std.specs.Prelude.{◌≡◌, List, Some}
-use Rattle.run_model.specs.Event.{Event}
-use Rattle.run_model.specs.State.{State}
 use Rattle.run_model.specs.Allowed.{after, run}
+use Rattle.run_model.specs.Event.{Event}
 use Rattle.run_model.specs.Rules.{IsConsistent}
+use Rattle.run_model.specs.State.{State}
 
 -- An allowed event leads from a consistent state to one of which this holds.
 abbrev pub IsKeptByEvents : (State → Type 0) → Type 0

@@ -1,8 +1,8 @@
 -- What a restart leaves of a state.
-use Rattle.std.specs.Prelude.{◌≡◌, ℕ, ◌+◌, ◌==◌, Bool, false, not, ◌&&◌, if◌then◌else◌, List}
-use Rattle.std.specs.Prelude.{map, Option, Some, None, slice_get, codes}
 use Rattle.std.specs.List.{list_any}
 use Rattle.std.specs.Option.{option_map, option_map_or}
+use Rattle.std.specs.Prelude.{◌≡◌, ℕ, ◌+◌, ◌==◌, Bool, false, not, ◌&&◌, if◌then◌else◌, List, map}
+use Rattle.std.specs.Prelude.{Option, Some, None, slice_get, codes}
 use Rattle.run_model.specs.declared.groups.Group.{Group}
 use Rattle.run_model.specs.declared.scopes.Hit.{Hit}
 use Rattle.run_model.specs.declared.scopes.Reason.TheVariants.{Canceled}
