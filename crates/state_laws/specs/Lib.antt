@@ -1,3 +1,2 @@
 pub mod GroupEnds
-pub mod Kept
 pub mod Restarts
