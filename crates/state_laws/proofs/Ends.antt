@@ -105,7 +105,7 @@ end_by e p g cause (Some s) own counted rooted scopes right =
     let owner = owner_found p.work g s (slice_get p.work.groups g) refl own in
     hit_cancelled e s cause p.tree counted rooted (can_be p g s owner.0 scopes owner.1) right
 
--- The tree behind the end of a group.
+-- The tree after the end of a group.
 pub hit_ended : (e : ℕ) (p : State) (g : ℕ) (cause : Option (List ℕ)) → p.count ≤ e → 1 ≤ e
     → IsConsistent p → IsHit e p.tree (after_group_cancel e p.work g cause p.tree)
 hit_ended e p g cause more counted kept =

@@ -208,7 +208,7 @@ lives_by : (o : Option Group) (s : ℕ)
 lives_by None s = refl
 lives_by (Some row) s = lives_if row.bare row.scope s
 
--- ---- the rows behind a restart
+-- ---- the rows after a restart
 
 task_at : (w : WorkState) (m : ℕ)
     → slice_get (fold after_interrupt w (running_tasks w)).tasks m

@@ -18,7 +18,7 @@ use Rattle.run_model.specs.TreeChanges.{with_hit, tick, hit_due, expiry, cancell
 use Rattle.run_model.specs.TreeChanges.{after_advance}
 use Rattle.run_model.proofs.RowLemmas.{push_cases, at_row_cases, map_cases}
 
--- A hit that a row of this kind can have behind n events, at this clock.
+-- A hit that a row of this kind can have after n events, at this clock.
 pub record IsRightHit (n clock : ℕ) (of : Kind) (hit : Hit) : Type 0 where
   pub kind : can_be_hit of ≡ true
   pub counted : 1 ≤ hit.event

@@ -41,7 +41,7 @@ abbrev pub hit_restarted : Bool → Hit → Option Hit → Option Hit
 hit_restarted hosting new (Some hit) = Some hit
 hit_restarted hosting new None = if hosting then Some new else None
 
--- The hit of the restart behind this state.
+-- The hit that a restart of this state makes.
 abbrev pub restart_hit : State → Hit
 restart_hit p =
     record {
@@ -51,20 +51,20 @@ restart_hit p =
       cause = codes "interrupted";
     }
 
--- The row of a task behind a restart: its stage may change, and nothing else.
+-- The row of a task after a restart: its stage may change, and nothing else.
 abbrev pub task_restarted : Task → Task
 task_restarted row = record row { stage = stage_restarted row.stage }
 
--- The row of group g behind a restart: its error may change, and nothing else.
+-- The row of group g after a restart: its error may change, and nothing else.
 abbrev pub group_restarted : State → ℕ → Group → Group
 group_restarted p g row = record row { error = error_restarted (has_running p.work g) row.error }
 
--- The row of scope s behind a restart: its hit may change, and nothing else.
+-- The row of scope s after a restart: its hit may change, and nothing else.
 abbrev pub scope_restarted : State → ℕ → Scope → Scope
 scope_restarted p s row =
     record row { hit = hit_restarted (hosts_running p.work s) (restart_hit p) row.hit }
 
--- The second state is the first one behind a restart.
+-- The second state is the first one after a restart.
 pub record IsRestart (p q : State) : Type 0 where
   pub counted : q.count ≡ p.count + 1
   pub clock : q.tree.clock ≡ p.tree.clock

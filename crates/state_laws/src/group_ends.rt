@@ -8,7 +8,7 @@ ghost use Rattle.run_model.specs.Step.{step, own_scope, after_group_cancel};
 ghost use Rattle.run_model.specs.WorkChanges.{group_of_task};
 ghost use Rattle.state_laws.specs.GroupEnds.{HasGroupEnded};
 
-/// A group cancels its scope once: behind its first error or its wait, no error of a task, no
+/// A group cancels its scope once: after its first error or its wait, no error of a task, no
 /// wait, no restart and no other cancel of the group's changes the scope.
 pub fn a_group_ends_once()
     ensures errors { (p : State) (n : ℕ) (text : List ℕ) → HasGroupEnded p (group_of_task p.work n)
