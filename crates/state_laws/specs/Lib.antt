@@ -1,0 +1,2 @@
+pub mod GroupEnds
+pub mod Restarts
