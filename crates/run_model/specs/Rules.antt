@@ -113,8 +113,8 @@ pub record AreAdmitted (w : WorkState) : Type 0 where
 abbrev pub has_task_error : WorkState → ℕ → Bool
 has_task_error w g = list_any (λ task. task.group == g && ended_in_error task.stage) w.tasks
 
--- 6. A group has a first error exactly where a task of it was lost; the scope of a group that isn't
--- bare and has an error or was waited for was hit.
+-- 6. A group has a first error exactly where a task of it ended in failure or was interrupted; the
+-- scope of a group that isn't bare and has an error or was waited for has a hit.
 pub record AreErrors (p : State) : Type 0 where
   pub exact : (g : ℕ) (row : Group) → HasGroup p.work g row
       → IsSome row.error ↔ IsTrue (has_task_error p.work g)
