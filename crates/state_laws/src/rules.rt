@@ -6,7 +6,7 @@ ghost use Rattle.std.specs.Prelude.{◌≡◌, List, Some};
 ghost use Rattle.run_model.specs.Event.{Event};
 ghost use Rattle.run_model.specs.State.{State, formatted};
 ghost use Rattle.run_model.specs.Allowed.{after, run};
-ghost use Rattle.run_model.specs.Rules.{IsConsistent, IsWellFormed};
+ghost use Rattle.run_model.specs.Rules.{IsConsistent};
 
 /// Each event that is allowed keeps the six rules, a restart too, and so does a run of events.
 pub fn events_keep_the_rules()
@@ -19,9 +19,4 @@ pub fn events_keep_the_rules()
 /// The six rules hold of a store that was formatted.
 pub fn the_rules_hold_at_first()
     ensures { IsConsistent formatted }
-{}
-
-/// A state that keeps the six rules is well formed.
-pub fn the_rules_make_well_formed()
-    ensures { (p : State) → IsConsistent p → IsWellFormed p }
 {}

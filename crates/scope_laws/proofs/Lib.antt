@@ -1,0 +1,10 @@
+pub mod Lines
+pub mod RunLemmas
+pub mod Reaches
+pub mod Least
+pub mod Follows
+pub mod Steps
+pub mod WellFormed
+pub mod Relates
+pub mod Stays
+pub mod Levels

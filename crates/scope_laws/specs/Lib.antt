@@ -1,0 +1,4 @@
+pub mod Endings
+pub mod Hits
+pub mod Runs
+pub mod Searches
