@@ -1,0 +1,4 @@
+pub mod Answers
+pub mod Decided
+pub mod Queues
+pub mod Reserves

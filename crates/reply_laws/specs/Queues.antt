@@ -1,0 +1,28 @@
+-- The queue of a group's tasks, as lists of numbers.
+use Rattle.std.specs.Prelude.{◌≡◌, ◌≤◌, ℕ, ◌==◌, true, false, ◌&&◌, Bool, List, slice_get, filter}
+use Rattle.std.specs.Option.{option_map_or}
+use Rattle.run_model.specs.State.{WorkState}
+use Rattle.run_model.specs.Tasks.{is_unfinished, is_admitted, is_ready, task_numbers}
+
+-- A task is the least ready one where it is ready, and no ready task has a lesser number.
+pub record IsLeastReady (w : WorkState) (n : ℕ) : Type 0 where
+  pub ready : is_ready w n ≡ true
+  pub least : (m : ℕ) → is_ready w m ≡ true → n ≤ m
+
+-- Task n is an unfinished one of group g.
+abbrev pub is_unfinished_of : WorkState → ℕ → ℕ → Bool
+is_unfinished_of w g n =
+    option_map_or (λ task. task.group == g && is_unfinished task.stage) (slice_get w.tasks n) false
+
+-- Task n is an admitted one of group g.
+abbrev pub is_admitted_of : WorkState → ℕ → ℕ → Bool
+is_admitted_of w g n =
+    option_map_or (λ task. task.group == g && is_admitted w n task) (slice_get w.tasks n) false
+
+-- The unfinished tasks of a group, by ascending number.
+abbrev pub unfinished_tasks : WorkState → ℕ → List ℕ
+unfinished_tasks w g = filter (is_unfinished_of w g) (task_numbers w)
+
+-- The admitted tasks of a group, by ascending number.
+abbrev pub admitted_tasks : WorkState → ℕ → List ℕ
+admitted_tasks w g = filter (is_admitted_of w g) (task_numbers w)

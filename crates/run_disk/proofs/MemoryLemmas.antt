@@ -1,0 +1,354 @@
+-- What each call does to a disk in memory.
+use Rattle.std.proofs.Common.{◌≡◌, ◌⊎◌, ◌<◌, ◌≤◌, ◌+◌, ◌-◌, ℕ, false, List, [], ◌∷◌, ◌++◌, Ok}
+use Rattle.std.proofs.Common.{Err, length, get_or, take, drop, refl, sym, ◌∙◌, ap, subst, inl}
+use Rattle.std.proofs.Common.{inr, arith, nat_le, unwrap_or}
+use Rattle.std.specs.List.{All}
+use Rattle.std.proofs.lemmas.Bool.{cases_lt, le-ltb, lt-leb}
+use Rattle.std.proofs.lemmas.List.{get_or_past, length-take-le, length-drop, get_or-take}
+use Rattle.std.proofs.lemmas.List.{get_or-drop}
+use Rattle.std.proofs.lemmas.List.Folds.{list_any-append}
+use Rattle.std.proofs.lemmas.List.Elements.{All-weaker, All-push}
+use borrow.Rule.Slice.PartMut.{put_mid}
+use Rattle.run_disk.specs.declared.tears.Torn.TheVariants.{Take}
+use Rattle.run_disk.specs.Contents.{SameOutside, Puts, Within, Follows}
+use Rattle.run_disk.specs.Disk.{last_moment}
+use Rattle.run_disk.specs.Calls.{Calls, Reads, Writes, Syncs}
+use Rattle.run_disk.specs.Writes.{Write, History, and_write, and_sync}
+use Rattle.run_disk.specs.History.{IsImage, IsLeftSince, byte_put, byte_after, is_unsynced, covers}
+use Rattle.run_disk.specs.Memory.{IsKept, memory_state}
+use Rattle.run_disk.proofs.ContentsLemmas.{same_all}
+use Rattle.run_disk.proofs.PlaceLemmas.{puts_byte, puts_mid, byte_put-outside}
+use Rattle.run_disk.proofs.NewestLemmas.{byte-push}
+use Rattle.run_disk.proofs.MomentLemmas.{and_false, byte_whole, tears, byte_after-whole}
+use Rattle.run_disk.proofs.MomentLemmas.{is_unsynced-quiet, byte_after-later_write}
+use Rattle.run_disk.proofs.MomentLemmas.{is_unsynced-later_write, byte_after-later_sync}
+use Rattle.run_disk.proofs.MomentLemmas.{is_unsynced-later_sync, is_unsynced-synced}
+
+module _ (h : History) (bytes : List ℕ) (clock failures : ℕ)
+    (kept : IsKept h bytes clock failures) where
+  made_next : All (λ w. w.moment < clock + 1) h.writes
+  made_next = All-weaker (λ w. w.moment < clock) (λ w. w.moment < clock + 1)
+      (λ w earlier. omega arith) h.writes kept.made
+
+  synced_next : All (λ sync. sync < clock + 1) h.syncs
+  synced_next = All-weaker (λ sync. sync < clock) (λ sync. sync < clock + 1)
+      (λ sync earlier. omega arith) h.syncs kept.synced
+
+  -- what reads give, at each place
+  now_whole : (i : ℕ) → i < length bytes → get_or bytes i 0 ≡ byte_whole h i
+  now_whole i below = kept.now.bytes i below ∙ byte_after-whole h clock i kept.made
+
+  -- A call that keeps nothing: a read, or one for which memory was refused.
+  pub quiet_kept : (failed : ℕ) → clock < last_moment → failed ≤ clock + 1
+      → IsKept h bytes (clock + 1) failed
+  quiet_kept failed early fit = record {
+    now = record {
+      size = kept.now.size;
+      bytes = λ i below. now_whole i below ∙ sym (byte_after-whole h (clock + 1) i made_next);
+    };
+    inside = kept.inside;
+    made = made_next;
+    synced = synced_next;
+    failures_fit = fit;
+    clock_fits = omega arith;
+    size_fits = kept.size_fits;
+  }
+
+  pub quiet_images : Within (IsImage h (clock + 1)) (IsImage h clock)
+  quiet_images x is = record {
+    size = is.size;
+    bytes = λ i below synced.
+        is.bytes i below (is_unsynced-quiet h clock i kept.made kept.synced ∙ synced)
+        ∙ byte_after-whole h (clock + 1) i made_next
+        ∙ sym (byte_after-whole h clock i kept.made);
+  }
+
+  pub quiet_reads : (failed : ℕ)
+      → Reads (memory_state h bytes clock failures) (memory_state h bytes (clock + 1) failed)
+  quiet_reads failed = record {
+    now = refl;
+    images = quiet_images;
+    unsure = λ i waits. waits;
+  }
+
+  -- A write for which memory was refused, and such a sync.
+  pub refused_writes : {T E : Type 0} (failed at : ℕ) (other : List ℕ) (e : E)
+      → Writes {T = T} {E = E} at other (memory_state h bytes clock failures)
+      (memory_state h bytes (clock + 1) failed) (Err e)
+  refused_writes failed at other e = record {
+    elsewhere = same_all at (length other) bytes;
+    written = tt;
+    images = λ x is. (x, quiet_images x is, same_all at (length other) x);
+    sure = tt;
+    unsure = λ i waits. inl waits;
+  }
+
+  pub refused_syncs : {T E : Type 0} (failed : ℕ) (e : E)
+      → Syncs {T = T} {E = E} (memory_state h bytes clock failures)
+      (memory_state h bytes (clock + 1) failed) (Err e)
+  refused_syncs failed e = record {
+    now = refl;
+    images = quiet_images;
+    unsure = λ i waits. waits;
+    synced = tt;
+  }
+
+  -- A crash at an earlier moment leaves what it left, whatever is kept now.
+  since_grows : (later : History) → ((m : ℕ) → m ≤ clock → Within (IsImage h m) (IsImage later m))
+      → (t : ℕ) → Within (IsLeftSince h clock t) (IsLeftSince later (clock + 1) t)
+  since_grows later same t x left =
+      (left.0, left.1, omega (arith, left.2), same left.0 left.2 x left.3)
+
+  since_adds : (later : History) → ((m : ℕ) → m ≤ clock → Within (IsImage later m) (IsImage h m))
+      → (t : ℕ) (x : List ℕ) → IsLeftSince later (clock + 1) t x
+      → IsLeftSince h clock t x ⊎ IsImage later (clock + 1) x
+  since_adds later same t x left = elim (cases_lt clock left.0) [
+    | inl last ↦
+        let now : left.0 ≡ clock + 1 = omega (arith, left.2) in
+        inr (subst (λ m. IsImage later m x) now left.3)
+    | inr early ↦ inl (left.0, left.1, early, same left.0 early x left.3)
+  ]
+
+  -- A write that was kept.
+  module _ (at : ℕ) (other new : List ℕ) (fits : at + length other ≤ length bytes)
+      (put : Puts at other bytes new) where
+    abbrev write : Write
+    write = record { moment = clock; at = at; bytes = other }
+
+    write_earlier : (m : ℕ) → m ≤ clock → Within (IsImage (and_write h write) m) (IsImage h m)
+    write_earlier m early x is = record {
+      size = is.size;
+      bytes = λ i below synced.
+          is.bytes i below (is_unsynced-later_write h write m i early ∙ synced)
+          ∙ byte_after-later_write h write m i early;
+    }
+
+    write_kept : (m : ℕ) → m ≤ clock → Within (IsImage h m) (IsImage (and_write h write) m)
+    write_kept m early x is = record {
+      size = is.size;
+      bytes = λ i below synced.
+          is.bytes i below (sym (is_unsynced-later_write h write m i early) ∙ synced)
+          ∙ sym (byte_after-later_write h write m i early);
+    }
+
+    write_made : All (λ w. w.moment < clock + 1) (h.writes ++ write ∷ [])
+    write_made = All-push (λ w. w.moment < clock + 1) h.writes write made_next (omega arith)
+
+    -- a place's byte behind it
+    behind_write : (i : ℕ) → byte_after Take (and_write h write) (clock + 1) i
+        ≡ unwrap_or (byte_put at other i) (byte_whole h i)
+    behind_write i = byte_after-whole (and_write h write) (clock + 1) i write_made
+        ∙ byte-push (λ w. w.bytes) h.writes write i (get_or h.first i 0)
+
+    pub written_kept : (failed : ℕ) → clock < last_moment → failed ≤ clock + 1
+        → IsKept (and_write h write) new (clock + 1) failed
+    written_kept failed early fit = record {
+      now = record {
+        size = put.outside.size ∙ kept.now.size;
+        bytes = λ i below.
+            puts_byte at other bytes new put i
+            ∙ ap (unwrap_or (byte_put at other i))
+            (now_whole i (omega (arith, put.outside.size)))
+            ∙ sym (behind_write i);
+      };
+      inside = All-push (λ w. w.at + length w.bytes ≤ length h.first) h.writes write kept.inside
+          (omega (arith, kept.now.size));
+      made = write_made;
+      synced = synced_next;
+      failures_fit = fit;
+      clock_fits = omega arith;
+      size_fits = omega (arith, put.outside.size, kept.size_fits);
+    }
+
+    -- an image behind it comes from one before it, which has what reads gave in its range
+    abbrev back : List ℕ → List ℕ
+    back x = put_mid at (length other) x (take (length other) (drop at bytes))
+
+    covers_not : (i : ℕ) → ((i < at) ⊎ (at + length other ≤ i)) → covers i write ≡ false
+    covers_not i (inl before) = simp (lt-leb at i before)
+    covers_not i (inr behind) = simp (le-ltb i (at + length other) behind) (and_false (nat_le at i))
+
+    is_unsynced-outside : (i : ℕ) → ((i < at) ⊎ (at + length other ≤ i))
+        → is_unsynced h clock i ≡ false → is_unsynced (and_write h write) (clock + 1) i ≡ false
+    is_unsynced-outside i outside synced =
+        let test = tears h.syncs (clock + 1) i in
+        list_any-append test h.writes (write ∷ [])
+        ∙ simp (is_unsynced-quiet h clock i kept.made kept.synced ∙ synced, covers_not i outside)
+        (simp (and_false))
+
+    lent : length (take (length other) (drop at bytes)) ≡ length other
+    lent = length-take-le (length other) (drop at bytes) (omega (arith, length-drop {A = ℕ}))
+
+    back_puts : (x : List ℕ) → length x ≡ length bytes
+        → Puts at (take (length other) (drop at bytes)) x (back x)
+    back_puts x size =
+        let part = take (length other) (drop at bytes) in
+        let puts = puts_mid at part x (omega (arith, lent, size)) in
+        subst (λ n. Puts at part x
+        (put_mid at n x (take (length other) (drop at bytes)))) lent puts
+
+    -- its byte in the range, and outside
+    back-inside : (x : List ℕ) → length x ≡ length bytes → (j : ℕ) → j < length other
+        → get_or (back x) (at + j) 0 ≡ get_or bytes (at + j) 0
+    back-inside x size j below =
+        (back_puts x size).inside j (omega (arith, lent))
+        ∙ get_or-take (length other) (drop at bytes) j 0 below ∙ get_or-drop at bytes j 0
+
+    back_same : (x : List ℕ) → length x ≡ length bytes → SameOutside at (length other) (back x) x
+    back_same x size =
+        let same = (back_puts x size).outside in
+        record {
+          size = sym same.size;
+          before = λ i below. sym (same.before i below);
+          behind = λ i above. sym (same.behind i (omega (arith, lent)));
+        }
+
+    back-bytes : (x : List ℕ) → IsImage (and_write h write) (clock + 1) x
+        → length x ≡ length bytes → (i : ℕ) → i < length x → is_unsynced h clock i ≡ false
+        → get_or (back x) i 0 ≡ byte_after Take h clock i
+    back-bytes x is size i below synced = elim (cases_lt i at) [
+      | inl before ↦ away (inl before)
+      | inr from ↦ elim (cases_lt i (at + length other)) [
+        | inl to ↦
+            let place : at + (i - at) ≡ i = omega arith in
+            ap (λ m. get_or (back x) m 0) (sym place)
+            ∙ back-inside x size (i - at) (omega arith)
+            ∙ ap (λ m. get_or bytes m 0) place
+            ∙ kept.now.bytes i (omega (arith, size))
+        | inr behind ↦ away (inr behind)
+      ]
+    ]
+      where
+        outside_same : ((i < at) ⊎ (at + length other ≤ i)) → get_or (back x) i 0 ≡ get_or x i 0
+        outside_same (inl before) = sym ((back_same x size).before i before)
+        outside_same (inr behind) = sym ((back_same x size).behind i behind)
+
+        away : ((i < at) ⊎ (at + length other ≤ i))
+            → get_or (back x) i 0 ≡ byte_after Take h clock i
+        away outside =
+            outside_same outside
+            ∙ is.bytes i below (is_unsynced-outside i outside synced)
+            ∙ behind_write i
+            ∙ ap (λ o. unwrap_or o (byte_whole h i)) (byte_put-outside at other i outside)
+            ∙ sym (byte_after-whole h clock i kept.made)
+
+    pub written_images : Follows (SameOutside at (length other))
+        (IsImage h clock) (IsImage (and_write h write) (clock + 1))
+    written_images x is =
+        let size : length x ≡ length bytes = is.size ∙ sym kept.now.size in
+        let same = back_same x size in (
+          back x,
+          record {
+            size = sym same.size ∙ is.size;
+            bytes = λ i below synced.
+                back-bytes x is size i (omega (arith, same.size)) synced;
+          },
+          same,
+        )
+
+    pub written_writes : {T E : Type 0} (result : T)
+        → Writes {T = T} {E = E} at other (memory_state h bytes clock failures)
+        (memory_state (and_write h write) new (clock + 1) failures) (Ok result)
+    written_writes result = record {
+      elsewhere = put.outside;
+      written = put.inside;
+      images = written_images;
+      sure = λ i waits. absurd waits;
+      unsure = tt;
+    }
+
+    pub written_calls : {T E : Type 0} (result : T) → clock < last_moment
+        → Calls {T = T} {E = E} (memory_state h bytes clock failures)
+        (memory_state (and_write h write) new (clock + 1) failures) (Ok result)
+    written_calls result early = record {
+      size = put.outside.size;
+      honest = λ is. is;
+      honest_before = λ is. is;
+      ticks = λ now. refl;
+      fine = (early, refl);
+      fails = tt;
+      spent = λ last. absurd (omega arith);
+      nothing_else = λ t x before left. since_adds (and_write h write) write_earlier t x left;
+      keeps = λ t x before left. since_grows (and_write h write) write_kept t x left;
+    }
+
+  -- A sync that was kept.
+  sync_earlier : (m : ℕ) → m ≤ clock → Within (IsImage (and_sync h clock) m) (IsImage h m)
+  sync_earlier m early x is = record {
+    size = is.size;
+    bytes = λ i below synced.
+        is.bytes i below (is_unsynced-later_sync h clock m i early ∙ synced)
+        ∙ byte_after-later_sync h clock m i;
+  }
+
+  sync_kept : (m : ℕ) → m ≤ clock → Within (IsImage h m) (IsImage (and_sync h clock) m)
+  sync_kept m early x is = record {
+    size = is.size;
+    bytes = λ i below synced.
+        is.bytes i below (sym (is_unsynced-later_sync h clock m i early) ∙ synced)
+        ∙ sym (byte_after-later_sync h clock m i);
+  }
+
+  pub synced_kept : (failed : ℕ) → clock < last_moment → failed ≤ clock + 1
+      → IsKept (and_sync h clock) bytes (clock + 1) failed
+  synced_kept failed early fit = record {
+    now = record {
+      size = kept.now.size;
+      bytes = λ i below.
+          now_whole i below ∙ sym (byte_after-whole (and_sync h clock) (clock + 1) i made_next);
+    };
+    inside = kept.inside;
+    made = made_next;
+    synced = All-push (λ sync. sync < clock + 1) h.syncs clock synced_next (omega arith);
+    failures_fit = fit;
+    clock_fits = omega arith;
+    size_fits = kept.size_fits;
+  }
+
+  -- behind it a crash leaves what reads give
+  synced_byte : (x : List ℕ) → IsImage (and_sync h clock) (clock + 1) x → (i : ℕ) → i < length x
+      → get_or x i 0 ≡ get_or bytes i 0
+  synced_byte x is i below =
+      is.bytes i below (is_unsynced-synced h clock i kept.made)
+      ∙ byte_after-whole (and_sync h clock) (clock + 1) i made_next
+      ∙ sym (now_whole i (omega (arith, is.size, kept.now.size)))
+
+  synced_images : Within (IsImage (and_sync h clock) (clock + 1)) (IsImage h clock)
+  synced_images x is = record {
+    size = is.size;
+    bytes = λ i below synced.
+        synced_byte x is i below ∙ kept.now.bytes i (omega (arith, is.size, kept.now.size));
+  }
+
+  pub synced_syncs : {T E : Type 0} (result : T)
+      → Syncs {T = T} {E = E} (memory_state h bytes clock failures)
+      (memory_state (and_sync h clock) bytes (clock + 1) failures) (Ok result)
+  synced_syncs result = record {
+    now = refl;
+    images = synced_images;
+    unsure = λ i waits. waits;
+    synced = record { only = λ x is i sure. anywhere x is i };
+  }
+    where
+      anywhere : (x : List ℕ) → IsImage (and_sync h clock) (clock + 1) x → (i : ℕ)
+          → get_or x i 0 ≡ get_or bytes i 0
+      anywhere x is i = elim (cases_lt i (length x)) [
+        | inl below ↦ synced_byte x is i below
+        | inr past ↦ get_or_past x i 0 past
+            ∙ sym (get_or_past bytes i 0 (omega (arith, is.size, kept.now.size)))
+      ]
+
+  pub synced_calls : {T E : Type 0} (result : T) → clock < last_moment
+      → Calls {T = T} {E = E} (memory_state h bytes clock failures)
+      (memory_state (and_sync h clock) bytes (clock + 1) failures) (Ok result)
+  synced_calls result early = record {
+    size = refl;
+    honest = λ is. is;
+    honest_before = λ is. is;
+    ticks = λ now. refl;
+    fine = (early, refl);
+    fails = tt;
+    spent = λ last. absurd (omega arith);
+    nothing_else = λ t x before left. since_adds (and_sync h clock) sync_earlier t x left;
+    keeps = λ t x before left. since_grows (and_sync h clock) sync_kept t x left;
+  }

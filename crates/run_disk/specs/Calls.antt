@@ -1,0 +1,45 @@
+-- What one read, write or sync does to a disk.
+use Rattle.std.specs.Prelude.{◌≡◌, ◌⊎◌, ◌<◌, ◌≤◌, ◌+◌, ℕ, List, length, Result, OnOk, OnErr}
+use Rattle.run_disk.specs.Contents.{SameOutside, Holds, Within, Follows}
+use Rattle.run_disk.specs.Disk.{DiskState, IsSame, IsSynced, last_moment}
+
+-- What each call does, on any disk: it is counted, and so is its failure; a crash inside it leaves
+-- what a crash before it or behind it may leave; on a spent disk it fails and changes nothing.
+pub record Calls {T E : Type 0} (old new : DiskState) (result : Result T E) : Type 0 where
+  pub size : new.size ≡ old.size
+  pub honest : old.honest → new.honest
+  pub honest_before : new.honest → old.honest
+  pub ticks : old.clock < last_moment → new.clock ≡ old.clock + 1
+  pub fine : OnOk result ((old.clock < last_moment) × (new.failures ≡ old.failures))
+  pub fails : OnErr result (old.clock < last_moment → new.failures ≡ old.failures + 1)
+  pub spent : old.clock ≡ last_moment → IsSame old new
+  pub nothing_else :
+      (t : ℕ) (x : List ℕ) → t ≤ old.clock → new.since t x → old.since t x ⊎ new.images x
+  pub keeps : (t : ℕ) (x : List ℕ) → t ≤ old.clock → old.since t x → new.since t x
+
+-- What a read does to an honest disk, at a failure too: nothing.
+pub record Reads (old new : DiskState) : Type 0 where
+  pub now : new.now ≡ old.now
+  pub images : Within new.images old.images
+  pub unsure : (i : ℕ) → new.unsure i → old.unsure i
+
+-- What a write of these bytes does to an honest disk: each of the new images is an old one with
+-- anything in the written range. At Ok reads give the bytes there, and no failed write waits there;
+-- at a failure what reads give there is unknown until it is written again.
+pub record Writes {T E : Type 0}
+    (at : ℕ) (bytes : List ℕ) (old new : DiskState) (result : Result T E) : Type 0 where
+  pub elsewhere : SameOutside at (length bytes) old.now new.now
+  pub written : OnOk result (Holds at bytes new.now)
+  pub images : Follows (SameOutside at (length bytes)) old.images new.images
+  pub sure : OnOk result
+      ((i : ℕ) → new.unsure i → old.unsure i × ((i < at) ⊎ (at + length bytes ≤ i)))
+  pub unsure : OnErr result
+      ((i : ℕ) → new.unsure i → old.unsure i ⊎ ((at ≤ i) × (i < at + length bytes)))
+
+-- What a sync does to an honest disk: reads give the same bytes, and no image is added. At Ok the
+-- disk is synced.
+pub record Syncs {T E : Type 0} (old new : DiskState) (result : Result T E) : Type 0 where
+  pub now : new.now ≡ old.now
+  pub images : Within new.images old.images
+  pub unsure : (i : ℕ) → new.unsure i → old.unsure i
+  pub synced : OnOk result (IsSynced new)

@@ -1,0 +1,67 @@
+-- A disk at one moment: what reads give, and what a crash may leave or may have left.
+use Rattle.std.specs.Prelude.{◌≡◌, ◌<◌, ◌≤◌, ◌-◌, ◌^◌, ℕ, List, length, get_or}
+
+-- What contracts see of a disk.
+pub record DiskState : Type 1 where
+  -- how many bytes it has
+  pub size : ℕ
+  -- the bytes that reads give
+  pub now : List ℕ
+  -- the contents that a crash now may leave
+  pub images : List ℕ → Type 0
+  -- the contents that a crash may have left at some moment from that one on, inside calls too
+  pub since : ℕ → List ℕ → Type 0
+  -- the moment: how many reads, writes and syncs were made
+  pub clock : ℕ
+  -- how many of these failed
+  pub failures : ℕ
+  -- that it behaves as the clauses on its bytes say
+  pub honest : Type 0
+  -- the places of failed writes that were not written again
+  pub unsure : ℕ → Type 0
+
+-- The last moment: a disk that has reached it is spent, and each further call fails.
+abbrev pub last_moment : ℕ
+last_moment = 2 ^ 64 - 1
+
+-- What is true of every disk at every moment.
+pub record IsDisk (s : DiskState) : Type 0 where
+  pub size_fits : s.size < 2 ^ 64
+  pub clock_fits : s.clock < 2 ^ 64
+  pub failures_fit : s.failures ≤ s.clock
+  -- of an honest disk: all contents have its size, and a crash may leave what reads give
+  pub size_now : s.honest → length s.now ≡ s.size
+  pub size_image : s.honest → (x : List ℕ) → s.images x → length x ≡ s.size
+  pub now_is_image : s.honest → s.images s.now
+  -- this moment is one of those since an earlier one, and there is no later one yet
+  pub counts_now : (t : ℕ) (x : List ℕ) → t ≤ s.clock → s.images x → s.since t x
+  pub only_now : (x : List ℕ) → s.since s.clock x → s.images x
+
+-- It is synced: whatever a crash now leaves, each place has what reads give there, but for the
+-- places of failed writes that were not written again.
+pub record IsSynced (s : DiskState) : Type 0 where
+  pub only :
+      (x : List ℕ) → s.images x → (i : ℕ) → (s.unsure i → ⊥) → get_or x i 0 ≡ get_or s.now i 0
+
+-- It is at rest: a crash leaves what reads give, and no failed write waits to be written again.
+pub record IsAtRest (s : DiskState) : Type 0 where
+  pub only : (x : List ℕ) → s.images x → x ≡ s.now
+  pub sure : (i : ℕ) → s.unsure i → ⊥
+
+-- It begins with these bytes: it is honest and at rest, reads give them, and no call was counted.
+pub record Begins (bytes : List ℕ) (s : DiskState) : Type 0 where
+  pub honest : s.honest
+  pub rest : IsAtRest s
+  pub now : s.now ≡ bytes
+  pub size : s.size ≡ length bytes
+  pub clock : s.clock ≡ 0
+  pub failures : s.failures ≡ 0
+
+-- Nothing has changed, the two counts included.
+pub record IsSame (old new : DiskState) : Type 0 where
+  pub now : new.now ≡ old.now
+  pub images : (x : List ℕ) → new.images x → old.images x
+  pub since : (t : ℕ) (x : List ℕ) → new.since t x → old.since t x
+  pub clock : new.clock ≡ old.clock
+  pub failures : new.failures ≡ old.failures
+  pub unsure : (i : ℕ) → new.unsure i → old.unsure i

@@ -1,0 +1,70 @@
+-- What a disk in memory keeps of its calls, and the bytes that a crash leaves of it.
+--
+-- A moment is the number of calls that were made before it.
+use Rattle.std.specs.Prelude.{◌≡◌, ◌<◌, ◌≤◌, ◌+◌, ◌-◌, ◌&&◌, ℕ, Bool, false, not, List, [], ◌∷◌}
+use Rattle.std.specs.Prelude.{Option, None, length, get_or, take, replicate, slice_get, nat_lt}
+use Rattle.std.specs.Prelude.{nat_le, if◌then◌else◌, unwrap_or}
+use Rattle.std.specs.Option.{option_or}
+use Rattle.std.specs.List.{list_any}
+use Rattle.run_disk.specs.Writes.{Write, History}
+use Rattle.run_disk.specs.declared.tears.Torn.{Torn}
+use Rattle.run_disk.specs.declared.tears.Torn.TheVariants.{Keep, Take, Fill, Front}
+
+-- A sync was made behind this moment, among the first k calls.
+abbrev pub is_synced : List ℕ → ℕ → ℕ → Bool
+is_synced syncs k moment = list_any (λ sync. nat_lt moment sync && nat_lt sync k) syncs
+
+-- Of the bytes of a write that is torn this way, these are left: none, all, as many of one value,
+-- or the first ones.
+abbrev pub torn_bytes : Torn → List ℕ → List ℕ
+torn_bytes Keep bytes = []
+torn_bytes Take bytes = bytes
+torn_bytes (Fill value) bytes = replicate (length bytes) value
+torn_bytes (Front n) bytes = take n bytes
+
+-- Behind the first k calls this is left of a write: nothing where it comes later, all where a sync
+-- followed it, and else what the tearing leaves.
+abbrev pub left_of : Torn → List ℕ → ℕ → Write → List ℕ
+left_of torn syncs k w =
+    if nat_lt w.moment k
+    then (if is_synced syncs k w.moment then w.bytes else torn_bytes torn w.bytes)
+    else []
+
+-- The byte that these bytes, put in from `at` on, give a place, if they reach it.
+abbrev pub byte_put : ℕ → List ℕ → ℕ → Option ℕ
+byte_put at bytes i = if nat_le at i then slice_get bytes (i - at) else None
+
+-- The byte of a place by the newest of these writes that reaches it with what is left of it.
+abbrev pub newest : (Write → List ℕ) → List Write → ℕ → Option ℕ
+newest left [] i = None
+newest left (w ∷ ws) i = option_or (newest left ws i) (byte_put w.at (left w) i)
+
+-- The byte of a place behind the first k calls, with each unsynced write torn this way.
+abbrev pub byte_after : Torn → History → ℕ → ℕ → ℕ
+byte_after torn h k i =
+    unwrap_or (newest (left_of torn h.syncs k) h.writes i) (get_or h.first i 0)
+
+-- These are the bytes behind the first k calls, with each unsynced write torn this way.
+pub record IsTornImage (torn : Torn) (h : History) (k : ℕ) (x : List ℕ) : Type 0 where
+  pub size : length x ≡ length h.first
+  pub bytes : (i : ℕ) → i < length x → get_or x i 0 ≡ byte_after torn h k i
+
+-- A write covers this place.
+abbrev pub covers : ℕ → Write → Bool
+covers i w = nat_le w.at i && nat_lt i (w.at + length w.bytes)
+
+-- Among the first k calls a write covers this place that no sync followed.
+abbrev pub is_unsynced : History → ℕ → ℕ → Bool
+is_unsynced h k i =
+    list_any (λ w. nat_lt w.moment k && (not (is_synced h.syncs k w.moment) && covers i w)) h.writes
+
+-- A crash behind the first k calls may leave these bytes: anything where an unsynced write covers
+-- the place, and else what reads gave.
+pub record IsImage (h : History) (k : ℕ) (x : List ℕ) : Type 0 where
+  pub size : length x ≡ length h.first
+  pub bytes : (i : ℕ) → i < length x → is_unsynced h k i ≡ false
+      → get_or x i 0 ≡ byte_after Take h k i
+
+-- A crash at some moment from t on, up to the moment k, may have left these bytes.
+abbrev pub IsLeftSince : History → ℕ → ℕ → List ℕ → Type 0
+IsLeftSince h k t x = (m : ℕ) × (t ≤ m) × (m ≤ k) × IsImage h m x

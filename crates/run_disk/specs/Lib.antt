@@ -1,0 +1,12 @@
+pub mod Calls
+pub mod Contents
+pub mod Disk
+pub mod FailOnces
+pub mod Files
+pub mod Fuses
+pub mod History
+pub mod Memory
+pub mod MemoryDisks
+pub mod Over
+pub mod Runs
+pub mod Writes

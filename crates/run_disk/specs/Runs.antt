@@ -1,0 +1,70 @@
+-- What a run of calls leaves of a disk, from a moment `old` to a later moment `new`.
+use Rattle.std.specs.Prelude.{◌≡◌, ◌⊎◌, ◌<◌, ◌≤◌, ◌+◌, ℕ, List, length, Result, OnOk, OnErr}
+use Rattle.run_disk.specs.Contents.{Holds, Within, Follows}
+use Rattle.run_disk.specs.Disk.{DiskState, last_moment}
+
+-- What any run of calls does, on any disk: neither count falls, and size and honesty stay.
+pub record Passed (old new : DiskState) : Type 0 where
+  pub size : new.size ≡ old.size
+  pub honest : old.honest → new.honest
+  pub honest_before : new.honest → old.honest
+  pub later : old.clock ≤ new.clock
+  pub failures_later : old.failures ≤ new.failures
+
+-- What a run that answers for its calls does, on any disk: it is Ok only where no call failed, and
+-- a fault only where a call failed or the disk is spent.
+pub record Ran {T E : Type 0} (old new : DiskState) (result : Result T E) : Type 0 where
+  pub size : new.size ≡ old.size
+  pub honest : old.honest → new.honest
+  pub honest_before : new.honest → old.honest
+  pub later : old.clock ≤ new.clock
+  pub failures_later : old.failures ≤ new.failures
+  pub fine : OnOk result (new.failures ≡ old.failures)
+  pub cause : OnErr result ((old.failures < new.failures) ⊎ (new.clock ≡ last_moment))
+
+-- The run makes n calls, and at a fault at most n.
+pub record Took {T E : Type 0} (n : ℕ) (old new : DiskState) (result : Result T E) : Type 0 where
+  pub exactly : OnOk result (new.clock ≡ old.clock + n)
+  pub most : new.clock ≤ old.clock + n
+
+-- At the end of the run what reads give, and each content that a crash may leave, comes by this
+-- step from what it was before the run.
+pub record Ends (step : List ℕ → List ℕ → Type 0) (old new : DiskState) : Type 0 where
+  pub now : step old.now new.now
+  pub images : Follows step old.images new.images
+
+-- At the end of the run and at every moment of it, each content comes by this step from one that a
+-- crash before the run might have left.
+pub record Leaves (step : List ℕ → List ℕ → Type 0) (old new : DiskState) : Type 0 where
+  pub later : old.clock ≤ new.clock
+  pub now : step old.now new.now
+  pub images : Follows step old.images new.images
+  pub each : Follows step old.images (new.since old.clock)
+  -- and so for moments before the run, where it is the later part of a longer one
+  pub before : (t : ℕ) (x : List ℕ) → t ≤ old.clock → new.since t x
+      → old.since t x ⊎ ((y : List ℕ) × old.images y × step y x)
+
+-- Each content that a crash at some moment of the run may have left has P.
+pub record LeavesOnly (P : List ℕ → Type 0) (old new : DiskState) : Type 0 where
+  pub later : old.clock ≤ new.clock
+  pub each : (x : List ℕ) → new.since old.clock x → P x
+  -- and so for moments before the run, where it is the later part of a longer one
+  pub before : (t : ℕ) (x : List ℕ) → t ≤ old.clock → new.since t x → old.since t x ⊎ P x
+
+-- The run changes nothing that reads give or a crash may leave, at any moment of it.
+pub record OnlyReads (old new : DiskState) : Type 0 where
+  pub later : old.clock ≤ new.clock
+  pub now : new.now ≡ old.now
+  pub images : Within new.images old.images
+  pub each : Within (new.since old.clock) old.images
+  pub before : (t : ℕ) (x : List ℕ) → t ≤ old.clock → new.since t x → old.since t x ⊎ old.images x
+  pub unsure : (i : ℕ) → new.unsure i → old.unsure i
+
+-- No place waits for a failed write that did not wait before.
+abbrev pub IsSurer : DiskState → DiskState → Type 0
+IsSurer old new = (i : ℕ) → new.unsure i → old.unsure i
+
+-- Reads give these bytes from `at` on, and no failed write waits there: a sync makes them last.
+pub record Stands (at : ℕ) (bytes : List ℕ) (s : DiskState) : Type 0 where
+  pub now : Holds at bytes s.now
+  pub sure : (i : ℕ) → i < length bytes → s.unsure (at + i) → ⊥

@@ -1,0 +1,62 @@
+//! A [`RunDisk`] is a row of bytes that is read, written and synced; a [`DiskFailed`] says that it
+//! did not do a call.
+//!
+//! Between two syncs a written range may hold any bytes after a crash, and the places outside keep
+//! theirs. After a sync a crash leaves what reads give.
+
+ghost use Rattle.std.specs.Prelude.{◌≡◌, ◌≤◌, ◌+◌, length, OnOk, slice_range};
+ghost use Rattle.run_disk.specs.Disk.{DiskState, IsDisk};
+ghost use Rattle.run_disk.specs.Calls.{Calls, Reads, Writes, Syncs};
+
+use run_model::Fault;
+
+/// A call of the device failed.
+#[derive(Clone, Copy, Debug, PartialEq, Eq)]
+pub struct DiskFailed;
+
+impl From<DiskFailed> for Fault {
+    ghost use Rattle.run_model.specs.declared.faults.Fault.TheVariants.{DiskFailed};
+
+    ghost from_gives = { λ _ fault. fault ≡ DiskFailed };
+
+    fn from(_: DiskFailed) -> Self {
+        Fault::DiskFailed
+    }
+}
+
+/// A disk of a fixed size. Each read, write and sync is counted, and so is each that fails; at
+/// 2^64 - 1 of them the disk is spent, and each further call fails and changes nothing.
+pub trait RunDisk {
+    /// What contracts see of it.
+    ghost state: { Self → DiskState };
+
+    /// How many bytes it has. This call is not counted.
+    fn size(&self) -> u64
+        ensures { result ≡ (state self.now).size };
+
+    /// Reads as many bytes as `out` takes, from the place `at` on. At an error `out` may hold
+    /// anything.
+    fn read_at(&mut self, at: u64, out: &mut [u8]) -> Result<(), DiskFailed>
+        requires { at + length out.old ≤ (state self.old).size }
+        ensures call { Calls (state self.old) (state self.new) result }
+        ensures reads { (state self.old).honest → Reads (state self.old) (state self.new) }
+        ensures bytes { (state self.old).honest
+            → OnOk result (out.new ≡ slice_range (state self.old).now at (at + length out.old)) };
+
+    /// Writes these bytes from the place `at` on. Until a sync a crash may leave anything there.
+    /// After an error what is there is unknown until it is written again.
+    fn write_at(&mut self, at: u64, bytes: &[u8]) -> Result<(), DiskFailed>
+        requires { at + length bytes.now ≤ (state self.old).size }
+        ensures call { Calls (state self.old) (state self.new) result }
+        ensures writes { (state self.old).honest
+            → Writes at bytes.now (state self.old) (state self.new) result };
+
+    /// Makes what was written last: after it a crash leaves what reads give, but for ranges of
+    /// failed writes that were not written again.
+    fn sync(&mut self) -> Result<(), DiskFailed>
+        ensures call { Calls (state self.old) (state self.new) result }
+        ensures syncs { (state self.old).honest → Syncs (state self.old) (state self.new) result };
+
+    /// What is true of it at every moment.
+    ghost is_disk: { (d : Self) → IsDisk (state d) };
+}

@@ -1,0 +1,25 @@
+//! Disks of a fixed size, with four calls: size, read, write and sync.
+//!
+//! The ghost side of [`RunDisk`] says what reads give, what a crash may leave now, and what a crash
+//! since an earlier moment may have left.
+#![tactic(auto)]
+
+mod disks;
+mod durable;
+mod fail_onces;
+mod file_disks;
+mod fuses;
+mod histories;
+mod memory_disks;
+mod tallies;
+mod tears;
+#[cfg(test)]
+mod tests;
+
+pub use disks::{DiskFailed, RunDisk};
+pub use durable::write_durably;
+pub use fail_onces::FailOnce;
+pub use file_disks::FileDisk;
+pub use fuses::Fuse;
+pub use memory_disks::MemoryDisk;
+pub use tears::Torn;
