@@ -1,0 +1,12 @@
+pub mod BodyLaws
+pub mod Choices
+pub mod Codecs
+pub mod Fields
+pub mod Joins
+pub mod Lengths
+pub mod NumberLaws
+pub mod Parts
+pub mod Places
+pub mod RecordLaws
+pub mod Walks
+pub mod Written

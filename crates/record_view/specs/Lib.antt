@@ -1,0 +1,5 @@
+pub mod Reading
+pub mod Records
+pub mod Spelling
+pub mod Views
+pub mod Writing

@@ -1,0 +1,25 @@
+//! Records: the bytes of the events in the journal's history.
+//!
+//! A record is read as a view, which lends its names and texts from the bytes, written from a view,
+//! and walked in a row with others, each exactly by the grammar. No call takes memory. The grammar
+//! stands in `specs/Spelling.antt` by the cases of the event, apart from the code, and its laws are
+//! the contracts of [`laws`].
+#![tactic(auto)]
+
+mod bodies;
+mod events;
+mod kinds;
+pub mod laws;
+mod numbers;
+mod outcomes;
+mod puts;
+mod records;
+mod texts;
+mod views;
+
+pub use events::Events;
+pub use records::{event_len, read_event, write_event};
+pub use views::{EventView, KindView, OutcomeView};
+
+#[cfg(test)]
+mod tests;
