@@ -1,4 +1,5 @@
 pub mod ContentsLemmas
+pub mod EarlierImages
 pub mod MemoryLemmas
 pub mod MomentLemmas
 pub mod NewestLemmas

@@ -1,6 +1,6 @@
 -- The places of a list whose middle part was written over.
 use Rattle.std.proofs.Common.{◌≡◌, ◌⊎◌, ◌<◌, ◌≤◌, ◌+◌, ◌-◌, ℕ, List, None, Some, ◌++◌, length}
-use Rattle.std.proofs.Common.{get_or, take, drop, refl, sym, ◌∙◌, ap, inl, inr, zero-add, arith}
+use Rattle.std.proofs.Common.{get_or, take, drop, refl, sym, ◌∙◌, ap, inl, inr, arith}
 use Rattle.std.proofs.Common.{unwrap_or}
 use Rattle.std.proofs.lemmas.List.{get_or-take, get_or-drop, get_or_append_left}
 use Rattle.std.proofs.lemmas.List.{get_or-append_right, length-take-le, length-drop}
@@ -56,42 +56,6 @@ puts_mid at bytes xs fits = record {
   };
   inside = λ j below. put_mid-inside at (length bytes) xs bytes j below (omega arith);
 }
-
--- what is put into a part of a list is put into the list
-pub puts_in_part : (at n : ℕ) (bytes xs part : List ℕ) → at + n ≤ length xs → length bytes ≤ n
-    → Puts 0 bytes (take n (drop at xs)) part → Puts at bytes xs (put_mid at n xs part)
-puts_in_part at n bytes xs part fits short put =
-    let middle : length (take n (drop at xs)) ≡ n =
-    length-take-le n (drop at xs) (omega (arith, length-drop {A = ℕ})) in
-    let size : length part ≡ n = put.outside.size ∙ middle in
-    record {
-      outside = record {
-        size = same_len_mid at n xs part (size ∙ sym middle);
-        before = λ i below. put_mid-before at n xs part i below (omega arith);
-        behind = λ i above. behind i above size;
-      };
-      inside = λ j below.
-          put_mid-inside at n xs part j (omega arith) (omega arith)
-          ∙ ap (λ m. get_or part m 0) (sym (zero-add j)) ∙ put.inside j below;
-    }
-  where
-    inner : (i : ℕ) → at + length bytes ≤ i → i < at + n → length part ≡ n
-        → get_or (put_mid at n xs part) (at + (i - at)) 0 ≡ get_or xs (at + (i - at)) 0
-    inner i above below size =
-        put_mid-inside at n xs part (i - at) (omega arith) (omega arith)
-        ∙ put.outside.behind (i - at) (omega arith)
-        ∙ get_or-take n (drop at xs) (i - at) 0 (omega arith)
-        ∙ get_or-drop at xs (i - at) 0
-
-    behind : (i : ℕ) → at + length bytes ≤ i → length part ≡ n
-        → get_or (put_mid at n xs part) i 0 ≡ get_or xs i 0
-    behind i above size = elim (cases_lt i (at + n)) [
-      | inl below ↦
-          let place : at + (i - at) ≡ i = omega arith in
-          ap (λ m. get_or (put_mid at n xs part) m 0) (sym place)
-          ∙ inner i above below size ∙ ap (λ m. get_or xs m 0) place
-      | inr past ↦ put_mid-behind at n xs part i past (omega arith) size
-    ]
 
 -- bytes that don't reach a place give it nothing
 pub byte_put-outside : (at : ℕ) (bytes : List ℕ) (i : ℕ) → ((i < at) ⊎ (at + length bytes ≤ i))

@@ -36,6 +36,9 @@ pub record IsDisk (s : DiskState) : Type 0 where
   -- this moment is one of those since an earlier one, and there is no later one yet
   pub counts_now : (t : ℕ) (x : List ℕ) → t ≤ s.clock → s.images x → s.since t x
   pub only_now : (x : List ℕ) → s.since s.clock x → s.images x
+  -- what a crash since a later moment may have left, one since an earlier moment may have left too
+  pub earlier :
+      (t u : ℕ) (x : List ℕ) → t ≤ u → u ≤ s.clock → s.since u x → s.since t x
 
 -- It is synced: whatever a crash now leaves, each place has what reads give there, but for the
 -- places of failed writes that were not written again.

@@ -2,6 +2,7 @@
 use Rattle.std.specs.Prelude.{◌≤◌, ◌<◌, ◌^◌, ℕ, []}
 use Rattle.run_disk.specs.Disk.{DiskState, IsDisk}
 
+-- The state of a disk over a file: it isn't honest, so nothing is said of its bytes.
 abbrev pub file_state : ℕ → ℕ → ℕ → DiskState
 file_state size calls failures = record {
   size = size;
@@ -20,6 +21,7 @@ pub record IsFileDisk (size calls failures : ℕ) : Type 0 where
   pub calls_fit : calls < 2 ^ 64
   pub failures_fit : failures ≤ calls
 
+-- Such a state is a disk's.
 pub is_file_disk : (size calls failures : ℕ) → IsFileDisk size calls failures
     → IsDisk (file_state size calls failures)
 is_file_disk size calls failures kept = record {
@@ -31,4 +33,5 @@ is_file_disk size calls failures kept = record {
   now_is_image = λ honest. absurd honest;
   counts_now = λ t x early is. tt;
   only_now = λ x left. tt;
+  earlier = λ t u x before within left. tt;
 }

@@ -31,6 +31,7 @@ pub record IsKept (h : History) (bytes : List ℕ) (clock failures : ℕ) : Type
   pub clock_fits : clock < 2 ^ 64
   pub size_fits : length bytes < 2 ^ 64
 
+-- Such a state is a disk's.
 pub is_memory_disk : (h : History) (bytes : List ℕ) (clock failures : ℕ)
     → IsKept h bytes clock failures → IsDisk (memory_state h bytes clock failures)
 is_memory_disk h bytes clock failures kept = record {
@@ -47,4 +48,5 @@ is_memory_disk h bytes clock failures kept = record {
   only_now = λ x left.
       let now : left.0 ≡ clock = omega (arith, left.1, left.2) in
       subst (λ m. IsImage h m x) now left.3;
+  earlier = λ t u x before within left. (left.0, omega (arith, before, left.1), left.2, left.3);
 }

@@ -56,9 +56,11 @@ pub record IsOver (passed : ℕ → ℕ) (first : ℕ) (below : DiskState) (call
   pub failed_fit : failed ≤ calls
   pub calls_fit : calls < 2 ^ 64
 
+-- Of more calls no fewer are passed on.
 pub all_but-grows : (call a b : ℕ) → a ≤ b → all_but call a ≤ all_but call b
 all_but-grows call a b le = grind arith
 
+-- Such a state is a disk's.
 pub over_is_disk : (passed : ℕ → ℕ) (first : ℕ) (below : DiskState) (calls failed : ℕ)
     → ((a b : ℕ) → a ≤ b → passed a ≤ passed b)
     → IsDisk below → IsOver passed first below calls failed
@@ -74,4 +76,8 @@ over_is_disk passed first below calls failed grows disk kept = record {
       disk.counts_now (moment_below first (passed t)) x
       (omega (arith, kept.made_below, grows t calls early)) is;
   only_now = λ x left. disk.only_now x (subst (λ m. below.since m x) (sym kept.made_below) left);
+  earlier = λ t u x before within left.
+      disk.earlier (moment_below first (passed t)) (moment_below first (passed u)) x
+      (omega (arith, grows t u before))
+      (omega (arith, kept.made_below, grows u calls within)) left;
 }

@@ -16,6 +16,7 @@ use std::snapshot::Snapshot;
 #[derive(Drop)]
 pub struct FailOnce<D: RunDisk> {
     disk: D,
+    // the disk below as it was when this one was made
     made: Snapshot<D>,
     call: u64,
     tally: Tally,
@@ -50,6 +51,7 @@ impl<D: RunDisk> FailOnce<D> {
         self.disk
     }
 
+    /// Says whether it passes the next call on.
     fn passes_next(&self) -> bool
         requires { (state_of self.now).clock < last_moment }
         ensures passes { OnTrue result (PassesNext self.now) }

@@ -15,6 +15,7 @@ use std::snapshot::Snapshot;
 #[derive(Drop)]
 pub struct Fuse<D: RunDisk> {
     disk: D,
+    // the disk below as it was when this one was made
     made: Snapshot<D>,
     limit: u64,
     tally: Tally,
@@ -49,6 +50,7 @@ impl<D: RunDisk> Fuse<D> {
         self.disk
     }
 
+    /// Says whether it passes the next call on.
     fn passes_next(&self) -> bool
         ensures passes { OnTrue result (PassesNext self.now) }
         ensures fails { OnFalse result (PassesNext self.now → ⊥) }

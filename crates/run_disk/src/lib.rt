@@ -10,6 +10,7 @@ mod fail_onces;
 mod file_disks;
 mod fuses;
 mod histories;
+pub mod laws;
 mod memory_disks;
 mod tallies;
 mod tears;

@@ -14,6 +14,7 @@ pub struct Tally {
 }
 
 impl Tally {
+    /// Before the first call.
     pub fn new() -> Tally
         ensures { result ≡ record { calls = 0; failures = 0 } }
     {

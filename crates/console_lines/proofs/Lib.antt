@@ -1,0 +1,7 @@
+pub mod Cuts
+pub mod Splits
+pub mod Steps
+pub mod TextBytes
+pub mod Wholes
+pub mod WordLemmas
+pub mod Written

@@ -1,0 +1,89 @@
+-- The words of a line, one after another.
+use Rattle.std.specs.Prelude.{◌≡◌, ℕ, ◌+◌, ◌-◌, ◌<◌, ◌≤◌, nat_lt, ◌==◌, Bool, true, false, cond}
+use Rattle.std.specs.Prelude.{List, [], ◌∷◌, length, take, drop, Option, Some, None, position}
+use Rattle.std.specs.Borrow.{Bor}
+use Rattle.std.specs.Option.{is_some}
+use Rattle.std.specs.List.{join_with_byte, position_or_len, All}
+use Rattle.std.proofs.Common.{arith, refl, sym, ap, subst, ◌∙◌}
+use Rattle.std.proofs.lemmas.Bool.{false≢true}
+use Rattle.std.proofs.lemmas.Bool.Decides.{nat_tests}
+use Rattle.std.proofs.lemmas.Grind.{common_steps}
+use Rattle.std.proofs.lemmas.List.{take_rest}
+use Rattle.std.proofs.lemmas.List.Quantifiers.{position-Some}
+use Rattle.std.proofs.lemmas.List.Splits.{join_with_byte-slice_split, length-slice_split}
+use Rattle.std.proofs.lemmas.List.Splits.{slice_split_first, slice_split_none}
+use Rattle.std.proofs.lemmas.List.Sums.{position_or_len_is, fails_before_first}
+use Rattle.console_lines.specs.declared.asked.Asked.TheVariants.{BadLine}
+use Rattle.console_lines.specs.Words.{words_of, words_in, rest_of, lent}
+use Rattle.console_lines.specs.Asked.{scope_line, wish_of}
+
+is_space : ℕ → Bool
+is_space b = b == 32
+
+-- A line has at least one word.
+has_words : (line : List ℕ) → 0 < length (words_of line)
+has_words line = grind (arith, length-slice_split (λ b. b == 32) line)
+
+-- The first word ends at the first space, and the others are behind it.
+pub words_at_space :
+    (line : List ℕ) (i : ℕ)
+    → position (λ b. b == 32) line ≡ Some i
+    → words_of line ≡ take i line ∷ words_of (take (length line - (i + 1)) (drop (i + 1) line))
+words_at_space line i e =
+    let at = position-Some (λ b. b == 32) line i 0 e in
+    let here : position_or_len (λ b. b == 32) line ≡ i =
+    position_or_len_is (λ b. b == 32) line i 0 (omega (arith, at.0)) at.2 (λ _. at.1) in
+    let P : ℕ → Type 0 = λ n. n < length line
+    → words_of line ≡ take n line ∷ words_of (drop (n + 1) line) in
+    let cut : words_of line ≡ take i line ∷ words_of (drop (i + 1) line) =
+    subst P here (slice_split_first (λ b. b == 32) line 0) at.0 in
+    cut ∙ ap (λ rest. take i line ∷ words_of rest) (sym (take_rest line (i + 1)))
+
+no_space_before :
+    (line : List ℕ) (b : Bool)
+    → nat_lt (position_or_len (λ b. b == 32) line) (length line) ≡ b
+    → cond b (Some (position_or_len (λ b. b == 32) line)) None ≡ None
+    → length line ≤ position_or_len (λ b. b == 32) line
+no_space_before line b e h = grind (arith, nat_tests, common_steps)
+
+-- A line without a space is one word.
+pub words_without_space :
+    (line : List ℕ) → position (λ b. b == 32) line ≡ None → words_of line ≡ line ∷ []
+words_without_space line e =
+    let all = no_space_before line _ refl e in
+    let none : All (λ b. (b == 32) ≡ false) line =
+    λ k d h. fails_before_first (λ b. b == 32) line k d (omega (arith, h, all)) in
+    slice_split_none (λ b. b == 32) line none
+
+rest_of_more : (words : List (List ℕ)) → 0 < length words
+    → rest_of words ≡ Some (join_with_byte 32 words)
+rest_of_more [] h = absurd (omega (arith, h))
+rest_of_more (word ∷ words) h = refl
+
+-- The rest of a line is what is left of it, byte for byte.
+pub rest_is : (left : Option (List ℕ)) → rest_of (words_in left) ≡ left
+rest_is None = refl
+rest_is (Some line) =
+    rest_of_more (words_of line) (has_words line) ∙ ap Some (join_with_byte-slice_split 32 line)
+
+wish_of_words : (kind : List ℕ) (words : List (List ℕ)) → 0 < length words
+    → wish_of kind words ≡ None
+wish_of_words kind [] h = absurd (omega (arith, h))
+wish_of_words kind (word ∷ words) h = refl
+
+-- A kind that takes nothing names no wish where a word is left over.
+pub wish_of_more :
+    (kind : List ℕ) (left : Option (Bor (List ℕ)))
+    → is_some left ≡ true
+    → wish_of kind (words_in (lent left)) ≡ None
+wish_of_more kind None h = absurd (false≢true h)
+wish_of_more kind (Some line) h = wish_of_words kind (words_of line.now) (has_words line.now)
+
+scope_line_words : (scope : List ℕ) (words : List (List ℕ)) → 0 < length words
+    → scope_line (scope ∷ words) ≡ BadLine
+scope_line_words scope [] h = absurd (omega (arith, h))
+scope_line_words scope (word ∷ words) h = refl
+
+-- A word left over makes a bad line.
+pub scope_line_more : (scope line : List ℕ) → scope_line (scope ∷ words_of line) ≡ BadLine
+scope_line_more scope line = scope_line_words scope (words_of line) (has_words line)

@@ -1,0 +1,14 @@
+use Rattle.std.proofs.Common.{sym, ◌∙◌, ap, List, ℕ, Option}
+use Rattle.run_model.specs.declared.commands.Command.TheVariants.{Cancel}
+use Rattle.console_lines.specs.Asked.{asks_command}
+use Rattle.console_lines.specs.Words.{lent}
+use Rattle.console_lines.proofs.WordLemmas.{rest_is}
+use Rattle.console_lines.proofs.lines.read_cancel.Goals as goal
+
+pub returns : goal.returns
+returns c =
+    let scope = c.in_ok-scope.scope.now in
+    rw c.in_ok-scope.ensures
+    (c.cancel.ensures
+    ∙ ap (λ (cause : Option (List ℕ)). asks_command (Cancel scope cause))
+    (sym (rest_is (lent c.in_ok-scope.cause))))

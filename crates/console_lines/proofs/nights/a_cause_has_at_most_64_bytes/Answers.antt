@@ -1,0 +1,12 @@
+use Rattle.std.proofs.Common.{refl}
+use Rattle.std.specs.Fmt.{digits}
+use Rattle.console_lines.specs.Script.{reply, after_line, closing}
+use Rattle.console_lines.proofs.nights.a_cause_has_at_most_64_bytes.Goals as goal
+
+pub returns-clause-longest : goal.returns-clause-longest
+unfolding closing reply after_line digits
+returns-clause-longest c = refl
+
+pub returns-clause-too_long : goal.returns-clause-too_long
+unfolding closing reply after_line digits
+returns-clause-too_long c = refl

@@ -1,0 +1,93 @@
+-- How far a run came: which lines were run, and what was written.
+use Rattle.std.specs.Prelude.{◌≡◌, ◌≤◌, ◌⊎◌, ◌+◌, ℕ, List, [], ◌++◌, Option, length, take}
+use Rattle.std.specs.Io.KnownBytes.{Appends, Consumes, IsAtEnd}
+use Rattle.run_model.specs.Session.{Session}
+use Rattle.console_lines.specs.declared.lines.TheConstants.{LONGEST_LINE, LONGEST_INPUT}
+use Rattle.console_lines.specs.declared.faults.RunFault.{RunFault}
+use Rattle.console_lines.specs.declared.faults.RunFault.TheVariants.{Input, Output}
+use Rattle.console_lines.specs.declared.faults.RunFault.TheVariants.{InputTooLong, Memory}
+use Rattle.console_lines.specs.Lines.{whole_lines, open_line, lines_of}
+use Rattle.console_lines.specs.Script.{reply, after_line, replies, after_lines, closing, script}
+
+-- These bytes are a front of a text.
+abbrev pub IsFront : List ℕ → List ℕ → Type 0
+IsFront front text = (rest : List ℕ) × (text ≡ front ++ rest)
+
+-- A front of the text was written.
+abbrev pub WritesFront : Option (List ℕ) → Option (List ℕ) → List ℕ → Type 0
+WritesFront old new text = (front : List ℕ) × IsFront front text × Appends old new front
+
+-- What is kept of a line that was begun: one byte more than the longest line has.
+abbrev pub kept : List ℕ → List ℕ
+kept line = take (LONGEST_LINE + 1) line
+
+-- ---- some lines
+
+-- These lines were run, and their replies were written.
+pub record Ran (lines : List (List ℕ)) (s t : Session) (old new : Option (List ℕ)) : Type 0 where
+  pub written : Appends old new (replies s lines)
+  pub state : t ≡ after_lines s lines
+
+-- The first of these lines were run, and a front of their replies was written.
+pub record Stopped
+    (lines : List (List ℕ)) (s t : Session) (old new : Option (List ℕ))
+    : Type 0 where
+  pub done : List (List ℕ)
+  pub left : List (List ℕ)
+  pub lines_are : lines ≡ done ++ left
+  pub written : WritesFront old new (replies s done)
+  pub state : t ≡ after_lines s done
+
+-- One line was run, and a front of its reply was written.
+abbrev pub LineStops :
+    List ℕ → Session → Session → Option (List ℕ) → Option (List ℕ) → Type 0
+LineStops line s t old new = WritesFront old new (reply s line) × (t ≡ after_line s line)
+
+-- The last line was run, and a front was written of its reply and the closing line.
+abbrev pub EndStops :
+    List ℕ → Session → Session → Option (List ℕ) → Option (List ℕ) → Type 0
+EndStops line s t old new =
+    WritesFront old new (reply s line ++ closing (after_line s line)) × (t ≡ after_line s line)
+
+-- A fault that a line can have: reading is no part of it.
+abbrev pub IsOfLine : RunFault → Type 0
+IsOfLine Input = ⊥
+IsOfLine InputTooLong = ⊥
+IsOfLine Output = Unit {0}
+IsOfLine Memory = Unit {0}
+
+-- ---- a whole input, by what the reader had left and what the writer had taken
+
+-- The input was read to its end, the lines that an LF ends were run, and what stands behind the
+-- last LF is kept.
+pub record ReadsAll
+    (s t : Session) (begun : List ℕ) (r0 r1 w0 w1 : Option (List ℕ))
+    : Type 0 where
+  pub bytes : List ℕ
+  pub read : Consumes r0 r1 bytes
+  pub ended : IsAtEnd r1
+  pub within : length bytes ≤ LONGEST_INPUT
+  pub ran : Ran (whole_lines [] bytes) s t w0 w1
+  pub begun_is : begun ≡ kept (open_line [] bytes)
+
+-- The input was read to its end and all of its lines were run, and what was written is its script.
+pub record RunsAll (s t : Session) (r0 r1 w0 w1 : Option (List ℕ)) : Type 0 where
+  pub bytes : List ℕ
+  pub read : Consumes r0 r1 bytes
+  pub ended : IsAtEnd r1
+  pub within : length bytes ≤ LONGEST_INPUT
+  pub written : Appends w0 w1 (script s bytes)
+  pub state : t ≡ after_lines s (lines_of bytes)
+
+-- A run stopped: in a line that an LF ends, or, with the input read to its end, in what is written
+-- behind those lines. A fault of reading stops it when each line that an LF ended was replied to.
+pub record RunStops
+    (fault : RunFault) (s t : Session) (r0 r1 w0 w1 : Option (List ℕ))
+    : Type 0 where
+  pub bytes : List ℕ
+  pub read : Consumes r0 r1 bytes
+  pub within : length bytes ≤ LONGEST_INPUT + 1
+  pub long : fault ≡ InputTooLong → length bytes ≡ LONGEST_INPUT + 1
+  pub in_full : (fault ≡ Input) ⊎ (fault ≡ InputTooLong) → Ran (whole_lines [] bytes) s t w0 w1
+  pub stopped : Stopped (whole_lines [] bytes) s t w0 w1
+      ⊎ (IsAtEnd r1 × WritesFront w0 w1 (script s bytes) × (t ≡ after_lines s (lines_of bytes)))

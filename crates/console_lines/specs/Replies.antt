@@ -1,0 +1,64 @@
+-- What a reply prints.
+use Rattle.std.specs.Prelude.{ℕ, List, ◌++◌, codes, Option, Some, None}
+use Rattle.std.specs.Fmt.{decimal}
+use Rattle.run_model.specs.declared.scopes.Reason.{Reason}
+use Rattle.run_model.specs.declared.tasks.Phase.{Phase}
+use Rattle.run_model.specs.declared.tasks.Phase.TheVariants as phase
+use Rattle.run_model.specs.declared.answers.Answer.{Answer}
+use Rattle.run_model.specs.declared.answers.Answer.TheVariants as answer
+use Rattle.run_model.specs.declared.refusals.Refusal.{Refusal}
+use Rattle.run_model.specs.declared.refusals.Refusal.TheVariants as refusal
+use Rattle.run_model.specs.Refusals.{refusal_number, refusal_name}
+use Rattle.run_model.specs.Reasons.{reason_text}
+use Rattle.console_lines.specs.declared.replies.Reply.{Reply}
+use Rattle.console_lines.specs.declared.replies.Reply.TheVariants as reply
+
+-- A refusal's number and name.
+abbrev pub numbered : Refusal → List ℕ
+numbered why = codes "refused " ++ decimal (refusal_number why) ++ codes " " ++ refusal_name why
+
+-- A refusal, as in `refused 12 AlreadyDone`. The unfinished tasks are counted behind the name.
+abbrev pub refusal_text : Refusal → List ℕ
+refusal_text (refusal.Unfinished count) =
+    numbered (refusal.Unfinished count) ++ codes " " ++ decimal count
+refusal_text why = numbered why
+
+-- How far a task is.
+abbrev pub phase_text : Phase → List ℕ
+phase_text phase.Held = codes "held"
+phase_text phase.Ready = codes "ready"
+phase_text phase.Running = codes "running"
+phase_text phase.Success = codes "success"
+phase_text (phase.Failure error) = codes "error " ++ error
+phase_text phase.Interrupted = codes "interrupted"
+
+-- The answer of an accepted command.
+abbrev pub answer_text : Answer → List ℕ
+answer_text (answer.Scope s) = codes "scope " ++ decimal s
+answer_text (answer.Group g None) = codes "group " ++ decimal g
+answer_text (answer.Group g (Some s)) = codes "group " ++ decimal g ++ codes " scope " ++ decimal s
+answer_text answer.Done = codes "ok"
+answer_text (answer.Task n phase) = codes "task " ++ decimal n ++ codes " " ++ phase_text phase
+answer_text (answer.Waited None) = codes "wait ok"
+answer_text (answer.Waited (Some error)) = codes "wait error " ++ error
+
+-- A deadline in seconds, or `none`.
+abbrev pub deadline_text : Option ℕ → List ℕ
+deadline_text None = codes "none"
+deadline_text (Some moment) = decimal moment
+
+-- A scope that is live or done, its deadline, and why it is done.
+abbrev pub scope_text : Option (Reason × List ℕ) → Option ℕ → List ℕ
+scope_text None deadline = codes "live; deadline " ++ deadline_text deadline
+scope_text (Some ending) deadline =
+    codes "done; deadline " ++ deadline_text deadline
+    ++ codes "; err " ++ reason_text ending.0
+    ++ codes "; cause " ++ ending.1
+
+-- What a reply prints, without its LF.
+abbrev pub reply_text : Reply → List ℕ
+reply_text reply.BadLine = codes "bad line"
+reply_text (reply.Refused why) = refusal_text why
+reply_text (reply.Answered answer) = answer_text answer
+reply_text (reply.Scope look) = scope_text look.done look.deadline
+reply_text (reply.Acked count) = codes "acked " ++ decimal count

@@ -1,0 +1,19 @@
+//! The lines of the console: what each asks for, and what its reply prints.
+//!
+//! A line is read by [`read_line`] into what it [`Asked`]; its [`Reply`] is printed by `{reply}`.
+//! `specs/Script.antt` says what is replied to a whole input.
+#![tactic(auto)]
+
+mod asked;
+mod faults;
+mod lines;
+pub mod nights;
+mod replies;
+#[cfg(test)]
+mod tests;
+mod words;
+
+pub use asked::Asked;
+pub use faults::RunFault;
+pub use lines::{LONGEST_INPUT, LONGEST_LINE, read_line};
+pub use replies::Reply;

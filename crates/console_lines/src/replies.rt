@@ -1,0 +1,146 @@
+//! A [`Reply`] is what a line is answered. `{reply}` prints it, without its LF.
+
+ghost use Rattle.std.specs.Prelude.{Some};
+ghost use Rattle.console_lines.specs.Replies.{reply_text, refusal_text, answer_text};
+ghost use Rattle.console_lines.specs.Replies.{phase_text, deadline_text, scope_text};
+
+use run_model::{Answer, Look, Moment, Phase, Refusal, Text};
+use std::{fmt, str};
+
+/// What a line is answered.
+#[derive(Clone, Debug, Drop, PartialEq, Eq)]
+pub enum Reply {
+    /// It is no line of the console: `bad line`.
+    BadLine,
+    /// It is refused, and changed nothing: `refused 12 AlreadyDone`.
+    Refused(Refusal),
+    /// The command was accepted: `scope 1`, `ok` and likewise.
+    Answered(Answer),
+    /// How a scope is: `live; deadline D`, or `done; deadline D; err E; cause C`.
+    Scope(Look),
+    /// All events up to this number are acknowledged: `acked 4`.
+    Acked(u64),
+}
+
+impl fmt::Display for Reply {
+    ghost output = { λ reply. Some (reply_text reply) };
+
+    fn fmt<W: fmt::Write>(&self, f: &mut fmt::Formatter<W>) -> fmt::Result {
+        match self {
+            Reply::BadLine => f.write_str("bad line"),
+            Reply::Refused(refusal) => write!(f, "{}", ShownRefusal(*refusal)),
+            Reply::Answered(answer) => write!(f, "{}", ShownAnswer(answer)),
+            Reply::Scope(look) => write!(f, "{}", ShownLook(look)),
+            Reply::Acked(count) => write!(f, "acked {count}"),
+        }
+    }
+}
+
+/// A refusal, as it is printed.
+#[derive(Clone, Copy)]
+struct ShownRefusal(Refusal);
+
+impl fmt::Display for ShownRefusal {
+    ghost output = { λ shown. Some (refusal_text shown.0) };
+
+    fn fmt<W: fmt::Write>(&self, f: &mut fmt::Formatter<W>) -> fmt::Result {
+        let number = self.0.number();
+        let name = self.0.name();
+        match self.0 {
+            Refusal::Unfinished(count) => write!(f, "refused {number} {name} {count}"),
+            _ => write!(f, "refused {number} {name}"),
+        }
+    }
+}
+
+/// An answer, as it is printed.
+#[derive(Clone, Copy)]
+struct ShownAnswer<'a>(&'a Answer);
+
+impl fmt::Display for ShownAnswer<'_> {
+    ghost output = { λ shown. Some (answer_text shown.0.now) };
+
+    fn fmt<W: fmt::Write>(&self, f: &mut fmt::Formatter<W>) -> fmt::Result {
+        match self.0 {
+            Answer::Scope(scope) => write!(f, "scope {scope}"),
+            Answer::Group(group, None) => write!(f, "group {group}"),
+            Answer::Group(group, Some(scope)) => write!(f, "group {group} scope {scope}"),
+            Answer::Done => f.write_str("ok"),
+            Answer::Task(task, phase) => write!(f, "task {task} {}", ShownPhase(phase)),
+            Answer::Waited(None) => f.write_str("wait ok"),
+            Answer::Waited(Some(error)) => write!(f, "wait error {}", ShownText(error)),
+        }
+    }
+}
+
+/// How far a task is, as it is printed.
+#[derive(Clone, Copy)]
+struct ShownPhase<'a>(&'a Phase);
+
+impl fmt::Display for ShownPhase<'_> {
+    ghost output = { λ shown. Some (phase_text shown.0.now) };
+
+    fn fmt<W: fmt::Write>(&self, f: &mut fmt::Formatter<W>) -> fmt::Result {
+        match self.0 {
+            Phase::Held => f.write_str("held"),
+            Phase::Ready => f.write_str("ready"),
+            Phase::Running => f.write_str("running"),
+            Phase::Success => f.write_str("success"),
+            Phase::Failure(error) => write!(f, "error {}", ShownText(error)),
+            Phase::Interrupted => f.write_str("interrupted"),
+        }
+    }
+}
+
+/// How a scope is, as it is printed.
+#[derive(Clone, Copy)]
+struct ShownLook<'a>(&'a Look);
+
+impl fmt::Display for ShownLook<'_> {
+    ghost output = { λ shown. Some (scope_text shown.0.now.done shown.0.now.deadline) };
+
+    fn fmt<W: fmt::Write>(&self, f: &mut fmt::Formatter<W>) -> fmt::Result {
+        let deadline = ShownDeadline(self.0.deadline);
+        match &self.0.done {
+            None => write!(f, "live; deadline {deadline}"),
+            Some((reason, cause)) => {
+                let err = reason.text();
+                let cause = ShownText(cause);
+                write!(f, "done; deadline {deadline}; err {err}; cause {cause}")
+            }
+        }
+    }
+}
+
+/// A deadline, as it is printed.
+#[derive(Clone, Copy)]
+struct ShownDeadline(Option<Moment>);
+
+impl fmt::Display for ShownDeadline {
+    ghost output = { λ shown. Some (deadline_text shown.0) };
+
+    fn fmt<W: fmt::Write>(&self, f: &mut fmt::Formatter<W>) -> fmt::Result {
+        match self.0 {
+            Some(moment) => {
+                let seconds = moment.get();
+                write!(f, "{seconds}")
+            }
+            None => f.write_str("none"),
+        }
+    }
+}
+
+/// A text, as it is printed.
+#[derive(Clone, Copy)]
+struct ShownText<'a>(&'a Text);
+
+impl fmt::Display for ShownText<'_> {
+    ghost output = { λ shown. Some shown.0.now };
+
+    fn fmt<W: fmt::Write>(&self, f: &mut fmt::Formatter<W>) -> fmt::Result {
+        match str::from_utf8(self.0.as_bytes()) {
+            Ok(text) => f.write_str(text),
+            Err(_) => unreachable!(),
+        }
+    }
+}

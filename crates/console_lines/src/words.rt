@@ -1,0 +1,26 @@
+//! A line is split into words at each single space, so an empty word is a word.
+//!
+//! What is left of a line is the bytes behind a space, and `None` behind the last word.
+
+ghost use Rattle.std.specs.Prelude.{◌≡◌, ◌==◌, [], ◌∷◌, MatchOption, position};
+ghost use Rattle.console_lines.specs.Words.{words_in, lent};
+
+/// The next word and what is left behind it, and `None` where no word is left.
+pub(crate) fn next_word(left: Option<&[u8]>) -> Option<(&[u8], Option<&[u8]>)>
+    ensures { MatchOption result (words_in (lent left.entry) ≡ [])
+        (λ next. words_in (lent left.entry)
+        ≡ next.0.now ∷ words_in (lent next.1)) }
+{
+    let line = left?;
+    match first_space(line) {
+        Some(end) => Some((&line[..end], Some(&line[end + 1..]))),
+        None => Some((line, None)),
+    }
+}
+
+/// The place of the first space.
+fn first_space(line: &[u8]) -> Option<usize>
+    ensures { result ≡ position (λ byte. byte == 32) line.now }
+{
+    line.iter().position(|byte| *byte == b' ')
+}

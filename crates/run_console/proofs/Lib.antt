@@ -1,0 +1,5 @@
+pub mod Allowing
+pub mod Ascents
+pub mod Asking
+pub mod Replaying
+pub mod RowWrites

@@ -1,0 +1,13 @@
+//! A book in memory: it takes commands, and keeps the records of the accepted ones.
+#![tactic(auto)]
+
+mod changes;
+mod kinds;
+mod log_books;
+mod logs;
+mod searches;
+
+pub use log_books::LogBook;
+
+#[cfg(test)]
+mod tests;

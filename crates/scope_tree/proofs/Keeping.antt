@@ -1,0 +1,139 @@
+-- What the changes keep of the rows: parents have lesser numbers, and hits are of the past.
+use Rattle.std.proofs.Common.{◌≡◌, ◌<◌, ◌≤◌, ℕ, true, nat_le, List, [], ◌∷◌, ◌++◌, map}
+use Rattle.std.proofs.Common.{Option, Some, None, slice_get, inl, inr, refl, sym, subst, ap, ◌∙◌, arith}
+use Rattle.std.specs.Option.{option_map_or}
+use Rattle.std.proofs.lemmas.Bool.{false≢true, leb-true}
+use Rattle.std.proofs.lemmas.Option.{none-some, same_Some, cond_some}
+use Rattle.run_model.specs.declared.scopes.Hit.{Hit}
+use Rattle.run_model.specs.declared.scopes.Kind.{Kind}
+use Rattle.run_model.specs.declared.scopes.Kind.TheVariants as kinds
+use Rattle.run_model.specs.declared.scopes.Scope.{Scope}
+use Rattle.run_model.specs.Allowed.{is_cancellable}
+use Rattle.run_model.specs.Rows.{new_scope, at_row, or_else}
+use Rattle.run_model.specs.Rules.{can_be_hit, is_group_kind}
+use Rattle.run_model.specs.Scopes.{is_root, AreOrdered}
+use Rattle.run_model.specs.TreeChanges.{with_hit, cancellation, expiry, hit_due, tick}
+use Rattle.run_model.proofs.RowLemmas.{at_row_cases, push_cases, map_cases}
+use Rattle.scope_laws.proofs.Follows.{ticked}
+use Rattle.scope_laws.proofs.WellFormed.{ordered_follow}
+use Rattle.scope_tree.specs.Sound.{IsPastHit, ArePastHits}
+
+-- ---- order
+
+pub ordered_hit : (hit : Hit) (s : ℕ) (rows : List Scope) → AreOrdered rows
+    → AreOrdered (at_row (with_hit hit) s rows)
+ordered_hit hit s rows ordered n row found below_root =
+    elim (at_row_cases (with_hit hit) s n rows row found) [
+      | inl other ↦ ordered n row other.1 below_root
+      | inr it ↦ subst (λ r. r.parent < n) (sym it.changed)
+          (ordered n it.old it.found (ap (λ r. is_root r.kind) (sym it.changed) ∙ below_root))
+    ]
+
+pub ordered_ticked : (e now : ℕ) (rows : List Scope) → AreOrdered rows
+    → AreOrdered (map (tick e now) rows)
+ordered_ticked e now rows ordered =
+    ordered_follow e now rows (map (tick e now) rows) (ticked e now rows) ordered
+
+-- ---- the hits of one row
+
+past_later : (clock later : ℕ) (kind : Kind) (hit : Hit) → clock ≤ later → IsPastHit clock kind hit
+    → IsPastHit later kind hit
+past_later clock later kind hit less past = record {
+  can = past.can;
+  past = omega (arith, past.past);
+  cancels = past.cancels;
+}
+
+due_past : (e clock : ℕ) (kind : Kind) (hit : Hit) → hit_due e clock kind ≡ Some hit
+    → IsPastHit clock kind hit
+due_past e clock (kinds.Deadline moment cause) hit due =
+    let parts = cond_some (nat_le moment clock) (expiry e moment cause) hit due in
+    subst (IsPastHit clock (kinds.Deadline moment cause)) parts.1 (record {
+      can = refl;
+      past = leb-true moment clock parts.0;
+      cancels = λ group. absurd (false≢true group);
+    })
+due_past e clock kinds.Root hit due = absurd (none-some hit due)
+due_past e clock kinds.Cancel hit due = absurd (none-some hit due)
+due_past e clock kinds.Cause hit due = absurd (none-some hit due)
+due_past e clock (kinds.Value key text) hit due = absurd (none-some hit due)
+due_past e clock kinds.Detached hit due = absurd (none-some hit due)
+due_past e clock kinds.Group hit due = absurd (none-some hit due)
+
+-- The own hits of a row are of the past.
+abbrev IsPastRow : ℕ → Scope → Type 0
+IsPastRow clock row = (hit : Hit) → row.hit ≡ Some hit → IsPastHit clock row.kind hit
+
+with_hit_past : (clock : ℕ) (hit : Hit) (row : Scope) → IsPastRow clock row
+    → IsPastHit clock row.kind hit → IsPastRow clock (with_hit hit row)
+with_hit_past clock hit row old new h has = by_own row.hit refl has
+  where
+    by_own : (own : Option Hit) → row.hit ≡ own → or_else own hit ≡ Some h
+        → IsPastHit clock row.kind h
+    by_own None at is = subst (IsPastHit clock row.kind) (same_Some hit h is) new
+    by_own (Some had) at is = old h (at ∙ is)
+
+tick_past : (e clock : ℕ) (row : Scope) → IsPastRow clock row → IsPastRow clock (tick e clock row)
+tick_past e clock row old = by_due (hit_due e clock row.kind) refl
+  where
+    by_due : (due : Option Hit) → hit_due e clock row.kind ≡ due
+        → IsPastRow clock (option_map_or (λ hit. with_hit hit row) due row)
+    by_due None at = old
+    by_due (Some hit) at = with_hit_past clock hit row old (due_past e clock row.kind hit at)
+
+-- ---- the hits of all rows
+
+pub cancelled_past : (clock s : ℕ) (rows : List Scope) (hit : Hit) → ArePastHits clock rows
+    → ((row : Scope) → slice_get rows s ≡ Some row → IsPastHit clock row.kind hit)
+    → ArePastHits clock (at_row (with_hit hit) s rows)
+cancelled_past clock s rows hit old new n row h found has =
+    elim (at_row_cases (with_hit hit) s n rows row found) [
+      | inl other ↦ old n row h other.1 has
+      | inr it ↦ subst (λ r. IsPastRow clock r) (sym it.changed)
+          (with_hit_past clock hit it.old (λ g own. old n it.old g it.found own)
+          (new it.old (ap (slice_get rows) (sym it.here) ∙ it.found)))
+          h has
+    ]
+
+pub ticked_past : (e clock later : ℕ) (rows : List Scope) → clock ≤ later → ArePastHits clock rows
+    → ArePastHits later (map (tick e later) rows)
+ticked_past e clock later rows less old n row h found has =
+    let it = map_cases (tick e later) n rows row found in
+    subst (λ r. IsPastRow later r) (sym it.2)
+    (tick_past e later it.0 (λ g own. past_later clock later it.0.kind g less (old n it.0 g it.1 own)))
+    h has
+
+pub derived_past : (e clock : ℕ) (name : List ℕ) (parent : ℕ) (kind : Kind) (rows : List Scope)
+    → ArePastHits clock rows
+    → ArePastHits clock (rows ++ tick e clock (new_scope name parent kind) ∷ [])
+derived_past e clock name parent kind rows old n row h found has =
+    elim (push_cases rows (tick e clock (new_scope name parent kind)) n row found) [
+      | inl left ↦ old n row h left has
+      | inr last ↦ subst (λ r. IsPastRow clock r) (sym last.1)
+          (tick_past e clock (new_scope name parent kind) (λ g own. absurd (none-some g own))) h has
+    ]
+
+-- ---- what is cancelled
+
+pub cancellation_past : (e clock : ℕ) (cause : Option (List ℕ)) (kind : Kind)
+    → can_be_hit kind ≡ true → IsPastHit clock kind (cancellation e clock cause)
+cancellation_past e clock cause kind can =
+    record { can = can; past = omega arith; cancels = λ group. refl }
+
+pub cancellable_can : (kind : Kind) → is_cancellable kind ≡ true → can_be_hit kind ≡ true
+cancellable_can kinds.Root is = is
+cancellable_can kinds.Cancel is = refl
+cancellable_can kinds.Cause is = refl
+cancellable_can (kinds.Deadline moment text) is = refl
+cancellable_can (kinds.Value key text) is = is
+cancellable_can kinds.Detached is = is
+cancellable_can kinds.Group is = refl
+
+pub group_can : (kind : Kind) → is_group_kind kind ≡ true → can_be_hit kind ≡ true
+group_can kinds.Root is = is
+group_can kinds.Cancel is = refl
+group_can kinds.Cause is = refl
+group_can (kinds.Deadline moment text) is = refl
+group_can (kinds.Value key text) is = is
+group_can kinds.Detached is = is
+group_can kinds.Group is = refl

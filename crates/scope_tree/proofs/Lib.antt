@@ -1,0 +1,9 @@
+pub mod Alike
+pub mod Events
+pub mod Fronts
+pub mod Keeping
+pub mod Marking
+pub mod Passing
+pub mod Reaching
+pub mod Searching
+pub mod Sounding

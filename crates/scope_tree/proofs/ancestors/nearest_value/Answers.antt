@@ -1,0 +1,21 @@
+use Rattle.std.proofs.Common.{refl, sym, ap, ◌∙◌, ◌≡◌, ◌<◌, Some, slice_get, false, arith}
+use Rattle.std.specs.Option.{option_copied}
+use Rattle.std.proofs.lemmas.Option.{slice_get_read}
+use Rattle.run_model.specs.Scopes.{is_root}
+use Rattle.scope_tree.proofs.Searching.{value_above}
+use Rattle.scope_tree.proofs.ancestors.nearest_value.Goals as goal
+
+pub loop-text-preserved : goal.loop-text-preserved
+loop-text-preserved c =
+    let rows = c.args.scopes.now in
+    let at = c.loop-text.holder in
+    let row = c.index-scopes-holder.result in
+    let found : slice_get rows at ≡ Some row = slice_get_read rows _ at row refl c.loop-text.invariant.inside c.index-scopes-holder.is in
+    let below_root : is_root row.kind ≡ false = sym c.is_root.ensures ∙ c.if-is_root.false in
+    let less : row.parent < at = c.requires.ordered at row found below_root in
+    record {
+      inside = omega (arith, c.loop-text.invariant.inside);
+      found = value_above rows at row c.args.key.now c.requires.ordered found
+          (sym c.text_under.ensures ∙ ap option_copied c.in_default.is) below_root
+          ∙ c.loop-text.invariant.found;
+    }

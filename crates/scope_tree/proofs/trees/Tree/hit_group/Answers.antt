@@ -1,0 +1,16 @@
+use Rattle.std.specs.Option.{option_copied}
+use Rattle.run_model.specs.Rules.{can_be_hit, is_group_kind}
+use Rattle.scope_tree.proofs.Events.{alike_again}
+use Rattle.scope_tree.proofs.Keeping.{group_can}
+use Rattle.scope_tree.proofs.Passing.{kind_implied}
+use Rattle.scope_tree.proofs.trees.Tree.hit_group.Goals as goal
+
+pub cancel_scope-requires-clause-can : goal.cancel_scope-requires-clause-can
+cancel_scope-requires-clause-can g c =
+    kind_implied is_group_kind can_be_hit c.args.self.now c.args.s group_can c.requires.group
+
+pub returns-clause-again : goal.returns-clause-again
+returns-clause-again g c =
+    rw c.cancel_scope.ensures.tree
+    (alike_again c.args.self.now c.args.event c.args.s (option_copied c.args.error) c.requires.group
+    c.requires.later)

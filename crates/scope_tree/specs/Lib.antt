@@ -1,0 +1,4 @@
+pub mod Checks
+pub mod Marks
+pub mod Questions
+pub mod Sound

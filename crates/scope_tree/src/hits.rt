@@ -1,0 +1,108 @@
+//! Hits: how a scope's own hit is made, compared and set.
+
+ghost use Rattle.std.specs.Prelude.{◌≡◌, ◌<◌, Option, length, map, unwrap_or};
+ghost use Rattle.std.specs.Option.{option_copied};
+ghost use Rattle.run_model.specs.Reasons.{reason_text};
+ghost use Rattle.run_model.specs.Rows.{at_row};
+ghost use Rattle.run_model.specs.Scopes.{comes_before};
+ghost use Rattle.run_model.specs.TreeChanges.{with_hit, cancellation, expiry, hit_due, tick};
+
+use crate::copies::text_copy;
+use run_model::{Hit, Kind, Moment, Reason, Scope, Text};
+
+/// Says whether the hit of scope `s` comes before that of scope `t`: by event, then by moment, then
+/// by number.
+pub fn is_before(s: u16, a: &Hit, t: u16, b: &Hit) -> bool
+    ensures { result ≡ comes_before (s, a.now) (t, b.now) }
+{
+    let by_moment = a.moment.get().cmp(&b.moment.get());
+    a.event
+        .cmp(&b.event)
+        .then(by_moment.then(s.cmp(&t)))
+        .is_lt()
+}
+
+/// The cause that was given, else the reason's text.
+fn cause_or_reason(cause: Option<Text>, reason: Reason) -> Text
+    ensures { result ≡ unwrap_or cause (reason_text reason) }
+{
+    match cause {
+        Some(text) => text,
+        None => text_copy(reason.text().as_bytes()),
+    }
+}
+
+/// The hit of a cancellation.
+pub fn cancelled(event: u64, clock: Moment, cause: Option<Text>) -> Hit
+    ensures { result ≡ cancellation event clock cause }
+{
+    Hit {
+        event,
+        moment: clock,
+        reason: Reason::Canceled,
+        cause: cause_or_reason(cause, Reason::Canceled),
+    }
+}
+
+/// The hit of a deadline that passed.
+fn expired(event: u64, deadline: Moment, cause: Option<Text>) -> Hit
+    ensures { result ≡ expiry event deadline cause }
+{
+    Hit {
+        event,
+        moment: deadline,
+        reason: Reason::DeadlineExceeded,
+        cause: cause_or_reason(cause, Reason::DeadlineExceeded),
+    }
+}
+
+/// The hit that a deadline at or before the clock gets; other kinds get none.
+fn due(event: u64, clock: Moment, kind: &Kind) -> Option<Hit>
+    ensures { result ≡ hit_due event clock kind.now }
+{
+    match kind {
+        Kind::Deadline(moment, cause) => {
+            if moment.get() <= clock.get() {
+                Some(expired(event, *moment, cause.as_ref().map(|text| text.copy())))
+            } else {
+                None
+            }
+        }
+        _ => None,
+    }
+}
+
+/// Ends a row whose deadline is at or before the clock.
+pub fn expire(row: &mut Scope, event: u64, clock: Moment)
+    ensures { row.new ≡ tick event clock row.old }
+{
+    if row.hit.is_none() {
+        row.hit = due(event, clock, &row.kind);
+    }
+}
+
+/// Ends a row that nothing has ended.
+fn end(row: &mut Scope, hit: Hit)
+    ensures { row.new ≡ with_hit hit row.old }
+{
+    if row.hit.is_none() {
+        row.hit = Some(hit);
+    }
+}
+
+/// Ends the row of scope `s`, if nothing has ended it.
+pub fn end_row(scopes: &mut [Scope], s: u16, hit: Hit)
+    requires { s < length scopes.old }
+    ensures { scopes.new ≡ at_row (with_hit hit) s scopes.old }
+{
+    end(&mut scopes[s as usize], hit);
+}
+
+/// Ends each row whose deadline is at or before the clock, and that nothing has ended.
+pub fn expire_rows(scopes: &mut [Scope], event: u64, clock: Moment)
+    ensures { scopes.new ≡ map (tick event clock) scopes.old }
+{
+    for row in scopes.iter_mut() {
+        expire(row, event, clock);
+    }
+}

@@ -1,0 +1,56 @@
+//! What follows from a scope's kind alone.
+
+ghost use Rattle.std.specs.Option.{option_copied};
+ghost use Rattle.std.specs.Prelude.{◌≡◌};
+ghost use Rattle.run_model.specs.Allowed.{is_cancellable, takes_cause};
+ghost use Rattle.run_model.specs.Scopes.{is_root, is_detached, own_deadline, text_under};
+
+use run_model::{Kind, Moment};
+
+/// Says whether a scope of this kind has nothing above it.
+pub fn is_root(kind: &Kind) -> bool
+    ensures { result ≡ is_root kind.now }
+{
+    matches!(kind, Kind::Root)
+}
+
+/// Says whether a scope of this kind is not done when its parent is.
+pub fn is_detached(kind: &Kind) -> bool
+    ensures { result ≡ is_detached kind.now }
+{
+    matches!(kind, Kind::Detached)
+}
+
+/// Says whether a scope of this kind can be cancelled by command.
+pub fn is_cancellable(kind: &Kind) -> bool
+    ensures { result ≡ is_cancellable kind.now }
+{
+    matches!(kind, Kind::Cancel | Kind::Cause | Kind::Deadline(_, _))
+}
+
+/// Says whether a scope of this kind records a cause that a command gives.
+pub fn takes_cause(kind: &Kind) -> bool
+    ensures { result ≡ takes_cause kind.now }
+{
+    matches!(kind, Kind::Cause)
+}
+
+/// The deadline that a scope of this kind has by itself.
+pub fn own_deadline(kind: &Kind) -> Option<Moment>
+    ensures { result ≡ own_deadline kind.now }
+{
+    match kind {
+        Kind::Deadline(moment, _) => Some(*moment),
+        _ => None,
+    }
+}
+
+/// The text that a scope of this kind holds under this key.
+pub fn text_under<'a>(key: &[u8], kind: &'a Kind) -> Option<&'a [u8]>
+    ensures { option_copied result ≡ text_under key.now kind.now }
+{
+    match kind {
+        Kind::Value(own, text) if key == own.as_bytes() => Some(text.as_bytes()),
+        _ => None,
+    }
+}

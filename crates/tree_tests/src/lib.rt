@@ -1,0 +1,11 @@
+//! Tests of the tree of scopes: its worked examples, and trees of 1,024 scopes beside a plain
+//! program that searches the rows.
+#![tactic(auto)]
+
+#[cfg(test)]
+mod plain;
+pub mod runners;
+#[cfg(test)]
+mod shapes;
+#[cfg(test)]
+mod tests;

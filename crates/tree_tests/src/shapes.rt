@@ -1,0 +1,200 @@
+//! Trees of 1,024 scopes, compared scope by scope with the plain program after each of some hundred
+//! events.
+
+ghost use Rattle.std.specs.Prelude.{◌<◌};
+
+use crate::plain::Plain;
+use crate::runners::Runner;
+use run_model::{Kind, Moment, Name, Text};
+use std::alloc::Global;
+use std::process::Abort;
+use std::test::Fail;
+
+/// How a tree is grown.
+#[derive(Clone, Copy)]
+enum Shape {
+    /// Each scope under the one before it.
+    Chain,
+    /// Each scope under root.
+    Star,
+    /// Each scope under any one before it.
+    Random,
+}
+
+/// Numbers that look like chance, and are the same each time.
+#[derive(Drop)]
+struct Dice {
+    state: u64,
+}
+
+impl Dice {
+    /// A number below this one.
+    fn roll(&mut self, sides: u64) -> u64
+        requires { 0 < sides }
+        ensures { result < sides }
+    {
+        self.state = self
+            .state
+            .wrapping_mul(6_364_136_223_846_793_005)
+            .wrapping_add(1_442_695_040_888_963_407);
+        (self.state >> 33) % sides
+    }
+
+    /// A kind, with a deadline soon after this moment.
+    fn kind(&mut self, clock: u64) -> Result<Kind, &'static str> {
+        let kind = match self.roll(64) {
+            0 => Kind::Detached,
+            1..=5 => Kind::Deadline(moment(clock + self.roll(300))?, None),
+            6..=10 => Kind::Deadline(moment(clock + self.roll(300))?, Some(self.text()?)),
+            11..=15 => Kind::Value(name(b"k")?, self.text()?),
+            16..=18 => Kind::Value(name(b"other")?, self.text()?),
+            19..=28 => Kind::Group,
+            29..=40 => Kind::Cancel,
+            _ => Kind::Cause,
+        };
+        Ok(kind)
+    }
+
+    /// One of a hundred texts.
+    fn text(&mut self) -> Result<Text, &'static str> {
+        let n = self.roll(100) as u8;
+        Text::read(&[b't', b'0' + n / 10, b'0' + n % 10]).ok_or("no text")
+    }
+}
+
+fn name(bytes: &[u8]) -> Result<Name, &'static str> {
+    Name::read(bytes).ok_or("no name")
+}
+
+fn moment(seconds: u64) -> Result<Moment, &'static str> {
+    Moment::new(seconds).ok_or("no moment")
+}
+
+/// Scope `n`'s name: `s` and four digits.
+fn numbered(n: u16) -> Result<Name, &'static str> {
+    let digit = |d: u16| b'0' + (d % 10) as u8;
+    name(&[
+        b's',
+        digit(n / 1_000),
+        digit(n / 100),
+        digit(n / 10),
+        digit(n),
+    ])
+}
+
+/// A tree beside the plain program, each after the same events.
+#[derive(Drop)]
+struct Pair {
+    runner: Runner,
+    plain: Plain,
+}
+
+impl Pair {
+    /// Derives a scope in both.
+    fn derive(&mut self, n: u16, parent: u16, kind: &Kind) -> Result<(), Fail> {
+        let called = numbered(n)?;
+        self.runner.derive(&called, parent, kind)?;
+        self.plain.derive(self.runner.count(), &called, parent, kind)?;
+        Ok(())
+    }
+
+    /// Cancels a scope in both, if the tree accepts it.
+    fn cancel(&mut self, s: u16, cause: Option<&Text>) -> Result<(), Fail> {
+        if self.runner.cancel(s, cause).is_ok() {
+            self.plain.cancel(self.runner.count(), s as usize, cause)?;
+        }
+        Ok(())
+    }
+
+    /// Ends two groups in both, if both scopes are groups'.
+    fn hit_groups(&mut self, a: u16, b: u16, error: &Text) -> Result<(), Fail> {
+        if self.runner.hit_groups(a, b, Some(error)).is_ok() {
+            self.plain.cancel(self.runner.count(), a as usize, Some(error))?;
+            self.plain.cancel(self.runner.count(), b as usize, Some(error))?;
+        }
+        Ok(())
+    }
+
+    /// Moves the clock in both.
+    fn advance(&mut self, seconds: u64) -> Result<(), Fail> {
+        let to = moment(seconds)?;
+        self.runner.advance(to)?;
+        self.plain.advance(self.runner.count(), to);
+        Ok(())
+    }
+
+    /// An event that the dice choose.
+    fn event(&mut self, dice: &mut Dice) -> Result<(), Fail> {
+        let s = dice.roll(1_024) as u16;
+        match dice.roll(8) {
+            0..=2 => {
+                let forward = 1 + dice.roll(3);
+                self.advance(self.plain.clock().saturating_add(forward))
+            }
+            3..=4 => {
+                let error = dice.text()?;
+                self.hit_groups(s, dice.roll(1_024) as u16, &error)
+            }
+            5 => self.cancel(s, None),
+            _ => {
+                let cause = dice.text()?;
+                self.cancel(s, Some(&cause))
+            }
+        }
+    }
+
+    /// Asserts that both answer alike at each scope.
+    fn assert_alike(&self, rt: &impl Abort) {
+        let tree = self.runner.tree();
+        for s in 0..tree.len() {
+            let found = self.plain.find(s, b"k");
+            let s = s as u16;
+            let ending = found.ending.as_ref();
+            assert_eq!(rt; tree.err(s), ending.map(|e| e.0), "scope {s}");
+            assert_eq!(rt; tree.cause(s), ending.map(|e| e.1.as_bytes()), "scope {s}");
+            assert_eq!(rt; tree.deadline(s).map(|m| m.get()), found.deadline, "scope {s}");
+            let value = found.value.as_ref().map(|text| text.as_bytes());
+            assert_eq!(rt; tree.value(s, b"k"), value, "scope {s}");
+        }
+    }
+}
+
+/// Grows a tree of 1,024 scopes, and compares after each of 300 events.
+fn compare(rt: &impl Abort, alloc: Global, shape: Shape) -> Result<(), Fail> {
+    let mut dice = Dice { state: 2_026 };
+    let mut pair = Pair {
+        runner: Runner::new(alloc)?,
+        plain: Plain::new(alloc, name(b"root")?, moment(0)?)?,
+    };
+    for n in 1..1_024 {
+        let parent = match shape {
+            Shape::Chain => n - 1,
+            Shape::Star => 0,
+            Shape::Random => dice.roll(n as u64) as u16,
+        };
+        let kind = dice.kind(1)?;
+        pair.derive(n, parent, &kind)?;
+    }
+    pair.assert_alike(rt);
+    for _ in 0..300 {
+        pair.event(&mut dice)?;
+        pair.assert_alike(rt);
+    }
+    assert_eq!(rt; pair.runner.tree().len(), 1_024);
+    Ok(())
+}
+
+#[test]
+fn chain_of_1024_scopes(rt: HostRuntime) -> Result<(), Fail> {
+    compare(&rt, rt.alloc(), Shape::Chain)
+}
+
+#[test]
+fn star_of_1024_scopes(rt: HostRuntime) -> Result<(), Fail> {
+    compare(&rt, rt.alloc(), Shape::Star)
+}
+
+#[test]
+fn random_tree_of_1024_scopes(rt: HostRuntime) -> Result<(), Fail> {
+    compare(&rt, rt.alloc(), Shape::Random)
+}
