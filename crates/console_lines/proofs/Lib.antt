@@ -1,4 +1,5 @@
 pub mod Cuts
+pub mod LawLemmas
 pub mod Splits
 pub mod Steps
 pub mod TextBytes

@@ -5,10 +5,10 @@ use Rattle.std.proofs.Common.{refl, sym, ap, ◌∙◌, subst, append_assoc, app
 use Rattle.run_model.specs.Session.{Session}
 use Rattle.console_lines.specs.Lines.{whole_lines, open_line}
 use Rattle.console_lines.specs.Script.{reply, after_line, replies, after_lines}
-use Rattle.console_lines.specs.Progress.{Ran, Stopped, LineStops, WritesFront, kept}
+use Rattle.console_lines.specs.Progress.{Ran, Stopped, LineStops, WritesFront, IsFront, kept}
 use Rattle.console_lines.proofs.Cuts.{reply_kept, after_line_kept}
 use Rattle.console_lines.proofs.Splits.{line_ends, line_goes_on, whole_lines-append}
-use Rattle.console_lines.proofs.Written.{appends_nothing, appends_then, front_then}
+use Rattle.console_lines.proofs.Written.{appends_nothing, appends_then}
 
 pub replies-append :
     (s : Session) (xs ys : List (List ℕ))
@@ -57,32 +57,20 @@ ran_line line s t a b h e =
 
 -- ---- lines that were stopped
 
--- One line that stopped is a list of one, all of it run.
+-- One line that stopped is a list of one.
 pub stopped_line :
     (line : List ℕ) (s t : Session) (a b : Option (List ℕ))
     → LineStops line s t a b
     → Stopped (line ∷ []) s t a b
-stopped_line line s t a b h =
-    let Q : List ℕ → Type 0 = λ x. WritesFront a b x in
-    record {
-      done = line ∷ [];
-      left = [];
-      lines_are = refl;
-      written = subst Q (sym (append-nil (reply s line))) h.0;
-      state = h.1;
-    }
-
--- Lines that were all run and replied to are the first of themselves.
-pub stopped_none :
-    (lines : List (List ℕ)) (s t : Session) (a b : Option (List ℕ))
-    → Ran lines s t a b
-    → Stopped lines s t a b
-stopped_none lines s t a b h = record {
-  done = lines;
+stopped_line line s t a b h = record {
+  replied = [];
+  last = line;
   left = [];
-  lines_are = sym (append-nil lines);
-  written = (replies s lines, ([], sym (append-nil (replies s lines))), h.written);
-  state = h.state;
+  lines_are = refl;
+  front = h.0.0;
+  cut = h.0.1;
+  written = h.0.2;
+  state = h.1;
 }
 
 pub stopped_then :
@@ -92,16 +80,28 @@ pub stopped_then :
     → Stopped (xs ++ ys) s u a c
 stopped_then xs ys s t u a b c h k =
     let mid : t ≡ after_lines s xs = h.state in
-    let P : Session → Type 0 = λ n. WritesFront a c (replies s xs ++ replies n k.done) in
-    let both : P t = front_then a b c (replies s xs) (replies t k.done) h.written k.written in
-    let Q : List ℕ → Type 0 = λ x. WritesFront a c x in
+    let same : after_lines t k.replied ≡ after_lines s (xs ++ k.replied) =
+    ap (λ n. after_lines n k.replied) mid ∙ sym (after_lines-append s xs k.replied) in
+    let C : Session → Type 0 = λ n. IsFront k.front (reply n k.last) in
+    let P : Session → Type 0 =
+    λ n. Appends a c (replies s xs ++ (replies n k.replied ++ k.front)) in
+    let both : P t =
+    appends_then a b c (replies s xs) (replies t k.replied ++ k.front) h.written k.written in
+    let Q : List ℕ → Type 0 = λ x. Appends a c x in
+    let text : replies s xs ++ (replies (after_lines s xs) k.replied ++ k.front)
+    ≡ replies s (xs ++ k.replied) ++ k.front =
+    sym (append_assoc (replies s xs) (replies (after_lines s xs) k.replied) k.front)
+    ∙ ap (λ x. x ++ k.front) (sym (replies-append s xs k.replied)) in
     record {
-      done = xs ++ k.done;
+      replied = xs ++ k.replied;
+      last = k.last;
       left = k.left;
-      lines_are = ap (λ z. xs ++ z) k.lines_are ∙ sym (append_assoc xs k.done k.left);
-      written = subst Q (sym (replies-append s xs k.done)) (subst P mid both);
-      state =
-          k.state ∙ ap (λ n. after_lines n k.done) mid ∙ sym (after_lines-append s xs k.done);
+      lines_are =
+          ap (λ z. xs ++ z) k.lines_are ∙ sym (append_assoc xs k.replied (k.last ∷ k.left));
+      front = k.front;
+      cut = subst C same k.cut;
+      written = subst Q text (subst P mid both);
+      state = k.state ∙ ap (λ n. after_line n k.last) same;
     }
 
 -- Lines that stopped are stopped, whatever lines are behind them.
@@ -110,9 +110,13 @@ pub stopped_more :
     → Stopped xs s t a b
     → Stopped (xs ++ ys) s t a b
 stopped_more xs ys s t a b h = record {
-  done = h.done;
+  replied = h.replied;
+  last = h.last;
   left = h.left ++ ys;
-  lines_are = ap (λ z. z ++ ys) h.lines_are ∙ append_assoc h.done h.left ys;
+  lines_are =
+      ap (λ z. z ++ ys) h.lines_are ∙ append_assoc h.replied (h.last ∷ h.left) ys;
+  front = h.front;
+  cut = h.cut;
   written = h.written;
   state = h.state;
 }

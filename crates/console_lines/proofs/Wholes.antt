@@ -1,20 +1,20 @@
 -- A whole input: part after part, and then its last line and the closing line.
-use Rattle.std.specs.Prelude.{◌≡◌, ◌≤◌, ◌⊎◌, ◌+◌, ℕ, List, [], ◌∷◌, ◌++◌, Option, length}
+use Rattle.std.specs.Prelude.{◌≡◌, ◌≤◌, ◌+◌, ℕ, List, [], ◌∷◌, ◌++◌, Option, length}
 use Rattle.std.specs.Io.KnownBytes.{Appends, Consumes}
 use Rattle.std.proofs.Common.{inl, inr, arith, sym, ap, ◌∙◌, subst, append_assoc, append-nil}
 use Rattle.run_model.specs.Session.{Session}
 use Rattle.console_lines.specs.declared.lines.TheConstants.{LONGEST_INPUT}
 use Rattle.console_lines.specs.declared.faults.RunFault.{RunFault}
-use Rattle.console_lines.specs.declared.faults.RunFault.TheVariants.{Input, InputTooLong}
+use Rattle.console_lines.specs.declared.faults.RunFault.TheVariants.{InputTooLong}
 use Rattle.console_lines.specs.Lines.{whole_lines, open_line, lines_of}
 use Rattle.console_lines.specs.Script.{reply, after_line, replies, after_lines, closing, script}
-use Rattle.console_lines.specs.Progress.{Ran, Stopped, EndStops, WritesFront, IsOfLine, kept}
+use Rattle.console_lines.specs.Progress.{Ran, Stopped, StoppedAtEnd, EndStops, IsFront}
+use Rattle.console_lines.specs.Progress.{IsOfLine, IsOfReading, kept}
 use Rattle.console_lines.specs.Progress.{ReadsAll, RunsAll, RunStops}
 use Rattle.console_lines.proofs.Cuts.{reply_kept, after_line_kept}
 use Rattle.console_lines.proofs.Splits.{whole_lines-append}
 use Rattle.console_lines.proofs.Steps.{replies-append, after_lines-append, ran_then, stopped_then}
-use Rattle.console_lines.proofs.Steps.{stopped_none}
-use Rattle.console_lines.proofs.Written.{appends_then, consumes_then, front_then}
+use Rattle.console_lines.proofs.Written.{appends_then, consumes_then}
 
 -- ---- the last line
 
@@ -101,15 +101,9 @@ runs_all s t u begun r0 r1 w0 w1 w2 reads written state =
 
 -- ---- a run that stops
 
--- A fault that a line can have is no fault of reading.
-not_reading :
-    (fault : RunFault)
-    → IsOfLine fault
-    → (X : Type 0)
-    → (fault ≡ Input) ⊎ (fault ≡ InputTooLong)
-    → X
-not_reading fault h X (inl e) = absurd (subst IsOfLine e h)
-not_reading fault h X (inr e) = absurd (subst IsOfLine e h)
+-- A fault that a line can have is not that the input is too long.
+not_long : (fault : RunFault) → IsOfLine fault → (X : Type 0) → fault ≡ InputTooLong → X
+not_long fault h X e = absurd (subst IsOfLine e h)
 
 -- The input was read, and the last line or the closing line stopped.
 pub stops_at_the_end :
@@ -120,22 +114,25 @@ pub stops_at_the_end :
     → RunStops fault s u r0 r1 w0 w2
 stops_at_the_end fault s t u begun r0 r1 w0 w1 w2 f reads stops =
     let bytes = reads.bytes in
+    let lines = whole_lines [] bytes in
     let line = open_line [] bytes in
-    let P : List ℕ → Type 0 = λ x. WritesFront w1 w2 x in
-    let Q : List ℕ → Type 0 = λ x. WritesFront w0 w2 x in
-    let end = reply t line ++ closing (after_line t line) in
-    let front : WritesFront w0 w2 (script s bytes) =
-    subst Q (sym (last_reply s t bytes reads.ran.state))
-    (front_then w0 w1 w2 (replies s (whole_lines [] bytes)) end reads.ran.written
-    (subst P (kept_end t line begun reads.begun_is) stops.0)) in
+    let front = stops.0.0 in
+    let C : List ℕ → Type 0 = λ x. IsFront front x in
+    let P : Session → Type 0 = λ n. IsFront front (reply n line ++ closing (after_line n line)) in
+    let Q : Session → Type 0 = λ n. IsFront front (reply (after_lines s lines) line ++ closing n) in
+    let cut = subst P reads.ran.state (subst C (kept_end t line begun reads.begun_is) stops.0.1) in
+    let end : StoppedAtEnd bytes s u w0 w2 = record {
+      front = front;
+      cut = subst Q (sym (last_state s bytes)) cut;
+      written = appends_then w0 w1 w2 (replies s lines) front reads.ran.written stops.0.2;
+      state = kept_state s t u bytes begun reads.ran.state reads.begun_is stops.1;
+    } in
     record {
       bytes = bytes;
       read = reads.read;
       within = omega (arith, reads.within);
-      long = λ e. not_reading fault f _ (inr e);
-      in_full = λ e. not_reading fault f _ e;
-      stopped =
-          inr (reads.ended, front, kept_state s t u bytes begun reads.ran.state reads.begun_is stops.1);
+      long = not_long fault f _;
+      stopped = inr (inr (f, reads.ended, end));
     }
 
 -- Some input was read, and a line in the next part of it stopped.
@@ -151,33 +148,36 @@ pub stops_in_a_part :
     → RunStops fault s u r0 r2 w0 w2
 stops_in_a_part fault bytes part s t u r0 r1 r2 w0 w1 w2 f read more few ran stops =
     let Q : List (List ℕ) → Type 0 = λ lines. Stopped lines s u w0 w2 in
+    let first = whole_lines [] bytes in
+    let then = whole_lines (open_line [] bytes) part in
     record {
       bytes = bytes ++ part;
       read = consumes_then r0 r1 r2 bytes part read more;
       within = few;
-      long = λ e. not_reading fault f _ (inr e);
-      in_full = λ e. not_reading fault f _ e;
+      long = not_long fault f _;
       stopped =
-          inl (subst Q (sym (whole_lines-append [] bytes part))
-          (stopped_then (whole_lines [] bytes) (whole_lines (open_line [] bytes) part) s t u
-          w0 w1 w2 ran stops));
+          inr (inl (
+            f,
+            subst Q (sym (whole_lines-append [] bytes part))
+                (stopped_then first then s t u w0 w1 w2 ran stops),
+          ));
     }
 
 -- Some input was read and the lines that an LF ends were run, and a fault of reading stops the run.
 pub stops_reading :
     (fault : RunFault) (bytes : List ℕ) (s t : Session) (r0 r1 w0 w1 : Option (List ℕ))
+    → IsOfReading fault
     → Consumes r0 r1 bytes
     → length bytes ≤ LONGEST_INPUT + 1
     → (fault ≡ InputTooLong → length bytes ≡ LONGEST_INPUT + 1)
     → Ran (whole_lines [] bytes) s t w0 w1
     → RunStops fault s t r0 r1 w0 w1
-stops_reading fault bytes s t r0 r1 w0 w1 read few long ran = record {
+stops_reading fault bytes s t r0 r1 w0 w1 f read few long ran = record {
   bytes = bytes;
   read = read;
   within = few;
   long = long;
-  in_full = λ e. ran;
-  stopped = inl (stopped_none (whole_lines [] bytes) s t w0 w1 ran);
+  stopped = inl (f, ran);
 }
 
 -- ---- part after part

@@ -1,5 +1,5 @@
 -- How far a run came: which lines were run, and what was written.
-use Rattle.std.specs.Prelude.{◌≡◌, ◌≤◌, ◌⊎◌, ◌+◌, ℕ, List, [], ◌++◌, Option, length, take}
+use Rattle.std.specs.Prelude.{◌≡◌, ◌≤◌, ◌⊎◌, ◌+◌, ℕ, List, [], ◌∷◌, ◌++◌, Option, length, take}
 use Rattle.std.specs.Io.KnownBytes.{Appends, Consumes, IsAtEnd}
 use Rattle.run_model.specs.Session.{Session}
 use Rattle.console_lines.specs.declared.lines.TheConstants.{LONGEST_LINE, LONGEST_INPUT}
@@ -28,15 +28,19 @@ pub record Ran (lines : List (List ℕ)) (s t : Session) (old new : Option (List
   pub written : Appends old new (replies s lines)
   pub state : t ≡ after_lines s lines
 
--- The first of these lines were run, and a front of their replies was written.
+-- The first of these lines were run and replied to, and then one more was run, of whose reply a
+-- front was written.
 pub record Stopped
     (lines : List (List ℕ)) (s t : Session) (old new : Option (List ℕ))
     : Type 0 where
-  pub done : List (List ℕ)
+  pub replied : List (List ℕ)
+  pub last : List ℕ
   pub left : List (List ℕ)
-  pub lines_are : lines ≡ done ++ left
-  pub written : WritesFront old new (replies s done)
-  pub state : t ≡ after_lines s done
+  pub lines_are : lines ≡ replied ++ last ∷ left
+  pub front : List ℕ
+  pub cut : IsFront front (reply (after_lines s replied) last)
+  pub written : Appends old new (replies s replied ++ front)
+  pub state : t ≡ after_line (after_lines s replied) last
 
 -- One line was run, and a front of its reply was written.
 abbrev pub LineStops :
@@ -49,12 +53,19 @@ abbrev pub EndStops :
 EndStops line s t old new =
     WritesFront old new (reply s line ++ closing (after_line s line)) × (t ≡ after_line s line)
 
--- A fault that a line can have: reading is no part of it.
+-- A fault that a line can have.
 abbrev pub IsOfLine : RunFault → Type 0
 IsOfLine Input = ⊥
 IsOfLine InputTooLong = ⊥
 IsOfLine Output = Unit {0}
 IsOfLine Memory = Unit {0}
+
+-- A fault that reading can have.
+abbrev pub IsOfReading : RunFault → Type 0
+IsOfReading Input = Unit {0}
+IsOfReading InputTooLong = Unit {0}
+IsOfReading Output = ⊥
+IsOfReading Memory = ⊥
 
 -- ---- a whole input, by what the reader had left and what the writer had taken
 
@@ -79,8 +90,19 @@ pub record RunsAll (s t : Session) (r0 r1 w0 w1 : Option (List ℕ)) : Type 0 wh
   pub written : Appends w0 w1 (script s bytes)
   pub state : t ≡ after_lines s (lines_of bytes)
 
--- A run stopped: in a line that an LF ends, or, with the input read to its end, in what is written
--- behind those lines. A fault of reading stops it when each line that an LF ended was replied to.
+-- The lines that an LF ends were run and replied to and the last line was run, and a front was
+-- written of its reply and the closing line.
+pub record StoppedAtEnd (bytes : List ℕ) (s t : Session) (old new : Option (List ℕ)) : Type 0 where
+  pub front : List ℕ
+  pub cut : IsFront front
+      (reply (after_lines s (whole_lines [] bytes)) (open_line [] bytes)
+      ++ closing (after_lines s (lines_of bytes)))
+  pub written : Appends old new (replies s (whole_lines [] bytes) ++ front)
+  pub state : t ≡ after_lines s (lines_of bytes)
+
+-- A fault of reading stopped a run behind all lines that an LF ended; a fault of a line stopped it
+-- in a line that an LF ends, or with the input read to its end in what is written last. Too long is
+-- an input of which a byte more was read than it may have.
 pub record RunStops
     (fault : RunFault) (s t : Session) (r0 r1 w0 w1 : Option (List ℕ))
     : Type 0 where
@@ -88,6 +110,6 @@ pub record RunStops
   pub read : Consumes r0 r1 bytes
   pub within : length bytes ≤ LONGEST_INPUT + 1
   pub long : fault ≡ InputTooLong → length bytes ≡ LONGEST_INPUT + 1
-  pub in_full : (fault ≡ Input) ⊎ (fault ≡ InputTooLong) → Ran (whole_lines [] bytes) s t w0 w1
-  pub stopped : Stopped (whole_lines [] bytes) s t w0 w1
-      ⊎ (IsAtEnd r1 × WritesFront w0 w1 (script s bytes) × (t ≡ after_lines s (lines_of bytes)))
+  pub stopped : (IsOfReading fault × Ran (whole_lines [] bytes) s t w0 w1)
+      ⊎ ((IsOfLine fault × Stopped (whole_lines [] bytes) s t w0 w1)
+      ⊎ (IsOfLine fault × IsAtEnd r1 × StoppedAtEnd bytes s t w0 w1))

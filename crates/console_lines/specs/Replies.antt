@@ -1,5 +1,5 @@
 -- What a reply prints.
-use Rattle.std.specs.Prelude.{ℕ, List, ◌++◌, codes, Option, Some, None}
+use Rattle.std.specs.Prelude.{ℕ, List, [], ◌∷◌, ◌++◌, codes, Option, Some, None}
 use Rattle.std.specs.Fmt.{decimal}
 use Rattle.run_model.specs.declared.scopes.Reason.{Reason}
 use Rattle.run_model.specs.declared.tasks.Phase.{Phase}
@@ -62,3 +62,7 @@ reply_text (reply.Refused why) = refusal_text why
 reply_text (reply.Answered answer) = answer_text answer
 reply_text (reply.Scope look) = scope_text look.done look.deadline
 reply_text (reply.Acked count) = codes "acked " ++ decimal count
+
+-- A reply is written as one line: its text, and an LF.
+abbrev pub reply_line : Reply → List ℕ
+reply_line reply = reply_text reply ++ 10 ∷ []

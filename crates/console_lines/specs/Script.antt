@@ -15,7 +15,7 @@ use Rattle.console_lines.specs.declared.replies.Reply.{Reply}
 use Rattle.console_lines.specs.declared.replies.Reply.TheVariants as said
 use Rattle.console_lines.specs.Lines.{lines_of}
 use Rattle.console_lines.specs.Asked.{asked_of}
-use Rattle.console_lines.specs.Replies.{reply_text}
+use Rattle.console_lines.specs.Replies.{reply_line}
 
 -- ---- one line
 
@@ -44,10 +44,10 @@ abbrev pub after_asked : Session → Asked → Session
 after_asked s (asked.Command call) = with_event s (made (decide s.state s.log call))
 after_asked s _ = s
 
--- A reply is written as one line, with an LF at its end.
+-- What is written for a reply, where there is one.
 abbrev pub written : Option Reply → List ℕ
 written None = []
-written (Some reply) = reply_text reply ++ 10 ∷ []
+written (Some reply) = reply_line reply
 
 -- The session after a line.
 unfoldable pub after_line : Session → List ℕ → Session
@@ -71,7 +71,7 @@ replies s (line ∷ lines) = reply s line ++ replies (after_line s line) lines
 
 -- The last line that is written has the number of all events.
 unfoldable pub closing : Session → List ℕ
-closing s = written (Some (said.Acked s.state.count))
+closing s = reply_line (said.Acked s.state.count)
 
 -- All that is written for a whole input: the replies to its lines, and the closing line.
 abbrev pub script : Session → List ℕ → List ℕ

@@ -6,6 +6,7 @@
 
 mod asked;
 mod faults;
+pub mod laws;
 mod lines;
 pub mod nights;
 mod replies;

@@ -1,10 +1,12 @@
 //! A [`Reply`] is what a line is answered. `{reply}` prints it, without its LF.
 
-ghost use Rattle.std.specs.Prelude.{Some};
-ghost use Rattle.console_lines.specs.Replies.{reply_text, refusal_text, answer_text};
+ghost use Rattle.std.specs.Prelude.{◌≡◌, Some, IfOk};
+ghost use Rattle.std.specs.String.{string_bytes};
+ghost use Rattle.console_lines.specs.Replies.{reply_text, reply_line, refusal_text, answer_text};
 ghost use Rattle.console_lines.specs.Replies.{phase_text, deadline_text, scope_text};
 
 use run_model::{Answer, Look, Moment, Phase, Refusal, Text};
+use std::alloc::{AllocError, Allocator};
 use std::{fmt, str};
 
 /// What a line is answered.
@@ -20,6 +22,15 @@ pub enum Reply {
     Scope(Look),
     /// All events up to this number are acknowledged: `acked 4`.
     Acked(u64),
+}
+
+impl Reply {
+    /// The reply as it is written, with its LF. It fails only for want of memory.
+    pub fn to_line<'a, A: Allocator>(&self, alloc: &'a A) -> Result<String<&'a A>, AllocError>
+        ensures { IfOk result (λ line. string_bytes line ≡ reply_line self.now) }
+    {
+        format!(in alloc; "{self}\n")
+    }
 }
 
 impl fmt::Display for Reply {

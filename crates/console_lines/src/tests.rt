@@ -1,4 +1,5 @@
-//! Tests of what lines ask for and what replies print, with the values of `docs/formats-console.md`.
+//! Tests of what lines ask for and what replies print; the values stand in
+//! `docs/formats-console.md`.
 
 use crate::{Asked, LONGEST_INPUT, LONGEST_LINE, Reply, RunFault, read_line};
 use run_model::{Answer, Command, Look, Moment, Name, Phase, Reason, Refusal, Text, Wish};
@@ -182,6 +183,13 @@ fn replies_print_their_texts(rt: HostRuntime) -> Result<(), Fail> {
     for (reply, printed) in &table {
         assert_eq!(rt; format!(in rt.alloc(); "{reply}")?.as_str(), *printed);
     }
+    Ok(())
+}
+
+#[test]
+fn a_reply_is_written_with_its_line_feed(rt: HostRuntime) -> Result<(), Fail> {
+    let alloc = rt.alloc();
+    assert_eq!(rt; Reply::Acked(4).to_line(&alloc)?.as_str(), "acked 4\n");
     Ok(())
 }
 

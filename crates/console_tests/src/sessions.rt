@@ -3,6 +3,7 @@
 use record_view::{EventView, KindView};
 use run_console::LogBook;
 use run_model::{Answer, Command, Fault, Name, Reason, Refusal, Text, Wish};
+use std::alloc::Global;
 use std::process::Abort;
 use std::test::Fail;
 
@@ -14,119 +15,183 @@ fn text(rt: &impl Abort, bytes: &[u8]) -> Text {
     Text::read(bytes).expect(rt, "a text")
 }
 
+/// Derives a scope that takes a cause.
+fn derive(
+    rt: &impl Abort,
+    book: &mut LogBook,
+    called: &[u8],
+    parent: &[u8],
+) -> Result<u16, Refusal> {
+    book.derive(&name(rt, called), &name(rt, parent), &Wish::Cause)
+}
+
+/// Derives a scope that takes none.
+fn derive_plain(
+    rt: &impl Abort,
+    book: &mut LogBook,
+    called: &[u8],
+    parent: &[u8],
+) -> Result<u16, Refusal> {
+    book.derive(&name(rt, called), &name(rt, parent), &Wish::Cancel)
+}
+
+fn cancel(rt: &impl Abort, book: &mut LogBook, scope: &[u8]) -> Result<(), Refusal> {
+    book.cancel(&name(rt, scope), None)
+}
+
+fn cancel_by(
+    rt: &impl Abort,
+    book: &mut LogBook,
+    scope: &[u8],
+    cause: &[u8],
+) -> Result<(), Refusal> {
+    book.cancel(&name(rt, scope), Some(&text(rt, cause)))
+}
+
+/// Says whether the scope was cancelled with this cause.
+fn is_cancelled_by(rt: &impl Abort, book: &LogBook, scope: u16, cause: &[u8]) -> bool {
+    let look = book.look(scope).expect(rt, "a scope");
+    match look.done {
+        Some((reason, text)) => reason == Reason::Canceled && text.as_bytes() == cause,
+        None => false,
+    }
+}
+
+fn is_live(rt: &impl Abort, book: &LogBook, scope: u16) -> bool {
+    book.look(scope).expect(rt, "a scope").done.is_none()
+}
+
 /// The three records of the format's examples: a scope, one below it, and the cancel of the first.
 const RECORDS: &[u8] =
     b"\x01\x00\x05\x01a\x00\x00\x02\x01\x00\x05\x01b\x00\x01\x01\x02\x00\x07\x00\x01\x04disk";
 
 #[test]
-fn a_cancel_reaches_the_scopes_below(rt: HostRuntime) -> Result<(), Fault> {
+fn accepted_commands_are_recorded(rt: HostRuntime) -> Result<(), Fault> {
     let mut book = LogBook::new(rt.alloc())?;
-    let (root, a, b) = (name(&rt, b"root"), name(&rt, b"a"), name(&rt, b"b"));
-    assert_eq!(rt; book.derive(&a, &root, &Wish::Cause), Ok(1));
-    assert_eq!(rt; book.derive(&b, &a, &Wish::Cancel), Ok(2));
-    assert!(rt; book.look(2).expect(&rt, "b").done.is_none(), "live");
-    assert_eq!(rt; book.cancel(&a, Some(&text(&rt, b"disk"))), Ok(()));
-
+    assert_eq!(rt; derive(&rt, &mut book, b"a", b"root"), Ok(1));
+    assert_eq!(rt; derive_plain(&rt, &mut book, b"b", b"a"), Ok(2));
+    assert_eq!(rt; cancel_by(&rt, &mut book, b"a", b"disk"), Ok(()));
     assert_eq!(rt; book.count(), 4);
     assert_eq!(rt; book.log_len(), 26);
     assert!(rt;
         book.history().rest() == RECORDS,
         "the records of the examples"
     );
-    assert_eq!(rt; book.find_scope(&b), Some(2));
-    assert_eq!(rt; book.find_scope(&name(&rt, b"c")), None);
-    let seen = book.look(2).expect(&rt, "b");
-    assert!(rt; seen.name == b);
-    assert_eq!(rt; seen.done, Some((Reason::Canceled, text(&rt, b"disk"))));
-    assert_eq!(rt; seen.deadline, None);
-    assert!(rt;
-        book.look(0).expect(&rt, "root").done.is_none(),
-        "root is never done"
-    );
-    assert!(rt; book.look(3).is_none());
     Ok(())
 }
 
 #[test]
-fn history_gives_the_events(rt: HostRuntime) -> Result<(), Fault> {
+fn a_cancel_reaches_the_scopes_below(rt: HostRuntime) -> Result<(), Fault> {
     let mut book = LogBook::new(rt.alloc())?;
-    let (root, a, b) = (name(&rt, b"root"), name(&rt, b"a"), name(&rt, b"b"));
+    assert_eq!(rt; derive(&rt, &mut book, b"a", b"root"), Ok(1));
+    assert_eq!(rt; derive_plain(&rt, &mut book, b"b", b"a"), Ok(2));
+    assert!(rt; is_live(&rt, &book, 2));
+    assert_eq!(rt; cancel_by(&rt, &mut book, b"a", b"disk"), Ok(()));
+    assert!(rt; is_cancelled_by(&rt, &book, 1, b"disk"));
+    assert!(rt; is_cancelled_by(&rt, &book, 2, b"disk"));
+    assert!(rt; is_live(&rt, &book, 0), "root is never done");
+    assert_eq!(rt; derive(&rt, &mut book, b"c", b"b"), Ok(3));
     assert!(rt;
-        book.history().next().is_none(),
-        "the opening has no record"
+        is_cancelled_by(&rt, &book, 3, b"disk"),
+        "done from the start"
     );
-    assert_eq!(rt; book.derive(&a, &root, &Wish::Cause), Ok(1));
-    assert_eq!(rt; book.derive(&b, &a, &Wish::Cancel), Ok(2));
-    assert_eq!(rt; book.cancel(&a, None), Ok(()));
-    let mut events = book.history();
-    let first = EventView::Derive {
-        name: b"a",
-        parent: 0,
-        kind: KindView::Cause,
-    };
-    let second = EventView::Derive {
-        name: b"b",
-        parent: 1,
-        kind: KindView::Cancel,
-    };
-    let third = EventView::Cancel {
-        scope: 1,
-        cause: None,
-    };
-    assert!(rt; events.next() == Some(first));
-    assert!(rt; events.next() == Some(second));
-    assert!(rt; events.next() == Some(third));
-    assert!(rt; events.next().is_none());
-    Ok(())
-}
-
-#[test]
-fn the_first_refusal_that_holds(rt: HostRuntime) -> Result<(), Fault> {
-    let mut book = LogBook::new(rt.alloc())?;
-    let (root, a, b) = (name(&rt, b"root"), name(&rt, b"a"), name(&rt, b"b"));
-    let disk = text(&rt, b"disk");
-    assert_eq!(rt;
-        book.derive(&root, &a, &Wish::Cancel),
-        Err(Refusal::NoSuchScope)
-    );
-    assert_eq!(rt; book.derive(&a, &root, &Wish::Cancel), Ok(1));
-    assert_eq!(rt;
-        book.derive(&a, &root, &Wish::Cause),
-        Err(Refusal::NameTaken)
-    );
-    assert_eq!(rt; book.cancel(&b, Some(&disk)), Err(Refusal::NoSuchScope));
-    assert_eq!(rt;
-        book.cancel(&root, Some(&disk)),
-        Err(Refusal::NotCancellable)
-    );
-    assert_eq!(rt; book.cancel(&a, Some(&disk)), Err(Refusal::CauseNotTaken));
-    assert_eq!(rt; book.log_len(), 8, "one record");
-    assert_eq!(rt; book.cancel(&a, None), Ok(()));
-    assert_eq!(rt; book.cancel(&a, Some(&disk)), Err(Refusal::CauseNotTaken));
-    assert_eq!(rt; book.cancel(&a, None), Err(Refusal::AlreadyDone));
-    assert_eq!(rt; book.log_len(), 14, "two records");
-    assert_eq!(rt; book.count(), 3);
     Ok(())
 }
 
 #[test]
 fn a_scope_that_is_done_stays_as_it_ended(rt: HostRuntime) -> Result<(), Fault> {
     let mut book = LogBook::new(rt.alloc())?;
-    let (root, a, b) = (name(&rt, b"root"), name(&rt, b"a"), name(&rt, b"b"));
-    let (first, second) = (text(&rt, b"first"), text(&rt, b"second"));
-    assert_eq!(rt; book.derive(&a, &root, &Wish::Cause), Ok(1));
-    assert_eq!(rt; book.derive(&b, &a, &Wish::Cause), Ok(2));
-    assert_eq!(rt; book.cancel(&b, Some(&first)), Ok(()));
-    assert_eq!(rt; book.cancel(&a, Some(&second)), Ok(()));
-    let done = |cause: &Text| Some((Reason::Canceled, cause.copy()));
-    assert_eq!(rt; book.look(2).expect(&rt, "b").done, done(&first));
-    assert_eq!(rt; book.look(1).expect(&rt, "a").done, done(&second));
-    assert_eq!(rt; book.derive(&name(&rt, b"c"), &b, &Wish::Cancel), Ok(3));
-    assert_eq!(rt;
-        book.look(3).expect(&rt, "c").done,
-        done(&first),
-        "done from the start"
+    assert_eq!(rt; derive(&rt, &mut book, b"a", b"root"), Ok(1));
+    assert_eq!(rt; derive(&rt, &mut book, b"b", b"a"), Ok(2));
+    assert_eq!(rt; cancel_by(&rt, &mut book, b"b", b"first"), Ok(()));
+    assert_eq!(rt; cancel_by(&rt, &mut book, b"a", b"second"), Ok(()));
+    assert!(rt; is_cancelled_by(&rt, &book, 2, b"first"));
+    assert!(rt; is_cancelled_by(&rt, &book, 1, b"second"));
+    Ok(())
+}
+
+#[test]
+fn a_cancel_without_a_cause_has_the_reason(rt: HostRuntime) -> Result<(), Fault> {
+    let mut book = LogBook::new(rt.alloc())?;
+    assert_eq!(rt; derive(&rt, &mut book, b"a", b"root"), Ok(1));
+    assert_eq!(rt; cancel(&rt, &mut book, b"a"), Ok(()));
+    assert!(rt; is_cancelled_by(&rt, &book, 1, b"context canceled"));
+    Ok(())
+}
+
+#[test]
+fn scopes_are_found_by_name(rt: HostRuntime) -> Result<(), Fault> {
+    let mut book = LogBook::new(rt.alloc())?;
+    let a = name(&rt, b"a");
+    assert_eq!(rt; book.find_scope(&a), None);
+    assert_eq!(rt; derive(&rt, &mut book, b"a", b"root"), Ok(1));
+    assert_eq!(rt; book.find_scope(&a), Some(1));
+    let look = book.look(1).expect(&rt, "a");
+    assert!(rt; look.name == a);
+    assert!(rt; look.deadline.is_none());
+    assert!(rt; book.look(2).is_none());
+    Ok(())
+}
+
+#[test]
+fn history_gives_the_events(rt: HostRuntime) -> Result<(), Fault> {
+    let mut book = LogBook::new(rt.alloc())?;
+    assert!(rt;
+        book.history().next().is_none(),
+        "the opening has no record"
     );
+    assert_eq!(rt; derive_plain(&rt, &mut book, b"a", b"root"), Ok(1));
+    assert_eq!(rt; cancel(&rt, &mut book, b"a"), Ok(()));
+    let derived = EventView::Derive {
+        name: b"a",
+        parent: 0,
+        kind: KindView::Cancel,
+    };
+    let cancelled = EventView::Cancel {
+        scope: 1,
+        cause: None,
+    };
+    let mut events = book.history();
+    assert!(rt; events.next() == Some(derived));
+    assert!(rt; events.next() == Some(cancelled));
+    assert!(rt; events.next().is_none());
+    Ok(())
+}
+
+#[test]
+fn derives_are_refused_in_order(rt: HostRuntime) -> Result<(), Fault> {
+    let mut book = LogBook::new(rt.alloc())?;
+    let missing = Err(Refusal::NoSuchScope);
+    assert_eq!(rt;
+        derive(&rt, &mut book, b"root", b"a"),
+        missing,
+        "the name is taken too"
+    );
+    assert_eq!(rt;
+        derive(&rt, &mut book, b"root", b"root"),
+        Err(Refusal::NameTaken)
+    );
+    assert_eq!(rt; book.log_len(), 0);
+    assert_eq!(rt; book.count(), 1);
+    Ok(())
+}
+
+#[test]
+fn cancels_are_refused_in_order(rt: HostRuntime) -> Result<(), Fault> {
+    let mut book = LogBook::new(rt.alloc())?;
+    assert_eq!(rt; derive_plain(&rt, &mut book, b"a", b"root"), Ok(1));
+    assert_eq!(rt; cancel(&rt, &mut book, b"b"), Err(Refusal::NoSuchScope));
+    assert_eq!(rt;
+        cancel_by(&rt, &mut book, b"root", b"x"),
+        Err(Refusal::NotCancellable)
+    );
+    assert_eq!(rt; cancel(&rt, &mut book, b"a"), Ok(()));
+    assert_eq!(rt;
+        cancel_by(&rt, &mut book, b"a", b"x"),
+        Err(Refusal::CauseNotTaken)
+    );
+    assert_eq!(rt; cancel(&rt, &mut book, b"a"), Err(Refusal::AlreadyDone));
+    assert_eq!(rt; book.log_len(), 14, "two records");
     Ok(())
 }
 
@@ -145,17 +210,16 @@ fn commands(rt: HostRuntime) -> Result<(), Fault> {
     assert_eq!(rt; book.command(&derive), Ok(Answer::Scope(1)));
     assert_eq!(rt; book.command(&derive), Err(Refusal::NameTaken));
     assert_eq!(rt; book.command(&cancel), Ok(Answer::Done));
-    assert_eq!(rt; book.command(&cancel), Err(Refusal::AlreadyDone));
     Ok(())
 }
 
-#[test]
-fn as_many_scopes_as_there_can_be(rt: HostRuntime) -> Result<(), Fail> {
-    let mut book = LogBook::new(rt.alloc())?;
-    let mut parent = name(&rt, b"root");
+/// A line of as many scopes as there can be below root.
+fn longest_line(rt: &impl Abort, alloc: Global) -> Result<LogBook, Fail> {
+    let mut book = LogBook::new(alloc)?;
+    let mut parent = name(rt, b"root");
     for n in 1..=1_023u16 {
-        let called = format!(in rt.alloc(); "s{n}")?;
-        let scope = name(&rt, called.as_bytes());
+        let called = format!(in alloc; "s{n}")?;
+        let scope = name(rt, called.as_bytes());
         assert_eq!(rt;
             book.derive(&scope, &parent, &Wish::Cause),
             Ok(n),
@@ -163,17 +227,27 @@ fn as_many_scopes_as_there_can_be(rt: HostRuntime) -> Result<(), Fail> {
         );
         parent = scope;
     }
-    let more = name(&rt, b"more");
-    let refused = Err(Refusal::TooManyScopes);
-    assert_eq!(rt; book.derive(&more, &parent, &Wish::Cause), refused);
+    Ok(book)
+}
+
+#[test]
+fn as_many_scopes_as_there_can_be(rt: HostRuntime) -> Result<(), Fail> {
+    let mut book = longest_line(&rt, rt.alloc())?;
     // 7 bytes and the name each: 9 names of 2 bytes, 90 of 3, 900 of 4 and 24 of 5.
     assert_eq!(rt; book.log_len(), 11_169);
+    assert_eq!(rt;
+        derive(&rt, &mut book, b"more", b"root"),
+        Err(Refusal::TooManyScopes)
+    );
+    assert_eq!(rt; book.log_len(), 11_169);
     assert_eq!(rt; book.count(), 1_024);
+    Ok(())
+}
 
-    // The cause is found 1,022 scopes further up.
-    let disk = text(&rt, b"disk");
-    assert_eq!(rt; book.cancel(&name(&rt, b"s1"), Some(&disk)), Ok(()));
-    let last = book.look(1_023).expect(&rt, "the last scope");
-    assert_eq!(rt; last.done, Some((Reason::Canceled, disk)));
+#[test]
+fn a_cause_is_found_far_up(rt: HostRuntime) -> Result<(), Fail> {
+    let mut book = longest_line(&rt, rt.alloc())?;
+    assert_eq!(rt; cancel_by(&rt, &mut book, b"s1", b"disk"), Ok(()));
+    assert!(rt; is_cancelled_by(&rt, &book, 1_023, b"disk"));
     Ok(())
 }

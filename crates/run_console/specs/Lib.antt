@@ -1,3 +1,3 @@
 pub mod Books
-pub mod Changes
 pub mod Sound
+pub mod Steps

@@ -6,7 +6,7 @@ ghost use Rattle.run_model.specs.Replies.{kind_made};
 ghost use Rattle.run_model.specs.Scopes.{is_root, is_detached, own_deadline};
 ghost use Rattle.record_view.specs.Views.{kind_of};
 ghost use Rattle.run_console.specs.Books.{IsPlain};
-ghost use Rattle.run_console.specs.Changes.{IsPlainKind};
+ghost use Rattle.run_console.specs.Steps.{IsPlainKind};
 
 use record_view::KindView;
 use run_model::{Kind, Moment, Wish};

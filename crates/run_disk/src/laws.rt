@@ -1,4 +1,5 @@
-//! Laws of what a disk in memory leaves. Each function has an empty body, and its clauses are the law.
+//! Laws of what a disk in memory leaves. Each function has an empty body, and its clauses are the
+//! law.
 
 ghost use Rattle.std.specs.Prelude.{◌≤◌, ◌↔◌, ℕ, List};
 ghost use Rattle.run_disk.specs.Writes.{Write, History, and_write, and_sync};

@@ -1,7 +1,8 @@
 -- A hit beside others of the same event: what ended a scope stays, as hits that are alike end it
 -- alike.
 use Rattle.std.proofs.Common.{◌≡◌, ◌⊎◌, ◌<◌, ℕ, zero, suc, Bool, true, false, cond, List, length}
-use Rattle.std.proofs.Common.{Option, Some, None, slice_get, get_or, Less, Equal, Greater, inl, inr, refl}
+use Rattle.std.proofs.Common.{Option, Some, None, slice_get, get_or, Less, Equal, Greater, inl}
+use Rattle.std.proofs.Common.{inr, refl}
 use Rattle.std.proofs.Common.{sym, subst, ap, ◌∙◌, arith}
 use Rattle.std.specs.List.{filter_map}
 use Rattle.std.specs.Option.{option_map, option_and_then, IsSome, IfSome, unwrap_or}
@@ -16,7 +17,8 @@ use Rattle.run_model.specs.declared.scopes.Scope.{Scope}
 use Rattle.run_model.specs.Reasons.{reason_text}
 use Rattle.run_model.specs.Rows.{at_row, or_else}
 use Rattle.run_model.specs.Scopes.{is_root, is_detached, own_hit, comes_before, first_hit, ending}
-use Rattle.run_model.specs.Scopes.{AreOrdered, hit_at, least_hit, before_detached, upwards, line_within}
+use Rattle.run_model.specs.Scopes.{AreOrdered, hit_at, least_hit, before_detached, upwards}
+use Rattle.run_model.specs.Scopes.{line_within}
 use Rattle.run_model.specs.Rules.{is_group_kind}
 use Rattle.run_model.specs.TreeChanges.{with_hit, cancellation}
 use Rattle.run_model.proofs.RowLemmas.{slice_get-at_row_same, slice_get-at_row_other}
@@ -24,7 +26,7 @@ use Rattle.scope_laws.specs.Endings.{EndingsStay}
 use Rattle.scope_laws.specs.Searches.{above, joined, first_hit_from}
 use Rattle.scope_laws.proofs.Lines.{first_hit_up}
 use Rattle.scope_laws.proofs.Least.{first_hit_least}
-use Rattle.scope_laws.proofs.Stays.{earlier_comes_before, later_comes_behind}
+use Rattle.scope_laws.proofs.Stays.{earlier_comes_before, later_comes_behind, endings_from}
 use Rattle.scope_tree.specs.Checks.{AreEarlierOrAlike}
 use Rattle.scope_tree.specs.Sound.{ArePastHits, IsPastHit}
 use Rattle.scope_tree.proofs.Keeping.{ordered_hit}
@@ -42,16 +44,26 @@ earlier_event h hit less = record {
   behind = λ s t. later_comes_behind (t, hit) (s, h) less;
 }
 
+-- Of one event, the moments decide.
+by_moment : (e m n s t : ℕ)
+    → is_lt (ordering_then (nat_cmp e e) (ordering_then (nat_cmp m n) (nat_cmp s t)))
+    ≡ is_lt (ordering_then (nat_cmp m n) (nat_cmp s t))
+by_moment e m n s t =
+    ap (λ o. is_lt (ordering_then o (ordering_then (nat_cmp m n) (nat_cmp s t))))
+    (sym (nat_cmp_is e e Equal refl))
+
 earlier_moment : (h hit : Hit) → h.event ≡ hit.event → h.moment < hit.moment → ComesBefore h hit
 earlier_moment h hit same less = record {
   before = λ s t.
-      ap (λ e. is_lt (ordering_then (nat_cmp e hit.event) (ordering_then (nat_cmp h.moment hit.moment) (nat_cmp s t)))) same
-      ∙ ap (λ o. is_lt (ordering_then o (ordering_then (nat_cmp h.moment hit.moment) (nat_cmp s t)))) (sym (nat_cmp_is hit.event hit.event Equal refl))
-      ∙ ap (λ o. is_lt (ordering_then o (nat_cmp s t))) (sym (nat_cmp_is h.moment hit.moment Less less));
+      ap (λ e. comes_before (s, record h { event = e }) (t, hit)) same
+      ∙ by_moment hit.event h.moment hit.moment s t
+      ∙ ap (λ o. is_lt (ordering_then o (nat_cmp s t)))
+      (sym (nat_cmp_is h.moment hit.moment Less less));
   behind = λ s t.
-      ap (λ e. is_lt (ordering_then (nat_cmp hit.event e) (ordering_then (nat_cmp hit.moment h.moment) (nat_cmp t s)))) same
-      ∙ ap (λ o. is_lt (ordering_then o (ordering_then (nat_cmp hit.moment h.moment) (nat_cmp t s)))) (sym (nat_cmp_is hit.event hit.event Equal refl))
-      ∙ ap (λ o. is_lt (ordering_then o (nat_cmp t s))) (sym (nat_cmp_is hit.moment h.moment Greater less));
+      ap (λ e. comes_before (t, hit) (s, record h { event = e })) same
+      ∙ by_moment hit.event hit.moment h.moment t s
+      ∙ ap (λ o. is_lt (ordering_then o (nat_cmp t s)))
+      (sym (nat_cmp_is hit.moment h.moment Greater less));
 }
 
 -- It comes before, or is the same.
@@ -216,7 +228,8 @@ row_says : (hit : Hit) (n : ℕ) (old new : List Scope) (a b : Scope) → RowSay
     → (is_root a.kind ≡ false → Says hit (first_hit old a.parent) (first_hit new a.parent))
     → Says hit (first_hit_from old n a) (first_hit_from new n b)
 row_says hit n old new a b same level_own level_up before =
-    subst (Says hit (first_hit_from old n a)) (sym (first_hit_again new n a b same.kind same.parent))
+    subst (Says hit (first_hit_from old n a))
+    (sym (first_hit_again new n a b same.kind same.parent))
     (by_detached (is_detached a.kind))
   where
     by_root : (r : Bool)
@@ -278,12 +291,6 @@ ending_stays hit s rows ordered level n h was = by_row (slice_get rows n) refl
         ending_says hit (first_hit rows n) (first_hit (at_row (with_hit hit) s rows) n) h
         (first_says hit s rows ordered level (suc n) n row (omega arith) at) was
 
-map_stays : {X Y : Type 0} (f : X → Y) (old new : Option X)
-    → ((x : X) → old ≡ Some x → new ≡ Some x) → (y : Y) → option_map f old ≡ Some y
-    → option_map f new ≡ Some y
-map_stays f None new stays y has = absurd (none-some y has)
-map_stays f (Some x) new stays y has = ap (option_map f) (stays x refl) ∙ has
-
 -- ---- one event's hits on groups' scopes
 
 are_level : (e clock : ℕ) (cause : Option (List ℕ)) (rows : List Scope) → ArePastHits clock rows
@@ -302,21 +309,16 @@ are_level e clock cause rows past later n h own =
     by_event row (inl less) of = inl (earlier_event h (cancellation e clock cause) less)
     by_event row (inr alike) of = elim (cases_lt h.moment clock) [
       | inl less ↦ inl (earlier_moment h (cancellation e clock cause) alike.0 less)
-      | inr reached ↦ inr (same_hit e clock text h alike.0 (let same : h.moment ≡ clock = omega (arith, of.past) in same) (of.cancels alike.1) alike.2)
+      | inr reached ↦ inr (same_hit e clock text h alike.0
+          (let same : h.moment ≡ clock = omega (arith, of.past) in same) (of.cancels alike.1)
+          alike.2)
     ]
 
 pub endings_stay_alike : (e clock s : ℕ) (cause : Option (List ℕ)) (rows : List Scope)
     → AreOrdered rows → ArePastHits clock rows
     → AreEarlierOrAlike rows e (unwrap_or cause (reason_text Canceled))
     → EndingsStay rows (at_row (with_hit (cancellation e clock cause)) s rows)
-endings_stay_alike e clock s cause rows ordered past later = record {
-  reason = λ n reason has. map_stays (λ h. h.reason) (ending rows n) (ending new n) (stays n) reason has;
-  cause = λ n text has. map_stays (λ h. h.cause) (ending rows n) (ending new n) (stays n) text has;
-  hit = stays;
-}
-  where
-    new : List Scope
-    new = at_row (with_hit (cancellation e clock cause)) s rows
-
-    stays : (n : ℕ) (h : Hit) → ending rows n ≡ Some h → ending new n ≡ Some h
-    stays = ending_stays (cancellation e clock cause) s rows ordered (are_level e clock cause rows past later)
+endings_stay_alike e clock s cause rows ordered past later =
+    let hit = cancellation e clock cause in
+    endings_from rows (at_row (with_hit hit) s rows)
+    (ending_stays hit s rows ordered (are_level e clock cause rows past later))

@@ -1,5 +1,6 @@
 -- After a change of event e, each hit came with event e or an earlier one.
-use Rattle.std.proofs.Common.{◌≡◌, ◌⊎◌, ◌<◌, ◌+◌, ℕ, Bool, true, false, List, Option, Some, None, slice_get, inl, inr}
+use Rattle.std.proofs.Common.{◌≡◌, ◌⊎◌, ◌<◌, ◌+◌, ℕ, Bool, true, false, List, Option, Some, None}
+use Rattle.std.proofs.Common.{slice_get, inl, inr}
 use Rattle.std.proofs.Common.{refl, sym, subst, ap, ◌∙◌, arith}
 use Rattle.std.specs.Option.{option_and_then, option_map, option_map_or, unwrap_or}
 use Rattle.std.proofs.lemmas.Bool.{cases_eq}
@@ -34,7 +35,9 @@ pub alike_than_next : (e now : ℕ) (cause : List ℕ) (old new : List Scope)
     → RowsFollow e now old new → AreEarlierOrAlike old e cause → AreEarlier new (e + 1)
 alike_than_next e now cause old new follows later s hit has =
     elim (own_hit_follows e now old new follows s hit has) [
-      | inl had ↦ option_and_then_some (λ row. row.hit) (slice_get old s) hit had (λ row found own. elim (later s row hit found own) [ inl less ↦ omega (arith, less) | inr alike ↦ omega (arith, alike.0) ])
+      | inl had ↦ option_and_then_some (λ row. row.hit) (slice_get old s) hit had
+          (λ row found own. elim (later s row hit found own)
+          [ inl less ↦ omega (arith, less) | inr alike ↦ omega (arith, alike.0) ])
       | inr of ↦ omega (arith, of.event)
     ]
 
@@ -46,7 +49,9 @@ pub alike_again : (t : TreeState) (e s : ℕ) (cause : Option (List ℕ))
 alike_again t e s cause group later n row hit found has =
     elim (at_row_cases (with_hit new) s n t.scopes row found) [
       | inl other ↦ later n row hit other.1 has
-      | inr it ↦ subst Says (sym it.changed) (by_own it.old (ap (slice_get t.scopes) (sym it.here) ∙ it.found) it.found it.old.hit refl) has
+      | inr it ↦ subst Says (sym it.changed)
+          (by_own it.old (ap (slice_get t.scopes) (sym it.here) ∙ it.found) it.found it.old.hit
+          refl) has
     ]
   where
     new : Hit
@@ -54,7 +59,8 @@ alike_again t e s cause group later n row hit found has =
 
     IsAlike : Scope → Type 0
     IsAlike r = (hit.event < e)
-        ⊎ ((hit.event ≡ e) × (is_group_kind r.kind ≡ true) × (hit.cause ≡ unwrap_or cause (reason_text Canceled)))
+        ⊎ ((hit.event ≡ e) × (is_group_kind r.kind ≡ true) ×
+        (hit.cause ≡ unwrap_or cause (reason_text Canceled)))
 
     Says : Scope → Type 0
     Says r = r.hit ≡ Some hit → IsAlike r
@@ -63,7 +69,12 @@ alike_again t e s cause group later n row hit found has =
         → (own : Option Hit) → old.hit ≡ own → or_else own new ≡ Some hit → IsAlike old
     by_own old here at None is came =
         let same = same_Some new hit came in
-        inr (ap (λ h. h.event) (sym same), kind_passed is_group_kind t s old group here, ap (λ h. h.cause) (sym same))
+        inr (
+          ap (λ h. h.event) (sym same),
+          kind_passed is_group_kind t s old group here,
+          ap
+              (λ h. h.cause) (sym same),
+        )
     by_own old here at (Some own) is came = later n old hit at (is ∙ came)
 
 -- Where each hit is earlier, none is of event e.

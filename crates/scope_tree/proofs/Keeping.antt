@@ -1,6 +1,7 @@
 -- What the changes keep of the rows: parents have lesser numbers, and hits are of the past.
 use Rattle.std.proofs.Common.{◌≡◌, ◌<◌, ◌≤◌, ℕ, true, nat_le, List, [], ◌∷◌, ◌++◌, map}
-use Rattle.std.proofs.Common.{Option, Some, None, slice_get, inl, inr, refl, sym, subst, ap, ◌∙◌, arith}
+use Rattle.std.proofs.Common.{Option, Some, None, slice_get, inl, inr, refl, sym, subst, ap, ◌∙◌}
+use Rattle.std.proofs.Common.{arith}
 use Rattle.std.specs.Option.{option_map_or}
 use Rattle.std.proofs.lemmas.Bool.{false≢true, leb-true}
 use Rattle.std.proofs.lemmas.Option.{none-some, same_Some, cond_some}
@@ -100,7 +101,8 @@ pub ticked_past : (e clock later : ℕ) (rows : List Scope) → clock ≤ later 
 ticked_past e clock later rows less old n row h found has =
     let it = map_cases (tick e later) n rows row found in
     subst (λ r. IsPastRow later r) (sym it.2)
-    (tick_past e later it.0 (λ g own. past_later clock later it.0.kind g less (old n it.0 g it.1 own)))
+    (tick_past e later it.0 (λ g own. past_later clock later it.0.kind g less
+    (old n it.0 g it.1 own)))
     h has
 
 pub derived_past : (e clock : ℕ) (name : List ℕ) (parent : ℕ) (kind : Kind) (rows : List Scope)

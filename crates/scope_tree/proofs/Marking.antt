@@ -1,5 +1,6 @@
 -- The mark of a scope, from its parent's and its own hit.
-use Rattle.std.proofs.Common.{◌≡◌, ◌<◌, ℕ, Bool, true, false, cond, List, length, Option, Some, None}
+use Rattle.std.proofs.Common.{◌≡◌, ◌<◌, ℕ, Bool, true, false, cond, List, length, Option, Some}
+use Rattle.std.proofs.Common.{None}
 use Rattle.std.proofs.Common.{slice_get, refl, sym, subst, ap, ◌∙◌}
 use Rattle.std.specs.Option.{option_map, option_map_or, IfSome}
 use Rattle.std.proofs.lemmas.Option.{slice_get_within, option_and_then_some}
@@ -83,7 +84,8 @@ mark_above_within rows marks s row ordered found below =
         → IfSome (cond b None (mark_of marks row.parent)) (λ n. n < length rows)
     by_root true is = tt
     by_root false is =
-        subst (λ m. IfSome m (λ n. n < length rows)) (sym (is refl)) (first_mark_within rows row.parent)
+        subst (λ m. IfSome m (λ n. n < length rows)) (sym (is refl))
+        (first_mark_within rows row.parent)
 
 -- ---- beside the own hit
 

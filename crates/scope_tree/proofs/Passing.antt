@@ -1,5 +1,6 @@
 -- What a test that answers Ok says.
-use Rattle.std.proofs.Common.{◌≡◌, ◌<◌, ℕ, Bool, true, false, not, ◌&&◌, nat_le, is_some, List, [], ◌∷◌}
+use Rattle.std.proofs.Common.{◌≡◌, ◌<◌, ℕ, Bool, true, false, not, ◌&&◌, nat_le, is_some, List}
+use Rattle.std.proofs.Common.{[], ◌∷◌}
 use Rattle.std.proofs.Common.{length, Option, Some, None, Ok, slice_get, refl, sym, ap, ◌∙◌}
 use Rattle.std.specs.Option.{option_map_or}
 use Rattle.std.proofs.lemmas.Bool.{false≢true, ltb-true, leb-false}
@@ -34,8 +35,10 @@ pub record IsDerivable (t : TreeState) (parent : ℕ) : Type 0 where
 pub derive_passed : (t : TreeState) (name : List ℕ) (parent : ℕ)
     → tested (derive_refusals t name parent) ≡ Ok tt → IsDerivable t parent
 derive_passed t name parent ok =
-    let known = passed (not (has_scope t parent)) refusal.NoSuchScope ((not (is_scope_name_free t name), refusal.NameTaken) ∷ room_refusals t) ok in
-    let free = passed (not (is_scope_name_free t name)) refusal.NameTaken (room_refusals t) known.1 in
+    let known = passed (not (has_scope t parent)) refusal.NoSuchScope
+    ((not (is_scope_name_free t name), refusal.NameTaken) ∷ room_refusals t) ok in
+    let free = passed (not (is_scope_name_free t name)) refusal.NameTaken (room_refusals t)
+    known.1 in
     let room = passed (not (has_scope_room t)) refusal.TooManyScopes [] free.1 in
     record {
       known = ltb-true parent (length t.scopes) (is_so (has_scope t parent) known.0);
@@ -49,7 +52,8 @@ cancel_passed t s cause ok =
     let live = (is_done t.scopes s, refusal.AlreadyDone) ∷ [] in
     let taken = (is_some cause && not (has_kind takes_cause t s), refusal.CauseNotTaken) ∷ live in
     let can = not (has_kind is_cancellable t s) in
-    let known = passed (not (has_scope t s)) refusal.NoSuchScope ((can, refusal.NotCancellable) ∷ taken) ok in
+    let known = passed (not (has_scope t s)) refusal.NoSuchScope
+    ((can, refusal.NotCancellable) ∷ taken) ok in
     is_so (has_kind is_cancellable t s) (passed can refusal.NotCancellable taken known.1).0
 
 -- An advance that is not refused is forward.

@@ -11,9 +11,8 @@ use Rattle.run_model.specs.declared.scopes.Kind.TheVariants as kind
 use Rattle.run_model.specs.declared.scopes.Scope.{Scope}
 use Rattle.run_model.specs.Scopes.{is_detached, own_hit, chain, ending}
 use Rattle.run_model.specs.Rules.{can_be_hit}
-use Rattle.scope_laws.specs.Hits.{is_detached_at, has_hit}
+use Rattle.scope_laws.specs.Hits.{is_detached_at, has_hit, HitsReachDown}
 use Rattle.scope_laws.proofs.Reaches.{done_exactly, ends_below, ends_all_but_cut_off}
-use Rattle.scope_tree.specs.Questions.{HitsReachDown}
 use Rattle.scope_tree.specs.Sound.{ArePastHits}
 
 can_be_hit_joins : (kind : Kind) → can_be_hit kind ≡ true → is_detached kind ≡ false

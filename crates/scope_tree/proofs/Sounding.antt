@@ -29,6 +29,14 @@ pub record AreSound (t : TreeState) : Type 0 where
   pub ordered : AreOrdered t.scopes
   pub hits : ArePastHits t.clock t.scopes
 
+-- The tree of these fields.
+abbrev pub tree_of : ℕ → List Scope → TreeState
+tree_of clock scopes = record { clock = clock; scopes = scopes }
+
+pub sound_still : {t : TreeState} {marks : List (Option ℕ)} {r m : ℕ} → IsSound t marks r m
+    → AreSound t
+sound_still sound = record { few = sound.few; ordered = sound.ordered; hits = sound.hits }
+
 -- ---- the changes
 
 pub sound_cancel : (t : TreeState) (e s : ℕ) (cause : Option (List ℕ)) → AreSound t
@@ -47,14 +55,19 @@ pub sound_advance : (t : TreeState) (e moment : ℕ) → AreSound t → t.clock 
     → AreSound (after_advance e moment t)
 sound_advance t e moment sound forward = record {
   few = omega (arith, length-map t.scopes (tick e moment), sound.few);
-  ordered = ordered_follow e moment t.scopes (map (tick e moment) t.scopes) (ticked e moment t.scopes) sound.ordered;
+  ordered = ordered_follow e moment t.scopes (map (tick e moment) t.scopes)
+      (ticked e moment t.scopes) sound.ordered;
   hits = ticked_past e t.clock moment t.scopes forward sound.hits;
 }
 
 pub sound_derive : (t : TreeState) (e : ℕ) (name : List ℕ) (parent : ℕ) (kind : Kind) → AreSound t
     → IsDerivable t parent → AreSound (after_derive e name parent kind t)
 sound_derive t e name parent kind sound may = record {
-  few = omega (arith, length-append t.scopes (tick e t.clock (new_scope name parent kind) ∷ []), may.room);
+  few = omega (
+    arith,
+    length-append t.scopes (tick e t.clock (new_scope name parent kind) ∷ []),
+    may.room,
+  );
   ordered = ordered_follow e t.clock t.scopes (after_derive e name parent kind t).scopes
       (derive_follows e name parent kind t may.known).rows sound.ordered;
   hits = derived_past e t.clock name parent kind t.scopes sound.hits;
@@ -89,14 +102,14 @@ pub sound_given_back : (t : TreeState) (scopes scope_rest : List Scope)
     → mark_len ≡ length marks → MOST_SCOPES ≤ scope_capacity → MOST_SCOPES ≤ mark_capacity
     → IsSound (record { clock = t.clock; scopes = take scope_len (scopes ++ scope_rest) })
     (take mark_len (marks ++ mark_rest)) scope_capacity mark_capacity
-sound_given_back t scopes scope_rest marks mark_rest n m r k same sound marked all_n all_m room_r room_k =
+sound_given_back t scopes scope_rest marks rest n m r k same sound marked all_n all_m r_is k_is =
     let rows_back = given_back n scopes scope_rest all_n in
-    let marks_back = given_back m marks mark_rest all_m in
-    sound_fields t (take n (scopes ++ scope_rest)) (take m (marks ++ mark_rest)) r k
+    let marks_back = given_back m marks rest all_m in
+    sound_fields t (take n (scopes ++ scope_rest)) (take m (marks ++ rest)) r k
     (rows_back ∙ same) sound
-    (subst (λ x. AreMarked x (take m (marks ++ mark_rest))) (sym rows_back)
+    (subst (λ x. AreMarked x (take m (marks ++ rest))) (sym rows_back)
     (subst (AreMarked scopes) (sym marks_back) marked))
-    room_r room_k
+    r_is k_is
 
 -- The scopes that a cancellation leaves, where they were lent for it.
 pub lent_hit : (e clock s : ℕ) (cause given : Option (List ℕ)) (hit : Hit)

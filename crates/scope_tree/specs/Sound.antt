@@ -22,8 +22,8 @@ abbrev pub ArePastHits : ℕ → List Scope → Type 0
 ArePastHits clock rows = (s : ℕ) (row : Scope) (hit : Hit) → slice_get rows s ≡ Some row
     → row.hit ≡ Some hit → IsPastHit clock row.kind hit
 
--- A tree is sound where its rows are few and ordered, its hits are of the past, its marks are right,
--- and there is room for every row and mark that can come.
+-- A tree is sound where its rows are few and ordered, its hits are of the past, its marks are
+-- right, and there is room for every row and mark that can come.
 pub record IsSound
     (t : TreeState) (marks : List (Option ℕ)) (scope_capacity mark_capacity : ℕ) : Type 0 where
   pub few : length t.scopes ≤ MOST_SCOPES

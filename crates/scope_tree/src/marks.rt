@@ -8,7 +8,8 @@ ghost use Rattle.std.specs.Prelude.{◌≡◌, ◌<◌, ◌≤◌, length, IfSom
 ghost use Rattle.run_model.specs.declared.bounds.TheConstants.{MOST_SCOPES};
 ghost use Rattle.run_model.specs.Scopes.{AreOrdered, ending, is_root, comes_before};
 ghost use Rattle.scope_laws.specs.Searches.{above};
-ghost use Rattle.scope_tree.specs.Marks.{AreMarked, AreMarkedBelow, first_mark, mark_of, marked_hit};
+ghost use Rattle.scope_tree.specs.Marks.{AreMarked, AreMarkedBelow, first_mark, mark_of};
+ghost use Rattle.scope_tree.specs.Marks.{marked_hit};
 
 use crate::hits::is_before;
 use crate::kinds::{is_detached, is_root};

@@ -49,7 +49,12 @@ impl Plain {
     }
 
     /// A scope's own hit, if it has none.
-    pub fn cancel(&mut self, event: u64, s: usize, cause: Option<&Text>) -> Result<(), &'static str> {
+    pub fn cancel(
+        &mut self,
+        event: u64,
+        s: usize,
+        cause: Option<&Text>,
+    ) -> Result<(), &'static str> {
         let moment = self.clock;
         let cause = match cause {
             Some(cause) => cause.copy(),
@@ -124,10 +129,7 @@ fn place(row: &Scope, n: usize) -> Option<(u64, u64, usize)> {
 }
 
 /// The lesser of two places.
-fn sooner(
-    a: Option<(u64, u64, usize)>,
-    b: Option<(u64, u64, usize)>,
-) -> Option<(u64, u64, usize)> {
+fn sooner(a: Option<(u64, u64, usize)>, b: Option<(u64, u64, usize)>) -> Option<(u64, u64, usize)> {
     match (a, b) {
         (Some(a), Some(b)) => Some(if b < a { b } else { a }),
         (None, b) => b,

@@ -1,4 +1,4 @@
-//! Trees of 1,024 scopes, compared scope by scope with the plain program after each of some hundred
+//! Trees of 1,024 scopes, compared scope by scope with the plain program after each of 200
 //! events.
 
 ghost use Rattle.std.specs.Prelude.{◌<◌};
@@ -40,12 +40,12 @@ impl Dice {
         (self.state >> 33) % sides
     }
 
-    /// A kind, with a deadline soon after this moment.
-    fn kind(&mut self, clock: u64) -> Result<Kind, &'static str> {
+    /// A kind, with a deadline soon after clock 0.
+    fn kind(&mut self) -> Result<Kind, &'static str> {
         let kind = match self.roll(64) {
             0 => Kind::Detached,
-            1..=5 => Kind::Deadline(moment(clock + self.roll(300))?, None),
-            6..=10 => Kind::Deadline(moment(clock + self.roll(300))?, Some(self.text()?)),
+            1..=5 => Kind::Deadline(moment(1 + self.roll(300))?, None),
+            6..=10 => Kind::Deadline(moment(1 + self.roll(300))?, Some(self.text()?)),
             11..=15 => Kind::Value(name(b"k")?, self.text()?),
             16..=18 => Kind::Value(name(b"other")?, self.text()?),
             19..=28 => Kind::Group,
@@ -94,7 +94,8 @@ impl Pair {
     fn derive(&mut self, n: u16, parent: u16, kind: &Kind) -> Result<(), Fail> {
         let called = numbered(n)?;
         self.runner.derive(&called, parent, kind)?;
-        self.plain.derive(self.runner.count(), &called, parent, kind)?;
+        self.plain
+            .derive(self.runner.count(), &called, parent, kind)?;
         Ok(())
     }
 
@@ -109,8 +110,10 @@ impl Pair {
     /// Ends two groups in both, if both scopes are groups'.
     fn hit_groups(&mut self, a: u16, b: u16, error: &Text) -> Result<(), Fail> {
         if self.runner.hit_groups(a, b, Some(error)).is_ok() {
-            self.plain.cancel(self.runner.count(), a as usize, Some(error))?;
-            self.plain.cancel(self.runner.count(), b as usize, Some(error))?;
+            self.plain
+                .cancel(self.runner.count(), a as usize, Some(error))?;
+            self.plain
+                .cancel(self.runner.count(), b as usize, Some(error))?;
         }
         Ok(())
     }
@@ -129,7 +132,8 @@ impl Pair {
         match dice.roll(8) {
             0..=2 => {
                 let forward = 1 + dice.roll(3);
-                self.advance(self.plain.clock().saturating_add(forward))
+                let now = self.plain.clock();
+                self.advance(now.saturating_add(forward))
             }
             3..=4 => {
                 let error = dice.text()?;
@@ -152,14 +156,18 @@ impl Pair {
             let ending = found.ending.as_ref();
             assert_eq!(rt; tree.err(s), ending.map(|e| e.0), "scope {s}");
             assert_eq!(rt; tree.cause(s), ending.map(|e| e.1.as_bytes()), "scope {s}");
-            assert_eq!(rt; tree.deadline(s).map(|m| m.get()), found.deadline, "scope {s}");
+            assert_eq!(rt;
+                tree.deadline(s).map(|m| m.get()),
+                found.deadline,
+                "scope {s}"
+            );
             let value = found.value.as_ref().map(|text| text.as_bytes());
             assert_eq!(rt; tree.value(s, b"k"), value, "scope {s}");
         }
     }
 }
 
-/// Grows a tree of 1,024 scopes, and compares after each of 300 events.
+/// Grows a tree of 1,024 scopes, and compares after each of 200 events.
 fn compare(rt: &impl Abort, alloc: Global, shape: Shape) -> Result<(), Fail> {
     let mut dice = Dice { state: 2_026 };
     let mut pair = Pair {
@@ -172,11 +180,11 @@ fn compare(rt: &impl Abort, alloc: Global, shape: Shape) -> Result<(), Fail> {
             Shape::Star => 0,
             Shape::Random => dice.roll(n as u64) as u16,
         };
-        let kind = dice.kind(1)?;
+        let kind = dice.kind()?;
         pair.derive(n, parent, &kind)?;
     }
     pair.assert_alike(rt);
-    for _ in 0..300 {
+    for _ in 0..200 {
         pair.event(&mut dice)?;
         pair.assert_alike(rt);
     }

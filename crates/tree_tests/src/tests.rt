@@ -87,7 +87,10 @@ fn first_cause_stays(rt: HostRuntime) -> Result<(), Fail> {
     runner.cancel(1, Some(&text(b"b")?))?;
     assert_done(&rt, &runner, 2, Reason::Canceled, b"a");
     assert_done(&rt, &runner, 1, Reason::Canceled, b"b");
-    assert_eq!(rt; runner.cancel(2, Some(&text(b"again")?)), Err(Refusal::AlreadyDone));
+    assert_eq!(rt;
+        runner.cancel(2, Some(&text(b"again")?)),
+        Err(Refusal::AlreadyDone)
+    );
     Ok(())
 }
 
@@ -120,7 +123,11 @@ fn deadlines_pass_in_order_of_moment(rt: HostRuntime) -> Result<(), Fail> {
 #[test]
 fn detached_scope_lets_values_through_alone(rt: HostRuntime) -> Result<(), Fail> {
     let mut runner = Runner::new(rt.alloc())?;
-    runner.derive(&name(b"v")?, 0, &Kind::Value(name(b"region")?, text(b"eu")?))?;
+    runner.derive(
+        &name(b"v")?,
+        0,
+        &Kind::Value(name(b"region")?, text(b"eu")?),
+    )?;
     runner.derive(&name(b"x")?, 1, &Kind::Cause)?;
     runner.derive(&name(b"d")?, 2, &Kind::Detached)?;
     runner.derive(&name(b"k")?, 3, &Kind::Cancel)?;
@@ -142,7 +149,13 @@ fn deadline_at_the_clock_is_exceeded_at_once(rt: HostRuntime) -> Result<(), Fail
     let now = runner.tree().deadline_after(0)?;
     assert_eq!(rt; now.get(), 1_704_074_400);
     runner.derive(&name(b"t")?, 0, &Kind::Deadline(now, None))?;
-    assert_done(&rt, &runner, 1, Reason::DeadlineExceeded, b"context deadline exceeded");
+    assert_done(
+        &rt,
+        &runner,
+        1,
+        Reason::DeadlineExceeded,
+        b"context deadline exceeded",
+    );
     assert_deadline(&rt, &runner, 1, Some(1_704_074_400));
     let stands = runner.advance(moment(1_704_074_400)?);
     assert_eq!(rt; stands, Err(Refusal::ClockNotForward));
@@ -155,9 +168,15 @@ fn timeout_has_a_greatest_moment(rt: HostRuntime) -> Result<(), Fail> {
     let mut runner = Runner::new(rt.alloc())?;
     runner.advance(moment(7)?)?;
     let tree = runner.tree();
-    assert_eq!(rt; tree.deadline_after(252_999_999_993)?.get(), 253_000_000_000);
+    assert_eq!(rt;
+        tree.deadline_after(252_999_999_993)?.get(),
+        253_000_000_000
+    );
     for seconds in [252_999_999_994, 253_000_000_001, u64::MAX] {
-        assert_eq!(rt; tree.deadline_after(seconds), Err(Refusal::MomentOutOfRange));
+        assert_eq!(rt;
+            tree.deadline_after(seconds),
+            Err(Refusal::MomentOutOfRange)
+        );
     }
     Ok(())
 }
@@ -218,7 +237,10 @@ fn derive_is_refused_in_order(rt: HostRuntime) -> Result<(), Fail> {
     }
     let tree = runner.tree();
     assert_eq!(rt; tree.len(), 1_024);
-    assert_eq!(rt; tree.check_derive(b"root", 1_024), Err(Refusal::NoSuchScope));
+    assert_eq!(rt;
+        tree.check_derive(b"root", 1_024),
+        Err(Refusal::NoSuchScope)
+    );
     assert_eq!(rt; tree.check_derive(b"root", 0), Err(Refusal::NameTaken));
     assert_eq!(rt; tree.check_name(b"root", 0), Err(Refusal::NameTaken));
     assert_eq!(rt; tree.check_name(b"other", 1_023), Ok(()));
@@ -259,18 +281,23 @@ fn scopes_are_found_by_name(rt: HostRuntime) -> Result<(), Fail> {
 
 #[test]
 fn want_of_memory_is_answered(rt: HostRuntime) -> Result<(), Fail> {
-    let mut refused = 0;
+    let mut refused = false;
+    let mut made = false;
     for kilobytes in 0..1_024 {
         let heap = LocalHeap::new(rt.alloc(), 1_024 * kilobytes)?;
         match Tree::with_room(&heap) {
-            Ok(tree) => assert_eq!(rt; tree.len(), 1),
+            Ok(tree) => {
+                assert_eq!(rt; tree.len(), 1);
+                made = true;
+            }
             Err(fault) => {
                 assert_eq!(rt; fault, Fault::Memory);
                 assert_eq!(rt; heap.used(), 0);
-                refused += 1;
+                assert!(rt; !made, "{kilobytes}");
+                refused = true;
             }
         }
     }
-    assert!(rt; 4 < refused && refused < 1_023, "{refused}");
+    assert!(rt; refused && made);
     Ok(())
 }

@@ -10,7 +10,8 @@ loop-row-preserved c =
     let rows = c.args.scopes.now in
     let at = c.loop-row.at in
     let row = c.index-scopes-at.result in
-    let found : slice_get rows at ≡ Some row = slice_get_read rows _ at row refl c.loop-row.invariant.inside c.index-scopes-at.is in
+    let found : slice_get rows at ≡ Some row = slice_get_read rows _ at row refl
+    c.loop-row.invariant.inside c.index-scopes-at.is in
     let below_root : is_root row.kind ≡ false = sym c.is_root.ensures ∙ c.if-is_root.false in
     let joins : is_detached row.kind ≡ false = sym c.is_detached.ensures ∙ c.if-is_detached.false in
     let less : row.parent < at = c.requires.ordered at row found below_root in

@@ -10,7 +10,8 @@ loop-text-preserved c =
     let rows = c.args.scopes.now in
     let at = c.loop-text.holder in
     let row = c.index-scopes-holder.result in
-    let found : slice_get rows at ≡ Some row = slice_get_read rows _ at row refl c.loop-text.invariant.inside c.index-scopes-holder.is in
+    let found : slice_get rows at ≡ Some row = slice_get_read rows _ at row refl
+    c.loop-text.invariant.inside c.index-scopes-holder.is in
     let below_root : is_root row.kind ≡ false = sym c.is_root.ensures ∙ c.if-is_root.false in
     let less : row.parent < at = c.requires.ordered at row found below_root in
     record {

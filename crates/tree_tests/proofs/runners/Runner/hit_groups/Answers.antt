@@ -14,5 +14,5 @@ pub hit_group-requires-2-clause-group : goal.hit_group-requires-2-clause-group
 hit_group-requires-2-clause-group c =
     ap (λ t. has_kind is_group_kind t c.args.b) c.hit_group.ensures.tree
     ∙ has_kind-after_cancel is_group_kind c.args.self.now.tree c.in_ok-event.event c.args.a c.args.b
-        (option_copied c.bytes-error.result)
+    (option_copied c.bytes-error.result)
     ∙ c.is_group-else-not-is_group.ensures c.if-not-is_group-2.false
