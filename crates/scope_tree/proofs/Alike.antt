@@ -1,31 +1,28 @@
 -- A hit beside others of the same event: what ended a scope stays, as hits that are alike end it
 -- alike.
-use Rattle.std.proofs.Common.{◌≡◌, ◌⊎◌, ◌<◌, ℕ, zero, suc, Bool, true, false, cond, List, length}
-use Rattle.std.proofs.Common.{Option, Some, None, slice_get, get_or, Less, Equal, Greater, inl}
+use Rattle.std.proofs.Common.{◌≡◌, ◌⊎◌, ◌<◌, ℕ, Bool, true, false, cond, List}
+use Rattle.std.proofs.Common.{Option, Some, None, slice_get, Less, Equal, Greater, inl}
 use Rattle.std.proofs.Common.{inr, refl}
 use Rattle.std.proofs.Common.{sym, subst, ap, ◌∙◌, arith}
-use Rattle.std.specs.List.{filter_map}
 use Rattle.std.specs.Option.{option_map, option_and_then, IsSome, IfSome, unwrap_or}
 use Rattle.std.specs.Ordering.{nat_cmp, ordering_then, is_lt}
 use Rattle.std.specs.Cmp.{nat_cmp_is}
 use Rattle.std.proofs.lemmas.Bool.{cases_lt, cases_eq, false≢true}
-use Rattle.std.proofs.lemmas.Option.{none-some, slice_get-get_or, slice_get_within}
+use Rattle.std.proofs.lemmas.Option.{none-some}
 use Rattle.std.proofs.lemmas.Option.{option_and_then_some}
 use Rattle.run_model.specs.declared.scopes.Hit.{Hit}
 use Rattle.run_model.specs.declared.scopes.Reason.TheVariants.{Canceled}
 use Rattle.run_model.specs.declared.scopes.Scope.{Scope}
 use Rattle.run_model.specs.Reasons.{reason_text}
 use Rattle.run_model.specs.Rows.{at_row, or_else}
-use Rattle.run_model.specs.Scopes.{is_root, is_detached, own_hit, comes_before, first_hit, ending}
-use Rattle.run_model.specs.Scopes.{AreOrdered, hit_at, least_hit, before_detached, upwards}
-use Rattle.run_model.specs.Scopes.{line_within}
+use Rattle.run_model.specs.Scopes.{own_hit, comes_before, first_hit, ending}
+use Rattle.run_model.specs.Scopes.{AreOrdered}
 use Rattle.run_model.specs.Rules.{is_group_kind}
 use Rattle.run_model.specs.TreeChanges.{with_hit, cancellation}
 use Rattle.run_model.proofs.RowLemmas.{slice_get-at_row_same, slice_get-at_row_other}
 use Rattle.scope_laws.specs.Endings.{EndingsStay}
-use Rattle.scope_laws.specs.Searches.{above, joined, first_hit_from}
-use Rattle.scope_laws.proofs.Lines.{first_hit_up}
-use Rattle.scope_laws.proofs.Least.{first_hit_least}
+use Rattle.scope_laws.specs.Searches.{joined}
+use Rattle.scope_laws.proofs.Relates.{IsKept, RowsRelate, first_hits_relate}
 use Rattle.scope_laws.proofs.Stays.{earlier_comes_before, later_comes_behind, endings_from}
 use Rattle.scope_tree.specs.Checks.{AreEarlierOrAlike}
 use Rattle.scope_tree.specs.Sound.{ArePastHits, IsPastHit}
@@ -155,141 +152,86 @@ joined_says hit s own own' up up' level_own level_up (inr new) says =
 
 -- ---- the rows
 
--- The row is the same, but for this hit.
-record RowSays (hit : Hit) (old new : Scope) : Type 0 where
-  kind : new.kind ≡ old.kind
-  parent : new.parent ≡ old.parent
-  own : OwnSays hit old.hit new.hit
+-- Each own hit comes before this one, or is the same.
+abbrev AreLevel : Hit → List Scope → Type 0
+AreLevel hit rows = (n : ℕ) (h : Hit) → own_hit rows n ≡ Some h → IsLevel hit h
+
+-- What this hit leaves of level ones.
+abbrev OwnLevel : Hit → Option Hit → Option Hit → Type 0
+OwnLevel hit old new = IfSome old (IsLevel hit) × OwnSays hit old new
+
+abbrev FirstLevel : Hit → Option (ℕ × Hit) → Option (ℕ × Hit) → Type 0
+FirstLevel hit old new = IfSome old (λ a. IsLevel hit a.1) × Says hit old new
+
+-- The first of level hits is level.
+level_joined : (hit : Hit) (s : ℕ) (own : Option Hit) (up : Option (ℕ × Hit))
+    → IfSome own (IsLevel hit) → IfSome up (λ a. IsLevel hit a.1)
+    → IfSome (joined up s own) (λ a. IsLevel hit a.1)
+level_joined hit s None up level_own level_up = level_up
+level_joined hit s (Some h) None level_own level_up = level_own
+level_joined hit s (Some h) (Some a) level_own level_up = by_order (comes_before (s, h) a)
+  where
+    by_order : (b : Bool) → IsLevel hit (cond b (s, h) a).1
+    by_order true = level_own
+    by_order false = level_up
+
+level_kept : (hit : Hit) → IsKept (FirstLevel hit) (OwnLevel hit)
+level_kept hit = record {
+  none = (tt, inl refl);
+  join = λ s up up' own own' high low. (
+    level_joined hit s own up low.0 high.0,
+    joined_says hit s own own' up up' low.0 high.0 low.1 high.1,
+  );
+}
 
 own_says : (hit : Hit) (own : Option Hit) → OwnSays hit own (or_else own hit)
 own_says hit None = inr (refl, refl)
 own_says hit (Some h) = inl refl
 
--- Each row is there again.
-kept : (hit : Hit) (s : ℕ) (rows : List Scope) (n : ℕ) (a : Scope) → slice_get rows n ≡ Some a
-    → (b : Scope) × (slice_get (at_row (with_hit hit) s rows) n ≡ Some b) × RowSays hit a b
-kept hit s rows n a found = elim (cases_eq n s) [
+-- Each row is there again, and this hit at most is new.
+rows_level : (hit : Hit) (s : ℕ) (rows : List Scope) → AreLevel hit rows
+    → RowsRelate (OwnLevel hit) rows (at_row (with_hit hit) s rows)
+rows_level hit s rows level n a found = elim (cases_eq n s) [
   | inl here ↦ (
     with_hit hit a,
     ap (slice_get (at_row (with_hit hit) s rows)) here
         ∙ slice_get-at_row_same (with_hit hit) s rows
         ∙ ap (option_map (with_hit hit)) (ap (slice_get rows) (sym here) ∙ found),
-    record { kind = refl; parent = refl; own = own_says hit a.hit },
+    record { kind = refl; parent = refl; hit = (level_own a.hit refl, own_says hit a.hit) },
   )
   | inr other ↦ (
     a,
     slice_get-at_row_other (with_hit hit) s n rows other ∙ found,
-    record { kind = refl; parent = refl; own = inl refl },
+    record { kind = refl; parent = refl; hit = (level_own a.hit refl, inl refl) },
   )
 ]
-
--- Each own hit comes before this one, or is the same.
-abbrev AreLevel : Hit → List Scope → Type 0
-AreLevel hit rows = (n : ℕ) (h : Hit) → own_hit rows n ≡ Some h → IsLevel hit h
-
-level_first : (hit : Hit) (rows : List Scope) (n : ℕ) → AreLevel hit rows
-    → IfSome (first_hit rows n) (λ a. IsLevel hit a.1)
-level_first hit rows n level = by_hit (first_hit rows n) refl
   where
-    by_hit : (found : Option (ℕ × Hit)) → first_hit rows n ≡ found
-        → IfSome found (λ a. IsLevel hit a.1)
-    by_hit None at = tt
-    by_hit (Some a) at = level a.0 a.1 (first_hit_least rows n a at).own
-
-level_above : (hit : Hit) (rows : List Scope) (row : Scope) → AreLevel hit rows
-    → IfSome (above (first_hit rows) None row) (λ a. IsLevel hit a.1)
-level_above hit rows row level = by_root (is_root row.kind)
-  where
-    by_root : (b : Bool)
-        → IfSome (cond b None (first_hit rows row.parent)) (λ a. IsLevel hit a.1)
-    by_root true = tt
-    by_root false = level_first hit rows row.parent level
-
-level_own : (hit : Hit) (rows : List Scope) (n : ℕ) (row : Scope) → AreLevel hit rows
-    → slice_get rows n ≡ Some row → IfSome row.hit (IsLevel hit)
-level_own hit rows n row level found = by_own row.hit refl
-  where
-    by_own : (own : Option Hit) → row.hit ≡ own → IfSome own (IsLevel hit)
-    by_own None at = tt
-    by_own (Some h) at = level n h (ap (option_and_then (λ r. r.hit)) found ∙ at)
-
--- A scope's first hit from a row that is the same but for a hit.
-first_hit_again : (rows : List Scope) (s : ℕ) (a b : Scope) → b.kind ≡ a.kind
-    → b.parent ≡ a.parent → first_hit_from rows s b
-    ≡ cond (is_detached a.kind) None (joined (above (first_hit rows) None a) s b.hit)
-first_hit_again rows s a b kind parent =
-    ap (λ k. cond (is_detached k) None
-    (joined (cond (is_root k) None (first_hit rows b.parent)) s b.hit)) kind
-    ∙ ap (λ t. cond (is_detached a.kind) None
-    (joined (cond (is_root a.kind) None (first_hit rows t)) s b.hit)) parent
-
-row_says : (hit : Hit) (n : ℕ) (old new : List Scope) (a b : Scope) → RowSays hit a b
-    → IfSome a.hit (IsLevel hit) → IfSome (above (first_hit old) None a) (λ x. IsLevel hit x.1)
-    → (is_root a.kind ≡ false → Says hit (first_hit old a.parent) (first_hit new a.parent))
-    → Says hit (first_hit_from old n a) (first_hit_from new n b)
-row_says hit n old new a b same level_own level_up before =
-    subst (Says hit (first_hit_from old n a))
-    (sym (first_hit_again new n a b same.kind same.parent))
-    (by_detached (is_detached a.kind))
-  where
-    by_root : (r : Bool)
-        → (r ≡ false → Says hit (first_hit old a.parent) (first_hit new a.parent))
-        → Says hit (cond r None (first_hit old a.parent)) (cond r None (first_hit new a.parent))
-    by_root true up = inl refl
-    by_root false up = up refl
-
-    by_detached : (d : Bool) → Says hit
-        (cond d None (joined (above (first_hit old) None a) n a.hit))
-        (cond d None (joined (above (first_hit new) None a) n b.hit))
-    by_detached true = inl refl
-    by_detached false =
-        joined_says hit n a.hit b.hit (above (first_hit old) None a) (above (first_hit new) None a)
-        level_own level_up same.own (by_root (is_root a.kind) before)
-
-first_says : (hit : Hit) (s : ℕ) (rows : List Scope) → AreOrdered rows → AreLevel hit rows
-    → (most n : ℕ) (a : Scope) → n < most → slice_get rows n ≡ Some a
-    → Says hit (first_hit rows n) (first_hit (at_row (with_hit hit) s rows) n)
-first_says hit s rows ordered level zero n a less found = absurd (omega arith)
-first_says hit s rows ordered level (suc most) n a less found =
-    let new = at_row (with_hit hit) s rows in
-    let b = kept hit s rows n a found in
-    subst (λ x. Says hit x (first_hit new n)) (sym (first_hit_up rows n a ordered found))
-    (subst (Says hit (first_hit_from rows n a))
-    (sym (first_hit_up new n b.0 (ordered_hit hit s rows ordered) b.1))
-    (row_says hit n rows new a b.0 b.2 (level_own hit rows n a level found)
-    (level_above hit rows a level)
-    (λ below_root.
-    let less_parent : a.parent < n = ordered n a found below_root in
-    let within : n < length rows = slice_get_within rows n a found in
-    first_says hit s rows ordered level most a.parent (get_or rows a.parent a) (omega arith)
-    (slice_get-get_or rows a.parent a (omega arith)))))
+    level_own : (own : Option Hit) → a.hit ≡ own → IfSome own (IsLevel hit)
+    level_own None at = tt
+    level_own (Some h) at = level n h (ap (option_and_then (λ row. row.hit)) found ∙ at)
 
 -- ---- what ended a scope
 
--- A scope without a row is not done.
-no_row : (rows : List Scope) (n : ℕ) → slice_get rows n ≡ None → first_hit rows n ≡ None
-no_row rows n at =
-    ap (λ o. least_hit (filter_map hit_at (before_detached (upwards (line_within n rows) n o)))) at
-
-ending_says : (hit : Hit) (old new : Option (ℕ × Hit)) (h : Hit) → Says hit old new
-    → option_map (λ a. a.1) old ≡ Some h → option_map (λ a. a.1) new ≡ Some h
-ending_says hit old new h (inl same) was = ap (option_map (λ a. a.1)) same ∙ was
-ending_says hit None new h (inr one) was = absurd (none-some h was)
-ending_says hit (Some a) new h (inr one) was =
-    ap (option_map (λ x. x.1)) one.1 ∙ ap Some (sym one.2) ∙ was
+ending_says : (hit : Hit) (a : ℕ × Hit) (new : Option (ℕ × Hit)) → Says hit (Some a) new
+    → option_map (λ x. x.1) new ≡ Some a.1
+ending_says hit a new (inl same) = ap (option_map (λ x. x.1)) same
+ending_says hit a new (inr one) = ap (option_map (λ x. x.1)) one.1 ∙ ap Some (sym one.2)
 
 ending_stays : (hit : Hit) (s : ℕ) (rows : List Scope) → AreOrdered rows → AreLevel hit rows
     → (n : ℕ) (h : Hit) → ending rows n ≡ Some h
     → ending (at_row (with_hit hit) s rows) n ≡ Some h
-ending_stays hit s rows ordered level n h was = by_row (slice_get rows n) refl
+ending_stays hit s rows ordered level n h was = by_first (first_hit rows n) refl was
   where
-    by_row : (found : Option Scope) → slice_get rows n ≡ found
-        → ending (at_row (with_hit hit) s rows) n ≡ Some h
-    by_row None at =
-        absurd (none-some h (sym (ap (option_map (λ a. a.1)) (no_row rows n at)) ∙ was))
-    by_row (Some row) at =
-        ending_says hit (first_hit rows n) (first_hit (at_row (with_hit hit) s rows) n) h
-        (first_says hit s rows ordered level (suc n) n row (omega arith) at) was
+    new : List Scope
+    new = at_row (with_hit hit) s rows
+
+    by_first : (first : Option (ℕ × Hit)) → first_hit rows n ≡ first
+        → option_map (λ a. a.1) first ≡ Some h → ending new n ≡ Some h
+    by_first None at is = absurd (none-some h is)
+    by_first (Some a) at is =
+        let first = first_hits_relate (FirstLevel hit) (OwnLevel hit) (level_kept hit) rows new
+        ordered (ordered_hit hit s rows ordered) (rows_level hit s rows level) n a at in
+        ending_says hit a (first_hit new n) first.1 ∙ is
 
 -- ---- one event's hits on groups' scopes
 
