@@ -20,6 +20,3 @@ mod views;
 pub use events::Events;
 pub use records::{event_len, read_event, write_event};
 pub use views::{EventView, KindView, OutcomeView};
-
-#[cfg(test)]
-mod tests;

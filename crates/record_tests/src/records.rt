@@ -1,6 +1,6 @@
 //! Records from outside: the worked examples of the format, and bytes that are none.
 
-use crate::{EventView, Events, KindView, OutcomeView, event_len, read_event, write_event};
+use record_view::{EventView, Events, KindView, OutcomeView, event_len, read_event, write_event};
 
 /// Whether the bytes are read as this event and no more, and the event that was read is written as
 /// these bytes and no more.
