@@ -14,8 +14,6 @@ pub mod laws;
 mod memory_disks;
 mod tallies;
 mod tears;
-#[cfg(test)]
-mod tests;
 
 pub use disks::{DiskFailed, RunDisk};
 pub use durable::write_durably;

@@ -1,5 +1,5 @@
-use crate::{DiskFailed, FailOnce, FileDisk, Fuse, MemoryDisk, RunDisk, Torn, write_durably};
 use linked_list_allocator::LocalHeap;
+use run_disk::{DiskFailed, FailOnce, FileDisk, Fuse, MemoryDisk, RunDisk, Torn, write_durably};
 use run_model::Fault;
 use std::fs;
 use std::fs::File;
