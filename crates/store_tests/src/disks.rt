@@ -72,6 +72,7 @@ fn shows_each_stop_of_forty_calls(rt: HostRuntime) -> Result<(), Fail> {
     let mut disk = MemoryDisk::new(rt.alloc(), 1_572_864)?;
     for turn in 0..10u8 {
         let place = 150_000 * turn as u64;
+        assert_eq!(rt; disk.size(), 1_572_864);
         disk.write_at(place, &[turn + 1; 1000])?;
         disk.write_at(place + 500, &[0xEE])?;
         disk.sync()?;
