@@ -1,8 +1,9 @@
 //! Want of memory: a book takes its room when it is made, and none later.
 
+use crate::calls::{moment, name, value};
 use linked_list_allocator::LocalHeap;
 use log_book::LogBook;
-use run_model::{Fault, Name, Wish};
+use run_model::{Fault, Wish};
 use std::test::Fail;
 
 /// Why no book can be made over this heap, if none can. One that was made is given up again.
@@ -15,22 +16,29 @@ fn fault_of(heap: &LocalHeap) -> Option<Fault> {
 
 #[test]
 fn each_growth_can_be_refused(rt: HostRuntime) -> Result<(), Fail> {
-    // The log alone has 1,048,576 bytes.
-    let heap = LocalHeap::new(rt.alloc(), 1_048_000)?;
-    assert_eq!(rt; fault_of(&heap), Some(Fault::Memory), "no room for the log");
-    assert_eq!(rt; heap.used(), 0);
-
-    let heap = LocalHeap::new(rt.alloc(), 1_050_000)?;
-    assert_eq!(rt;
-        fault_of(&heap),
-        Some(Fault::Memory),
-        "no room for the rows"
-    );
-    assert_eq!(rt; heap.used(), 0, "the log was given back");
-
+    // What a whole book takes. Its log has 1,048,576 bytes, and its marks, which come last, have
+    // 4,096: a scope's is an optional number of two bytes.
     let heap = LocalHeap::new(rt.alloc(), 4_000_000)?;
-    assert_eq!(rt; fault_of(&heap), None, "room for both");
-    assert_eq!(rt; heap.used(), 0, "both were given back");
+    let book = LogBook::new(&heap)?;
+    let whole = heap.used();
+    drop(book);
+    assert_eq!(rt; heap.used(), 0, "all was given back");
+
+    let rows = [
+        (1_048_000, Some(Fault::Memory), "the log"),
+        (1_050_000, Some(Fault::Memory), "the rows"),
+        (
+            whole.saturating_sub(2_048),
+            Some(Fault::Memory),
+            "the marks",
+        ),
+        (whole.saturating_add(2_048), None, "nothing"),
+    ];
+    for (bytes, fault, refused) in rows {
+        let heap = LocalHeap::new(rt.alloc(), bytes)?;
+        assert_eq!(rt; fault_of(&heap), fault, "{refused} is refused");
+        assert_eq!(rt; heap.used(), 0, "what came before {refused} was given back");
+    }
     Ok(())
 }
 
@@ -39,11 +47,15 @@ fn commands_take_no_memory(rt: HostRuntime) -> Result<(), Fail> {
     let heap = LocalHeap::new(rt.alloc(), 4_000_000)?;
     let mut book = LogBook::new(&heap)?;
     let used = heap.used();
-    let root = Name::read(b"root").expect(&rt, "a name");
-    let scope = Name::read(b"a").expect(&rt, "a name");
-    assert_eq!(rt; book.derive(&scope, &root, &Wish::Cancel), Ok(1));
-    assert_eq!(rt; book.cancel(&scope, None), Ok(()));
-    assert!(rt; book.look(1).is_some());
+    let root = name(&rt, b"root");
+    let (a, b) = (name(&rt, b"a"), name(&rt, b"b"));
+    let region = value(&rt, b"region", b"eu");
+    assert_eq!(rt; book.derive(&a, &root, &Wish::Cancel), Ok(1));
+    assert_eq!(rt; book.derive(&b, &a, &region), Ok(2));
+    assert_eq!(rt; book.cancel(&a, None), Ok(()));
+    assert_eq!(rt; book.advance(moment(&rt, 5)), Ok(()));
+    assert!(rt; book.look(2).is_some());
+    assert!(rt; book.value(2, &name(&rt, b"region")).is_some());
     assert_eq!(rt; heap.used(), used);
     Ok(())
 }

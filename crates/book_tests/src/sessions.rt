@@ -1,65 +1,14 @@
 //! Sessions: what each command is answered, and what the book shows behind them.
 
-use record_view::{EventView, KindView};
+use crate::calls::{
+    cancel, cancel_by, derive, is_cancelled_by, is_live, moment, name, text, timeout,
+};
 use log_book::LogBook;
-use run_model::{Answer, Command, Fault, Name, Reason, Refusal, Text, Wish};
+use record_view::{EventView, KindView};
+use run_model::{Answer, Command, Fault, Refusal, Wish};
 use std::alloc::Global;
 use std::process::Abort;
 use std::test::Fail;
-
-fn name(rt: &impl Abort, bytes: &[u8]) -> Name {
-    Name::read(bytes).expect(rt, "a name")
-}
-
-fn text(rt: &impl Abort, bytes: &[u8]) -> Text {
-    Text::read(bytes).expect(rt, "a text")
-}
-
-/// Derives a scope that takes a cause.
-fn derive(
-    rt: &impl Abort,
-    book: &mut LogBook,
-    called: &[u8],
-    parent: &[u8],
-) -> Result<u16, Refusal> {
-    book.derive(&name(rt, called), &name(rt, parent), &Wish::Cause)
-}
-
-/// Derives a scope that takes none.
-fn derive_plain(
-    rt: &impl Abort,
-    book: &mut LogBook,
-    called: &[u8],
-    parent: &[u8],
-) -> Result<u16, Refusal> {
-    book.derive(&name(rt, called), &name(rt, parent), &Wish::Cancel)
-}
-
-fn cancel(rt: &impl Abort, book: &mut LogBook, scope: &[u8]) -> Result<(), Refusal> {
-    book.cancel(&name(rt, scope), None)
-}
-
-fn cancel_by(
-    rt: &impl Abort,
-    book: &mut LogBook,
-    scope: &[u8],
-    cause: &[u8],
-) -> Result<(), Refusal> {
-    book.cancel(&name(rt, scope), Some(&text(rt, cause)))
-}
-
-/// Says whether the scope was cancelled with this cause.
-fn is_cancelled_by(rt: &impl Abort, book: &LogBook, scope: u16, cause: &[u8]) -> bool {
-    let look = book.look(scope).expect(rt, "a scope");
-    match look.done {
-        Some((reason, text)) => reason == Reason::Canceled && text.as_bytes() == cause,
-        None => false,
-    }
-}
-
-fn is_live(rt: &impl Abort, book: &LogBook, scope: u16) -> bool {
-    book.look(scope).expect(rt, "a scope").done.is_none()
-}
 
 /// The three records of the format's examples: a scope, one below it, and the cancel of the first.
 const RECORDS: &[u8] =
@@ -68,8 +17,8 @@ const RECORDS: &[u8] =
 #[test]
 fn accepted_commands_are_recorded(rt: HostRuntime) -> Result<(), Fault> {
     let mut book = LogBook::new(rt.alloc())?;
-    assert_eq!(rt; derive(&rt, &mut book, b"a", b"root"), Ok(1));
-    assert_eq!(rt; derive_plain(&rt, &mut book, b"b", b"a"), Ok(2));
+    assert_eq!(rt; derive(&rt, &mut book, b"a", b"root", &Wish::Cause), Ok(1));
+    assert_eq!(rt; derive(&rt, &mut book, b"b", b"a", &Wish::Cancel), Ok(2));
     assert_eq!(rt; cancel_by(&rt, &mut book, b"a", b"disk"), Ok(()));
     assert_eq!(rt; book.count(), 4);
     assert_eq!(rt; book.log_len(), 26);
@@ -83,14 +32,14 @@ fn accepted_commands_are_recorded(rt: HostRuntime) -> Result<(), Fault> {
 #[test]
 fn a_cancel_reaches_the_scopes_below(rt: HostRuntime) -> Result<(), Fault> {
     let mut book = LogBook::new(rt.alloc())?;
-    assert_eq!(rt; derive(&rt, &mut book, b"a", b"root"), Ok(1));
-    assert_eq!(rt; derive_plain(&rt, &mut book, b"b", b"a"), Ok(2));
+    assert_eq!(rt; derive(&rt, &mut book, b"a", b"root", &Wish::Cause), Ok(1));
+    assert_eq!(rt; derive(&rt, &mut book, b"b", b"a", &Wish::Cancel), Ok(2));
     assert!(rt; is_live(&rt, &book, 2));
     assert_eq!(rt; cancel_by(&rt, &mut book, b"a", b"disk"), Ok(()));
     assert!(rt; is_cancelled_by(&rt, &book, 1, b"disk"));
     assert!(rt; is_cancelled_by(&rt, &book, 2, b"disk"));
     assert!(rt; is_live(&rt, &book, 0), "root is never done");
-    assert_eq!(rt; derive(&rt, &mut book, b"c", b"b"), Ok(3));
+    assert_eq!(rt; derive(&rt, &mut book, b"c", b"b", &Wish::Cause), Ok(3));
     assert!(rt;
         is_cancelled_by(&rt, &book, 3, b"disk"),
         "done from the start"
@@ -101,8 +50,8 @@ fn a_cancel_reaches_the_scopes_below(rt: HostRuntime) -> Result<(), Fault> {
 #[test]
 fn a_scope_that_is_done_stays_as_it_ended(rt: HostRuntime) -> Result<(), Fault> {
     let mut book = LogBook::new(rt.alloc())?;
-    assert_eq!(rt; derive(&rt, &mut book, b"a", b"root"), Ok(1));
-    assert_eq!(rt; derive(&rt, &mut book, b"b", b"a"), Ok(2));
+    assert_eq!(rt; derive(&rt, &mut book, b"a", b"root", &Wish::Cause), Ok(1));
+    assert_eq!(rt; derive(&rt, &mut book, b"b", b"a", &Wish::Cause), Ok(2));
     assert_eq!(rt; cancel_by(&rt, &mut book, b"b", b"first"), Ok(()));
     assert_eq!(rt; cancel_by(&rt, &mut book, b"a", b"second"), Ok(()));
     assert!(rt; is_cancelled_by(&rt, &book, 2, b"first"));
@@ -113,7 +62,7 @@ fn a_scope_that_is_done_stays_as_it_ended(rt: HostRuntime) -> Result<(), Fault> 
 #[test]
 fn a_cancel_without_a_cause_has_the_reason(rt: HostRuntime) -> Result<(), Fault> {
     let mut book = LogBook::new(rt.alloc())?;
-    assert_eq!(rt; derive(&rt, &mut book, b"a", b"root"), Ok(1));
+    assert_eq!(rt; derive(&rt, &mut book, b"a", b"root", &Wish::Cause), Ok(1));
     assert_eq!(rt; cancel(&rt, &mut book, b"a"), Ok(()));
     assert!(rt; is_cancelled_by(&rt, &book, 1, b"context canceled"));
     Ok(())
@@ -124,7 +73,7 @@ fn scopes_are_found_by_name(rt: HostRuntime) -> Result<(), Fault> {
     let mut book = LogBook::new(rt.alloc())?;
     let a = name(&rt, b"a");
     assert_eq!(rt; book.find_scope(&a), None);
-    assert_eq!(rt; derive(&rt, &mut book, b"a", b"root"), Ok(1));
+    assert_eq!(rt; derive(&rt, &mut book, b"a", b"root", &Wish::Cause), Ok(1));
     assert_eq!(rt; book.find_scope(&a), Some(1));
     let look = book.look(1).expect(&rt, "a");
     assert!(rt; look.name == a);
@@ -140,7 +89,7 @@ fn history_gives_the_events(rt: HostRuntime) -> Result<(), Fault> {
         book.history().next().is_none(),
         "the opening has no record"
     );
-    assert_eq!(rt; derive_plain(&rt, &mut book, b"a", b"root"), Ok(1));
+    assert_eq!(rt; derive(&rt, &mut book, b"a", b"root", &Wish::Cancel), Ok(1));
     assert_eq!(rt; cancel(&rt, &mut book, b"a"), Ok(()));
     let derived = EventView::Derive {
         name: b"a",
@@ -163,12 +112,12 @@ fn derives_are_refused_in_order(rt: HostRuntime) -> Result<(), Fault> {
     let mut book = LogBook::new(rt.alloc())?;
     let missing = Err(Refusal::NoSuchScope);
     assert_eq!(rt;
-        derive(&rt, &mut book, b"root", b"a"),
+        derive(&rt, &mut book, b"root", b"a", &Wish::Cause),
         missing,
         "the name is taken too"
     );
     assert_eq!(rt;
-        derive(&rt, &mut book, b"root", b"root"),
+        derive(&rt, &mut book, b"root", b"root", &Wish::Cause),
         Err(Refusal::NameTaken)
     );
     assert_eq!(rt; book.log_len(), 0);
@@ -179,7 +128,7 @@ fn derives_are_refused_in_order(rt: HostRuntime) -> Result<(), Fault> {
 #[test]
 fn cancels_are_refused_in_order(rt: HostRuntime) -> Result<(), Fault> {
     let mut book = LogBook::new(rt.alloc())?;
-    assert_eq!(rt; derive_plain(&rt, &mut book, b"a", b"root"), Ok(1));
+    assert_eq!(rt; derive(&rt, &mut book, b"a", b"root", &Wish::Cancel), Ok(1));
     assert_eq!(rt; cancel(&rt, &mut book, b"b"), Err(Refusal::NoSuchScope));
     assert_eq!(rt;
         cancel_by(&rt, &mut book, b"root", b"x"),
@@ -210,6 +159,11 @@ fn commands(rt: HostRuntime) -> Result<(), Fault> {
     assert_eq!(rt; book.command(&derive), Ok(Answer::Scope(1)));
     assert_eq!(rt; book.command(&derive), Err(Refusal::NameTaken));
     assert_eq!(rt; book.command(&cancel), Ok(Answer::Done));
+    let advance = Command::Advance {
+        moment: moment(&rt, 5),
+    };
+    assert_eq!(rt; book.command(&advance), Ok(Answer::Done));
+    assert_eq!(rt; book.command(&advance), Err(Refusal::ClockNotForward));
     Ok(())
 }
 
@@ -236,8 +190,14 @@ fn as_many_scopes_as_there_can_be(rt: HostRuntime) -> Result<(), Fail> {
     // 7 bytes and the name each: 9 names of 2 bytes, 90 of 3, 900 of 4 and 24 of 5.
     assert_eq!(rt; book.log_len(), 11_169);
     assert_eq!(rt;
-        derive(&rt, &mut book, b"more", b"root"),
+        derive(&rt, &mut book, b"more", b"root", &Wish::Cause),
         Err(Refusal::TooManyScopes)
+    );
+    let late = timeout(u64::MAX);
+    assert_eq!(rt;
+        derive(&rt, &mut book, b"more", b"root", &late),
+        Err(Refusal::TooManyScopes),
+        "before the moment is asked for"
     );
     assert_eq!(rt; book.log_len(), 11_169);
     assert_eq!(rt; book.count(), 1_024);

@@ -1,15 +1,22 @@
 -- The laws of the definition.
 use Rattle.std.specs.Prelude.{◌≡◌, ◌==◌, ◌<◌, ℕ, Bool, true, false, cond, if◌then◌else◌}
-use Rattle.std.specs.Prelude.{List, [], ◌∷◌, ◌++◌, length}
+use Rattle.std.specs.Prelude.{List, [], ◌∷◌, ◌++◌, length, codes, Some, Ok}
 use Rattle.std.specs.List.{slice_split, onto_first}
+use Rattle.std.specs.Option.{option_map}
 use Rattle.std.proofs.Common.{arith, refl, sym, ap, ◌∙◌, append_assoc, append-nil}
 use Rattle.std.proofs.lemmas.List.Splits.{length-slice_split}
 use Rattle.run_model.specs.Session.{Session}
+use Rattle.run_model.specs.declared.commands.Wish.TheVariants as wish
+use Rattle.written_moment.specs.Moments.{moment_of}
+use Rattle.written_moment.specs.Numbers.{number_of}
+use Rattle.console_lines.specs.Asked.{wish_of, wished, deadline_at}
 use Rattle.console_lines.specs.Lines.{whole_lines, open_line, lines_of}
+use Rattle.console_lines.specs.Words.{words_of, rest_of}
 use Rattle.console_lines.specs.Script.{replies, after_lines, closing, script}
 use Rattle.console_lines.specs.Progress.{IsFront}
 use Rattle.console_lines.proofs.Splits.{whole_lines-append}
 use Rattle.console_lines.proofs.Steps.{replies-append}
+use Rattle.console_lines.proofs.WordLemmas.{rest_is}
 
 -- What stands before the first part becomes the front of it.
 put_before : List ℕ → List (List ℕ) → List (List ℕ)
@@ -79,3 +86,31 @@ replies_stay s first more =
           ∙ ap (λ x. x ++ end) (replies-append s a (b ++ c))
           ∙ append_assoc (replies s a) behind end,
     )
+
+-- ---- texts
+
+-- A value's text is all that stands behind its key.
+pub value_text :
+    (key text : List ℕ)
+    → wish_of (codes "value") (key ∷ words_of text) ≡ Some (wished (wish.Value key text))
+value_text key text = ap (λ t. option_map (λ x. wished (wish.Value key x)) t) (rest_is (Some text))
+
+-- A deadline's cause is all that stands behind its moment.
+pub deadline_cause :
+    (word cause : List ℕ) (moment : ℕ)
+    → moment_of word ≡ Some (Ok moment)
+    → wish_of (codes "deadline") (word ∷ words_of cause)
+    ≡ Some (wished (wish.Deadline moment (Some cause)))
+deadline_cause word cause moment h =
+    ap (λ m. option_map (deadline_at (rest_of (words_of cause))) m) h
+    ∙ ap (λ t. Some (wished (wish.Deadline moment t))) (rest_is (Some cause))
+
+-- A timeout's cause is all that stands behind its number.
+pub timeout_cause :
+    (word cause : List ℕ) (seconds : ℕ)
+    → number_of word ≡ Some seconds
+    → wish_of (codes "timeout") (word ∷ words_of cause)
+    ≡ Some (wished (wish.Timeout seconds (Some cause)))
+timeout_cause word cause seconds h =
+    ap (λ n. option_map (λ x. wished (wish.Timeout x (rest_of (words_of cause)))) n) h
+    ∙ ap (λ t. Some (wished (wish.Timeout seconds t))) (rest_is (Some cause))

@@ -4,5 +4,6 @@ pub mod Splits
 pub mod Steps
 pub mod TextBytes
 pub mod Wholes
+pub mod WishLemmas
 pub mod WordLemmas
 pub mod Written

@@ -1,11 +1,8 @@
 -- The words of a line, one after another.
-use Rattle.std.specs.Prelude.{◌≡◌, ℕ, ◌+◌, ◌-◌, ◌<◌, ◌≤◌, nat_lt, ◌==◌, Bool, true, false, cond}
+use Rattle.std.specs.Prelude.{◌≡◌, ℕ, ◌+◌, ◌-◌, ◌<◌, ◌≤◌, nat_lt, ◌==◌, Bool, false, cond}
 use Rattle.std.specs.Prelude.{List, [], ◌∷◌, length, take, drop, Option, Some, None, position}
-use Rattle.std.specs.Borrow.{Bor}
-use Rattle.std.specs.Option.{is_some}
 use Rattle.std.specs.List.{join_with_byte, position_or_len, All}
 use Rattle.std.proofs.Common.{arith, refl, sym, ap, subst, ◌∙◌}
-use Rattle.std.proofs.lemmas.Bool.{false≢true}
 use Rattle.std.proofs.lemmas.Bool.Decides.{nat_tests}
 use Rattle.std.proofs.lemmas.Grind.{common_steps}
 use Rattle.std.proofs.lemmas.List.{take_rest}
@@ -13,9 +10,9 @@ use Rattle.std.proofs.lemmas.List.Quantifiers.{position-Some}
 use Rattle.std.proofs.lemmas.List.Splits.{join_with_byte-slice_split, length-slice_split}
 use Rattle.std.proofs.lemmas.List.Splits.{slice_split_first, slice_split_none}
 use Rattle.std.proofs.lemmas.List.Sums.{position_or_len_is, fails_before_first}
-use Rattle.console_lines.specs.declared.asked.Asked.TheVariants.{BadLine}
-use Rattle.console_lines.specs.Words.{words_of, words_in, rest_of, lent}
-use Rattle.console_lines.specs.Asked.{scope_line, wish_of}
+use Rattle.run_model.specs.declared.commands.Wish.{Wish}
+use Rattle.console_lines.specs.Words.{words_of, words_in, rest_of, only_word}
+use Rattle.console_lines.specs.Asked.{alone}
 
 is_space : ℕ → Bool
 is_space b = b == 32
@@ -66,24 +63,19 @@ rest_is None = refl
 rest_is (Some line) =
     rest_of_more (words_of line) (has_words line) ∙ ap Some (join_with_byte-slice_split 32 line)
 
-wish_of_words : (kind : List ℕ) (words : List (List ℕ)) → 0 < length words
-    → wish_of kind words ≡ None
-wish_of_words kind [] h = absurd (omega (arith, h))
-wish_of_words kind (word ∷ words) h = refl
+alone_words : (wish : Wish) (words : List (List ℕ)) → 0 < length words → alone wish words ≡ None
+alone_words wish [] h = absurd (omega (arith, h))
+alone_words wish (word ∷ words) h = refl
 
--- A kind that takes nothing names no wish where a word is left over.
-pub wish_of_more :
-    (kind : List ℕ) (left : Option (Bor (List ℕ)))
-    → is_some left ≡ true
-    → wish_of kind (words_in (lent left)) ≡ None
-wish_of_more kind None h = absurd (false≢true h)
-wish_of_more kind (Some line) h = wish_of_words kind (words_of line.now) (has_words line.now)
+-- A wish that takes nothing is none where a word is left over.
+pub alone_more : (wish : Wish) (line : List ℕ) → alone wish (words_of line) ≡ None
+alone_more wish line = alone_words wish (words_of line) (has_words line)
 
-scope_line_words : (scope : List ℕ) (words : List (List ℕ)) → 0 < length words
-    → scope_line (scope ∷ words) ≡ BadLine
-scope_line_words scope [] h = absurd (omega (arith, h))
-scope_line_words scope (word ∷ words) h = refl
+only_word_words : (word : List ℕ) (words : List (List ℕ)) → 0 < length words
+    → only_word (word ∷ words) ≡ None
+only_word_words word [] h = absurd (omega (arith, h))
+only_word_words word (more ∷ words) h = refl
 
--- A word left over makes a bad line.
-pub scope_line_more : (scope line : List ℕ) → scope_line (scope ∷ words_of line) ≡ BadLine
-scope_line_more scope line = scope_line_words scope (words_of line) (has_words line)
+-- A word with another behind it is not the last.
+pub only_word_more : (word line : List ℕ) → only_word (word ∷ words_of line) ≡ None
+only_word_more word line = only_word_words word (words_of line) (has_words line)

@@ -61,6 +61,7 @@ reply_text reply.BadLine = codes "bad line"
 reply_text (reply.Refused why) = refusal_text why
 reply_text (reply.Answered answer) = answer_text answer
 reply_text (reply.Scope look) = scope_text look.done look.deadline
+reply_text (reply.Value text) = codes "value " ++ text
 reply_text (reply.Acked count) = codes "acked " ++ decimal count
 
 -- A reply is written as one line: its text, and an LF.

@@ -8,6 +8,7 @@ use Rattle.run_model.specs.State.{State, scope_named}
 use Rattle.run_model.specs.Replies.{decide}
 use Rattle.run_model.specs.Replies as model
 use Rattle.run_model.specs.Questions.{look_of}
+use Rattle.run_model.specs.Scopes.{value_of}
 use Rattle.run_model.specs.Session.{Session, made, with_event}
 use Rattle.console_lines.specs.declared.asked.Asked.{Asked}
 use Rattle.console_lines.specs.declared.asked.Asked.TheVariants as asked
@@ -31,6 +32,15 @@ scope_reply p name =
     (option_and_then (λ s. look_of p s) (scope_named p.tree name))
     (said.Refused refusal.NoSuchScope)
 
+-- What a scope that is there holds under a key is told. A scope that is not there is refused first,
+-- and then a key under which nothing is held.
+abbrev pub value_reply : State → List ℕ → List ℕ → Reply
+value_reply p name key =
+    option_map_or
+    (λ s. option_map_or (λ text. said.Value text) (value_of p.tree.scopes s key)
+    (said.Refused refusal.NoValue))
+    (scope_named p.tree name) (said.Refused refusal.NoSuchScope)
+
 -- The reply to what a line asks for; an empty line has none.
 abbrev pub reply_to : Session → Asked → Option Reply
 reply_to s asked.Nothing = None
@@ -38,6 +48,7 @@ reply_to s asked.BadLine = Some said.BadLine
 reply_to s (asked.Refused why) = Some (said.Refused why)
 reply_to s (asked.Command call) = Some (command_reply (model.reply s.state s.log call))
 reply_to s (asked.Scope name) = Some (scope_reply s.state name)
+reply_to s (asked.Value scope key) = Some (value_reply s.state scope key)
 
 -- The session after what a line asks for: an accepted command alone changes it.
 abbrev pub after_asked : Session → Asked → Session

@@ -14,6 +14,11 @@ abbrev pub rest_of : List (List ℕ) → Option (List ℕ)
 rest_of [] = None
 rest_of (word ∷ words) = Some (join_with_byte 32 (word ∷ words))
 
+-- The word of a line that has one word alone.
+abbrev pub only_word : List (List ℕ) → Option (List ℕ)
+only_word (word ∷ []) = Some word
+only_word _ = None
+
 -- The words of what is left of a line, where anything is.
 abbrev pub words_in : Option (List ℕ) → List (List ℕ)
 words_in None = []

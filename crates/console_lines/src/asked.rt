@@ -15,4 +15,6 @@ pub enum Asked {
     Command(Command),
     /// How the scope of this name is.
     Scope(Name),
+    /// What the scope of this name holds under a key.
+    Value { scope: Name, key: Name },
 }

@@ -2,13 +2,22 @@
 //!
 //! Each function has an empty body, and its clauses are the law.
 
-ghost use Rattle.std.specs.List.{slice_split};
-ghost use Rattle.std.specs.Prelude.{◌≡◌, ◌==◌, ◌++◌, [], List, ℕ};
+ghost use Rattle.std.specs.List.{slice_split, list_all};
+ghost use Rattle.std.specs.Option.{option_to_list};
+ghost use Rattle.std.specs.Prelude.{◌≡◌, ◌==◌, ◌++◌, ◌∷◌, [], List, ℕ, true, false, Option};
+ghost use Rattle.std.specs.Prelude.{Some, Ok, codes};
 ghost use Rattle.run_model.specs.Session.{Session};
+ghost use Rattle.run_model.specs.Texts.{is_name, is_text};
+ghost use Rattle.written_moment.specs.Moments.{moment_of};
+ghost use Rattle.written_moment.specs.Numbers.{number_of};
+ghost use Rattle.console_lines.specs.Asked.{wish_of, wished, refused_behind, asks_derive};
 ghost use Rattle.console_lines.specs.Lines.{whole_lines, lines_of};
 ghost use Rattle.console_lines.specs.Words.{words_of, rest_of};
 ghost use Rattle.console_lines.specs.Progress.{IsFront, kept};
 ghost use Rattle.console_lines.specs.Script.{reply, after_line, replies, script};
+
+use crate::asked::Asked;
+use run_model::{Refusal, Wish};
 
 /// An input is split at each LF, as std splits a list.
 pub fn an_input_is_split_at_each_line_feed()
@@ -18,6 +27,33 @@ pub fn an_input_is_split_at_each_line_feed()
 /// The rest of a line from its first word on is the whole line.
 pub fn the_rest_of_a_line_has_all_its_bytes()
     ensures { (line : List ℕ) → rest_of (words_of line) ≡ Some line }
+{}
+
+/// A value's text, and the cause of a deadline or a timeout, has all bytes behind the word before.
+pub fn a_text_has_all_bytes_behind_the_word_before()
+    ensures value { (key text : List ℕ)
+        → wish_of (codes "value") (key ∷ words_of text) ≡ Some (wished (Wish.Value key text)) }
+    ensures deadline { (word cause : List ℕ) (moment : ℕ) → moment_of word ≡ Some (Ok moment)
+        → wish_of (codes "deadline") (word ∷ words_of cause)
+        ≡ Some (wished (Wish.Deadline moment (Some cause))) }
+    ensures timeout { (word cause : List ℕ) (seconds : ℕ) → number_of word ≡ Some seconds
+        → wish_of (codes "timeout") (word ∷ words_of cause)
+        ≡ Some (wished (Wish.Timeout seconds (Some cause))) }
+{}
+
+/// A moment out of range is refused behind names and texts, whatever the session is.
+pub fn a_moment_out_of_range_is_refused_behind_names_and_texts()
+    ensures names { (name parent : List ℕ) (cause : Option (List ℕ)) (why : Refusal)
+        → list_all is_name (name ∷ parent ∷ []) ≡ false
+        → asks_derive name parent (refused_behind cause why) ≡ Asked.Refused Refusal.BadName }
+    ensures texts { (name parent : List ℕ) (cause : Option (List ℕ)) (why : Refusal)
+        → list_all is_name (name ∷ parent ∷ []) ≡ true
+        → list_all is_text (option_to_list cause) ≡ false
+        → asks_derive name parent (refused_behind cause why) ≡ Asked.Refused Refusal.BadText }
+    ensures moment { (name parent : List ℕ) (cause : Option (List ℕ)) (why : Refusal)
+        → list_all is_name (name ∷ parent ∷ []) ≡ true
+        → list_all is_text (option_to_list cause) ≡ true
+        → asks_derive name parent (refused_behind cause why) ≡ Asked.Refused why }
 {}
 
 /// What is printed for the lines of a first part of an input is what is printed first, whatever

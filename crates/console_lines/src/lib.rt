@@ -5,6 +5,7 @@
 #![tactic(auto)]
 
 mod asked;
+mod causes;
 mod faults;
 pub mod laws;
 mod lines;
@@ -12,6 +13,7 @@ pub mod nights;
 mod replies;
 #[cfg(test)]
 mod tests;
+mod wishes;
 mod words;
 
 pub use asked::Asked;

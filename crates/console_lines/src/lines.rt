@@ -1,17 +1,18 @@
 //! A line of the console is its words, the first of which says what is asked.
 
-ghost use Rattle.std.specs.List.{list_all};
-ghost use Rattle.std.specs.Option.{option_to_list};
-ghost use Rattle.std.specs.Prelude.{◌≡◌, [], unwrap_or, IfSome, IfOk, IfErr, IsOk, IsTrue, ◌↔◌};
-ghost use Rattle.run_model.specs.Texts.{is_text};
+ghost use Rattle.std.specs.Prelude.{◌≡◌, unwrap_or};
 ghost use Rattle.console_lines.specs.Asked.{asked_of, asked_by, derive_line, cancel_line};
-ghost use Rattle.console_lines.specs.Asked.{scope_line, asks_command, asks_scope, wish_of};
-ghost use Rattle.console_lines.specs.Asked.{names_in_wish, texts_in_wish};
+ghost use Rattle.console_lines.specs.Asked.{advance_line, scope_line, value_line};
+ghost use Rattle.console_lines.specs.Asked.{asks_command, asks_judged, asks_advance};
+ghost use Rattle.console_lines.specs.Asked.{asks_scope, asks_value};
 ghost use Rattle.console_lines.specs.Words.{words_in, lent};
 
 use crate::asked::Asked;
-use crate::words::next_word;
-use run_model::{Command, Name, Refusal, Text, Wish};
+use crate::causes::read_cause;
+use crate::wishes::read_wish;
+use crate::words::{last_word, next_word};
+use run_model::{Command, Moment, Name, Refusal, Wish};
+use written_moment::read_moment;
 
 /// The most bytes of a line, without its end. A longer one is a bad line.
 pub const LONGEST_LINE: usize = 256;
@@ -42,8 +43,12 @@ fn read_words(line: Option<&[u8]>) -> Option<Asked>
         read_derive(left)
     } else if word == b"cancel".as_slice() {
         read_cancel(left)
+    } else if word == b"advance".as_slice() {
+        read_advance(left)
     } else if word == b"scope".as_slice() {
         read_scope(left)
+    } else if word == b"value".as_slice() {
+        read_value(left)
     } else {
         None
     }
@@ -70,45 +75,44 @@ fn read_cancel(left: Option<&[u8]>) -> Option<Asked>
     Some(cancel(scope, cause))
 }
 
+/// `advance MOMENT`
+fn read_advance(left: Option<&[u8]>) -> Option<Asked>
+    ensures { unwrap_or result Asked.BadLine
+        ≡ advance_line (words_in (lent left.entry)) }
+{
+    let moment = read_moment(last_word(left)?)?;
+    Some(advance(moment))
+}
+
 /// `scope SCOPE`
 fn read_scope(left: Option<&[u8]>) -> Option<Asked>
     ensures { unwrap_or result Asked.BadLine
         ≡ scope_line (words_in (lent left.entry)) }
 {
-    let (scope, left) = next_word(left)?;
-    match left {
-        Some(_) => None,
-        None => Some(look(scope)),
-    }
+    let scope = last_word(left)?;
+    Some(look(scope))
 }
 
-/// The kind of scope that a word names; nothing may be left behind it.
-fn read_wish(kind: &[u8], left: Option<&[u8]>) -> Option<Wish>
-    ensures value { result
-        ≡ wish_of kind.now (words_in (lent left.entry)) }
-    ensures plain { IfSome result (λ wish. (names_in_wish wish ≡ []) × (texts_in_wish wish ≡ [])) }
+/// `value SCOPE KEY`
+fn read_value(left: Option<&[u8]>) -> Option<Asked>
+    ensures { unwrap_or result Asked.BadLine
+        ≡ value_line (words_in (lent left.entry)) }
 {
-    if left.is_some() {
-        return None;
-    }
-    if kind == b"cancel".as_slice() {
-        Some(Wish::Cancel)
-    } else if kind == b"cause".as_slice() {
-        Some(Wish::Cause)
-    } else {
-        None
-    }
+    let (scope, left) = next_word(left)?;
+    let key = last_word(left)?;
+    Some(value(scope, key))
 }
 
-fn derive(name: &[u8], parent: &[u8], wish: Wish) -> Asked
-    requires names { names_in_wish wish ≡ [] }
-    requires texts { texts_in_wish wish ≡ [] }
-    ensures { result ≡ asks_command (Command.Derive name.now parent.now wish) }
+fn derive(name: &[u8], parent: &[u8], wish: Result<Wish, Refusal>) -> Asked
+    ensures { result ≡ asks_judged name.now parent.now wish }
 {
     let (Some(name), Some(parent)) = (Name::read(name), Name::read(parent)) else {
         return Asked::Refused(Refusal::BadName);
     };
-    Asked::Command(Command::Derive { name, parent, wish })
+    match wish {
+        Ok(wish) => Asked::Command(Command::Derive { name, parent, wish }),
+        Err(refusal) => Asked::Refused(refusal),
+    }
 }
 
 fn cancel(scope: &[u8], cause: Option<&[u8]>) -> Asked
@@ -123,6 +127,15 @@ fn cancel(scope: &[u8], cause: Option<&[u8]>) -> Asked
     }
 }
 
+fn advance(moment: Result<Moment, Refusal>) -> Asked
+    ensures { result ≡ asks_advance moment }
+{
+    match moment {
+        Ok(moment) => Asked::Command(Command::Advance { moment }),
+        Err(refusal) => Asked::Refused(refusal),
+    }
+}
+
 fn look(scope: &[u8]) -> Asked
     ensures { result ≡ asks_scope scope.now }
 {
@@ -132,17 +145,11 @@ fn look(scope: &[u8]) -> Asked
     }
 }
 
-/// A cause may be missing.
-fn read_cause(cause: Option<&[u8]>) -> Result<Option<Text>, Refusal>
-    ensures cause { IfOk result (λ text. text ≡ lent cause.entry) }
-    ensures accepted { IsOk result ↔ IsTrue (list_all is_text (option_to_list (lent cause.entry))) }
-    ensures refused { IfErr result (λ refusal. refusal ≡ Refusal.BadText) }
+fn value(scope: &[u8], key: &[u8]) -> Asked
+    ensures { result ≡ asks_value scope.now key.now }
 {
-    let Some(bytes) = cause else {
-        return Ok(None);
-    };
-    match Text::read(bytes) {
-        Some(text) => Ok(Some(text)),
-        None => Err(Refusal::BadText),
+    match (Name::read(scope), Name::read(key)) {
+        (Some(scope), Some(key)) => Asked::Value { scope, key },
+        _ => Asked::Refused(Refusal::BadName),
     }
 }

@@ -12,6 +12,10 @@ ghost use Rattle.console_lines.specs.Nights.{child_cancelled_again, no_cause_giv
 ghost use Rattle.console_lines.specs.Nights.{cause_of_many_words, bad_lines, empty_lines};
 ghost use Rattle.console_lines.specs.Nights.{bad_names, bad_causes, refused_calls};
 ghost use Rattle.console_lines.specs.Nights.{words_as_names};
+ghost use Rattle.console_lines.specs.Nights.{equal_deadlines, earlier_deadline};
+ghost use Rattle.console_lines.specs.Nights.{causes_of_deadlines, dates_and_times, detached_scope};
+ghost use Rattle.console_lines.specs.Nights.{no_such_value, texts_of_values, moments_out_of_range};
+ghost use Rattle.console_lines.specs.Nights.{timeouts_out_of_range, bad_moments};
 
 /// The opening of a store is its first event.
 pub fn an_input_without_lines_prints_its_count()
@@ -112,4 +116,54 @@ pub fn a_full_session_refuses_commands()
         ≡ codes "refused 21 SessionFull\n" }
     ensures question { reply (record opened { log = 1048576 }) (codes "scope root")
         ≡ codes "live; deadline none\n" }
+{}
+
+/// Of equal deadlines that pass, the least scope's comes first.
+pub fn equal_deadlines_end_the_parent_first()
+    ensures { IsPrinted equal_deadlines "acked 4" }
+{}
+
+/// A child whose deadline is the earlier one ends first, with its own cause.
+pub fn an_earlier_deadline_comes_first()
+    ensures { IsPrinted earlier_deadline "acked 4" }
+{}
+
+/// The cause of a deadline is the whole rest of its line, and may be missing.
+pub fn a_deadlines_cause_is_the_rest_of_its_line()
+    ensures { IsPrinted causes_of_deadlines "acked 5" }
+{}
+
+/// A timeout of 0 and a deadline at the clock are exceeded as the scope is made.
+pub fn dates_and_times_are_moments()
+    ensures { IsPrinted dates_and_times "acked 4" }
+{}
+
+/// A detached scope isn't done when its parent is, and finds the values above it.
+pub fn a_detached_scope_has_values_alone()
+    ensures { IsPrinted detached_scope "acked 6" }
+{}
+
+/// A key under which nothing is held has no value. A timeout past the moments is refused.
+pub fn a_value_that_is_not_held_is_refused()
+    ensures { IsPrinted no_such_value "acked 2" }
+{}
+
+/// A value is the whole rest of its line, and is found from below.
+pub fn a_text_is_the_rest_of_its_line()
+    ensures { IsPrinted texts_of_values "acked 5" }
+{}
+
+/// A moment out of range is refused behind names and texts, and before the state is asked.
+pub fn a_moment_out_of_range_is_refused_behind_names_and_texts()
+    ensures { IsPrinted moments_out_of_range "acked 3" }
+{}
+
+/// A timeout that leads past the greatest moment is refused behind its parent and its name.
+pub fn a_timeout_past_the_moments_is_refused_by_the_state()
+    ensures { IsPrinted timeouts_out_of_range "acked 3" }
+{}
+
+/// A moment or a number of another form, and words missing or left over, make a bad line.
+pub fn moments_of_another_form_are_bad_lines()
+    ensures { IsPrinted bad_moments "acked 1" }
 {}

@@ -20,6 +20,8 @@ pub enum Reply {
     Answered(Answer),
     /// How a scope is: `live; deadline D`, or `done; deadline D; err E; cause C`.
     Scope(Look),
+    /// What a scope holds under the key that was asked for: `value eu`.
+    Value(Text),
     /// All events up to this number are acknowledged: `acked 4`.
     Acked(u64),
 }
@@ -42,6 +44,7 @@ impl fmt::Display for Reply {
             Reply::Refused(refusal) => write!(f, "{}", ShownRefusal(*refusal)),
             Reply::Answered(answer) => write!(f, "{}", ShownAnswer(answer)),
             Reply::Scope(look) => write!(f, "{}", ShownLook(look)),
+            Reply::Value(text) => write!(f, "value {}", ShownText(text)),
             Reply::Acked(count) => write!(f, "acked {count}"),
         }
     }

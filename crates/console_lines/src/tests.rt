@@ -1,5 +1,5 @@
 //! Tests of what lines ask for and what replies print; the values stand in
-//! `docs/formats-console.md`.
+//! `docs/formats/console.md`.
 
 use crate::{Asked, LONGEST_INPUT, LONGEST_LINE, Reply, RunFault, read_line};
 use run_model::{Answer, Command, Look, Moment, Name, Phase, Reason, Refusal, Text, Wish};
@@ -56,9 +56,75 @@ fn a_cancel_has_the_rest_of_its_line_as_cause(rt: HostRuntime) -> Result<(), Fai
 }
 
 #[test]
+fn a_wish_has_the_words_behind_its_kind(rt: HostRuntime) -> Result<(), Fail> {
+    let late = Moment::new(100).ok_or("no moment")?;
+    assert_eq!(rt;
+        read_line(b"derive p root deadline 100 p"),
+        derive(b"p", b"root", Wish::Deadline(late, Some(text(b"p")?)))?
+    );
+    assert_eq!(rt;
+        read_line(b"derive p root deadline 0100"),
+        derive(b"p", b"root", Wish::Deadline(late, None))?
+    );
+    assert_eq!(rt;
+        read_line(b"derive t root timeout 999999999999 too  late "),
+        derive(
+            b"t",
+            b"root",
+            Wish::Timeout(999_999_999_999, Some(text(b"too  late ")?))
+        )?
+    );
+    assert_eq!(rt;
+        read_line(b"derive t root timeout 0"),
+        derive(b"t", b"root", Wish::Timeout(0, None))?
+    );
+    assert_eq!(rt;
+        read_line(b"derive v root value region eu west "),
+        derive(
+            b"v",
+            b"root",
+            Wish::Value(name(b"region")?, text(b"eu west ")?)
+        )?
+    );
+    assert_eq!(rt;
+        read_line(b"derive d x detached"),
+        derive(b"d", b"x", Wish::Detached)?
+    );
+    Ok(())
+}
+
+#[test]
+fn moments_are_seconds_or_dates(rt: HostRuntime) -> Result<(), Fail> {
+    let moment = Moment::new(1_704_074_400).ok_or("no moment")?;
+    for line in [
+        b"advance 1704074400".as_slice(),
+        b"advance 001704074400",
+        b"advance 2024-01-01T02:00:00Z",
+        b"advance 2024-01-01T03:00:00+01:00",
+    ] {
+        assert_eq!(rt;
+            read_line(line),
+            Asked::Command(Command::Advance { moment })
+        );
+    }
+    assert_eq!(rt;
+        read_line(b"derive u root deadline 2024-01-01T03:00:00+01:00"),
+        derive(b"u", b"root", Wish::Deadline(moment, None))?
+    );
+    Ok(())
+}
+
+#[test]
 fn a_question_names_its_scope(rt: HostRuntime) -> Result<(), Fail> {
     assert_eq!(rt; read_line(b"scope b"), Asked::Scope(name(b"b")?));
     assert_eq!(rt; read_line(b"scope scope"), Asked::Scope(name(b"scope")?));
+    assert_eq!(rt;
+        read_line(b"value v region"),
+        Asked::Value {
+            scope: name(b"v")?,
+            key: name(b"region")?
+        }
+    );
     Ok(())
 }
 
@@ -86,6 +152,27 @@ fn words_unknown_missing_or_left_over_make_a_bad_line(rt: HostRuntime) {
         b"derive a root cause x",
         b"derive a root cancel ",
         b"derive a root cause\r",
+        b"derive a root detached x",
+        b"derive a root deadline",
+        b"derive a root deadline ",
+        b"derive a root deadline 0000000000001",
+        b"derive A root deadline 2024-01-01T24:00:00Z",
+        b"derive a root timeout",
+        b"derive a root timeout 1x",
+        b"derive a root timeout 0000000000001",
+        b"derive a root timeout 2024-01-01T02:00:00Z",
+        b"derive a root value",
+        b"derive a root value k",
+        b"advance",
+        b"advance ",
+        b"advance 5 ",
+        b"advance 5\r",
+        b"advance 9999-12-31T24:00:00Z",
+        b"advance 9987-02-30T00:00:00Z",
+        b"value",
+        b"value a",
+        b"value a k ",
+        b"value a k k",
     ] {
         assert_eq!(rt; read_line(line), Asked::BadLine);
     }
@@ -104,6 +191,14 @@ fn names_are_looked_at_before_texts(rt: HostRuntime) {
         b"derive abcdefghijklmnopqrstuvwxyz-012345 root cause",
         b"cancel ",
         b"cancel A ",
+        b"value  k",
+        b"value a ",
+        b"value a K",
+        b"derive a root value  x",
+        b"derive a root value K ",
+        b"derive A root deadline 253000000001",
+        b"derive a ROOT deadline 9999-12-31T23:59:59Z ",
+        b"derive A root timeout 1 ",
     ] {
         assert_eq!(rt; read_line(line), Asked::Refused(Refusal::BadName));
     }
@@ -112,8 +207,22 @@ fn names_are_looked_at_before_texts(rt: HostRuntime) {
         b"cancel a x\r",
         b"cancel a \x7f",
         b"cancel a \xc3\xa9",
+        b"derive a root deadline 5 ",
+        b"derive a root deadline 253000000001 ",
+        b"derive a root deadline 9999-12-31T23:59:59Z x\r",
+        b"derive a root timeout 5 ",
+        b"derive a root value k ",
     ] {
         assert_eq!(rt; read_line(line), Asked::Refused(Refusal::BadText));
+    }
+    for line in [
+        b"advance 253000000001".as_slice(),
+        b"advance 1969-12-31T23:59:59Z",
+        b"advance 9988-02-30T00:00:00Z",
+        b"derive a root deadline 253000000001",
+        b"derive a root deadline 9999-12-31T23:59:59Z late",
+    ] {
+        assert_eq!(rt; read_line(line), Asked::Refused(Refusal::MomentOutOfRange));
     }
 }
 
@@ -133,6 +242,7 @@ fn replies_print_their_texts(rt: HostRuntime) -> Result<(), Fail> {
     let moment = Moment::new(1_704_074_400).ok_or("no moment")?;
     let table = [
         (Reply::BadLine, "bad line"),
+        (Reply::Value(text(b"eu west")?), "value eu west"),
         (Reply::Acked(1), "acked 1"),
         (Reply::Answered(Answer::Scope(1023)), "scope 1023"),
         (Reply::Answered(Answer::Done), "ok"),
@@ -205,8 +315,11 @@ fn refusals_print_their_number_and_name(rt: HostRuntime) -> Result<(), Fail> {
         (Refusal::CauseNotTaken, "refused 11 CauseNotTaken"),
         (Refusal::AlreadyDone, "refused 12 AlreadyDone"),
         (Refusal::Unfinished(2), "refused 16 Unfinished 2"),
+        (Refusal::ClockNotForward, "refused 17 ClockNotForward"),
+        (Refusal::MomentOutOfRange, "refused 18 MomentOutOfRange"),
         (Refusal::SessionFull, "refused 21 SessionFull"),
         (Refusal::Broken, "refused 22 Broken"),
+        (Refusal::NoValue, "refused 23 NoValue"),
     ] {
         let reply = Reply::Refused(refusal);
         assert_eq!(rt; format!(in rt.alloc(); "{reply}")?.as_str(), printed);

@@ -3,7 +3,7 @@
 //! What is left of a line is the bytes behind a space, and `None` behind the last word.
 
 ghost use Rattle.std.specs.Prelude.{◌≡◌, ◌==◌, [], ◌∷◌, MatchOption, position};
-ghost use Rattle.console_lines.specs.Words.{words_in, lent};
+ghost use Rattle.console_lines.specs.Words.{words_in, only_word, lent};
 
 /// The next word and what is left behind it, and `None` where no word is left.
 pub(crate) fn next_word(left: Option<&[u8]>) -> Option<(&[u8], Option<&[u8]>)>
@@ -15,6 +15,17 @@ pub(crate) fn next_word(left: Option<&[u8]>) -> Option<(&[u8], Option<&[u8]>)>
     match first_space(line) {
         Some(end) => Some((&line[..end], Some(&line[end + 1..]))),
         None => Some((line, None)),
+    }
+}
+
+/// The last word, and `None` where another is left behind it or none is.
+pub(crate) fn last_word(left: Option<&[u8]>) -> Option<&[u8]>
+    ensures { lent result ≡ only_word (words_in (lent left.entry)) }
+{
+    let (word, left) = next_word(left)?;
+    match left {
+        Some(_) => None,
+        None => Some(word),
     }
 }
 

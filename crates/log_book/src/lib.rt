@@ -2,10 +2,10 @@
 #![tactic(auto)]
 
 mod changes;
-mod kinds;
+mod copies;
 mod log_books;
 mod logs;
-mod searches;
+mod wishes;
 
 pub use log_books::LogBook;
 

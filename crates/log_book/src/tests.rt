@@ -1,5 +1,4 @@
-//! The edge of the log's room, which no history of derives and cancels reaches: 1,023 scopes are
-//! derived and cancelled at most once each, by records of at most 39 and 70 bytes.
+//! The edge of the log's room, length by length. Records have 5 to 137 bytes.
 
 use crate::logs::is_full;
 

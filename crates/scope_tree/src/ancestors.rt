@@ -1,8 +1,9 @@
 //! Searches from a scope upwards: its deadline, and the value of a key.
 
 ghost use Rattle.std.specs.Option.{option_copied};
-ghost use Rattle.std.specs.Prelude.{◌≡◌, ◌<◌, length};
+ghost use Rattle.std.specs.Prelude.{◌≡◌, ◌<◌, length, IfSome};
 ghost use Rattle.run_model.specs.Scopes.{AreOrdered, deadline_of, value_of};
+ghost use Rattle.run_model.specs.Texts.{IsText};
 ghost use Rattle.scope_laws.specs.Searches.{earlier};
 
 use crate::kinds::{is_detached, is_root, own_deadline, text_under};
@@ -33,7 +34,8 @@ pub fn least_deadline(scopes: &[Scope], s: u16) -> Option<Moment>
 pub fn nearest_value<'a>(scopes: &'a [Scope], s: u16, key: &[u8]) -> Option<&'a [u8]>
     requires ordered { AreOrdered scopes.now }
     requires known { s < length scopes.now }
-    ensures { option_copied result ≡ value_of scopes.now s key.now }
+    ensures value { option_copied result ≡ value_of scopes.now s key.now }
+    ensures text { IfSome result (λ text. IsText text.now) }
 {
     let mut holder = s;
     loop {

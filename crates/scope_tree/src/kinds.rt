@@ -1,9 +1,10 @@
 //! What follows from a scope's kind alone.
 
 ghost use Rattle.std.specs.Option.{option_copied};
-ghost use Rattle.std.specs.Prelude.{◌≡◌};
+ghost use Rattle.std.specs.Prelude.{◌≡◌, IfSome};
 ghost use Rattle.run_model.specs.Allowed.{is_cancellable, takes_cause};
 ghost use Rattle.run_model.specs.Scopes.{is_root, is_detached, own_deadline, text_under};
+ghost use Rattle.run_model.specs.Texts.{IsText};
 
 use run_model::{Kind, Moment};
 
@@ -47,7 +48,8 @@ pub fn own_deadline(kind: &Kind) -> Option<Moment>
 
 /// The text that a scope of this kind holds under this key.
 pub fn text_under<'a>(key: &[u8], kind: &'a Kind) -> Option<&'a [u8]>
-    ensures { option_copied result ≡ text_under key.now kind.now }
+    ensures value { option_copied result ≡ text_under key.now kind.now }
+    ensures text { IfSome result (λ text. IsText text.now) }
 {
     match kind {
         Kind::Value(own, text) if key == own.as_bytes() => Some(text.as_bytes()),

@@ -17,6 +17,6 @@ loop-text-preserved c =
     record {
       inside = omega (arith, c.loop-text.invariant.inside);
       found = value_above rows at row c.args.key.now c.requires.ordered found
-          (sym c.text_under.ensures ∙ ap option_copied c.in_default.is) below_root
+          (sym c.text_under.ensures.value ∙ ap option_copied c.in_default.is) below_root
           ∙ c.loop-text.invariant.found;
     }

@@ -1,0 +1,9 @@
+//! What the program tells whoever started it: its exit status, and on standard error the fault that
+//! ended it.
+#![tactic(auto)]
+
+mod outcomes;
+#[cfg(test)]
+mod tests;
+
+pub use outcomes::{Outcome, ShownFault};

@@ -1,0 +1,39 @@
+//! What the words of the command line ask for, and why words ask for nothing.
+
+ghost use Rattle.std.specs.Prelude.{Some};
+ghost use Rattle.night_words.specs.Commands.{fault_text};
+
+use std::fmt;
+
+/// What the words ask for.
+#[derive(Debug, Drop)]
+pub enum Asked {
+    /// `demo`: standard input runs over a book in memory.
+    Demo,
+    /// A text for standard output: help, or the version.
+    Help(String),
+}
+
+/// Why words ask for nothing. It is printed whole, with its LF, on standard error.
+#[derive(Debug, Drop)]
+pub enum WordsFault {
+    /// The words are no command of the program; the text says what is wrong, and what would be
+    /// right.
+    Mistake(String),
+    /// A word is no text in UTF-8.
+    NotText,
+    /// There was no memory to read the words.
+    Memory,
+}
+
+impl fmt::Display for WordsFault {
+    ghost output = { λ fault. Some (fault_text fault) };
+
+    fn fmt<W: fmt::Write>(&self, f: &mut fmt::Formatter<W>) -> fmt::Result {
+        match self {
+            WordsFault::Mistake(text) => f.write_str(text.as_str()),
+            WordsFault::NotText => f.write_str("error: a word is no text in UTF-8\n"),
+            WordsFault::Memory => f.write_str("error: out of memory\n"),
+        }
+    }
+}

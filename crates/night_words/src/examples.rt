@@ -1,0 +1,49 @@
+//! Examples of the words that are taken and refused, computed from the definition.
+//!
+//! In each, `name` is the program's own name, as it was started.
+
+ghost use Rattle.std.specs.Prelude.{◌≡◌, ◌∷◌, ℕ, List, [], codes};
+ghost use Rattle.clap.specs.declared.error.kind.ErrorKind.TheVariants as kind;
+ghost use Rattle.night_words.specs.Commands.{faults_of};
+
+/// `demo` is a command, and the mark behind which no flag stands is no word of it.
+pub fn demo_is_a_command()
+    ensures alone { (name : List ℕ) → faults_of (name ∷ codes "demo" ∷ []) ≡ [] }
+    ensures marked { (name : List ℕ) → faults_of (name ∷ codes "demo" ∷ codes "--" ∷ []) ≡ [] }
+{}
+
+/// No words ask for nothing.
+pub fn no_words_are_a_mistake()
+    ensures name { (name : List ℕ) → faults_of (name ∷ [])
+        ≡ kind.DisplayHelpOnMissingArgumentOrSubcommand ∷ [] }
+    ensures none { faults_of [] ≡ kind.DisplayHelpOnMissingArgumentOrSubcommand ∷ [] }
+{}
+
+/// A word that names no command is a mistake, and so is one that is left over.
+pub fn other_words_are_mistakes()
+    ensures unknown { (name : List ℕ) → faults_of (name ∷ codes "format" ∷ [])
+        ≡ kind.UnknownArgument ∷ kind.InvalidSubcommand ∷ [] }
+    ensures begun { (name : List ℕ) → faults_of (name ∷ codes "dem" ∷ [])
+        ≡ kind.UnknownArgument ∷ kind.InvalidSubcommand ∷ [] }
+    ensures empty { (name : List ℕ) → faults_of (name ∷ [] ∷ [])
+        ≡ kind.UnknownArgument ∷ kind.InvalidSubcommand ∷ [] }
+    ensures left_over { (name : List ℕ) → faults_of (name ∷ codes "demo" ∷ codes "x" ∷ [])
+        ≡ kind.UnknownArgument ∷ [] }
+    ensures twice { (name : List ℕ) → faults_of (name ∷ codes "demo" ∷ codes "demo" ∷ [])
+        ≡ kind.UnknownArgument ∷ [] }
+    ensures flag { (name : List ℕ) → faults_of (name ∷ codes "--demo" ∷ [])
+        ≡ kind.UnknownArgument ∷ [] }
+{}
+
+/// Help is asked for by a flag, in its long or its short form; the version likewise.
+pub fn help_and_the_version_are_shown()
+    ensures long { (name : List ℕ) → faults_of (name ∷ codes "--help" ∷ [])
+        ≡ kind.DisplayHelp ∷ [] }
+    ensures short { (name : List ℕ) → faults_of (name ∷ codes "-h" ∷ []) ≡ kind.DisplayHelp ∷ [] }
+    ensures of_demo { (name : List ℕ) → faults_of (name ∷ codes "demo" ∷ codes "--help" ∷ [])
+        ≡ kind.DisplayHelp ∷ [] }
+    ensures version { (name : List ℕ) → faults_of (name ∷ codes "--version" ∷ [])
+        ≡ kind.DisplayVersion ∷ [] }
+    ensures short_version { (name : List ℕ) → faults_of (name ∷ codes "-V" ∷ [])
+        ≡ kind.DisplayVersion ∷ [] }
+{}

@@ -1,0 +1,14 @@
+//! The words of the command line of `night`: what they ask for, or why they ask for nothing.
+//!
+//! [`own_words`] gives the words that the program was started with, [`read_words`] reads them.
+//! `specs/Commands.antt` says which words are taken.
+#![tactic(auto)]
+
+mod asked;
+pub mod examples;
+mod readers;
+#[cfg(test)]
+mod tests;
+
+pub use asked::{Asked, WordsFault};
+pub use readers::{own_words, read_words};

@@ -1,0 +1,6 @@
+pub mod Firsts
+pub mod LineSteps
+pub mod Parts
+pub mod Sizes
+pub mod Taken
+pub mod Wholes

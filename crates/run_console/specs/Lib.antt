@@ -1,0 +1,2 @@
+pub mod BookLines
+pub mod BookProgress

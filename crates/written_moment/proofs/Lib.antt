@@ -1,0 +1,3 @@
+pub mod Ascii
+pub mod NumberLemmas
+pub mod OnLiterals

@@ -1,0 +1,10 @@
+-- What an answer unfolds to compute this crate's readings on a literal.
+use Rattle.std.specs.Prelude.{⊤}
+use Rattle.jiff.proofs.OnLiterals.{jiff_on_literals}
+use Rattle.written_moment.specs.Numbers.{is_number}
+use Rattle.written_moment.specs.Shapes.{has_shape, is_in}
+use Rattle.written_moment.specs.Moments.{is_local, is_offset, is_date_time, date_time_of, moment_at}
+
+unfoldable pub moments_on_literals : ⊤
+unfolding jiff_on_literals is_number has_shape is_in is_local is_offset is_date_time date_time_of moment_at
+moments_on_literals = tt

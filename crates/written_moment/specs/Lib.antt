@@ -1,0 +1,4 @@
+pub mod Examples
+pub mod Moments
+pub mod Numbers
+pub mod Shapes
