@@ -3,6 +3,14 @@
 use crate::calls::{advance, cancel, cancel_by, derive, is_live, timeout};
 use log_book::LogBook;
 use run_model::{Fault, Refusal, Wish};
+use std::process::Abort;
+
+/// Advances the clock by one second at a time, from 1 to the last.
+fn advance_through(rt: &impl Abort, book: &mut LogBook, last: u64) {
+    for seconds in 1..=last {
+        assert_eq!(rt; advance(rt, book, seconds), Ok(()));
+    }
+}
 
 #[test]
 fn a_full_log_takes_no_record(rt: HostRuntime) -> Result<(), Fault> {
@@ -12,9 +20,7 @@ fn a_full_log_takes_no_record(rt: HostRuntime) -> Result<(), Fault> {
         derive(&rt, &mut book, b"abcde", b"root", &Wish::Cancel),
         Ok(1)
     );
-    for seconds in 1..=95_324u64 {
-        assert_eq!(rt; advance(&rt, &mut book, seconds), Ok(()));
-    }
+    advance_through(&rt, &mut book, 95_324);
     assert_eq!(rt; book.log_len(), 1_048_576);
 
     let full = Refusal::SessionFull;
@@ -23,23 +29,15 @@ fn a_full_log_takes_no_record(rt: HostRuntime) -> Result<(), Fault> {
         Err(Refusal::ClockNotForward)
     );
     assert_eq!(rt; advance(&rt, &mut book, 95_325), Err(full));
-    // Name, parent, wish, and why the derive is refused.
-    let rows = [
-        (
-            b"x".as_slice(),
-            b"nowhere".as_slice(),
-            timeout(u64::MAX),
-            Refusal::NoSuchScope,
-        ),
-        (b"abcde", b"root", timeout(u64::MAX), Refusal::NameTaken),
-        (b"x", b"root", timeout(u64::MAX), Refusal::MomentOutOfRange),
-        (b"x", b"root", timeout(1), full),
-        (b"x", b"root", Wish::Detached, full),
-    ];
-    for (called, parent, wish, refusal) in &rows {
-        let derived = derive(&rt, &mut book, called, parent, wish);
-        assert_eq!(rt; derived, Err(*refusal));
-    }
+    let late = timeout(u64::MAX);
+    let derived = derive(&rt, &mut book, b"x", b"nowhere", &late);
+    assert_eq!(rt; derived, Err(Refusal::NoSuchScope));
+    let derived = derive(&rt, &mut book, b"abcde", b"root", &late);
+    assert_eq!(rt; derived, Err(Refusal::NameTaken));
+    let derived = derive(&rt, &mut book, b"x", b"root", &late);
+    assert_eq!(rt; derived, Err(Refusal::MomentOutOfRange));
+    let derived = derive(&rt, &mut book, b"x", b"root", &timeout(1));
+    assert_eq!(rt; derived, Err(full));
     let caused = cancel_by(&rt, &mut book, b"abcde", b"x");
     assert_eq!(rt; caused, Err(Refusal::CauseNotTaken));
     assert_eq!(rt; cancel(&rt, &mut book, b"abcde"), Err(full));

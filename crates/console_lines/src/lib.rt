@@ -11,8 +11,6 @@ pub mod laws;
 mod lines;
 pub mod nights;
 mod replies;
-#[cfg(test)]
-mod tests;
 mod wishes;
 mod words;
 

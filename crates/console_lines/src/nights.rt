@@ -154,12 +154,12 @@ pub fn a_text_is_the_rest_of_its_line()
 {}
 
 /// A moment out of range is refused behind names and texts, and before the state is asked.
-pub fn a_moment_out_of_range_is_refused_behind_names_and_texts()
+pub fn a_moment_is_refused_behind_texts()
     ensures { IsPrinted moments_out_of_range "acked 3" }
 {}
 
 /// A timeout that leads past the greatest moment is refused behind its parent and its name.
-pub fn a_timeout_past_the_moments_is_refused_by_the_state()
+pub fn the_state_refuses_a_timeout_too_long()
     ensures { IsPrinted timeouts_out_of_range "acked 3" }
 {}
 

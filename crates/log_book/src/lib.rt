@@ -8,6 +8,3 @@ mod logs;
 mod wishes;
 
 pub use log_books::LogBook;
-
-#[cfg(test)]
-mod tests;

@@ -2,8 +2,7 @@
 //! questions say behind them.
 //!
 //! Each function has an empty body, and its clauses are the example: they are computed from the
-//! definitions of `run_model` alone, without any of the code that a store runs. The tests call
-//! `run_model`'s values.
+//! definitions of `run_model` alone, without any of the code that a store runs.
 #![tactic(auto)]
 
 pub mod bounds;
@@ -11,5 +10,3 @@ pub mod groups;
 pub mod records;
 pub mod scopes;
 pub mod sessions;
-#[cfg(test)]
-mod tests;

@@ -3,7 +3,5 @@
 #![tactic(auto)]
 
 mod outcomes;
-#[cfg(test)]
-mod tests;
 
 pub use outcomes::{Outcome, ShownFault};

@@ -1,14 +1,15 @@
 -- From what the parser answered to what its caller is told.
 use Rattle.std.proofs.Common.{◌≡◌, ◌⊎◌, ◌∙◌, List, ap, inl, inr, refl, subst, true}
-use Rattle.std.specs.Prelude.{Result, Ok, Err}
+use Rattle.std.specs.Prelude.{[], Result, Ok, Err, IfOk}
 use Rattle.clap.specs.Words.{App, HasKind, IsAmong, Kinds, Text, fault_of, is_simple_and_free}
 use Rattle.clap.specs.Words.{kind_of}
 use Rattle.clap.specs.declared.error.Error.{Error}
 use Rattle.clap.proofs.OnLiterals.{clap_on_literals}
 use Rattle.clap.specs.declared.error.kind.ErrorKind.{ErrorKind}
-use Rattle.clap.specs.declared.error.kind.ErrorKind.TheVariants.{OutOfMemory, DisplayHelp}
-use Rattle.clap.specs.declared.error.kind.ErrorKind.TheVariants.{DisplayVersion}
-use Rattle.night_words.specs.Commands.{night, IsAnswer, IsHelp, IsShown, faults_of}
+use Rattle.clap.specs.declared.error.kind.ErrorKind.TheVariants.{OutOfMemory}
+use Rattle.night_words.specs.Commands.{night, AsksForDemo, IsAnswer, IsHelp, IsShown}
+use Rattle.night_words.specs.Commands.{faults_of}
+use Rattle.night_words.proofs.TakenLemmas.{asks_for_demo}
 use Rattle.night_words.specs.declared.asked.Asked.{Asked}
 use Rattle.night_words.specs.declared.asked.Asked.TheVariants.{Demo, Help}
 use Rattle.night_words.specs.declared.asked.WordsFault.{WordsFault}
@@ -43,3 +44,17 @@ error_is_answered a words e r is_night found shown =
     let HasFault : App → Type 0 = λ b. HasKind (fault_of b words) e in
     let among = found (ap is_simple_and_free is_night ∙ night_is_simple) in
     shown_is_answer (kind_of e) (faults_of words) r (subst HasFault is_night among) shown
+
+-- what is shown of an error is never the command
+pub error_is_no_command : (kind : ErrorKind) (r : Result Asked WordsFault) (P : Type 0)
+    → IsShown kind r → IfOk r (λ asked. asked ≡ Demo → P)
+error_is_no_command kind (Ok Demo) P shown = absurd shown
+error_is_no_command kind (Ok (Help text)) P shown = λ e. cc
+error_is_no_command kind (Err fault) P shown = tt
+
+-- where the command line is `night`, and nothing is found, the words ask for the command
+pub command_is_asked : (a : App) (words : List Text) → a ≡ night
+    → (is_simple_and_free a ≡ true → fault_of a words ≡ []) → AsksForDemo words
+command_is_asked a words is_night found =
+    let none = found (ap is_simple_and_free is_night ∙ night_is_simple) in
+    asks_for_demo words (subst (λ b. fault_of b words ≡ []) is_night none)

@@ -62,4 +62,9 @@ IsOfSystem Memory = Unit {0}
 abbrev pub fault_text : WordsFault → List ℕ
 fault_text (Mistake text) = string_bytes text
 fault_text NotText = codes "error: a word is no text in UTF-8\n"
-fault_text Memory = codes "error: out of memory\n"
+fault_text Memory = codes "night: fault 1 Memory\n"
+
+-- the words ask for the command: behind the program's own name stands `demo`, alone or before `--`
+abbrev pub AsksForDemo : List Text → Type 0
+AsksForDemo words = (name : Text) × ((words ≡ name ∷ codes "demo" ∷ [])
+    ⊎ (words ≡ name ∷ codes "demo" ∷ codes "--" ∷ []))

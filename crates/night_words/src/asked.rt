@@ -33,7 +33,7 @@ impl fmt::Display for WordsFault {
         match self {
             WordsFault::Mistake(text) => f.write_str(text.as_str()),
             WordsFault::NotText => f.write_str("error: a word is no text in UTF-8\n"),
-            WordsFault::Memory => f.write_str("error: out of memory\n"),
+            WordsFault::Memory => f.write_str("night: fault 1 Memory\n"),
         }
     }
 }

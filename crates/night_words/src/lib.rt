@@ -7,8 +7,6 @@
 mod asked;
 pub mod examples;
 mod readers;
-#[cfg(test)]
-mod tests;
 
 pub use asked::{Asked, WordsFault};
 pub use readers::{own_words, read_words};

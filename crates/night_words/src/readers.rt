@@ -4,8 +4,8 @@ ghost use Rattle.std.specs.Prelude.{◌≡◌, ◌↔◌, IfErr, IfOk, map};
 ghost use Rattle.std.specs.String.{string_bytes};
 ghost use Rattle.std.specs.declared.io.ErrorKind.TheVariants as system;
 ghost use Rattle.clap.specs.Words.{app_of, kind_of};
-ghost use Rattle.night_words.specs.Commands.{night, IsAnswer, IsOfSystem, IsShown};
-ghost use Rattle.night_words.specs.Commands.{faults_of};
+ghost use Rattle.night_words.specs.Commands.{night, AsksForDemo, IsAnswer, IsOfSystem};
+ghost use Rattle.night_words.specs.Commands.{IsShown, faults_of};
 
 use crate::asked::{Asked, WordsFault};
 use clap::error::ErrorKind;
@@ -45,7 +45,9 @@ fn refusal_of(kind: io::ErrorKind) -> WordsFault
 
 /// What the words ask for, the program's own name first.
 pub fn read_words(alloc: Global, words: &[String]) -> Result<Asked, WordsFault>
-    ensures { IsAnswer (faults_of (map string_bytes words.now)) result }
+    ensures answer { IsAnswer (faults_of (map string_bytes words.now)) result }
+    ensures demo { IfOk result (λ asked. asked ≡ Asked.Demo
+        → AsksForDemo (map string_bytes words.now)) }
 {
     let Ok(command) = night_command(alloc) else {
         return Err(WordsFault::Memory);

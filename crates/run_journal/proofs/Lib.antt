@@ -2,5 +2,5 @@ pub mod CheckpointLemmas
 pub mod FlushLemmas
 pub mod FormatLemmas
 pub mod RecoveryLemmas
-pub mod RehearsalLemmas
+pub mod RenewalLemmas
 pub mod StoreLemmas

@@ -33,7 +33,8 @@ pub digits_more :
     (word : List ℕ) (i : ℕ)
     → list_all is_ascii_digit word ≡ true
     → i < length word
-    → digits_value 10 (take (i + 1) word) ≡ digits_value 10 (take i word) * 10 + (get_or word i 0 - 48)
+    → digits_value 10 (take (i + 1) word)
+    ≡ digits_value 10 (take i word) * 10 + (get_or word i 0 - 48)
 digits_more word i all h =
     let at = digit_at word i all h in
     digits_value_more 10 word i h

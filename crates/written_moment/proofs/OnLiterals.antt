@@ -5,6 +5,10 @@ use Rattle.written_moment.specs.Numbers.{is_number}
 use Rattle.written_moment.specs.Shapes.{has_shape, is_in}
 use Rattle.written_moment.specs.Moments.{is_local, is_offset, is_date_time, date_time_of, moment_at}
 
+unfoldable pub fields_on_literals : ⊤
+unfolding is_number has_shape is_in
+fields_on_literals = tt
+
 unfoldable pub moments_on_literals : ⊤
-unfolding jiff_on_literals is_number has_shape is_in is_local is_offset is_date_time date_time_of moment_at
+unfolding jiff_on_literals fields_on_literals is_local is_offset is_date_time date_time_of moment_at
 moments_on_literals = tt

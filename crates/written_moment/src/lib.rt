@@ -8,8 +8,6 @@ pub mod examples;
 mod moments;
 mod numbers;
 mod shapes;
-#[cfg(test)]
-mod tests;
 
 pub use moments::read_moment;
 pub use numbers::{LONGEST_NUMBER, read_number};

@@ -20,7 +20,8 @@ overflow_add-value c =
     let few = c.requires.few in
     let i = c.loop-digit.digit-index in
     let at = digit_at c.args.digits.now i c.requires.digits test in
-    let below = below_limit c.loop-digit.value i c.loop-digit.invariant.1 (omega (arith, test, few)) in
+    let below = below_limit c.loop-digit.value i c.loop-digit.invariant.1
+    (omega (arith, test, few)) in
     omega (arith, below, at.1, c.from.ensures)
 
 pub loop-digit-preserved : goal.loop-digit-preserved

@@ -1,0 +1,8 @@
+//! Tests of values and of records: each public call with the values that the documents give, the
+//! worked examples of the format, and bytes that are no record.
+#![tactic(auto)]
+
+#[cfg(test)]
+mod records;
+#[cfg(test)]
+mod values;
