@@ -95,11 +95,12 @@ abbrev pub alone : Wish → List (List ℕ) → Option Wished
 alone wish [] = Some (wished wish)
 alone wish _ = None
 
--- deadline MOMENT [CAUSE]
+-- A deadline with this cause, at a moment that was read or is out of range.
 abbrev pub deadline_at : Option (List ℕ) → Result ℕ Refusal → Wished
 deadline_at cause (Ok moment) = wished (wish.Deadline moment cause)
 deadline_at cause (Err why) = refused_behind cause why
 
+-- deadline MOMENT [CAUSE]
 abbrev pub deadline_wish : List (List ℕ) → Option Wished
 deadline_wish (moment ∷ cause) = option_map (deadline_at (rest_of cause)) (moment_of moment)
 deadline_wish _ = None
@@ -183,10 +184,11 @@ abbrev pub judged : Wished → Result Wish Refusal
 judged (wished wish) = judged_by (names_in_wish wish) (texts_in_wish wish) (Ok wish)
 judged (refused_behind cause why) = judged_by [] (option_to_list cause) (Err why)
 
--- A derive of a wish that was judged: its names are asked first.
+-- A derive of a wish that was judged, where its names are names.
 abbrev pub derived : List ℕ → List ℕ → Result Wish Refusal → Asked
 derived name parent (Ok wish) = asked.Command (command.Derive name parent wish)
 derived name parent (Err why) = asked.Refused why
 
+-- A line of a derive with a wish that was judged: its names are asked first.
 abbrev pub asks_judged : List ℕ → List ℕ → Result Wish Refusal → Asked
 asks_judged name parent wish = checked (name ∷ parent ∷ []) [] (derived name parent wish)
