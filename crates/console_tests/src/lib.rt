@@ -6,6 +6,8 @@ mod nights;
 #[cfg(test)]
 mod readers;
 #[cfg(test)]
+mod scopes;
+#[cfg(test)]
 mod stops;
 #[cfg(test)]
 mod writers;

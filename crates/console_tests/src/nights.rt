@@ -7,7 +7,7 @@ use std::alloc::Global;
 use std::test::Fail;
 
 /// What is printed for an input over a new book.
-fn printed(alloc: Global, mut input: &[u8]) -> Result<Vec<u8>, Fail> {
+pub(crate) fn printed(alloc: Global, mut input: &[u8]) -> Result<Vec<u8>, Fail> {
     let mut book = LogBook::new(alloc)?;
     let mut output = Vec::new(alloc);
     run(&alloc, &mut input, &mut output, &mut book)?;

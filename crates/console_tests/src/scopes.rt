@@ -1,0 +1,184 @@
+//! Nights with deadlines, values and detached scopes, and the order in which lines are refused.
+
+use crate::nights::printed;
+use std::alloc::Global;
+use std::test::Fail;
+
+/// Two deadlines of one moment: the parent's passes first.
+const PARENT_EARLIER: (&str, &str) = (
+    "derive p root deadline 100 p\n\
+     derive c p deadline 100 c\n\
+     advance 200\n\
+     scope p\n\
+     scope c\n",
+    "scope 1\n\
+     scope 2\n\
+     ok\n\
+     done; deadline 100; err context deadline exceeded; cause p\n\
+     done; deadline 100; err context deadline exceeded; cause p\n\
+     acked 4\n",
+);
+
+/// The child's deadline passes first, and it keeps its own cause.
+const CHILD_EARLIER: (&str, &str) = (
+    "derive p root deadline 150 p\n\
+     derive c p deadline 100 c\n\
+     advance 200\n\
+     scope p\n\
+     scope c\n",
+    "scope 1\n\
+     scope 2\n\
+     ok\n\
+     done; deadline 150; err context deadline exceeded; cause p\n\
+     done; deadline 100; err context deadline exceeded; cause c\n\
+     acked 4\n",
+);
+
+/// A detached scope isn't done with its parent, and values are found through it.
+const DETACHED_PART: (&str, &str) = (
+    "derive v root value region eu\n\
+     derive x v cause\n\
+     derive d x detached\n\
+     derive k d cancel\n\
+     cancel x stop\n\
+     scope x\n\
+     scope d\n\
+     scope k\n\
+     value k region\n",
+    "scope 1\n\
+     scope 2\n\
+     scope 3\n\
+     scope 4\n\
+     ok\n\
+     done; deadline none; err context canceled; cause stop\n\
+     live; deadline none\n\
+     live; deadline none\n\
+     value eu\n\
+     acked 6\n",
+);
+
+/// A timeout of 0 and a deadline at the clock are exceeded at once.
+const WRITTEN_MOMENTS: (&str, &str) = (
+    "advance 2024-01-01T02:00:00Z\n\
+     derive t root timeout 0\n\
+     derive u root deadline 2024-01-01T03:00:00+01:00\n\
+     scope t\n\
+     scope u\n\
+     advance 1704074400\n",
+    "ok\n\
+     scope 1\n\
+     scope 2\n\
+     done; deadline 1704074400; err context deadline exceeded; cause context deadline exceeded\n\
+     done; deadline 1704074400; err context deadline exceeded; cause context deadline exceeded\n\
+     refused 17 ClockNotForward\n\
+     acked 4\n",
+);
+
+/// A key that holds nothing, and a timeout past the greatest moment.
+const MISSING_VALUES: (&str, &str) = (
+    "derive v root value k x\n\
+     value v k\n\
+     value v j\n\
+     value root k\n\
+     derive t root timeout 253000000001\n\
+     scope v\n",
+    "scope 1\n\
+     value x\n\
+     refused 23 NoValue\n\
+     refused 23 NoValue\n\
+     refused 18 MomentOutOfRange\n\
+     live; deadline none\n\
+     acked 2\n",
+);
+
+/// The night of README.
+const README_NIGHT: (&str, &str) = (
+    "derive night root value region eu\n\
+     derive backup night cause\n\
+     derive copy backup deadline 3600 copy took too long\n\
+     derive report backup detached\n\
+     derive mail report cancel\n\
+     advance 3600\n\
+     cancel backup disk full\n\
+     scope backup\n\
+     scope copy\n\
+     scope mail\n\
+     value mail region\n\
+     cancel copy late\n",
+    "scope 1\n\
+     scope 2\n\
+     scope 3\n\
+     scope 4\n\
+     scope 5\n\
+     ok\n\
+     ok\n\
+     done; deadline none; err context canceled; cause disk full\n\
+     done; deadline 3600; err context deadline exceeded; cause copy took too long\n\
+     live; deadline none\n\
+     value eu\n\
+     refused 11 CauseNotTaken\n\
+     acked 8\n",
+);
+
+/// A bad form first, then names, texts, moments out of range, and what the state refuses.
+const ORDER_OF_REFUSALS: (&str, &str) = (
+    "advance 9999-12-31T23:59:59Z\n\
+     advance 2024-01-01T24:00:00Z\n\
+     derive A root deadline 253000000001\n\
+     derive a nowhere deadline 253000000001 \x7f\n\
+     derive a nowhere deadline 253000000001 x\n\
+     derive a nowhere timeout 999999999999\n\
+     derive root root timeout 999999999999\n\
+     advance 0\n\
+     value nowhere k\n\
+     value root K\n",
+    "refused 18 MomentOutOfRange\n\
+     bad line\n\
+     refused 5 BadName\n\
+     refused 6 BadText\n\
+     refused 18 MomentOutOfRange\n\
+     refused 1 NoSuchScope\n\
+     refused 4 NameTaken\n\
+     refused 17 ClockNotForward\n\
+     refused 1 NoSuchScope\n\
+     refused 5 BadName\n\
+     acked 1\n",
+);
+
+/// Whether this is what is printed for a night.
+fn prints(alloc: Global, night: (&str, &str)) -> Result<bool, Fail> {
+    let (typed, wanted) = night;
+    Ok(printed(alloc, typed.as_bytes())?.as_slice() == wanted.as_bytes())
+}
+
+#[test]
+fn deadlines_pass_in_order(rt: HostRuntime) -> Result<(), Fail> {
+    assert!(rt; prints(rt.alloc(), PARENT_EARLIER)?);
+    assert!(rt; prints(rt.alloc(), CHILD_EARLIER)?);
+    Ok(())
+}
+
+#[test]
+fn values_are_found_through_a_detached_scope(rt: HostRuntime) -> Result<(), Fail> {
+    assert!(rt; prints(rt.alloc(), DETACHED_PART)?);
+    assert!(rt; prints(rt.alloc(), MISSING_VALUES)?);
+    Ok(())
+}
+
+#[test]
+fn moments_are_digits_or_dates(rt: HostRuntime) -> Result<(), Fail> {
+    assert!(rt; prints(rt.alloc(), WRITTEN_MOMENTS)?);
+    Ok(())
+}
+
+#[test]
+fn the_night_of_the_readme(rt: HostRuntime) -> Result<(), Fail> {
+    assert!(rt; prints(rt.alloc(), README_NIGHT)?);
+    Ok(())
+}
+
+#[test]
+fn lines_are_refused_in_order(rt: HostRuntime) -> Result<(), Fail> {
+    assert!(rt; prints(rt.alloc(), ORDER_OF_REFUSALS)?);
+    Ok(())
+}
