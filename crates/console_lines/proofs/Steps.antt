@@ -5,7 +5,8 @@ use Rattle.std.proofs.Common.{refl, sym, ap, ◌∙◌, subst, append_assoc, app
 use Rattle.run_model.specs.Session.{Session}
 use Rattle.console_lines.specs.Lines.{whole_lines, open_line}
 use Rattle.console_lines.specs.Script.{reply, after_line, replies, after_lines}
-use Rattle.console_lines.specs.Progress.{Ran, Stopped, LineStops, WritesFront, IsFront, kept}
+use Rattle.console_lines.specs.declared.faults.RunFault.{RunFault}
+use Rattle.console_lines.specs.Progress.{Ran, Stopped, LineStops, WritesCut, IsFront, kept}
 use Rattle.console_lines.proofs.Cuts.{reply_kept, after_line_kept}
 use Rattle.console_lines.proofs.Splits.{line_ends, line_goes_on, whole_lines-append}
 use Rattle.console_lines.proofs.Written.{appends_nothing, appends_then}
@@ -59,26 +60,27 @@ ran_line line s t a b h e =
 
 -- One line that stopped is a list of one.
 pub stopped_line :
-    (line : List ℕ) (s t : Session) (a b : Option (List ℕ))
-    → LineStops line s t a b
-    → Stopped (line ∷ []) s t a b
-stopped_line line s t a b h = record {
+    (fault : RunFault) (line : List ℕ) (s t : Session) (a b : Option (List ℕ))
+    → LineStops fault line s t a b
+    → Stopped fault (line ∷ []) s t a b
+stopped_line fault line s t a b h = record {
   replied = [];
   last = line;
   left = [];
   lines_are = refl;
   front = h.0.0;
   cut = h.0.1;
+  unwritten = h.0.3;
   written = h.0.2;
   state = h.1;
 }
 
 pub stopped_then :
-    (xs ys : List (List ℕ)) (s t u : Session) (a b c : Option (List ℕ))
+    (fault : RunFault) (xs ys : List (List ℕ)) (s t u : Session) (a b c : Option (List ℕ))
     → Ran xs s t a b
-    → Stopped ys t u b c
-    → Stopped (xs ++ ys) s u a c
-stopped_then xs ys s t u a b c h k =
+    → Stopped fault ys t u b c
+    → Stopped fault (xs ++ ys) s u a c
+stopped_then fault xs ys s t u a b c h k =
     let mid : t ≡ after_lines s xs = h.state in
     let same : after_lines t k.replied ≡ after_lines s (xs ++ k.replied) =
     ap (λ n. after_lines n k.replied) mid ∙ sym (after_lines-append s xs k.replied) in
@@ -100,16 +102,17 @@ stopped_then xs ys s t u a b c h k =
           ap (λ z. xs ++ z) k.lines_are ∙ sym (append_assoc xs k.replied (k.last ∷ k.left));
       front = k.front;
       cut = subst C same k.cut;
+      unwritten = k.unwritten;
       written = subst Q text (subst P mid both);
       state = k.state ∙ ap (λ n. after_line n k.last) same;
     }
 
 -- Lines that stopped are stopped, whatever lines are behind them.
 pub stopped_more :
-    (xs ys : List (List ℕ)) (s t : Session) (a b : Option (List ℕ))
-    → Stopped xs s t a b
-    → Stopped (xs ++ ys) s t a b
-stopped_more xs ys s t a b h = record {
+    (fault : RunFault) (xs ys : List (List ℕ)) (s t : Session) (a b : Option (List ℕ))
+    → Stopped fault xs s t a b
+    → Stopped fault (xs ++ ys) s t a b
+stopped_more fault xs ys s t a b h = record {
   replied = h.replied;
   last = h.last;
   left = h.left ++ ys;
@@ -117,6 +120,7 @@ stopped_more xs ys s t a b h = record {
       ap (λ z. z ++ ys) h.lines_are ∙ append_assoc h.replied (h.last ∷ h.left) ys;
   front = h.front;
   cut = h.cut;
+  unwritten = h.unwritten;
   written = h.written;
   state = h.state;
 }
@@ -154,21 +158,22 @@ ran_on before part byte s t a b h ran =
 
 -- An LF whose line stops, whatever bytes are behind it.
 pub stopped_at_the_end :
-    (before part begun more : List ℕ) (s t u : Session) (a b c : Option (List ℕ))
+    (fault : RunFault) (before part begun more : List ℕ) (s t u : Session)
+    (a b c : Option (List ℕ))
     → Ran (whole_lines before part) s t a b
     → begun ≡ kept (open_line before part)
-    → LineStops begun t u b c
-    → Stopped (whole_lines before (part ++ 10 ∷ more)) s u a c
-stopped_at_the_end before part begun more s t u a b c ran e stops =
+    → LineStops fault begun t u b c
+    → Stopped fault (whole_lines before (part ++ 10 ∷ more)) s u a c
+stopped_at_the_end fault before part begun more s t u a b c ran e stops =
     let line = open_line before part in
-    let P : List ℕ → Type 0 = λ x. WritesFront b c x in
-    let same : LineStops line t u b c = (
+    let P : List ℕ → Type 0 = λ x. WritesCut fault b c x in
+    let same : LineStops fault line t u b c = (
       subst P (ap (λ x. reply t x) e ∙ reply_kept t line) stops.0,
       stops.1 ∙ ap (λ x. after_line t x) e ∙ after_line_kept t line,
     ) in
     let behind = whole_lines [] more in
-    let rest : Stopped (line ∷ behind) t u b c =
-    stopped_more (line ∷ []) behind t u b c (stopped_line line t u b c same) in
-    let Q : List (List ℕ) → Type 0 = λ lines. Stopped lines s u a c in
+    let rest : Stopped fault (line ∷ behind) t u b c =
+    stopped_more fault (line ∷ []) behind t u b c (stopped_line fault line t u b c same) in
+    let Q : List (List ℕ) → Type 0 = λ lines. Stopped fault lines s u a c in
     subst Q (sym (whole_lines-append before part (10 ∷ more)))
-    (stopped_then (whole_lines before part) (line ∷ behind) s t u a b c ran rest)
+    (stopped_then fault (whole_lines before part) (line ∷ behind) s t u a b c ran rest)

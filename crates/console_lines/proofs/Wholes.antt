@@ -8,7 +8,7 @@ use Rattle.console_lines.specs.declared.faults.RunFault.{RunFault}
 use Rattle.console_lines.specs.declared.faults.RunFault.TheVariants.{InputTooLong}
 use Rattle.console_lines.specs.Lines.{whole_lines, open_line, lines_of}
 use Rattle.console_lines.specs.Script.{reply, after_line, replies, after_lines, closing, script}
-use Rattle.console_lines.specs.Progress.{Ran, Stopped, StoppedAtEnd, EndStops, IsFront}
+use Rattle.console_lines.specs.Progress.{Ran, Stopped, StoppedAtEnd, EndStops, IsEndFront}
 use Rattle.console_lines.specs.Progress.{IsOfLine, IsOfReading, kept}
 use Rattle.console_lines.specs.Progress.{ReadsAll, RunsAll, RunStops}
 use Rattle.console_lines.proofs.Cuts.{reply_kept, after_line_kept}
@@ -110,22 +110,25 @@ pub stops_at_the_end :
     (fault : RunFault) (s t u : Session) (begun : List ℕ) (r0 r1 w0 w1 w2 : Option (List ℕ))
     → IsOfLine fault
     → ReadsAll s t begun r0 r1 w0 w1
-    → EndStops begun t u w1 w2
+    → EndStops fault begun t u w1 w2
     → RunStops fault s u r0 r1 w0 w2
 stops_at_the_end fault s t u begun r0 r1 w0 w1 w2 f reads stops =
     let bytes = reads.bytes in
     let lines = whole_lines [] bytes in
     let line = open_line [] bytes in
-    let front = stops.0.0 in
-    let C : List ℕ → Type 0 = λ x. IsFront front x in
-    let P : Session → Type 0 = λ n. IsFront front (reply n line ++ closing (after_line n line)) in
-    let Q : Session → Type 0 = λ n. IsFront front (reply (after_lines s lines) line ++ closing n) in
-    let cut = subst P reads.ran.state (subst C (kept_end t line begun reads.begun_is) stops.0.1) in
-    let end : StoppedAtEnd bytes s u w0 w2 = record {
+    let front = stops.front in
+    let last : reply t begun ≡ reply (after_lines s lines) line =
+    ap (λ x. reply t x) reads.begun_is ∙ reply_kept t line
+    ∙ ap (λ n. reply n line) reads.ran.state in
+    let state = kept_state s t u bytes begun reads.ran.state reads.begun_is stops.state in
+    let P : Session → Type 0 = λ n. IsEndFront fault front (reply t begun) (closing n) in
+    let Q : List ℕ → Type 0 =
+    λ x. IsEndFront fault front x (closing (after_lines s (lines_of bytes))) in
+    let end : StoppedAtEnd fault bytes s u w0 w2 = record {
       front = front;
-      cut = subst Q (sym (last_state s bytes)) cut;
-      written = appends_then w0 w1 w2 (replies s lines) front reads.ran.written stops.0.2;
-      state = kept_state s t u bytes begun reads.ran.state reads.begun_is stops.1;
+      cut = subst Q last (subst P (sym stops.state ∙ state) stops.cut);
+      written = appends_then w0 w1 w2 (replies s lines) front reads.ran.written stops.written;
+      state = state;
     } in
     record {
       bytes = bytes;
@@ -144,10 +147,10 @@ pub stops_in_a_part :
     → Consumes r1 r2 part
     → length (bytes ++ part) ≤ LONGEST_INPUT + 1
     → Ran (whole_lines [] bytes) s t w0 w1
-    → Stopped (whole_lines (open_line [] bytes) part) t u w1 w2
+    → Stopped fault (whole_lines (open_line [] bytes) part) t u w1 w2
     → RunStops fault s u r0 r2 w0 w2
 stops_in_a_part fault bytes part s t u r0 r1 r2 w0 w1 w2 f read more few ran stops =
-    let Q : List (List ℕ) → Type 0 = λ lines. Stopped lines s u w0 w2 in
+    let Q : List (List ℕ) → Type 0 = λ lines. Stopped fault lines s u w0 w2 in
     let first = whole_lines [] bytes in
     let then = whole_lines (open_line [] bytes) part in
     record {
@@ -159,7 +162,7 @@ stops_in_a_part fault bytes part s t u r0 r1 r2 w0 w1 w2 f read more few ran sto
           inr (inl (
             f,
             subst Q (sym (whole_lines-append [] bytes part))
-                (stopped_then first then s t u w0 w1 w2 ran stops),
+                (stopped_then fault first then s t u w0 w1 w2 ran stops),
           ));
     }
 

@@ -1,8 +1,11 @@
 -- What was read and what was written, one part after another.
-use Rattle.std.specs.Prelude.{List, [], ◌++◌, Option, Some, None, ℕ}
+use Rattle.std.specs.Prelude.{◌≡◌, List, [], ◌++◌, Option, Some, None, ℕ}
 use Rattle.std.specs.Io.KnownBytes.{Appends, Consumes, Keeps}
-use Rattle.std.proofs.Common.{refl, sym, ap, ◌∙◌, append_assoc, append-nil}
-use Rattle.console_lines.specs.Progress.{WritesFront}
+use Rattle.std.proofs.Common.{inl, inr, refl, sym, ap, ◌∙◌, append_assoc, append-nil}
+use Rattle.run_model.specs.Session.{Session}
+use Rattle.console_lines.specs.declared.faults.RunFault.{RunFault}
+use Rattle.console_lines.specs.Progress.{EndStops, IsFront, WritesCut}
+use Rattle.console_lines.specs.Script.{after_line, closing, reply}
 
 pub appends_nothing : (a : Option (List ℕ)) → Appends a a []
 appends_nothing None = tt
@@ -39,23 +42,48 @@ consumes_then (Some x) (Some y) None xs ys h k = absurd k
 consumes_then (Some x) (Some y) (Some z) xs ys h k =
     h ∙ ap (λ t. xs ++ t) k ∙ sym (append_assoc xs ys z)
 
--- A front of the second text behind the whole of the first is a front of both.
-pub front_then :
-    (a b c : Option (List ℕ)) (xs ys : List ℕ)
-    → Appends a b xs
-    → WritesFront b c ys
-    → WritesFront a c (xs ++ ys)
-front_then a b c xs ys h k = (
-  xs ++ k.0,
-  (k.1.0, ap (λ t. xs ++ t) k.1.1 ∙ sym (append_assoc xs k.0 k.1.0)),
-  appends_then a b c xs k.0 h k.2,
-)
+-- ---- fronts
+
+-- A front of the second of two texts, behind the whole of the first, is one of both.
+front_behind : (front xs ys : List ℕ) → IsFront front ys → IsFront (xs ++ front) (xs ++ ys)
+front_behind front xs ys k =
+    (k.0, ap (λ t. xs ++ t) k.1 ∙ sym (append_assoc xs front k.0))
 
 -- A front of the first of two texts is one of both.
-pub front_more :
-    (a b : Option (List ℕ)) (xs ys : List ℕ) → WritesFront a b xs → WritesFront a b (xs ++ ys)
-front_more a b xs ys k =
-    (k.0, (k.1.0 ++ ys, ap (λ t. t ++ ys) k.1.1 ∙ append_assoc k.0 k.1.0 ys), k.2)
+front_more : (front xs ys : List ℕ) → IsFront front xs → IsFront front (xs ++ ys)
+front_more front xs ys k = (k.0 ++ ys, ap (λ t. t ++ ys) k.1 ∙ append_assoc front k.0 ys)
 
-pub front_nothing : (a : Option (List ℕ)) (xs : List ℕ) → WritesFront a a xs
-front_nothing a xs = ([], (xs, refl), appends_nothing a)
+-- ---- the last line, and the closing line behind it
+
+-- The reply to the last line stopped.
+pub end_in_the_line :
+    (fault : RunFault) (line : List ℕ) (s t : Session) (a b : Option (List ℕ))
+    → WritesCut fault a b (reply s line)
+    → t ≡ after_line s line
+    → EndStops fault line s t a b
+end_in_the_line fault line s t a b k state = record {
+  front = k.0;
+  cut = record {
+    cut = front_more k.0 (reply s line) (closing (after_line s line)) k.1;
+    whole = λ e. inl (k.3 e);
+  };
+  written = k.2;
+  state = state;
+}
+
+-- The closing line stopped.
+pub end_behind_the_line :
+    (fault : RunFault) (line : List ℕ) (s t : Session) (a b c : Option (List ℕ))
+    → Appends a b (reply s line)
+    → WritesCut fault b c (closing (after_line s line))
+    → t ≡ after_line s line
+    → EndStops fault line s t a c
+end_behind_the_line fault line s t a b c h k state = record {
+  front = reply s line ++ k.0;
+  cut = record {
+    cut = front_behind k.0 (reply s line) (closing (after_line s line)) k.1;
+    whole = λ e. inr (ap (λ x. reply s line ++ x) (k.3 e) ∙ append-nil (reply s line));
+  };
+  written = appends_then a b c (reply s line) k.0 h k.2;
+  state = state;
+}

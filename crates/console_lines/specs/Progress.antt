@@ -17,6 +17,12 @@ IsFront front text = (rest : List ℕ) × (text ≡ front ++ rest)
 abbrev pub WritesFront : Option (List ℕ) → Option (List ℕ) → List ℕ → Type 0
 WritesFront old new text = (front : List ℕ) × IsFront front text × Appends old new front
 
+-- A front of the text was written, and none of it where memory was wanting.
+abbrev pub WritesCut : RunFault → Option (List ℕ) → Option (List ℕ) → List ℕ → Type 0
+WritesCut fault old new text =
+    (front : List ℕ) × IsFront front text × Appends old new front
+    × (fault ≡ Memory → front ≡ [])
+
 -- What is kept of a line that was begun: one byte more than the longest line has.
 abbrev pub kept : List ℕ → List ℕ
 kept line = take (LONGEST_LINE + 1) line
@@ -29,9 +35,9 @@ pub record Ran (lines : List (List ℕ)) (s t : Session) (old new : Option (List
   pub state : t ≡ after_lines s lines
 
 -- The first of these lines were run and replied to, and then one more was run, of whose reply a
--- front was written.
+-- front was written, and none of it where memory was wanting.
 pub record Stopped
-    (lines : List (List ℕ)) (s t : Session) (old new : Option (List ℕ))
+    (fault : RunFault) (lines : List (List ℕ)) (s t : Session) (old new : Option (List ℕ))
     : Type 0 where
   pub replied : List (List ℕ)
   pub last : List ℕ
@@ -39,19 +45,30 @@ pub record Stopped
   pub lines_are : lines ≡ replied ++ last ∷ left
   pub front : List ℕ
   pub cut : IsFront front (reply (after_lines s replied) last)
+  pub unwritten : fault ≡ Memory → front ≡ []
   pub written : Appends old new (replies s replied ++ front)
   pub state : t ≡ after_line (after_lines s replied) last
 
--- One line was run, and a front of its reply was written.
+-- One line was run, and a front of its reply was written, and none of it where memory was wanting.
 abbrev pub LineStops :
-    List ℕ → Session → Session → Option (List ℕ) → Option (List ℕ) → Type 0
-LineStops line s t old new = WritesFront old new (reply s line) × (t ≡ after_line s line)
+    RunFault → List ℕ → Session → Session → Option (List ℕ) → Option (List ℕ) → Type 0
+LineStops fault line s t old new =
+    WritesCut fault old new (reply s line) × (t ≡ after_line s line)
+
+-- Of the last reply and the closing line this front was written: where memory was wanting, it is
+-- empty or the whole reply.
+pub record IsEndFront (fault : RunFault) (front last end : List ℕ) : Type 0 where
+  pub cut : IsFront front (last ++ end)
+  pub whole : fault ≡ Memory → (front ≡ []) ⊎ (front ≡ last)
 
 -- The last line was run, and a front was written of its reply and the closing line.
-abbrev pub EndStops :
-    List ℕ → Session → Session → Option (List ℕ) → Option (List ℕ) → Type 0
-EndStops line s t old new =
-    WritesFront old new (reply s line ++ closing (after_line s line)) × (t ≡ after_line s line)
+pub record EndStops
+    (fault : RunFault) (line : List ℕ) (s t : Session) (old new : Option (List ℕ))
+    : Type 0 where
+  pub front : List ℕ
+  pub cut : IsEndFront fault front (reply s line) (closing (after_line s line))
+  pub written : Appends old new front
+  pub state : t ≡ after_line s line
 
 -- A fault that a line can have.
 abbrev pub IsOfLine : RunFault → Type 0
@@ -92,11 +109,13 @@ pub record RunsAll (s t : Session) (r0 r1 w0 w1 : Option (List ℕ)) : Type 0 wh
 
 -- The lines that an LF ends were run and replied to and the last line was run, and a front was
 -- written of its reply and the closing line.
-pub record StoppedAtEnd (bytes : List ℕ) (s t : Session) (old new : Option (List ℕ)) : Type 0 where
+pub record StoppedAtEnd
+    (fault : RunFault) (bytes : List ℕ) (s t : Session) (old new : Option (List ℕ))
+    : Type 0 where
   pub front : List ℕ
-  pub cut : IsFront front
-      (reply (after_lines s (whole_lines [] bytes)) (open_line [] bytes)
-      ++ closing (after_lines s (lines_of bytes)))
+  pub cut : IsEndFront fault front
+      (reply (after_lines s (whole_lines [] bytes)) (open_line [] bytes))
+      (closing (after_lines s (lines_of bytes)))
   pub written : Appends old new (replies s (whole_lines [] bytes) ++ front)
   pub state : t ≡ after_lines s (lines_of bytes)
 
@@ -111,5 +130,5 @@ pub record RunStops
   pub within : length bytes ≤ LONGEST_INPUT + 1
   pub long : fault ≡ InputTooLong → length bytes ≡ LONGEST_INPUT + 1
   pub stopped : (IsOfReading fault × Ran (whole_lines [] bytes) s t w0 w1)
-      ⊎ ((IsOfLine fault × Stopped (whole_lines [] bytes) s t w0 w1)
-      ⊎ (IsOfLine fault × IsAtEnd r1 × StoppedAtEnd bytes s t w0 w1))
+      ⊎ ((IsOfLine fault × Stopped fault (whole_lines [] bytes) s t w0 w1)
+      ⊎ (IsOfLine fault × IsAtEnd r1 × StoppedAtEnd fault bytes s t w0 w1))

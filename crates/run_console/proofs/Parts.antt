@@ -8,7 +8,8 @@ use Rattle.log_book.specs.Books.{Book}
 use Rattle.console_lines.specs.declared.lines.TheConstants.{LONGEST_LINE}
 use Rattle.console_lines.specs.Lines.{whole_lines, open_line}
 use Rattle.console_lines.specs.Script.{reply, after_line}
-use Rattle.console_lines.specs.Progress.{WritesFront, kept}
+use Rattle.console_lines.specs.declared.faults.RunFault.{RunFault}
+use Rattle.console_lines.specs.Progress.{WritesCut, kept}
 use Rattle.console_lines.proofs.Splits.{line_ends, line_goes_on, kept_more, kept_full}
 use Rattle.console_lines.proofs.Splits.{whole_lines-append, open_line-append}
 use Rattle.console_lines.proofs.Steps.{ran_nothing, ran_to_the_end, ran_on}
@@ -105,13 +106,14 @@ part_full before part begun byte b c w0 w1 other so_far full =
 
 -- An LF whose line stops, whatever bytes are behind it.
 pub part_stops :
-    (before part begun last more : List ℕ) (b c d : Book) (w0 w1 w2 : Option (List ℕ))
+    (fault : RunFault) (before part begun last more : List ℕ) (b c d : Book)
+    (w0 w1 w2 : Option (List ℕ))
     → PartRan before part b c begun w0 w1
     → last ≡ begun
-    → WritesFront w1 w2 (reply (session_of c) last)
+    → WritesCut fault w1 w2 (reply (session_of c) last)
     → LineRan last c d
-    → PartStopped before (part ++ 10 ∷ more) b d w0 w2
-part_stops before part begun last more b c d w0 w1 w2 so_far e cut one =
+    → PartStopped fault before (part ++ 10 ∷ more) b d w0 w2
+part_stops fault before part begun last more b c d w0 w1 w2 so_far e cut one =
     let line = open_line before part in
     let behind = whole_lines [] more in
     let P : List (List ℕ) → Type 0 = λ lines. ObeysFirst lines b d in
@@ -120,8 +122,8 @@ part_stops before part begun last more b c d w0 w1 w2 so_far e cut one =
     (first_all (line ∷ []) c d (book_kept line last c d (e ∙ so_far.begun_is) one.book)) in
     record {
       stopped =
-          stopped_at_the_end before part last more (session_of b) (session_of c) (session_of d)
-          w0 w1 w2 so_far.ran (e ∙ so_far.begun_is) (cut, one.session);
+          stopped_at_the_end fault before part last more (session_of b) (session_of c)
+          (session_of d) w0 w1 w2 so_far.ran (e ∙ so_far.begun_is) (cut, one.session);
       obeyed =
           subst P (sym (whole_lines-append before part (10 ∷ more)))
           (first_then (whole_lines before part) (line ∷ behind) b c d so_far.book stops);

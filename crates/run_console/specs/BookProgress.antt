@@ -3,6 +3,7 @@ use Rattle.std.specs.Prelude.{◌≡◌, ℕ, List, [], ◌++◌, Option}
 use Rattle.std.specs.Io.KnownBytes.{Consumes, IsAtEnd}
 use Rattle.scope_laws.specs.Endings.{EndingsStay}
 use Rattle.log_book.specs.Books.{Book}
+use Rattle.console_lines.specs.declared.faults.RunFault.{RunFault}
 use Rattle.console_lines.specs.Lines.{whole_lines, open_line, lines_of}
 use Rattle.console_lines.specs.Progress.{Ran, Stopped, ReadsAll, kept}
 use Rattle.run_console.specs.BookLines.{session_of, book_after_lines}
@@ -55,8 +56,8 @@ pub record PartRan
 
 -- One of the lines that an LF ends stopped.
 pub record PartStopped
-    (before part : List ℕ) (b c : Book) (w0 w1 : Option (List ℕ))
+    (fault : RunFault) (before part : List ℕ) (b c : Book) (w0 w1 : Option (List ℕ))
     : Type 0 where
-  pub stopped : Stopped (whole_lines before part) (session_of b) (session_of c) w0 w1
+  pub stopped : Stopped fault (whole_lines before part) (session_of b) (session_of c) w0 w1
   pub obeyed : ObeysFirst (whole_lines before part) b c
   pub lasts : Lasts b c

@@ -3,7 +3,7 @@
 ghost use Rattle.std.specs.Io.KnownBytes.{Appends};
 ghost use Rattle.std.specs.Prelude.{◌≡◌, ◌++◌, OnOk, OnErr, IfErr};
 ghost use Rattle.console_lines.specs.Progress.{EndStops, IsOfLine, RunsAll, RunStops};
-ghost use Rattle.console_lines.specs.Progress.{WritesFront};
+ghost use Rattle.console_lines.specs.Progress.{WritesCut};
 ghost use Rattle.console_lines.specs.Script.{after_line, closing, reply, reply_to, scope_reply};
 ghost use Rattle.console_lines.specs.Script.{value_reply};
 ghost use Rattle.run_console.specs.BookLines.{IsObeyable, book_after, book_asked, session_of};
@@ -24,7 +24,8 @@ use std::io::{Read, Write};
 /// the end of the input is read behind it. So where a read fails (`Input`) or the input is longer
 /// than 16,777,216 bytes (`InputTooLong`), each line that an LF ended has its reply, and nothing
 /// more is written. Where a write fails or takes nothing (`Output`), or there is no memory for a
-/// reply (`Memory`), what was written is a front of what is written for the whole input.
+/// reply (`Memory`), what was written is a front of what is written for the whole input; want of
+/// memory cuts no reply.
 ///
 /// At most one byte more is read than an input may have. Memory is taken for one reply at a time,
 /// and given back. At every exit the book is what the lines that were run made of it.
@@ -55,7 +56,7 @@ pub fn run<A: Allocator, R: Read, W: Write, B: Allocator>(
 /// Runs one line over the book, and writes its reply; an empty line has none.
 ///
 /// The line is run also where its reply can't be written (`Output`), or there is no memory for it
-/// (`Memory`).
+/// (`Memory`). Of the reply a front is written, and nothing where memory is wanting.
 pub fn line<A: Allocator, W: Write, B: Allocator>(
     alloc: &A,
     bytes: &[u8],
@@ -65,7 +66,8 @@ pub fn line<A: Allocator, W: Write, B: Allocator>(
     ensures session { session_of book.new ≡ after_line (session_of book.old) bytes.now }
     ensures replied { OnOk result (Appends (W.contents output.old) (W.contents output.new)
         (reply (session_of book.old) bytes.now)) }
-    ensures cut { OnErr result (WritesFront (W.contents output.old) (W.contents output.new)
+    ensures cut { IfErr result (λ fault. WritesCut fault
+        (W.contents output.old) (W.contents output.new)
         (reply (session_of book.old) bytes.now)) }
     ensures fault { IfErr result IsOfLine }
     ensures obeyed { book.new ≡ book_after book.old bytes.now }
@@ -88,7 +90,8 @@ fn finish<A: Allocator, W: Write, B: Allocator>(
     ensures whole { OnOk result (Appends (W.contents output.old) (W.contents output.new)
         (reply (session_of book.old) last.now
         ++ closing (after_line (session_of book.old) last.now))) }
-    ensures stops { OnErr result (EndStops last.now (session_of book.old) (session_of book.new)
+    ensures stops { IfErr result (λ fault. EndStops fault last.now
+        (session_of book.old) (session_of book.new)
         (W.contents output.old) (W.contents output.new)) }
     ensures fault { IfErr result IsOfLine }
     ensures obeyed { book.new ≡ book_after book.old last.now }

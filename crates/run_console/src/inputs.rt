@@ -73,7 +73,7 @@ fn run_part<A: Allocator, W: Write, B: Allocator>(
         → OnOk result (PartRan before part.now book.old book.new begun.new.items
         (W.contents output.old) (W.contents output.new)) }
     ensures stopped { (before : List ℕ) → begun.old.items ≡ kept before
-        → OnErr result (PartStopped before part.now book.old book.new
+        → IfErr result (λ fault. PartStopped fault before part.now book.old book.new
         (W.contents output.old) (W.contents output.new)) }
     ensures fault { IfErr result IsOfLine }
 {

@@ -4,7 +4,7 @@
 
 ghost use Rattle.std.specs.Prelude.{◌≡◌, OnOk, OnErr, IfErr};
 ghost use Rattle.std.specs.Io.KnownBytes.{Appends};
-ghost use Rattle.console_lines.specs.Progress.{IsOfLine, WritesFront};
+ghost use Rattle.console_lines.specs.Progress.{IsOfLine, WritesCut, WritesFront};
 ghost use Rattle.console_lines.specs.Replies.{reply_line};
 
 use console_lines::{Reply, RunFault};
@@ -19,8 +19,8 @@ pub fn write_reply<A: Allocator, W: Write>(
 ) -> Result<(), RunFault>
     ensures whole { OnOk result
         (Appends (W.contents output.old) (W.contents output.new) (reply_line reply.now)) }
-    ensures cut { OnErr result
-        (WritesFront (W.contents output.old) (W.contents output.new) (reply_line reply.now)) }
+    ensures cut { IfErr result (λ fault. WritesCut fault
+        (W.contents output.old) (W.contents output.new) (reply_line reply.now)) }
     ensures fault { IfErr result IsOfLine }
 {
     let Ok(line) = reply.to_line(alloc) else {

@@ -1,6 +1,6 @@
-use Rattle.std.proofs.Common.{ℕ, List, sym, subst, OnOk, OnErr}
+use Rattle.std.proofs.Common.{ℕ, List, sym, subst, OnOk, IfErr}
 use Rattle.std.specs.Io.KnownBytes.{Appends}
-use Rattle.console_lines.specs.Progress.{WritesFront}
+use Rattle.console_lines.specs.Progress.{WritesCut}
 use Rattle.console_lines.proofs.Written.{appends_nothing}
 use Rattle.run_console.specs.BookLines.{IsObeyable, session_of}
 use Rattle.run_console.proofs.LineSteps.{line_obeyed, line_session, line_reply}
@@ -28,8 +28,8 @@ returns-in-Some-clause-replied g c =
 
 pub returns-in-Some-clause-cut : goal.returns-in-Some-clause-cut
 returns-in-Some-clause-cut g c =
-    let P : List ℕ → Type 0 = λ x. OnErr c.write_reply.result
-    (WritesFront (g.W.Write.contents c.args.output.now)
+    let P : List ℕ → Type 0 = λ x. IfErr c.write_reply.result
+    (λ fault. WritesCut fault (g.W.Write.contents c.args.output.now)
     (g.W.Write.contents c.write_reply.new.output) x) in
     subst P
     (line_reply (session_of c.args.book.now) c.args.bytes.now c.read_line.result

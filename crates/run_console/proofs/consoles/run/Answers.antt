@@ -1,10 +1,10 @@
 use Rattle.std.proofs.Common.{ℕ, List, sym, subst}
-use Rattle.std.proofs.lemmas.Result.{on_ok_weaker, on_err_weaker}
+use Rattle.std.proofs.lemmas.Result.{on_ok_weaker}
 use Rattle.console_lines.specs.declared.faults.RunFault.{RunFault}
 use Rattle.console_lines.specs.Progress.{EndStops, IsOfLine, RunStops}
 use Rattle.console_lines.proofs.Wholes.{runs_all, stops_at_the_end}
 use Rattle.run_console.specs.BookLines.{session_of}
-use Rattle.run_console.specs.BookProgress.{BookReadsAll, ObeysAll}
+use Rattle.run_console.specs.BookProgress.{BookReadsAll, ObeysAll, ObeysSome}
 use Rattle.run_console.proofs.Firsts.{lasts_then}
 use Rattle.run_console.proofs.Wholes.{obeys_all, obeys_some}
 use Rattle.run_console.proofs.LineSteps.{fault_both}
@@ -53,7 +53,7 @@ returns-clause-stops g c =
     let t = session_of c.run_whole_lines.new.book in
     let u = session_of c.finish.new.book in
     let begun = c.as_slice.result.now in
-    let Stops : RunFault → Type 0 = λ fault. EndStops begun t u w1 w2 in
+    let Stops : RunFault → Type 0 = λ fault. EndStops fault begun t u w1 w2 in
     let End : RunFault → Type 0 = λ fault. RunStops fault s u r0 r1 w0 w2 in
     fault_both c.finish.result IsOfLine Stops End
     (λ fault f h. stops_at_the_end fault s t u begun r0 r1 w0 w1 w2 f (reads g c).reads h)
@@ -64,11 +64,14 @@ returns-clause-obeyed g c = on_ok_weaker c.finish.result (λ h. all g c) c.finis
 
 pub returns-clause-obeyed_some : goal.returns-clause-obeyed_some
 returns-clause-obeyed_some g c =
-    on_err_weaker c.finish.result
-    (λ h. obeys_some c.args.book.now c.finish.new.book
-    (g.R.Read.remaining c.args.input.now) (g.R.Read.remaining c.run_whole_lines.new.input)
-    (all g c))
-    c.finish.ensures.stops
+    let r0 = g.R.Read.remaining c.args.input.now in
+    let r1 = g.R.Read.remaining c.run_whole_lines.new.input in
+    let b = c.args.book.now in
+    let d = c.finish.new.book in
+    let Some : RunFault → Type 0 = λ fault. ObeysSome b d r0 r1 in
+    fault_both c.finish.result IsOfLine IsOfLine Some
+    (λ fault f h. obeys_some b d r0 r1 (all g c))
+    c.finish.ensures.fault c.finish.ensures.fault
 
 pub returns-clause-lasts : goal.returns-clause-lasts
 returns-clause-lasts g c =

@@ -25,8 +25,9 @@ returns-in_err-line-clause-stopped g c = λ before e.
     let w0 = g.W.Write.contents c.args.output.now in
     let w1 = g.W.Write.contents c.loop-byte.output in
     let w2 = g.W.Write.contents c.line.new.output in
+    let fault = c.in_err-line.field-0.0 in
     let stops =
-    part_stops before front c.loop-byte.begun.items c.as_slice.result.now behind b
+    part_stops fault before front c.loop-byte.begun.items c.as_slice.result.now behind b
     c.loop-byte.book d w0 w1 w2 (c.loop-byte.invariant before e) c.as_slice.ensures.value
     c.in_err-line.ensures.cut
     (record {
@@ -37,9 +38,9 @@ returns-in_err-line-clause-stopped g c = λ before e.
     let here : part ≡ front ++ 10 ∷ behind =
     split_at part i 0 c.loop-byte-test.true
     ∙ ap (λ x. front ++ x ∷ behind) c.if-byte-eq10.true in
-    let P : List ℕ → Type 0 = λ x. PartStopped before x b d w0 w2 in
+    let P : List ℕ → Type 0 = λ x. PartStopped fault before x b d w0 w2 in
     let p = err_from_is_err_and c.from_residual.result c.from_residual.ensures.1 in
-    rw p.1 (subst P (sym here) stops)
+    rw (p.1, p.2) (subst P (sym here) stops)
 
 other : {b : ℕ} → (b ≡ 10 → ⊥) → (b == 10) ≡ false
 other h = grind (arith, nat_tests, h)

@@ -60,7 +60,7 @@ loop-total-preserved g c =
 
 -- A line in the part that was read stopped.
 stopped : (g : Over) (c : After-from_residual-in_err-run_part g)
-    → PartStopped (open_line [] c.loop-total.invariant.0)
+    → PartStopped c.in_err-run_part.field-0.0 (open_line [] c.loop-total.invariant.0)
     (take c.in_ok-count.count c.read_some.new.room) c.loop-total.book c.run_part.new.book
     (g.W.Write.contents c.loop-total.output) (g.W.Write.contents c.run_part.new.output)
 stopped g c =
@@ -68,7 +68,8 @@ stopped g c =
     let n = c.in_ok-count.count in
     let room = c.read_some.new.room in
     let line = open_line [] inv.0 in
-    let P : List ℕ → Type 0 = λ x. PartStopped line x c.loop-total.book c.run_part.new.book
+    let P : List ℕ → Type 0 =
+    λ x. PartStopped c.in_err-run_part.field-0.0 line x c.loop-total.book c.run_part.new.book
     (g.W.Write.contents c.loop-total.output) (g.W.Write.contents c.run_part.new.output) in
     subst P
     (take-append-le n room (drop c.min-most.result c.loop-total.room)
