@@ -1,7 +1,9 @@
 //! Reads the words of the command line.
 
+ghost use Rattle.std.specs.Iterator.{Drains};
 ghost use Rattle.std.specs.Prelude.{◌≡◌, ◌↔◌, IfErr, IfOk, map};
 ghost use Rattle.std.specs.String.{string_bytes};
+ghost use Rattle.std.specs.Vec.Iter.{into_iter_steps};
 ghost use Rattle.std.specs.declared.io.ErrorKind.TheVariants as system;
 ghost use Rattle.clap.specs.Words.{app_of, kind_of};
 ghost use Rattle.night_words.specs.Commands.{night, AsksForDemo, IsAnswer, IsOfSystem};
@@ -11,7 +13,7 @@ use crate::asked::{Asked, WordsFault};
 use clap::error::ErrorKind;
 use clap::{Command, Error};
 use std::alloc::{AllocError, Global};
-use std::env::Env;
+use std::env::{Args, Env};
 use std::{env, io};
 
 /// The version that `--version` shows.
@@ -22,12 +24,19 @@ const VERSION: &str = "0.1.0";
 pub fn own_words<R: Env + AllocGlobal>(rt: &R) -> Result<Vec<String>, WordsFault>
     ensures { IfErr result IsOfSystem }
 {
-    let words = match env::args(rt) {
-        Ok(words) => words,
-        Err(error) => return Err(refusal_of(error.kind())),
-    };
-    match words.collect::<Vec<String>>(rt.alloc()) {
-        Ok(words) => Ok(words),
+    match env::args(rt) {
+        Ok(words) => all_of(rt.alloc(), words),
+        Err(error) => Err(refusal_of(error.kind())),
+    }
+}
+
+/// All words that the system gave, in their order.
+fn all_of(alloc: Global, words: Args) -> Result<Vec<String>, WordsFault>
+    ensures words { IfOk result (λ all. Drains into_iter_steps words all.items) }
+    ensures fault { IfErr result (λ fault. fault ≡ WordsFault.Memory) }
+{
+    match words.collect::<Vec<String>>(alloc) {
+        Ok(all) => Ok(all),
         Err(_) => Err(WordsFault::Memory),
     }
 }
