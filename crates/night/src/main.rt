@@ -13,6 +13,7 @@ ghost use Rattle.std.specs.Process.{exit_status};
 ghost use Rattle.run_model.specs.Session.{Session, opened};
 ghost use Rattle.console_lines.specs.Progress.{RunStops, RunsAll};
 ghost use Rattle.night_status.specs.Outcomes.{status_of};
+ghost use Rattle.night.specs.Endings.{IsEnding};
 
 use console_lines::RunFault;
 use log_book::LogBook;
@@ -25,16 +26,31 @@ use std::io::{Read, Write};
 use std::process::ExitCode;
 
 fn main(rt: HostRuntime) -> ExitCode {
-    let outcome = match asked(&rt) {
-        Ok(Asked::Demo) => Outcome::of(demo(rt.alloc(), &mut rt.stdin(), &mut rt.stdout())),
-        Ok(Asked::Help(text)) => Outcome::of(show(&rt, text.as_str())),
+    let asked = asked(&rt);
+    let outcome = answer(&rt, asked, &mut rt.stdin(), &mut rt.stdout());
+    ended(&rt, outcome)
+}
+
+/// Does what the words ask for, and says how it ended. Why words ask for nothing is printed on
+/// standard error.
+fn answer<R: AllocGlobal + Print + Eprint, I: Read, O: Write>(
+    rt: &R,
+    asked: Result<Asked, WordsFault>,
+    input: &mut I,
+    output: &mut O,
+) -> Outcome
+    ensures { IsEnding asked result (I.remaining input.old) (I.remaining input.new)
+        (O.contents output.old) (O.contents output.new) }
+{
+    match asked {
+        Ok(Asked::Demo) => Outcome::of(demo(rt.alloc(), input, output)),
+        Ok(Asked::Help(text)) => Outcome::of(show(rt, text.as_str())),
         Err(WordsFault::Memory) => Outcome::Stopped(RunFault::Memory),
         Err(fault) => {
             let _ = rt.eprint(&fault);
             Outcome::WordsRefused
         }
-    };
-    ended(&rt, outcome)
+    }
 }
 
 /// The exit code, by how the program ended. A fault that ended it is printed on standard error.

@@ -1,0 +1,39 @@
+-- How the program ends.
+use Rattle.std.specs.Prelude.{◌≡◌, ◌⊎◌, ℕ, List, Option, Result, Ok, Err}
+use Rattle.run_model.specs.Session.{Session, opened}
+use Rattle.console_lines.specs.declared.faults.RunFault.TheVariants as fault
+use Rattle.console_lines.specs.Progress.{RunStops, RunsAll}
+use Rattle.night_words.specs.declared.asked.Asked.{Asked}
+use Rattle.night_words.specs.declared.asked.Asked.TheVariants.{Demo, Help}
+use Rattle.night_words.specs.declared.asked.WordsFault.{WordsFault}
+use Rattle.night_words.specs.declared.asked.WordsFault.TheVariants.{Mistake, NotText}
+use Rattle.night_words.specs.declared.asked.WordsFault.TheVariants as words
+use Rattle.night_status.specs.declared.outcomes.Outcome.{Outcome}
+use Rattle.night_status.specs.declared.outcomes.Outcome.TheVariants.{Done, WordsRefused, Stopped}
+
+-- Nothing was read of the input, and nothing was written on the output.
+abbrev pub IsUntouched : (r0 r1 w0 w1 : Option (List ℕ)) → Type 0
+IsUntouched r0 r1 w0 w1 = (r1 ≡ r0) × (w1 ≡ w0)
+
+-- How a run over a newly opened book ends: all lines of the input were run, or a fault stopped it.
+-- Where memory was wanting for the book itself, nothing was read and nothing was written.
+abbrev pub IsDemo : Outcome → (r0 r1 w0 w1 : Option (List ℕ)) → Type 0
+IsDemo Done r0 r1 w0 w1 = (end : Session) × RunsAll opened end r0 r1 w0 w1
+IsDemo (Stopped why) r0 r1 w0 w1 =
+    ((why ≡ fault.Memory) × IsUntouched r0 r1 w0 w1)
+    ⊎ ((end : Session) × RunStops why opened end r0 r1 w0 w1)
+IsDemo WordsRefused r0 r1 w0 w1 = ⊥
+
+-- How the program ends, by what its words ask for: help is printed, or can't be. It is printed by
+-- the system's own call, beside the output of a run.
+abbrev pub IsEnding :
+    Result Asked WordsFault → Outcome → (r0 r1 w0 w1 : Option (List ℕ)) → Type 0
+IsEnding (Ok Demo) outcome r0 r1 w0 w1 = IsDemo outcome r0 r1 w0 w1
+IsEnding (Ok (Help text)) outcome r0 r1 w0 w1 =
+    ((outcome ≡ Done) ⊎ (outcome ≡ Stopped fault.Output)) × IsUntouched r0 r1 w0 w1
+IsEnding (Err (Mistake text)) outcome r0 r1 w0 w1 =
+    (outcome ≡ WordsRefused) × IsUntouched r0 r1 w0 w1
+IsEnding (Err NotText) outcome r0 r1 w0 w1 =
+    (outcome ≡ WordsRefused) × IsUntouched r0 r1 w0 w1
+IsEnding (Err words.Memory) outcome r0 r1 w0 w1 =
+    (outcome ≡ Stopped fault.Memory) × IsUntouched r0 r1 w0 w1
