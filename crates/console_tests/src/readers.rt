@@ -4,23 +4,29 @@ use linked_list_allocator::LocalHeap;
 use std::cell::Cell;
 use std::io::{self, ErrorKind, Read};
 
-/// Gives its bytes, at most `part` at a time, and then fails.
+/// Gives its bytes, at most `part` at a time, fails once, and then is at its end.
 #[derive(Drop)]
 pub struct FailingReader<'a> {
     bytes: &'a [u8],
     part: usize,
+    failed: bool,
 }
 
 impl<'a> FailingReader<'a> {
     pub fn new(bytes: &'a [u8], part: usize) -> FailingReader<'a> {
-        FailingReader { bytes, part }
+        FailingReader {
+            bytes,
+            part,
+            failed: false,
+        }
     }
 }
 
 impl Read for FailingReader<'_> {
     fn read(&mut self, room: &mut [u8]) -> io::Result<usize> {
-        if self.bytes.is_empty() {
-            return Err(io::Error::from(ErrorKind::BrokenPipe));
+        if self.bytes.is_empty() && !self.failed {
+            self.failed = true;
+            return Err(io::Error::from(ErrorKind::Interrupted));
         }
         let most = room.len().min(self.part);
         self.bytes.read(&mut room[..most])

@@ -5,16 +5,17 @@ ghost use Rattle.std.specs.Prelude.{Some};
 use std::cell::Cell;
 use std::io::{self, ErrorKind, Write};
 
-/// How a writer ends.
+/// What a writer does once in place of a write.
 #[derive(Clone, Copy)]
 pub enum End {
-    /// Its writes fail.
+    /// The write fails.
     Fails,
-    /// Its writes take nothing.
+    /// The write takes nothing.
     TakesNothing,
 }
 
-/// Takes at most `part` bytes at a write, so many times, and then ends.
+/// Takes at most `part` bytes at a write. Behind so many writes one fails or takes nothing, and the
+/// later ones are like the first.
 #[derive(Drop)]
 pub struct EndingWriter {
     bytes: Vec<u8>,
@@ -44,8 +45,9 @@ impl Write for EndingWriter {
 
     fn write(&mut self, bytes: &[u8]) -> io::Result<usize> {
         if self.left == 0 {
+            self.left = usize::MAX;
             return match self.end {
-                End::Fails => Err(io::Error::from(ErrorKind::BrokenPipe)),
+                End::Fails => Err(io::Error::from(ErrorKind::Interrupted)),
                 End::TakesNothing => Ok(0),
             };
         }
