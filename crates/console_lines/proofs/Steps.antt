@@ -6,7 +6,7 @@ use Rattle.run_model.specs.Session.{Session}
 use Rattle.console_lines.specs.Lines.{whole_lines, open_line}
 use Rattle.console_lines.specs.Script.{reply, after_line, replies, after_lines}
 use Rattle.console_lines.specs.declared.faults.RunFault.{RunFault}
-use Rattle.console_lines.specs.Progress.{Ran, Stopped, LineStops, WritesCut, IsFront, kept}
+use Rattle.console_lines.specs.Progress.{Ran, Stopped, LineStops, WritesCut, IsCut, kept}
 use Rattle.console_lines.proofs.Cuts.{reply_kept, after_line_kept}
 use Rattle.console_lines.proofs.Splits.{line_ends, line_goes_on, whole_lines-append}
 use Rattle.console_lines.proofs.Written.{appends_nothing, appends_then}
@@ -84,7 +84,7 @@ stopped_then fault xs ys s t u a b c h k =
     let mid : t ≡ after_lines s xs = h.state in
     let same : after_lines t k.replied ≡ after_lines s (xs ++ k.replied) =
     ap (λ n. after_lines n k.replied) mid ∙ sym (after_lines-append s xs k.replied) in
-    let C : Session → Type 0 = λ n. IsFront k.front (reply n k.last) in
+    let C : Session → Type 0 = λ n. IsCut k.front (reply n k.last) in
     let P : Session → Type 0 =
     λ n. Appends a c (replies s xs ++ (replies n k.replied ++ k.front)) in
     let both : P t =

@@ -1,10 +1,10 @@
 -- What was read and what was written, one part after another.
-use Rattle.std.specs.Prelude.{◌≡◌, List, [], ◌++◌, Option, Some, None, ℕ}
+use Rattle.std.specs.Prelude.{◌≡◌, ◌≢◌, List, [], ◌∷◌, ◌++◌, Option, Some, None, ℕ, length}
 use Rattle.std.specs.Io.KnownBytes.{Appends, Consumes, Keeps}
-use Rattle.std.proofs.Common.{inl, inr, refl, sym, ap, ◌∙◌, append_assoc, append-nil}
+use Rattle.std.proofs.Common.{arith, inl, inr, refl, sym, ap, ◌∙◌, append_assoc, append-nil}
 use Rattle.run_model.specs.Session.{Session}
 use Rattle.console_lines.specs.declared.faults.RunFault.{RunFault}
-use Rattle.console_lines.specs.Progress.{EndStops, IsFront, WritesCut}
+use Rattle.console_lines.specs.Progress.{EndStops, IsCut, WritesCut}
 use Rattle.console_lines.specs.Script.{after_line, closing, reply}
 
 pub appends_nothing : (a : Option (List ℕ)) → Appends a a []
@@ -44,14 +44,23 @@ consumes_then (Some x) (Some y) (Some z) xs ys h k =
 
 -- ---- fronts
 
+-- What is put behind some bytes leaves some.
+more_than_none : (xs ys : List ℕ) → xs ≢ [] → xs ++ ys ≢ []
+more_than_none [] ys h = absurd (h refl)
+more_than_none (x ∷ xs) ys h = λ e. omega (arith, ap length e)
+
 -- A front of the second of two texts, behind the whole of the first, is one of both.
-front_behind : (front xs ys : List ℕ) → IsFront front ys → IsFront (xs ++ front) (xs ++ ys)
+front_behind : (front xs ys : List ℕ) → IsCut front ys → IsCut (xs ++ front) (xs ++ ys)
 front_behind front xs ys k =
-    (k.0, ap (λ t. xs ++ t) k.1 ∙ sym (append_assoc xs front k.0))
+    (k.0, ap (λ t. xs ++ t) k.1 ∙ sym (append_assoc xs front k.0), k.2)
 
 -- A front of the first of two texts is one of both.
-front_more : (front xs ys : List ℕ) → IsFront front xs → IsFront front (xs ++ ys)
-front_more front xs ys k = (k.0 ++ ys, ap (λ t. t ++ ys) k.1 ∙ append_assoc front k.0 ys)
+front_more : (front xs ys : List ℕ) → IsCut front xs → IsCut front (xs ++ ys)
+front_more front xs ys k = (
+  k.0 ++ ys,
+  ap (λ t. t ++ ys) k.1 ∙ append_assoc front k.0 ys,
+  more_than_none k.0 ys k.2,
+)
 
 -- ---- the last line, and the closing line behind it
 

@@ -1,5 +1,5 @@
 -- How far a run came: which lines were run, and what was written.
-use Rattle.std.specs.Prelude.{◌≡◌, ◌≤◌, ◌⊎◌, ◌+◌, ℕ, List, [], ◌∷◌, ◌++◌, Option, length, take}
+use Rattle.std.specs.Prelude.{◌≡◌, ◌≢◌, ◌≤◌, ◌⊎◌, ◌+◌, ℕ, List, [], ◌∷◌, ◌++◌, Option, length, take}
 use Rattle.std.specs.Io.KnownBytes.{Appends, Consumes, IsAtEnd}
 use Rattle.run_model.specs.Session.{Session}
 use Rattle.console_lines.specs.declared.lines.TheConstants.{LONGEST_LINE, LONGEST_INPUT}
@@ -13,14 +13,18 @@ use Rattle.console_lines.specs.Script.{reply, after_line, replies, after_lines, 
 abbrev pub IsFront : List ℕ → List ℕ → Type 0
 IsFront front text = (rest : List ℕ) × (text ≡ front ++ rest)
 
--- A front of the text was written.
-abbrev pub WritesFront : Option (List ℕ) → Option (List ℕ) → List ℕ → Type 0
-WritesFront old new text = (front : List ℕ) × IsFront front text × Appends old new front
+-- These bytes are a front of a text, and not all of it.
+abbrev pub IsCut : List ℕ → List ℕ → Type 0
+IsCut front text = (rest : List ℕ) × (text ≡ front ++ rest) × (rest ≢ [])
 
--- A front of the text was written, and none of it where memory was wanting.
+-- A front of the text was written, and not all of it.
+abbrev pub WritesFront : Option (List ℕ) → Option (List ℕ) → List ℕ → Type 0
+WritesFront old new text = (front : List ℕ) × IsCut front text × Appends old new front
+
+-- A front of the text was written and not all of it, and nothing where memory was wanting.
 abbrev pub WritesCut : RunFault → Option (List ℕ) → Option (List ℕ) → List ℕ → Type 0
 WritesCut fault old new text =
-    (front : List ℕ) × IsFront front text × Appends old new front
+    (front : List ℕ) × IsCut front text × Appends old new front
     × (fault ≡ Memory → front ≡ [])
 
 -- What is kept of a line that was begun: one byte more than the longest line has.
@@ -35,7 +39,7 @@ pub record Ran (lines : List (List ℕ)) (s t : Session) (old new : Option (List
   pub state : t ≡ after_lines s lines
 
 -- The first of these lines were run and replied to, and then one more was run, of whose reply a
--- front was written, and none of it where memory was wanting.
+-- front was written and not all of it, and nothing where memory was wanting.
 pub record Stopped
     (fault : RunFault) (lines : List (List ℕ)) (s t : Session) (old new : Option (List ℕ))
     : Type 0 where
@@ -44,21 +48,21 @@ pub record Stopped
   pub left : List (List ℕ)
   pub lines_are : lines ≡ replied ++ last ∷ left
   pub front : List ℕ
-  pub cut : IsFront front (reply (after_lines s replied) last)
+  pub cut : IsCut front (reply (after_lines s replied) last)
   pub unwritten : fault ≡ Memory → front ≡ []
   pub written : Appends old new (replies s replied ++ front)
   pub state : t ≡ after_line (after_lines s replied) last
 
--- One line was run, and a front of its reply was written, and none of it where memory was wanting.
+-- One line was run, and of its reply a front was written.
 abbrev pub LineStops :
     RunFault → List ℕ → Session → Session → Option (List ℕ) → Option (List ℕ) → Type 0
 LineStops fault line s t old new =
     WritesCut fault old new (reply s line) × (t ≡ after_line s line)
 
--- Of the last reply and the closing line this front was written: where memory was wanting, it is
--- empty or the whole reply.
+-- Of the last reply and the closing line this front was written and not all: where memory was
+-- wanting, it is empty or the whole reply.
 pub record IsEndFront (fault : RunFault) (front last end : List ℕ) : Type 0 where
-  pub cut : IsFront front (last ++ end)
+  pub cut : IsCut front (last ++ end)
   pub whole : fault ≡ Memory → (front ≡ []) ⊎ (front ≡ last)
 
 -- The last line was run, and a front was written of its reply and the closing line.

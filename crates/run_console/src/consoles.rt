@@ -24,8 +24,8 @@ use std::io::{Read, Write};
 /// the end of the input is read behind it. So where a read fails (`Input`) or the input is longer
 /// than 16,777,216 bytes (`InputTooLong`), each line that an LF ended has its reply, and nothing
 /// more is written. Where a write fails or takes nothing (`Output`), or there is no memory for a
-/// reply (`Memory`), what was written is a front of what is written for the whole input; want of
-/// memory cuts no reply.
+/// reply (`Memory`), what was written is a front of what is written for the whole input, and not
+/// all of it; want of memory cuts no reply.
 ///
 /// At most one byte more is read than an input may have. Memory is taken for one reply at a time,
 /// and given back. At every exit the book is what the lines that were run made of it.
@@ -56,7 +56,7 @@ pub fn run<A: Allocator, R: Read, W: Write, B: Allocator>(
 /// Runs one line over the book, and writes its reply; an empty line has none.
 ///
 /// The line is run also where its reply can't be written (`Output`), or there is no memory for it
-/// (`Memory`). Of the reply a front is written, and nothing where memory is wanting.
+/// (`Memory`). Of the reply a front is written, not all of it, and nothing where memory is wanting.
 pub fn line<A: Allocator, W: Write, B: Allocator>(
     alloc: &A,
     bytes: &[u8],
