@@ -1,6 +1,9 @@
 -- What is replied to the lines of an input, from a session on.
 use Rattle.std.specs.Prelude.{ℕ, List, [], ◌∷◌, ◌++◌, Option, Some, None, Result, Ok, Err}
 use Rattle.std.specs.Option.{option_map_or, option_and_then}
+use Rattle.std.specs.List.{cons_option}
+use Rattle.run_model.specs.declared.commands.Step.{Step}
+use Rattle.run_model.specs.declared.commands.Step.TheVariants as step
 use Rattle.run_model.specs.declared.answers.Answer.{Answer}
 use Rattle.run_model.specs.declared.refusals.Refusal.{Refusal}
 use Rattle.run_model.specs.declared.refusals.Refusal.TheVariants as refusal
@@ -74,6 +77,16 @@ reply s line = written (reply_to s (asked_of line))
 abbrev pub after_lines : Session → List (List ℕ) → Session
 after_lines s [] = s
 after_lines s (line ∷ lines) = after_lines (after_line s line) lines
+
+-- The command that a line asks for.
+abbrev pub command_of : Asked → Option Step
+command_of (asked.Command call) = Some (step.Command call)
+command_of _ = None
+
+-- The commands that these lines ask for, in their order.
+abbrev pub commands_of : List (List ℕ) → List Step
+commands_of [] = []
+commands_of (line ∷ lines) = cons_option (command_of (asked_of line)) (commands_of lines)
 
 -- What these lines are replied, one after another.
 abbrev pub replies : Session → List (List ℕ) → List ℕ

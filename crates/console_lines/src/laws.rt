@@ -6,7 +6,7 @@ ghost use Rattle.std.specs.List.{slice_split, list_all};
 ghost use Rattle.std.specs.Option.{option_to_list};
 ghost use Rattle.std.specs.Prelude.{◌≡◌, ◌==◌, ◌++◌, ◌∷◌, [], List, ℕ, true, false, Option};
 ghost use Rattle.std.specs.Prelude.{Some, Ok, codes};
-ghost use Rattle.run_model.specs.Session.{Session};
+ghost use Rattle.run_model.specs.Session.{Session, session_after};
 ghost use Rattle.run_model.specs.Texts.{is_name, is_text};
 ghost use Rattle.written_moment.specs.Moments.{moment_of};
 ghost use Rattle.written_moment.specs.Numbers.{number_of};
@@ -14,7 +14,8 @@ ghost use Rattle.console_lines.specs.Asked.{wish_of, wished, refused_behind, ask
 ghost use Rattle.console_lines.specs.Lines.{whole_lines, lines_of};
 ghost use Rattle.console_lines.specs.Words.{words_of, rest_of};
 ghost use Rattle.console_lines.specs.Progress.{IsFront, kept};
-ghost use Rattle.console_lines.specs.Script.{reply, after_line, replies, script};
+ghost use Rattle.console_lines.specs.Script.{after_line, after_lines, commands_of, replies, reply};
+ghost use Rattle.console_lines.specs.Script.{script};
 
 use crate::asked::Asked;
 use run_model::{Refusal, Wish};
@@ -61,6 +62,12 @@ pub fn a_moment_out_of_range_is_refused_behind_names_and_texts()
 pub fn replies_dont_wait_for_what_follows()
     ensures { (s : Session) (first more : List ℕ)
         → IsFront (replies s (whole_lines [] first)) (script s (first ++ more)) }
+{}
+
+/// Lines leave what the commands that they ask for leave, one after another.
+pub fn lines_leave_what_their_commands_leave()
+    ensures { (s : Session) (lines : List (List ℕ))
+        → after_lines s lines ≡ session_after s (commands_of lines) }
 {}
 
 /// A line that is too long may be cut behind 257 bytes: its reply and the session stay the same.

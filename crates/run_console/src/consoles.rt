@@ -2,8 +2,8 @@
 
 ghost use Rattle.std.specs.Io.KnownBytes.{Appends};
 ghost use Rattle.std.specs.Prelude.{◌≡◌, ◌++◌, OnOk, OnErr, IfErr};
-ghost use Rattle.console_lines.specs.Progress.{EndStops, IsOfLine, RunsAll, RunStops};
-ghost use Rattle.console_lines.specs.Progress.{WritesCut};
+ghost use Rattle.console_lines.specs.Progress.{BeginsScript, EndStops, IsOfLine, RunsAll};
+ghost use Rattle.console_lines.specs.Progress.{RunStops, WritesCut};
 ghost use Rattle.console_lines.specs.Script.{after_line, closing, reply, reply_to, scope_reply};
 ghost use Rattle.console_lines.specs.Script.{value_reply};
 ghost use Rattle.run_console.specs.BookLines.{IsObeyable, book_after, book_asked, session_of};
@@ -40,6 +40,9 @@ pub fn run<A: Allocator, R: Read, W: Write, B: Allocator>(
         (W.contents output.old) (W.contents output.new)) }
     ensures stops { IfErr result (λ fault. RunStops fault
         (session_of book.old) (session_of book.new)
+        (R.remaining input.old) (R.remaining input.new)
+        (W.contents output.old) (W.contents output.new)) }
+    ensures begins { OnErr result (BeginsScript (session_of book.old)
         (R.remaining input.old) (R.remaining input.new)
         (W.contents output.old) (W.contents output.new)) }
     ensures obeyed { OnOk result

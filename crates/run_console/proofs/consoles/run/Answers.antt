@@ -1,7 +1,8 @@
 use Rattle.std.proofs.Common.{ℕ, List, sym, subst}
-use Rattle.std.proofs.lemmas.Result.{on_ok_weaker}
+use Rattle.std.proofs.lemmas.Result.{err_from_is_err_and, on_ok_weaker}
 use Rattle.console_lines.specs.declared.faults.RunFault.{RunFault}
-use Rattle.console_lines.specs.Progress.{EndStops, IsOfLine, RunStops}
+use Rattle.console_lines.specs.Progress.{BeginsScript, EndStops, IsOfLine, RunStops}
+use Rattle.console_lines.proofs.LawLemmas.{stops_begin}
 use Rattle.console_lines.proofs.Wholes.{runs_all, stops_at_the_end}
 use Rattle.run_console.specs.BookLines.{session_of}
 use Rattle.run_console.specs.BookProgress.{BookReadsAll, ObeysAll, ObeysSome}
@@ -58,6 +59,32 @@ returns-clause-stops g c =
     fault_both c.finish.result IsOfLine Stops End
     (λ fault f h. stops_at_the_end fault s t u begun r0 r1 w0 w1 w2 f (reads g c).reads h)
     c.finish.ensures.fault c.finish.ensures.stops
+
+pub returns-in_err-run_whole_lines-clause-begins :
+    goal.returns-in_err-run_whole_lines-clause-begins
+returns-in_err-run_whole_lines-clause-begins g c =
+    let p = err_from_is_err_and c.from_residual.result c.from_residual.ensures.1 in
+    rw p.1 (
+    stops_begin c.in_err-run_whole_lines.field-0.0 (session_of c.args.book.now)
+    (session_of c.run_whole_lines.new.book)
+    (g.R.Read.remaining c.args.input.now) (g.R.Read.remaining c.run_whole_lines.new.input)
+    (g.W.Write.contents c.args.output.now) (g.W.Write.contents c.run_whole_lines.new.output)
+    c.in_err-run_whole_lines.ensures.stops)
+
+-- Where a run stopped, it wrote a front of what it was to write.
+pub returns-clause-begins : goal.returns-clause-begins
+returns-clause-begins g c =
+    let r0 = g.R.Read.remaining c.args.input.now in
+    let r1 = g.R.Read.remaining c.run_whole_lines.new.input in
+    let w0 = g.W.Write.contents c.args.output.now in
+    let w2 = g.W.Write.contents c.finish.new.output in
+    let s = session_of c.args.book.now in
+    let u = session_of c.finish.new.book in
+    let End : RunFault → Type 0 = λ fault. RunStops fault s u r0 r1 w0 w2 in
+    let Begins : RunFault → Type 0 = λ fault. BeginsScript s r0 r1 w0 w2 in
+    fault_both c.finish.result IsOfLine End Begins
+    (λ fault f stops. stops_begin fault s u r0 r1 w0 w2 stops)
+    c.finish.ensures.fault (returns-clause-stops g c)
 
 pub returns-clause-obeyed : goal.returns-clause-obeyed
 returns-clause-obeyed g c = on_ok_weaker c.finish.result (λ h. all g c) c.finish.ensures.whole
