@@ -179,7 +179,7 @@ stops_begin fault s t r0 r1 w0 w1 stops =
     begins (inr (inl (f, x))) =
         inl (
           replies s x.replied ++ x.front,
-          cut_reply s lines x.replied x.last x.left x.front x.lines_are x.cut,
+          cut_reply s lines x.replied x.last x.left x.front x.lines_are (x.cut.0, x.cut.1),
           x.written,
         )
     begins (inr (inr (f, ended, x))) =
@@ -187,7 +187,7 @@ stops_begin fault s t r0 r1 w0 w1 stops =
           ended,
           (
             replies s lines ++ x.front,
-            cut_end s stops.bytes x.front x.cut.cut,
+            cut_end s stops.bytes x.front (x.cut.cut.0, x.cut.cut.1),
             x.written,
           ),
         )

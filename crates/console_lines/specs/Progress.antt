@@ -17,9 +17,13 @@ IsFront front text = (rest : List ℕ) × (text ≡ front ++ rest)
 abbrev pub IsCut : List ℕ → List ℕ → Type 0
 IsCut front text = (rest : List ℕ) × (text ≡ front ++ rest) × (rest ≢ [])
 
--- A front of the text was written, and not all of it.
+-- A front of the text was written.
 abbrev pub WritesFront : Option (List ℕ) → Option (List ℕ) → List ℕ → Type 0
-WritesFront old new text = (front : List ℕ) × IsCut front text × Appends old new front
+WritesFront old new text = (front : List ℕ) × IsFront front text × Appends old new front
+
+-- A front of the text was written, and not all of it.
+abbrev pub WritesPart : Option (List ℕ) → Option (List ℕ) → List ℕ → Type 0
+WritesPart old new text = (front : List ℕ) × IsCut front text × Appends old new front
 
 -- A front of the text was written and not all of it, and nothing where memory was wanting.
 abbrev pub WritesCut : RunFault → Option (List ℕ) → Option (List ℕ) → List ℕ → Type 0

@@ -4,7 +4,7 @@
 
 ghost use Rattle.std.specs.Prelude.{◌≡◌, OnOk, OnErr, IfErr};
 ghost use Rattle.std.specs.Io.KnownBytes.{Appends};
-ghost use Rattle.console_lines.specs.Progress.{IsOfLine, WritesCut, WritesFront};
+ghost use Rattle.console_lines.specs.Progress.{IsOfLine, WritesCut, WritesPart};
 ghost use Rattle.console_lines.specs.Replies.{reply_line};
 
 use console_lines::{Reply, RunFault};
@@ -34,7 +34,7 @@ fn write_whole<W: Write>(output: &mut W, bytes: &[u8]) -> Result<(), RunFault>
     ensures whole { OnOk result
         (Appends (W.contents output.old) (W.contents output.new) bytes.now) }
     ensures cut { OnErr result
-        (WritesFront (W.contents output.old) (W.contents output.new) bytes.now) }
+        (WritesPart (W.contents output.old) (W.contents output.new) bytes.now) }
     ensures fault { IfErr result (λ fault. fault ≡ RunFault.Output) }
 {
     let mut rest = bytes;
