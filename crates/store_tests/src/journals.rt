@@ -6,7 +6,7 @@ ghost use Rattle.run_journal.specs.declared.stores.TheConstants.{STORE_SIZE};
 use linked_list_allocator::LocalHeap;
 use run_disk::{FailOnce, MemoryDisk, RunDisk, Torn};
 use run_journal::{Journal, STORE_SIZE};
-use run_model::Fault;
+use run_model::Fault::{self, BadBatch, BadSlot, DiskFailed, NotAStore};
 use std::alloc::Global;
 use std::process::Abort;
 use std::test::Fail;
@@ -33,6 +33,32 @@ const TEARS: [Torn; 6] = [
     Torn::Front(1),
 ];
 
+/// What a store holds: its generation and its tail, its image and its batches.
+#[derive(Clone, Copy)]
+struct Pair<'a> {
+    numbers: (u64, u64),
+    image: &'a [u8],
+    batches: &'a [&'a [u8]],
+}
+
+const AS_FORMATTED: Pair = Pair {
+    numbers: (0, 0),
+    image: &FORMATTED,
+    batches: &[],
+};
+
+const AS_OPENED: Pair = Pair {
+    numbers: (1, 0),
+    image: &OPENED,
+    batches: &[],
+};
+
+const ONE_BATCH: Pair = Pair {
+    numbers: (1, 31),
+    image: &OPENED,
+    batches: &[&FIRST],
+};
+
 // A body with this image from place 12 on.
 fn body_of(image: [u8; 23]) -> [u8; 35] {
     let mut body = [0xEE; 35];
@@ -47,6 +73,15 @@ fn formatted(rt: &impl Abort, alloc: Global) -> Result<MemoryDisk, Fault> {
     let mut body = body_of(FORMATTED);
     Journal::format(&mut disk, &mut body)?;
     Ok(disk)
+}
+
+// The store on this disk is recovered and opened.
+fn opened(alloc: Global, mut disk: MemoryDisk) -> Result<MemoryDisk, Fault> {
+    let stored = Journal::recover(alloc, &mut disk)?;
+    let mut journal = Journal::adopt(disk, &stored);
+    let mut body = body_of(OPENED);
+    journal.checkpoint(&mut body)?;
+    Ok(journal.into_disk())
 }
 
 // The same store after its opening and a flush of the first batch.
@@ -73,21 +108,14 @@ fn part<'a>(rt: &impl Abort, bytes: &'a [u8], from: usize, count: usize) -> &'a 
     &bytes[from..from + count]
 }
 
-// A recovery of these bytes gives this.
-fn holds(
-    rt: &impl Abort,
-    alloc: Global,
-    bytes: Vec<u8>,
-    numbers: (u64, u64),
-    image: &[u8],
-    batches: &[&[u8]],
-) -> Result<(), Fault> {
+// A recovery of these bytes gives this pair.
+fn holds(rt: &impl Abort, alloc: Global, bytes: Vec<u8>, pair: &Pair) -> Result<(), Fault> {
     let mut disk = MemoryDisk::from_bytes(alloc, bytes)?;
     let stored = Journal::recover(alloc, &mut disk)?;
-    assert_eq!(rt; (stored.generation(), stored.tail()), numbers);
-    assert_eq!(rt; stored.image(), image);
+    assert_eq!(rt; (stored.generation(), stored.tail()), pair.numbers);
+    assert_eq!(rt; stored.image(), pair.image);
     let mut lent = stored.batches();
-    for batch in batches {
+    for batch in pair.batches {
         assert_eq!(rt; lent.next(), Some(*batch));
     }
     assert_eq!(rt; lent.next(), None);
@@ -95,10 +123,28 @@ fn holds(
     Ok(())
 }
 
-// A recovery of these bytes tells this fault.
-fn is_refused(rt: &impl Abort, alloc: Global, bytes: Vec<u8>, fault: Fault) -> Result<(), Fault> {
-    let mut disk = MemoryDisk::from_bytes(alloc, bytes)?;
-    assert_eq!(rt; Journal::recover(alloc, &mut disk).err(), Some(fault));
+// A stop behind each call from this one on, torn in each way, leaves the pair from before, or once
+// the last write may have opened its gate the pair from after.
+fn walk(
+    rt: &impl Abort,
+    alloc: Global,
+    disk: &MemoryDisk,
+    from: u64,
+    before: &Pair,
+    after: &Pair,
+) -> Result<(), Fault> {
+    let last = disk.calls();
+    assert!(rt; 1 <= last && last < 100);
+    for calls in from..last + 1 {
+        for torn in TEARS {
+            let is_open = match torn {
+                Torn::Take | Torn::Fill(0xA7) | Torn::Front(1) => calls >= last - 1,
+                _ => calls == last,
+            };
+            let image = disk.image(alloc, calls, torn)?;
+            holds(rt, alloc, image, if is_open { after } else { before })?;
+        }
+    }
     Ok(())
 }
 
@@ -114,6 +160,13 @@ fn damaged(
     assert!(rt; place <= now.len() && bytes.len() <= now.len() - place);
     now.as_mut_slice()[place..place + bytes.len()].copy_from_slice(bytes);
     Ok(now)
+}
+
+// A store with the image `x` and no generation left.
+fn at_the_last_generation(rt: &impl Abort, alloc: Global) -> Result<MemoryDisk, Fault> {
+    let zeros = MemoryDisk::new(alloc, STORE_SIZE as usize)?;
+    let slot = *b"\xa7\x7f\xff\xff\xff\xff\xff\xff\xff\0\0\0\x01x";
+    MemoryDisk::from_bytes(alloc, damaged(rt, alloc, &zeros, 524_288, &slot)?)
 }
 
 #[test]
@@ -139,61 +192,51 @@ fn a_store_has_the_bytes_of_its_format(rt: HostRuntime) -> Result<(), Fail> {
     Ok(())
 }
 
+static DAMAGE: [(&str, usize, [u8; 4], Fault); 6] = [
+    ("slot 1's generation 2", 524_296, [2, 0, 0, 0], BadSlot),
+    (
+        "slot 1's image too long",
+        524_297,
+        [0, 7, 255, 244],
+        BadSlot,
+    ),
+    ("slot 0's image too long", 9, [0, 7, 255, 244], BadSlot),
+    ("a batch too long", 1_310_721, [0, 3, 255, 251], BadBatch),
+    ("an empty batch", 1_310_721, [0, 0, 0, 0], BadBatch),
+    (
+        "an open gate behind it",
+        1_310_751,
+        [0xA7, 0, 0, 0],
+        BadBatch,
+    ),
+];
+
 #[test]
 fn damage_is_told(rt: HostRuntime) -> Result<(), Fail> {
     let alloc = rt.alloc();
     let disk = flushed(&rt, alloc)?.into_disk();
-    let rows = [
-        (
-            "slot 1's generation 2",
-            524_296,
-            [2, 0, 0, 0],
-            Fault::BadSlot,
-        ),
-        (
-            "slot 1's image length 524,276",
-            524_297,
-            [0, 7, 255, 244],
-            Fault::BadSlot,
-        ),
-        (
-            "slot 0's image length 524,276",
-            9,
-            [0, 7, 255, 244],
-            Fault::BadSlot,
-        ),
-        (
-            "length of the first batch 262,139",
-            1_310_721,
-            [0, 3, 255, 251],
-            Fault::BadBatch,
-        ),
-        (
-            "length of the first batch 0",
-            1_310_721,
-            [0, 0, 0, 0],
-            Fault::BadBatch,
-        ),
-        (
-            "the gate behind it open",
-            1_310_751,
-            [0xA7, 0, 0, 0],
-            Fault::BadBatch,
-        ),
-    ];
-    for (name, place, bytes, fault) in rows {
+    for (name, place, bytes, fault) in DAMAGE {
         let mut left = MemoryDisk::from_bytes(alloc, damaged(&rt, alloc, &disk, place, &bytes)?)?;
         let told = Journal::recover(alloc, &mut left).err();
         assert_eq!(rt; told, Some(fault), "at {name}");
     }
+    Ok(())
+}
+
+#[test]
+fn no_open_slot_or_another_size_is_no_store(rt: HostRuntime) -> Result<(), Fail> {
+    let alloc = rt.alloc();
+    let disk = flushed(&rt, alloc)?.into_disk();
     let mut closed = damaged(&rt, alloc, &disk, 0, &[0])?;
     assert!(rt; closed.len() == STORE_SIZE as usize);
     closed.as_mut_slice()[524_288] = 0;
-    is_refused(&rt, alloc, closed, Fault::NotAStore)?;
+    let mut left = MemoryDisk::from_bytes(alloc, closed)?;
+    let told = Journal::recover(alloc, &mut left).err();
+    assert_eq!(rt; told, Some(Fault::NotAStore));
     for size in [0, 1, 1_048_576, 1_572_863, 1_572_865] {
         let mut odd = MemoryDisk::new(alloc, size)?;
-        let fault = Journal::recover(alloc, &mut odd).err();
-        assert_eq!(rt; fault, Some(Fault::WrongSize), "at {size} bytes");
+        let told = Journal::recover(alloc, &mut odd).err();
+        assert_eq!(rt; told, Some(Fault::WrongSize), "at {size} bytes");
         assert_eq!(rt; odd.calls(), 0);
     }
     Ok(())
@@ -204,11 +247,11 @@ fn a_gate_of_another_byte_is_closed(rt: HostRuntime) -> Result<(), Fail> {
     let alloc = rt.alloc();
     let disk = flushed(&rt, alloc)?.into_disk();
     let whole = damaged(&rt, alloc, &disk, 0, &[])?;
-    holds(&rt, alloc, whole, (1, 31), &OPENED, &[&FIRST])?;
+    holds(&rt, alloc, whole, &ONE_BATCH)?;
     let older = damaged(&rt, alloc, &disk, 524_288, &[0xA6])?;
-    holds(&rt, alloc, older, (0, 0), &FORMATTED, &[])?;
+    holds(&rt, alloc, older, &AS_FORMATTED)?;
     let same = damaged(&rt, alloc, &disk, 1_310_751, &[0xFF])?;
-    holds(&rt, alloc, same, (1, 31), &OPENED, &[&FIRST])?;
+    holds(&rt, alloc, same, &ONE_BATCH)?;
     Ok(())
 }
 
@@ -218,46 +261,58 @@ fn a_stop_of_a_flush_leaves_the_batch_or_not(rt: HostRuntime) -> Result<(), Fail
     let mut journal = flushed(&rt, alloc)?;
     add(&rt, &mut journal, &SECOND)?;
     let disk = journal.into_disk();
-    assert!(rt; disk.calls() == 30);
-    for calls in 24..31u64 {
-        for torn in TEARS {
-            let is_open = match torn {
-                Torn::Take | Torn::Fill(0xA7) | Torn::Front(1) => calls >= 29,
-                _ => calls == 30,
-            };
-            let image = disk.image(alloc, calls, torn)?;
-            if is_open {
-                holds(&rt, alloc, image, (1, 52), &OPENED, &[&FIRST, &SECOND])?;
-            } else {
-                holds(&rt, alloc, image, (1, 31), &OPENED, &[&FIRST])?;
-            }
-        }
-    }
+    assert_eq!(rt; disk.calls(), 30);
+    let both = Pair {
+        numbers: (1, 52),
+        image: &OPENED,
+        batches: &[&FIRST, &SECOND],
+    };
+    walk(&rt, alloc, &disk, 24, &ONE_BATCH, &both)?;
     Ok(())
 }
 
 #[test]
-fn a_stop_of_a_checkpoint_leaves_the_old_pair_or_the_new(rt: HostRuntime) -> Result<(), Fail> {
+fn a_stop_of_the_first_checkpoint_leaves_the_old_pair_or_the_new(
+    rt: HostRuntime,
+) -> Result<(), Fail> {
+    let alloc = rt.alloc();
+    let disk = opened(alloc, formatted(&rt, alloc)?)?;
+    assert_eq!(rt; disk.calls(), 18);
+    walk(&rt, alloc, &disk, 11, &AS_FORMATTED, &AS_OPENED)?;
+    Ok(())
+}
+
+#[test]
+fn a_stop_of_a_later_checkpoint_leaves_the_old_pair_or_the_new(
+    rt: HostRuntime,
+) -> Result<(), Fail> {
     let alloc = rt.alloc();
     let mut journal = flushed(&rt, alloc)?;
     assert!(rt; !journal.is_broken());
     let mut body = body_of(FORMATTED);
     journal.checkpoint(&mut body)?;
     let disk = journal.into_disk();
-    assert!(rt; disk.calls() == 31);
-    for calls in 24..32u64 {
-        for torn in TEARS {
-            let is_open = match torn {
-                Torn::Take | Torn::Fill(0xA7) | Torn::Front(1) => calls >= 30,
-                _ => calls == 31,
-            };
-            let image = disk.image(alloc, calls, torn)?;
-            if is_open {
-                holds(&rt, alloc, image, (2, 0), &FORMATTED, &[])?;
-            } else {
-                holds(&rt, alloc, image, (1, 31), &OPENED, &[&FIRST])?;
-            }
-        }
+    assert_eq!(rt; disk.calls(), 31);
+    let next = Pair {
+        numbers: (2, 0),
+        image: &FORMATTED,
+        batches: &[],
+    };
+    walk(&rt, alloc, &disk, 24, &ONE_BATCH, &next)?;
+    Ok(())
+}
+
+#[test]
+fn a_checkpoint_that_was_stopped_can_be_made_again(rt: HostRuntime) -> Result<(), Fail> {
+    let alloc = rt.alloc();
+    let first = opened(alloc, formatted(&rt, alloc)?)?;
+    assert!(rt; first.calls() == 18);
+    // A torn body, and a whole one, behind a gate that is closed.
+    for (calls, torn) in [(14, Torn::Front(9)), (16, Torn::Take)] {
+        let left = MemoryDisk::from_bytes(alloc, first.image(alloc, calls, torn)?)?;
+        let again = opened(alloc, left)?;
+        assert_eq!(rt; again.calls(), 10);
+        walk(&rt, alloc, &again, 3, &AS_FORMATTED, &AS_OPENED)?;
     }
     Ok(())
 }
@@ -326,9 +381,14 @@ fn a_failed_call_breaks_the_journal(rt: HostRuntime) -> Result<(), Fail> {
         let disk = journal.into_disk().into_inner();
         let now = disk.image(alloc, disk.calls(), Torn::Take)?;
         if call < 9 {
-            holds(&rt, alloc, now, (0, 0), &FORMATTED, &[])?;
+            holds(&rt, alloc, now, &AS_FORMATTED)?;
         } else {
-            holds(&rt, alloc, now, (0, 31), &FORMATTED, &[&FIRST])?;
+            let added = Pair {
+                numbers: (0, 31),
+                image: &FORMATTED,
+                batches: &[&FIRST],
+            };
+            holds(&rt, alloc, now, &added)?;
         }
     }
     Ok(())
@@ -337,10 +397,7 @@ fn a_failed_call_breaks_the_journal(rt: HostRuntime) -> Result<(), Fail> {
 #[test]
 fn the_last_generation_is_the_last(rt: HostRuntime) -> Result<(), Fail> {
     let alloc = rt.alloc();
-    let zeros = MemoryDisk::new(alloc, STORE_SIZE as usize)?;
-    let slot = *b"\xa7\x7f\xff\xff\xff\xff\xff\xff\xff\0\0\0\x01x";
-    let bytes = damaged(&rt, alloc, &zeros, 524_288, &slot)?;
-    let mut disk = MemoryDisk::from_bytes(alloc, bytes)?;
+    let mut disk = at_the_last_generation(&rt, alloc)?;
     let stored = Journal::recover(alloc, &mut disk)?;
     assert_eq!(rt; stored.generation(), 9_223_372_036_854_775_807);
     assert_eq!(rt; stored.image(), b"x".as_slice());
@@ -365,7 +422,12 @@ fn a_batch_may_fill_its_segment(rt: HostRuntime) -> Result<(), Fail> {
     let disk = journal.into_disk();
     let now = disk.image(alloc, disk.calls(), Torn::Keep)?;
     assert_eq!(rt; part(&rt, &now, 1_572_863, 1), [0].as_slice());
-    holds(&rt, alloc, now, (1, 262_143), &OPENED, &[&FIRST, &rest])?;
+    let filled = Pair {
+        numbers: (1, 262_143),
+        image: &OPENED,
+        batches: &[&FIRST, &rest],
+    };
+    holds(&rt, alloc, now, &filled)?;
     Ok(())
 }
 
@@ -383,56 +445,49 @@ fn a_renewal_ends_in_the_new_image(rt: HostRuntime) -> Result<(), Fail> {
     Ok(())
 }
 
+// A recovery of a disk with these bytes, whose call of this number fails, tells this fault.
+fn tells(
+    rt: &impl Abort,
+    alloc: Global,
+    bytes: Vec<u8>,
+    call: u64,
+    fault: Fault,
+) -> Result<(), Fault> {
+    let mut failing = FailOnce::new(MemoryDisk::from_bytes(alloc, bytes)?, call);
+    let told = Journal::recover(alloc, &mut failing).err();
+    assert_eq!(rt; told, Some(fault), "where call {call} fails");
+    Ok(())
+}
+
 #[test]
-fn faults_come_in_their_order(rt: HostRuntime) -> Result<(), Fail> {
+fn a_failed_read_comes_before_what_a_later_read_would_tell(rt: HostRuntime) -> Result<(), Fail> {
     let alloc = rt.alloc();
     let disk = flushed(&rt, alloc)?.into_disk();
-    let whole = (524_288, [0xA7]);
-    let bad_first = (1, [0xFF]);
-    let bad_batch = (1_310_724, [0]);
-    let rows = [
-        ("a store", whole, [Fault::DiskFailed; 3]),
-        (
-            "a bad slot 0",
-            bad_first,
-            [Fault::DiskFailed, Fault::DiskFailed, Fault::BadSlot],
-        ),
-        ("a bad batch", bad_batch, [Fault::DiskFailed; 3]),
-    ];
-    for (name, (place, bytes), faults) in rows {
-        for call in 1..4u64 {
-            let left = MemoryDisk::from_bytes(alloc, damaged(&rt, alloc, &disk, place, &bytes)?)?;
-            let mut failing = FailOnce::new(left, call);
-            let told = Journal::recover(alloc, &mut failing).err();
-            assert!(rt; call >= 1 && call <= 3);
-            assert_eq!(rt;
-                told,
-                Some(faults[call as usize - 1]),
-                "{name}, call {call}"
-            );
-        }
-    }
     for call in 1..4u64 {
-        let mut failing = FailOnce::new(MemoryDisk::new(alloc, STORE_SIZE as usize)?, call);
-        let told = Journal::recover(alloc, &mut failing).err();
-        let closed = if call < 3 {
-            Fault::DiskFailed
-        } else {
-            Fault::NotAStore
-        };
-        assert_eq!(rt; told, Some(closed), "no slot open, call {call}");
+        let store = damaged(&rt, alloc, &disk, 0, &[])?;
+        tells(&rt, alloc, store, call, DiskFailed)?;
+        let batch = damaged(&rt, alloc, &disk, 1_310_724, &[0])?;
+        tells(&rt, alloc, batch, call, DiskFailed)?;
+        let slot = damaged(&rt, alloc, &disk, 1, &[0xFF])?;
+        let told = if call < 3 { DiskFailed } else { BadSlot };
+        tells(&rt, alloc, slot, call, told)?;
+        let zeros = vec![in alloc; 0u8; STORE_SIZE as usize]?;
+        let told = if call < 3 { DiskFailed } else { NotAStore };
+        tells(&rt, alloc, zeros, call, told)?;
     }
+    Ok(())
+}
+
+#[test]
+fn size_and_memory_are_looked_at_before_any_read(rt: HostRuntime) -> Result<(), Fail> {
+    let alloc = rt.alloc();
     let no_room = LocalHeap::new(alloc, 0)?;
     let mut failing = FailOnce::new(MemoryDisk::new(alloc, STORE_SIZE as usize)?, 1);
-    assert_eq!(rt;
-        Journal::recover(&no_room, &mut failing).err(),
-        Some(Fault::Memory)
-    );
+    let told = Journal::recover(&no_room, &mut failing).err();
+    assert_eq!(rt; told, Some(Fault::Memory));
     let mut odd = MemoryDisk::new(alloc, 10)?;
-    assert_eq!(rt;
-        Journal::recover(&no_room, &mut odd).err(),
-        Some(Fault::WrongSize)
-    );
+    let told = Journal::recover(&no_room, &mut odd).err();
+    assert_eq!(rt; told, Some(Fault::WrongSize));
     Ok(())
 }
 
@@ -449,37 +504,37 @@ fn a_renewal_tells_why_there_is_none(rt: HostRuntime) -> Result<(), Fail> {
     let zeros = MemoryDisk::new(alloc, STORE_SIZE as usize)?;
     let (told, zeros) = Journal::renew(alloc, zeros, &FIRST, &mut body);
     assert_eq!(rt; (told.err(), zeros.calls()), (Some(Fault::NotAStore), 2));
+    Ok(())
+}
+
+#[test]
+fn a_renewal_that_fails_leaves_what_was_stored(rt: HostRuntime) -> Result<(), Fail> {
+    let alloc = rt.alloc();
+    let mut body = body_of(OPENED);
     let failing = FailOnce::new(formatted(&rt, alloc)?, 9);
     let (told, failed) = Journal::renew(alloc, failing, &FIRST, &mut body);
     assert_eq!(rt; told.err(), Some(Fault::DiskFailed));
     let left = failed.into_inner();
     assert_eq!(rt; left.calls(), 16);
-    holds(
-        &rt,
-        alloc,
-        left.image(alloc, 16, Torn::Keep)?,
-        (0, 0),
-        &FORMATTED,
-        &[],
-    )?;
-    let slot = *b"\xa7\x7f\xff\xff\xff\xff\xff\xff\xff\0\0\0\x01x";
-    let last = damaged(&rt, alloc, &zeros, 524_288, &slot)?;
-    let (told, left) = Journal::renew(
-        alloc,
-        MemoryDisk::from_bytes(alloc, last)?,
-        &FIRST,
-        &mut body,
-    );
+    let now = left.image(alloc, 16, Torn::Keep)?;
+    holds(&rt, alloc, now, &AS_FORMATTED)?;
+    Ok(())
+}
+
+#[test]
+fn a_renewal_behind_the_last_generation_keeps_its_batch(rt: HostRuntime) -> Result<(), Fail> {
+    let alloc = rt.alloc();
+    let mut body = body_of(OPENED);
+    let disk = at_the_last_generation(&rt, alloc)?;
+    let (told, left) = Journal::renew(alloc, disk, &FIRST, &mut body);
     assert_eq!(rt; (told.err(), left.calls()), (Some(Fault::NumbersSpent), 9));
+    let last = Pair {
+        numbers: (9_223_372_036_854_775_807, 31),
+        image: b"x",
+        batches: &[&FIRST],
+    };
     let now = left.image(alloc, 9, Torn::Keep)?;
-    holds(
-        &rt,
-        alloc,
-        now,
-        (9_223_372_036_854_775_807, 31),
-        b"x",
-        &[&FIRST],
-    )?;
+    holds(&rt, alloc, now, &last)?;
     Ok(())
 }
 
