@@ -133,95 +133,107 @@ fn an_empty_line_asks_nothing(rt: HostRuntime) {
     assert_eq!(rt; read_line(b""), Asked::Nothing);
 }
 
+/// Words that are unknown, missing or left over.
+static BAD_LINES: [&[u8]; 37] = [
+    b"up",
+    b" ",
+    b" scope root",
+    b"SCOPE root",
+    b"scope\troot",
+    b"scope",
+    b"scope root root",
+    b"scope root ",
+    b"cancel",
+    b"derive",
+    b"derive a",
+    b"derive a root",
+    b"derive a root other",
+    b"derive a root cause x",
+    b"derive a root cancel ",
+    b"derive a root cause\r",
+    b"derive a root detached x",
+    b"derive a root deadline",
+    b"derive a root deadline ",
+    b"derive a root deadline 0000000000001",
+    b"derive A root deadline 2024-01-01T24:00:00Z",
+    b"derive a root timeout",
+    b"derive a root timeout 1x",
+    b"derive a root timeout 0000000000001",
+    b"derive a root timeout 2024-01-01T02:00:00Z",
+    b"derive a root value",
+    b"derive a root value k",
+    b"advance",
+    b"advance ",
+    b"advance 5 ",
+    b"advance 5\r",
+    b"advance 9999-12-31T24:00:00Z",
+    b"advance 9987-02-30T00:00:00Z",
+    b"value",
+    b"value a",
+    b"value a k ",
+    b"value a k k",
+];
+
+/// Lines with a word that is no name, whatever stands behind it.
+static BAD_NAMES: [&[u8]; 18] = [
+    b"scope ",
+    b"scope a\r",
+    b"scope a\0",
+    b"derive  root cancel",
+    b"derive a  cause",
+    b"derive A root cause",
+    b"derive a ro.ot cause",
+    b"derive abcdefghijklmnopqrstuvwxyz-012345 root cause",
+    b"cancel ",
+    b"cancel A ",
+    b"value  k",
+    b"value a ",
+    b"value a K",
+    b"derive a root value  x",
+    b"derive a root value K ",
+    b"derive A root deadline 253000000001",
+    b"derive a ROOT deadline 9999-12-31T23:59:59Z ",
+    b"derive A root timeout 1 ",
+];
+
+/// Lines with good names and a text that is none.
+static BAD_TEXTS: [&[u8]; 9] = [
+    b"cancel a ",
+    b"cancel a x\r",
+    b"cancel a \x7f",
+    b"cancel a \xc3\xa9",
+    b"derive a root deadline 5 ",
+    b"derive a root deadline 253000000001 ",
+    b"derive a root deadline 9999-12-31T23:59:59Z x\r",
+    b"derive a root timeout 5 ",
+    b"derive a root value k ",
+];
+
+/// Lines with good names and texts, and a moment out of range.
+static LATE_MOMENTS: [&[u8]; 5] = [
+    b"advance 253000000001",
+    b"advance 1969-12-31T23:59:59Z",
+    b"advance 9988-02-30T00:00:00Z",
+    b"derive a root deadline 253000000001",
+    b"derive a root deadline 9999-12-31T23:59:59Z late",
+];
+
 #[test]
 fn words_unknown_missing_or_left_over_make_a_bad_line(rt: HostRuntime) {
-    for line in [
-        b"up".as_slice(),
-        b" ",
-        b" scope root",
-        b"SCOPE root",
-        b"scope\troot",
-        b"scope",
-        b"scope root root",
-        b"scope root ",
-        b"cancel",
-        b"derive",
-        b"derive a",
-        b"derive a root",
-        b"derive a root other",
-        b"derive a root cause x",
-        b"derive a root cancel ",
-        b"derive a root cause\r",
-        b"derive a root detached x",
-        b"derive a root deadline",
-        b"derive a root deadline ",
-        b"derive a root deadline 0000000000001",
-        b"derive A root deadline 2024-01-01T24:00:00Z",
-        b"derive a root timeout",
-        b"derive a root timeout 1x",
-        b"derive a root timeout 0000000000001",
-        b"derive a root timeout 2024-01-01T02:00:00Z",
-        b"derive a root value",
-        b"derive a root value k",
-        b"advance",
-        b"advance ",
-        b"advance 5 ",
-        b"advance 5\r",
-        b"advance 9999-12-31T24:00:00Z",
-        b"advance 9987-02-30T00:00:00Z",
-        b"value",
-        b"value a",
-        b"value a k ",
-        b"value a k k",
-    ] {
+    for line in BAD_LINES {
         assert_eq!(rt; read_line(line), Asked::BadLine);
     }
 }
 
 #[test]
-fn names_are_looked_at_before_texts(rt: HostRuntime) {
-    for line in [
-        b"scope ".as_slice(),
-        b"scope a\r",
-        b"scope a\0",
-        b"derive  root cancel",
-        b"derive a  cause",
-        b"derive A root cause",
-        b"derive a ro.ot cause",
-        b"derive abcdefghijklmnopqrstuvwxyz-012345 root cause",
-        b"cancel ",
-        b"cancel A ",
-        b"value  k",
-        b"value a ",
-        b"value a K",
-        b"derive a root value  x",
-        b"derive a root value K ",
-        b"derive A root deadline 253000000001",
-        b"derive a ROOT deadline 9999-12-31T23:59:59Z ",
-        b"derive A root timeout 1 ",
-    ] {
+fn names_are_looked_at_before_texts_and_moments_last(rt: HostRuntime) {
+    for line in BAD_NAMES {
         assert_eq!(rt; read_line(line), Asked::Refused(Refusal::BadName));
     }
-    for line in [
-        b"cancel a ".as_slice(),
-        b"cancel a x\r",
-        b"cancel a \x7f",
-        b"cancel a \xc3\xa9",
-        b"derive a root deadline 5 ",
-        b"derive a root deadline 253000000001 ",
-        b"derive a root deadline 9999-12-31T23:59:59Z x\r",
-        b"derive a root timeout 5 ",
-        b"derive a root value k ",
-    ] {
+    for line in BAD_TEXTS {
         assert_eq!(rt; read_line(line), Asked::Refused(Refusal::BadText));
     }
-    for line in [
-        b"advance 253000000001".as_slice(),
-        b"advance 1969-12-31T23:59:59Z",
-        b"advance 9988-02-30T00:00:00Z",
-        b"derive a root deadline 253000000001",
-        b"derive a root deadline 9999-12-31T23:59:59Z late",
-    ] {
+    for line in LATE_MOMENTS {
         assert_eq!(rt; read_line(line), Asked::Refused(Refusal::MomentOutOfRange));
     }
 }
@@ -239,59 +251,53 @@ fn a_line_of_257_bytes_is_a_bad_line(rt: HostRuntime) {
 #[test]
 fn replies_print_their_texts(rt: HostRuntime) -> Result<(), Fail> {
     let disk = text(b"disk")?;
-    let moment = Moment::new(1_704_074_400).ok_or("no moment")?;
-    let table = [
+    for (reply, printed) in [
         (Reply::BadLine, "bad line"),
         (Reply::Value(text(b"eu west")?), "value eu west"),
         (Reply::Acked(1), "acked 1"),
-        (Reply::Answered(Answer::Scope(1023)), "scope 1023"),
-        (Reply::Answered(Answer::Done), "ok"),
+        (answered(Answer::Scope(1023)), "scope 1023"),
+        (answered(Answer::Done), "ok"),
+        (answered(Answer::Group(0, Some(1))), "group 0 scope 1"),
+        (answered(Answer::Group(1, None)), "group 1"),
+        (answered(Answer::Task(2, Phase::Held)), "task 2 held"),
+        (answered(Answer::Task(0, Phase::Ready)), "task 0 ready"),
+        (answered(Answer::Waited(None)), "wait ok"),
+        (answered(Answer::Waited(Some(disk))), "wait error disk"),
+    ] {
+        assert_eq!(rt; format!(in rt.alloc(); "{reply}")?.as_str(), printed);
+    }
+    Ok(())
+}
+
+// A command was answered so.
+fn answered(answer: Answer) -> Reply {
+    Reply::Answered(answer)
+}
+
+#[test]
+fn how_a_scope_is_prints_its_end_and_its_deadline(rt: HostRuntime) -> Result<(), Fail> {
+    let moment = Moment::new(1_704_074_400).ok_or("no moment")?;
+    let exceeded = b"context deadline exceeded";
+    for (done, deadline, printed) in [
+        (None, None, "live; deadline none"),
         (
-            Reply::Answered(Answer::Group(0, Some(1))),
-            "group 0 scope 1",
-        ),
-        (Reply::Answered(Answer::Group(1, None)), "group 1"),
-        (Reply::Answered(Answer::Task(2, Phase::Held)), "task 2 held"),
-        (
-            Reply::Answered(Answer::Task(0, Phase::Ready)),
-            "task 0 ready",
-        ),
-        (Reply::Answered(Answer::Waited(None)), "wait ok"),
-        (
-            Reply::Answered(Answer::Waited(Some(disk.copy()))),
-            "wait error disk",
-        ),
-        (
-            Reply::Scope(Look {
-                name: name(b"root")?,
-                done: None,
-                deadline: None,
-            }),
-            "live; deadline none",
-        ),
-        (
-            Reply::Scope(Look {
-                name: name(b"b")?,
-                done: Some((Reason::Canceled, disk)),
-                deadline: None,
-            }),
+            Some((Reason::Canceled, text(b"disk")?)),
+            None,
             "done; deadline none; err context canceled; cause disk",
         ),
         (
-            Reply::Scope(Look {
-                name: name(b"t")?,
-                done: Some((
-                    Reason::DeadlineExceeded,
-                    text(b"context deadline exceeded")?,
-                )),
-                deadline: Some(moment),
-            }),
+            Some((Reason::DeadlineExceeded, text(exceeded)?)),
+            Some(moment),
             "done; deadline 1704074400; err context deadline exceeded; \
              cause context deadline exceeded",
         ),
-    ];
-    for (reply, printed) in &table {
-        assert_eq!(rt; format!(in rt.alloc(); "{reply}")?.as_str(), *printed);
+    ] {
+        let reply = Reply::Scope(Look {
+            name: name(b"root")?,
+            done,
+            deadline,
+        });
+        assert_eq!(rt; format!(in rt.alloc(); "{reply}")?.as_str(), printed);
     }
     Ok(())
 }
