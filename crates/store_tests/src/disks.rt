@@ -1,8 +1,10 @@
 use linked_list_allocator::LocalHeap;
 use run_disk::{DiskFailed, FailOnce, FileDisk, Fuse, MemoryDisk, RunDisk, Torn, write_durably};
 use run_model::Fault;
+use std::alloc::Global;
 use std::fs;
 use std::fs::File;
+use std::process::Abort;
 use std::test::Fail;
 
 #[test]
@@ -67,9 +69,9 @@ fn the_newest_write_wins(rt: HostRuntime) -> Result<(), Fail> {
     Ok(())
 }
 
-#[test]
-fn shows_each_stop_of_forty_calls(rt: HostRuntime) -> Result<(), Fail> {
-    let mut disk = MemoryDisk::new(rt.alloc(), 1_572_864)?;
+// Ten times two writes, a sync and a read, each time at another place.
+fn forty_calls(rt: &impl Abort, alloc: Global) -> Result<MemoryDisk, Fail> {
+    let mut disk = MemoryDisk::new(alloc, 1_572_864)?;
     for turn in 0..10u8 {
         let place = 150_000 * turn as u64;
         assert_eq!(rt; disk.size(), 1_572_864);
@@ -78,7 +80,28 @@ fn shows_each_stop_of_forty_calls(rt: HostRuntime) -> Result<(), Fail> {
         disk.sync()?;
         disk.read_at(place, &mut [0; 16])?;
     }
-    assert_eq!(rt; disk.calls(), 40);
+    Ok(disk)
+}
+
+// What the first byte of this turn is behind so many calls, torn in this way.
+fn first_of(turn: u8, calls: u64, torn: Torn) -> u8 {
+    let written = turn.saturating_add(1);
+    let torn_first = match torn {
+        Torn::Keep | Torn::Front(0) => 0,
+        Torn::Take | Torn::Front(_) => written,
+        Torn::Fill(value) => value,
+    };
+    match calls.saturating_sub(4 * turn as u64) {
+        0 => 0,
+        1 | 2 => torn_first,
+        _ => written,
+    }
+}
+
+#[test]
+fn shows_each_stop_of_forty_calls(rt: HostRuntime) -> Result<(), Fail> {
+    let disk = forty_calls(&rt, rt.alloc())?;
+    assert!(rt; disk.calls() == 40);
     let tears = [
         Torn::Keep,
         Torn::Take,
@@ -90,24 +113,11 @@ fn shows_each_stop_of_forty_calls(rt: HostRuntime) -> Result<(), Fail> {
     for calls in 0..41u64 {
         for torn in tears {
             let image = disk.image(rt.alloc(), calls, torn)?;
-            assert_eq!(rt; image.len(), 1_572_864);
+            assert!(rt; image.len() == 1_572_864);
             for turn in 0..10u8 {
-                let written = turn + 1;
-                let torn_first = match torn {
-                    Torn::Keep | Torn::Front(0) => 0,
-                    Torn::Take | Torn::Front(_) => written,
-                    Torn::Fill(value) => value,
-                };
-                let first = match calls as i64 - 4 * turn as i64 {
-                    ..=0 => 0,
-                    1 | 2 => torn_first,
-                    _ => written,
-                };
-                assert_eq!(rt;
-                    image[150_000 * turn as usize],
-                    first,
-                    "{torn:?} after {calls}"
-                );
+                let first = image[150_000 * turn as usize];
+                let wanted = first_of(turn, calls, torn);
+                assert_eq!(rt; first, wanted, "{torn:?} after {calls}");
             }
         }
     }

@@ -142,7 +142,11 @@ fn walk(
                 _ => calls == last,
             };
             let image = disk.image(alloc, calls, torn)?;
-            holds(rt, alloc, image, if is_open { after } else { before })?;
+            if is_open {
+                holds(rt, alloc, image, after)?;
+            } else {
+                holds(rt, alloc, image, before)?;
+            }
         }
     }
     Ok(())
