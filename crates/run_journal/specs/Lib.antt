@@ -1,3 +1,2 @@
 pub mod Journals
-pub mod Recoveries
-pub mod Stores
+pub mod Pairs

@@ -1,7 +1,7 @@
 //! The bytes of a store, its damage, its stops, and want of memory.
 
 ghost use Rattle.std.specs.Prelude.{◌≡◌, IfOk};
-ghost use Rattle.run_journal.specs.declared.stores.TheConstants.{STORE_SIZE};
+ghost use Rattle.run_store.specs.declared.stores.TheConstants.{STORE_SIZE};
 
 use linked_list_allocator::LocalHeap;
 use run_disk::{FailOnce, MemoryDisk, RunDisk, Torn};
