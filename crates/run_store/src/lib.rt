@@ -1,7 +1,7 @@
 //! A store: where an image and the batches behind it lie on a disk, and how they are read.
 //!
-//! A store is two slots and, behind them, two segments. The image lies in the slot that counts, and
-//! the batches in the segment of that slot's number. [`read_store`] finds both: a [`Stored`].
+//! A store is two slots and, behind them, two segments. The image lies in the slot that counts,
+//! and the batches in the segment of that slot's number. [`read_store`] finds both: a [`Stored`].
 #![tactic(auto)]
 
 pub mod laws;
