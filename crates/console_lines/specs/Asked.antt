@@ -170,7 +170,7 @@ asked_of line =
     else if nat_lt 0 (length line) then asked_by (words_of line)
     else asked.Nothing
 
--- ---- a wish by itself
+-- ---- a wish by itself, for private functions: no public contract cites what follows
 
 -- The refusal of the first of these tests, else what stands behind them.
 abbrev pub judged_by : List (List ℕ) → List (List ℕ) → Result Wish Refusal → Result Wish Refusal

@@ -22,7 +22,7 @@ pub enum Reply {
     Scope(Look),
     /// What a scope holds under the key that was asked for: `value eu`.
     Value(Text),
-    /// All events up to this number are acknowledged: `acked 4`.
+    /// The number of all events, the opening among them: `acked 4`.
     Acked(u64),
 }
 

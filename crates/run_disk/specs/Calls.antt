@@ -17,7 +17,8 @@ pub record Calls {T E : Type 0} (old new : DiskState) (result : Result T E) : Ty
       (t : ℕ) (x : List ℕ) → t ≤ old.clock → new.since t x → old.since t x ⊎ new.images x
   pub keeps : (t : ℕ) (x : List ℕ) → t ≤ old.clock → old.since t x → new.since t x
 
--- What a read does to an honest disk, at a failure too: nothing.
+-- What a read does to an honest disk, at a failure too: reads give the same, a crash leaves nothing
+-- more, and no more is unsure.
 pub record Reads (old new : DiskState) : Type 0 where
   pub now : new.now ≡ old.now
   pub images : Within new.images old.images

@@ -60,7 +60,7 @@ pub record Begins (bytes : List ℕ) (s : DiskState) : Type 0 where
   pub clock : s.clock ≡ 0
   pub failures : s.failures ≡ 0
 
--- Nothing has changed, the two counts included.
+-- Reads and the two counts are the same; a crash leaves nothing more, and no more is unsure.
 pub record IsSame (old new : DiskState) : Type 0 where
   pub now : new.now ≡ old.now
   pub images : (x : List ℕ) → new.images x → old.images x

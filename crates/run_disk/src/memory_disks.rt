@@ -75,8 +75,7 @@ impl<A: Allocator + Copy> MemoryDisk<A> {
 
     /// What a crash behind the first `after_calls` calls leaves, when it tears each write that no
     /// sync followed in this way. It is one of the contents that the disk then said a crash may
-    /// leave. It copies the disk once, and looks for a sync behind each write: some 0.2 ms for
-    /// 1.5 MB and a few dozen calls.
+    /// leave. It copies the disk once, and looks for a sync behind each write.
     pub fn image(&self, alloc: A, after_calls: u64, torn: Torn) -> Result<Vec<u8, A>, Fault>
         requires { after_calls ≤ (⟦<MemoryDisk<A> as RunDisk>⟧.state self.now).clock }
         ensures bytes { IfOk result (λ image.

@@ -101,8 +101,8 @@ fn read_instant(word: &[u8]) -> Option<i64>
     }
 }
 
-#[tactic(auto, unfolding(crate::specs::Moments::moment_at))]
 /// The moment of so many seconds, and `MomentOutOfRange` before 0 and past the greatest moment.
+#[tactic(auto, unfolding(crate::specs::Moments::moment_at))]
 fn moment_at(seconds: i64) -> Result<Moment, Refusal>
     ensures { result ≡ moment_at seconds }
 {
