@@ -5,7 +5,7 @@ use Rattle.std.proofs.Common.{inl, inr, arith, sym, ap, ◌∙◌, subst, append
 use Rattle.run_model.specs.Session.{Session}
 use Rattle.console_lines.specs.declared.lines.TheConstants.{LONGEST_INPUT}
 use Rattle.console_lines.specs.declared.faults.RunFault.{RunFault}
-use Rattle.console_lines.specs.declared.faults.RunFault.TheVariants.{InputTooLong}
+use Rattle.console_lines.specs.declared.faults.RunFault.TheVariants.{Input, InputTooLong}
 use Rattle.console_lines.specs.Lines.{whole_lines, open_line, lines_of}
 use Rattle.console_lines.specs.Script.{reply, after_line, replies, after_lines, closing, script}
 use Rattle.console_lines.specs.Progress.{Ran, Stopped, StoppedAtEnd, EndStops, IsEndFront}
@@ -105,6 +105,10 @@ runs_all s t u begun r0 r1 w0 w1 w2 reads written state =
 not_long : (fault : RunFault) → IsOfLine fault → (X : Type 0) → fault ≡ InputTooLong → X
 not_long fault h X e = absurd (subst IsOfLine e h)
 
+-- Nor that a read failed.
+not_unread : (fault : RunFault) → IsOfLine fault → (X : Type 0) → fault ≡ Input → X
+not_unread fault h X e = absurd (subst IsOfLine e h)
+
 -- The input was read, and the last line or the closing line stopped.
 pub stops_at_the_end :
     (fault : RunFault) (s t u : Session) (begun : List ℕ) (r0 r1 w0 w1 w2 : Option (List ℕ))
@@ -135,6 +139,7 @@ stops_at_the_end fault s t u begun r0 r1 w0 w1 w2 f reads stops =
       read = reads.read;
       within = omega (arith, reads.within);
       long = not_long fault f _;
+      short = not_unread fault f _;
       stopped = inr (inr (f, reads.ended, end));
     }
 
@@ -158,6 +163,7 @@ stops_in_a_part fault bytes part s t u r0 r1 r2 w0 w1 w2 f read more few ran sto
       read = consumes_then r0 r1 r2 bytes part read more;
       within = few;
       long = not_long fault f _;
+      short = not_unread fault f _;
       stopped =
           inr (inl (
             f,
@@ -165,23 +171,6 @@ stops_in_a_part fault bytes part s t u r0 r1 r2 w0 w1 w2 f read more few ran sto
                 (stopped_then fault first then s t u w0 w1 w2 ran stops),
           ));
     }
-
--- Some input was read and the lines that an LF ends were run, and a fault of reading stops the run.
-pub stops_reading :
-    (fault : RunFault) (bytes : List ℕ) (s t : Session) (r0 r1 w0 w1 : Option (List ℕ))
-    → IsOfReading fault
-    → Consumes r0 r1 bytes
-    → length bytes ≤ LONGEST_INPUT + 1
-    → (fault ≡ InputTooLong → length bytes ≡ LONGEST_INPUT + 1)
-    → Ran (whole_lines [] bytes) s t w0 w1
-    → RunStops fault s t r0 r1 w0 w1
-stops_reading fault bytes s t r0 r1 w0 w1 f read few long ran = record {
-  bytes = bytes;
-  read = read;
-  within = few;
-  long = long;
-  stopped = inl (f, ran);
-}
 
 -- ---- part after part
 

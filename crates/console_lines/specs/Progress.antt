@@ -57,19 +57,21 @@ pub record Stopped
   pub written : Appends old new (replies s replied ++ front)
   pub state : t ≡ after_line (after_lines s replied) last
 
--- One line was run, and of its reply a front was written.
+-- One line was run, and of its reply a front was written and not all of it, and nothing where
+-- memory was wanting.
 abbrev pub LineStops :
     RunFault → List ℕ → Session → Session → Option (List ℕ) → Option (List ℕ) → Type 0
 LineStops fault line s t old new =
     WritesCut fault old new (reply s line) × (t ≡ after_line s line)
 
--- Of the last reply and the closing line this front was written and not all: where memory was
--- wanting, it is empty or the whole reply.
+-- These bytes are a front of the last reply and the closing line behind it, and not all of both;
+-- where memory was wanting, they are none or the whole reply.
 pub record IsEndFront (fault : RunFault) (front last end : List ℕ) : Type 0 where
   pub cut : IsCut front (last ++ end)
   pub whole : fault ≡ Memory → (front ≡ []) ⊎ (front ≡ last)
 
--- The last line was run, and a front was written of its reply and the closing line.
+-- The last line was run. Of its reply and the closing line a front was written and not all; where
+-- memory was wanting, nothing or the whole reply.
 pub record EndStops
     (fault : RunFault) (line : List ℕ) (s t : Session) (old new : Option (List ℕ))
     : Type 0 where
@@ -115,8 +117,9 @@ pub record RunsAll (s t : Session) (r0 r1 w0 w1 : Option (List ℕ)) : Type 0 wh
   pub written : Appends w0 w1 (script s bytes)
   pub state : t ≡ after_lines s (lines_of bytes)
 
--- The lines that an LF ends were run and replied to and the last line was run, and a front was
--- written of its reply and the closing line.
+-- The lines that an LF ends were run and replied to, and the last line was run. Of its reply and
+-- the closing line a front was written and not all; where memory was wanting, nothing or the whole
+-- reply.
 pub record StoppedAtEnd
     (fault : RunFault) (bytes : List ℕ) (s t : Session) (old new : Option (List ℕ))
     : Type 0 where
@@ -129,7 +132,8 @@ pub record StoppedAtEnd
 
 -- A fault of reading stopped a run behind all lines that an LF ended; a fault of a line stopped it
 -- in a line that an LF ends, or with the input read to its end in what is written last. Too long is
--- an input of which a byte more was read than it may have.
+-- an input of which a byte more was read than it may have, and a failed read comes before that
+-- byte.
 pub record RunStops
     (fault : RunFault) (s t : Session) (r0 r1 w0 w1 : Option (List ℕ))
     : Type 0 where
@@ -137,6 +141,7 @@ pub record RunStops
   pub read : Consumes r0 r1 bytes
   pub within : length bytes ≤ LONGEST_INPUT + 1
   pub long : fault ≡ InputTooLong → length bytes ≡ LONGEST_INPUT + 1
+  pub short : fault ≡ Input → length bytes ≤ LONGEST_INPUT
   pub stopped : (IsOfReading fault × Ran (whole_lines [] bytes) s t w0 w1)
       ⊎ ((IsOfLine fault × Stopped fault (whole_lines [] bytes) s t w0 w1)
       ⊎ (IsOfLine fault × IsAtEnd r1 × StoppedAtEnd fault bytes s t w0 w1))

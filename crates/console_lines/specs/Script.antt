@@ -78,12 +78,12 @@ abbrev pub after_lines : Session → List (List ℕ) → Session
 after_lines s [] = s
 after_lines s (line ∷ lines) = after_lines (after_line s line) lines
 
--- The command that a line asks for.
+-- The step that was asked for: a command, and none for all else.
 abbrev pub command_of : Asked → Option Step
 command_of (asked.Command call) = Some (step.Command call)
 command_of _ = None
 
--- The commands that these lines ask for, in their order.
+-- The steps of the commands that these lines ask for, in their order.
 abbrev pub commands_of : List (List ℕ) → List Step
 commands_of [] = []
 commands_of (line ∷ lines) = cons_option (command_of (asked_of line)) (commands_of lines)

@@ -221,20 +221,37 @@ static LATE_MOMENTS: [&[u8]; 5] = [
 #[test]
 fn words_unknown_missing_or_left_over_make_a_bad_line(rt: HostRuntime) {
     for line in BAD_LINES {
-        assert_eq!(rt; read_line(line), Asked::BadLine);
+        assert_eq!(rt; read_line(line), Asked::BadLine, "{line:?}");
     }
 }
 
 #[test]
-fn names_are_looked_at_before_texts_and_moments_last(rt: HostRuntime) {
+fn names_are_looked_at_before_texts(rt: HostRuntime) {
     for line in BAD_NAMES {
-        assert_eq!(rt; read_line(line), Asked::Refused(Refusal::BadName));
+        assert_eq!(rt;
+            read_line(line),
+            Asked::Refused(Refusal::BadName),
+            "{line:?}"
+        );
     }
+}
+
+#[test]
+fn texts_are_looked_at_before_moments(rt: HostRuntime) {
     for line in BAD_TEXTS {
-        assert_eq!(rt; read_line(line), Asked::Refused(Refusal::BadText));
+        assert_eq!(rt;
+            read_line(line),
+            Asked::Refused(Refusal::BadText),
+            "{line:?}"
+        );
     }
+}
+
+#[test]
+fn a_moment_out_of_range_is_refused_last(rt: HostRuntime) {
     for line in LATE_MOMENTS {
-        assert_eq!(rt; read_line(line), Asked::Refused(Refusal::MomentOutOfRange));
+        let refused = Asked::Refused(Refusal::MomentOutOfRange);
+        assert_eq!(rt; read_line(line), refused, "{line:?}");
     }
 }
 

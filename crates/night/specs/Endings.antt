@@ -24,8 +24,10 @@ IsDemo (Stopped why) r0 r1 w0 w1 =
     ⊎ ((end : Session) × RunStops why opened end r0 r1 w0 w1)
 IsDemo WordsRefused r0 r1 w0 w1 = ⊥
 
--- How the program ends, by what its words ask for: help is printed, or can't be. It is printed by
--- the system's own call, beside the output of a run.
+-- How the program ends, by what its words ask for: a demo as a run does; help as done, or as a
+-- failed output; words that ask for nothing as refused, and where memory was wanting for them, by
+-- that. But for a demo a run's input and output are untouched: help goes out by another call, which
+-- no clause sees.
 abbrev pub IsEnding :
     Result Asked WordsFault → Outcome → (r0 r1 w0 w1 : Option (List ℕ)) → Type 0
 IsEnding (Ok Demo) outcome r0 r1 w0 w1 = IsDemo outcome r0 r1 w0 w1

@@ -14,7 +14,8 @@ pub enum Asked {
     Help(String),
 }
 
-/// Why words ask for nothing. It is printed whole, with its LF, on standard error.
+/// Why words ask for nothing. It is printed whole, with its LF, on standard error; `Memory` as the
+/// fault of that name.
 #[derive(Debug, Drop)]
 pub enum WordsFault {
     /// The words are no command of the program; the text says what is wrong, and what would be

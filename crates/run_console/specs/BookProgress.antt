@@ -54,7 +54,7 @@ pub record PartRan
   pub lasts : Lasts b c
   pub begun_is : begun ≡ kept (open_line before part)
 
--- One of the lines that an LF ends stopped.
+-- A fault stopped the run in one of the lines that an LF ends.
 pub record PartStopped
     (fault : RunFault) (before part : List ℕ) (b c : Book) (w0 w1 : Option (List ℕ))
     : Type 0 where

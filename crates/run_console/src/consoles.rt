@@ -30,8 +30,8 @@ use std::io::{Read, Write};
 /// At most one byte more is read than an input may have. Memory is taken for one reply at a time,
 /// and given back. At every exit the book is what the lines that were run made of it.
 ///
-/// Each reply is one call of the writer where that takes all of it. The writer isn't flushed, so it
-/// is to be one that keeps nothing back.
+/// Each reply is handed to the writer whole, by one call where the writer takes all of it. The
+/// writer isn't flushed: hand in one that keeps nothing back.
 pub fn run<A: Allocator, R: Read, W: Write, B: Allocator>(
     alloc: &A,
     input: &mut R,

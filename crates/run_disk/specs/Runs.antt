@@ -51,7 +51,8 @@ pub record LeavesOnly (P : List ℕ → Type 0) (old new : DiskState) : Type 0 w
   -- and so for moments before the run, where it is the later part of a longer one
   pub before : (t : ℕ) (x : List ℕ) → t ≤ old.clock → new.since t x → old.since t x ⊎ P x
 
--- Reads give the same behind the run, and at no moment of it a crash leaves anything more.
+-- Reads give the same behind the run, at no moment of it does a crash leave anything that one
+-- before it would not have left, and no more is unsure.
 pub record OnlyReads (old new : DiskState) : Type 0 where
   pub later : old.clock ≤ new.clock
   pub now : new.now ≡ old.now

@@ -496,6 +496,19 @@ fn size_and_memory_are_looked_at_before_any_read(rt: HostRuntime) -> Result<(), 
 }
 
 #[test]
+fn a_renewal_skips_a_batch_that_is_empty_or_too_long(rt: HostRuntime) -> Result<(), Fail> {
+    let alloc = rt.alloc();
+    for (count, calls) in [(0, 21), (1, 27), (262_138, 27), (262_139, 21)] {
+        let pending = vec![in alloc; 0xA7u8; count]?;
+        let mut body = body_of(OPENED);
+        let (stored, disk) = Journal::renew(alloc, formatted(&rt, alloc)?, &pending, &mut body);
+        assert_eq!(rt; stored?.image(), OPENED.as_slice(), "with {count} bytes");
+        assert_eq!(rt; disk.calls(), calls, "with {count} bytes");
+    }
+    Ok(())
+}
+
+#[test]
 fn a_renewal_tells_why_there_is_none(rt: HostRuntime) -> Result<(), Fail> {
     let alloc = rt.alloc();
     let mut body = body_of(OPENED);
