@@ -9,7 +9,7 @@ use Rattle.console_lines.specs.declared.faults.RunFault.TheVariants.{Input, Inpu
 use Rattle.console_lines.specs.Lines.{whole_lines, open_line, lines_of}
 use Rattle.console_lines.specs.Script.{reply, after_line, replies, after_lines, closing, script}
 use Rattle.console_lines.specs.Progress.{Ran, Stopped, StoppedAtEnd, EndStops, IsEndFront}
-use Rattle.console_lines.specs.Progress.{IsOfLine, IsOfReading, kept}
+use Rattle.console_lines.specs.Progress.{IsOfLine, kept}
 use Rattle.console_lines.specs.Progress.{ReadsAll, RunsAll, RunStops}
 use Rattle.console_lines.proofs.Cuts.{reply_kept, after_line_kept}
 use Rattle.console_lines.proofs.Splits.{whole_lines-append}
