@@ -18,7 +18,7 @@ const TIMEOUT_RECORDS: &[u8] = b"\x03\x00\x08\x00\x00\x00\x00\x00\x00\x03\xe8\
 
 #[test]
 fn deadlines_and_advances_are_recorded(rt: HostRuntime) -> Result<(), Fault> {
-    let mut book = LogBook::new(rt.alloc())?;
+    let mut book = LogBook::new(rt.alloc(), Layout::Small)?;
     let wish = deadline(&rt, 100, b"p");
     assert_eq!(rt; derive(&rt, &mut book, b"p", b"root", &wish), Ok(1));
     assert_eq!(rt; advance(&rt, &mut book, 1_704_074_400), Ok(()));
@@ -28,7 +28,7 @@ fn deadlines_and_advances_are_recorded(rt: HostRuntime) -> Result<(), Fault> {
 
 #[test]
 fn a_timeout_is_recorded_as_its_deadline(rt: HostRuntime) -> Result<(), Fault> {
-    let mut book = LogBook::new(rt.alloc())?;
+    let mut book = LogBook::new(rt.alloc(), Layout::Small)?;
     assert_eq!(rt; advance(&rt, &mut book, 1_000), Ok(()));
     assert_eq!(rt; derive(&rt, &mut book, b"t", b"root", &timeout(30)), Ok(1));
     assert!(rt; book.history().rest() == TIMEOUT_RECORDS);
@@ -38,7 +38,7 @@ fn a_timeout_is_recorded_as_its_deadline(rt: HostRuntime) -> Result<(), Fault> {
 
 #[test]
 fn equal_deadlines_pass_in_order_of_number(rt: HostRuntime) -> Result<(), Fault> {
-    let mut book = LogBook::new(rt.alloc())?;
+    let mut book = LogBook::new(rt.alloc(), Layout::Small)?;
     let (p, c) = (deadline(&rt, 100, b"p"), deadline(&rt, 100, b"c"));
     assert_eq!(rt; derive(&rt, &mut book, b"p", b"root", &p), Ok(1));
     assert_eq!(rt; derive(&rt, &mut book, b"c", b"p", &c), Ok(2));
@@ -53,7 +53,7 @@ fn equal_deadlines_pass_in_order_of_number(rt: HostRuntime) -> Result<(), Fault>
 
 #[test]
 fn deadlines_pass_in_order_of_moment(rt: HostRuntime) -> Result<(), Fault> {
-    let mut book = LogBook::new(rt.alloc())?;
+    let mut book = LogBook::new(rt.alloc(), Layout::Small)?;
     let (p, c) = (deadline(&rt, 150, b"p"), deadline(&rt, 100, b"c"));
     assert_eq!(rt; derive(&rt, &mut book, b"p", b"root", &p), Ok(1));
     assert_eq!(rt; derive(&rt, &mut book, b"c", b"p", &c), Ok(2));
@@ -68,7 +68,7 @@ fn deadlines_pass_in_order_of_moment(rt: HostRuntime) -> Result<(), Fault> {
 
 #[test]
 fn a_deadline_at_the_clock_is_exceeded_at_once(rt: HostRuntime) -> Result<(), Fault> {
-    let mut book = LogBook::new(rt.alloc())?;
+    let mut book = LogBook::new(rt.alloc(), Layout::Small)?;
     let now = 1_704_074_400;
     assert_eq!(rt; advance(&rt, &mut book, now), Ok(()));
     let at_now = Wish::Deadline(moment(&rt, now), None);
@@ -87,7 +87,7 @@ fn a_deadline_at_the_clock_is_exceeded_at_once(rt: HostRuntime) -> Result<(), Fa
 
 #[test]
 fn one_advance_passes_several_deadlines(rt: HostRuntime) -> Result<(), Fault> {
-    let mut book = LogBook::new(rt.alloc())?;
+    let mut book = LogBook::new(rt.alloc(), Layout::Small)?;
     // Number, name, parent, deadline; the cause is the scope's name.
     let rows = [
         (1, b"a", b"root".as_slice(), 300),
@@ -119,7 +119,7 @@ fn one_advance_passes_several_deadlines(rt: HostRuntime) -> Result<(), Fault> {
 
 #[test]
 fn a_cancelled_deadline_stays_cancelled(rt: HostRuntime) -> Result<(), Fault> {
-    let mut book = LogBook::new(rt.alloc())?;
+    let mut book = LogBook::new(rt.alloc(), Layout::Small)?;
     let wish = deadline(&rt, 100, b"late");
     assert_eq!(rt; derive(&rt, &mut book, b"t", b"root", &wish), Ok(1));
     let caused = cancel_by(&rt, &mut book, b"t", b"x");
@@ -132,7 +132,7 @@ fn a_cancelled_deadline_stays_cancelled(rt: HostRuntime) -> Result<(), Fault> {
 
 #[test]
 fn timeouts_reach_the_greatest_moment(rt: HostRuntime) -> Result<(), Fault> {
-    let mut book = LogBook::new(rt.alloc())?;
+    let mut book = LogBook::new(rt.alloc(), Layout::Small)?;
     assert_eq!(rt; advance(&rt, &mut book, 1_000), Ok(()));
     let past = Err(Refusal::MomentOutOfRange);
     // The clock and these seconds: past the greatest moment by 1, and past every number.
@@ -152,7 +152,7 @@ fn timeouts_reach_the_greatest_moment(rt: HostRuntime) -> Result<(), Fault> {
 
 #[test]
 fn timeouts_are_refused_in_order(rt: HostRuntime) -> Result<(), Fault> {
-    let mut book = LogBook::new(rt.alloc())?;
+    let mut book = LogBook::new(rt.alloc(), Layout::Small)?;
     let late = timeout(253_000_000_001);
     let derived = derive(&rt, &mut book, b"root", b"nowhere", &late);
     assert_eq!(rt; derived, Err(Refusal::NoSuchScope));

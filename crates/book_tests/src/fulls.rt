@@ -14,7 +14,7 @@ fn advance_through(rt: &impl Abort, book: &mut LogBook, last: u64) {
 
 #[test]
 fn a_full_log_takes_no_record(rt: HostRuntime) -> Result<(), Fault> {
-    let mut book = LogBook::new(rt.alloc())?;
+    let mut book = LogBook::new(rt.alloc(), Layout::Small)?;
     // One record of 12 bytes and 95,324 of 11 have 1,048,576 bytes.
     assert_eq!(rt;
         derive(&rt, &mut book, b"abcde", b"root", &Wish::Cancel),

@@ -8,7 +8,7 @@ use std::test::Fail;
 
 /// Why no book can be made over this heap, if none can. One that was made is given up again.
 fn fault_of(heap: &LocalHeap) -> Option<Fault> {
-    match LogBook::new(heap) {
+    match LogBook::new(heap, Layout::Small) {
         Ok(_) => None,
         Err(fault) => Some(fault),
     }
@@ -19,7 +19,7 @@ fn each_growth_can_be_refused(rt: HostRuntime) -> Result<(), Fail> {
     // What a whole book takes. Its log has 1,048,576 bytes, and its marks, which come last, have
     // 4,096: a scope's is an optional number of two bytes.
     let heap = LocalHeap::new(rt.alloc(), 4_000_000)?;
-    let book = LogBook::new(&heap)?;
+    let book = LogBook::new(&heap, Layout::Small)?;
     let whole = heap.used();
     drop(book);
     assert_eq!(rt; heap.used(), 0, "all was given back");
@@ -45,7 +45,7 @@ fn each_growth_can_be_refused(rt: HostRuntime) -> Result<(), Fail> {
 #[test]
 fn commands_take_no_memory(rt: HostRuntime) -> Result<(), Fail> {
     let heap = LocalHeap::new(rt.alloc(), 4_000_000)?;
-    let mut book = LogBook::new(&heap)?;
+    let mut book = LogBook::new(&heap, Layout::Small)?;
     let used = heap.used();
     let root = name(&rt, b"root");
     let (a, b) = (name(&rt, b"a"), name(&rt, b"b"));

@@ -16,7 +16,7 @@ const RECORDS: &[u8] =
 
 #[test]
 fn accepted_commands_are_recorded(rt: HostRuntime) -> Result<(), Fault> {
-    let mut book = LogBook::new(rt.alloc())?;
+    let mut book = LogBook::new(rt.alloc(), Layout::Small)?;
     assert_eq!(rt; derive(&rt, &mut book, b"a", b"root", &Wish::Cause), Ok(1));
     assert_eq!(rt; derive(&rt, &mut book, b"b", b"a", &Wish::Cancel), Ok(2));
     assert_eq!(rt; cancel_by(&rt, &mut book, b"a", b"disk"), Ok(()));
@@ -31,7 +31,7 @@ fn accepted_commands_are_recorded(rt: HostRuntime) -> Result<(), Fault> {
 
 #[test]
 fn a_cancel_reaches_the_scopes_below(rt: HostRuntime) -> Result<(), Fault> {
-    let mut book = LogBook::new(rt.alloc())?;
+    let mut book = LogBook::new(rt.alloc(), Layout::Small)?;
     assert_eq!(rt; derive(&rt, &mut book, b"a", b"root", &Wish::Cause), Ok(1));
     assert_eq!(rt; derive(&rt, &mut book, b"b", b"a", &Wish::Cancel), Ok(2));
     assert!(rt; is_live(&rt, &book, 2));
@@ -49,7 +49,7 @@ fn a_cancel_reaches_the_scopes_below(rt: HostRuntime) -> Result<(), Fault> {
 
 #[test]
 fn a_scope_that_is_done_stays_as_it_ended(rt: HostRuntime) -> Result<(), Fault> {
-    let mut book = LogBook::new(rt.alloc())?;
+    let mut book = LogBook::new(rt.alloc(), Layout::Small)?;
     assert_eq!(rt; derive(&rt, &mut book, b"a", b"root", &Wish::Cause), Ok(1));
     assert_eq!(rt; derive(&rt, &mut book, b"b", b"a", &Wish::Cause), Ok(2));
     assert_eq!(rt; cancel_by(&rt, &mut book, b"b", b"first"), Ok(()));
@@ -61,7 +61,7 @@ fn a_scope_that_is_done_stays_as_it_ended(rt: HostRuntime) -> Result<(), Fault> 
 
 #[test]
 fn a_cancel_without_a_cause_has_the_reason(rt: HostRuntime) -> Result<(), Fault> {
-    let mut book = LogBook::new(rt.alloc())?;
+    let mut book = LogBook::new(rt.alloc(), Layout::Small)?;
     assert_eq!(rt; derive(&rt, &mut book, b"a", b"root", &Wish::Cause), Ok(1));
     assert_eq!(rt; cancel(&rt, &mut book, b"a"), Ok(()));
     assert!(rt; is_cancelled_by(&rt, &book, 1, b"context canceled"));
@@ -70,7 +70,7 @@ fn a_cancel_without_a_cause_has_the_reason(rt: HostRuntime) -> Result<(), Fault>
 
 #[test]
 fn scopes_are_found_by_name(rt: HostRuntime) -> Result<(), Fault> {
-    let mut book = LogBook::new(rt.alloc())?;
+    let mut book = LogBook::new(rt.alloc(), Layout::Small)?;
     let a = name(&rt, b"a");
     assert_eq!(rt; book.find_scope(&a), None);
     assert_eq!(rt; derive(&rt, &mut book, b"a", b"root", &Wish::Cause), Ok(1));
@@ -84,7 +84,7 @@ fn scopes_are_found_by_name(rt: HostRuntime) -> Result<(), Fault> {
 
 #[test]
 fn history_gives_the_events(rt: HostRuntime) -> Result<(), Fault> {
-    let mut book = LogBook::new(rt.alloc())?;
+    let mut book = LogBook::new(rt.alloc(), Layout::Small)?;
     assert!(rt;
         book.history().next().is_none(),
         "the opening has no record"
@@ -109,7 +109,7 @@ fn history_gives_the_events(rt: HostRuntime) -> Result<(), Fault> {
 
 #[test]
 fn derives_are_refused_in_order(rt: HostRuntime) -> Result<(), Fault> {
-    let mut book = LogBook::new(rt.alloc())?;
+    let mut book = LogBook::new(rt.alloc(), Layout::Small)?;
     let missing = Err(Refusal::NoSuchScope);
     assert_eq!(rt;
         derive(&rt, &mut book, b"root", b"a", &Wish::Cause),
@@ -127,7 +127,7 @@ fn derives_are_refused_in_order(rt: HostRuntime) -> Result<(), Fault> {
 
 #[test]
 fn cancels_are_refused_in_order(rt: HostRuntime) -> Result<(), Fault> {
-    let mut book = LogBook::new(rt.alloc())?;
+    let mut book = LogBook::new(rt.alloc(), Layout::Small)?;
     assert_eq!(rt; derive(&rt, &mut book, b"a", b"root", &Wish::Cancel), Ok(1));
     assert_eq!(rt; cancel(&rt, &mut book, b"b"), Err(Refusal::NoSuchScope));
     assert_eq!(rt;
@@ -146,7 +146,7 @@ fn cancels_are_refused_in_order(rt: HostRuntime) -> Result<(), Fault> {
 
 #[test]
 fn commands(rt: HostRuntime) -> Result<(), Fault> {
-    let mut book = LogBook::new(rt.alloc())?;
+    let mut book = LogBook::new(rt.alloc(), Layout::Small)?;
     let derive = Command::Derive {
         name: name(&rt, b"a"),
         parent: name(&rt, b"root"),
@@ -169,7 +169,7 @@ fn commands(rt: HostRuntime) -> Result<(), Fault> {
 
 /// A line of as many scopes as there can be below root.
 fn longest_line(rt: &impl Abort, alloc: Global) -> Result<LogBook, Fail> {
-    let mut book = LogBook::new(alloc)?;
+    let mut book = LogBook::new(alloc, Layout::Small)?;
     let mut parent = name(rt, b"root");
     for n in 1..=1_023u16 {
         let called = format!(in alloc; "s{n}")?;

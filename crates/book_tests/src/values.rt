@@ -9,7 +9,7 @@ const RECORD: &[u8] = b"\x01\x00\x0f\x01v\x00\x00\x04\x06region\x02eu";
 
 #[test]
 fn a_detached_scope_lets_values_through_alone(rt: HostRuntime) -> Result<(), Fault> {
-    let mut book = LogBook::new(rt.alloc())?;
+    let mut book = LogBook::new(rt.alloc(), Layout::Small)?;
     let region = value(&rt, b"region", b"eu");
     assert_eq!(rt; derive(&rt, &mut book, b"v", b"root", &region), Ok(1));
     assert!(rt; book.history().rest() == RECORD);
@@ -30,7 +30,7 @@ fn a_detached_scope_lets_values_through_alone(rt: HostRuntime) -> Result<(), Fau
 
 #[test]
 fn the_nearest_value_is_found(rt: HostRuntime) -> Result<(), Fault> {
-    let mut book = LogBook::new(rt.alloc())?;
+    let mut book = LogBook::new(rt.alloc(), Layout::Small)?;
     let (eu, us) = (value(&rt, b"region", b"eu"), value(&rt, b"region", b"us"));
     let zone = value(&rt, b"zone", b"1");
     assert_eq!(rt; derive(&rt, &mut book, b"far", b"root", &eu), Ok(1));
@@ -54,7 +54,7 @@ fn the_nearest_value_is_found(rt: HostRuntime) -> Result<(), Fault> {
 
 #[test]
 fn a_value_is_not_cancelled(rt: HostRuntime) -> Result<(), Fault> {
-    let mut book = LogBook::new(rt.alloc())?;
+    let mut book = LogBook::new(rt.alloc(), Layout::Small)?;
     let region = value(&rt, b"region", b"eu");
     assert_eq!(rt; derive(&rt, &mut book, b"v", b"root", &region), Ok(1));
     assert_eq!(rt; derive(&rt, &mut book, b"d", b"v", &Wish::Detached), Ok(2));

@@ -28,7 +28,7 @@ pub enum Reply {
 
 impl Reply {
     /// The reply as it is written, with its LF. It fails only for want of memory.
-    pub fn to_line<'a, A: Allocator>(&self, alloc: &'a A) -> Result<String<&'a A>, AllocError>
+    pub fn to_line<A: Allocator>(&self, alloc: A) -> Result<String<A>, AllocError>
         ensures { IfOk result (λ line. string_bytes line ≡ reply_line self.now) }
     {
         format!(in alloc; "{self}\n")

@@ -8,9 +8,9 @@ use std::test::Fail;
 
 /// What is printed for an input over a new book.
 pub(crate) fn printed(alloc: Global, mut input: &[u8]) -> Result<Vec<u8>, Fail> {
-    let mut book = LogBook::new(alloc)?;
+    let mut book = LogBook::new(alloc, Layout::Small)?;
     let mut output = Vec::new(alloc);
-    run(&alloc, &mut input, &mut output, &mut book)?;
+    run(alloc, &mut input, &mut output, &mut book)?;
     Ok(output)
 }
 
@@ -106,11 +106,11 @@ fn a_line_is_any_bytes_but_the_line_feed(rt: HostRuntime) -> Result<(), Fail> {
         (b"\x80", b"bad line\n"),
         (b"scope root", b"live; deadline none\n"),
     ] {
-        let mut book = LogBook::new(rt.alloc())?;
+        let mut book = LogBook::new(rt.alloc(), Layout::Small)?;
         let mut output = Vec::new(rt.alloc());
-        line(&rt.alloc(), b"derive a root cause", &mut output, &mut book)?;
+        line(rt.alloc(), b"derive a root cause", &mut output, &mut book)?;
         output.clear();
-        line(&rt.alloc(), typed, &mut output, &mut book)?;
+        line(rt.alloc(), typed, &mut output, &mut book)?;
         assert_eq!(rt; output.as_slice(), wanted);
         assert_eq!(rt; book.count(), 2, "the line changed nothing");
     }
@@ -187,7 +187,7 @@ const RECORDS: &[u8] =
 #[test]
 fn lines_change_the_book(rt: HostRuntime) -> Result<(), Fail> {
     let alloc = rt.alloc();
-    let mut book = LogBook::new(alloc)?;
+    let mut book = LogBook::new(alloc, Layout::Small)?;
     let mut output = Vec::new(alloc);
     for typed in [
         b"derive a root cause".as_slice(),
@@ -196,7 +196,7 @@ fn lines_change_the_book(rt: HostRuntime) -> Result<(), Fail> {
         b"cancel a disk",
         b"cancel a again",
     ] {
-        line(&alloc, typed, &mut output, &mut book)?;
+        line(alloc, typed, &mut output, &mut book)?;
     }
     assert_eq!(rt;
         output.as_slice(),
@@ -214,16 +214,16 @@ fn lines_change_the_book(rt: HostRuntime) -> Result<(), Fail> {
 #[test]
 fn a_run_goes_on_where_the_last_one_ended(rt: HostRuntime) -> Result<(), Fail> {
     let alloc = rt.alloc();
-    let mut book = LogBook::new(alloc)?;
+    let mut book = LogBook::new(alloc, Layout::Small)?;
     let mut output = Vec::new(alloc);
     run(
-        &alloc,
+        alloc,
         &mut b"derive a root cause".as_slice(),
         &mut output,
         &mut book,
     )?;
     run(
-        &alloc,
+        alloc,
         &mut b"derive a root cause\nscope a".as_slice(),
         &mut output,
         &mut book,

@@ -322,7 +322,7 @@ fn how_a_scope_is_prints_its_end_and_its_deadline(rt: HostRuntime) -> Result<(),
 #[test]
 fn a_reply_is_written_with_its_line_feed(rt: HostRuntime) -> Result<(), Fail> {
     let alloc = rt.alloc();
-    assert_eq!(rt; Reply::Acked(4).to_line(&alloc)?.as_str(), "acked 4\n");
+    assert_eq!(rt; Reply::Acked(4).to_line(alloc)?.as_str(), "acked 4\n");
     Ok(())
 }
 

@@ -1,3 +1,5 @@
 pub mod Calls
+pub mod Fulls
 pub mod Nights
+pub mod Retries
 pub mod Rooms

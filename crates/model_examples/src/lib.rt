@@ -6,7 +6,9 @@
 #![tactic(auto)]
 
 pub mod bounds;
+pub mod fulls;
 pub mod groups;
 pub mod records;
+pub mod retries;
 pub mod scopes;
 pub mod sessions;

@@ -1,5 +1,6 @@
 -- How the program ends.
 use Rattle.std.specs.Prelude.{◌≡◌, ◌⊎◌, ℕ, List, Option, Result, Ok, Err}
+use Rattle.run_model.specs.declared.layouts.Layout.TheVariants.{Small}
 use Rattle.run_model.specs.Session.{Session, opened}
 use Rattle.console_lines.specs.declared.faults.RunFault.TheVariants as fault
 use Rattle.console_lines.specs.Progress.{RunStops, RunsAll}
@@ -18,10 +19,10 @@ IsUntouched r0 r1 w0 w1 = (r1 ≡ r0) × (w1 ≡ w0)
 -- How a run over a newly opened book ends: all lines of the input were run, or a fault stopped it.
 -- Where memory was wanting for the book itself, nothing was read and nothing was written.
 abbrev pub IsDemo : Outcome → (r0 r1 w0 w1 : Option (List ℕ)) → Type 0
-IsDemo Done r0 r1 w0 w1 = (end : Session) × RunsAll opened end r0 r1 w0 w1
+IsDemo Done r0 r1 w0 w1 = (end : Session) × RunsAll (opened Small) end r0 r1 w0 w1
 IsDemo (Stopped why) r0 r1 w0 w1 =
     ((why ≡ fault.Memory) × IsUntouched r0 r1 w0 w1)
-    ⊎ ((end : Session) × RunStops why opened end r0 r1 w0 w1)
+    ⊎ ((end : Session) × RunStops why (opened Small) end r0 r1 w0 w1)
 IsDemo WordsRefused r0 r1 w0 w1 = ⊥
 
 -- How the program ends, by what its words ask for: a demo as a run does; help as done, or as a

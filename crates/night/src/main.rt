@@ -10,6 +10,7 @@
 
 ghost use Rattle.std.specs.Prelude.{◌≡◌, ◌⊎◌, IfErr, OnOk};
 ghost use Rattle.std.specs.Process.{exit_status};
+ghost use Rattle.run_model.specs.declared.layouts.Layout.TheVariants.{Small};
 ghost use Rattle.run_model.specs.Session.{Session, opened};
 ghost use Rattle.console_lines.specs.Progress.{RunStops, RunsAll};
 ghost use Rattle.night_status.specs.Outcomes.{status_of};
@@ -20,6 +21,7 @@ use log_book::LogBook;
 use night_status::{Outcome, ShownFault};
 use night_words::{Asked, WordsFault, own_words, read_words};
 use run_console::run;
+use run_model::Layout;
 use std::alloc::Global;
 use std::env::Env;
 use std::io::{Read, Write};
@@ -72,19 +74,19 @@ fn asked<R: Env + AllocGlobal>(rt: &R) -> Result<Asked, WordsFault> {
 /// Runs the lines of the input over a book in memory, which was just opened. Where there is no
 /// memory for the book, nothing is read and nothing written.
 fn demo<R: Read, W: Write>(alloc: Global, input: &mut R, output: &mut W) -> Result<(), RunFault>
-    ensures all { OnOk result ((end : Session) × RunsAll opened end
+    ensures all { OnOk result ((end : Session) × RunsAll (opened Small) end
         (R.remaining input.old) (R.remaining input.new)
         (W.contents output.old) (W.contents output.new)) }
     ensures stops { IfErr result (λ fault.
         ((fault ≡ RunFault.Memory) × (input.new ≡ input.old) × (output.new ≡ output.old))
-        ⊎ ((end : Session) × RunStops fault opened end
+        ⊎ ((end : Session) × RunStops fault (opened Small) end
         (R.remaining input.old) (R.remaining input.new)
         (W.contents output.old) (W.contents output.new))) }
 {
-    let Ok(mut book) = LogBook::new(alloc) else {
+    let Ok(mut book) = LogBook::new(alloc, Layout::Small) else {
         return Err(RunFault::Memory);
     };
-    run(&alloc, input, output, &mut book)
+    run(alloc, input, output, &mut book)
 }
 
 /// Prints a text on standard output.

@@ -32,8 +32,8 @@ use std::io::{Read, Write};
 ///
 /// Each reply is handed to the writer whole, by one call where the writer takes all of it. The
 /// writer isn't flushed: hand in one that keeps nothing back.
-pub fn run<A: Allocator, R: Read, W: Write, B: Allocator>(
-    alloc: &A,
+pub fn run<A: Allocator + Copy, R: Read, W: Write, B: Allocator>(
+    alloc: A,
     input: &mut R,
     output: &mut W,
     book: &mut LogBook<B>,
@@ -63,8 +63,8 @@ pub fn run<A: Allocator, R: Read, W: Write, B: Allocator>(
 ///
 /// The line is run also where its reply can't be written (`Output`), or there is no memory for it
 /// (`Memory`). Of the reply a front is written, not all of it, and nothing where memory is wanting.
-pub fn line<A: Allocator, W: Write, B: Allocator>(
-    alloc: &A,
+pub fn line<A: Allocator + Copy, W: Write, B: Allocator>(
+    alloc: A,
     bytes: &[u8],
     output: &mut W,
     book: &mut LogBook<B>,
@@ -86,8 +86,8 @@ pub fn line<A: Allocator, W: Write, B: Allocator>(
 }
 
 /// Runs the last line, which no LF ends, and writes the closing line.
-fn finish<A: Allocator, W: Write, B: Allocator>(
-    alloc: &A,
+fn finish<A: Allocator + Copy, W: Write, B: Allocator>(
+    alloc: A,
     last: &[u8],
     output: &mut W,
     book: &mut LogBook<B>,

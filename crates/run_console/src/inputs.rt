@@ -27,8 +27,8 @@ const KEPT: usize = LONGEST_LINE + 1;
 pub type OpenLine = ArrayVec<u8, KEPT>;
 
 /// Runs each line as soon as its LF is read, to the end of the input, and keeps the last line.
-pub fn run_whole_lines<A: Allocator, R: Read, W: Write, B: Allocator>(
-    alloc: &A,
+pub fn run_whole_lines<A: Allocator + Copy, R: Read, W: Write, B: Allocator>(
+    alloc: A,
     input: &mut R,
     output: &mut W,
     book: &mut LogBook<B>,
@@ -62,8 +62,8 @@ pub fn run_whole_lines<A: Allocator, R: Read, W: Write, B: Allocator>(
 
 /// Runs the lines that end in this part of the input, and keeps the line that it begins. What was
 /// begun before it is kept already.
-fn run_part<A: Allocator, W: Write, B: Allocator>(
-    alloc: &A,
+fn run_part<A: Allocator + Copy, W: Write, B: Allocator>(
+    alloc: A,
     part: &[u8],
     output: &mut W,
     book: &mut LogBook<B>,

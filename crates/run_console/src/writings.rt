@@ -12,8 +12,8 @@ use std::alloc::Allocator;
 use std::io::Write;
 
 /// Writes a reply, as one line. Nothing of it is written where there is no memory for it.
-pub fn write_reply<A: Allocator, W: Write>(
-    alloc: &A,
+pub fn write_reply<A: Allocator + Copy, W: Write>(
+    alloc: A,
     reply: &Reply,
     output: &mut W,
 ) -> Result<(), RunFault>

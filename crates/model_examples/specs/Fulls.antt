@@ -1,0 +1,43 @@
+-- Sessions that have as many scopes, groups or tasks as there can be, or one fewer.
+use Rattle.std.specs.Prelude.{ℕ, ◌-◌, true, List, [], ◌∷◌, ◌++◌, Some, None, codes, replicate}
+use Rattle.run_model.specs.declared.scopes.Kind.TheVariants as kind
+use Rattle.run_model.specs.declared.groups.Group.{Group}
+use Rattle.run_model.specs.declared.layouts.Layout.{Layout}
+use Rattle.run_model.specs.Rows.{root, new_scope, new_group, new_task}
+use Rattle.run_model.specs.State.{TreeState, WorkState}
+use Rattle.run_model.specs.Session.{Session}
+
+-- A tree of so many scopes: root, and others below it.
+abbrev pub scopes_in : Layout → ℕ → TreeState
+scopes_in layout n = record {
+  layout = layout;
+  clock = 0;
+  scopes = root ∷ replicate (n - 1) (new_scope (codes "s") 0 kind.Cancel);
+}
+
+-- Three groups: one was waited for, one is open, and the limit of one is 1.
+abbrev pub three_groups : List Group
+three_groups =
+    record (new_group (codes "waited") 0 true) { waited = true }
+    ∷ new_group (codes "open") 0 true
+    ∷ record (new_group (codes "limited") 0 true) { limit = Some 1 }
+    ∷ []
+
+-- So many groups, these three first, and so many tasks of the last of the three. None was started.
+abbrev pub work_in : Layout → (groups tasks : ℕ) → WorkState
+work_in layout groups tasks = record {
+  layout = layout;
+  groups = three_groups ++ replicate (groups - 3) (new_group (codes "more") 0 true);
+  tasks = replicate tasks (new_task 2 (codes "copy") (codes "a") None);
+}
+
+-- A session with so many scopes, groups and tasks, and with an empty log.
+abbrev pub session_in : Layout → (scopes groups tasks : ℕ) → Session
+session_in layout scopes groups tasks = record {
+  state = record {
+    count = 1;
+    tree = scopes_in layout scopes;
+    work = work_in layout groups tasks;
+  };
+  log = 0;
+}
