@@ -5,7 +5,7 @@ use crate::calls::{
     is_live, moment, timeout,
 };
 use log_book::LogBook;
-use run_model::{Fault, Refusal, Wish};
+use run_model::{Fault, Layout, Refusal, Wish};
 
 /// The records of the format's examples: a scope with a deadline, and an advance.
 const RECORDS: &[u8] = b"\x01\x00\x0f\x01p\x00\x00\x03\x00\x00\x00\x00\x00\x00\x00\x64\x01p\

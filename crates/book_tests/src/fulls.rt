@@ -2,7 +2,7 @@
 
 use crate::calls::{advance, cancel, cancel_by, derive, is_live, timeout};
 use log_book::LogBook;
-use run_model::{Fault, Refusal, Wish};
+use run_model::{Fault, Layout, Refusal, Wish};
 use std::process::Abort;
 
 /// Advances the clock by one second at a time, from 1 to the last.

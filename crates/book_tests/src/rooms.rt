@@ -3,7 +3,7 @@
 use crate::calls::{moment, name, value};
 use linked_list_allocator::LocalHeap;
 use log_book::LogBook;
-use run_model::{Fault, Wish};
+use run_model::{Fault, Layout, Refusal, Wish};
 use std::test::Fail;
 
 /// Why no book can be made over this heap, if none can. One that was made is given up again.
@@ -43,19 +43,25 @@ fn each_growth_can_be_refused(rt: HostRuntime) -> Result<(), Fail> {
 }
 
 #[test]
-fn commands_take_no_memory(rt: HostRuntime) -> Result<(), Fail> {
-    let heap = LocalHeap::new(rt.alloc(), 4_000_000)?;
-    let mut book = LogBook::new(&heap, Layout::Small)?;
-    let used = heap.used();
-    let root = name(&rt, b"root");
-    let (a, b) = (name(&rt, b"a"), name(&rt, b"b"));
-    let region = value(&rt, b"region", b"eu");
-    assert_eq!(rt; book.derive(&a, &root, &Wish::Cancel), Ok(1));
-    assert_eq!(rt; book.derive(&b, &a, &region), Ok(2));
-    assert_eq!(rt; book.cancel(&a, None), Ok(()));
-    assert_eq!(rt; book.advance(moment(&rt, 5)), Ok(()));
-    assert!(rt; book.look(2).is_some());
-    assert!(rt; book.value(2, &name(&rt, b"region")).is_some());
-    assert_eq!(rt; heap.used(), used);
+fn no_memory_is_taken_once_a_book_is_made(rt: HostRuntime) -> Result<(), Fail> {
+    for layout in [Layout::Small, Layout::Large] {
+        let ample = LocalHeap::new(rt.alloc(), 8_000_000)?;
+        let whole = LogBook::new(&ample, layout)?;
+        // The book fills this heap to its last byte.
+        let heap = LocalHeap::new(rt.alloc(), ample.used())?;
+        drop(whole);
+        let mut book = LogBook::new(&heap, layout)?;
+        assert!(rt; Vec::<u8, _>::with_capacity(&heap, 1).is_err());
+        let root = name(&rt, b"root");
+        let (a, b) = (name(&rt, b"a"), name(&rt, b"b"));
+        let region = value(&rt, b"region", b"eu");
+        assert!(rt; book.derive(&a, &root, &Wish::Cancel) == Ok(1));
+        assert!(rt; book.derive(&b, &a, &region) == Ok(2));
+        assert!(rt; book.cancel(&a, None) == Ok(()));
+        assert!(rt; book.cancel(&a, None) == Err(Refusal::AlreadyDone));
+        assert!(rt; book.advance(moment(&rt, 5)) == Ok(()));
+        assert!(rt; book.look(2).is_some());
+        assert!(rt; book.value(2, &name(&rt, b"region")).is_some());
+    }
     Ok(())
 }

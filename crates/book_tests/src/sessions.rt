@@ -5,7 +5,7 @@ use crate::calls::{
 };
 use log_book::LogBook;
 use record_view::{EventView, KindView};
-use run_model::{Answer, Command, Fault, Refusal, Wish};
+use run_model::{Answer, Command, Fault, Layout, Refusal, Wish};
 use std::alloc::Global;
 use std::process::Abort;
 use std::test::Fail;

@@ -2,7 +2,7 @@
 
 use crate::calls::{cancel_by, deadline_of, derive, has_value, is_cancelled_by, is_live, value};
 use log_book::LogBook;
-use run_model::{Fault, Refusal, Wish};
+use run_model::{Fault, Layout, Refusal, Wish};
 
 /// The record of the format's examples: a scope with a value.
 const RECORD: &[u8] = b"\x01\x00\x0f\x01v\x00\x00\x04\x06region\x02eu";

@@ -2,7 +2,7 @@
 
 use log_book::LogBook;
 use run_console::{line, run};
-use run_model::Reason;
+use run_model::{Layout, Reason};
 use std::alloc::Global;
 use std::test::Fail;
 

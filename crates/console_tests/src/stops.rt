@@ -5,6 +5,7 @@ use crate::writers::{CountingWriter, End, EndingWriter};
 use linked_list_allocator::LocalHeap;
 use log_book::LogBook;
 use run_console::{RunFault, line, run};
+use run_model::Layout;
 use std::alloc::{AllocError, Global};
 use std::cell::Cell;
 use std::test::Fail;

@@ -5,7 +5,7 @@ ghost use Rattle.std.specs.Prelude.{◌<◌};
 
 use crate::plain::Plain;
 use crate::runners::Runner;
-use run_model::{Kind, Moment, Name, Text};
+use run_model::{Kind, Layout, Moment, Name, Text};
 use std::alloc::Global;
 use std::process::Abort;
 use std::test::Fail;
@@ -171,7 +171,7 @@ impl Pair {
 fn compare(rt: &impl Abort, alloc: Global, shape: Shape) -> Result<(), Fail> {
     let mut dice = Dice { state: 2_026 };
     let mut pair = Pair {
-        runner: Runner::new(alloc)?,
+        runner: Runner::new(alloc, Layout::Small)?,
         plain: Plain::new(alloc, name(b"root")?, moment(0)?)?,
     };
     for n in 1..1_024 {
