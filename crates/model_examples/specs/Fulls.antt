@@ -1,7 +1,10 @@
--- Sessions that have as many scopes, groups or tasks as there can be, or one fewer.
+-- Sessions that have as many scopes, groups or tasks as there can be, or one fewer. Their names
+-- aren't distinct, so no store keeps them, but the definitions answer them all.
 use Rattle.std.specs.Prelude.{ℕ, ◌-◌, true, List, [], ◌∷◌, ◌++◌, Some, None, codes, replicate}
 use Rattle.run_model.specs.declared.scopes.Kind.TheVariants as kind
 use Rattle.run_model.specs.declared.groups.Group.{Group}
+use Rattle.run_model.specs.declared.commands.Wish.{Wish}
+use Rattle.run_model.specs.declared.commands.Wish.TheVariants as wish
 use Rattle.run_model.specs.declared.layouts.Layout.{Layout}
 use Rattle.run_model.specs.Rows.{root, new_scope, new_group, new_task}
 use Rattle.run_model.specs.State.{TreeState, WorkState}
@@ -41,3 +44,7 @@ session_in layout scopes groups tasks = record {
   };
   log = 0;
 }
+
+-- A timeout that leads past the greatest moment.
+abbrev pub past_moments : Wish
+past_moments = wish.Timeout 253000000001 None

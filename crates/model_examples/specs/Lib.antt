@@ -3,3 +3,4 @@ pub mod Fulls
 pub mod Nights
 pub mod Retries
 pub mod Rooms
+pub mod Runs

@@ -35,6 +35,10 @@ retried_once =
     ∷ (retry 3, refused refusal.NoSuchTask)
     ∷ []
 
+-- The store once its first task is retried.
+abbrev pub retried_store : Session
+retried_store = after_night one_interrupted retried_once
+
 -- The retry is started behind the task before it.
 abbrev pub retry_started : Night
 retry_started =
@@ -51,8 +55,9 @@ retried_again =
     ∷ (retry 2, refused refusal.AlreadyRetried)
     ∷ []
 
--- A group that was waited for or not, whose first task is at this stage and whose second task has
--- this link, with so many more tasks; and a log of so many bytes.
+-- A group with two tasks and so many more, and a log of so many bytes. The first task is at this
+-- stage; the second has this link. No store keeps each of these states, but the definitions answer
+-- them all.
 abbrev pub two_tasks : (waited : Bool) → Stage → (link : Option ℕ) → (more log : ℕ) → Session
 two_tasks waited stage link more log = record {
   state = record {

@@ -10,5 +10,6 @@ pub mod fulls;
 pub mod groups;
 pub mod records;
 pub mod retries;
+pub mod runs;
 pub mod scopes;
 pub mod sessions;

@@ -10,7 +10,7 @@ ghost use Rattle.model_examples.specs.Nights.{equal_deadlines, child_deadline_fi
 ghost use Rattle.model_examples.specs.Nights.{deadlines_at_the_clock, timeout_past_all_moments};
 ghost use Rattle.model_examples.specs.Nights.{deadline_of_a_done_scope};
 ghost use Rattle.model_examples.specs.Nights.{nested_deadlines, nested_values, orders_of_refusals};
-ghost use Rattle.model_examples.specs.Nights.{deadlines_round_a_detached_scope};
+ghost use Rattle.model_examples.specs.Nights.{deadlines_round_a_detached_scope, value_between};
 
 /// A cancelled parent ends its child, which has the parent's cause.
 pub fn a_child_has_its_parents_cause()
@@ -19,6 +19,13 @@ pub fn a_child_has_its_parents_cause()
     ensures cause { cause_after parent_cancelled 2 ≡ Some (codes "disk") }
     ensures deadline { deadline_after parent_cancelled 2 ≡ None }
     ensures count { (state_of parent_cancelled).count ≡ 4 }
+{}
+
+/// A value scope stops no cancellation.
+pub fn a_value_scope_is_done_with_its_parent()
+    ensures answers { IsAnswered value_between }
+    ensures value { cause_after value_between 2 ≡ Some (codes "stop") }
+    ensures below { cause_after value_between 3 ≡ Some (codes "stop") }
 {}
 
 /// A child that was cancelled first keeps its own cause when its parent is cancelled.

@@ -67,6 +67,8 @@ scope_restarted p s row =
 -- The second state is the first one after a restart.
 pub record IsRestart (p q : State) : Type 0 where
   pub counted : q.count ≡ p.count + 1
+  pub tree_layout : q.tree.layout ≡ p.tree.layout
+  pub work_layout : q.work.layout ≡ p.work.layout
   pub clock : q.tree.clock ≡ p.tree.clock
   pub none_running : (n : ℕ) → is_running_task q.work n ≡ false
   pub tasks : q.work.tasks ≡ map task_restarted p.work.tasks
