@@ -19,8 +19,8 @@ flushes image batches a b s0 s1 s2 first second =
     leaves_only_more (HasEither image batches image (batches ++ a ∷ []))
     (HasEither image (batches ++ a ∷ []) image ((batches ++ a ∷ []) ++ b ∷ []))
     (HasUpToTwoMore image batches a b) s0 s1 s2 first second
-    (λ x e. elim e [ | inl p ↦ inl p | inr p ↦ inr (inl p) ])
-    (λ x e. elim e [ | inl p ↦ inr (inl p) | inr p ↦ inr (inr p) ])
+    (λ x e. elim e [ inl p ↦ inl p | inr p ↦ inr (inl p) ])
+    (λ x e. elim e [ inl p ↦ inr (inl p) | inr p ↦ inr (inr p) ])
 
 pub two_calls : (image : List ℕ) (batches : List (List ℕ)) (a b fresh c : List ℕ)
     (s0 s1 s2 : DiskState)
@@ -44,7 +44,7 @@ three_calls image batches a b fresh c s0 s1 s2 s3 first second third =
     (HasOneInRow image batches a b fresh c) s0 s2 s3
     (flushes image batches a b s0 s1 s2 first second) third
     (λ x e. inl e)
-    (λ x e. elim e [ | inl p ↦ inl (inr (inr p)) | inr p ↦ inr (inl p) ])
+    (λ x e. elim e [ inl p ↦ inl (inr (inr p)) | inr p ↦ inr (inl p) ])
 
 -- and a third flush
 pub four_calls : (image : List ℕ) (batches : List (List ℕ)) (a b fresh c : List ℕ)
@@ -59,7 +59,7 @@ four_calls image batches a b fresh c s0 s1 s2 s3 s4 first second third fourth =
     (HasOneInRow image batches a b fresh c) s0 s3 s4
     (three_calls image batches a b fresh c s0 s1 s2 s3 first second third) fourth
     (λ x e. e)
-    (λ x e. elim e [ | inl p ↦ inr (inl p) | inr p ↦ inr (inr p) ])
+    (λ x e. elim e [ inl p ↦ inr (inl p) | inr p ↦ inr (inr p) ])
 
 -- zeros, by their places
 pub all_zero : (contents : List ℕ) → All (λ byte. byte ≡ 0) contents → AreZeros contents

@@ -4,8 +4,8 @@ use run_disk::MemoryDisk;
 use run_journal::Journal;
 use run_model::{Fault, Layout};
 use run_store::{place_of_segment, segment_size, slot_size};
-use store_laws::laws::{open_store, use_new_store_in_memory};
 use std::test::Fail;
+use store_laws::laws::{open_store, use_new_store_in_memory};
 
 /// How many bytes a slot and a segment have, and where the segments begin.
 static SIZES: [(Layout, u64, u64, [u64; 2]); 2] = [
@@ -37,8 +37,16 @@ fn a_row_of_calls_ends_in_its_last_pair(rt: HostRuntime) -> Result<(), Fail> {
         assert_eq!(rt; disk.calls(), 39, "in {layout:?}");
         let stored = Journal::recover(alloc, &mut disk)?;
         assert_eq!(rt; stored.image(), b"next".as_slice(), "in {layout:?}");
-        assert_eq!(rt; stored.batches().next(), Some(b"three".as_slice()), "in {layout:?}");
-        assert_eq!(rt; (stored.generation(), stored.tail()), (1, 10), "in {layout:?}");
+        assert_eq!(rt;
+            stored.batches().next(),
+            Some(b"three".as_slice()),
+            "in {layout:?}"
+        );
+        assert_eq!(rt;
+            (stored.generation(), stored.tail()),
+            (1, 10),
+            "in {layout:?}"
+        );
     }
     Ok(())
 }

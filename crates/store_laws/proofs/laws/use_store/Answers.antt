@@ -21,8 +21,9 @@ returns-in-Ok-clause-any_moment g c honest rest image batches pair =
     (c.in_ok-journal.ensures.reads honest)
     (λ x there. inl (inl (subst (HasPair image batches) (sym (rest.only x there)) pair))) in
     let to_write : LeavesOnly row (state c.args.disk) (state written.disk) =
-    leaves_only_more row row row (state c.args.disk) (state opened.disk) (state written.disk) to_open
-    (c.write_row.ensures.any_moment honest_opened image batches kept) (λ x is. is) (λ x is. is) in
+    leaves_only_more row row row (state c.args.disk) (state opened.disk) (state written.disk)
+    to_open (c.write_row.ensures.any_moment honest_opened image batches kept) (λ x is. is)
+    (λ x is. is) in
     let more = c.args.c.now ∷ [] in
     let is = c.into_disk-in-Ok.ensures in
     let back = c.into_disk-in-Ok.result in
@@ -72,7 +73,8 @@ returns-in-Err-clause-any_moment g c honest rest image batches pair =
     (c.in_ok-journal.ensures.reads honest)
     (λ x there. inl (inl (subst (HasPair image batches) (sym (rest.only x there)) pair))) in
     let to_write : LeavesOnly row (state c.args.disk) (state written.disk) =
-    leaves_only_more row row row (state c.args.disk) (state opened.disk) (state written.disk) to_open
-    (c.write_row.ensures.any_moment honest_opened image batches kept) (λ x is. is) (λ x is. is) in
+    leaves_only_more row row row (state c.args.disk) (state opened.disk) (state written.disk)
+    to_open (c.write_row.ensures.any_moment honest_opened image batches kept) (λ x is. is)
+    (λ x is. is) in
     subst (λ d. LeavesOnly row (state c.args.disk) (state d)) (sym c.into_disk-in-Err.ensures)
     to_write
