@@ -1,4 +1,5 @@
-//! Tests of the store, layer by layer: disks, segments, slots, and the journal over them.
+//! Tests of the store, layer by layer: disks, segments, slots, the places of both layouts, and the
+//! journal over them.
 #![tactic(auto)]
 
 #[cfg(test)]
@@ -9,3 +10,5 @@ mod journals;
 mod segments;
 #[cfg(test)]
 mod slots;
+#[cfg(test)]
+mod stores;

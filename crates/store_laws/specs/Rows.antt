@@ -1,0 +1,33 @@
+-- What a store has while it is written: its pairs, one after another.
+use Rattle.std.specs.Prelude.{◌⊎◌, ◌++◌, ◌∷◌, [], List, ℕ, Result, Ok, Err}
+use Rattle.run_model.specs.declared.faults.Fault.{Fault}
+use Rattle.run_store.specs.Stores.{HasPair}
+use Rattle.run_journal.specs.Journals.{JournalView}
+use Rattle.run_journal.specs.Pairs.{HasNoPairBut}
+
+-- A pair, or it with one batch more, or with two.
+abbrev pub HasUpToTwoMore :
+    List ℕ → List (List ℕ) → List ℕ → List ℕ → List ℕ → Type 0
+HasUpToTwoMore image batches a b contents =
+    HasPair image batches contents
+    ⊎ HasPair image (batches ++ a ∷ []) contents
+    ⊎ HasPair image ((batches ++ a ∷ []) ++ b ∷ []) contents
+
+-- One of those, or in their place a new image with no batch, or with one.
+abbrev pub HasOneInRow :
+    List ℕ → List (List ℕ) → List ℕ → List ℕ → List ℕ → List ℕ → List ℕ → Type 0
+HasOneInRow image batches a b fresh c contents =
+    HasUpToTwoMore image batches a b contents
+    ⊎ HasPair fresh [] contents
+    ⊎ HasPair fresh (c ∷ []) contents
+
+-- What a format over zeros and that row behind it leave.
+abbrev pub HasOneInNewRow :
+    List ℕ → List ℕ → List ℕ → List ℕ → List ℕ → List ℕ → Type 0
+HasOneInNewRow image a b fresh c contents =
+    HasNoPairBut image contents ⊎ HasOneInRow image [] a b fresh c contents
+
+-- The disk that an answer gives back, in a journal or alone.
+abbrev pub disk_in : {D : Type 0} → Result (JournalView D) (Fault × D) → D
+disk_in (Ok journal) = journal.disk
+disk_in (Err stopped) = stopped.1
