@@ -14,6 +14,7 @@ use Rattle.run_model.specs.State.{new_work}
 use Rattle.run_model.specs.Tasks.{is_running}
 use Rattle.run_model.specs.WorkChanges.{after_wait}
 use Rattle.task_group.specs.declared.seats.Seats.{Seats}
+use Rattle.task_group.specs.Admitting.{AdmitsOldest}
 use Rattle.task_group.specs.Flags.{flags_after}
 use Rattle.task_group.specs.Kept.{Kept, SeatsOf, entered, linked, left, no_seats}
 use Rattle.task_group.specs.Sound.{AreKept}
@@ -21,6 +22,7 @@ use Rattle.task_group.specs.Tasks.{Work, admits, unfinished_in, is_running_task}
 use Rattle.task_group.specs.Trees.{with_flag}
 use Rattle.run_model.specs.Rows.{at_row}
 use Rattle.task_group.specs.Work.{End, finished, group_of, limited, made, stage_after, started, submitted}
+use Rattle.task_group.proofs.Admitting.{end_admits}
 use Rattle.task_group.proofs.Flaggings.{flagged_none, flagged_pushed, flagged_staged, running_less}
 use Rattle.task_group.proofs.Flaggings.{running_more, running_pushed, ended_rests, fresh_rests}
 use Rattle.task_group.proofs.Leaves.{start_kept, end_kept}
@@ -122,7 +124,7 @@ start_keeps w n t seats next ready count flags s less k = record {
   flagged = flagged_staged stage.Running n w.tasks flags k.flagged;
 }
 
-runs_now : (w : Work) (n : ℕ) (t : Task) → is_running_task w n ≡ true
+pub runs_now : (w : Work) (n : ℕ) (t : Task) → is_running_task w n ≡ true
     → slice_get w.tasks n ≡ Some t → is_running t.stage ≡ true
 runs_now w n t run found =
     sym (ap (λ o. option_map_or (λ task. is_running task.stage) o false) found) ∙ run
@@ -165,3 +167,13 @@ end_keeps w n o t seats next ready count flags r k run found first =
       running = (let was = k.running in omega (arith, less, was));
       flagged = flagged_staged o.stage n w.tasks flags k.flagged;
     }
+
+pub end_admits_oldest : (w : Work) (n : ℕ) (o : End) (t : Task) (seats : List Seats)
+    (next : List (Option ℕ)) → Kept w seats next → is_running_task w n ≡ true
+    → slice_get w.tasks n ≡ Some t → AdmitsOldest w n (finished n o w)
+end_admits_oldest w n o t seats next kept run found =
+    let known : t.group < length seats =
+    (let g = kept.sound.grouped n t found in let size = kept.as_groups in omega arith) in
+    let s = row_found seats t.group known in
+    end_admits w (finished n o w) n t (stage_after o) s.0 (its_end w n o t kept.sound run found)
+    (kept.right t.group s.0 s.1)
