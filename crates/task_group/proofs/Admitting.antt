@@ -1,9 +1,8 @@
 -- An end admits the oldest held task of its group, in the words of the phases.
-use Rattle.std.proofs.Common.{◌≡◌, ◌≢◌, ◌<◌, ◌≤◌, ◌==◌, ◌&&◌, ◌+◌, List, ℕ, Bool, true, false, cond, length, Option}
-use Rattle.std.proofs.Common.{Some, None, slice_get, inl, inr, refl, sym, ap, subst, ◌∙◌, arith}
-use Rattle.std.specs.Prelude.{not}
+use Rattle.std.proofs.Common.{◌≡◌, ◌≢◌, ◌<◌, ◌&&◌, List, ℕ, Bool, true, false}
+use Rattle.std.proofs.Common.{cond, length, Option}
+use Rattle.std.proofs.Common.{Some, None, slice_get, refl, sym, ap, subst, ◌∙◌, arith}
 use Rattle.std.specs.Option.{option_map, option_map_or}
-use Rattle.std.proofs.lemmas.Bool.{cases_eq}
 use Rattle.run_model.specs.declared.tasks.Phase.{Phase}
 use Rattle.run_model.specs.declared.tasks.Phase.TheVariants as phase
 use Rattle.run_model.specs.declared.tasks.Stage.{Stage}
@@ -15,9 +14,9 @@ use Rattle.run_model.specs.WorkChanges.{group_of_task}
 use Rattle.task_group.specs.declared.seats.Seats.{Seats}
 use Rattle.task_group.specs.Admitting.{AdmitsOldest, IsOldestHeld, phase_new}
 use Rattle.task_group.specs.Kept.{IsNext, SeatsOf}
-use Rattle.task_group.specs.Tasks.{Work, is_admitted, is_fresh, is_held, is_ready, phase_of}
-use Rattle.task_group.specs.Work.{fresh_task, submitted}
-use Rattle.task_group.proofs.Admits.{HeldTask, held_is, is_held_from, ready_at}
+use Rattle.task_group.proofs.Words.{Work, is_admitted, is_fresh, is_held}
+use Rattle.task_group.proofs.Words.{fresh_task, submitted}
+use Rattle.task_group.proofs.Admits.{held_is, is_held_from, ready_at}
 use Rattle.task_group.proofs.Bridges.{phase_same}
 use Rattle.task_group.proofs.Ends.{Ends, Stays, oldest_admitted, task_there}
 use Rattle.task_group.proofs.Starts.{go_new, slice_get_end}
@@ -44,7 +43,8 @@ held_by stage.Success b e = absurd cc
 held_by (stage.Failure text) b e = absurd cc
 held_by stage.Interrupted b e = absurd cc
 
-by_fresh : (s : Stage) (b : Bool) → is_fresh s ≡ true → phase_by b s ≡ cond b phase.Ready phase.Held
+by_fresh : (s : Stage) (b : Bool) → is_fresh s ≡ true → phase_by b s ≡ cond b phase.Ready
+    phase.Held
 by_fresh stage.Fresh b e = refl
 by_fresh stage.Running b e = absurd cc
 by_fresh stage.Success b e = absurd cc
@@ -55,11 +55,11 @@ row_of : (w : Work) (n : ℕ) (p : Phase) → model.phase_of w n ≡ Some p
     → (t : Task) × (slice_get w.tasks n ≡ Some t) × (phase_by (is_admitted w n t) t.stage ≡ p)
 row_of w n p is = by (slice_get w.tasks n) refl (sym (phase_same w n) ∙ is)
   where
-  by : (o : Option Task) → slice_get w.tasks n ≡ o
-      → option_map (λ task. phase_by (is_admitted w n task) task.stage) o ≡ Some p
-      → (t : Task) × (slice_get w.tasks n ≡ Some t) × (phase_by (is_admitted w n t) t.stage ≡ p)
-  by None e is = absurd cc
-  by (Some t) e is = (t, e, cc)
+    by : (o : Option Task) → slice_get w.tasks n ≡ o
+        → option_map (λ task. phase_by (is_admitted w n task) task.stage) o ≡ Some p
+        → (t : Task) × (slice_get w.tasks n ≡ Some t) × (phase_by (is_admitted w n t) t.stage ≡ p)
+    by None e is = absurd cc
+    by (Some t) e is = (t, e, cc)
 
 -- The two ways to say that a task is held.
 to_held : (w : Work) (g n : ℕ) → model.phase_of w n ≡ Some phase.Held → group_of_task w n ≡ g
@@ -78,11 +78,10 @@ to_held w g n is of =
 from_held : (w : Work) (g n : ℕ) → is_held w g n ≡ true
     → (model.phase_of w n ≡ Some phase.Held) × (group_of_task w n ≡ g)
 from_held w g n held =
-    let t = held_is w g n held in
-    (
+    let t = held_is w g n held in (
       phase_at w n t.0 t.1.found
-      ∙ ap Some (by_fresh t.0.stage (is_admitted w n t.0) t.1.fresh
-      ∙ ap (λ b. cond b phase.Ready phase.Held) t.1.waits),
+          ∙ ap Some (by_fresh t.0.stage (is_admitted w n t.0) t.1.fresh
+          ∙ ap (λ b. cond b phase.Ready phase.Held) t.1.waits),
       group_at w n t.0 t.1.found ∙ t.1.group,
     )
 
@@ -109,19 +108,20 @@ same_phase : (w v : Work) (n : ℕ) (t : Task) (s : Stage) → Ends w n t s v �
     → Stays w v m → model.phase_of v m ≡ model.phase_of w m
 same_phase w v n t s e m apart stay = by (slice_get w.tasks m) refl
   where
-  none_of : (u : Work) → slice_get u.tasks m ≡ None → model.phase_of u m ≡ None
-  none_of u e =
-      phase_same u m
-      ∙ ap (option_map (λ task. phase_by (is_admitted u m task) task.stage)) e
-  by : (o : Option Task) → slice_get w.tasks m ≡ o → model.phase_of v m ≡ model.phase_of w m
-  by None here = none_of v (task_there w v n t s e m apart ∙ here) ∙ sym (none_of w here)
-  by (Some x) here =
-      let there : slice_get v.tasks m ≡ Some x = task_there w v n t s e m apart ∙ here in
-      phase_at v m x there
-      ∙ ap Some
-          (same_by x.stage (is_admitted v m x) (is_admitted w m x)
-          (sym (ready_at v m x there) ∙ stay.ready ∙ ready_at w m x here))
-      ∙ sym (phase_at w m x here)
+    none_of : (u : Work) → slice_get u.tasks m ≡ None → model.phase_of u m ≡ None
+    none_of u e =
+        phase_same u m
+        ∙ ap (option_map (λ task. phase_by (is_admitted u m task) task.stage)) e
+
+    by : (o : Option Task) → slice_get w.tasks m ≡ o → model.phase_of v m ≡ model.phase_of w m
+    by None here = none_of v (task_there w v n t s e m apart ∙ here) ∙ sym (none_of w here)
+    by (Some x) here =
+        let there : slice_get v.tasks m ≡ Some x = task_there w v n t s e m apart ∙ here in
+        phase_at v m x there
+        ∙ ap Some
+        (same_by x.stage (is_admitted v m x) (is_admitted w m x)
+        (sym (ready_at v m x there) ∙ stay.ready ∙ ready_at w m x here))
+        ∙ sym (phase_at w m x here)
 
 -- The oldest held task is ready.
 now_ready : (w v : Work) (n : ℕ) (t : Task) (s : Stage) → Ends w n t s v → (h : ℕ)
@@ -138,15 +138,17 @@ now_ready w v n t s e h o =
     let ready : (is_fresh x.0.stage && is_admitted v h x.0) ≡ true =
     sym (ready_at v h x.0 there) ∙ now.0 in
     phase_at v h x.0 there
-    ∙ ap Some (same_by x.0.stage (is_admitted v h x.0) true (ready ∙ sym (fresh_true x.0.stage x.1.fresh))
+    ∙ ap Some (same_by x.0.stage (is_admitted v h x.0) true (ready
+    ∙ sym (fresh_true x.0.stage x.1.fresh))
     ∙ by_fresh x.0.stage true x.1.fresh)
   where
-  fresh_true : (q : Stage) → is_fresh q ≡ true → (is_fresh q && true) ≡ true
-  fresh_true q f = rw f refl
-  by_test : (j : ℕ) → j < h → (b : Bool) → is_held w t.group j ≡ b → is_held w t.group j ≡ false
-  by_test j less true is =
-      (let both = from_held w t.group j is in absurd (o.oldest j less both.1 both.0))
-  by_test j less false is = is
+    fresh_true : (q : Stage) → is_fresh q ≡ true → (is_fresh q && true) ≡ true
+    fresh_true q f = rw f refl
+
+    by_test : (j : ℕ) → j < h → (b : Bool) → is_held w t.group j ≡ b → is_held w t.group j ≡ false
+    by_test j less true is =
+        (let both = from_held w t.group j is in absurd (o.oldest j less both.1 both.0))
+    by_test j less false is = is
 
 pub end_admits : (w v : Work) (n : ℕ) (t : Task) (s : Stage) (x : Seats) → Ends w n t s v
     → SeatsOf w t.group x → AdmitsOldest w n v
@@ -159,15 +161,15 @@ end_admits w v n t s x e r =
           by m apart (λ o. other (subst (λ g. IsOldestHeld w g m) (sym group) o)) x.first r.first;
     }
   where
-  by : (m : ℕ) → m ≢ n → (IsOldestHeld w t.group m → ⊥) → (o : Option ℕ)
-      → IsNext (is_held w t.group) 0 o → model.phase_of v m ≡ model.phase_of w m
-  by m apart other None none =
-      same_phase w v n t s e m apart (calm_stays w v n t s e (calm_from w t.group none) m)
-  by m apart other (Some h) least =
-      let o = oldest_from w t.group h least in
-      same_phase w v n t s e m apart
-      (oldest_stays w v n t s e h o m
-      (λ (same : m ≡ h). other (oldest_to w t.group m (subst (Oldest w t.group) (sym same) o))))
+    by : (m : ℕ) → m ≢ n → (IsOldestHeld w t.group m → ⊥) → (o : Option ℕ)
+        → IsNext (is_held w t.group) 0 o → model.phase_of v m ≡ model.phase_of w m
+    by m apart other None none =
+        same_phase w v n t s e m apart (calm_stays w v n t s e (calm_from w t.group none) m)
+    by m apart other (Some h) least =
+        let o = oldest_from w t.group h least in
+        same_phase w v n t s e m apart
+        (oldest_stays w v n t s e h o m
+        (λ (same : m ≡ h). other (oldest_to w t.group m (subst (Oldest w t.group) (sym same) o))))
 
 -- ---- a new task
 
@@ -179,4 +181,4 @@ new_phase w g job argument tried =
     let found : slice_get v.tasks (length w.tasks) ≡ Some row = slice_get_end w.tasks row in
     phase_at v (length w.tasks) row found
     ∙ ap (λ b. Some (cond b phase.Ready phase.Held))
-        (sym (ready_at v (length w.tasks) row found) ∙ (go_new w g job argument tried).0)
+    (sym (ready_at v (length w.tasks) row found) ∙ (go_new w g job argument tried).0)

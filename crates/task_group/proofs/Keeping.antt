@@ -1,9 +1,10 @@
 -- What each call keeps: the counters, lists, queue and flags say what the rows say.
-use Rattle.std.proofs.Common.{◌≡◌, ◌+◌, ◌-◌, ◌<◌, ◌≤◌, ◌++◌, ◌∷◌, [], ℕ, Bool, true, false, List, length}
-use Rattle.std.proofs.Common.{Option, Some, None, slice_get, refl, sym, ap, ◌∙◌, arith}
+use Rattle.std.proofs.Common.{◌≡◌, ◌+◌, ◌-◌, ◌<◌, ◌≤◌, ◌++◌, ◌∷◌, [], ℕ, Bool, true, false, List}
+use Rattle.std.proofs.Common.{length}
+use Rattle.std.proofs.Common.{Option, Some, slice_get, refl, sym, ap, ◌∙◌, arith}
 use Rattle.std.specs.Prelude.{slice_set, replicate}
 use Rattle.std.specs.Option.{IfSome, option_map_or}
-use Rattle.std.proofs.lemmas.Option.{slice_get_within, slice_get_past}
+use Rattle.std.proofs.lemmas.Option.{slice_get_within}
 use Rattle.run_model.specs.declared.bounds.TheConstants.{MOST_GROUPS}
 use Rattle.run_model.specs.declared.groups.Group.{Group}
 use Rattle.run_model.specs.declared.layouts.Layout.{Layout}
@@ -16,12 +17,13 @@ use Rattle.run_model.specs.WorkChanges.{after_wait}
 use Rattle.task_group.specs.declared.seats.Seats.{Seats}
 use Rattle.task_group.specs.Admitting.{AdmitsOldest}
 use Rattle.task_group.specs.Flags.{flags_after}
-use Rattle.task_group.specs.Kept.{Kept, SeatsOf, entered, linked, left, no_seats}
+use Rattle.task_group.specs.Kept.{Kept, entered, linked, left, no_seats}
 use Rattle.task_group.specs.Sound.{AreKept}
-use Rattle.task_group.specs.Tasks.{Work, admits, unfinished_in, is_running_task}
+use Rattle.task_group.proofs.Words.{Work, admits, unfinished_in, is_running_task}
 use Rattle.task_group.specs.Trees.{with_flag}
 use Rattle.run_model.specs.Rows.{at_row}
-use Rattle.task_group.specs.Work.{End, finished, group_of, limited, made, stage_after, started, submitted}
+use Rattle.task_group.proofs.Words.{End, finished, group_of, limited, made, stage_after, started}
+use Rattle.task_group.proofs.Words.{submitted}
 use Rattle.task_group.proofs.Admitting.{end_admits}
 use Rattle.task_group.proofs.Flaggings.{flagged_none, flagged_pushed, flagged_staged, running_less}
 use Rattle.task_group.proofs.Flaggings.{running_more, running_pushed, ended_rests, fresh_rests}
@@ -97,9 +99,9 @@ pub go_keeps : (w : Work) (g : ℕ) (job argument : List ℕ) (tried : Option �
     → length w.tasks < most_tasks w.layout → IfSome tried (λ m. m < length w.tasks)
     → b ≡ admits row.limit s.unfinished
     → AreKept (submitted g job argument tried w)
-        (at_row (entered b (length w.tasks)) g seats)
-        (linked b s.first s.last (length w.tasks) next) (slice_set ready (length w.tasks) b) count
-        (flags_after tried flags)
+    (at_row (entered b (length w.tasks)) g seats)
+    (linked b s.first s.last (length w.tasks) next) (slice_set ready (length w.tasks) b) count
+    (flags_after tried flags)
 go_keeps w g job argument tried seats next ready count flags s row b k here at room known e =
     let lets = lets_in w g s row b (k.seated.right g s here) at e in
     record {
@@ -136,7 +138,7 @@ pub end_less : (w : Work) (n : ℕ) (o : End) (t : Task) (seats : List Seats)
     → slice_get w.tasks n ≡ Some t → 1 ≤ count
 end_less w n o t seats next ready count flags k run found =
     let less = running_less o.stage n w.tasks t found (runs_now w n t run found)
-        (ended_rests o.stage o.done) in
+    (ended_rests o.stage o.done) in
     let was = k.running in
     omega arith
 
@@ -146,7 +148,7 @@ pub end_keeps : (w : Work) (n : ℕ) (o : End) (t : Task) (seats : List Seats)
     → slice_get w.tasks n ≡ Some t
     → ((s : Seats) → slice_get seats t.group ≡ Some s → r ≡ s.first)
     → AreKept (finished n o w) (at_row (left next) t.group seats) next (with_flag r ready)
-        (count - 1) flags
+    (count - 1) flags
 end_keeps w n o t seats next ready count flags r k run found first =
     let e = its_end w n o t k.seated.sound run found in
     let known : t.group < length seats =
@@ -154,7 +156,7 @@ end_keeps w n o t seats next ready count flags r k run found first =
     let s = row_found seats t.group known in
     let right = k.seated.right t.group s.0 s.1 in
     let less = running_less o.stage n w.tasks t found (runs_now w n t run found)
-        (ended_rests o.stage o.done) in
+    (ended_rests o.stage o.done) in
     record {
       seated =
           end_kept w (finished n o w) n t (stage_after o) e

@@ -1,7 +1,8 @@
 -- No change undoes the end of a task or the first error of a group.
-use Rattle.std.proofs.Common.{◌≡◌, ◌≢◌, ◌++◌, ◌∷◌, [], ℕ, Bool, true, false, List, length, Option, Some}
-use Rattle.std.proofs.Common.{None, slice_get, inl, inr, refl, sym, ap, ◌∙◌, arith}
-use Rattle.std.specs.Option.{option_and_then, option_map, option_map_or}
+use Rattle.std.proofs.Common.{◌≡◌, ◌++◌, ◌∷◌, [], ℕ, true, false, List, Option}
+use Rattle.std.proofs.Common.{Some}
+use Rattle.std.proofs.Common.{None, slice_get, inl, inr, refl, sym, ap, ◌∙◌}
+use Rattle.std.specs.Option.{option_and_then, option_map}
 use Rattle.std.proofs.lemmas.Bool.{cases_eq}
 use Rattle.std.proofs.lemmas.Option.{slice_get_within}
 use Rattle.run_model.specs.declared.groups.Group.{Group}
@@ -11,11 +12,13 @@ use Rattle.run_model.specs.declared.tasks.Task.{Task}
 use Rattle.run_model.specs.Rows.{at_row, or_else}
 use Rattle.run_model.specs.State.{WorkState}
 use Rattle.run_model.specs.Tasks.{is_running, is_unfinished}
-use Rattle.run_model.specs.WorkChanges.{after_wait, groups_after, with_error, with_stage, with_wait}
-use Rattle.task_group.specs.Lasting.{EndsStay, first_error}
-use Rattle.task_group.specs.Work.{End, finished, limited, made, started, submitted, fresh_task, group_of}
+use Rattle.run_model.specs.WorkChanges.{after_wait, groups_after, with_error, with_stage}
+use Rattle.run_model.specs.WorkChanges.{with_wait}
+use Rattle.task_group.specs.Lasting.{EndsStay}
+use Rattle.task_group.proofs.Words.{End, finished, limited, made, started, submitted, fresh_task}
+use Rattle.task_group.proofs.Words.{group_of}
 use Rattle.task_group.proofs.Ranks.{at_row_here, at_row_there}
-use Rattle.task_group.proofs.Starts.{Starts, slice_get_left}
+use Rattle.task_group.proofs.Starts.{slice_get_left}
 
 pub stay_all : (w : WorkState) → EndsStay w w
 stay_all w = record { tasks = λ n row found done. found; errors = λ g text is. is }
@@ -33,11 +36,11 @@ error_row : (groups : List Group) (g : ℕ) (text : List ℕ)
     → (row : Group) × (slice_get groups g ≡ Some row) × (row.error ≡ Some text)
 error_row groups g text is = by (slice_get groups g) refl is
   where
-  by : (o : Option Group) → slice_get groups g ≡ o
-      → option_and_then (λ group. group.error) o ≡ Some text
-      → (row : Group) × (slice_get groups g ≡ Some row) × (row.error ≡ Some text)
-  by None e is = absurd cc
-  by (Some row) e is = (row, e, is)
+    by : (o : Option Group) → slice_get groups g ≡ o
+        → option_and_then (λ group. group.error) o ≡ Some text
+        → (row : Group) × (slice_get groups g ≡ Some row) × (row.error ≡ Some text)
+    by None e is = absurd cc
+    by (Some row) e is = (row, e, is)
 
 -- The row of one group is changed, and keeps an error that it has.
 errors_at : (change : Group → Group) (h : ℕ) (groups : List Group)

@@ -1,7 +1,9 @@
 -- A tree of flags: the least leaf is found on the way down, and a change is mended on the way up.
-use Rattle.std.proofs.Common.{◌≡◌, ◌≢◌, ◌<◌, ◌≤◌, ℕ, zero, suc, ◌+◌, ◌-◌, ◌/◌, ◌%◌, Bool, true, false, ◌||◌, List}
-use Rattle.std.proofs.Common.{length, drop, cond, Option, Some, None, inl, inr, refl, sym, ap, ◌∙◌, arith}
-use Rattle.std.specs.Prelude.{◌⊎◌, replicate, slice_index_or, slice_set}
+use Rattle.std.proofs.Common.{◌≡◌, ◌≢◌, ◌<◌, ◌≤◌, ℕ, zero, suc, ◌+◌, ◌-◌, ◌/◌, ◌%◌, Bool, true}
+use Rattle.std.proofs.Common.{false, ◌||◌, List}
+use Rattle.std.proofs.Common.{length, drop, cond, Some, None, inl, inr, refl, sym, ap}
+use Rattle.std.proofs.Common.{◌∙◌, arith}
+use Rattle.std.specs.Prelude.{◌⊎◌, replicate, slice_set}
 use Rattle.std.proofs.lemmas.Bool.{cases_eq, cases_lt}
 use Rattle.std.proofs.lemmas.List.{get_or-drop, get_or_past, get_or-set_same, get_or-set_other}
 use Rattle.std.proofs.lemmas.List.{drop-replicate, get_or-replicate, length-replicate, length-set}
@@ -67,7 +69,7 @@ all_down leaves nodes right (suc h) k low high down j from to =
     let next = first_next h (k + k) in
     let wide = first_last h (k + k + 1) in
     let both = neither (is_up nodes (k + k)) (is_up nodes (k + k + 1))
-        (sym down ∙ right k low (omega arith)) in
+    (sym down ∙ right k low (omega arith)) in
     elim (cases_lt (last_leaf h (k + k)) j) [
       | inl past ↦ all_down leaves nodes right h (k + k + 1) (omega arith) (omega arith) both.1 j
           (omega arith) to
@@ -112,50 +114,54 @@ pub way_goes_on : (leaves node : ℕ) (nodes : List Bool) → IsTree leaves node
     → IsOnWay leaves node nodes → node < leaves → IsOnWay leaves (way_down nodes node) nodes
 way_goes_on leaves node nodes t w less = by w.levels w.from w.to w.none
   where
-  by_left : (h : ℕ) → leaves ≤ first_leaf h (node + node)
-      → last_leaf h (node + node + 1) < leaves + leaves
-      → ((k : ℕ) → leaves ≤ k → k < first_leaf h (node + node) → is_up nodes k ≡ false)
-      → (b : Bool) → is_up nodes (node + node) ≡ b
-      → IsOnWay leaves (cond b (node + node) (node + node + 1)) nodes
-  by_left h from to none true e = record {
-    levels = h;
-    low = (let low = w.low in omega arith);
-    from = from;
-    to = (let next = first_next h (node + node) in let wide = first_last h (node + node + 1) in omega arith);
-    up = e;
-    none = none;
-  }
-  by_left h from to none false e =
-      let next = first_next h (node + node) in
-      let wide = first_last h (node + node + 1) in
-      let low = w.low in
-      record {
-        levels = h;
-        low = omega arith;
-        from = (let left = first_last h (node + node) in omega arith);
-        to = to;
-        up = the_other (is_up nodes (node + node)) (is_up nodes (node + node + 1))
-            (sym w.up ∙ t.right node low less) e;
-        none =
-            λ k f l.
-            elim (cases_lt k (first_leaf h (node + node))) [
-              | inl before ↦ none k f before
-              | inr here ↦ all_down leaves nodes t.right h (node + node) (omega arith) (omega arith)
-                  e k here (omega arith)
-            ];
-      }
-  by : (h : ℕ) → leaves ≤ first_leaf h node → last_leaf h node < leaves + leaves
-      → ((k : ℕ) → leaves ≤ k → k < first_leaf h node → is_up nodes k ≡ false)
-      → IsOnWay leaves (way_down nodes node) nodes
-  by zero from to none = absurd (omega arith)
-  by (suc h) from to none = by_left h from to none (is_up nodes (node + node)) refl
+    by_left : (h : ℕ) → leaves ≤ first_leaf h (node + node)
+        → last_leaf h (node + node + 1) < leaves + leaves
+        → ((k : ℕ) → leaves ≤ k → k < first_leaf h (node + node) → is_up nodes k ≡ false)
+        → (b : Bool) → is_up nodes (node + node) ≡ b
+        → IsOnWay leaves (cond b (node + node) (node + node + 1)) nodes
+    by_left h from to none true e = record {
+      levels = h;
+      low = (let low = w.low in omega arith);
+      from = from;
+      to =
+          (let next = first_next h (node + node) in let wide = first_last h (node + node + 1) in
+          omega arith);
+      up = e;
+      none = none;
+    }
+    by_left h from to none false e =
+        let next = first_next h (node + node) in
+        let wide = first_last h (node + node + 1) in
+        let low = w.low in
+        record {
+          levels = h;
+          low = omega arith;
+          from = (let left = first_last h (node + node) in omega arith);
+          to = to;
+          up = the_other (is_up nodes (node + node)) (is_up nodes (node + node + 1))
+              (sym w.up ∙ t.right node low less) e;
+          none =
+              λ k f l.
+              elim (cases_lt k (first_leaf h (node + node))) [
+                | inl before ↦ none k f before
+                | inr here ↦ all_down leaves nodes t.right h (node + node) (omega arith)
+                    (omega arith)
+                    e k here (omega arith)
+              ];
+        }
+
+    by : (h : ℕ) → leaves ≤ first_leaf h node → last_leaf h node < leaves + leaves
+        → ((k : ℕ) → leaves ≤ k → k < first_leaf h node → is_up nodes k ≡ false)
+        → IsOnWay leaves (way_down nodes node) nodes
+    by zero from to none = absurd (omega arith)
+    by (suc h) from to none = by_left h from to none (is_up nodes (node + node)) refl
 
 pub way_more : (nodes : List Bool) (node : ℕ) → 1 ≤ node → node < way_down nodes node
 way_more nodes node low = by (is_up nodes (node + node))
   where
-  by : (b : Bool) → node < cond b (node + node) (node + node + 1)
-  by true = omega arith
-  by false = omega arith
+    by : (b : Bool) → node < cond b (node + node) (node + node + 1)
+    by true = omega arith
+    by false = omega arith
 
 pub way_within : (leaves node : ℕ) (nodes : List Bool) → IsOnWay leaves node nodes
     → node < leaves + leaves
@@ -171,7 +177,7 @@ way_ends leaves node nodes w past n at = (
   λ k low less.
       get_or-drop leaves nodes k false
       ∙ w.none (leaves + k) (omega arith)
-          (let more = first_more w.levels node in omega arith),
+      (let more = first_more w.levels node in omega arith),
 )
 
 -- Where the root's flag is down, no number is in.
@@ -179,18 +185,18 @@ pub none_in : (leaves : ℕ) (nodes : List Bool) → IsTree leaves nodes → is_
     → IsNext (is_up (drop leaves nodes)) 0 None
 none_in leaves nodes t down = λ k low. get_or-drop leaves nodes k false ∙ there k
   where
-  there : (k : ℕ) → is_up nodes (leaves + k) ≡ false
-  there k =
-      elim (cases_lt (leaves + k) (leaves + leaves)) [
-        | inl within ↦
-            (let twice : first_leaf t.levels 2 ≡ first_leaf t.levels 1 + first_leaf t.levels 1 =
-            first_sum t.levels 1 1 in
-            let next : first_leaf t.levels 2 ≡ last_leaf t.levels 1 + 1 = first_next t.levels 1 in
-            let even = t.even in
-            all_down leaves nodes t.right t.levels 1 (omega arith)
-            (last_of_all leaves t.levels t.even) down (leaves + k) (omega arith) (omega arith))
-        | inr past ↦ get_or_past nodes (leaves + k) false (let size = t.size in omega arith)
-      ]
+    there : (k : ℕ) → is_up nodes (leaves + k) ≡ false
+    there k =
+        elim (cases_lt (leaves + k) (leaves + leaves)) [
+          | inl within ↦
+              (let twice : first_leaf t.levels 2 ≡ first_leaf t.levels 1 + first_leaf t.levels 1 =
+              first_sum t.levels 1 1 in
+              let next : first_leaf t.levels 2 ≡ last_leaf t.levels 1 + 1 = first_next t.levels 1 in
+              let even = t.even in
+              all_down leaves nodes t.right t.levels 1 (omega arith)
+              (last_of_all leaves t.levels t.even) down (leaves + k) (omega arith) (omega arith))
+          | inr past ↦ get_or_past nodes (leaves + k) false (let size = t.size in omega arith)
+        ]
 
 pub some_leaves : (leaves : ℕ) (nodes : List Bool) → IsTree leaves nodes → 1 ≤ leaves
 some_leaves leaves nodes t =
@@ -238,18 +244,21 @@ one_up leaves node p nodes b t low high above e = record {
       ];
 }
   where
-  within : p < length nodes
-  within = (let size = t.size in omega arith)
-  mended : IsRight (slice_set nodes p b) p
-  mended =
-      let a = get_or-set_same nodes p b false within in
-      let l = get_or-set_other nodes p (p + p) b false (λ q. omega (arith, q, low)) in
-      let r = get_or-set_other nodes p (p + p + 1) b false (λ q. omega (arith, q, low)) in
-      rw (a, l, r) e
-  not_left : (k : ℕ) → k ≢ p → k + k ≢ node
-  not_left k apart q = elim above [ inl l ↦ apart (omega arith) | inr r ↦ absurd (omega arith) ]
-  not_right : (k : ℕ) → k ≢ p → k + k + 1 ≢ node
-  not_right k apart q = elim above [ inl l ↦ absurd (omega arith) | inr r ↦ apart (omega arith) ]
+    within : p < length nodes
+    within = (let size = t.size in omega arith)
+
+    mended : IsRight (slice_set nodes p b) p
+    mended =
+        let a = get_or-set_same nodes p b false within in
+        let l = get_or-set_other nodes p (p + p) b false (λ q. omega (arith, q, low)) in
+        let r = get_or-set_other nodes p (p + p + 1) b false (λ q. omega (arith, q, low)) in
+        rw (a, l, r) e
+
+    not_left : (k : ℕ) → k ≢ p → k + k ≢ node
+    not_left k apart q = elim above [ inl l ↦ apart (omega arith) | inr r ↦ absurd (omega arith) ]
+
+    not_right : (k : ℕ) → k ≢ p → k + k + 1 ≢ node
+    not_right k apart q = elim above [ inl l ↦ absurd (omega arith) | inr r ↦ apart (omega arith) ]
 
 pub all_mended : (leaves node : ℕ) (old nodes : List Bool) → IsTree leaves old
     → IsTreeBut leaves node nodes → node ≤ 1 → IsTree leaves nodes
@@ -258,7 +267,9 @@ all_mended leaves node old nodes t but top = record {
   size = but.size;
   levels = t.levels;
   even = t.even;
-  right = λ k low high. but.right k low high (λ e. omega (arith, e, low, top)) (λ e. omega (arith, e, low, top));
+  right =
+      λ k low high. but.right k low high (λ e. omega (arith, e, low, top))
+      (λ e. omega (arith, e, low, top));
 }
 
 -- The number above a node is half of its own.
@@ -268,7 +279,7 @@ halved n =
 
 -- ---- a new tree
 
-down_new : (n k : ℕ) → is_up (replicate n false) k ≡ false
+pub down_new : (n k : ℕ) → is_up (replicate n false) k ≡ false
 down_new n k =
     elim (cases_lt k n) [
       | inl less ↦ get_or-replicate n k false false less

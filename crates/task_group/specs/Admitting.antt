@@ -16,7 +16,8 @@ pub record IsOldestHeld (w : WorkState) (g h : ℕ) : Type 0 where
 -- Task n has ended: the oldest held task of its group is ready, and every other task is as far as
 -- it was.
 pub record AdmitsOldest (old : WorkState) (n : ℕ) (new : WorkState) : Type 0 where
-  pub oldest : (h : ℕ) → IsOldestHeld old (group_of_task old n) h → phase_of new h ≡ Some phase.Ready
+  pub oldest : (h : ℕ) → IsOldestHeld old (group_of_task old n) h
+      → phase_of new h ≡ Some phase.Ready
   pub others : (m : ℕ) → m ≢ n → (IsOldestHeld old (group_of_task old n) m → ⊥)
       → phase_of new m ≡ phase_of old m
 

@@ -6,11 +6,10 @@ use Rattle.run_model.specs.declared.layouts.Layout.{Layout}
 use Rattle.run_model.specs.declared.tasks.Task.{Task}
 use Rattle.run_model.specs.Layouts.{most_tasks}
 use Rattle.run_model.specs.State.{WorkState}
-use Rattle.run_model.specs.Tasks.{running_count}
+use Rattle.run_model.specs.Tasks.{is_ready, running_count}
 use Rattle.task_group.specs.declared.seats.Seats.{Seats}
 use Rattle.task_group.specs.Flags.{AreFlagged}
 use Rattle.task_group.specs.Kept.{Kept}
-use Rattle.task_group.specs.Tasks.{is_ready}
 use Rattle.task_group.specs.Trees.{is_up}
 
 -- These rows of a store of this layout.
@@ -24,7 +23,8 @@ pub record AreQueued (w : WorkState) (flags : List Bool) : Type 0 where
 
 -- The counters, the lists of held tasks, the queue, the number of running tasks and the flags of
 -- the retried ones say what the rows say.
-pub record AreKept (w : WorkState) (seats : List Seats) (next : List (Option ℕ)) (ready : List Bool)
+pub record AreKept (w : WorkState) (seats : List Seats) (next : List (Option ℕ))
+    (ready : List Bool)
     (count : ℕ) (flags : List Bool) : Type 0 where
   pub seated : Kept w seats next
   pub queued : AreQueued w ready

@@ -1,5 +1,6 @@
-use Rattle.std.proofs.Common.{◌≡◌, ◌+◌, ◌-◌, refl, sym, subst, arith}
-use Rattle.task_group.proofs.Trees.{IsOnWay, none_in, some_leaves, way_from_root, way_goes_on, way_ends}
+use Rattle.std.proofs.Common.{◌-◌, sym, subst, arith}
+use Rattle.task_group.proofs.Trees.{IsOnWay, none_in, some_leaves, way_from_root, way_goes_on}
+use Rattle.task_group.proofs.Trees.{way_ends}
 use Rattle.task_group.proofs.queue.least.Goals as goal
 
 pub bounds-nodes-1 : goal.bounds-nodes-1

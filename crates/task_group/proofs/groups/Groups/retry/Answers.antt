@@ -1,4 +1,4 @@
-use Rattle.std.proofs.Common.{◌≡◌, length, Some, refl, sym, ap, ◌∙◌}
+use Rattle.std.proofs.Common.{length, Some, refl, sym, ap, ◌∙◌}
 use Rattle.std.proofs.lemmas.Option.{slice_get_read}
 use Rattle.run_model.specs.Allowed.{is_open}
 use Rattle.task_group.specs.Admitting.{phase_new}
@@ -13,7 +13,7 @@ submit-requires-clause-open g c =
     let row = c.index-row.result.now in
     let may = retry_may w c.args.task (rw (← c.self.view_is) at c.requires.accepted) in
     let found = slice_get_read s.tasks.items (length s.tasks.items) c.args.task row refl may.known
-        c.index-row.ensures in
+    c.index-row.ensures in
     rw (← c.self.view_is) (ap (is_open w) (sym (group_is w c.args.task row found)) ∙ may.opened)
 
 pub returns-clause-after : goal.returns-clause-after
@@ -23,7 +23,7 @@ returns-clause-after g c =
     let row = c.index-row.result.now in
     let may = retry_may w c.args.task (rw (← c.self.view_is) at c.requires.accepted) in
     let found = slice_get_read s.tasks.items (length s.tasks.items) c.args.task row refl may.known
-        c.index-row.ensures in
+    c.index-row.ensures in
     rw (c.submit.ensures.after, c.copy-job.ensures, c.copy-argument.ensures)
     (rw (← c.self.view_is) (retried_is w c.args.task row found))
 
@@ -34,7 +34,7 @@ returns-clause-phase g c =
     let row = c.index-row.result.now in
     let may = retry_may w c.args.task (rw (← c.self.view_is) at c.requires.accepted) in
     let found = slice_get_read s.tasks.items (length s.tasks.items) c.args.task row refl may.known
-        c.index-row.ensures in
+    c.index-row.ensures in
     c.submit.ensures.phase
     ∙ rw (← c.self.view_is)
-        (ap (λ k. Some (phase_new w k)) (sym (group_is w c.args.task row found)))
+    (ap (λ k. Some (phase_new w k)) (sym (group_is w c.args.task row found)))

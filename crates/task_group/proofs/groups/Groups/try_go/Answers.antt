@@ -1,4 +1,4 @@
-use Rattle.std.proofs.Common.{◌≡◌, Some, ap, ◌∙◌}
+use Rattle.std.proofs.Common.{Some, ap, ◌∙◌}
 use Rattle.std.specs.Prelude.{if◌then◌else◌}
 use Rattle.run_model.specs.declared.tasks.Phase.TheVariants as phase
 use Rattle.task_group.proofs.Passing.{try_may}
@@ -14,4 +14,4 @@ pub returns-clause-phase : goal.returns-clause-phase
 returns-clause-phase g c =
     c.submit.ensures.phase
     ∙ ap (λ b. Some (if b then phase.Ready else phase.Held))
-        (try_may c.args.self.now c.args.group c.requires.accepted).admits
+    (try_may c.args.self.now c.args.group c.requires.accepted).admits
