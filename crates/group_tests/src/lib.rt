@@ -1,0 +1,13 @@
+//! Tests of groups and tasks: each call on its way, its refusals in their order, want of memory, and
+//! a few hundred random events beside a plain program that counts.
+#![tactic(auto)]
+
+#[cfg(test)]
+mod crowds;
+#[cfg(test)]
+mod plain;
+#[cfg(test)]
+mod randoms;
+pub mod runners;
+#[cfg(test)]
+mod tests;

@@ -1,0 +1,15 @@
+-- What is seen of a group, by its row.
+use Rattle.std.specs.Prelude.{ℕ}
+use Rattle.run_model.specs.declared.answers.GroupLook.{GroupLook}
+use Rattle.run_model.specs.declared.groups.Group.{Group}
+
+-- So many tasks of the group are unfinished.
+abbrev pub look_by : ℕ → Group → GroupLook
+look_by unfinished row = record {
+  name = row.name;
+  scope = row.scope;
+  unfinished = unfinished;
+  limit = row.limit;
+  waited = row.waited;
+  error = row.error;
+}

@@ -1,0 +1,23 @@
+-- The rows of groups and tasks.
+use Rattle.std.specs.Prelude.{◌≡◌, ◌<◌, ◌≤◌, ◌++◌, ◌∷◌, [], ℕ, true, List, length, Option, Some}
+use Rattle.std.specs.Prelude.{slice_get}
+use Rattle.run_model.specs.declared.bounds.TheConstants.{MOST_GROUPS}
+use Rattle.run_model.specs.declared.tasks.Task.{Task}
+use Rattle.run_model.specs.Layouts.{most_tasks}
+use Rattle.run_model.specs.Rows.{new_task}
+use Rattle.run_model.specs.State.{WorkState}
+use Rattle.run_model.specs.Tasks.{is_running}
+use Rattle.task_group.specs.Held.{fits_limit}
+
+-- A submitted task, which may be a retry of one, is a row at the end.
+abbrev pub submitted : ℕ → List ℕ → List ℕ → Option ℕ → WorkState → WorkState
+submitted g job argument tried w =
+    record w { tasks = w.tasks ++ new_task g job argument tried ∷ [] }
+
+-- The rows are few, each task's group is there, and each running task fits its group's limit.
+pub record IsSound (w : WorkState) : Type 0 where
+  pub few_groups : length w.groups ≤ MOST_GROUPS
+  pub few_tasks : length w.tasks ≤ most_tasks w.layout
+  pub grouped : (n : ℕ) (t : Task) → slice_get w.tasks n ≡ Some t → t.group < length w.groups
+  pub admitted : (n : ℕ) (t : Task) → slice_get w.tasks n ≡ Some t → is_running t.stage ≡ true
+      → fits_limit w n t ≡ true

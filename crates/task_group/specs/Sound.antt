@@ -1,0 +1,40 @@
+-- What holds of groups between two calls.
+use Rattle.std.specs.Prelude.{◌≡◌, ℕ, Bool, List, length, Option}
+use Rattle.run_model.specs.declared.bounds.TheConstants.{MOST_GROUPS}
+use Rattle.run_model.specs.declared.groups.Group.{Group}
+use Rattle.run_model.specs.declared.layouts.Layout.{Layout}
+use Rattle.run_model.specs.declared.tasks.Task.{Task}
+use Rattle.run_model.specs.Layouts.{most_tasks}
+use Rattle.run_model.specs.State.{WorkState}
+use Rattle.run_model.specs.Tasks.{is_ready, running_count}
+use Rattle.task_group.specs.declared.seats.Seats.{Seats}
+use Rattle.task_group.specs.Flags.{AreFlagged}
+use Rattle.task_group.specs.Kept.{Kept}
+use Rattle.task_group.specs.Trees.{is_up}
+
+-- These rows of a store of this layout.
+abbrev pub work : Layout → List Group → List Task → WorkState
+work layout groups tasks = record { layout = layout; groups = groups; tasks = tasks }
+
+-- The ready tasks are in the queue, and no others.
+pub record AreQueued (w : WorkState) (flags : List Bool) : Type 0 where
+  pub size : length flags ≡ most_tasks w.layout
+  pub right : (n : ℕ) → is_up flags n ≡ is_ready w n
+
+-- The counters, the lists of held tasks, the queue, the number of running tasks and the flags of
+-- the retried ones say what the rows say.
+pub record AreKept (w : WorkState) (seats : List Seats) (next : List (Option ℕ))
+    (ready : List Bool)
+    (count : ℕ) (flags : List Bool) : Type 0 where
+  pub seated : Kept w seats next
+  pub queued : AreQueued w ready
+  pub running : count ≡ running_count w.tasks
+  pub flagged : AreFlagged w.tasks flags
+
+-- There is room for every group and every task that can come, and for no more.
+pub record HasRoom (layout : Layout) (groups tasks seats next flags : ℕ) : Type 0 where
+  pub group_room : groups ≡ MOST_GROUPS
+  pub task_room : tasks ≡ most_tasks layout
+  pub seat_room : seats ≡ MOST_GROUPS
+  pub next_room : next ≡ most_tasks layout
+  pub flag_room : flags ≡ most_tasks layout
