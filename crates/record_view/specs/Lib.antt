@@ -1,5 +1,10 @@
+pub mod Image
+pub mod ImageExamples
+pub mod Keeping
 pub mod Reading
 pub mod Records
+pub mod RowReading
+pub mod RowViews
 pub mod Spelling
 pub mod Views
 pub mod Writing

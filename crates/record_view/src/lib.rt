@@ -8,15 +8,24 @@
 
 mod bodies;
 mod events;
+mod group_rows;
+mod heads;
+pub mod images;
 mod kinds;
 pub mod laws;
 mod numbers;
 mod outcomes;
 mod puts;
 mod records;
+mod scope_rows;
+mod task_rows;
 mod texts;
 mod views;
 
 pub use events::Events;
+pub use group_rows::{GroupRow, put_group, read_group};
+pub use heads::{ImageHead, ImageVersion, put_head, read_head};
 pub use records::{event_len, read_event, write_event};
+pub use scope_rows::{HitView, ScopeRow, put_scope, read_scope, scope_row};
+pub use task_rows::{StageView, TaskRow, put_task, read_task};
 pub use views::{EventView, KindView, OutcomeView};

@@ -1,23 +1,25 @@
 -- What the changes keep of the rows: parents have lesser numbers, and hits are of the past.
-use Rattle.std.proofs.Common.{◌≡◌, ◌<◌, ◌≤◌, ℕ, true, nat_le, List, [], ◌∷◌, ◌++◌, map}
+use Rattle.std.proofs.Common.{◌≡◌, ◌<◌, ◌≤◌, ℕ, zero, suc, true, false, nat_le, List, [], ◌∷◌, ◌++◌, map}
 use Rattle.std.proofs.Common.{Option, Some, None, slice_get, inl, inr, refl, sym, subst, ap, ◌∙◌}
 use Rattle.std.proofs.Common.{arith}
-use Rattle.std.specs.Option.{option_map_or}
+use Rattle.std.specs.Option.{option_map, option_map_or}
 use Rattle.std.proofs.lemmas.Bool.{false≢true, leb-true}
-use Rattle.std.proofs.lemmas.Option.{none-some, same_Some, cond_some}
+use Rattle.std.proofs.lemmas.Option.{none-some, same_Some, cond_some, slice_get_within}
 use Rattle.run_model.specs.declared.scopes.Hit.{Hit}
 use Rattle.run_model.specs.declared.scopes.Kind.{Kind}
 use Rattle.run_model.specs.declared.scopes.Kind.TheVariants as kinds
 use Rattle.run_model.specs.declared.scopes.Scope.{Scope}
 use Rattle.run_model.specs.Allowed.{is_cancellable}
-use Rattle.run_model.specs.Rows.{new_scope, at_row, or_else}
+use Rattle.run_model.specs.Rows.{root, new_scope, at_row, or_else}
 use Rattle.run_model.specs.Rules.{can_be_hit, is_group_kind}
 use Rattle.run_model.specs.Scopes.{is_root, AreOrdered}
 use Rattle.run_model.specs.TreeChanges.{with_hit, cancellation, expiry, hit_due, tick}
 use Rattle.run_model.proofs.RowLemmas.{at_row_cases, push_cases, map_cases}
+use Rattle.run_model.proofs.RowLemmas.{slice_get-at_row_other, slice_get-push_left}
 use Rattle.scope_laws.proofs.Follows.{ticked}
 use Rattle.scope_laws.proofs.WellFormed.{ordered_follow}
-use Rattle.scope_tree.specs.Sound.{IsPastHit, ArePastHits}
+use Rattle.scope_tree.specs.Checks.{is_derived_kind}
+use Rattle.scope_tree.specs.Sound.{AreRooted, IsPastHit, ArePastHits}
 
 -- ---- order
 
@@ -34,6 +36,85 @@ pub ordered_ticked : (e now : ℕ) (rows : List Scope) → AreOrdered rows
     → AreOrdered (map (tick e now) rows)
 ordered_ticked e now rows ordered =
     ordered_follow e now rows (map (tick e now) rows) (ticked e now rows) ordered
+
+-- ---- root
+
+-- A cancellation of a scope that can be hit isn't of root.
+pub rooted_hit : (hit : Hit) (s : ℕ) (rows : List Scope) → AreRooted rows
+    → ((row : Scope) → slice_get rows s ≡ Some row → can_be_hit row.kind ≡ true)
+    → AreRooted (at_row (with_hit hit) s rows)
+rooted_hit hit s rows rooted can = record {
+  first = first_stays s can;
+  alone =
+      λ n row found is.
+      elim (at_row_cases (with_hit hit) s n rows row found) [
+        | inl other ↦ rooted.alone n row other.1 is
+        | inr it ↦ rooted.alone n it.old it.found (ap (λ r. is_root r.kind) (sym it.changed) ∙ is)
+      ];
+}
+  where
+    first_stays : (s : ℕ)
+        → ((row : Scope) → slice_get rows s ≡ Some row → can_be_hit row.kind ≡ true)
+        → slice_get (at_row (with_hit hit) s rows) 0 ≡ Some root
+    first_stays zero can = absurd (false≢true (can root rooted.first))
+    first_stays (suc s) can =
+        slice_get-at_row_other (with_hit hit) (suc s) 0 rows (λ e. omega (arith, e))
+        ∙ rooted.first
+
+tick_kind : (e now : ℕ) (row : Scope) → (tick e now row).kind ≡ row.kind
+tick_kind e now row = by_due (hit_due e now row.kind)
+  where
+    by_due : (due : Option Hit)
+        → (option_map_or (λ hit. with_hit hit row) due row).kind ≡ row.kind
+    by_due None = refl
+    by_due (Some hit) = refl
+
+pub rooted_ticked : (e now : ℕ) (rows : List Scope) → AreRooted rows
+    → AreRooted (map (tick e now) rows)
+rooted_ticked e now rows rooted = record {
+  first = first_stays rows rooted.first;
+  alone =
+      λ n row found is.
+      let it = map_cases (tick e now) n rows row found in
+      rooted.alone n it.0 it.1
+      (ap is_root (sym (tick_kind e now it.0)) ∙ ap (λ r. is_root r.kind) (sym it.2) ∙ is);
+}
+  where
+    first_stays : (rows : List Scope) → slice_get rows 0 ≡ Some root
+        → slice_get (map (tick e now) rows) 0 ≡ Some root
+    first_stays [] e = absurd (none-some root e)
+    first_stays (row ∷ rows) same = ap (option_map (tick e now)) same
+
+pub rooted_pushed : (rows : List Scope) (new : Scope) → AreRooted rows → is_root new.kind ≡ false
+    → AreRooted (rows ++ new ∷ [])
+rooted_pushed rows new rooted below = record {
+  first =
+      slice_get-push_left rows new 0 (slice_get_within rows 0 root rooted.first) ∙ rooted.first;
+  alone =
+      λ s row found is.
+      elim (push_cases rows new s row found) [
+        | inl old ↦ rooted.alone s row old is
+        | inr last ↦
+            absurd (false≢true (sym below ∙ ap (λ r. is_root r.kind) (sym last.1) ∙ is))
+      ];
+}
+
+pub rooted_derived : (e clock : ℕ) (name : List ℕ) (parent : ℕ) (kind : Kind) (rows : List Scope)
+    → AreRooted rows → is_root kind ≡ false
+    → AreRooted (rows ++ tick e clock (new_scope name parent kind) ∷ [])
+rooted_derived e clock name parent kind rows rooted below =
+    let new = new_scope name parent kind in
+    rooted_pushed rows (tick e clock new) rooted (ap is_root (tick_kind e clock new) ∙ below)
+
+-- A derive doesn't make another root.
+pub derived_below_root : (kind : Kind) → is_derived_kind kind ≡ true → is_root kind ≡ false
+derived_below_root kinds.Root ok = sym ok
+derived_below_root kinds.Cancel ok = refl
+derived_below_root kinds.Cause ok = refl
+derived_below_root (kinds.Deadline moment cause) ok = refl
+derived_below_root (kinds.Value key text) ok = refl
+derived_below_root kinds.Detached ok = refl
+derived_below_root kinds.Group ok = refl
 
 -- ---- the hits of one row
 

@@ -1,9 +1,13 @@
 pub mod Alike
 pub mod Events
+pub mod Followers
 pub mod Fronts
 pub mod Keeping
+pub mod KeptRows
 pub mod Marking
 pub mod Passing
 pub mod Reaching
+pub mod RowLoops
 pub mod Searching
 pub mod Sounding
+pub mod TreeReads

@@ -1,0 +1,6 @@
+pub mod BetweenReads
+pub mod Checked
+pub mod Linked
+pub mod Parts
+pub mod WholeReads
+pub mod WorkReads

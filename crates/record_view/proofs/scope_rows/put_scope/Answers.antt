@@ -1,0 +1,26 @@
+use Rattle.std.proofs.Common.{arith}
+use Rattle.std.specs.Option.{option_map}
+use Rattle.record_view.specs.Spelling.{number_bytes, text_bytes}
+use Rattle.record_view.specs.Image.{hit_bytes, row_kind_bytes}
+use Rattle.record_view.specs.RowViews.{hit_of}
+use Rattle.record_view.specs.Views.{kind_of}
+use Rattle.record_view.proofs.RowJoins.{put_four}
+use Rattle.record_view.proofs.RowJoins.{length_four}
+use Rattle.record_view.proofs.scope_rows.put_scope.Goals as goal
+
+pub returns-clause-written : goal.returns-clause-written
+returns-clause-written c =
+    let row = c.args.row.now in
+    let name = text_bytes row.name.now in
+    let parent = number_bytes row.parent in
+    let kind = row_kind_bytes (kind_of row.kind) in
+    let hit = hit_bytes (option_map hit_of row.hit) in
+    rw (
+      c.put_hit.ensures.written,
+      c.put_row_kind-end.ensures.written,
+      c.put_u16-end.ensures.written,
+      c.put_text-end.ensures.written,
+    )
+    (put_four c.args.out.now c.args.at _ _ _ name parent kind hit
+    c.put_text-end.ensures.end c.put_u16-end.ensures.end c.put_row_kind-end.ensures.end
+    (omega (arith, c.requires.room, length_four name parent kind hit)))

@@ -1,0 +1,27 @@
+use Rattle.std.proofs.Common.{arith}
+use Rattle.record_view.specs.declared.heads.ImageVersion.TheVariants.{Two}
+use Rattle.record_view.specs.Spelling.{number_bytes, text_bytes}
+use Rattle.record_view.specs.Image.{link_bytes, stage_bytes}
+use Rattle.record_view.specs.RowViews.{stage_of}
+use Rattle.record_view.proofs.RowJoins.{put_five, length_five}
+use Rattle.record_view.proofs.task_rows.put_task.Goals as goal
+
+pub returns-clause-written : goal.returns-clause-written
+returns-clause-written c =
+    let row = c.args.row.now in
+    let group = number_bytes row.group in
+    let job = text_bytes row.job.now in
+    let argument = text_bytes row.argument.now in
+    let stage = stage_bytes (stage_of row.stage) in
+    let link = link_bytes Two row.retry_of in
+    rw (
+      c.put_link.ensures.written,
+      c.put_stage-end.ensures.written,
+      c.put_text-end-2.ensures.written,
+      c.put_text-end.ensures.written,
+      c.put_u16-end.ensures.written,
+    )
+    (put_five c.args.out.now c.args.at _ _ _ _ group job argument stage link
+    c.put_u16-end.ensures.end c.put_text-end.ensures.end c.put_text-end-2.ensures.end
+    c.put_stage-end.ensures.end
+    (omega (arith, c.requires.room, length_five group job argument stage link)))

@@ -1,0 +1,128 @@
+//! The head of an image: what stands in front of the rows.
+//!
+//! | Bytes | What |
+//! |---|---|
+//! | 1 | version, 1 or 2 |
+//! | 8 | clock, a moment |
+//! | 8 | how many events there were, below 2^63 |
+//! | 2, 2, 2 | how many rows of scopes (root has none), groups and tasks follow |
+
+ghost use Rattle.std.specs.Prelude.{◌≡◌, ◌≤◌, ◌+◌, length, IfSome, IsTrue};
+ghost use Rattle.std.specs.Option.{option_map};
+ghost use Rattle.record_view.specs.declared.heads.ImageVersion.TheVariants.{Two};
+ghost use Rattle.record_view.specs.Image.{head_bytes, in_version, is_kept_head};
+ghost use Rattle.record_view.specs.RowReading.{count_at, fewer_at, head_at, version_at};
+ghost use Rattle.record_view.specs.Writing.{put_at};
+
+use crate::numbers::{read_byte, read_moment, read_u16, read_u64};
+use crate::puts::{put_byte, put_u16, put_u64};
+use run_model::{Layout, MOST_GROUPS};
+
+/// How an image is spelled. Both are read, and the second alone is written.
+#[derive(Clone, Copy, Debug, PartialEq, Eq)]
+pub enum ImageVersion {
+    /// Without links: no task is a retry.
+    One,
+    /// The row of each task ends with its link.
+    Two,
+}
+
+/// What stands in front of the rows of an image.
+#[derive(Clone, Copy, Debug, PartialEq, Eq)]
+pub struct ImageHead {
+    /// How the rows are spelled.
+    pub version: ImageVersion,
+    /// What the clock shows, in whole seconds.
+    pub clock: u64,
+    /// How many events there were.
+    pub count: u64,
+    /// How many scopes there are beside root.
+    pub scopes: u16,
+    /// How many groups there are.
+    pub groups: u16,
+    /// How many tasks there are.
+    pub tasks: u16,
+}
+
+/// The head that the bytes begin with, and the bytes behind it; `None` exactly where
+/// they begin with no head whose rows are within the limits of this layout.
+pub fn read_head(bytes: &[u8], layout: Layout) -> Option<(ImageHead, &[u8])>
+    ensures value { option_map (λ x. (x.0, x.1.now)) result ≡ head_at layout bytes.now }
+    ensures kept { IfSome result (λ x. IsTrue (is_kept_head layout x.0)) }
+{
+    let (head, rest) = read_head_fields(bytes, layout)?;
+    Some((head, rest))
+}
+
+/// Puts the head of an image at a place, in version 2 whatever version it was read in, and gives
+/// the place behind it.
+pub fn put_head(out: &mut [u8], at: usize, head: &ImageHead) -> usize
+    requires room { at + 23 ≤ length out.old }
+    ensures end { result ≡ at + 23 }
+    ensures written { out.new ≡ put_at out.old at (head_bytes (in_version Two head.now)) }
+{
+    let end = put_byte(out, at, 2);
+    let end = put_u64(out, end, head.clock);
+    let end = put_u64(out, end, head.count);
+    let end = put_u16(out, end, head.scopes);
+    let end = put_u16(out, end, head.groups);
+    put_u16(out, end, head.tasks)
+}
+
+#[tactic(auto, unfolding(crate::specs::RowReading::head_at))]
+fn read_head_fields(bytes: &[u8], layout: Layout) -> Option<(ImageHead, &[u8])>
+    ensures { option_map (λ x. (x.0, x.1.now)) result ≡ head_at layout bytes.now }
+{
+    let (version, rest) = read_version(bytes)?;
+    let (clock, rest) = read_moment(rest)?;
+    let (count, rest) = read_count(rest)?;
+    let (scopes, rest) = read_fewer(rest, layout.most_scopes())?;
+    let (groups, rest) = read_fewer(rest, MOST_GROUPS + 1)?;
+    let (tasks, rest) = read_fewer(rest, layout.most_tasks() + 1)?;
+    let head = ImageHead {
+        version,
+        clock,
+        count,
+        scopes,
+        groups,
+        tasks,
+    };
+    Some((head, rest))
+}
+
+/// The version, and the bytes behind it.
+#[tactic(auto, unfolding(crate::specs::RowReading::version_at, crate::specs::RowReading::version_by))]
+fn read_version(bytes: &[u8]) -> Option<(ImageVersion, &[u8])>
+    ensures { option_map (λ x. (x.0, x.1.now)) result ≡ version_at bytes.now }
+{
+    let (version, rest) = read_byte(bytes)?;
+    match version {
+        1 => Some((ImageVersion::One, rest)),
+        2 => Some((ImageVersion::Two, rest)),
+        _ => None,
+    }
+}
+
+/// The count of events, and the bytes behind it.
+#[tactic(auto, unfolding(crate::specs::RowReading::count_at))]
+fn read_count(bytes: &[u8]) -> Option<(u64, &[u8])>
+    ensures { option_map (λ x. (x.0, x.1.now)) result ≡ count_at bytes.now }
+{
+    let (count, rest) = read_u64(bytes)?;
+    if 1 << 63 <= count {
+        return None;
+    }
+    Some((count, rest))
+}
+
+/// A number of rows, which is below the bound, and the bytes behind it.
+#[tactic(auto, unfolding(crate::specs::RowReading::fewer_at))]
+fn read_fewer(bytes: &[u8], bound: usize) -> Option<(u16, &[u8])>
+    ensures { option_map (λ x. (x.0, x.1.now)) result ≡ fewer_at bound bytes.now }
+{
+    let (number, rest) = read_u16(bytes)?;
+    if bound <= number as usize {
+        return None;
+    }
+    Some((number, rest))
+}

@@ -1,0 +1,154 @@
+//! The rows of a tree in an image: scopes in order of number, without root.
+
+ghost use Rattle.std.specs.List.{flat_map, AllByRecursion};
+ghost use Rattle.std.specs.Option.{option_map, option_map_or};
+ghost use Rattle.std.specs.Prelude.{◌≡◌, ◌≤◌, ◌+◌, ◌*◌, Some, None, length, vec_len, vec_capacity};
+ghost use Rattle.std.specs.Prelude.{IfSome, IfNone, IsTrue, nat_le, false};
+ghost use Rattle.run_model.specs.Rules.{can_be_hit};
+ghost use Rattle.record_view.specs.Image.{scope_bytes, is_kept_scope, is_kept_hit};
+ghost use Rattle.record_view.specs.RowViews.{scope_of, hit_of};
+ghost use Rattle.record_view.specs.Writing.{put_at};
+ghost use Rattle.scope_tree.specs.TreeRows.{AreWritable, can_follow, hit_fits, more_rows_at};
+ghost use Rattle.scope_tree.specs.TreeRows.{reason_fits};
+
+use crate::copies::{kind_copy, moment_of, name_copy, text_copy};
+use crate::kinds::own_deadline;
+use crate::trees::place_of;
+use record_view::{HitView, ImageHead, ScopeRow, put_scope, read_scope, scope_row};
+use run_model::{Hit, Kind, Moment, Reason, Scope};
+use std::alloc::Allocator;
+
+/// Puts the rows at a place, one behind the other, and gives the place behind them.
+pub fn put_rows(rows: &[Scope], out: &mut [u8], at: usize) -> usize
+    requires rows { AreWritable rows.now }
+    requires room { at + 192 * length rows.now ≤ length out.old }
+    ensures end { result ≡ at + length (flat_map scope_bytes rows.now) }
+    ensures written { out.new ≡ put_at out.old at (flat_map scope_bytes rows.now) }
+    ensures kept { AllByRecursion (λ row. IsTrue (is_kept_scope row)) rows.now }
+    ensures most { result ≤ at + 192 * length rows.now }
+{
+    let mut end = at;
+    for row in rows {
+        end = put_scope(out, end, &scope_row(row));
+    }
+    end
+}
+
+/// Reads so many rows behind those that there are; `None` where the bytes don't begin with them, or
+/// one of them can't follow.
+pub fn read_more<'a, A: Allocator, B: Allocator>(
+    scopes: &mut Vec<Scope, A>,
+    marks: &mut Vec<Option<u16>, B>,
+    head: &ImageHead,
+    bytes: &'a [u8],
+) -> Option<&'a [u8]>
+    requires room { vec_len scopes.old + head.now.scopes ≤ vec_capacity scopes.old }
+    requires mark_room { vec_len marks.old + head.now.scopes ≤ vec_capacity marks.old }
+    requires same { vec_len marks.old ≡ vec_len scopes.old }
+    ensures read { IfSome result (λ rest.
+        more_rows_at head.now.count head.now.clock head.now.scopes scopes.old.items bytes.now
+        ≡ Some (scopes.new.items, rest.now)) }
+    ensures none { IfNone result
+        (more_rows_at head.now.count head.now.clock head.now.scopes scopes.old.items bytes.now
+        ≡ None) }
+    ensures same { vec_len marks.new ≡ vec_len scopes.new }
+    ensures capacity { vec_capacity scopes.new ≡ vec_capacity scopes.old }
+    ensures mark_capacity { vec_capacity marks.new ≡ vec_capacity marks.old }
+{
+    let mut rest = bytes;
+    for n in 0..head.scopes {
+        let (view, behind) = read_scope(rest)?;
+        let row = row_copy(&view);
+        if !can_follow(scopes, head, &row) {
+            return None;
+        }
+        scopes.push_reserved(row);
+        marks.push_reserved(None);
+        rest = behind;
+    }
+    Some(rest)
+}
+
+/// Says whether a row can follow these rows, in a state of this head.
+fn can_follow(scopes: &[Scope], head: &ImageHead, row: &Scope) -> bool
+    ensures { result ≡ can_follow head.now.count head.now.clock scopes.now row.now }
+{
+    (row.parent as usize) < scopes.len()
+        && place_of(scopes, row.name.as_bytes()).is_none()
+        && hit_fits(head, &row.kind, &row.hit)
+}
+
+fn hit_fits(head: &ImageHead, kind: &Kind, hit: &Option<Hit>) -> bool
+    ensures { result ≡ hit_fits head.now.count head.now.clock kind.now hit.now }
+{
+    let deadline = own_deadline(kind);
+    match hit {
+        None => !has_come(deadline, head.clock),
+        Some(hit) => {
+            can_be_hit(kind)
+                && 1 <= hit.event
+                && hit.event <= head.count
+                && hit.moment.get() <= head.clock
+                && reason_fits(hit.reason, deadline, hit.moment)
+        }
+    }
+}
+
+fn has_come(deadline: Option<Moment>, clock: u64) -> bool
+    ensures { result ≡ option_map_or (λ moment. nat_le moment clock) deadline false }
+{
+    match deadline {
+        Some(moment) => moment.get() <= clock,
+        None => false,
+    }
+}
+
+fn reason_fits(reason: Reason, deadline: Option<Moment>, moment: Moment) -> bool
+    ensures { result ≡ reason_fits reason deadline moment }
+{
+    match reason {
+        Reason::Canceled => true,
+        Reason::DeadlineExceeded => match deadline {
+            Some(due) => due.get() == moment.get(),
+            None => false,
+        },
+    }
+}
+
+fn can_be_hit(kind: &Kind) -> bool
+    ensures { result ≡ can_be_hit kind.now }
+{
+    matches!(
+        kind,
+        Kind::Cancel | Kind::Cause | Kind::Deadline(_, _) | Kind::Group
+    )
+}
+
+/// The row that a view shows.
+#[tactic(auto, using(crate::proofs::KeptRows::kept_derived))]
+fn row_copy(row: &ScopeRow) -> Scope
+    requires { IsTrue (is_kept_scope (scope_of row.now)) }
+    ensures { result ≡ scope_of row.now }
+{
+    Scope {
+        name: name_copy(row.name),
+        parent: row.parent,
+        kind: kind_copy(row.kind),
+        hit: hit_copy(row.hit),
+    }
+}
+
+fn hit_copy(hit: Option<HitView>) -> Option<Hit>
+    requires { IsTrue (is_kept_hit (option_map hit_of hit)) }
+    ensures { result ≡ option_map hit_of hit.entry }
+{
+    match hit {
+        Some(hit) => Some(Hit {
+            event: hit.event,
+            moment: moment_of(hit.moment),
+            reason: hit.reason,
+            cause: text_copy(hit.cause),
+        }),
+        None => None,
+    }
+}
