@@ -1,10 +1,10 @@
 -- The test of both row lists tells whether the rules between them hold.
-use Rattle.std.proofs.Common.{◌≡◌, ◌<◌, ◌⊎◌, ℕ, zero, suc, [], ◌∷◌, arith, ◌==◌, ◌&&◌, ◌||◌, not, Bool, true, false, List, length}
+use Rattle.std.proofs.Common.{◌≡◌, ◌<◌, ◌⊎◌, ℕ, zero, suc, [], ◌∷◌, arith, ◌||◌, Bool, true, false}
+use Rattle.std.proofs.Common.{List, length}
 use Rattle.std.proofs.Common.{Option, Some, None, slice_get, inl, inr, refl, sym, ap, ◌∙◌}
 use Rattle.std.specs.Prelude.{◌↔◌, IsTrue, IsSome, is_some}
 use Rattle.std.specs.List.{list_any}
 use Rattle.std.specs.Option.{option_and_then, option_map_or}
-use Rattle.std.specs.Str.{bytes_eq}
 use Rattle.std.proofs.lemmas.Bool.{eqb-true, eq-eqb, false≢true}
 use Rattle.std.proofs.lemmas.Option.{same_Some, slice_get_within}
 use Rattle.std.proofs.lemmas.Slice.Eq.{bytes_eq-Decides}
@@ -12,12 +12,11 @@ use Rattle.run_model.specs.declared.scopes.Scope.{Scope}
 use Rattle.run_model.specs.declared.groups.Group.{Group}
 use Rattle.run_model.specs.Allowed.{has_kind}
 use Rattle.run_model.specs.RuleParts.{AreWorkRules, AreCrossRules}
-use Rattle.run_model.specs.Rules.{AreGroupScopes, Owns, is_group_kind}
+use Rattle.run_model.specs.Rules.{Owns, is_group_kind}
 use Rattle.run_model.specs.Scopes.{own_hit}
 use Rattle.run_model.specs.State.{State}
 use Rattle.record_view.proofs.Codecs.{both_true, first_true, second_true}
 use Rattle.image_laws.specs.Between.{belongs, fits_scope, lives_in, has_group, fits_between}
-use Rattle.image_laws.specs.WorkRows.{each_passes}
 use Rattle.image_laws.proofs.Checked.{all_pass, pass_all}
 use Rattle.image_laws.proofs.Linked.{or_right, or_from, not_so, so_not, any_at, some_at}
 

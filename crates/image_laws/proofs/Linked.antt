@@ -1,17 +1,17 @@
 -- Tests of truth, rows before a place, and links that are tested as they come.
-use Rattle.std.proofs.Common.{◌≡◌, ℕ, zero, suc, ◌<◌, ◌==◌, ◌&&◌, ◌||◌, not, Bool, true, false, List}
-use Rattle.std.proofs.Common.{[], ◌∷◌, length, take, Option, Some, None, slice_get, inl, inr, refl, sym}
+use Rattle.std.proofs.Common.{◌≡◌, ℕ, zero, suc, ◌<◌, ◌==◌, ◌&&◌, ◌||◌, not, Bool, true, false}
+use Rattle.std.proofs.Common.{List}
+use Rattle.std.proofs.Common.{[], ◌∷◌, take, Option, Some, None, slice_get, refl, sym}
 use Rattle.std.proofs.Common.{ap, ◌∙◌, arith}
-use Rattle.std.specs.Prelude.{◌↔◌, IsSome, is_some}
+use Rattle.std.specs.Prelude.{◌↔◌}
 use Rattle.std.specs.List.{list_any}
 use Rattle.std.specs.Option.{option_map_or}
-use Rattle.std.specs.Str.{bytes_eq}
-use Rattle.std.proofs.lemmas.Bool.{both_ways, cases_lt, eqb-true, eq-eqb, false_from_ne_true}
-use Rattle.std.proofs.lemmas.Option.{none-some, same_Some, slice_get_within}
+use Rattle.std.proofs.lemmas.Bool.{eqb-true, eq-eqb}
+use Rattle.std.proofs.lemmas.Option.{none-some, same_Some}
 use Rattle.std.proofs.lemmas.Slice.Eq.{bytes_eq-Decides}
 use Rattle.run_model.specs.declared.tasks.Task.{Task}
 use Rattle.run_model.specs.Rules.{IsRetry}
-use Rattle.run_model.specs.Tasks.{is_interrupted, is_retry_of}
+use Rattle.run_model.specs.Tasks.{is_retry_of}
 use Rattle.record_view.proofs.Codecs.{both_true, first_true, second_true}
 use Rattle.image_laws.specs.WorkRows.{both_or_neither, can_retry, is_linked}
 
@@ -107,6 +107,7 @@ link_right before row m ok is =
         → list_any (is_retry_of m) before ≡ false → IsLinkRight before row m
     by_old None at ok first = absurd (cc)
     by_old (Some old) at ok first = record { old = old; found = at; can = ok; first = first }
+
     by_link : (link : Option ℕ)
         → option_map_or
         (λ m. option_map_or (can_retry row) (slice_get before m) false

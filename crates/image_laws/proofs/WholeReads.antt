@@ -1,6 +1,6 @@
 -- An image is read whole by its parts, and what is read so is an image.
-use Rattle.std.proofs.Common.{◌≡◌, ◌<◌, ℕ, ◌+◌, ◌==◌, ◌&&◌, cond, true, List, [], ◌++◌, length, drop}
-use Rattle.std.proofs.Common.{Option, Some, None, refl, sym, ap, ◌∙◌, subst, arith, append_assoc}
+use Rattle.std.proofs.Common.{◌≡◌, ◌<◌, ℕ, ◌==◌, ◌&&◌, List, [], ◌++◌, length, drop}
+use Rattle.std.proofs.Common.{Some, refl, sym, ap, ◌∙◌, subst, arith, append_assoc}
 use Rattle.std.proofs.Common.{length-drop}
 use Rattle.std.specs.Prelude.{IsTrue}
 use Rattle.std.specs.List.{flat_map}
@@ -8,7 +8,6 @@ use Rattle.std.proofs.lemmas.Bool.{eqb-true}
 use Rattle.std.proofs.lemmas.List.{append-nil, nil_from_length}
 use Rattle.std.proofs.lemmas.Option.{cond_some, slice_get_within}
 use Rattle.run_model.specs.declared.layouts.Layout.{Layout}
-use Rattle.run_model.specs.RuleParts.{AreTreeRules}
 use Rattle.run_model.specs.Rows.{root}
 use Rattle.run_model.specs.State.{State, TreeState, WorkState}
 use Rattle.record_view.specs.declared.heads.ImageHead.{ImageHead}
@@ -18,7 +17,7 @@ use Rattle.record_view.specs.Image.{head_bytes, head_of, scope_bytes, group_byte
 use Rattle.record_view.specs.Image.{is_kept_head}
 use Rattle.record_view.specs.Keeping.{IsImage}
 use Rattle.record_view.specs.RowReading.{head_at}
-use Rattle.record_view.proofs.Codecs.{through, both_true, first_true, second_true}
+use Rattle.record_view.proofs.Codecs.{through, first_true, second_true}
 use Rattle.record_view.proofs.RowCodecs.{head_field}
 use Rattle.scope_tree.specs.TreeRows.{tree_at}
 use Rattle.scope_tree.specs.TreeRules.{AreTreeRows}
@@ -110,13 +109,13 @@ image_of layout bytes r1 r2 r3 head tree work spelled ok t w nothing fits =
   where
     head_same : (head : ImageHead) (c s g n : ℕ) → c ≡ head.clock → head.scopes ≡ s
         → head.groups ≡ g → head.tasks ≡ n → head ≡ record {
-      version = head.version;
-      clock = c;
-      count = head.count;
-      scopes = s;
-      groups = g;
-      tasks = n;
-    }
+          version = head.version;
+          clock = c;
+          count = head.count;
+          scopes = s;
+          groups = g;
+          tasks = n;
+        }
     head_same head c s g n d e f h = rw (d, ← e, ← f, ← h)
 
 pub image_takes : (version : ImageVersion) (layout : Layout) (bytes : List ℕ) (p : State)

@@ -1,14 +1,14 @@
 -- The work that is read is the one whose rows the bytes begin with.
-use Rattle.std.proofs.Common.{◌≡◌, ℕ, zero, suc, ◌+◌, ◌<◌, ◌≤◌, ◌==◌, ◌&&◌, ◌||◌, nat_lt, nat_le, not, cond, Bool}
-use Rattle.std.proofs.Common.{true, false, List, [], ◌∷◌, ◌++◌, length, take, Option, Some, None}
-use Rattle.std.proofs.Common.{slice_get, inl, inr, refl, sym, ap, ◌∙◌, subst, arith, append_assoc}
-use Rattle.std.specs.Prelude.{IsTrue, IsSome, is_some, ◌↔◌, position}
+use Rattle.std.proofs.Common.{◌≡◌, ℕ, zero, suc, ◌<◌, ◌≤◌, ◌&&◌, nat_le}
+use Rattle.std.proofs.Common.{true, List, [], ◌∷◌, ◌++◌, length, take, Some}
+use Rattle.std.proofs.Common.{slice_get, inl, inr, refl, sym, ap, ◌∙◌, subst, arith}
+use Rattle.std.specs.Prelude.{IsTrue, is_some}
 use Rattle.std.specs.List.{flat_map, list_any, AllByRecursion}
 use Rattle.std.specs.Str.{bytes_eq}
 use Rattle.std.proofs.lemmas.Bool.{ltb-true, lt-ltb, leb-true, le-leb, eqb-true, eq-eqb, both_ways}
 use Rattle.std.proofs.lemmas.Bool.{cases_lt, false_from_ne_true}
-use Rattle.std.proofs.lemmas.List.{length-take-le, get_or-take}
-use Rattle.std.proofs.lemmas.Option.{same_Some, none-some, slice_get_within}
+use Rattle.std.proofs.lemmas.List.{length-take-le}
+use Rattle.std.proofs.lemmas.Option.{same_Some, slice_get_within}
 use Rattle.std.proofs.lemmas.Slice.Eq.{bytes_eq-Decides}
 use Rattle.run_model.specs.declared.bounds.TheConstants.{MOST_GROUPS}
 use Rattle.run_model.specs.declared.layouts.Layout.{Layout}
@@ -16,7 +16,7 @@ use Rattle.run_model.specs.declared.groups.Group.{Group}
 use Rattle.run_model.specs.declared.tasks.Task.{Task}
 use Rattle.run_model.specs.Layouts.{most_tasks}
 use Rattle.run_model.specs.RuleParts.{AreWorkRules}
-use Rattle.run_model.specs.Rules.{AreLinked, HasTask, IsRetry, has_task_error}
+use Rattle.run_model.specs.Rules.{AreLinked, has_task_error}
 use Rattle.run_model.proofs.NameLemmas.{unfound, unpassed}
 use Rattle.run_model.specs.State.{WorkState}
 use Rattle.run_model.specs.Tasks.{is_running, is_admitted, is_unfinished, unfinished_in, admits}
@@ -31,7 +31,7 @@ use Rattle.record_view.proofs.RowCodecs.{group_row, task_row}
 use Rattle.image_laws.specs.WorkRows.{more_at, each_passes, has_new_name, can_come}
 use Rattle.image_laws.specs.WorkRows.{is_settled, is_linked, work_made, settled_at}
 use Rattle.image_laws.specs.WorkRows.{has_work_room, work_rows_at, work_at, AreWorkRows}
-use Rattle.image_laws.proofs.Checked.{ArePassed, AreMore, more_take, more_again, all_pass}
+use Rattle.image_laws.proofs.Checked.{ArePassed, more_take, more_again, all_pass}
 use Rattle.image_laws.proofs.Checked.{pass_all, cond_some_by}
 use Rattle.image_laws.proofs.Linked.{or_right, or_from, both_iff, iff_both, taken, untaken}
 use Rattle.image_laws.proofs.Linked.{any_at, some_at, link_right, link_from, retry_facts}
@@ -153,7 +153,8 @@ passed_links w links n row found =
 -- ---- the work
 
 rules_from : (layout : Layout) (version : ImageVersion) (groups : List Group) (tasks : List Task)
-    → length groups ≤ MOST_GROUPS → length tasks ≤ most_tasks layout → ArePassed group_row has_new_name [] groups
+    → length groups ≤ MOST_GROUPS → length tasks ≤ most_tasks layout
+    → ArePassed group_row has_new_name [] groups
     → ArePassed (task_row version) (can_come layout groups) [] tasks
     → each_passes (is_settled (work_made layout groups tasks)) 0 groups ≡ true
     → AreWorkRules (work_made layout groups tasks)
@@ -169,7 +170,8 @@ rules_from layout version groups tasks few_g few_t named come settled =
       admitted = record {
         running = λ n row found is.
             sym (admitted_there layout groups tasks n row found)
-            ∙ or_right (is_running row.stage) _ (second_true _ _ (first_true _ _ (come n row found))) is;
+            ∙ or_right (is_running row.stage) _
+            (second_true _ _ (first_true _ _ (come n row found))) is;
         waited = λ g row found is.
             eqb-true (unfinished_in g tasks) 0
             (or_right row.waited _ (first_true _ _ (at g row found)) is);

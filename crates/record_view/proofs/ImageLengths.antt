@@ -1,6 +1,8 @@
 -- An image has no more bytes than the greatest of its version and layout.
-use Rattle.std.proofs.Common.{◌≡◌, ℕ, suc, true, Option, ◌+◌, ◌*◌, ◌-◌, ◌≤◌, ◌<◌, List, [], ◌∷◌, ◌++◌, length, drop}
-use Rattle.std.proofs.Common.{Some, slice_get, refl, ap, ◌∙◌, subst, arith, length-append, length-drop}
+use Rattle.std.proofs.Common.{◌≡◌, ℕ, suc, true, ◌+◌, ◌*◌, ◌-◌, ◌≤◌, List, [], ◌∷◌, ◌++◌, length}
+use Rattle.std.proofs.Common.{drop}
+use Rattle.std.proofs.Common.{Some, slice_get, refl, ap, ◌∙◌, subst, arith, length-append}
+use Rattle.std.proofs.Common.{length-drop}
 use Rattle.std.specs.Prelude.{IsTrue, is_some}
 use Rattle.std.specs.List.{flat_map, AllByRecursion}
 use Rattle.std.proofs.Math.Nat.{mul-suc, mul-zero}
@@ -15,7 +17,7 @@ use Rattle.run_model.specs.State.{State}
 use Rattle.record_view.specs.declared.heads.ImageHead.{ImageHead}
 use Rattle.record_view.specs.declared.heads.ImageVersion.{ImageVersion}
 use Rattle.record_view.specs.declared.heads.ImageVersion.TheVariants.{One, Two}
-use Rattle.record_view.specs.Image.{head_bytes, in_version, head_of, image_in, scope_bytes, group_bytes}
+use Rattle.record_view.specs.Image.{head_bytes, in_version, head_of, scope_bytes, group_bytes}
 use Rattle.record_view.specs.Image.{task_bytes, is_kept_scope, is_kept_group, is_kept_task}
 use Rattle.record_view.specs.Image.{greatest_image, task_most}
 use Rattle.record_view.specs.Keeping.{IsImage}
@@ -30,8 +32,13 @@ rows_most write most (row ∷ rows) short =
     let here : length (write row) ≤ most = short.0 in
     let there : length (flat_map write rows) ≤ most * length rows =
     rows_most write most rows short.1 in
-    omega (arith, here, there, mul-suc most (length rows),
-    length-append (write row) (flat_map write rows))
+    omega (
+      arith,
+      here,
+      there,
+      mul-suc most (length rows),
+      length-append (write row) (flat_map write rows),
+    )
 
 each_from : {X : Type 0} (P Q : X → Type 0) (rows : List X) → ((x : X) → P x → Q x)
     → AllByRecursion P rows → AllByRecursion Q rows

@@ -1,10 +1,10 @@
 -- Four, five and six fields in a row.
-use Rattle.std.proofs.Common.{◌≡◌, ℕ, Bool, List, ◌++◌, Option, Some, refl, sym, ap, ◌∙◌}
+use Rattle.std.proofs.Common.{◌≡◌, ℕ, Bool, List, ◌++◌, Some, sym, ap, ◌∙◌}
 use Rattle.std.proofs.Common.{append_assoc}
 use Rattle.std.specs.Prelude.{IsTrue}
 use Rattle.record_view.specs.Reading.{Reader, ◌>>=◌, three}
 use Rattle.record_view.specs.RowReading.{four, five, six}
-use Rattle.record_view.proofs.Codecs.{Codec, through, three_takes, three_again}
+use Rattle.record_view.proofs.Codecs.{Codec, through, three_takes}
 
 module _
     {A B C D X : Type 0} {read_a : Reader A} {write_a : A → List ℕ} {test_a : A → Bool}

@@ -1,6 +1,8 @@
 -- Rows of groups and tasks, and heads, are read exactly where they are spelled.
-use Rattle.std.proofs.Common.{◌≡◌, ℕ, zero, suc, ◌<◌, ◌==◌, ◌^◌, nat_lt, cond, Bool, true, false, List}
-use Rattle.std.proofs.Common.{[], ◌∷◌, ◌++◌, ◌+◌, ◌≤◌, length, Option, Some, None, refl, sym, ap, ◌∙◌, subst}
+use Rattle.std.proofs.Common.{◌≡◌, ℕ, zero, suc, ◌<◌, ◌==◌, ◌^◌, nat_lt, cond, Bool, true, false}
+use Rattle.std.proofs.Common.{List}
+use Rattle.std.proofs.Common.{[], ◌∷◌, ◌++◌, ◌+◌, ◌≤◌, length, Option, Some, None, refl, ap, ◌∙◌}
+use Rattle.std.proofs.Common.{subst}
 use Rattle.std.proofs.Common.{arith, append_assoc}
 use Rattle.std.specs.Prelude.{IsTrue, is_none}
 use Rattle.std.specs.Int.{w16}
@@ -9,18 +11,15 @@ use Rattle.std.proofs.lemmas.Option.{same_Some, none-some, cond_some}
 use Rattle.std.proofs.lemmas.Bool.{cond-true, ltb-true, lt-ltb, eqb-true, ne_eqb, eqb-false}
 use Rattle.run_model.specs.Records.{is_row_number}
 use Rattle.run_model.specs.declared.bounds.TheConstants.{MOST_GROUPS}
-use Rattle.run_model.specs.declared.groups.Group.{Group}
 use Rattle.run_model.specs.declared.layouts.Layout.{Layout}
 use Rattle.run_model.specs.Layouts.{most_scopes, most_tasks}
 use Rattle.run_model.proofs.LayoutLemmas.{most_scopes_most, most_tasks_most}
-use Rattle.record_view.specs.declared.heads.ImageHead.{ImageHead}
 use Rattle.record_view.specs.declared.heads.ImageVersion.{ImageVersion}
 use Rattle.record_view.specs.declared.heads.ImageVersion.TheVariants.{One, Two}
 use Rattle.run_model.specs.declared.tasks.Stage.{Stage}
 use Rattle.run_model.specs.declared.tasks.Stage.TheVariants as stage
-use Rattle.run_model.specs.declared.tasks.Task.{Task}
 use Rattle.run_model.specs.Texts.{is_name, is_text}
-use Rattle.record_view.specs.Reading.{Reader, ◌>>=◌, number_at, byte_at, text_at, one}
+use Rattle.record_view.specs.Reading.{Reader, ◌>>=◌, number_at}
 use Rattle.record_view.specs.Spelling.{moment_bytes, number_bytes}
 use Rattle.record_view.specs.Image.{flag_bytes, stage_bytes, group_bytes, task_bytes, is_kept_link}
 use Rattle.record_view.specs.Image.{link_bytes, version_bytes, is_count}
@@ -313,9 +312,11 @@ head_field layout = record {
         (λ n. nat_lt n (most_scopes layout))
     scopes_field = fewer_field (most_scopes layout)
         (let h = most_scopes_most layout in omega arith)
+
     groups_field : Codec (fewer_at (MOST_GROUPS + 1)) number_bytes
         (λ n. nat_lt n (MOST_GROUPS + 1))
     groups_field = fewer_field (MOST_GROUPS + 1) (omega arith)
+
     tasks_field : Codec (fewer_at (most_tasks layout + 1)) number_bytes
         (λ n. nat_lt n (most_tasks layout + 1))
     tasks_field = fewer_field (most_tasks layout + 1)

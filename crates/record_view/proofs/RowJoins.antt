@@ -52,5 +52,10 @@ pub put_six :
 put_six old at m n k j i u v w x y z e f g h p room =
     ap (λ l. put_at l i z) (put_five old at m n k j u v w x y e f g h (omega arith))
     ∙ put_then old at i (u ++ v ++ w ++ x ++ y) z
-    (omega (arith, length-append (u ++ v ++ w ++ x) y, length-append (u ++ v ++ w) x,
-    length-append (u ++ v) w, length-append u v)) room
+    (omega (
+      arith,
+      length-append (u ++ v ++ w ++ x) y,
+      length-append (u ++ v ++ w) x,
+      length-append (u ++ v) w,
+      length-append u v,
+    )) room

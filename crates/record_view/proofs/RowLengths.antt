@@ -1,7 +1,7 @@
 -- How many bytes a row has at most.
-use Rattle.std.proofs.Common.{◌≡◌, ℕ, ◌+◌, ◌≤◌, Bool, true, false, List, ◌++◌, length, Option, Some, None, refl}
-use Rattle.std.proofs.Common.{arith, ap, length-append}
-use Rattle.std.specs.Prelude.{IsTrue, IsSome}
+use Rattle.std.proofs.Common.{◌≡◌, ℕ, ◌+◌, ◌≤◌, Bool, true, false, length, Option, Some, None, refl}
+use Rattle.std.proofs.Common.{arith}
+use Rattle.std.specs.Prelude.{IsTrue}
 use Rattle.run_model.specs.declared.scopes.Kind.{Kind}
 use Rattle.run_model.specs.declared.scopes.Kind.TheVariants as kind
 use Rattle.run_model.specs.declared.scopes.Reason.{Reason}
@@ -35,9 +35,12 @@ hit_len : (hit : Option Hit) → is_kept_hit hit ≡ true → length (hit_bytes 
 hit_len None ok = omega arith
 hit_len (Some hit) ok =
     let most : length hit.cause ≤ 64 = text_len hit.cause (second_true _ _ ok) in
-    omega (arith, reason_len hit.reason,
-    length_four (moment_bytes hit.event) (moment_bytes hit.moment) (reason_bytes hit.reason)
-    (text_bytes hit.cause))
+    omega (
+      arith,
+      reason_len hit.reason,
+      length_four (moment_bytes hit.event) (moment_bytes hit.moment) (reason_bytes hit.reason)
+          (text_bytes hit.cause),
+    )
 
 flag_len : (flag : Bool) → length (flag_bytes flag) ≡ 1
 flag_len true = refl
@@ -112,9 +115,11 @@ scope_len_most row ok can =
     name_len row.name (first_true _ _ (first_true _ _ (first_true _ _ ok))) in
     let most = kind_and_hit row.kind row.hit (second_true _ _ (first_true _ _ ok))
     (second_true _ _ ok) can in
-    omega (arith,
-    length_four (text_bytes row.name) (number_bytes row.parent) (row_kind_bytes row.kind)
-    (hit_bytes row.hit))
+    omega (
+      arith,
+      length_four (text_bytes row.name) (number_bytes row.parent) (row_kind_bytes row.kind)
+          (hit_bytes row.hit),
+    )
 
 -- The row of a group has 103 bytes at most.
 pub group_len_most : (row : Group) → IsTrue (is_kept_group row) → length (group_bytes row) ≤ 103
@@ -123,10 +128,15 @@ group_len_most row ok =
     name_len row.name (first_true _ _ (first_true _ _ (first_true _ _ (first_true _ _
     (first_true _ _ ok))))) in
     let error : optional_len row.error ≤ 65 = optional_len_most row.error (second_true _ _ ok) in
-    omega (arith, flag_len row.bare, limit_len row.limit, flag_len row.waited,
-    length-optional_bytes row.error,
-    length_six (text_bytes row.name) (number_bytes row.scope) (flag_bytes row.bare)
-    (limit_bytes row.limit) (flag_bytes row.waited) (optional_bytes row.error))
+    omega (
+      arith,
+      flag_len row.bare,
+      limit_len row.limit,
+      flag_len row.waited,
+      length-optional_bytes row.error,
+      length_six (text_bytes row.name) (number_bytes row.scope) (flag_bytes row.bare)
+          (limit_bytes row.limit) (flag_bytes row.waited) (optional_bytes row.error),
+    )
 
 -- The row of a task has 134 bytes at most, and two more with its link.
 pub task_len_most :
@@ -139,6 +149,12 @@ task_len_most version row ok =
     name_len row.argument (second_true _ _ (first_true _ _ (first_true _ _ ok))) in
     let stage = stage_len row.stage (second_true _ _ (first_true _ _ ok)) in
     let link = link_len version row.retry_of in
-    omega (arith, job, argument, stage, link,
-    length_five (number_bytes row.group) (text_bytes row.job) (text_bytes row.argument)
-    (stage_bytes row.stage) (link_bytes version row.retry_of))
+    omega (
+      arith,
+      job,
+      argument,
+      stage,
+      link,
+      length_five (number_bytes row.group) (text_bytes row.job) (text_bytes row.argument)
+          (stage_bytes row.stage) (link_bytes version row.retry_of),
+    )

@@ -1,6 +1,6 @@
 -- An image has one version and one state, and its bytes are few.
-use Rattle.std.proofs.Common.{◌≡◌, ℕ, ◌==◌, cond, List, [], ◌∷◌, ◌++◌, length, drop, Option}
-use Rattle.std.proofs.Common.{Some, None, slice_get, refl, sym, ap, ◌∙◌, append_assoc}
+use Rattle.std.proofs.Common.{◌≡◌, ℕ, List, [], ◌∷◌, ◌++◌, drop, Option}
+use Rattle.std.proofs.Common.{Some, slice_get, sym, ap, ◌∙◌, append_assoc}
 use Rattle.std.specs.List.{flat_map}
 use Rattle.std.proofs.lemmas.Option.{same_Some, none-some}
 use Rattle.std.proofs.lemmas.List.{append-nil}
@@ -45,8 +45,11 @@ image_at layout bytes = do
 image_again :
     (version : ImageVersion) (layout : Layout) (p : State) → IsInRange version layout p →
     image_at layout (image_in version p)
-    ≡ Some (version, state_made layout (head_of version p) (drop 1 p.tree.scopes) p.work.groups
-    p.work.tasks)
+    ≡ Some (
+      version,
+      state_made layout (head_of version p) (drop 1 p.tree.scopes) p.work.groups
+          p.work.tasks,
+    )
 image_again version layout p ok =
     let head = head_bytes (head_of version p) in
     let scopes = flat_map scope_bytes (drop 1 p.tree.scopes) in
@@ -67,21 +70,30 @@ image_read :
     IsImage version layout bytes p → image_at layout bytes ≡ Some (version, p)
 image_read version layout bytes p image =
     ap (image_at layout) image.is ∙ image_again version layout p image.ranged
-    ∙ ap (λ scopes. Some (version, record {
-      count = p.count;
-      tree = record { layout = layout; clock = p.tree.clock; scopes = scopes };
-      work = record { layout = layout; groups = p.work.groups; tasks = p.work.tasks };
-    })) (rooted_list p.tree.scopes image.consistent.numbered.rooted)
-    ∙ ap (λ l. Some (version, record {
-      count = p.count;
-      tree = record { layout = l; clock = p.tree.clock; scopes = p.tree.scopes };
-      work = record { layout = layout; groups = p.work.groups; tasks = p.work.tasks };
-    })) (sym image.has_layout.tree)
-    ∙ ap (λ l. Some (version, record {
-      count = p.count;
-      tree = p.tree;
-      work = record { layout = l; groups = p.work.groups; tasks = p.work.tasks };
-    })) (sym image.has_layout.work)
+    ∙ ap (λ scopes. Some (
+      version,
+      record {
+        count = p.count;
+        tree = record { layout = layout; clock = p.tree.clock; scopes = scopes };
+        work = record { layout = layout; groups = p.work.groups; tasks = p.work.tasks };
+      },
+    )) (rooted_list p.tree.scopes image.consistent.numbered.rooted)
+    ∙ ap (λ l. Some (
+      version,
+      record {
+        count = p.count;
+        tree = record { layout = l; clock = p.tree.clock; scopes = p.tree.scopes };
+        work = record { layout = layout; groups = p.work.groups; tasks = p.work.tasks };
+      },
+    )) (sym image.has_layout.tree)
+    ∙ ap (λ l. Some (
+      version,
+      record {
+        count = p.count;
+        tree = p.tree;
+        work = record { layout = l; groups = p.work.groups; tasks = p.work.tasks };
+      },
+    )) (sym image.has_layout.work)
 
 pub one_state :
     (version other : ImageVersion) (layout : Layout) (bytes : List ℕ) (p q : State) →

@@ -5,7 +5,7 @@
 //! | 2 | group |
 //! | 2 to 33 | job, a name |
 //! | 2 to 33 | argument, a name |
-//! | 1 or more | stage: 0 not started, 1 running, 2 success, 3 failure and its text, 4 interrupted |
+//! | 1 or more | stage: 0 fresh, 1 running, 2 success, 3 failure and its text, 4 interrupted |
 //! | 2 | in version 2 the task that it is a retry of, or 65,535 where it is none |
 
 ghost use Rattle.std.specs.Prelude.{◌≡◌, ◌≤◌, ◌+◌, length, IfSome, IsTrue};

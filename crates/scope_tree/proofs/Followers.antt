@@ -1,6 +1,7 @@
 -- A row that can follow keeps the rules, and the rows of a tree that keeps them can follow.
-use Rattle.std.proofs.Common.{◌≡◌, ◌<◌, ◌≤◌, ℕ, zero, suc, ◌+◌, ◌==◌, nat_lt, nat_le, not, ◌&&◌, cond, Bool}
-use Rattle.std.proofs.Common.{true, false, List, [], ◌∷◌, ◌++◌, length, Option, Some, None, slice_get}
+use Rattle.std.proofs.Common.{◌≡◌, ◌<◌, ◌≤◌, ℕ, zero, suc, ◌==◌, nat_le, not, cond, Bool}
+use Rattle.std.proofs.Common.{true, false, List, [], ◌∷◌, ◌++◌, length, Option, Some, None}
+use Rattle.std.proofs.Common.{slice_get}
 use Rattle.std.proofs.Common.{inl, inr, refl, sym, ap, ◌∙◌, subst, arith, append_assoc}
 use Rattle.std.proofs.Common.{length-append}
 use Rattle.std.specs.Prelude.{IsTrue, IsSome}
@@ -22,7 +23,6 @@ use Rattle.run_model.specs.RuleParts.{HitFits, AreScopeRules}
 use Rattle.run_model.specs.Scopes.{is_root, own_deadline, AreOrdered}
 use Rattle.run_model.proofs.NameLemmas.{names_pushed, name_is_free, unpassed}
 use Rattle.run_model.proofs.RowLemmas.{push_cases, slice_get-push_left}
-use Rattle.record_view.specs.Reading.{◌>>=◌}
 use Rattle.record_view.specs.Image.{is_kept_kind, is_kept_scope, scope_bytes}
 use Rattle.record_view.specs.RowReading.{scope_at}
 use Rattle.record_view.proofs.Codecs.{both_true, first_true, second_true, through}

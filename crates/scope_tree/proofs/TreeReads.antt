@@ -1,6 +1,7 @@
 -- The tree that is read, and the rows of a tree that can be written.
-use Rattle.std.proofs.Common.{◌≡◌, ◌<◌, ◌≤◌, ◌-◌, ℕ, zero, suc, ◌+◌, ◌&&◌, nat_lt, cond, Bool, true, false, List, []}
-use Rattle.std.proofs.Common.{◌∷◌, ◌++◌, length, take, drop, Option, Some, None, slice_get, refl, sym, ap}
+use Rattle.std.proofs.Common.{◌≡◌, ◌<◌, ◌≤◌, ◌-◌, ℕ, suc, ◌+◌, ◌&&◌, nat_lt, cond, Bool, true}
+use Rattle.std.proofs.Common.{false, List, []}
+use Rattle.std.proofs.Common.{◌∷◌, ◌++◌, length, take, drop, Some, None, slice_get, refl, sym, ap}
 use Rattle.std.proofs.Common.{◌∙◌, subst, arith, length-append, length-drop}
 use Rattle.std.specs.List.{flat_map}
 use Rattle.std.proofs.lemmas.Bool.{lt-ltb, le-ltb, le-leb, leb-true, ltb-true, false_from_ne_true}
@@ -12,7 +13,6 @@ use Rattle.run_model.specs.declared.scopes.Kind.{Kind}
 use Rattle.run_model.specs.declared.scopes.Kind.TheVariants as kinds
 use Rattle.run_model.specs.declared.scopes.Reason.{Reason}
 use Rattle.run_model.specs.declared.scopes.Reason.TheVariants.{Canceled, DeadlineExceeded}
-use Rattle.run_model.specs.declared.scopes.Hit.{Hit}
 use Rattle.run_model.specs.declared.scopes.Scope.{Scope}
 use Rattle.run_model.specs.Layouts.{most_scopes}
 use Rattle.run_model.specs.Records.{is_moment}
@@ -21,16 +21,16 @@ use Rattle.run_model.specs.Rows.{root}
 use Rattle.run_model.specs.Rules.{is_group_kind}
 use Rattle.run_model.specs.Scopes.{is_root, own_deadline}
 use Rattle.run_model.specs.State.{TreeState}
-use Rattle.record_view.specs.Reading.{◌>>=◌, one}
+use Rattle.record_view.specs.Reading.{one}
 use Rattle.record_view.specs.declared.heads.ImageHead.{ImageHead}
 use Rattle.record_view.specs.Image.{scope_bytes}
 use Rattle.record_view.proofs.Codecs.{through, first_true, second_true}
 use Rattle.record_view.proofs.WholeImages.{rooted_list}
-use Rattle.scope_tree.specs.Sound.{AreRooted, IsPastHit, ArePastHits}
+use Rattle.scope_tree.specs.Sound.{AreRooted, ArePastHits}
 use Rattle.scope_tree.specs.TreeRows.{AreWritable, more_rows_at, tree_at, tree_made}
 use Rattle.scope_tree.specs.TreeRows.{has_tree_room}
 use Rattle.scope_tree.specs.TreeRules.{AreTreeRows}
-use Rattle.scope_tree.proofs.Followers.{AreMore, more_are, rules_at_first, more_again}
+use Rattle.scope_tree.proofs.Followers.{more_are, rules_at_first, more_again}
 use Rattle.scope_tree.proofs.Followers.{AreAllKept, cond_some_by}
 use Rattle.scope_tree.proofs.Sounding.{AreSound, tree_of}
 
@@ -213,4 +213,10 @@ tree_again layout head bytes t rest are =
     ∙ ap (λ n. more_rows_at head.count head.clock n (root ∷ [])
     (flat_map scope_bytes back ++ rest)) (sym many)
     ∙ read ∙ ap (λ r. Some (r, rest)) whole in
-    rw (are.moment, lt-ltb head.scopes (most_scopes layout) less, here, ← are.clock, ← are.has_layout)
+    rw (
+      are.moment,
+      lt-ltb head.scopes (most_scopes layout) less,
+      here,
+      ← are.clock,
+      ← are.has_layout,
+    )

@@ -1,7 +1,7 @@
 -- The rows of a tree in an image: which can follow which, and the tree that some bytes spell.
-use Rattle.std.specs.Prelude.{◌≡◌, ◌≤◌, ℕ, zero, suc, ◌==◌, nat_lt, nat_le, Bool, true, false, not}
+use Rattle.std.specs.Prelude.{◌≡◌, ℕ, zero, suc, ◌==◌, nat_lt, nat_le, Bool, true, false, not}
 use Rattle.std.specs.Prelude.{◌&&◌, if◌then◌else◌, List, [], ◌∷◌, ◌++◌, length, Option, Some, None}
-use Rattle.std.specs.Prelude.{is_none, position, slice_get, drop, IsTrue}
+use Rattle.std.specs.Prelude.{is_none, position, slice_get}
 use Rattle.std.specs.Option.{option_map_or}
 use Rattle.std.specs.Str.{bytes_eq}
 use Rattle.run_model.specs.declared.layouts.Layout.{Layout}
@@ -53,12 +53,13 @@ can_follow count clock rows row =
     nat_lt row.parent (length rows) && is_none (position (λ r. bytes_eq row.name r.name) rows)
     && hit_fits count clock row.kind row.hit
 
--- These rows, and so many more off the front of the bytes, each of which can follow.
+-- These rows, and so many more off the front of the bytes, each of which can follow in a state of
+-- this count and clock.
 abbrev pub more_rows_at : ℕ → ℕ → ℕ → List Scope → Reader (List Scope)
-more_rows_at count clock zero rows bytes = Some (rows, bytes)
-more_rows_at count clock (suc n) rows bytes = do
+more_rows_at e t zero rows bytes = Some (rows, bytes)
+more_rows_at e t (suc n) rows bytes = do
   row ← scope_at bytes
-  if can_follow count clock rows row.0 then more_rows_at count clock n (rows ++ row.0 ∷ []) row.1 else None
+  if can_follow e t rows row.0 then more_rows_at e t n (rows ++ row.0 ∷ []) row.1 else None
 
 -- The tree of these rows.
 abbrev pub tree_made : Layout → ImageHead → List Scope → TreeState
@@ -72,5 +73,6 @@ has_tree_room layout head = is_moment head.clock && nat_lt head.scopes (most_sco
 unfoldable pub tree_at : Layout → ImageHead → Reader TreeState
 tree_at layout head bytes =
     if has_tree_room layout head
-    then one (more_rows_at head.count head.clock head.scopes (root ∷ [])) (tree_made layout head) bytes
+    then one (more_rows_at head.count head.clock head.scopes (root ∷ []))
+        (tree_made layout head) bytes
     else None

@@ -1,0 +1,180 @@
+//! The rows of trees in images, written and read: the worked image in both versions, rows that
+//! break one rule each, and the greatest trees.
+
+use record_view::{ImageHead, ImageVersion, put_head, read_head};
+use run_model::{Fault, Layout, Reason};
+use scope_tree::Tree;
+use std::test::Fail;
+
+/// Scope a, which was cancelled by event 4 with the cause `disk`, and its child b, in version 2.
+const IMAGE: &[u8; 57] = b"\x02\x00\x00\x00\x00\x00\x00\x00\x00\x00\x00\x00\x00\x00\x00\x00\x04\
+    \x00\x02\x00\x00\x00\x00\x01a\x00\x00\x02\x01\x00\x00\x00\x00\x00\x00\x00\x04\x00\x00\x00\x00\
+    \x00\x00\x00\x00\x01\x04disk\x01b\x00\x01\x01\x00";
+
+/// The head of an image with so many scopes, at clock 200 and behind ten events.
+fn head(scopes: u16) -> ImageHead {
+    ImageHead {
+        version: ImageVersion::Two,
+        clock: 200,
+        count: 10,
+        scopes,
+        groups: 0,
+        tasks: 0,
+    }
+}
+
+#[test]
+fn image_of_57_bytes(rt: HostRuntime) -> Result<(), Fail> {
+    for version in [1, 2] {
+        let mut image = *IMAGE;
+        image[0] = version;
+        let (head, rest) = read_head(&image, Layout::Small).ok_or("no head")?;
+        let tree = Tree::with_room(rt.alloc(), Layout::Small)?;
+        let (tree, rest) = tree.read_rows(&head, rest)?;
+        assert!(rt; rest.is_empty(), "version {version}");
+        assert_eq!(rt; tree.len(), 3, "version {version}");
+        assert_eq!(rt; tree.err(2), Some(Reason::Canceled), "version {version}");
+        assert_eq!(rt; tree.cause(2), Some(b"disk".as_slice()), "version {version}");
+        let mut out = [0xee; 500];
+        let end = put_head(&mut out, 0, &head);
+        let end = tree.write_rows(&mut out, end);
+        assert_eq!(rt; end, 57, "version {version}");
+        assert_eq!(rt; &out[..57], IMAGE.as_slice(), "version {version}");
+    }
+    Ok(())
+}
+
+#[test]
+fn rows_that_keep_the_rules_are_read(rt: HostRuntime) -> Result<(), Fail> {
+    let rows = [
+        ("no scope", 0, b"".as_slice()),
+        ("each kind without a hit", 5, b"\x01a\x00\x00\x01\x00\x01b\x00\x01\x02\x00\
+            \x01c\x00\x02\x04\x01k\x01x\x00\x01d\x00\x03\x05\x00\x01e\x00\x04\x06\x00"),
+        ("a deadline to come", 1,
+            b"\x01d\x00\x00\x03\x00\x00\x00\x00\x00\x00\x00\xc9\x00\x00"),
+        ("a deadline that was exceeded", 1,
+            b"\x01d\x00\x00\x03\x00\x00\x00\x00\x00\x00\x00\xc8\x01x\x01\x00\x00\x00\x00\x00\x00\
+            \x00\x0a\x00\x00\x00\x00\x00\x00\x00\xc8\x02\x01x"),
+        ("a deadline that was cancelled before it came", 1,
+            b"\x01d\x00\x00\x03\x00\x00\x00\x00\x00\x00\x00\xc8\x00\x01\x00\x00\x00\x00\x00\x00\
+            \x00\x01\x00\x00\x00\x00\x00\x00\x00\x00\x01\x01x"),
+        ("a group's scope with a hit", 1,
+            b"\x01g\x00\x00\x06\x01\x00\x00\x00\x00\x00\x00\x00\x01\x00\x00\x00\x00\x00\x00\x00\
+            \x00\x01\x01x"),
+    ];
+    for (what, scopes, bytes) in rows {
+        let tree = Tree::with_room(rt.alloc(), Layout::Small)?;
+        let read = tree.read_rows(&head(scopes), bytes);
+        let found = match read {
+            Ok((tree, rest)) => tree.len() == scopes as usize + 1 && rest.is_empty(),
+            Err(_) => false,
+        };
+        assert!(rt; found, "{what}");
+    }
+    Ok(())
+}
+
+/// Says whether so many scopes are refused, at clock 200 and behind ten events.
+fn is_refused(tree: Tree, scopes: u16, bytes: &[u8]) -> bool {
+    match tree.read_rows(&head(scopes), bytes) {
+        Ok(_) => false,
+        Err(fault) => fault == Fault::BadImage,
+    }
+}
+
+#[test]
+fn rows_that_break_a_rule_are_refused(rt: HostRuntime) -> Result<(), Fail> {
+    let rows = [
+        ("a row too few", 1, b"".as_slice()),
+        ("a byte too few", 1, b"\x01a\x00\x00\x01"),
+        ("a scope too many", 1024, b"\x01a\x00\x00\x01\x00"),
+        ("its own parent", 1, b"\x01a\x00\x01\x01\x00"),
+        ("a parent behind it", 2, b"\x01a\x00\x02\x01\x00\x01b\x00\x00\x01\x00"),
+        ("two scopes of one name", 2, b"\x01a\x00\x00\x01\x00\x01a\x00\x00\x01\x00"),
+        ("the name of root", 1, b"\x04root\x00\x00\x01\x00"),
+        ("no name", 1, b"\x00\x00\x00\x01\x00"),
+        ("a byte that no name has", 1, b"\x01A\x00\x00\x01\x00"),
+        ("kind 0", 1, b"\x01a\x00\x00\x00\x00"),
+        ("kind 7", 1, b"\x01a\x00\x00\x07\x00"),
+        ("a hit that is neither 0 nor 1", 1, b"\x01a\x00\x00\x01\x02"),
+        ("a deadline that has come and has no hit", 1,
+            b"\x01d\x00\x00\x03\x00\x00\x00\x00\x00\x00\x00\xc8\x00\x00"),
+        ("a hit of event 0", 1,
+            b"\x01a\x00\x00\x01\x01\x00\x00\x00\x00\x00\x00\x00\x00\x00\x00\x00\x00\x00\x00\x00\x00\
+            \x01\x01x"),
+        ("a hit later than the count", 1,
+            b"\x01a\x00\x00\x01\x01\x00\x00\x00\x00\x00\x00\x00\x0b\x00\x00\x00\x00\x00\x00\x00\x00\
+            \x01\x01x"),
+        ("a hit past the clock", 1,
+            b"\x01a\x00\x00\x01\x01\x00\x00\x00\x00\x00\x00\x00\x01\x00\x00\x00\x00\x00\x00\x00\xc9\
+            \x01\x01x"),
+        ("a hit on a value", 1,
+            b"\x01v\x00\x00\x04\x01k\x01x\x01\x00\x00\x00\x00\x00\x00\x00\x01\x00\x00\x00\x00\x00\
+            \x00\x00\x00\x01\x01x"),
+        ("a hit on a detached scope", 1,
+            b"\x01d\x00\x00\x05\x01\x00\x00\x00\x00\x00\x00\x00\x01\x00\x00\x00\x00\x00\x00\x00\
+            \x00\x01\x01x"),
+        ("an exceeded deadline where there is none", 1,
+            b"\x01a\x00\x00\x01\x01\x00\x00\x00\x00\x00\x00\x00\x01\x00\x00\x00\x00\x00\x00\x00\x00\
+            \x02\x01x"),
+        ("a deadline exceeded at another moment", 1,
+            b"\x01d\x00\x00\x03\x00\x00\x00\x00\x00\x00\x00\xc8\x00\x01\x00\x00\x00\x00\x00\x00\
+            \x00\x01\x00\x00\x00\x00\x00\x00\x00\xc7\x02\x01x"),
+        ("reason 0", 1,
+            b"\x01a\x00\x00\x01\x01\x00\x00\x00\x00\x00\x00\x00\x01\x00\x00\x00\x00\x00\x00\x00\x00\
+            \x00\x01x"),
+        ("reason 3", 1,
+            b"\x01a\x00\x00\x01\x01\x00\x00\x00\x00\x00\x00\x00\x01\x00\x00\x00\x00\x00\x00\x00\x00\
+            \x03\x01x"),
+        ("a hit without a cause", 1,
+            b"\x01a\x00\x00\x01\x01\x00\x00\x00\x00\x00\x00\x00\x01\x00\x00\x00\x00\x00\x00\x00\x00\
+            \x01\x00"),
+    ];
+    for (what, scopes, bytes) in rows {
+        let tree = Tree::with_room(rt.alloc(), Layout::Small)?;
+        assert!(rt; is_refused(tree, scopes, bytes), "{what}");
+    }
+    Ok(())
+}
+
+/// The row of scope `n`, below 10,000, with every field of the greatest length: a deadline scope
+/// that was exceeded, with a name of 32 bytes and a cause of 64 twice.
+fn greatest_row(n: u16) -> [u8; 192] {
+    let mut row = [b'x'; 192];
+    row[0] = 32;
+    for (at, place) in row[1..5].iter_mut().zip([1_000, 100, 10, 1]) {
+        *at = b'0' + (n / place % 10) as u8;
+    }
+    row[33..44].fill(0);
+    row[35] = 3;
+    row[44] = 64;
+    row[109..126].fill(0);
+    row[109] = 1;
+    row[117] = 1;
+    row[126] = 2;
+    row[127] = 64;
+    row
+}
+
+#[test]
+fn greatest_trees(rt: HostRuntime) -> Result<(), Fail> {
+    for (layout, scopes, len) in [
+        (Layout::Small, 1_023, 196_416),
+        (Layout::Large, 4_095, 786_240),
+    ] {
+        let mut rows = Vec::with_capacity(rt.alloc(), len)?;
+        for n in 0..scopes {
+            rows.extend_from_slice(&greatest_row(n))?;
+        }
+        assert_eq!(rt; rows.len(), len, "{scopes} scopes");
+        let tree = Tree::with_room(rt.alloc(), layout)?;
+        let (tree, rest) = tree.read_rows(&head(scopes), &rows)?;
+        assert!(rt; rest.is_empty(), "{scopes} scopes");
+        assert_eq!(rt; tree.len(), scopes as usize + 1, "{scopes} scopes");
+        let mut again = Vec::from_elem(rt.alloc(), 0, len)?;
+        assert!(rt; 192 * tree.len().saturating_sub(1) <= again.len(), "{scopes} scopes");
+        assert_eq!(rt; tree.write_rows(&mut again, 0), len, "{scopes} scopes");
+        assert!(rt; rows == again, "{scopes} scopes");
+    }
+    Ok(())
+}
