@@ -1,11 +1,10 @@
 //! The places of both layouts, and the rows of calls that the laws speak of.
 
-use run_disk::MemoryDisk;
 use run_journal::Journal;
-use run_model::{Fault, Layout};
+use run_model::Layout;
 use run_store::{place_of_segment, segment_size, slot_size};
 use std::test::Fail;
-use store_laws::laws::{open_store, use_new_store_in_memory};
+use store_laws::laws::use_new_store_in_memory;
 
 /// How many bytes a slot and a segment have, and where the segments begin.
 static SIZES: [(Layout, u64, u64, [u64; 2]); 2] = [
@@ -48,17 +47,5 @@ fn a_row_of_calls_ends_in_its_last_pair(rt: HostRuntime) -> Result<(), Fail> {
             "in {layout:?}"
         );
     }
-    Ok(())
-}
-
-#[test]
-fn a_disk_that_holds_no_store_is_given_back(rt: HostRuntime) -> Result<(), Fail> {
-    let alloc = rt.alloc();
-    let zeros = MemoryDisk::new(alloc, 1_572_864)?;
-    let told = match open_store(alloc, zeros) {
-        Ok(_) => None,
-        Err((fault, disk)) => Some((fault, disk.calls())),
-    };
-    assert_eq!(rt; told, Some((Fault::NotAStore, 2)));
     Ok(())
 }
