@@ -19,11 +19,7 @@ fn numbered(n: u16) -> Result<Name, &'static str> {
 }
 
 /// Makes 128 groups of limit 1, and submits tasks to them in turn until there is no room.
-fn fill(
-    rt: &impl Abort,
-    runner: &mut Runner<&LocalHeap>,
-    tasks: u16,
-) -> Result<(), Fail> {
+fn fill(rt: &impl Abort, runner: &mut Runner<&LocalHeap>, tasks: u16) -> Result<(), Fail> {
     let (job, argument) = (name(b"copy")?, name(b"a")?);
     for g in 0..128 {
         assert_eq!(rt; runner.make(&numbered(g)?, g, true)?, g);
@@ -35,7 +31,10 @@ fn fill(
         assert_eq!(rt; runner.groups().phase(n), Some(phase), "task {n}");
     }
     assert_eq!(rt; runner.go(0, &job, &argument), Err(Refusal::TooManyTasks));
-    assert_eq!(rt; runner.make(&name(b"more")?, 0, true), Err(Refusal::TooManyGroups));
+    assert_eq!(rt;
+        runner.make(&name(b"more")?, 0, true),
+        Err(Refusal::TooManyGroups)
+    );
     Ok(())
 }
 
@@ -46,9 +45,13 @@ fn run_all(rt: &impl Abort, runner: &mut Runner<&LocalHeap>, tasks: u16) -> Resu
         assert_eq!(rt; runner.groups().running(), 1, "task {n}");
         assert_eq!(rt; runner.finish(n, &Outcome::Success)?, None);
         assert_eq!(rt; runner.groups().phase(n), Some(Phase::Success), "task {n}");
-        let next = n + 128;
+        let next = n.saturating_add(128);
         if next < tasks {
-            assert_eq!(rt; runner.groups().phase(next), Some(Phase::Ready), "task {next}");
+            assert_eq!(rt;
+                runner.groups().phase(next),
+                Some(Phase::Ready),
+                "task {next}"
+            );
         }
     }
     assert_eq!(rt; runner.start(), Err(Refusal::NothingReady));

@@ -1,5 +1,5 @@
-//! Tests of groups and tasks: each call on its way, its refusals in their order, want of memory, and
-//! a few hundred random events beside a plain program that counts.
+//! Tests of groups and tasks: each call on its way, its refusals in their order, want of memory,
+//! and a few hundred random events beside a plain program that counts.
 #![tactic(auto)]
 
 #[cfg(test)]

@@ -97,9 +97,9 @@ impl Plain {
         if self.groups.len() >= 128 {
             return Ok(Answer::Refused(Refusal::TooManyGroups));
         }
-        let number = self.groups.len() as u16;
+        let made = number(self.groups.len());
         self.groups.push(Group::new(name.copy(), scope, bare))?;
-        Ok(Answer::Done(number))
+        Ok(Answer::Done(made))
     }
 
     /// Sets a limit.
@@ -142,7 +142,7 @@ impl Plain {
         }
         self.tasks
             .push(Task::new(group, job.copy(), argument.copy(), None))?;
-        Ok(Answer::Done(count as u16))
+        Ok(Answer::Done(number(count)))
     }
 
     /// Submits a task anew.
@@ -166,7 +166,7 @@ impl Plain {
         }
         let again = Task::new(task.group, task.job.copy(), task.argument.copy(), Some(n));
         self.tasks.push(again)?;
-        Ok(Answer::Done(count as u16))
+        Ok(Answer::Done(number(count)))
     }
 
     /// Starts the least ready task.
@@ -175,15 +175,12 @@ impl Plain {
         if let Some(task) = self.tasks.get_mut(n) {
             task.stage = Stage::Running;
         }
-        Ok(n as u16)
+        Ok(number(n))
     }
 
     /// Ends a task, and gives the scope that is told.
     pub fn finish(&mut self, n: u16, outcome: &Outcome) -> Result<Option<u16>, Refusal> {
-        let task = self
-            .tasks
-            .get_mut(n as usize)
-            .ok_or(Refusal::NoSuchTask)?;
+        let task = self.tasks.get_mut(n as usize).ok_or(Refusal::NoSuchTask)?;
         if task.stage != Stage::Running {
             return Err(Refusal::NotRunning);
         }
@@ -218,7 +215,7 @@ impl Plain {
             .get_mut(group as usize)
             .ok_or(Refusal::NoSuchGroup)?;
         if unfinished != 0 {
-            return Err(Refusal::Unfinished(unfinished as u16));
+            return Err(Refusal::Unfinished(number(unfinished)));
         }
         if row.waited {
             return Ok(None);
@@ -255,4 +252,9 @@ impl Plain {
 /// Not started, or started and not ended.
 fn is_unfinished(stage: &Stage) -> bool {
     matches!(stage, Stage::Fresh | Stage::Running)
+}
+
+/// The number of a row; those of a test are small.
+pub fn number(n: usize) -> u16 {
+    n.min(65_535) as u16
 }

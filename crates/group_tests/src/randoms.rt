@@ -3,7 +3,7 @@
 
 ghost use Rattle.std.specs.Prelude.{◌<◌};
 
-use crate::plain::{Answer, Plain};
+use crate::plain::{Answer, Plain, number};
 use crate::runners::Runner;
 use run_model::{Layout, Limit, Name, Outcome, Refusal, Text};
 use std::alloc::Global;
@@ -71,15 +71,15 @@ impl Pair {
     /// A group is made, or its limit is set, or it is waited for.
     fn group_event(&mut self, rt: &impl Abort, dice: &mut Dice) -> Result<(), Fail> {
         let group = dice.roll(11) as u16;
-        match dice.roll(4) {
-            0..=1 => {
+        match dice.roll(16) {
+            0..=7 => {
                 let name = dice.name()?;
                 let scope = dice.roll(50) as u16;
                 let bare = dice.roll(3) == 0;
                 let one = self.runner.make(&name, scope, bare);
                 assert_same(rt, "make", one, self.plain.make(&name, scope, bare)?);
             }
-            2 => {
+            8..=14 => {
                 let limit = dice.limit()?;
                 let one = self.runner.set_limit(group, limit);
                 assert_eq!(rt; one, self.plain.set_limit(group, limit), "limit of {group}");
@@ -99,14 +99,25 @@ impl Pair {
         match dice.roll(5) {
             0..=2 => {
                 let one = self.runner.go(group, &job, &argument);
-                assert_same(rt, "go", one, self.plain.submit(group, &job, &argument, false)?);
+                assert_same(
+                    rt,
+                    "go",
+                    one,
+                    self.plain.submit(group, &job, &argument, false)?,
+                );
             }
             3 => {
                 let one = self.runner.try_go(group, &job, &argument);
-                assert_same(rt, "try", one, self.plain.submit(group, &job, &argument, true)?);
+                assert_same(
+                    rt,
+                    "try",
+                    one,
+                    self.plain.submit(group, &job, &argument, true)?,
+                );
             }
             _ => {
-                let task = dice.roll(self.plain.tasks().len() as u64 + 1) as u16;
+                let count = self.plain.tasks().len() as u64;
+                let task = number(dice.roll(count.saturating_add(1)) as usize);
                 let one = self.runner.retry(task);
                 assert_same(rt, "retry", one, self.plain.retry(task)?);
             }
@@ -122,7 +133,7 @@ impl Pair {
         }
         let count = self.plain.tasks().len();
         for back in 0..30 {
-            let task = count.saturating_sub(back) as u16;
+            let task = number(count.saturating_sub(back));
             let outcome = dice.outcome()?;
             let one = self.runner.finish(task, &outcome);
             assert_eq!(rt; one, self.plain.finish(task, &outcome), "finish {task}");
@@ -135,7 +146,11 @@ impl Pair {
         let text = Text::read(b"interrupted").ok_or("no text")?;
         let told = self.runner.restart();
         let plain = self.plain.restart(alloc, &text)?;
-        assert_eq!(rt; told.as_slice(), plain.as_slice(), "the scopes that are told");
+        assert_eq!(rt;
+            told.as_slice(),
+            plain.as_slice(),
+            "the scopes that are told"
+        );
         Ok(())
     }
 
@@ -153,19 +168,23 @@ impl Pair {
     fn assert_alike(&self, rt: &impl Abort) {
         let groups = self.runner.groups();
         assert_eq!(rt; groups.running(), self.plain.running(), "running tasks");
-        let first = self.plain.first_ready().map(|n| n as u16);
+        let first = self.plain.first_ready().map(|n| number(n));
         assert_eq!(rt; groups.next_ready(), first, "the least ready task");
         let count = self.plain.tasks().len();
         assert_eq!(rt; groups.count(), count, "tasks");
         for (g, row) in self.plain.groups().iter().enumerate() {
-            assert_eq!(rt; groups.group(g as u16), Some(row), "group {g}");
-            let look = groups.result(g as u16);
+            assert_eq!(rt; groups.group(number(g)), Some(row), "group {g}");
+            let look = groups.result(number(g));
             let unfinished = look.map(|look| look.unfinished as usize);
-            assert_eq!(rt; unfinished, Some(self.plain.before(g as u16, count)), "group {g}");
+            assert_eq!(rt;
+                unfinished,
+                Some(self.plain.before(number(g), count)),
+                "group {g}"
+            );
         }
         for (n, row) in self.plain.tasks().iter().enumerate() {
-            assert_eq!(rt; groups.task(n as u16), Some(row), "task {n}");
-            assert_eq!(rt; groups.phase(n as u16), self.plain.phase(n), "task {n}");
+            assert_eq!(rt; groups.task(number(n)), Some(row), "task {n}");
+            assert_eq!(rt; groups.phase(number(n)), self.plain.phase(n), "task {n}");
         }
     }
 }

@@ -47,9 +47,10 @@ impl<A: Allocator> Runner<A> {
     /// Submits a task that is ready at once.
     pub fn try_go(&mut self, group: u16, job: &Name, argument: &Name) -> Result<u16, Refusal> {
         self.groups.check_try(group)?;
-        Ok(self
-            .groups
-            .try_go(group, job.as_bytes(), argument.as_bytes()))
+        Ok(
+            self.groups
+                .try_go(group, job.as_bytes(), argument.as_bytes()),
+        )
     }
 
     /// Submits a task anew.

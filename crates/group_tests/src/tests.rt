@@ -1,224 +1,346 @@
-//! Each call on its way, and its refusals in their order.
+//! Each call on its way, and its refusals in their order: tables of calls with what each is
+//! answered.
 
 use crate::runners::Runner;
-use run_model::{Layout, Limit, Name, Outcome, Phase, Refusal, Stage, Text};
+use run_model::{Layout, Limit, Name, Outcome, Phase, Refusal, Text};
 use std::process::Abort;
 use std::test::Fail;
 use task_group::interruption;
+
+/// A call of a runner. Groups and tasks go by number.
+#[derive(Clone, Copy)]
+enum Call {
+    /// A group of this name in this scope, bare or not.
+    Make(&'static [u8], u16, bool),
+    /// The limit of a group.
+    Limit(u16, u8),
+    /// A task of this argument.
+    Go(u16, &'static [u8]),
+    /// The same, ready at once.
+    Try(u16, &'static [u8]),
+    /// A task once more.
+    Retry(u16),
+    /// The least ready task.
+    Start,
+    /// A task without an error.
+    Succeed(u16),
+    /// A task with this error.
+    Lose(u16, &'static [u8]),
+    /// A group.
+    Wait(u16),
+}
+
+/// A number that a call gives or a scope that it tells, or why it is refused.
+type Reply = Result<Option<u16>, Refusal>;
 
 fn name(bytes: &[u8]) -> Result<Name, &'static str> {
     Name::read(bytes).ok_or("no name")
 }
 
-fn text(bytes: &[u8]) -> Result<Text, &'static str> {
-    Text::read(bytes).ok_or("no text")
+/// Makes a call of those that submit a task, or none.
+fn submission(runner: &mut Runner, call: Call) -> Result<Option<Reply>, &'static str> {
+    let copy = name(b"copy")?;
+    Ok(match call {
+        Call::Go(group, argument) => {
+            Some(runner.go(group, &copy, &name(argument)?).map(|n| Some(n)))
+        }
+        Call::Try(group, argument) => {
+            Some(
+                runner
+                    .try_go(group, &copy, &name(argument)?)
+                    .map(|n| Some(n)),
+            )
+        }
+        Call::Retry(task) => Some(runner.retry(task).map(|n| Some(n))),
+        _ => None,
+    })
 }
 
-fn limit(most: u8) -> Result<Limit, &'static str> {
-    Limit::new(most).ok_or("no limit")
+/// Makes a call of those that start or end a task, or none.
+fn task_call(runner: &mut Runner, call: Call) -> Result<Option<Reply>, &'static str> {
+    Ok(match call {
+        Call::Start => Some(runner.start().map(|n| Some(n))),
+        Call::Succeed(task) => Some(runner.finish(task, &Outcome::Success)),
+        Call::Lose(task, error) => {
+            let text = Text::read(error).ok_or("no text")?;
+            Some(runner.finish(task, &Outcome::Failure(text)))
+        }
+        _ => None,
+    })
 }
 
-fn failure(bytes: &[u8]) -> Result<Outcome, &'static str> {
-    Ok(Outcome::Failure(text(bytes)?))
+/// Makes a call of those on a group, or none.
+fn group_call(runner: &mut Runner, call: Call) -> Result<Option<Reply>, &'static str> {
+    Ok(match call {
+        Call::Make(called, scope, bare) => {
+            Some(runner.make(&name(called)?, scope, bare).map(|n| Some(n)))
+        }
+        Call::Limit(group, most) => {
+            let limit = Limit::new(most).ok_or("no limit")?;
+            Some(runner.set_limit(group, limit).map(|_| None))
+        }
+        Call::Wait(group) => Some(runner.wait(group)),
+        _ => None,
+    })
+}
+
+/// Makes a call.
+fn answer(runner: &mut Runner, call: Call) -> Result<Reply, &'static str> {
+    if let Some(reply) = submission(runner, call)? {
+        return Ok(reply);
+    }
+    if let Some(reply) = task_call(runner, call)? {
+        return Ok(reply);
+    }
+    group_call(runner, call)?.ok_or("no call")
+}
+
+/// Makes the calls of a table, and asserts what each is answered.
+fn assert_replies(
+    rt: &impl Abort,
+    runner: &mut Runner,
+    rows: &[(Call, Reply)],
+) -> Result<(), Fail> {
+    for (n, row) in rows.iter().enumerate() {
+        let reply = answer(runner, row.0)?;
+        assert_eq!(rt; &reply, &row.1, "row {n}");
+    }
+    Ok(())
 }
 
 /// Asserts how far the tasks are, by ascending number.
 fn assert_phases(rt: &impl Abort, runner: &Runner, phases: &[Phase]) {
     assert_eq!(rt; runner.groups().count(), phases.len());
     for (n, phase) in phases.iter().enumerate() {
-        assert_eq!(rt; runner.groups().phase(n as u16).as_ref(), Some(phase), "task {n}");
+        assert_eq!(rt;
+            runner.groups().phase(n.min(65_535) as u16).as_ref(),
+            Some(phase),
+            "task {n}"
+        );
     }
 }
 
-/// Asserts what is seen of a group: unfinished tasks, limit, whether it was waited for, error.
-fn assert_result(
-    rt: &impl Abort,
-    runner: &Runner,
-    group: u16,
-    wanted: (u16, Option<u8>, bool, Option<&[u8]>),
-) {
-    match runner.groups().result(group) {
-        Some(look) => {
-            assert_eq!(rt; look.unfinished, wanted.0, "group {group}");
-            assert_eq!(rt; look.limit.get(), wanted.1, "group {group}");
-            assert_eq!(rt; look.waited, wanted.2, "group {group}");
-            let error = look.error.as_ref().map(|text| text.as_bytes());
-            assert_eq!(rt; error, wanted.3, "group {group}");
-        }
-        None => assert!(rt; false, "group {group}"),
-    }
+/// What is seen of a group: unfinished tasks, limit, whether it was waited for, error.
+type Seen = (u16, Option<u8>, bool, Option<&'static [u8]>);
+
+/// Asserts what is seen of a group.
+fn assert_seen(rt: &impl Abort, runner: &Runner, group: u16, seen: Seen) {
+    let look = runner.groups().result(group);
+    let numbers = look
+        .as_ref()
+        .map(|look| (look.unfinished, look.limit.get(), look.waited));
+    assert_eq!(rt; numbers, Some((seen.0, seen.1, seen.2)), "group {group}");
+    let error = look.as_ref().and_then(|look| look.error.as_ref());
+    assert_eq!(rt; error.map(|text| text.as_bytes()), seen.3, "group {group}");
 }
 
 #[test]
 fn limit_holds_tasks_back(rt: HostRuntime) -> Result<(), Fail> {
     let mut runner = Runner::new(rt.alloc(), Layout::Small)?;
-    assert_eq!(rt; runner.make(&name(b"g")?, 1, false)?, 0);
-    runner.set_limit(0, limit(2)?)?;
-    let copy = name(b"copy")?;
-    for (n, argument) in [(0, b"a"), (1, b"b"), (2, b"c")] {
-        assert_eq!(rt; runner.go(0, &copy, &name(argument)?)?, n);
-    }
-    assert_phases(&rt, &runner, &[Phase::Ready, Phase::Ready, Phase::Held]);
-    assert_eq!(rt; runner.try_go(0, &copy, &name(b"d")?), Err(Refusal::AtLimit));
-    assert_eq!(rt; runner.start()?, 0);
-    assert_eq!(rt; runner.finish(0, &Outcome::Success)?, None);
+    let rows = [
+        (Call::Make(b"g", 1, false), Ok(Some(0))),
+        (Call::Limit(0, 2), Ok(None)),
+        (Call::Go(0, b"a"), Ok(Some(0))),
+        (Call::Go(0, b"b"), Ok(Some(1))),
+        (Call::Go(0, b"c"), Ok(Some(2))),
+        (Call::Try(0, b"d"), Err(Refusal::AtLimit)),
+        (Call::Start, Ok(Some(0))),
+        (Call::Succeed(0), Ok(None)),
+        (Call::Wait(0), Err(Refusal::Unfinished(2))),
+        (Call::Limit(0, 3), Err(Refusal::LimitWhileActive)),
+    ];
+    assert_replies(&rt, &mut runner, &rows)?;
     assert_phases(&rt, &runner, &[Phase::Success, Phase::Ready, Phase::Ready]);
-    assert_eq!(rt; runner.wait(0), Err(Refusal::Unfinished(2)));
-    assert_eq!(rt; runner.set_limit(0, limit(3)?), Err(Refusal::LimitWhileActive));
-    assert_result(&rt, &runner, 0, (2, Some(2), false, None));
+    assert_seen(&rt, &runner, 0, (2, Some(2), false, None));
     Ok(())
 }
 
 #[test]
 fn limit_of_0_admits_none(rt: HostRuntime) -> Result<(), Fail> {
     let mut runner = Runner::new(rt.alloc(), Layout::Small)?;
-    runner.make(&name(b"g")?, 1, false)?;
-    runner.set_limit(0, limit(0)?)?;
-    let copy = name(b"copy")?;
-    assert_eq!(rt; runner.go(0, &copy, &copy)?, 0);
+    let rows = [
+        (Call::Make(b"g", 1, false), Ok(Some(0))),
+        (Call::Limit(0, 0), Ok(None)),
+        (Call::Go(0, b"a"), Ok(Some(0))),
+        (Call::Start, Err(Refusal::NothingReady)),
+        (Call::Try(0, b"b"), Err(Refusal::AtLimit)),
+        (Call::Wait(0), Err(Refusal::Unfinished(1))),
+        (Call::Limit(0, 1), Err(Refusal::LimitWhileActive)),
+    ];
+    assert_replies(&rt, &mut runner, &rows)?;
     assert_phases(&rt, &runner, &[Phase::Held]);
-    assert_eq!(rt; runner.start(), Err(Refusal::NothingReady));
-    assert_eq!(rt; runner.try_go(0, &copy, &copy), Err(Refusal::AtLimit));
-    assert_eq!(rt; runner.wait(0), Err(Refusal::Unfinished(1)));
     Ok(())
 }
 
 #[test]
 fn first_error_is_told_and_stays(rt: HostRuntime) -> Result<(), Fail> {
     let mut runner = Runner::new(rt.alloc(), Layout::Small)?;
-    runner.make(&name(b"g")?, 7, false)?;
-    let copy = name(b"copy")?;
-    runner.go(0, &copy, &name(b"a")?)?;
-    assert_eq!(rt; runner.try_go(0, &copy, &name(b"b")?)?, 1);
-    assert_eq!(rt; runner.start()?, 0);
-    assert_eq!(rt; runner.start()?, 1);
-    assert_eq!(rt; runner.groups().running(), 2);
-    assert_eq!(rt; runner.finish(1, &failure(b"x")?)?, Some(7));
-    assert_eq!(rt; runner.finish(0, &failure(b"y")?)?, None);
-    assert_eq!(rt; runner.wait(0)?, Some(7));
-    assert_eq!(rt; runner.wait(0)?, None);
-    assert_result(&rt, &runner, 0, (0, None, true, Some(b"x")));
-    assert_eq!(rt; runner.go(0, &copy, &copy), Err(Refusal::Waited));
-    assert_eq!(rt; runner.set_limit(0, limit(1)?), Err(Refusal::Waited));
+    let rows = [
+        (Call::Make(b"g", 7, false), Ok(Some(0))),
+        (Call::Go(0, b"a"), Ok(Some(0))),
+        (Call::Try(0, b"b"), Ok(Some(1))),
+        (Call::Start, Ok(Some(0))),
+        (Call::Start, Ok(Some(1))),
+        (Call::Lose(1, b"x"), Ok(Some(7))),
+        (Call::Lose(0, b"y"), Ok(None)),
+        (Call::Wait(0), Ok(Some(7))),
+        (Call::Wait(0), Ok(None)),
+        (Call::Go(0, b"c"), Err(Refusal::Waited)),
+        (Call::Limit(0, 1), Err(Refusal::Waited)),
+    ];
+    assert_replies(&rt, &mut runner, &rows)?;
+    assert_seen(&rt, &runner, 0, (0, None, true, Some(b"x")));
     Ok(())
 }
 
 #[test]
 fn bare_group_tells_nothing(rt: HostRuntime) -> Result<(), Fail> {
     let mut runner = Runner::new(rt.alloc(), Layout::Small)?;
-    runner.make(&name(b"h")?, 0, true)?;
-    let copy = name(b"copy")?;
-    runner.go(0, &copy, &copy)?;
-    runner.start()?;
-    assert_eq!(rt; runner.finish(0, &failure(b"x")?)?, None);
-    assert_eq!(rt; runner.wait(0)?, None);
-    assert_result(&rt, &runner, 0, (0, None, true, Some(b"x")));
+    let rows = [
+        (Call::Make(b"h", 0, true), Ok(Some(0))),
+        (Call::Go(0, b"a"), Ok(Some(0))),
+        (Call::Start, Ok(Some(0))),
+        (Call::Lose(0, b"x"), Ok(None)),
+        (Call::Wait(0), Ok(None)),
+    ];
+    assert_replies(&rt, &mut runner, &rows)?;
+    assert_seen(&rt, &runner, 0, (0, None, true, Some(b"x")));
     Ok(())
 }
 
 #[test]
 fn restart_tells_each_group_once(rt: HostRuntime) -> Result<(), Fail> {
     let mut runner = Runner::new(rt.alloc(), Layout::Small)?;
-    // Scope 11 is told by group 1's task 0, scope 10 by group 0's task 1. Group 2 is bare, and
-    // group 3 has an error.
-    for (g, scope, bare) in [(b"a", 10, false), (b"b", 11, false), (b"c", 0, true), (b"d", 12, false)]
-    {
-        runner.make(&name(g)?, scope, bare)?;
+    // The first running task is of group b, the second of group a. Group c is bare, and group d
+    // has an error.
+    let rows = [
+        (Call::Make(b"a", 10, false), Ok(Some(0))),
+        (Call::Make(b"b", 11, false), Ok(Some(1))),
+        (Call::Make(b"c", 0, true), Ok(Some(2))),
+        (Call::Make(b"d", 12, false), Ok(Some(3))),
+        (Call::Go(3, b"a"), Ok(Some(0))),
+        (Call::Go(1, b"a"), Ok(Some(1))),
+        (Call::Go(0, b"a"), Ok(Some(2))),
+        (Call::Go(1, b"a"), Ok(Some(3))),
+        (Call::Go(2, b"a"), Ok(Some(4))),
+        (Call::Go(3, b"a"), Ok(Some(5))),
+        (Call::Go(0, b"a"), Ok(Some(6))),
+        (Call::Start, Ok(Some(0))),
+        (Call::Lose(0, b"x"), Ok(Some(12))),
+    ];
+    assert_replies(&rt, &mut runner, &rows)?;
+    for n in 1..6 {
+        assert_eq!(rt; runner.start(), Ok(n));
     }
-    let copy = name(b"copy")?;
-    for group in [1, 0, 1, 2, 3, 3, 0] {
-        runner.go(group, &copy, &copy)?;
-    }
-    for n in 0..6 {
-        assert_eq!(rt; runner.start()?, n);
-    }
-    assert_eq!(rt; runner.finish(4, &failure(b"x")?)?, Some(12));
     assert_eq!(rt; runner.restart().as_slice(), [11, 10].as_slice());
-    assert_eq!(rt; interruption(), b"interrupted".as_slice());
-    let cut = || Phase::Interrupted;
-    let lost = Phase::Failure(text(b"x")?);
-    assert_phases(&rt, &runner, &[cut(), cut(), cut(), cut(), lost, cut(), Phase::Ready]);
     assert_eq!(rt; runner.groups().running(), 0);
-    assert_result(&rt, &runner, 2, (0, None, false, Some(b"interrupted")));
-    assert_result(&rt, &runner, 3, (0, None, false, Some(b"x")));
+    assert_seen(&rt, &runner, 2, (0, None, false, Some(b"interrupted")));
+    assert_seen(&rt, &runner, 3, (0, None, false, Some(b"x")));
+    Ok(())
+}
+
+#[test]
+fn restart_interrupts_the_running_tasks(rt: HostRuntime) -> Result<(), Fail> {
+    let mut runner = Runner::new(rt.alloc(), Layout::Small)?;
+    let rows = [
+        (Call::Make(b"g", 1, false), Ok(Some(0))),
+        (Call::Limit(0, 1), Ok(None)),
+        (Call::Go(0, b"a"), Ok(Some(0))),
+        (Call::Go(0, b"b"), Ok(Some(1))),
+        (Call::Start, Ok(Some(0))),
+        (Call::Retry(0), Err(Refusal::NotInterrupted)),
+    ];
+    assert_replies(&rt, &mut runner, &rows)?;
+    assert_eq!(rt; runner.restart().as_slice(), [1].as_slice());
     assert_eq!(rt; runner.restart().as_slice(), [].as_slice());
+    assert_eq!(rt; interruption(), b"interrupted".as_slice());
+    assert_phases(&rt, &runner, &[Phase::Interrupted, Phase::Ready]);
     Ok(())
 }
 
 #[test]
 fn interrupted_task_is_retried_once(rt: HostRuntime) -> Result<(), Fail> {
     let mut runner = Runner::new(rt.alloc(), Layout::Small)?;
-    runner.make(&name(b"g")?, 1, false)?;
-    runner.set_limit(0, limit(1)?)?;
-    let copy = name(b"copy")?;
-    runner.go(0, &copy, &name(b"a")?)?;
-    runner.go(0, &copy, &name(b"b")?)?;
-    runner.start()?;
-    assert_eq!(rt; runner.retry(0), Err(Refusal::NotInterrupted));
-    assert_eq!(rt; runner.restart().as_slice(), [1].as_slice());
-    assert_eq!(rt; runner.retry(0)?, 2);
-    assert_eq!(rt; runner.retry(0), Err(Refusal::AlreadyRetried));
-    assert_eq!(rt; runner.retry(1), Err(Refusal::NotInterrupted));
-    assert_eq!(rt; runner.retry(3), Err(Refusal::NoSuchTask));
-    assert_phases(&rt, &runner, &[Phase::Interrupted, Phase::Ready, Phase::Held]);
-    match runner.groups().task(2) {
-        Some(task) => {
-            assert_eq!(rt; task.group, 0);
-            assert_eq!(rt; task.job.as_bytes(), b"copy".as_slice());
-            assert_eq!(rt; task.argument.as_bytes(), b"a".as_slice());
-            assert_eq!(rt; task.retry_of, Some(0));
-            assert_eq!(rt; task.stage, Stage::Fresh);
-        }
-        None => assert!(rt; false, "the retry"),
-    }
-    Ok(())
-}
-
-#[test]
-fn retry_of_a_waited_group_is_refused(rt: HostRuntime) -> Result<(), Fail> {
-    let mut runner = Runner::new(rt.alloc(), Layout::Small)?;
-    runner.make(&name(b"g")?, 1, false)?;
-    let copy = name(b"copy")?;
-    runner.go(0, &copy, &copy)?;
-    runner.start()?;
+    let before = [
+        (Call::Make(b"g", 1, false), Ok(Some(0))),
+        (Call::Limit(0, 1), Ok(None)),
+        (Call::Go(0, b"a"), Ok(Some(0))),
+        (Call::Go(0, b"b"), Ok(Some(1))),
+        (Call::Start, Ok(Some(0))),
+    ];
+    assert_replies(&rt, &mut runner, &before)?;
     runner.restart();
-    runner.wait(0)?;
-    assert_eq!(rt; runner.retry(0), Err(Refusal::Waited));
+    let behind = [
+        (Call::Retry(0), Ok(Some(2))),
+        (Call::Retry(0), Err(Refusal::AlreadyRetried)),
+        (Call::Retry(1), Err(Refusal::NotInterrupted)),
+        (Call::Retry(3), Err(Refusal::NoSuchTask)),
+    ];
+    assert_replies(&rt, &mut runner, &behind)?;
+    assert_phases(
+        &rt,
+        &runner,
+        &[Phase::Interrupted, Phase::Ready, Phase::Held],
+    );
+    let task = runner.groups().task(2);
+    assert_eq!(rt;
+        task.map(|task| task.argument.as_bytes()),
+        Some(b"a".as_slice())
+    );
+    assert_eq!(rt; task.and_then(|task| task.retry_of), Some(0));
     Ok(())
 }
 
 #[test]
-fn questions_of_what_is_not_there(rt: HostRuntime) -> Result<(), Fail> {
+fn retry_in_a_waited_group_is_refused(rt: HostRuntime) -> Result<(), Fail> {
+    let mut runner = Runner::new(rt.alloc(), Layout::Small)?;
+    let before = [
+        (Call::Make(b"g", 1, false), Ok(Some(0))),
+        (Call::Go(0, b"a"), Ok(Some(0))),
+        (Call::Start, Ok(Some(0))),
+    ];
+    assert_replies(&rt, &mut runner, &before)?;
+    runner.restart();
+    let behind = [
+        (Call::Wait(0), Ok(Some(1))),
+        (Call::Retry(0), Err(Refusal::Waited)),
+    ];
+    assert_replies(&rt, &mut runner, &behind)
+}
+
+#[test]
+fn what_is_not_there_is_refused(rt: HostRuntime) -> Result<(), Fail> {
+    let mut runner = Runner::new(rt.alloc(), Layout::Small)?;
+    let rows = [
+        (Call::Make(b"g", 1, false), Ok(Some(0))),
+        (Call::Make(b"g", 1, false), Err(Refusal::NameTaken)),
+        (Call::Limit(1, 1), Err(Refusal::NoSuchGroup)),
+        (Call::Go(1, b"a"), Err(Refusal::NoSuchGroup)),
+        (Call::Try(1, b"a"), Err(Refusal::NoSuchGroup)),
+        (Call::Wait(1), Err(Refusal::NoSuchGroup)),
+        (Call::Retry(0), Err(Refusal::NoSuchTask)),
+        (Call::Succeed(0), Err(Refusal::NoSuchTask)),
+        (Call::Start, Err(Refusal::NothingReady)),
+        (Call::Go(0, b"a"), Ok(Some(0))),
+        (Call::Succeed(0), Err(Refusal::NotRunning)),
+    ];
+    assert_replies(&rt, &mut runner, &rows)
+}
+
+#[test]
+fn questions_are_answered(rt: HostRuntime) -> Result<(), Fail> {
     let mut runner = Runner::new(rt.alloc(), Layout::Large)?;
     runner.make(&name(b"g")?, 3, true)?;
     let groups = runner.groups();
     assert_eq!(rt; groups.layout(), Layout::Large);
     assert_eq!(rt; groups.group_count(), 1);
-    assert_eq!(rt; groups.find(b"g"), Some(0));
-    assert_eq!(rt; groups.find(b"h"), None);
+    let names = [(b"g", Some(0)), (b"h", None)];
+    for (called, number) in names {
+        assert_eq!(rt; groups.find(called), number);
+    }
     assert_eq!(rt; groups.group(0).map(|row| row.scope), Some(3));
-    assert!(rt; groups.group(1).is_none() && groups.task(0).is_none());
-    assert!(rt; groups.result(1).is_none() && groups.phase(0).is_none());
+    assert!(rt; groups.group(1).is_none() && groups.result(1).is_none());
+    assert!(rt; groups.task(0).is_none() && groups.phase(0).is_none());
     assert!(rt; !groups.is_running(0) && !groups.was_waited(1));
-    assert_eq!(rt; groups.next_ready(), None);
-    Ok(())
-}
-
-#[test]
-fn calls_are_refused_in_order(rt: HostRuntime) -> Result<(), Fail> {
-    let mut runner = Runner::new(rt.alloc(), Layout::Small)?;
-    runner.make(&name(b"g")?, 1, false)?;
-    let copy = name(b"copy")?;
-    let groups = runner.groups();
-    assert_eq!(rt; groups.check_make(b"g"), Err(Refusal::NameTaken));
-    assert_eq!(rt; groups.check_name(b"h"), Ok(()));
-    assert_eq!(rt; groups.check_room(), Ok(()));
-    assert_eq!(rt; groups.check_limit(1), Err(Refusal::NoSuchGroup));
-    assert_eq!(rt; groups.check_go(1), Err(Refusal::NoSuchGroup));
-    assert_eq!(rt; groups.check_try(1), Err(Refusal::NoSuchGroup));
-    assert_eq!(rt; groups.check_wait(1), Err(Refusal::NoSuchGroup));
-    assert_eq!(rt; groups.check_finish(0), Err(Refusal::NoSuchTask));
-    runner.go(0, &copy, &copy)?;
-    assert_eq!(rt; runner.finish(0, &Outcome::Success), Err(Refusal::NotRunning));
     Ok(())
 }

@@ -191,7 +191,8 @@ none_in leaves nodes t down = λ k low. get_or-drop leaves nodes k false ∙ the
           | inl within ↦
               (let twice : first_leaf t.levels 2 ≡ first_leaf t.levels 1 + first_leaf t.levels 1 =
               first_sum t.levels 1 1 in
-              let next : first_leaf t.levels 2 ≡ last_leaf t.levels 1 + 1 = first_next t.levels 1 in
+              let next : first_leaf t.levels 2 ≡ last_leaf t.levels 1 + 1 =
+              first_next t.levels 1 in
               let even = t.even in
               all_down leaves nodes t.right t.levels 1 (omega arith)
               (last_of_all leaves t.levels t.even) down (leaves + k) (omega arith) (omega arith))
