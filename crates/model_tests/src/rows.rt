@@ -74,8 +74,8 @@ fn scopes(rt: HostRuntime) {
     assert_eq!(rt; read_scope(bytes), Some((row, b"".as_slice())));
     let mut out = [0xee; 30];
     assert_eq!(rt; put_scope(&mut out, 0, &row), 28);
-    assert_eq!(rt; &out[..28], bytes.as_slice());
-    assert_eq!(rt; out[28], 0xee);
+    assert!(rt; out.starts_with(bytes), "the row");
+    assert!(rt; out.ends_with(&[0xee; 2]), "what is behind it");
     let group = ScopeRow {
         name: b"g",
         parent: 0,
