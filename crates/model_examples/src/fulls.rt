@@ -71,8 +71,8 @@ pub fn names_are_asked_before_room()
         ≡ refused refusal.NameTaken }
     ensures derive_room { reply_of_step (session_in Small 1024 3 0) (derive "a" "root" past_moments)
         ≡ refused refusal.TooManyScopes }
-    ensures derive_moment { reply_of_step (session_in Small 1023 3 0) (derive "a" "root" past_moments)
-        ≡ refused refusal.MomentOutOfRange }
+    ensures derive_moment { reply_of_step (session_in Small 1023 3 0)
+        (derive "a" "root" past_moments) ≡ refused refusal.MomentOutOfRange }
     ensures go { reply_of_step (session_in Small 1 3 2048) (go "x" "copy" "a")
         ≡ refused refusal.NoSuchGroup }
     ensures tried { reply_of_step (session_in Small 1 3 2048) (try_go "x" "copy" "a")

@@ -1,9 +1,10 @@
 //! Rows and heads of images from outside: the worked image of the format, rows of each kind, and
 //! bytes that are none.
 
-use record_view::{GroupRow, HitView, ImageHead, ImageVersion, KindView, ScopeRow, StageView};
-use record_view::{TaskRow, put_group, put_head, put_scope, put_task};
-use record_view::{read_group, read_head, read_scope, read_task};
+use record_view::{
+    GroupRow, HitView, ImageHead, ImageVersion, KindView, ScopeRow, StageView, TaskRow, put_group,
+    put_head, put_scope, put_task, read_group, read_head, read_scope, read_task,
+};
 use run_model::{Layout, Reason};
 
 /// The head of the worked image, in version 2: clock 0, four events, two scopes.
@@ -20,7 +21,10 @@ fn heads(rt: HostRuntime) {
         groups: 0,
         tasks: 0,
     };
-    assert_eq!(rt; read_head(HEAD, Layout::Small), Some((worked, b"".as_slice())));
+    assert_eq!(rt;
+        read_head(HEAD, Layout::Small),
+        Some((worked, b"".as_slice()))
+    );
     let mut out = [0xee; 24];
     assert_eq!(rt; put_head(&mut out, 0, &worked), 23);
     assert_eq!(rt; &out[..23], HEAD.as_slice());
@@ -53,7 +57,11 @@ fn head_fields_have_ranges(rt: HostRuntime) {
         assert_eq!(rt; read_head(&bytes, Layout::Small).is_some(), small, "{what}");
         assert_eq!(rt; read_head(&bytes, Layout::Large).is_some(), large, "{what}");
     }
-    assert_eq!(rt; read_head(&HEAD[..22], Layout::Small), None, "a byte too few");
+    assert_eq!(rt;
+        read_head(&HEAD[..22], Layout::Small),
+        None,
+        "a byte too few"
+    );
 }
 
 #[test]
@@ -82,7 +90,10 @@ fn scopes(rt: HostRuntime) {
         kind: KindView::Group,
         hit: None,
     };
-    assert_eq!(rt; read_scope(b"\x01g\x00\x00\x06\x00!"), Some((group, b"!".as_slice())));
+    assert_eq!(rt;
+        read_scope(b"\x01g\x00\x00\x06\x00!"),
+        Some((group, b"!".as_slice()))
+    );
 }
 
 #[test]
@@ -106,8 +117,14 @@ fn groups(rt: HostRuntime) {
         ("limit 65", b"\x01g\x00\x01\x00\x41\x00\x00"),
         ("limit 254", b"\x01g\x00\x01\x00\xfe\x00\x00"),
         ("waited 2", b"\x01g\x00\x01\x00\xff\x02\x00"),
-        ("an error of 65 bytes' length", b"\x01g\x00\x01\x00\xff\x00\x41"),
-        ("an error of a byte that no text has", b"\x01g\x00\x01\x00\xff\x00\x01\x7f"),
+        (
+            "an error of 65 bytes' length",
+            b"\x01g\x00\x01\x00\xff\x00\x41",
+        ),
+        (
+            "an error of a byte that no text has",
+            b"\x01g\x00\x01\x00\xff\x00\x01\x7f",
+        ),
         ("a byte too few", b"\x01g\x00\x01\x00\xff\x00"),
         ("no name", b"\x00\x00\x01\x00\xff\x00\x00"),
     ];
@@ -126,7 +143,10 @@ fn tasks(rt: HostRuntime) {
         stage: StageView::Interrupted,
         retry_of: Some(2),
     };
-    assert_eq!(rt; read_task(bytes, ImageVersion::Two), Some((row, b"".as_slice())));
+    assert_eq!(rt;
+        read_task(bytes, ImageVersion::Two),
+        Some((row, b"".as_slice()))
+    );
     let mut out = [0xee; 16];
     assert_eq!(rt; put_task(&mut out, 0, &row), 12);
     assert_eq!(rt; &out[..12], bytes.as_slice());
@@ -136,21 +156,51 @@ fn tasks(rt: HostRuntime) {
         ..row
     };
     let unlinked = b"\x00\x00\x04copy\x01a\x04\xff\xff";
-    assert_eq!(rt; read_task(unlinked, ImageVersion::Two), Some((first, b"".as_slice())));
+    assert_eq!(rt;
+        read_task(unlinked, ImageVersion::Two),
+        Some((first, b"".as_slice()))
+    );
     let behind = b"\xff\xff".as_slice();
-    assert_eq!(rt; read_task(unlinked, ImageVersion::One), Some((first, behind)));
+    assert_eq!(rt;
+        read_task(unlinked, ImageVersion::One),
+        Some((first, behind))
+    );
 }
 
 #[test]
 fn task_stages(rt: HostRuntime) {
     let rows = [
-        ("not started", b"\x00\x00\x04copy\x01a\x00\xff\xff".as_slice(), Some(StageView::Fresh)),
-        ("running", b"\x00\x00\x04copy\x01a\x01\xff\xff", Some(StageView::Running)),
-        ("success", b"\x00\x00\x04copy\x01a\x02\xff\xff", Some(StageView::Success)),
-        ("failure", b"\x00\x00\x04copy\x01a\x03\x01x\xff\xff", Some(StageView::Failure(b"x"))),
-        ("interrupted", b"\x00\x00\x04copy\x01a\x04\xff\xff", Some(StageView::Interrupted)),
+        (
+            "not started",
+            b"\x00\x00\x04copy\x01a\x00\xff\xff".as_slice(),
+            Some(StageView::Fresh),
+        ),
+        (
+            "running",
+            b"\x00\x00\x04copy\x01a\x01\xff\xff",
+            Some(StageView::Running),
+        ),
+        (
+            "success",
+            b"\x00\x00\x04copy\x01a\x02\xff\xff",
+            Some(StageView::Success),
+        ),
+        (
+            "failure",
+            b"\x00\x00\x04copy\x01a\x03\x01x\xff\xff",
+            Some(StageView::Failure(b"x")),
+        ),
+        (
+            "interrupted",
+            b"\x00\x00\x04copy\x01a\x04\xff\xff",
+            Some(StageView::Interrupted),
+        ),
         ("stage 5", b"\x00\x00\x04copy\x01a\x05\xff\xff", None),
-        ("a failure without a text", b"\x00\x00\x04copy\x01a\x03\x00\xff\xff", None),
+        (
+            "a failure without a text",
+            b"\x00\x00\x04copy\x01a\x03\x00\xff\xff",
+            None,
+        ),
         ("no link", b"\x00\x00\x04copy\x01a\x00", None),
         ("half a link", b"\x00\x00\x04copy\x01a\x00\xff", None),
         ("no job", b"\x00\x00\x00\x01a\x00\xff\xff", None),

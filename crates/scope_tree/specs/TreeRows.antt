@@ -74,5 +74,5 @@ unfoldable pub tree_at : Layout → ImageHead → Reader TreeState
 tree_at layout head bytes =
     if has_tree_room layout head
     then one (more_rows_at head.count head.clock head.scopes (root ∷ []))
-        (tree_made layout head) bytes
+    (tree_made layout head) bytes
     else None

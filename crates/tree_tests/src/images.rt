@@ -34,7 +34,11 @@ fn image_of_57_bytes(rt: HostRuntime) -> Result<(), Fail> {
         assert!(rt; rest.is_empty(), "version {version}");
         assert_eq!(rt; tree.len(), 3, "version {version}");
         assert_eq!(rt; tree.err(2), Some(Reason::Canceled), "version {version}");
-        assert_eq!(rt; tree.cause(2), Some(b"disk".as_slice()), "version {version}");
+        assert_eq!(rt;
+            tree.cause(2),
+            Some(b"disk".as_slice()),
+            "version {version}"
+        );
         let mut out = [0xee; 500];
         let end = put_head(&mut out, 0, &head);
         let end = tree.write_rows(&mut out, end);
@@ -48,19 +52,35 @@ fn image_of_57_bytes(rt: HostRuntime) -> Result<(), Fail> {
 fn rows_that_keep_the_rules_are_read(rt: HostRuntime) -> Result<(), Fail> {
     let rows = [
         ("no scope", 0, b"".as_slice()),
-        ("each kind without a hit", 5, b"\x01a\x00\x00\x01\x00\x01b\x00\x01\x02\x00\
-            \x01c\x00\x02\x04\x01k\x01x\x00\x01d\x00\x03\x05\x00\x01e\x00\x04\x06\x00"),
-        ("a deadline to come", 1,
-            b"\x01d\x00\x00\x03\x00\x00\x00\x00\x00\x00\x00\xc9\x00\x00"),
-        ("a deadline that was exceeded", 1,
+        (
+            "each kind without a hit",
+            5,
+            b"\x01a\x00\x00\x01\x00\x01b\x00\x01\x02\x00\
+            \x01c\x00\x02\x04\x01k\x01x\x00\x01d\x00\x03\x05\x00\x01e\x00\x04\x06\x00",
+        ),
+        (
+            "a deadline to come",
+            1,
+            b"\x01d\x00\x00\x03\x00\x00\x00\x00\x00\x00\x00\xc9\x00\x00",
+        ),
+        (
+            "a deadline that was exceeded",
+            1,
             b"\x01d\x00\x00\x03\x00\x00\x00\x00\x00\x00\x00\xc8\x01x\x01\x00\x00\x00\x00\x00\x00\
-            \x00\x0a\x00\x00\x00\x00\x00\x00\x00\xc8\x02\x01x"),
-        ("a deadline that was cancelled before it came", 1,
+            \x00\x0a\x00\x00\x00\x00\x00\x00\x00\xc8\x02\x01x",
+        ),
+        (
+            "a deadline that was cancelled before it came",
+            1,
             b"\x01d\x00\x00\x03\x00\x00\x00\x00\x00\x00\x00\xc8\x00\x01\x00\x00\x00\x00\x00\x00\
-            \x00\x01\x00\x00\x00\x00\x00\x00\x00\x00\x01\x01x"),
-        ("a group's scope with a hit", 1,
+            \x00\x01\x00\x00\x00\x00\x00\x00\x00\x00\x01\x01x",
+        ),
+        (
+            "a group's scope with a hit",
+            1,
             b"\x01g\x00\x00\x06\x01\x00\x00\x00\x00\x00\x00\x00\x01\x00\x00\x00\x00\x00\x00\x00\
-            \x00\x01\x01x"),
+            \x00\x01\x01x",
+        ),
     ];
     for (what, scopes, bytes) in rows {
         let tree = Tree::with_room(rt.alloc(), Layout::Small)?;
@@ -89,46 +109,87 @@ fn rows_that_break_a_rule_are_refused(rt: HostRuntime) -> Result<(), Fail> {
         ("a byte too few", 1, b"\x01a\x00\x00\x01"),
         ("a scope too many", 1024, b"\x01a\x00\x00\x01\x00"),
         ("its own parent", 1, b"\x01a\x00\x01\x01\x00"),
-        ("a parent behind it", 2, b"\x01a\x00\x02\x01\x00\x01b\x00\x00\x01\x00"),
-        ("two scopes of one name", 2, b"\x01a\x00\x00\x01\x00\x01a\x00\x00\x01\x00"),
+        (
+            "a parent behind it",
+            2,
+            b"\x01a\x00\x02\x01\x00\x01b\x00\x00\x01\x00",
+        ),
+        (
+            "two scopes of one name",
+            2,
+            b"\x01a\x00\x00\x01\x00\x01a\x00\x00\x01\x00",
+        ),
         ("the name of root", 1, b"\x04root\x00\x00\x01\x00"),
         ("no name", 1, b"\x00\x00\x00\x01\x00"),
         ("a byte that no name has", 1, b"\x01A\x00\x00\x01\x00"),
         ("kind 0", 1, b"\x01a\x00\x00\x00\x00"),
         ("kind 7", 1, b"\x01a\x00\x00\x07\x00"),
         ("a hit that is neither 0 nor 1", 1, b"\x01a\x00\x00\x01\x02"),
-        ("a deadline that has come and has no hit", 1,
-            b"\x01d\x00\x00\x03\x00\x00\x00\x00\x00\x00\x00\xc8\x00\x00"),
-        ("a hit of event 0", 1,
+        (
+            "a deadline that has come and has no hit",
+            1,
+            b"\x01d\x00\x00\x03\x00\x00\x00\x00\x00\x00\x00\xc8\x00\x00",
+        ),
+        (
+            "a hit of event 0",
+            1,
             b"\x01a\x00\x00\x01\x01\x00\x00\x00\x00\x00\x00\x00\x00\x00\x00\x00\x00\x00\x00\x00\x00\
-            \x01\x01x"),
-        ("a hit later than the count", 1,
+            \x01\x01x",
+        ),
+        (
+            "a hit later than the count",
+            1,
             b"\x01a\x00\x00\x01\x01\x00\x00\x00\x00\x00\x00\x00\x0b\x00\x00\x00\x00\x00\x00\x00\x00\
-            \x01\x01x"),
-        ("a hit past the clock", 1,
+            \x01\x01x",
+        ),
+        (
+            "a hit past the clock",
+            1,
             b"\x01a\x00\x00\x01\x01\x00\x00\x00\x00\x00\x00\x00\x01\x00\x00\x00\x00\x00\x00\x00\xc9\
-            \x01\x01x"),
-        ("a hit on a value", 1,
+            \x01\x01x",
+        ),
+        (
+            "a hit on a value",
+            1,
             b"\x01v\x00\x00\x04\x01k\x01x\x01\x00\x00\x00\x00\x00\x00\x00\x01\x00\x00\x00\x00\x00\
-            \x00\x00\x00\x01\x01x"),
-        ("a hit on a detached scope", 1,
+            \x00\x00\x00\x01\x01x",
+        ),
+        (
+            "a hit on a detached scope",
+            1,
             b"\x01d\x00\x00\x05\x01\x00\x00\x00\x00\x00\x00\x00\x01\x00\x00\x00\x00\x00\x00\x00\
-            \x00\x01\x01x"),
-        ("an exceeded deadline where there is none", 1,
+            \x00\x01\x01x",
+        ),
+        (
+            "an exceeded deadline where there is none",
+            1,
             b"\x01a\x00\x00\x01\x01\x00\x00\x00\x00\x00\x00\x00\x01\x00\x00\x00\x00\x00\x00\x00\x00\
-            \x02\x01x"),
-        ("a deadline exceeded at another moment", 1,
+            \x02\x01x",
+        ),
+        (
+            "a deadline exceeded at another moment",
+            1,
             b"\x01d\x00\x00\x03\x00\x00\x00\x00\x00\x00\x00\xc8\x00\x01\x00\x00\x00\x00\x00\x00\
-            \x00\x01\x00\x00\x00\x00\x00\x00\x00\xc7\x02\x01x"),
-        ("reason 0", 1,
+            \x00\x01\x00\x00\x00\x00\x00\x00\x00\xc7\x02\x01x",
+        ),
+        (
+            "reason 0",
+            1,
             b"\x01a\x00\x00\x01\x01\x00\x00\x00\x00\x00\x00\x00\x01\x00\x00\x00\x00\x00\x00\x00\x00\
-            \x00\x01x"),
-        ("reason 3", 1,
+            \x00\x01x",
+        ),
+        (
+            "reason 3",
+            1,
             b"\x01a\x00\x00\x01\x01\x00\x00\x00\x00\x00\x00\x00\x01\x00\x00\x00\x00\x00\x00\x00\x00\
-            \x03\x01x"),
-        ("a hit without a cause", 1,
+            \x03\x01x",
+        ),
+        (
+            "a hit without a cause",
+            1,
             b"\x01a\x00\x00\x01\x01\x00\x00\x00\x00\x00\x00\x00\x01\x00\x00\x00\x00\x00\x00\x00\x00\
-            \x01\x00"),
+            \x01\x00",
+        ),
     ];
     for (what, scopes, bytes) in rows {
         let tree = Tree::with_room(rt.alloc(), Layout::Small)?;
@@ -172,7 +233,10 @@ fn greatest_trees(rt: HostRuntime) -> Result<(), Fail> {
         assert!(rt; rest.is_empty(), "{scopes} scopes");
         assert_eq!(rt; tree.len(), scopes as usize + 1, "{scopes} scopes");
         let mut again = Vec::from_elem(rt.alloc(), 0, len)?;
-        assert!(rt; 192 * tree.len().saturating_sub(1) <= again.len(), "{scopes} scopes");
+        assert!(rt;
+            192 * tree.len().saturating_sub(1) <= again.len(),
+            "{scopes} scopes"
+        );
         assert_eq!(rt; tree.write_rows(&mut again, 0), len, "{scopes} scopes");
         assert!(rt; rows == again, "{scopes} scopes");
     }
