@@ -33,6 +33,8 @@ pub record IsDisk (s : DiskState) : Type 0 where
   pub size_now : s.honest → length s.now ≡ s.size
   pub size_image : s.honest → (x : List ℕ) → s.images x → length x ≡ s.size
   pub now_is_image : s.honest → s.images s.now
+  -- and it stays: what a crash may have left since a moment has that size too
+  pub size_since : s.honest → (t : ℕ) (x : List ℕ) → s.since t x → length x ≡ s.size
   -- this moment is one of those since an earlier one, and there is no later one yet
   pub counts_now : (t : ℕ) (x : List ℕ) → t ≤ s.clock → s.images x → s.since t x
   pub only_now : (x : List ℕ) → s.since s.clock x → s.images x

@@ -31,6 +31,7 @@ is_file_disk size calls failures kept = record {
   size_now = λ honest. absurd honest;
   size_image = λ honest. absurd honest;
   now_is_image = λ honest. absurd honest;
+  size_since = λ honest. absurd honest;
   counts_now = λ t x early is. tt;
   only_now = λ x left. tt;
   earlier = λ t u x before within left. tt;

@@ -44,6 +44,7 @@ is_memory_disk h bytes clock failures kept = record {
     size = kept.now.size;
     bytes = λ i below synced. kept.now.bytes i below;
   };
+  size_since = λ honest t x left. left.3.size ∙ sym kept.now.size;
   counts_now = λ t x early is. (clock, early, omega arith, is);
   only_now = λ x left.
       let now : left.0 ≡ clock = omega (arith, left.1, left.2) in

@@ -72,6 +72,8 @@ over_is_disk passed first below calls failed grows disk kept = record {
   size_now = disk.size_now;
   size_image = disk.size_image;
   now_is_image = disk.now_is_image;
+  size_since = λ honest t x left.
+      disk.size_since honest (moment_below first (passed t)) x left;
   counts_now = λ t x early is.
       disk.counts_now (moment_below first (passed t)) x
       (omega (arith, kept.made_below, grows t calls early)) is;

@@ -1,9 +1,13 @@
 -- One call on a store behind another.
-use Rattle.std.proofs.Common.{◌≡◌, ◌++◌, [], ◌∷◌, List, ℕ, length, inl, inr}
+use Rattle.std.proofs.Common.{◌≡◌, ◌⊎◌, ◌++◌, [], ◌∷◌, List, ℕ, Result, IfErr, length, inl, inr}
 use Rattle.std.proofs.lemmas.Bool.{cases_lt}
 use Rattle.std.proofs.lemmas.List.{get_or_past}
 use Rattle.std.proofs.lemmas.List.Elements.{All-get_or}
+use Rattle.std.proofs.lemmas.Result.{IfErr-weaker}
 use Rattle.std.specs.List.{All}
+use Rattle.run_model.specs.declared.faults.Fault.{Fault}
+use Rattle.run_model.specs.declared.faults.Fault.TheVariants.{Memory, DiskFailed}
+use Rattle.run_model.specs.declared.faults.Fault.TheVariants.{BadBatch, NumbersSpent}
 use Rattle.run_disk.specs.Disk.{DiskState}
 use Rattle.run_disk.specs.Runs.{LeavesOnly}
 use Rattle.run_disk.proofs.RunLemmas.{leaves_only_more, only_weaker}
@@ -68,3 +72,12 @@ all_zero contents all i =
       | inl inside ↦ All-get_or (λ byte. byte ≡ 0) contents i 0 inside all
       | inr past ↦ get_or_past contents i 0 past
     ]
+
+-- what an opening tells is among what the use of a store tells
+pub told_more : {T D : Type 0} (r : Result T (Fault × D)) (Full : Type 0)
+    → IfErr r (λ stopped. (stopped.0 ≡ Memory) ⊎ (stopped.0 ≡ DiskFailed))
+    → IfErr r (λ stopped. (stopped.0 ≡ Memory) ⊎ (stopped.0 ≡ DiskFailed)
+    ⊎ (stopped.0 ≡ NumbersSpent) ⊎ ((stopped.0 ≡ BadBatch) × Full))
+told_more r Full told =
+    IfErr-weaker r (λ stopped. (stopped.0 ≡ Memory) ⊎ (stopped.0 ≡ DiskFailed)) _
+    (λ stopped why. elim why [ inl memory ↦ inl memory | inr failed ↦ inr (inl failed) ]) told

@@ -1,8 +1,10 @@
 -- What a store has while it is written: its pairs, one after another.
-use Rattle.std.specs.Prelude.{◌⊎◌, ◌++◌, ◌∷◌, [], List, ℕ, Result, Ok, Err}
+use Rattle.std.specs.Prelude.{◌≡◌, ◌<◌, ◌⊎◌, ◌++◌, ◌∷◌, [], List, ℕ, Result, Ok, Err}
 use Rattle.run_model.specs.declared.faults.Fault.{Fault}
-use Rattle.run_store.specs.Stores.{HasPair}
-use Rattle.run_journal.specs.Journals.{JournalView}
+use Rattle.run_model.specs.declared.layouts.Layout.{Layout}
+use Rattle.run_disk.specs.Disk.{DiskState, last_moment}
+use Rattle.run_store.specs.Stores.{HasPair, IsStored, sizes_of}
+use Rattle.run_journal.specs.Journals.{JournalView, room_at}
 use Rattle.run_journal.specs.Pairs.{HasNoPairBut}
 
 -- A pair, or it with one batch more, or with two.
@@ -26,6 +28,19 @@ abbrev pub HasOneInNewRow :
     List ℕ → List ℕ → List ℕ → List ℕ → List ℕ → List ℕ → Type 0
 HasOneInNewRow image a b fresh c contents =
     HasNoPairBut image contents ⊎ HasOneInRow image [] a b fresh c contents
+
+-- The contents have this pair, and behind its batches no room for one of n bytes.
+pub record IsFull (image : List ℕ) (batches : List (List ℕ)) (n : ℕ) (contents : List ℕ) :
+    Type 0 where
+  pub layout : Layout
+  pub generation : ℕ
+  pub tail : ℕ
+  pub stored : IsStored (sizes_of layout) generation tail image batches contents
+  pub full : room_at (sizes_of layout) tail < n
+
+-- A device call failed between two moments, or the disk is spent.
+abbrev pub HasFailure : DiskState → DiskState → Type 0
+HasFailure old new = (old.failures < new.failures) ⊎ (new.clock ≡ last_moment)
 
 -- The disk that an answer gives back, in a journal or alone.
 abbrev pub disk_in : {D : Type 0} → Result (JournalView D) (Fault × D) → D

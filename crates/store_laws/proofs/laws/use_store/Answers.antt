@@ -1,10 +1,13 @@
-use Rattle.std.proofs.Common.{drop, [], ◌∷◌, inl, inr, subst, sym}
+use Rattle.std.proofs.Common.{◌≡◌, ◌⊎◌, drop, [], ◌∷◌, Err, IfErr, arith, inl, inr, refl}
+use Rattle.std.proofs.Common.{rules, subst, sym}
+use Rattle.run_model.specs.declared.faults.Fault.TheVariants.{Memory, DiskFailed}
 use Rattle.run_disk.specs.Disk.{IsSynced}
 use Rattle.run_disk.specs.Runs.{LeavesOnly}
 use Rattle.run_disk.proofs.RunLemmas.{leaves_only_more, reads_leave_only, rested}
-use Rattle.run_store.specs.Stores.{HasPair}
+use Rattle.run_store.specs.Stores.{HasPair, IsStored, sizes_of}
 use Rattle.run_journal.proofs.AdoptionLemmas.{kept_images}
 use Rattle.store_laws.specs.Rows.{HasOneInRow, disk_in}
+use Rattle.store_laws.proofs.RowLemmas.{told_more}
 use Rattle.store_laws.proofs.laws.use_store.Goals as goal
 
 pub returns-in-Ok-clause-any_moment : goal.returns-in-Ok-clause-any_moment
@@ -78,3 +81,47 @@ returns-in-Err-clause-any_moment g c honest rest image batches pair =
     (λ x is. is) in
     subst (λ d. LeavesOnly row (state c.args.disk) (state d)) (sym c.into_disk-in-Err.ensures)
     to_write
+
+pub returns-then-room-a-clause-told : goal.returns-then-room-a-clause-told
+returns-then-room-a-clause-told g c honest rest image batches pair =
+    let opened = c.in_ok-journal.journal in
+    let kept = c.in_ok-journal.ensures.keeps honest rest image batches pair in
+    let stored = kept.stored (g.D.RunDisk.state opened.disk).now
+    ((g.met.D.RunDisk.is_disk opened.disk).now_is_image
+    (c.in_ok-journal.ensures.passed.honest honest)) in
+    inr (inr (inr (
+      refl,
+      record {
+        layout = opened.layout;
+        generation = opened.generation;
+        tail = opened.tail;
+        stored = subst
+            (IsStored (sizes_of opened.layout) opened.generation opened.tail image batches)
+            (c.in_ok-journal.ensures.reads honest).now stored;
+        full = omega (arith, c.if-room-a.true, c.room.ensures);
+      },
+    )))
+
+pub returns-in-Ok-clause-told : goal.returns-in-Ok-clause-told
+returns-in-Ok-clause-told g c honest rest image batches pair =
+    let state = g.D.RunDisk.state in
+    let fresh = drop 12 c.args.next.now in
+    let more = c.args.c.now ∷ [] in
+    let honest_opened = c.in_ok-journal.ensures.passed.honest honest in
+    let kept = c.in-Ok.ensures.last honest_opened image batches
+    (c.in_ok-journal.ensures.keeps honest rest image batches pair) in
+    let is = c.into_disk-in-Ok.ensures in
+    let back = c.into_disk-in-Ok.result in
+    let honest_back = subst (λ d. (state d).honest) (sym is)
+    (c.write_row.ensures.passed.honest honest_opened) in
+    told_more c.open_store-in-Ok.result _
+    (c.open_store-in-Ok.ensures.told honest_back fresh more
+    (kept_images state c.write_row.new.journal back fresh more is kept (state back).now
+    ((g.met.D.RunDisk.is_disk back).now_is_image honest_back)))
+
+pub returns-in_err-journal-clause-told : goal.returns-in_err-journal-clause-told
+returns-in_err-journal-clause-told g c honest rest image batches pair =
+    let gone : c.from_residual.result ≡ Err c.in_err-journal.field-0.0 = search rules in
+    told_more c.from_residual.result _
+    (subst (λ r. IfErr r (λ stopped. (stopped.0 ≡ Memory) ⊎ (stopped.0 ≡ DiskFailed))) (sym gone)
+    (c.in_err-journal.ensures.told honest image batches pair))
