@@ -1,5 +1,5 @@
 -- Interrupted tasks that are submitted anew.
-use Rattle.std.specs.Prelude.{ℕ, Bool, true, List, [], ◌∷◌, Option, None, codes, replicate}
+use Rattle.std.specs.Prelude.{ℕ, Bool, true, [], ◌∷◌, Option, None, codes, replicate}
 use Rattle.run_model.specs.declared.layouts.Layout.TheVariants.{Small}
 use Rattle.run_model.specs.declared.refusals.Refusal.TheVariants as refusal
 use Rattle.run_model.specs.declared.tasks.Phase.TheVariants as phase

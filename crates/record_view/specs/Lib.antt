@@ -1,3 +1,4 @@
+pub mod Between
 pub mod Image
 pub mod ImageExamples
 pub mod Keeping
@@ -7,4 +8,5 @@ pub mod RowReading
 pub mod RowViews
 pub mod Spelling
 pub mod Views
+pub mod WorkRows
 pub mod Writing

@@ -20,7 +20,9 @@ ghost use Rattle.record_view.specs.Writing.{put_at};
 
 use crate::numbers::{put_limit, read_byte, read_limit, read_u16};
 use crate::puts::{put_byte, put_u16};
+use crate::scope_rows::{row_number, text_view};
 use crate::texts::{put_optional, put_text, read_name, read_optional};
+use run_model::Group;
 
 /// The row of a group. It lives as long as the bytes that it was read from are lent, and copies
 /// none of them.
@@ -64,6 +66,23 @@ pub fn put_group(out: &mut [u8], at: usize, row: &GroupRow) -> usize
     let end = put_limit(out, end, row.limit);
     let end = put_flag(out, end, row.waited);
     put_optional(out, end, row.error)
+}
+
+/// The view of a row that is held. Its fields are in range.
+pub fn group_row(row: &Group) -> GroupRow<'_>
+    ensures value { group_of result ≡ row.now }
+    ensures kept { IsTrue (is_kept_group row.now) }
+{
+    let scope = row_number(row.scope);
+    let limit = row.limit.get();
+    GroupRow {
+        name: row.name.as_bytes(),
+        scope,
+        bare: row.bare,
+        limit,
+        waited: row.waited,
+        error: text_view(&row.error),
+    }
 }
 
 #[tactic(auto, unfolding(crate::specs::RowReading::group_row_at))]

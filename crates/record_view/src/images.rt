@@ -40,7 +40,7 @@ pub fn the_greatest_images_have_these_sizes()
     ensures large { greatest_image Two Large ≡ 1913559 }
 {}
 
-/// A state has one image of each version, and no more bytes than the greatest.
+/// A state has no two images of one version, and no image has more bytes than the greatest.
 pub fn a_state_has_one_image()
     ensures one { (version : ImageVersion) (layout : Layout) (bytes other : List ℕ) (p : State) →
         IsImage version layout bytes p → IsImage version layout other p → bytes ≡ other }

@@ -23,9 +23,9 @@ mod texts;
 mod views;
 
 pub use events::Events;
-pub use group_rows::{GroupRow, put_group, read_group};
+pub use group_rows::{GroupRow, group_row, put_group, read_group};
 pub use heads::{ImageHead, ImageVersion, put_head, read_head};
 pub use records::{event_len, read_event, write_event};
 pub use scope_rows::{HitView, ScopeRow, put_scope, read_scope, scope_row};
-pub use task_rows::{StageView, TaskRow, put_task, read_task};
+pub use task_rows::{StageView, TaskRow, put_task, read_task, task_row};
 pub use views::{EventView, KindView, OutcomeView};

@@ -21,7 +21,9 @@ ghost use Rattle.record_view.specs.Writing.{put_at};
 use crate::heads::ImageVersion;
 use crate::numbers::{read_byte, read_u16};
 use crate::puts::{put_byte, put_u16};
+use crate::scope_rows::row_number;
 use crate::texts::{put_text, read_name, read_text};
+use run_model::{Stage, Task};
 
 /// The link of a task that is no retry.
 const NO_LINK: u16 = 65_535;
@@ -80,6 +82,35 @@ pub fn put_task(out: &mut [u8], at: usize, row: &TaskRow) -> usize
     let end = put_text(out, end, row.argument);
     let end = put_stage(out, end, &row.stage);
     put_link(out, end, row.retry_of)
+}
+
+/// The view of a row that is held, whose link is below 65,535. Its fields are in range.
+pub fn task_row(row: &Task) -> TaskRow<'_>
+    requires { IsTrue (is_kept_link Two row.now.retry_of) }
+    ensures value { task_of result ≡ row.now }
+    ensures kept { IsTrue (is_kept_task Two row.now) }
+{
+    let group = row_number(row.group);
+    TaskRow {
+        group,
+        job: row.job.as_bytes(),
+        argument: row.argument.as_bytes(),
+        stage: stage_view(&row.stage),
+        retry_of: row.retry_of,
+    }
+}
+
+fn stage_view(stage: &Stage) -> StageView<'_>
+    ensures value { stage_of result ≡ stage.now }
+    ensures kept { IsTrue (is_kept_stage stage.now) }
+{
+    match stage {
+        Stage::Fresh => StageView::Fresh,
+        Stage::Running => StageView::Running,
+        Stage::Success => StageView::Success,
+        Stage::Failure(text) => StageView::Failure(text.as_bytes()),
+        Stage::Interrupted => StageView::Interrupted,
+    }
 }
 
 #[tactic(auto, unfolding(crate::specs::RowReading::task_at))]
