@@ -22,12 +22,12 @@ use Rattle.record_view.proofs.RowCodecs.{head_field}
 use Rattle.scope_tree.specs.TreeRows.{tree_at}
 use Rattle.scope_tree.specs.TreeRules.{AreTreeRows}
 use Rattle.scope_tree.proofs.TreeReads.{tree_again, tree_takes}
-use Rattle.image_laws.specs.Between.{fits_between}
+use Rattle.record_view.specs.Between.{fits_between}
 use Rattle.image_laws.specs.Whole.{image_at, joined, whole}
-use Rattle.image_laws.specs.WorkRows.{AreWorkRows, work_at}
+use Rattle.record_view.specs.WorkRows.{AreWorkRows, work_at}
 use Rattle.image_laws.proofs.BetweenReads.{between_test, between_from}
 use Rattle.image_laws.proofs.Parts.{tree_part, work_part, cross_part, all_parts}
-use Rattle.image_laws.proofs.WorkReads.{work_again, work_takes}
+use Rattle.work_laws.proofs.WorkReads.{work_again, work_takes}
 
 regrouped : (w x y z : List ℕ) → ((w ++ x) ++ y) ++ z ≡ w ++ (x ++ (y ++ (z ++ [])))
 regrouped w x y z =

@@ -1,3 +1,1 @@
-pub mod Between
 pub mod Whole
-pub mod WorkRows

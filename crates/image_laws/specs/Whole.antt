@@ -7,8 +7,8 @@ use Rattle.record_view.specs.declared.heads.ImageVersion.{ImageVersion}
 use Rattle.record_view.specs.Reading.{◌>>=◌}
 use Rattle.record_view.specs.RowReading.{head_at}
 use Rattle.scope_tree.specs.TreeRows.{tree_at}
-use Rattle.image_laws.specs.Between.{fits_between}
-use Rattle.image_laws.specs.WorkRows.{work_at}
+use Rattle.record_view.specs.Between.{fits_between}
+use Rattle.record_view.specs.WorkRows.{work_at}
 
 -- The state of a head, a tree and the work.
 abbrev pub whole : ImageHead → TreeState → WorkState → State

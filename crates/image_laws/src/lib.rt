@@ -1,21 +1,18 @@
 //! Laws of a state that is read from an image, part by part: that the parts together are the whole.
 //!
-//! Each function has an empty body, and its clause is the law. A reader of the tree's rows or of
-//! the work's says in its contract that it gives what a reading function of `specs/` gives; here
-//! stands that those functions give a state exactly where the bytes are its image.
+//! Each function has an empty body, and its clause is the law. The parts are read by functions of
+//! `specs/`; here stands that these give a state exactly where the bytes are its image.
 #![tactic(auto)]
 
 ghost use Rattle.std.specs.Prelude.{◌≡◌, ◌↔◌, List, ℕ, Some, IsTrue};
 ghost use Rattle.run_model.specs.declared.layouts.Layout.{Layout};
 ghost use Rattle.run_model.specs.RuleParts.{AreTreeRules, AreWorkRules, AreCrossRules};
 ghost use Rattle.run_model.specs.Rules.{IsConsistent};
-ghost use Rattle.run_model.specs.State.{State, WorkState};
-ghost use Rattle.record_view.specs.declared.heads.ImageHead.{ImageHead};
+ghost use Rattle.run_model.specs.State.{State};
 ghost use Rattle.record_view.specs.declared.heads.ImageVersion.{ImageVersion};
 ghost use Rattle.record_view.specs.Keeping.{IsImage};
-ghost use Rattle.image_laws.specs.Between.{fits_between};
+ghost use Rattle.record_view.specs.Between.{fits_between};
 ghost use Rattle.image_laws.specs.Whole.{image_at};
-ghost use Rattle.image_laws.specs.WorkRows.{AreWorkRows, work_at};
 
 /// The seven rules are those of the tree, those of the work, and those between the two, in a state
 /// whose tree and work have one layout.
@@ -32,14 +29,6 @@ pub fn the_rules_have_three_parts()
 pub fn the_rules_between_are_tested()
     ensures { (p : State) → AreWorkRules p.work →
         IsTrue (fits_between p.tree.scopes p.work.groups) ↔ AreCrossRules p }
-{}
-
-/// The rows of the work are read, and what is read is the rows of the work that keeps its rules.
-pub fn the_rows_of_the_work_are_read()
-    ensures again { (layout : Layout) (head : ImageHead) (bytes rest : List ℕ) (w : WorkState) →
-        AreWorkRows layout head bytes w rest → work_at layout head bytes ≡ Some (w, rest) }
-    ensures takes { (layout : Layout) (head : ImageHead) (bytes rest : List ℕ) (w : WorkState) →
-        work_at layout head bytes ≡ Some (w, rest) → AreWorkRows layout head bytes w rest }
 {}
 
 /// The image of a state is read by its parts, and what is read is an image. So no other bytes are

@@ -17,7 +17,9 @@ use Rattle.run_model.specs.Reasons.{reason_text}
 use Rattle.run_model.specs.Rows.{at_row, or_else}
 use Rattle.run_model.specs.Scopes.{own_hit, comes_before, first_hit, ending}
 use Rattle.run_model.specs.Scopes.{AreOrdered}
-use Rattle.run_model.specs.Rules.{is_group_kind}
+use Rattle.run_model.specs.Allowed.{has_kind}
+use Rattle.run_model.specs.Rules.{is_group_kind, can_be_hit}
+use Rattle.run_model.specs.State.{TreeState}
 use Rattle.run_model.specs.TreeChanges.{with_hit, cancellation}
 use Rattle.run_model.proofs.RowLemmas.{slice_get-at_row_same, slice_get-at_row_other}
 use Rattle.scope_laws.specs.Endings.{EndingsStay}
@@ -25,8 +27,11 @@ use Rattle.scope_laws.specs.Searches.{joined}
 use Rattle.scope_laws.proofs.Relates.{IsKept, RowsRelate, first_hits_relate}
 use Rattle.scope_laws.proofs.Stays.{earlier_comes_before, later_comes_behind, endings_from}
 use Rattle.scope_tree.specs.Checks.{AreEarlierOrAlike}
+use Rattle.scope_tree.specs.Marks.{Struck}
 use Rattle.scope_tree.specs.Sound.{ArePastHits, IsPastHit}
 use Rattle.scope_tree.proofs.Keeping.{ordered_hit}
+use Rattle.scope_tree.proofs.Passing.{kind_passed}
+use Rattle.scope_tree.proofs.Reaching.{can_be_hit_joins}
 
 -- ---- two hits
 
@@ -264,3 +269,14 @@ endings_stay_alike e clock s cause rows ordered past later =
     let hit = cancellation e clock cause in
     endings_from rows (at_row (with_hit hit) s rows)
     (ending_stays hit s rows ordered (are_level e clock cause rows past later))
+
+-- So the marks can go down from this hit.
+pub struck_alike : (t : TreeState) (e s : ℕ) (cause : Option (List ℕ)) → AreOrdered t.scopes
+    → ArePastHits t.clock t.scopes
+    → AreEarlierOrAlike t.scopes e (unwrap_or cause (reason_text Canceled))
+    → has_kind can_be_hit t s ≡ true → Struck t.scopes s (cancellation e t.clock cause)
+struck_alike t e s cause ordered past later can = record {
+  joins = λ row found. can_be_hit_joins row.kind (kind_passed can_be_hit t s row can found);
+  stays = λ n h known. ending_stays (cancellation e t.clock cause) s t.scopes ordered
+      (are_level e t.clock cause t.scopes past later) n h;
+}

@@ -1,11 +1,12 @@
 -- The mark of a scope, from its parent's and its own hit.
-use Rattle.std.proofs.Common.{◌≡◌, ◌<◌, ℕ, Bool, true, false, cond, List, length, Option, Some}
-use Rattle.std.proofs.Common.{None}
-use Rattle.std.proofs.Common.{slice_get, refl, sym, subst, ap, ◌∙◌}
+use Rattle.std.proofs.Common.{◌≡◌, ◌<◌, ℕ, zero, suc, Bool, true, false, cond, List, [], ◌∷◌}
+use Rattle.std.proofs.Common.{length, Option, Some, None}
+use Rattle.std.proofs.Common.{slice_get, refl, sym, subst, ap, ◌∙◌, arith}
 use Rattle.std.specs.Option.{option_map, option_map_or, IfSome}
-use Rattle.std.proofs.lemmas.Option.{slice_get_within, option_and_then_some}
+use Rattle.std.proofs.lemmas.Option.{none-some, slice_get_within, option_and_then_some}
 use Rattle.run_model.specs.declared.scopes.Hit.{Hit}
 use Rattle.run_model.specs.declared.scopes.Scope.{Scope}
+use Rattle.run_model.specs.Rows.{root}
 use Rattle.run_model.specs.Scopes.{is_root, is_detached, own_hit, comes_before, first_hit}
 use Rattle.run_model.specs.Scopes.{AreOrdered}
 use Rattle.scope_laws.specs.Searches.{above, joined}
@@ -163,3 +164,23 @@ all_marked rows marks same below = record {
   same = same;
   right = λ s known. subst (IsMark rows s) (sym (below s known)) (first_is_mark rows s);
 }
+
+-- ---- root alone
+
+root_unhit : (n : ℕ) (hit : Hit) → own_hit (root ∷ []) n ≡ Some hit → ⊥
+root_unhit zero hit own = none-some hit own
+root_unhit (suc n) hit own = none-some hit own
+
+-- The mark of root alone is that of root among other rows too.
+pub root_marked : (rows first : List Scope) (marks : List (Option ℕ)) (n : ℕ) → first ≡ root ∷ []
+    → AreMarked first marks → AreOrdered rows → slice_get rows 0 ≡ Some root → n ≡ length marks
+    → AreMarkedBelow rows marks n
+root_marked rows first marks n is were ordered found all t less =
+    let one : t ≡ 0 = omega (arith, less, all, were.same, ap length is) in
+    subst (λ s. mark_of marks s ≡ first_mark rows s) (sym one)
+    (by_mark (mark_of marks 0) (were.right 0 (omega (arith, ap length is)))
+    ∙ sym (ap (option_map (λ a. a.0)) (first_hit_up rows 0 root ordered found)))
+  where
+    by_mark : (m : Option ℕ) → IsMark first 0 m → m ≡ None
+    by_mark None at = refl
+    by_mark (Some k) at = absurd (root_unhit k at.0 (ap (λ l. own_hit l k) (sym is) ∙ at.2))

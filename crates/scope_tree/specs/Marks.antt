@@ -1,9 +1,12 @@
 -- Marks: which hit ended a scope, as the number of the scope that was hit.
 use Rattle.std.specs.Prelude.{◌≡◌, ◌<◌, ℕ, List, length, Option, Some, None, slice_index_or}
+use Rattle.std.specs.Prelude.{slice_get, false, if◌then◌else◌}
 use Rattle.std.specs.Option.{option_map, option_and_then}
 use Rattle.run_model.specs.declared.scopes.Hit.{Hit}
 use Rattle.run_model.specs.declared.scopes.Scope.{Scope}
-use Rattle.run_model.specs.Scopes.{own_hit, first_hit, ending}
+use Rattle.run_model.specs.Rows.{at_row}
+use Rattle.run_model.specs.TreeChanges.{with_hit}
+use Rattle.run_model.specs.Scopes.{own_hit, first_hit, ending, is_detached}
 
 -- The mark of scope s; none also where there is no such scope.
 abbrev pub mark_of : List (Option ℕ) → ℕ → Option ℕ
@@ -31,3 +34,20 @@ AreMarkedBelow rows marks s = (t : ℕ) → t < s → mark_of marks t ≡ first_
 -- The hit that a mark names, with the number of its scope.
 abbrev pub marked_hit : List Scope → Option ℕ → Option (ℕ × Hit)
 marked_hit rows mark = option_and_then (λ n. option_map (λ hit. (n, hit)) (own_hit rows n)) mark
+
+-- The mark of a new scope of number n, where its parent's is given: what ended its parent ended
+-- it, else its own hit.
+abbrev pub mark_from : Option ℕ → Option Hit → ℕ → Option ℕ
+mark_from (Some m) own n = Some m
+mark_from None None n = None
+mark_from None (Some hit) n = Some n
+
+-- So it is where the scope isn't detached; a detached one has no mark.
+abbrev pub new_mark : Scope → ℕ → Option ℕ → Option ℕ
+new_mark row n up = if is_detached row.kind then None else mark_from up row.hit n
+
+-- One more hit stands on a scope that is done with those above it, and what ended a scope stays.
+pub record Struck (rows : List Scope) (at : ℕ) (hit : Hit) : Type 0 where
+  pub joins : (row : Scope) → slice_get rows at ≡ Some row → is_detached row.kind ≡ false
+  pub stays : (s : ℕ) (h : Hit) → s < length rows → ending rows s ≡ Some h
+      → ending (at_row (with_hit hit) at rows) s ≡ Some h

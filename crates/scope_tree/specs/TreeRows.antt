@@ -22,7 +22,7 @@ use Rattle.record_view.specs.RowReading.{scope_at}
 
 -- ---- what can be written
 
--- A row that an image can keep: not root's, and hit only where it can be.
+-- A row that isn't root's, and that has a hit only where its kind can be hit.
 pub record IsWritable (row : Scope) : Type 0 where
   pub below_root : is_root row.kind ≡ false
   pub can : (hit : Hit) → row.hit ≡ Some hit → can_be_hit row.kind ≡ true

@@ -1,6 +1,6 @@
 //! Hits: how a scope's own hit is made, compared and set.
 
-ghost use Rattle.std.specs.Prelude.{◌≡◌, ◌<◌, Option, length, map, unwrap_or};
+ghost use Rattle.std.specs.Prelude.{◌≡◌, ◌<◌, Option, length, unwrap_or};
 ghost use Rattle.std.specs.Option.{option_copied};
 ghost use Rattle.run_model.specs.Reasons.{reason_text};
 ghost use Rattle.run_model.specs.Rows.{at_row};
@@ -57,7 +57,7 @@ fn expired(event: u64, deadline: Moment, cause: Option<Text>) -> Hit
 }
 
 /// The hit that a deadline at or before the clock gets; other kinds get none.
-fn due(event: u64, clock: Moment, kind: &Kind) -> Option<Hit>
+pub fn hit_due(event: u64, clock: Moment, kind: &Kind) -> Option<Hit>
     ensures { result ≡ hit_due event clock kind.now }
 {
     match kind {
@@ -77,7 +77,7 @@ pub fn expire(row: &mut Scope, event: u64, clock: Moment)
     ensures { row.new ≡ tick event clock row.old }
 {
     if row.hit.is_none() {
-        row.hit = due(event, clock, &row.kind);
+        row.hit = hit_due(event, clock, &row.kind);
     }
 }
 
@@ -96,13 +96,4 @@ pub fn end_row(scopes: &mut [Scope], s: u16, hit: Hit)
     ensures { scopes.new ≡ at_row (with_hit hit) s scopes.old }
 {
     end(&mut scopes[s as usize], hit);
-}
-
-/// Ends each row whose deadline is at or before the clock, and that nothing has ended.
-pub fn expire_rows(scopes: &mut [Scope], event: u64, clock: Moment)
-    ensures { scopes.new ≡ map (tick event clock) scopes.old }
-{
-    for row in scopes.iter_mut() {
-        expire(row, event, clock);
-    }
 }

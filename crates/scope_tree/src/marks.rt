@@ -1,19 +1,27 @@
 //! Marks: a tree keeps for each scope the number of the scope whose own hit ended it.
 //!
-//! A parent has the lesser number, so one pass over ascending numbers makes every mark from the
-//! parent's. It reads the rows alone, in whatever order their hits came.
+//! A hit that comes marks the scope and those that end with it, by a list of the scopes whose
+//! children are still to be marked. So it costs the scopes that it ends. Rows that are read are
+//! marked in one pass over ascending numbers, each mark from the parent's, in whatever order their
+//! hits came.
 
 ghost use Rattle.std.specs.Option.{option_copied, option_map_or};
-ghost use Rattle.std.specs.Prelude.{◌≡◌, ◌<◌, ◌≤◌, length, IfSome, false, true};
+ghost use Rattle.std.specs.Prelude.{◌≡◌, ◌+◌, ◌<◌, ◌≤◌, ℕ, List, Option, Some, None, length};
+ghost use Rattle.std.specs.Prelude.{IfSome, false, true, vec_len, vec_capacity};
+ghost use Rattle.arrayvec.specs.ArrayVec.{array_vec_len};
 ghost use Rattle.run_model.specs.declared.bounds.TheConstants.{MOST_SCOPES};
 ghost use Rattle.run_model.specs.Scopes.{AreOrdered, ending, is_root, comes_before};
 ghost use Rattle.scope_laws.specs.Searches.{above};
 ghost use Rattle.scope_tree.specs.Marks.{AreMarked, AreMarkedBelow, first_mark, mark_of};
-ghost use Rattle.scope_tree.specs.Marks.{marked_hit};
+ghost use Rattle.scope_tree.specs.Marks.{marked_hit, new_mark};
+ghost use Rattle.scope_tree.specs.Spread.{Spreading, IsSpread, unmarked};
 
+use crate::chains::Chains;
 use crate::hits::is_before;
 use crate::kinds::{is_detached, is_root};
-use run_model::{Hit, Scope};
+use arrayvec::ArrayVec;
+use run_model::{Hit, MOST_SCOPES, Scope};
+use std::alloc::Allocator;
 
 /// The hit that ended scope `s`.
 pub fn ending_hit<'a>(scopes: &'a [Scope], marks: &[Option<u16>], s: u16) -> Option<&'a Hit>
@@ -25,16 +33,19 @@ pub fn ending_hit<'a>(scopes: &'a [Scope], marks: &[Option<u16>], s: u16) -> Opt
     scopes[n as usize].hit.as_ref()
 }
 
-/// Makes the mark of each scope anew.
-pub fn mark_all(scopes: &[Scope], marks: &mut [Option<u16>])
+/// Makes the marks of the scopes that have none yet, which are the last ones. Takes no memory.
+pub fn mark_rest<A: Allocator>(scopes: &[Scope], marks: &mut Vec<Option<u16>, A>)
     requires ordered { AreOrdered scopes.now }
     requires few { length scopes.now ≤ MOST_SCOPES }
-    requires same { length marks.old ≡ length scopes.now }
-    ensures { AreMarked scopes.now marks.new }
+    requires below { AreMarkedBelow scopes.now marks.old.items (vec_len marks.old) }
+    requires known { vec_len marks.old ≤ length scopes.now }
+    requires room { length scopes.now ≤ vec_capacity marks.old }
+    ensures marked { AreMarked scopes.now marks.new.items }
+    ensures capacity { vec_capacity marks.new ≡ vec_capacity marks.old }
 {
-    for s in 0..scopes.len() {
+    for s in marks.len()..scopes.len() {
         let mark = first_mark(scopes, marks, s as u16);
-        marks[s] = mark;
+        marks.push_reserved(mark);
     }
 }
 
@@ -42,7 +53,7 @@ pub fn mark_all(scopes: &[Scope], marks: &mut [Option<u16>])
 fn first_mark(scopes: &[Scope], marks: &[Option<u16>], s: u16) -> Option<u16>
     requires ordered { AreOrdered scopes.now }
     requires known { s < length scopes.now }
-    requires same { length marks.now ≡ length scopes.now }
+    requires made { s ≤ length marks.now }
     requires below { AreMarkedBelow scopes.now marks.now s }
     ensures { result ≡ first_mark scopes.now s }
 {
@@ -84,5 +95,64 @@ fn comes_first(scopes: &[Scope], s: u16, own: &Hit, mark: Option<u16>) -> bool
     match &scopes[n as usize].hit {
         Some(hit) => is_before(s, own, n, hit),
         None => true,
+    }
+}
+
+/// The mark of a new scope of number `n`, whose parent's mark is `up`.
+pub fn new_mark(row: &Scope, n: u16, up: Option<u16>) -> Option<u16>
+    ensures { result ≡ new_mark row.now n up }
+{
+    if is_detached(&row.kind) {
+        None
+    } else if up.is_none() && row.hit.is_some() {
+        Some(n)
+    } else {
+        up
+    }
+}
+
+/// Marks the scopes that end with `s` and have no mark, and lists those that it marks.
+fn mark_children<A: Allocator>(
+    links: &Chains<A>,
+    marks: &mut [Option<u16>],
+    work: &mut ArrayVec<u16, MOST_SCOPES>,
+    s: u16,
+    at: u16,
+)
+    requires same { length marks.old ≡ length links.now.keys }
+    requires few { length links.now.keys ≤ MOST_SCOPES }
+    requires here { mark_of marks.old s ≡ Some at }
+    requires known { s < length links.now.keys }
+    requires room { array_vec_len work.old + unmarked marks.old < MOST_SCOPES }
+    ensures same { length marks.new ≡ length marks.old }
+    ensures room { array_vec_len work.new + unmarked marks.new
+        ≡ array_vec_len work.old + unmarked marks.old }
+    ensures spread { (before : List (Option ℕ)) → mark_of before s ≡ None
+        → Spreading links.now.keys before marks.old at work.old.items s (length links.now.keys)
+        → Spreading links.now.keys before marks.new at work.new.items 0 0 }
+{
+    let mut child = links.last(s);
+    while let Some(t) = child {
+        if marks[t as usize].is_none() {
+            marks[t as usize] = Some(at);
+            work.push(t);
+        }
+        child = links.before(t);
+    }
+}
+
+/// Marks scope `at`, and those that end with it and have no mark.
+pub fn mark_below<A: Allocator>(links: &Chains<A>, marks: &mut [Option<u16>], at: u16)
+    requires same { length marks.old ≡ length links.now.keys }
+    requires few { length links.now.keys ≤ MOST_SCOPES }
+    requires known { at < length links.now.keys }
+    requires free { mark_of marks.old at ≡ None }
+    ensures { IsSpread links.now.keys marks.old marks.new at }
+{
+    let mut work: ArrayVec<u16, MOST_SCOPES> = ArrayVec::new();
+    marks[at as usize] = Some(at);
+    work.push(at);
+    while let Some(s) = work.pop() {
+        mark_children(links, marks, &mut work, s, at);
     }
 }

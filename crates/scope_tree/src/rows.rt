@@ -4,18 +4,25 @@ ghost use Rattle.std.specs.List.{flat_map, AllByRecursion};
 ghost use Rattle.std.specs.Option.{option_map, option_map_or};
 ghost use Rattle.std.specs.Prelude.{◌≡◌, ◌≤◌, ◌+◌, ◌*◌, Some, None, length, vec_len, vec_capacity};
 ghost use Rattle.std.specs.Prelude.{IfSome, IfNone, IsTrue, nat_le, false};
+ghost use Rattle.run_model.specs.declared.bounds.TheConstants.{MOST_SCOPES};
 ghost use Rattle.run_model.specs.Rules.{can_be_hit};
 ghost use Rattle.record_view.specs.Image.{scope_bytes, is_kept_scope, is_kept_hit};
 ghost use Rattle.record_view.specs.RowViews.{scope_of, hit_of};
 ghost use Rattle.record_view.specs.Writing.{put_at};
+ghost use Rattle.scope_tree.specs.Deadlines.{AreWaiting};
+ghost use Rattle.scope_tree.specs.Links.{AreFound};
+ghost use Rattle.scope_tree.specs.Names.{names_of, AreNamed};
 ghost use Rattle.scope_tree.specs.TreeRows.{AreWritable, can_follow, hit_fits, more_rows_at};
 ghost use Rattle.scope_tree.specs.TreeRows.{reason_fits};
 
+use crate::chains::Chains;
+use crate::changes::push_row;
 use crate::copies::{kind_copy, moment_of, name_copy, text_copy};
 use crate::kinds::own_deadline;
-use crate::trees::place_of;
+use crate::names::place_of;
+use arrayvec::ArrayVec;
 use record_view::{HitView, ImageHead, ScopeRow, put_scope, read_scope, scope_row};
-use run_model::{Hit, Kind, Moment, Reason, Scope};
+use run_model::{Hit, Kind, MOST_SCOPES, Moment, Reason, Scope};
 use std::alloc::Allocator;
 
 /// Puts the rows at a place, one behind the other, and gives the place behind them.
@@ -36,45 +43,53 @@ pub fn put_rows(rows: &[Scope], out: &mut [u8], at: usize) -> usize
 
 /// Reads so many rows behind those that there are; `None` where the bytes don't begin with them, or
 /// one of them can't follow.
-pub fn read_more<'a, A: Allocator, B: Allocator>(
+pub fn read_more<'a, A: Allocator>(
     scopes: &mut Vec<Scope, A>,
-    marks: &mut Vec<Option<u16>, B>,
+    names: &mut Chains<A>,
+    links: &mut Chains<A>,
+    due: &mut ArrayVec<u16, MOST_SCOPES>,
     head: &ImageHead,
     bytes: &'a [u8],
 ) -> Option<&'a [u8]>
     requires room { vec_len scopes.old + head.now.scopes ≤ vec_capacity scopes.old }
-    requires mark_room { vec_len marks.old + head.now.scopes ≤ vec_capacity marks.old }
-    requires same { vec_len marks.old ≡ vec_len scopes.old }
+    requires few { vec_capacity scopes.old ≤ MOST_SCOPES }
+    requires found { AreFound scopes.old.items (vec_capacity scopes.old) names.old links.old }
+    requires waiting { AreWaiting scopes.old.items due.old.items }
     ensures read { IfSome result (λ rest.
         more_rows_at head.now.count head.now.clock head.now.scopes scopes.old.items bytes.now
         ≡ Some (scopes.new.items, rest.now)) }
     ensures none { IfNone result
         (more_rows_at head.now.count head.now.clock head.now.scopes scopes.old.items bytes.now
         ≡ None) }
-    ensures same { vec_len marks.new ≡ vec_len scopes.new }
     ensures capacity { vec_capacity scopes.new ≡ vec_capacity scopes.old }
-    ensures mark_capacity { vec_capacity marks.new ≡ vec_capacity marks.old }
+    ensures found { AreFound scopes.new.items (vec_capacity scopes.new) names.new links.new }
+    ensures waiting { AreWaiting scopes.new.items due.new.items }
 {
     let mut rest = bytes;
     for n in 0..head.scopes {
         let (view, behind) = read_scope(rest)?;
         let row = row_copy(&view);
-        if !can_follow(scopes, head, &row) {
+        if !can_follow(scopes, names, head, &row) {
             return None;
         }
-        scopes.push_reserved(row);
-        marks.push_reserved(None);
+        push_row(scopes, names, links, due, row);
         rest = behind;
     }
     Some(rest)
 }
 
 /// Says whether a row can follow these rows, in a state of this head.
-fn can_follow(scopes: &[Scope], head: &ImageHead, row: &Scope) -> bool
+fn can_follow<A: Allocator>(
+    scopes: &[Scope],
+    names: &Chains<A>,
+    head: &ImageHead,
+    row: &Scope,
+) -> bool
+    requires { AreNamed (names_of scopes.now) names.now.keys }
     ensures { result ≡ can_follow head.now.count head.now.clock scopes.now row.now }
 {
     (row.parent as usize) < scopes.len()
-        && place_of(scopes, row.name.as_bytes()).is_none()
+        && place_of(scopes, names, row.name.as_bytes()).is_none()
         && hit_fits(head, &row.kind, &row.hit)
 }
 

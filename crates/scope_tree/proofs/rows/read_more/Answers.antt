@@ -1,4 +1,4 @@
-use Rattle.std.proofs.Common.{◌+◌, arith, ap, sym, subst, ◌∙◌, Some, rules}
+use Rattle.std.proofs.Common.{◌+◌, ap, sym, subst, ◌∙◌, Some, rules}
 use Rattle.scope_tree.specs.TreeRows.{can_follow}
 use Rattle.scope_tree.proofs.RowLoops.{ReadSoFar, read_next, read_no_row, read_stray_row}
 use Rattle.scope_tree.proofs.rows.read_more.Goals as goal
@@ -39,14 +39,8 @@ loop-n-preserved g c =
     record {
       rows = subst (λ rows. ReadSoFar head.count head.clock head.scopes (c.loop-n.n + 1)
           c.args.scopes.now.items rows c.args.bytes.now behind)
-          (sym c.push_reserved.ensures.items) next;
-      same = omega (
-        arith,
-        c.push_reserved.ensures.len,
-        c.push_reserved-in-loop-n.ensures.len,
-        c.loop-n.invariant.same,
-      );
-      capacity = c.push_reserved.ensures.capacity ∙ c.loop-n.invariant.capacity;
-      mark_capacity =
-          c.push_reserved-in-loop-n.ensures.capacity ∙ c.loop-n.invariant.mark_capacity;
+          (sym c.push_row.ensures.rows) next;
+      capacity = c.push_row.ensures.capacity ∙ c.loop-n.invariant.capacity;
+      found = c.push_row.ensures.found;
+      waiting = c.push_row.ensures.waiting;
     }

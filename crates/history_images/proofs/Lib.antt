@@ -1,0 +1,4 @@
+pub mod EventRanges
+pub mod Images
+pub mod RowRanges
+pub mod StateRanges
