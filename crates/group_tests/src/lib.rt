@@ -3,7 +3,11 @@
 #![tactic(auto)]
 
 #[cfg(test)]
+mod calls;
+#[cfg(test)]
 mod crowds;
+#[cfg(test)]
+mod images;
 #[cfg(test)]
 mod plain;
 #[cfg(test)]

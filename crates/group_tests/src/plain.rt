@@ -56,7 +56,7 @@ impl Plain {
     }
 
     /// Says whether a group's limit admits one more beside so many.
-    fn admits(&self, group: u16, count: usize) -> bool {
+    pub fn admits(&self, group: u16, count: usize) -> bool {
         match self.groups.get(group as usize) {
             Some(row) => match row.limit.get() {
                 Some(most) => count < most as usize,
@@ -163,6 +163,9 @@ impl Plain {
         };
         if waited {
             return Ok(Answer::Refused(Refusal::Waited));
+        }
+        if count >= 2_048 {
+            return Ok(Answer::Refused(Refusal::TooManyTasks));
         }
         let again = Task::new(task.group, task.job.copy(), task.argument.copy(), Some(n));
         self.tasks.push(again)?;

@@ -171,9 +171,9 @@ impl Pair {
         let first = self.plain.first_ready().map(|n| number(n));
         assert_eq!(rt; groups.next_ready(), first, "the least ready task");
         let count = self.plain.tasks().len();
-        assert_eq!(rt; groups.count(), count, "tasks");
+        assert_eq!(rt; groups.task_count(), count, "tasks");
         for (g, row) in self.plain.groups().iter().enumerate() {
-            assert_eq!(rt; groups.group(number(g)), Some(row), "group {g}");
+            assert_eq!(rt; groups.group_row(number(g)), Some(row), "group {g}");
             let look = groups.result(number(g));
             let unfinished = look.map(|look| look.unfinished as usize);
             assert_eq!(rt;
@@ -181,11 +181,21 @@ impl Pair {
                 Some(self.plain.before(number(g), count)),
                 "group {g}"
             );
+            self.assert_seat(rt, number(g));
         }
         for (n, row) in self.plain.tasks().iter().enumerate() {
-            assert_eq!(rt; groups.task(number(n)), Some(row), "task {n}");
+            assert_eq!(rt; groups.task_row(number(n)), Some(row), "task {n}");
             assert_eq!(rt; groups.phase(number(n)), self.plain.phase(n), "task {n}");
         }
+    }
+
+    /// Asserts that both would let one more task of a group in, or neither would.
+    fn assert_seat(&self, rt: &impl Abort, group: u16) {
+        let groups = self.runner.groups();
+        assert!(rt; (group as usize) < groups.group_count(), "group {group}");
+        let unfinished = self.plain.before(group, self.plain.tasks().len());
+        let seat = self.plain.admits(group, unfinished);
+        assert_eq!(rt; groups.has_seat(group), seat, "group {group}");
     }
 }
 

@@ -70,7 +70,11 @@ impl<A: Allocator> Runner<A> {
     /// Ends a task, and gives the scope that is told.
     pub fn finish(&mut self, task: u16, outcome: &Outcome) -> Result<Option<u16>, Refusal> {
         self.groups.check_finish(task)?;
-        Ok(self.groups.finish(task, outcome))
+        let error = match outcome {
+            Outcome::Success => None,
+            Outcome::Failure(text) => Some(text.as_bytes()),
+        };
+        Ok(self.groups.finish(task, error))
     }
 
     /// Waits for a group, and gives the scope that is told; a second wait tells none.

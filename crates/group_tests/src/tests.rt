@@ -1,116 +1,16 @@
 //! Each call on its way, and its refusals in their order: tables of calls with what each is
 //! answered.
 
+use crate::calls::{Call, assert_replies, name};
 use crate::runners::Runner;
-use run_model::{Layout, Limit, Name, Outcome, Phase, Refusal, Text};
+use run_model::{Layout, Outcome, Phase, Refusal};
 use std::process::Abort;
 use std::test::Fail;
 use task_group::interruption;
 
-/// A call of a runner. Groups and tasks go by number.
-#[derive(Clone, Copy)]
-enum Call {
-    /// A group of this name in this scope, bare or not.
-    Make(&'static [u8], u16, bool),
-    /// The limit of a group.
-    Limit(u16, u8),
-    /// A task of this argument.
-    Go(u16, &'static [u8]),
-    /// The same, ready at once.
-    Try(u16, &'static [u8]),
-    /// A task once more.
-    Retry(u16),
-    /// The least ready task.
-    Start,
-    /// A task without an error.
-    Succeed(u16),
-    /// A task with this error.
-    Lose(u16, &'static [u8]),
-    /// A group.
-    Wait(u16),
-}
-
-/// A number that a call gives or a scope that it tells, or why it is refused.
-type Reply = Result<Option<u16>, Refusal>;
-
-fn name(bytes: &[u8]) -> Result<Name, &'static str> {
-    Name::read(bytes).ok_or("no name")
-}
-
-/// Makes a call of those that submit a task, or none.
-fn submission(runner: &mut Runner, call: Call) -> Result<Option<Reply>, &'static str> {
-    let copy = name(b"copy")?;
-    Ok(match call {
-        Call::Go(group, argument) => {
-            Some(runner.go(group, &copy, &name(argument)?).map(|n| Some(n)))
-        }
-        Call::Try(group, argument) => {
-            Some(
-                runner
-                    .try_go(group, &copy, &name(argument)?)
-                    .map(|n| Some(n)),
-            )
-        }
-        Call::Retry(task) => Some(runner.retry(task).map(|n| Some(n))),
-        _ => None,
-    })
-}
-
-/// Makes a call of those that start or end a task, or none.
-fn task_call(runner: &mut Runner, call: Call) -> Result<Option<Reply>, &'static str> {
-    Ok(match call {
-        Call::Start => Some(runner.start().map(|n| Some(n))),
-        Call::Succeed(task) => Some(runner.finish(task, &Outcome::Success)),
-        Call::Lose(task, error) => {
-            let text = Text::read(error).ok_or("no text")?;
-            Some(runner.finish(task, &Outcome::Failure(text)))
-        }
-        _ => None,
-    })
-}
-
-/// Makes a call of those on a group, or none.
-fn group_call(runner: &mut Runner, call: Call) -> Result<Option<Reply>, &'static str> {
-    Ok(match call {
-        Call::Make(called, scope, bare) => {
-            Some(runner.make(&name(called)?, scope, bare).map(|n| Some(n)))
-        }
-        Call::Limit(group, most) => {
-            let limit = Limit::new(most).ok_or("no limit")?;
-            Some(runner.set_limit(group, limit).map(|_| None))
-        }
-        Call::Wait(group) => Some(runner.wait(group)),
-        _ => None,
-    })
-}
-
-/// Makes a call.
-fn answer(runner: &mut Runner, call: Call) -> Result<Reply, &'static str> {
-    if let Some(reply) = submission(runner, call)? {
-        return Ok(reply);
-    }
-    if let Some(reply) = task_call(runner, call)? {
-        return Ok(reply);
-    }
-    group_call(runner, call)?.ok_or("no call")
-}
-
-/// Makes the calls of a table, and asserts what each is answered.
-fn assert_replies(
-    rt: &impl Abort,
-    runner: &mut Runner,
-    rows: &[(Call, Reply)],
-) -> Result<(), Fail> {
-    for (n, row) in rows.iter().enumerate() {
-        let reply = answer(runner, row.0)?;
-        assert_eq!(rt; &reply, &row.1, "row {n}");
-    }
-    Ok(())
-}
-
 /// Asserts how far the tasks are, by ascending number.
 fn assert_phases(rt: &impl Abort, runner: &Runner, phases: &[Phase]) {
-    assert_eq!(rt; runner.groups().count(), phases.len());
+    assert_eq!(rt; runner.groups().task_count(), phases.len());
     for (n, phase) in phases.iter().enumerate() {
         assert_eq!(rt;
             runner.groups().phase(n.min(65_535) as u16).as_ref(),
@@ -118,6 +18,14 @@ fn assert_phases(rt: &impl Abort, runner: &Runner, phases: &[Phase]) {
             "task {n}"
         );
     }
+}
+
+/// Asserts how many tasks of a group are unfinished, and whether one more would be ready.
+fn assert_seats(rt: &impl Abort, runner: &Runner, group: u16, unfinished: u16, seat: bool) {
+    let groups = runner.groups();
+    assert!(rt; (group as usize) < groups.group_count(), "group {group}");
+    assert_eq!(rt; groups.unfinished(group), unfinished, "group {group}");
+    assert_eq!(rt; groups.has_seat(group), seat, "group {group}");
 }
 
 /// What is seen of a group: unfinished tasks, limit, whether it was waited for, error.
@@ -152,6 +60,10 @@ fn limit_holds_tasks_back(rt: HostRuntime) -> Result<(), Fail> {
     assert_replies(&rt, &mut runner, &rows)?;
     assert_phases(&rt, &runner, &[Phase::Success, Phase::Ready, Phase::Ready]);
     assert_seen(&rt, &runner, 0, (2, Some(2), false, None));
+    assert_seats(&rt, &runner, 0, 2, false);
+    assert_eq!(rt; runner.start(), Ok(1));
+    assert_eq!(rt; runner.finish(1, &Outcome::Success), Ok(None));
+    assert_seats(&rt, &runner, 0, 1, true);
     Ok(())
 }
 
@@ -282,7 +194,7 @@ fn interrupted_task_is_retried_once(rt: HostRuntime) -> Result<(), Fail> {
         &runner,
         &[Phase::Interrupted, Phase::Ready, Phase::Held],
     );
-    let task = runner.groups().task(2);
+    let task = runner.groups().task_row(2);
     assert_eq!(rt;
         task.map(|task| task.argument.as_bytes()),
         Some(b"a".as_slice())
@@ -338,9 +250,43 @@ fn questions_are_answered(rt: HostRuntime) -> Result<(), Fail> {
     for (called, number) in names {
         assert_eq!(rt; groups.find(called), number);
     }
-    assert_eq!(rt; groups.group(0).map(|row| row.scope), Some(3));
-    assert!(rt; groups.group(1).is_none() && groups.result(1).is_none());
-    assert!(rt; groups.task(0).is_none() && groups.phase(0).is_none());
+    assert_eq!(rt; groups.group_row(0).map(|row| row.scope), Some(3));
+    assert!(rt; groups.group_row(1).is_none() && groups.result(1).is_none());
+    assert!(rt; groups.task_row(0).is_none() && groups.phase(0).is_none());
     assert!(rt; !groups.is_running(0) && !groups.was_waited(1));
+    let checks = [(b"g", Err(Refusal::NameTaken)), (b"h", Ok(()))];
+    for (called, answer) in checks {
+        assert_eq!(rt; &groups.check_name(called), &answer);
+        assert_eq!(rt; &groups.check_make(called), &answer);
+    }
+    assert_eq!(rt; groups.check_room(), Ok(()));
+    Ok(())
+}
+
+#[test]
+fn restart_lets_in_the_oldest_tasks(rt: HostRuntime) -> Result<(), Fail> {
+    let mut runner = Runner::new(rt.alloc(), Layout::Small)?;
+    let rows = [
+        (Call::Make(b"g", 1, false), Ok(Some(0))),
+        (Call::Limit(0, 2), Ok(None)),
+        (Call::Go(0, b"a"), Ok(Some(0))),
+        (Call::Go(0, b"b"), Ok(Some(1))),
+        (Call::Go(0, b"c"), Ok(Some(2))),
+        (Call::Go(0, b"d"), Ok(Some(3))),
+        (Call::Go(0, b"e"), Ok(Some(4))),
+        (Call::Start, Ok(Some(0))),
+        (Call::Start, Ok(Some(1))),
+    ];
+    assert_replies(&rt, &mut runner, &rows)?;
+    assert_eq!(rt; runner.restart().as_slice(), [1].as_slice());
+    let phases = [
+        Phase::Interrupted,
+        Phase::Interrupted,
+        Phase::Ready,
+        Phase::Ready,
+        Phase::Held,
+    ];
+    assert_phases(&rt, &runner, &phases);
+    assert_eq!(rt; runner.groups().running(), 0);
     Ok(())
 }

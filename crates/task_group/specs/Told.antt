@@ -1,13 +1,12 @@
 -- Which scopes a change tells its caller to cancel.
-use Rattle.std.specs.Prelude.{ℕ, Bool, false, not, ◌&&◌, if◌then◌else◌, List, [], ◌∷◌, ◌++◌}
-use Rattle.std.specs.Prelude.{Option}
-use Rattle.std.specs.Prelude.{Some, None, is_none, slice_get}
-use Rattle.std.specs.Option.{option_to_list}
+use Rattle.std.specs.Prelude.{ℕ, ◌==◌, Bool, false, not, ◌&&◌, if◌then◌else◌, List, take, filter}
+use Rattle.std.specs.Prelude.{filter_map, Option, Some, None, is_none, slice_get}
+use Rattle.std.specs.List.{list_any}
 use Rattle.run_model.specs.declared.groups.Group.{Group}
 use Rattle.run_model.specs.State.{WorkState}
 use Rattle.run_model.specs.Step.{own_scope}
-use Rattle.run_model.specs.Tasks.{running_tasks}
-use Rattle.run_model.specs.WorkChanges.{after_interrupt, group_of_task, interruption}
+use Rattle.run_model.specs.Tasks.{is_running, is_running_task, task_numbers}
+use Rattle.run_model.specs.WorkChanges.{group_of_task}
 
 -- The group isn't bare and has no error yet.
 abbrev pub is_first_error : Option Group → Bool
@@ -26,13 +25,18 @@ told_by_end n error w =
     if tells error (slice_get w.groups (group_of_task w n)) then own_scope w (group_of_task w n)
     else None
 
--- These tasks are interrupted in turn, and each tells what its end tells.
-abbrev pub told_in_turn : WorkState → List ℕ → List ℕ
-told_in_turn w [] = []
-told_in_turn w (n ∷ ns) =
-    option_to_list (told_by_end n (Some interruption) w)
-    ++ told_in_turn (after_interrupt w n) ns
+-- A running task of this group has a lesser number than n.
+abbrev pub runs_before : WorkState → ℕ → ℕ → Bool
+runs_before w g n = list_any (λ task. task.group == g && is_running task.stage) (take n w.tasks)
 
--- A restart interrupts the running tasks, by ascending number.
+-- Task n is the running one with the least number of its group, which isn't bare and has no error.
+abbrev pub ends_its_group : WorkState → ℕ → Bool
+ends_its_group w n =
+    is_running_task w n && not (runs_before w (group_of_task w n) n)
+    && is_first_error (slice_get w.groups (group_of_task w n))
+
+-- A restart tells the scopes of the groups that have a running task, no error, and aren't bare,
+-- each once, in the order of their least running tasks.
 abbrev pub told_by_restart : WorkState → List ℕ
-told_by_restart w = told_in_turn w (running_tasks w)
+told_by_restart w =
+    filter_map (λ n. own_scope w (group_of_task w n)) (filter (ends_its_group w) (task_numbers w))

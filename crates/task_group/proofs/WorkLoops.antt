@@ -1,0 +1,106 @@
+-- Groups and tasks that are read one behind the other are the work whose rows the bytes begin with.
+use Rattle.std.proofs.Common.{◌≡◌, ℕ, true, false, List, [], Option, Some, None, refl, sym, ap, ◌∙◌}
+use Rattle.run_model.specs.declared.groups.Group.{Group}
+use Rattle.run_model.specs.declared.layouts.Layout.{Layout}
+use Rattle.run_model.specs.declared.tasks.Task.{Task}
+use Rattle.run_model.specs.State.{WorkState, new_work}
+use Rattle.record_view.specs.declared.heads.ImageHead.{ImageHead}
+use Rattle.record_view.specs.RowReading.{group_row_at, task_at}
+use Rattle.record_view.specs.WorkRows.{AreWorkRows, can_come, each_passes, has_new_name}
+use Rattle.record_view.specs.WorkRows.{has_work_room, is_settled, more_at, work_at, work_made}
+use Rattle.record_view.specs.WorkRows.{work_rows_at}
+use Rattle.work_laws.proofs.WorkReads.{no_work_stands, work_takes}
+
+-- A task can come behind the rows so far, of which the groups stay.
+pub come_as : (start now : WorkState) (row : Task) → now.layout ≡ start.layout
+    → now.groups ≡ start.groups
+    → can_come start.layout start.groups now.tasks row
+    ≡ can_come now.layout now.groups now.tasks row
+come_as start now row layout groups =
+    ap (λ (l : Layout). can_come l start.groups now.tasks row) (sym layout)
+    ∙ ap (λ (g : List Group). can_come now.layout g now.tasks row) (sym groups)
+
+module _ (start : WorkState) (head : ImageHead) (bytes : List ℕ)
+    (new : start ≡ new_work start.layout) where
+  abbrev pub groups_read : Option (List Group × List ℕ)
+  groups_read = more_at group_row_at has_new_name head.groups start.groups bytes
+
+  abbrev pub tasks_read : WorkState → List ℕ → Option (List Task × List ℕ)
+  tasks_read w rest =
+      more_at (task_at head.version) (can_come w.layout w.groups) head.tasks w.tasks rest
+
+  -- The rows of groups were read, and no task yet.
+  pub record HasGroups (w : WorkState) (rest : List ℕ) : Type 0 where
+    pub read : groups_read ≡ Some (w.groups, rest)
+    pub layout : w.layout ≡ start.layout
+    pub tasks : w.tasks ≡ start.tasks
+
+  -- The bytes begin with the rows of no work.
+  abbrev pub HasNoWork : Type 0
+  HasNoWork = (w : WorkState) (rest : List ℕ)
+      → AreWorkRows start.layout head bytes w rest → ⊥
+
+  abbrev pub IsFew : Type 0
+  IsFew = has_work_room start.layout head ≡ true
+
+  from_none : more_at group_row_at has_new_name head.groups [] bytes ≡ groups_read
+  from_none =
+      ap (λ (l : List Group). more_at group_row_at has_new_name head.groups l bytes)
+      (sym (ap (λ (w : WorkState). w.groups) new))
+
+  from_no_task : (w : WorkState) (rest : List ℕ) → HasGroups w rest
+      → more_at (task_at head.version) (can_come start.layout w.groups) head.tasks [] rest
+      ≡ tasks_read w rest
+  from_no_task w rest has =
+      ap (λ (l : Layout).
+      more_at (task_at head.version) (can_come l w.groups) head.tasks [] rest) (sym has.layout)
+      ∙ ap (λ (l : List Task).
+      more_at (task_at head.version) (can_come w.layout w.groups) head.tasks l rest)
+      (sym (has.tasks ∙ ap (λ (u : WorkState). u.tasks) new))
+
+  pub no_groups : IsFew → groups_read ≡ None → HasNoWork
+  unfolding work_at work_rows_at
+  no_groups few none =
+      no_work_stands start.layout head bytes (rw (few, from_none ∙ none) refl)
+
+  pub no_tasks : (w : WorkState) (rest : List ℕ) → IsFew → HasGroups w rest
+      → tasks_read w rest ≡ None → HasNoWork
+  unfolding work_at work_rows_at
+  no_tasks w rest few has none =
+      no_work_stands start.layout head bytes
+      (rw (few, from_none ∙ has.read, from_no_task w rest has ∙ none) refl)
+
+  -- The rows of tasks were read behind those of groups.
+  pub record HasTasks (w v : WorkState) (rest behind : List ℕ) : Type 0 where
+    pub read : tasks_read w rest ≡ Some (v.tasks, behind)
+    pub layout : v.layout ≡ w.layout
+    pub groups : v.groups ≡ w.groups
+
+  as_made : (w v : WorkState) (rest behind : List ℕ) → HasGroups w rest
+      → HasTasks w v rest behind → work_made start.layout w.groups v.tasks ≡ v
+  as_made w v rest behind has more =
+      ap (λ (l : Layout). work_made l w.groups v.tasks) (sym (more.layout ∙ has.layout))
+      ∙ ap (λ (g : List Group). work_made v.layout g v.tasks) (sym more.groups)
+
+  pub unsettled : (w v : WorkState) (rest behind : List ℕ) → IsFew → HasGroups w rest
+      → HasTasks w v rest behind → each_passes (is_settled v) 0 v.groups ≡ false → HasNoWork
+  unfolding work_at work_rows_at
+  unsettled w v rest behind few has more test =
+      let made = as_made w v rest behind has more in
+      let tested : each_passes (is_settled (work_made start.layout w.groups v.tasks)) 0 w.groups
+      ≡ false = ap (λ (u : WorkState). each_passes (is_settled u) 0 u.groups) made ∙ test in
+      no_work_stands start.layout head bytes
+      (rw (few, from_none ∙ has.read, from_no_task w rest has ∙ more.read, tested) refl)
+
+  pub settled : (w v : WorkState) (rest behind : List ℕ) → IsFew → HasGroups w rest
+      → HasTasks w v rest behind → each_passes (is_settled v) 0 v.groups ≡ true
+      → AreWorkRows start.layout head bytes v behind
+  unfolding work_at work_rows_at
+  settled w v rest behind few has more test =
+      let made = as_made w v rest behind has more in
+      let tested : each_passes (is_settled (work_made start.layout w.groups v.tasks)) 0 w.groups
+      ≡ true = ap (λ (u : WorkState). each_passes (is_settled u) 0 u.groups) made ∙ test in
+      let found : work_at start.layout head bytes ≡ Some (v, behind) =
+      rw (few, from_none ∙ has.read, from_no_task w rest has ∙ more.read, tested)
+      (ap (λ (u : WorkState). Some (u, behind)) made) in
+      work_takes start.layout head bytes v behind found

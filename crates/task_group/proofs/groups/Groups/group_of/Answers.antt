@@ -1,0 +1,12 @@
+use Rattle.std.proofs.Common.{length, refl}
+use Rattle.std.proofs.lemmas.Option.{slice_get_read}
+use Rattle.task_group.proofs.groups.Groups.group_of.Goals as goal
+
+pub returns-clause-known : goal.returns-clause-known
+returns-clause-known g c =
+    let s = c.self.inside in
+    let known = rw (← c.self.view_is) at c.requires in
+    let found = slice_get_read s.tasks.items (length s.tasks.items) c.args.task c.index.result.now
+    refl known c.index.ensures in
+    rw (← c.self.view_is)
+    (c.self.invariant.0.seated.sound.grouped c.args.task c.index.result.now found)

@@ -1,0 +1,256 @@
+//! What changes groups and tasks. Each change has as its condition that its test answers `Ok`.
+
+ghost use Rattle.std.specs.Prelude.{◌≡◌, ◌<◌, ◌≤◌, ◌+◌, ◌++◌, false, fold, length, is_some, IsTrue};
+ghost use Rattle.std.specs.Prelude.{Ok, Some};
+ghost use Rattle.std.specs.Option.{IfSome, option_copied, option_to_list};
+ghost use Rattle.run_model.specs.declared.bounds.TheConstants.{MOST_GROUPS};
+ghost use Rattle.run_model.specs.declared.tasks.Phase.TheVariants.{Ready};
+ghost use Rattle.run_model.specs.Allowed.{is_open};
+ghost use Rattle.run_model.specs.Layouts.{most_tasks};
+ghost use Rattle.run_model.specs.Step.{own_scope};
+ghost use Rattle.run_model.specs.Tasks.{first_ready, is_running_task, is_unfinished, phase_of};
+ghost use Rattle.run_model.specs.Tasks.{running_tasks};
+ghost use Rattle.run_model.specs.Texts.{IsName, IsText};
+ghost use Rattle.run_model.specs.WorkChanges.{after_make, after_limit, after_go, after_retry};
+ghost use Rattle.run_model.specs.WorkChanges.{after_start, after_finish, after_end, after_wait};
+ghost use Rattle.run_model.specs.WorkChanges.{after_interrupt, group_of_task, interruption};
+ghost use Rattle.task_group.specs.Admitting.{AdmitsOldest, phase_new};
+ghost use Rattle.task_group.specs.Checks.{tested, make_refusals, limit_refusals, go_refusals};
+ghost use Rattle.task_group.specs.Checks.{try_refusals, retry_refusals, wait_refusals, was_waited};
+ghost use Rattle.task_group.specs.Lasting.{EndsStay};
+ghost use Rattle.task_group.specs.Outcomes.{outcome_with};
+ghost use Rattle.task_group.specs.Restarting.{RestartsTasks};
+ghost use Rattle.task_group.specs.Rows.{submitted};
+ghost use Rattle.task_group.specs.Told.{told_by_end, told_by_restart};
+
+use crate::copies::name_copy;
+use crate::flags::note_retry;
+use crate::groups::Groups;
+use crate::rows::{
+    admits, end_in_group, interruption, push_group, push_task, set_row_limit, set_stage,
+    set_waited, stage_with,
+};
+use crate::seats::{enter, leave, link, push_seats};
+use arrayvec::ArrayVec;
+use run_model::{Group, Limit, MOST_GROUPS, Name, Stage, Task};
+use std::alloc::Allocator;
+
+impl<A: Allocator> Groups<A> {
+    /// Makes a group of this name, without a limit, and gives its number. Its tasks live in this
+    /// scope, which is the group's own unless it is bare. [`Groups::check_make`] says whether it
+    /// may be.
+    pub fn make(&mut self, name: &[u8], scope: u16, bare: bool) -> u16
+        requires name { IsName name.now }
+        requires accepted { tested (make_refusals self.old name.now) ≡ Ok tt }
+        ensures number { result ≡ length self.old.groups }
+        ensures after { self.new ≡ after_make name.now scope bare self.old }
+        ensures stays { EndsStay self.old self.new }
+    {
+        let n = self.groups.len() as u16;
+        push_group(
+            &mut self.groups,
+            Group {
+                name: name_copy(name),
+                scope,
+                bare,
+                limit: Limit::none(),
+                waited: false,
+                error: None,
+            },
+        );
+        push_seats(&mut self.seats);
+        n
+    }
+
+    /// Changes the limit of a group, none of whose tasks is unfinished. [`Groups::check_limit`]
+    /// says whether it may be.
+    pub fn set_limit(&mut self, group: u16, limit: Limit)
+        requires accepted { tested (limit_refusals self.old group) ≡ Ok tt }
+        ensures after { self.new ≡ after_limit group limit self.old }
+        ensures stays { EndsStay self.old self.new }
+    {
+        set_row_limit(&mut self.groups, group as usize, limit);
+    }
+
+    /// Submits a task, and gives its number: it is ready where the limit admits one more, else
+    /// held. [`Groups::check_go`] says whether it may be.
+    pub fn go(&mut self, group: u16, job: &[u8], argument: &[u8]) -> u16
+        requires job { IsName job.now }
+        requires argument { IsName argument.now }
+        requires accepted { tested (go_refusals self.old group) ≡ Ok tt }
+        ensures number { result ≡ length self.old.tasks }
+        ensures after { self.new ≡ after_go group job.now argument.now self.old }
+        ensures phase { phase_of self.new result ≡ Some (phase_new self.old group) }
+        ensures stays { EndsStay self.old self.new }
+    {
+        self.submit(group, name_copy(job), name_copy(argument), None)
+    }
+
+    /// Submits a task that is ready at once, and gives its number. [`Groups::check_try`] says
+    /// whether it may be.
+    pub fn try_go(&mut self, group: u16, job: &[u8], argument: &[u8]) -> u16
+        requires job { IsName job.now }
+        requires argument { IsName argument.now }
+        requires accepted { tested (try_refusals self.old group) ≡ Ok tt }
+        ensures number { result ≡ length self.old.tasks }
+        ensures after { self.new ≡ after_go group job.now argument.now self.old }
+        ensures phase { phase_of self.new result ≡ Some Ready }
+        ensures stays { EndsStay self.old self.new }
+    {
+        self.go(group, job, argument)
+    }
+
+    /// Submits an interrupted task anew, with the same job and argument in the same group, and
+    /// gives the new task's number. [`Groups::check_retry`] says whether it may be.
+    pub fn retry(&mut self, task: u16) -> u16
+        requires accepted { tested (retry_refusals self.old task) ≡ Ok tt }
+        ensures number { result ≡ length self.old.tasks }
+        ensures after { self.new ≡ after_retry task self.old }
+        ensures phase { phase_of self.new result
+            ≡ Some (phase_new self.old (group_of_task self.old task)) }
+        ensures stays { EndsStay self.old self.new }
+    {
+        let row = &self.tasks[task as usize];
+        let group = row.group;
+        let job = row.job.copy();
+        let argument = row.argument.copy();
+        self.submit(group, job, argument, Some(task))
+    }
+
+    /// Starts the ready task with the least number, and gives that. [`Groups::next_ready`] says
+    /// whether there is one: where it answers `None`, the caller refuses the start as
+    /// `NothingReady`.
+    pub fn start(&mut self) -> u16
+        requires { IsTrue (is_some (first_ready self.old)) }
+        ensures least { first_ready self.old ≡ Some result }
+        ensures after { self.new ≡ after_start result self.old }
+        ensures stays { EndsStay self.old self.new }
+    {
+        let Some(n) = self.ready.first() else {
+            unreachable!();
+        };
+        self.ready.set(n, false);
+        self.running += 1;
+        set_stage(&mut self.tasks, n as usize, Stage::Running);
+        n
+    }
+
+    /// Ends a running task with this error, or without one as a success; the oldest held task of
+    /// its group, where there is one, is ready then. Tells the scope that is to be cancelled with
+    /// the error as its cause: the group's own, where the error is the first of a group that isn't
+    /// bare. [`Groups::check_finish`] says whether it may be.
+    pub fn finish(&mut self, task: u16, error: Option<&[u8]>) -> Option<u16>
+        requires error { IfSome error (λ e. IsText e.now) }
+        requires running { IsTrue (is_running_task self.old task) }
+        ensures told { result ≡ told_by_end task (option_copied error.entry) self.old }
+        ensures after { self.new
+            ≡ after_finish task (outcome_with (option_copied error.entry)) self.old }
+        ensures admits { AdmitsOldest self.old task self.new }
+        ensures stays { EndsStay self.old self.new }
+    {
+        self.end(task, stage_with(error), error)
+    }
+
+    /// Waits for a group whose tasks have all finished. Tells the scope that is to be cancelled,
+    /// without a cause: the group's own, unless it is bare. [`Groups::check_wait`] says whether it
+    /// may be; a group is waited for once, and [`Groups::was_waited`] says whether it was.
+    pub fn wait(&mut self, group: u16) -> Option<u16>
+        requires accepted { tested (wait_refusals self.old group) ≡ Ok tt }
+        requires first { was_waited self.old group ≡ false }
+        ensures told { result ≡ own_scope self.old group }
+        ensures after { self.new ≡ after_wait group self.old }
+        ensures stays { EndsStay self.old self.new }
+    {
+        let row = &self.groups[group as usize];
+        let told = (!row.bare).then_some(row.scope);
+        set_waited(&mut self.groups, group as usize);
+        told
+    }
+
+    /// Interrupts each running task, by ascending number, and gives the scopes that are to be
+    /// cancelled with the cause [`interruption`]: those of the groups, not bare, that got their
+    /// first error, each once and in the order in which they did. No task runs then, and the held
+    /// ones that the limits admit are ready. Takes no memory.
+    pub fn restart(&mut self) -> ArrayVec<u16, MOST_GROUPS>
+        ensures told { result.items ≡ told_by_restart self.old }
+        ensures after { self.new ≡ fold after_interrupt self.old (running_tasks self.old) }
+        ensures tasks { RestartsTasks self.old self.new }
+        ensures stays { EndsStay self.old self.new }
+    {
+        let mut told = ArrayVec::new();
+        let count = self.task_count();
+        for n in 0..count {
+            if self.is_running(n as u16) {
+                let scope = self.interrupt(n as u16);
+                note(&mut told, scope);
+            }
+        }
+        told
+    }
+
+    /// Appends a task, which may be a retry of one.
+    fn submit(&mut self, group: u16, job: Name, argument: Name, tried: Option<u16>) -> u16
+        requires open { IsTrue (is_open self.old group) }
+        requires room { length self.old.tasks < most_tasks self.old.layout }
+        requires known { IfSome tried (λ m. m < length self.old.tasks) }
+        ensures number { result ≡ length self.old.tasks }
+        ensures after { self.new ≡ submitted group job argument tried self.old }
+        ensures phase { phase_of self.new result ≡ Some (phase_new self.old group) }
+        ensures stays { EndsStay self.old self.new }
+    {
+        let n = self.tasks.len() as u16;
+        let g = group as usize;
+        let row = self.seats[g];
+        let admitted = admits(self.groups[g].limit, row.unfinished as usize);
+        push_task(&mut self.tasks, Task::new(group, job, argument, tried));
+        link(&mut self.next, admitted, row, n);
+        enter(&mut self.seats, g, admitted, n);
+        note_retry(&mut self.retried, tried);
+        self.ready.set(n, admitted);
+        n
+    }
+
+    /// Ends a running task at this stage, with this error or none.
+    fn end(&mut self, task: u16, stage: Stage, error: Option<&[u8]>) -> Option<u16>
+        requires error { IfSome error (λ e. IsText e.now) }
+        requires running { IsTrue (is_running_task self.old task) }
+        requires done { is_unfinished stage ≡ false }
+        ensures told { result ≡ told_by_end task (option_copied error.entry) self.old }
+        ensures after { self.new ≡ after_end task stage (option_copied error.entry) self.old }
+        ensures admits { AdmitsOldest self.old task self.new }
+        ensures stays { EndsStay self.old self.new }
+        ensures groups { length self.new.groups ≤ MOST_GROUPS }
+    {
+        let n = task as usize;
+        let group = self.tasks[n].group;
+        let g = group as usize;
+        set_stage(&mut self.tasks, n, stage);
+        let scope = self.groups[g].scope;
+        let first = end_in_group(&mut self.groups, g, error);
+        let next = leave(&mut self.seats, &self.next, g);
+        self.ready.put(next);
+        self.running -= 1;
+        first.then_some(scope)
+    }
+
+    /// Interrupts a running task, which is an error of its group.
+    fn interrupt(&mut self, task: u16) -> Option<u16>
+        requires { IsTrue (is_running_task self.old task) }
+        ensures told { result ≡ told_by_end task (Some interruption) self.old }
+        ensures after { self.new ≡ after_interrupt self.old task }
+        ensures groups { length self.new.groups ≤ MOST_GROUPS }
+        ensures stays { EndsStay self.old self.new }
+    {
+        self.end(task, Stage::Interrupted, Some(interruption()))
+    }
+}
+
+/// Notes a scope that is told, where there is one.
+fn note(told: &mut ArrayVec<u16, MOST_GROUPS>, scope: Option<u16>)
+    requires { length told.old.items + length (option_to_list scope) ≤ MOST_GROUPS }
+    ensures { told.new.items ≡ told.old.items ++ option_to_list scope }
+{
+    if let Some(scope) = scope {
+        told.push(scope);
+    }
+}

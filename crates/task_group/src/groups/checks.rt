@@ -1,0 +1,175 @@
+//! Tests: each says why a change is refused, the first reason that holds in the order in which they
+//! are asked, and `Ok` exactly where none does. None takes memory.
+
+ghost use Rattle.std.specs.Prelude.{◌≡◌, ◌<◌, is_ok, length};
+ghost use Rattle.run_model.specs.Allowed.{has_group_room, is_group_name_free};
+ghost use Rattle.run_model.specs.Event.{Retry};
+ghost use Rattle.run_model.specs.Tasks.{is_interrupted_task, is_retried};
+ghost use Rattle.run_model.specs.WorkChanges.{group_of_task};
+ghost use Rattle.task_group.specs.Checks.{Decides, DecidesFinish, DecidesGo, DecidesLimit};
+ghost use Rattle.task_group.specs.Checks.{DecidesMake, DecidesTry, DecidesWait};
+ghost use Rattle.task_group.specs.Checks.{tested, make_refusals, name_refusals, room_refusals};
+ghost use Rattle.task_group.specs.Checks.{limit_refusals, go_refusals, try_refusals};
+ghost use Rattle.task_group.specs.Checks.{retry_refusals, wait_refusals, finish_refusals};
+
+use crate::groups::Groups;
+use crate::rows::is_interrupted;
+use run_model::{MOST_GROUPS, Refusal};
+use std::alloc::Allocator;
+
+impl<A: Allocator> Groups<A> {
+    /// Says why a group of this name can't be made: `NameTaken`, `TooManyGroups`, the first that
+    /// holds.
+    pub fn check_make(&self, name: &[u8]) -> Result<(), Refusal>
+        ensures refusal { result ≡ tested (make_refusals self.now name.now) }
+        ensures decides { DecidesMake self.now name.now result }
+    {
+        self.check_name(name)?;
+        self.check_room()
+    }
+
+    /// The first part of [`Groups::check_make`]: `NameTaken`.
+    pub fn check_name(&self, name: &[u8]) -> Result<(), Refusal>
+        ensures refusal { result ≡ tested (name_refusals self.now name.now) }
+        ensures decides { is_ok result ≡ is_group_name_free self.now name.now }
+    {
+        if self.find(name).is_some() {
+            return Err(Refusal::NameTaken);
+        }
+        Ok(())
+    }
+
+    /// The second part of [`Groups::check_make`]: `TooManyGroups`.
+    pub fn check_room(&self) -> Result<(), Refusal>
+        ensures refusal { result ≡ tested (room_refusals self.now) }
+        ensures decides { is_ok result ≡ has_group_room self.now }
+    {
+        if MOST_GROUPS <= self.groups.len() {
+            return Err(Refusal::TooManyGroups);
+        }
+        Ok(())
+    }
+
+    /// Says why the limit of a group can't be set: `NoSuchGroup`, `Waited`, `LimitWhileActive`,
+    /// the first that holds.
+    pub fn check_limit(&self, group: u16) -> Result<(), Refusal>
+        ensures refusal { result ≡ tested (limit_refusals self.now group) }
+        ensures decides { DecidesLimit self.now group result }
+    {
+        let Some(row) = self.groups.get(group as usize) else {
+            return Err(Refusal::NoSuchGroup);
+        };
+        if row.waited {
+            return Err(Refusal::Waited);
+        }
+        if self.unfinished(group) != 0 {
+            return Err(Refusal::LimitWhileActive);
+        }
+        Ok(())
+    }
+
+    /// Says why a task can't be submitted to a group: `NoSuchGroup`, `Waited`, `TooManyTasks`, the
+    /// first that holds.
+    pub fn check_go(&self, group: u16) -> Result<(), Refusal>
+        ensures refusal { result ≡ tested (go_refusals self.now group) }
+        ensures decides { DecidesGo self.now group result }
+    {
+        let Some(row) = self.groups.get(group as usize) else {
+            return Err(Refusal::NoSuchGroup);
+        };
+        if row.waited {
+            return Err(Refusal::Waited);
+        }
+        if self.layout.most_tasks() <= self.tasks.len() {
+            return Err(Refusal::TooManyTasks);
+        }
+        Ok(())
+    }
+
+    /// Says why a task that is to be ready at once can't be submitted: as [`Groups::check_go`],
+    /// then `AtLimit`.
+    pub fn check_try(&self, group: u16) -> Result<(), Refusal>
+        ensures refusal { result ≡ tested (try_refusals self.now group) }
+        ensures decides { DecidesTry self.now group result }
+    {
+        self.check_go(group)?;
+        if !self.has_seat(group) {
+            return Err(Refusal::AtLimit);
+        }
+        Ok(())
+    }
+
+    /// Says why a task can't be submitted anew: `NoSuchTask`, `NotInterrupted`, `AlreadyRetried`,
+    /// `Waited`, `TooManyTasks`, the first that holds.
+    pub fn check_retry(&self, task: u16) -> Result<(), Refusal>
+        ensures refusal { result ≡ tested (retry_refusals self.now task) }
+        ensures decides { Decides self.now (Retry task) result }
+    {
+        if self.tasks.len() <= task as usize {
+            return Err(Refusal::NoSuchTask);
+        }
+        if !self.is_interrupted(task) {
+            return Err(Refusal::NotInterrupted);
+        }
+        if self.is_retried(task) {
+            return Err(Refusal::AlreadyRetried);
+        }
+        self.check_go(self.group_of(task))
+    }
+
+    /// Says why a group can't be waited for: `NoSuchGroup`, `Unfinished`, the first that holds.
+    pub fn check_wait(&self, group: u16) -> Result<(), Refusal>
+        ensures refusal { result ≡ tested (wait_refusals self.now group) }
+        ensures decides { DecidesWait self.now group result }
+    {
+        if self.groups.len() <= group as usize {
+            return Err(Refusal::NoSuchGroup);
+        }
+        let unfinished = self.unfinished(group);
+        if unfinished != 0 {
+            return Err(Refusal::Unfinished(unfinished));
+        }
+        Ok(())
+    }
+
+    /// Says why a task can't be finished: `NoSuchTask`, `NotRunning`, the first that holds.
+    pub fn check_finish(&self, task: u16) -> Result<(), Refusal>
+        ensures refusal { result ≡ tested (finish_refusals self.now task) }
+        ensures decides { DecidesFinish self.now task result }
+    {
+        if self.tasks.len() <= task as usize {
+            return Err(Refusal::NoSuchTask);
+        }
+        if !self.is_running(task) {
+            return Err(Refusal::NotRunning);
+        }
+        Ok(())
+    }
+
+    /// Says whether there is a task of this number that was interrupted.
+    fn is_interrupted(&self, task: u16) -> bool
+        ensures { result ≡ is_interrupted_task self.now task }
+    {
+        match self.tasks.get(task as usize) {
+            Some(row) => is_interrupted(&row.stage),
+            None => false,
+        }
+    }
+
+    /// Says whether a task was retried.
+    fn is_retried(&self, task: u16) -> bool
+        requires { task < length self.now.tasks }
+        ensures { result ≡ is_retried self.now task }
+    {
+        self.retried[task as usize]
+    }
+
+    /// The number of the group of a task.
+    fn group_of(&self, task: u16) -> u16
+        requires { task < length self.now.tasks }
+        ensures group { result ≡ group_of_task self.now task }
+        ensures known { result < length self.now.groups }
+    {
+        self.tasks[task as usize].group
+    }
+}

@@ -1,0 +1,280 @@
+//! The rows of groups and tasks in an image: they are written in order of number, and read one by
+//! one, each tested against those before it. As a row is read, what is counted beside it is made.
+
+ghost use Rattle.std.specs.List.{flat_map, AllByRecursion};
+ghost use Rattle.std.specs.Option.{IfNone, IfSome};
+ghost use Rattle.std.specs.Prelude.{◌≡◌, ◌+◌, ◌*◌, ◌<◌, ◌≤◌, ◌++◌, ◌∷◌, [], true, false, length};
+ghost use Rattle.std.specs.Prelude.{IfOk, IfErr, IsTrue, List, Some, None, slice_get, ℕ};
+ghost use Rattle.run_model.specs.declared.bounds.TheConstants.{MOST_GROUPS};
+ghost use Rattle.run_model.specs.declared.faults.Fault.TheVariants.{BadImage};
+ghost use Rattle.run_model.specs.declared.groups.Group.{Group as GroupOf};
+ghost use Rattle.run_model.specs.Allowed.{admits_one_more};
+ghost use Rattle.run_model.specs.Layouts.{most_tasks};
+ghost use Rattle.run_model.specs.Rules.{has_task_error};
+ghost use Rattle.run_model.specs.State.{new_work, WorkState};
+ghost use Rattle.run_model.specs.Tasks.{is_fresh, is_running, is_unfinished};
+ghost use Rattle.record_view.specs.declared.heads.ImageVersion.TheVariants.{Two};
+ghost use Rattle.record_view.specs.Between.{fits_between};
+ghost use Rattle.record_view.specs.Image.{group_bytes, task_bytes, is_kept_group, is_kept_task};
+ghost use Rattle.record_view.specs.RowReading.{group_row_at, task_at};
+ghost use Rattle.record_view.specs.WorkRows.{AreWorkRows, can_come, each_passes, has_new_name};
+ghost use Rattle.record_view.specs.WorkRows.{has_work_room, is_linked, is_settled, more_at};
+ghost use Rattle.record_view.specs.Writing.{put_at};
+
+use super::Groups;
+use crate::between::{fit_scopes, have_groups};
+use crate::flags::note_retry;
+use crate::image_rows::{
+    can_retry, group_copy, is_fresh, lost_groups, put_groups, put_tasks, task_copy,
+};
+use crate::rows::{admits, is_running, push_group, push_task};
+use crate::seats::{enter, link, push_none, push_seats};
+use record_view::{ImageHead, read_group, read_task};
+use run_model::{Fault, Group, Layout, MOST_GROUPS, Scope, Task};
+use std::alloc::Allocator;
+
+impl<A: Allocator> Groups<A> {
+    /// Writes the rows of the groups at a place, in order of number, and those of the tasks behind
+    /// them, in version 2, and gives the place behind all. A group's row has 103 bytes at most, a
+    /// task's 136. Takes no memory.
+    pub fn write_rows(&self, out: &mut [u8], at: usize) -> usize
+        requires room { at + 103 * length self.now.groups + 136 * length self.now.tasks
+            ≤ length out.old }
+        ensures end { result ≡ at + length (flat_map group_bytes self.now.groups
+            ++ flat_map (task_bytes Two) self.now.tasks) }
+        ensures written { out.new ≡ put_at out.old at (flat_map group_bytes self.now.groups
+            ++ flat_map (task_bytes Two) self.now.tasks) }
+        ensures kept_groups { AllByRecursion (λ row. IsTrue (is_kept_group row)) self.now.groups }
+        ensures kept_tasks { AllByRecursion (λ row. IsTrue (is_kept_task Two row)) self.now.tasks }
+        ensures most { result ≤ at + 103 * length self.now.groups + 136 * length self.now.tasks }
+    {
+        let end = put_groups(&self.groups, out, at);
+        put_tasks(&self.tasks, out, end)
+    }
+
+    /// The groups and tasks that the bytes behind an image's scopes begin with, and the bytes
+    /// behind their rows: these, which are none yet, are filled with the rows. `BadImage` exactly
+    /// where the bytes don't begin with so many rows as the head says, or these don't keep the
+    /// rules of the work. Takes no memory.
+    pub fn read_rows<'a>(
+        mut self,
+        head: &ImageHead,
+        bytes: &'a [u8],
+    ) -> Result<(Groups<A>, &'a [u8]), Fault>
+        requires new { self ≡ new_work self.layout }
+        ensures read { IfOk result (λ x.
+            AreWorkRows self.layout head.now bytes.now x.0 x.1.now) }
+        ensures none { IfErr result (λ _. (w : WorkState) (rest : List ℕ) →
+            AreWorkRows self.layout head.now bytes.now w rest → ⊥) }
+        ensures fault { IfErr result (λ fault. fault ≡ BadImage) }
+    {
+        if !has_room(self.layout, head) {
+            return Err(Fault::BadImage);
+        }
+        let Some(rest) = self.read_groups(head.groups, bytes) else {
+            return Err(Fault::BadImage);
+        };
+        let Some(rest) = self.read_tasks(head, rest) else {
+            return Err(Fault::BadImage);
+        };
+        if !self.are_settled() {
+            return Err(Fault::BadImage);
+        }
+        Ok((self, rest))
+    }
+
+    /// Says whether these scopes and the groups fit together: the scope of each group exists; that
+    /// of a group that isn't bare has the kind of a group's, and its name, and is hit where the
+    /// group has an error or was waited for; and each scope of that kind has such a group.
+    pub fn fits(&self, scopes: &[Scope]) -> bool
+        ensures { result ≡ fits_between scopes.now self.now.groups }
+    {
+        fit_scopes(&self.groups, scopes) && have_groups(scopes, &self.groups)
+    }
+
+    /// Reads so many groups behind those that there are. `None` where the bytes don't begin with
+    /// them, or one of them has the name of one before it.
+    fn read_groups<'a>(&mut self, many: u16, bytes: &'a [u8]) -> Option<&'a [u8]>
+        requires room { length self.old.groups + many ≤ MOST_GROUPS }
+        ensures read { IfSome result (λ rest.
+            more_at group_row_at has_new_name many self.old.groups bytes.now
+            ≡ Some (self.new.groups, rest.now)) }
+        ensures none { IfNone result
+            (more_at group_row_at has_new_name many self.old.groups bytes.now ≡ None) }
+        ensures tasks { self.new.tasks ≡ self.old.tasks }
+        ensures layout { self.new.layout ≡ self.old.layout }
+    {
+        let mut rest = bytes;
+        for n in 0..many {
+            let (view, behind) = read_group(rest)?;
+            if self.find(view.name).is_some() {
+                return None;
+            }
+            self.take_group(group_copy(&view));
+            rest = behind;
+        }
+        Some(rest)
+    }
+
+    /// Reads so many tasks behind those that there are. `None` where the bytes don't begin with
+    /// them, or one of them can't come there.
+    fn read_tasks<'a>(&mut self, head: &ImageHead, bytes: &'a [u8]) -> Option<&'a [u8]>
+        requires room { length self.old.tasks + head.now.tasks ≤ most_tasks self.old.layout }
+        ensures read { IfSome result (λ rest.
+            more_at (task_at head.now.version) (can_come self.old.layout self.old.groups)
+            head.now.tasks self.old.tasks bytes.now ≡ Some (self.new.tasks, rest.now)) }
+        ensures none { IfNone result
+            (more_at (task_at head.now.version) (can_come self.old.layout self.old.groups)
+            head.now.tasks self.old.tasks bytes.now ≡ None) }
+        ensures groups { self.new.groups ≡ self.old.groups }
+        ensures layout { self.new.layout ≡ self.old.layout }
+    {
+        let mut rest = bytes;
+        for n in 0..head.tasks {
+            let (view, behind) = read_task(rest, head.version)?;
+            let row = task_copy(&view);
+            if !self.can_come(&row) {
+                return None;
+            }
+            self.take_task(row);
+            rest = behind;
+        }
+        Some(rest)
+    }
+
+    /// Says whether a task can come behind those that there are.
+    fn can_come(&self, row: &Task) -> bool
+        ensures { result ≡ can_come self.now.layout self.now.groups self.now.tasks row.now }
+    {
+        if self.groups.len() <= row.group as usize {
+            return false;
+        }
+        if is_running(&row.stage) && !self.has_seat(row.group) {
+            return false;
+        }
+        self.is_linked(row)
+    }
+
+    /// Says whether a task is a retry of none, or of one that it can be a retry of and that none is
+    /// a retry of yet.
+    fn is_linked(&self, row: &Task) -> bool
+        ensures { result ≡ is_linked self.now.tasks row.now }
+    {
+        let Some(m) = row.retry_of else {
+            return true;
+        };
+        match self.tasks.get(m as usize) {
+            Some(old) => can_retry(row, old) && !self.retried[m as usize],
+            None => false,
+        }
+    }
+
+    /// Appends a group.
+    fn take_group(&mut self, row: Group)
+        requires { length self.old.groups < MOST_GROUPS }
+        ensures { self.new ≡ record self.old { groups = self.old.groups ++ row ∷ [] } }
+    {
+        push_group(&mut self.groups, row);
+        push_seats(&mut self.seats);
+    }
+
+    /// Appends a task that can come.
+    fn take_task(&mut self, row: Task)
+        requires come { can_come self.old.layout self.old.groups self.old.tasks row ≡ true }
+        requires room { length self.old.tasks < most_tasks self.old.layout }
+        ensures { self.new ≡ record self.old { tasks = self.old.tasks ++ row ∷ [] } }
+    {
+        if is_fresh(&row.stage) {
+            self.take_fresh(row);
+        } else if is_running(&row.stage) {
+            self.take_running(row);
+        } else {
+            self.take_ended(row);
+        }
+    }
+
+    /// Appends a task that was not started: it is ready where the limit admits one more, else held.
+    fn take_fresh(&mut self, row: Task)
+        requires fresh { is_fresh row.stage ≡ true }
+        requires known { row.group < length self.old.groups }
+        requires link { IfSome row.retry_of (λ m. m < length self.old.tasks) }
+        requires room { length self.old.tasks < most_tasks self.old.layout }
+        ensures { self.new ≡ record self.old { tasks = self.old.tasks ++ row ∷ [] } }
+    {
+        let n = self.tasks.len() as u16;
+        let g = row.group as usize;
+        let seats = self.seats[g];
+        let admitted = admits(self.groups[g].limit, seats.unfinished as usize);
+        link(&mut self.next, admitted, seats, n);
+        enter(&mut self.seats, g, admitted, n);
+        note_retry(&mut self.retried, row.retry_of);
+        self.ready.set(n, admitted);
+        push_task(&mut self.tasks, row);
+    }
+
+    /// Appends a running task, which the limit admits.
+    fn take_running(&mut self, row: Task)
+        requires running { is_running row.stage ≡ true }
+        requires admitted { admits_one_more self.old row.group ≡ true }
+        requires known { row.group < length self.old.groups }
+        requires link { IfSome row.retry_of (λ m. m < length self.old.tasks) }
+        requires room { length self.old.tasks < most_tasks self.old.layout }
+        ensures { self.new ≡ record self.old { tasks = self.old.tasks ++ row ∷ [] } }
+    {
+        let n = self.tasks.len() as u16;
+        let g = row.group as usize;
+        enter(&mut self.seats, g, true, n);
+        push_none(&mut self.next);
+        note_retry(&mut self.retried, row.retry_of);
+        self.running += 1;
+        push_task(&mut self.tasks, row);
+    }
+
+    /// Appends a task that has ended, which takes no seat.
+    fn take_ended(&mut self, row: Task)
+        requires ended { is_unfinished row.stage ≡ false }
+        requires known { row.group < length self.old.groups }
+        requires link { IfSome row.retry_of (λ m. m < length self.old.tasks) }
+        requires room { length self.old.tasks < most_tasks self.old.layout }
+        ensures { self.new ≡ record self.old { tasks = self.old.tasks ++ row ∷ [] } }
+    {
+        push_none(&mut self.next);
+        note_retry(&mut self.retried, row.retry_of);
+        push_task(&mut self.tasks, row);
+    }
+
+    /// Says whether each group that was waited for is idle, and each has an error exactly where a
+    /// task of it has.
+    fn are_settled(&self) -> bool
+        ensures { result ≡ each_passes (is_settled self.now) 0 self.now.groups }
+    {
+        let lost = lost_groups(&self.tasks);
+        for g in 0..self.groups.len() {
+            if !self.is_settled(g, lost[g]) {
+                return false;
+            }
+        }
+        true
+    }
+
+    /// Says the same of one group, where it is known whether a task of it has an error.
+    fn is_settled(&self, g: usize, lost: bool) -> bool
+        requires known { g < length self.now.groups }
+        requires lost { lost ≡ has_task_error self.now g }
+        ensures { (row : GroupOf) → slice_get self.now.groups g ≡ Some row →
+            result ≡ is_settled self.now g row }
+    {
+        let row = &self.groups[g];
+        if row.waited && self.unfinished(g as u16) != 0 {
+            return false;
+        }
+        row.error.is_some() == lost
+    }
+}
+
+/// Says whether a store of this layout has room for so many groups and tasks as the head says.
+fn has_room(layout: Layout, head: &ImageHead) -> bool
+    ensures { result ≡ has_work_room layout head.now }
+{
+    head.groups as usize <= MOST_GROUPS && head.tasks as usize <= layout.most_tasks()
+}

@@ -1,0 +1,149 @@
+//! Questions on groups and tasks. Each goes by a number, which the caller knows to be there or
+//! which is answered `None`.
+
+ghost use Rattle.std.specs.Prelude.{◌≡◌, ◌<◌, ◌≤◌, ℕ, length, position, slice_get};
+ghost use Rattle.std.specs.Option.{option_copied};
+ghost use Rattle.std.specs.Str.{bytes_eq};
+ghost use Rattle.run_model.specs.declared.bounds.TheConstants.{MOST_GROUPS};
+ghost use Rattle.run_model.specs.Allowed.{admits_one_more};
+ghost use Rattle.run_model.specs.Layouts.{most_tasks};
+ghost use Rattle.run_model.specs.Questions.{group_look_of};
+ghost use Rattle.run_model.specs.State.{TreeState, group_named};
+ghost use Rattle.run_model.specs.Tasks.{first_ready, is_running_task, phase_of, running_count};
+ghost use Rattle.run_model.specs.Tasks.{unfinished_in};
+ghost use Rattle.task_group.specs.Checks.{was_waited};
+
+use crate::groups::Groups;
+use crate::rows::{admits, group_look, is_from, is_running, phase_of as stage_phase};
+use run_model::{Group, GroupLook, Layout, MOST_GROUPS, Phase, Task};
+use std::alloc::Allocator;
+
+impl<A: Allocator> Groups<A> {
+    /// The layout of the store, which says how many tasks there can be.
+    pub fn layout(&self) -> Layout
+        ensures { result ≡ self.now.layout }
+    {
+        self.layout
+    }
+
+    /// How many groups there are.
+    pub fn group_count(&self) -> usize
+        ensures len { result ≡ length self.now.groups }
+        ensures few { result ≤ MOST_GROUPS }
+    {
+        self.groups.len()
+    }
+
+    /// The number of the group of this name. `None` exactly where no group has it.
+    pub fn find(&self, name: &[u8]) -> Option<u16>
+        ensures { result ≡ group_named self.now name.now }
+    {
+        let n = place_of(&self.groups, name)?;
+        Some(n as u16)
+    }
+
+    /// The row of a group, lent until the groups change. `None` exactly where there is no such
+    /// group.
+    pub fn group_row(&self, group: u16) -> Option<&Group>
+        ensures { option_copied result ≡ slice_get self.now.groups group }
+    {
+        let g = group as usize;
+        self.groups.get(g)
+    }
+
+    /// What is seen of a group: how many of its tasks are unfinished, its limit, whether it was
+    /// waited for, and its first error. `None` where there is no such group.
+    pub fn result(&self, group: u16) -> Option<GroupLook>
+        ensures { (count : ℕ) (tree : TreeState) → result
+            ≡ group_look_of (record { count = count; tree = tree; work = self.now }) group }
+    {
+        let row = self.groups.get(group as usize)?;
+        Some(group_look(row, self.unfinished(group)))
+    }
+
+    /// Says whether there is a group of this number that was waited for.
+    pub fn was_waited(&self, group: u16) -> bool
+        ensures { result ≡ was_waited self.now group }
+    {
+        match self.groups.get(group as usize) {
+            Some(row) => row.waited,
+            None => false,
+        }
+    }
+
+    /// How many tasks of a group are not finished.
+    pub fn unfinished(&self, group: u16) -> u16
+        requires { group < length self.now.groups }
+        ensures { result ≡ unfinished_in group self.now.tasks }
+    {
+        self.seats[group as usize].unfinished
+    }
+
+    /// Says whether a task that came in now would be ready.
+    pub fn has_seat(&self, group: u16) -> bool
+        requires { group < length self.now.groups }
+        ensures { result ≡ admits_one_more self.now group }
+    {
+        let g = group as usize;
+        admits(self.groups[g].limit, self.seats[g].unfinished as usize)
+    }
+
+    /// How many tasks there are.
+    pub fn task_count(&self) -> usize
+        ensures len { result ≡ length self.now.tasks }
+        ensures few { result ≤ most_tasks self.now.layout }
+    {
+        self.tasks.len()
+    }
+
+    /// The row of a task, lent until the groups change. `None` exactly where there is no such
+    /// task.
+    pub fn task_row(&self, task: u16) -> Option<&Task>
+        ensures { option_copied result ≡ slice_get self.now.tasks task }
+    {
+        let n = task as usize;
+        self.tasks.get(n)
+    }
+
+    /// How far a task is. `None` where there is no such task.
+    pub fn phase(&self, task: u16) -> Option<Phase>
+        ensures { result ≡ phase_of self.now task }
+    {
+        let row = self.tasks.get(task as usize)?;
+        let first = self.seats[row.group as usize].first;
+        Some(stage_phase(&row.stage, is_from(first, task)))
+    }
+
+    /// Says whether there is a task of this number that is running.
+    pub fn is_running(&self, task: u16) -> bool
+        ensures { result ≡ is_running_task self.now task }
+    {
+        match self.tasks.get(task as usize) {
+            Some(row) => is_running(&row.stage),
+            None => false,
+        }
+    }
+
+    /// How many tasks are running.
+    pub fn running(&self) -> usize
+        ensures count { result ≡ running_count self.now.tasks }
+        ensures few { result ≤ most_tasks self.now.layout }
+    {
+        self.running
+    }
+
+    /// The ready task with the least number, which is the one that [`Groups::start`] starts. `None`
+    /// exactly where no task is ready; a start is refused as `NothingReady` then.
+    pub fn next_ready(&self) -> Option<u16>
+        ensures { result ≡ first_ready self.now }
+    {
+        self.ready.first()
+    }
+}
+
+/// The place of the row of this name.
+fn place_of(groups: &[Group], name: &[u8]) -> Option<usize>
+    ensures { result ≡ position (λ row. bytes_eq name.now row.name) groups.now }
+{
+    groups.iter().position(|row| name == row.name.as_bytes())
+}

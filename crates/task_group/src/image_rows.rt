@@ -1,0 +1,163 @@
+//! Rows of groups and tasks in an image, each by itself: they are put, copied from their views, and
+//! tested.
+
+ghost use Rattle.std.specs.List.{flat_map, list_any, AllByRecursion};
+ghost use Rattle.std.specs.Option.{option_copied};
+ghost use Rattle.std.specs.Prelude.{◌≡◌, ◌+◌, ◌*◌, ◌<◌, ◌≤◌, ◌==◌, ◌&&◌, ℕ, length, IsTrue};
+ghost use Rattle.std.specs.Prelude.{Some, false, slice_get, slice_index_or};
+ghost use Rattle.run_model.specs.declared.bounds.TheConstants.{MOST_GROUPS};
+ghost use Rattle.run_model.specs.declared.tasks.Task.{Task as TaskOf};
+ghost use Rattle.run_model.specs.Records.{is_limit, is_optional_text};
+ghost use Rattle.run_model.specs.Tasks.{is_fresh, ended_in_error};
+ghost use Rattle.run_model.specs.Texts.{IsName, IsText};
+ghost use Rattle.record_view.specs.declared.heads.ImageVersion.{ImageVersion as VersionOf};
+ghost use Rattle.record_view.specs.declared.heads.ImageVersion.TheVariants.{Two};
+ghost use Rattle.record_view.specs.Image.{group_bytes, task_bytes, is_kept_group, is_kept_task};
+ghost use Rattle.record_view.specs.Image.{is_kept_link, is_kept_stage};
+ghost use Rattle.record_view.specs.RowViews.{group_of, stage_of, task_of};
+ghost use Rattle.record_view.specs.WorkRows.{can_retry};
+ghost use Rattle.record_view.specs.Writing.{put_at};
+
+use crate::copies::{name_copy, text_copy};
+use crate::rows::is_interrupted;
+use record_view::{GroupRow, StageView, TaskRow, group_row, put_group, put_task, task_row};
+use run_model::{Group, Limit, MOST_GROUPS, Stage, Task, Text};
+
+/// Puts the rows of groups at a place, one behind the other, and gives the place behind them.
+pub fn put_groups(rows: &[Group], out: &mut [u8], at: usize) -> usize
+    requires room { at + 103 * length rows.now ≤ length out.old }
+    ensures end { result ≡ at + length (flat_map group_bytes rows.now) }
+    ensures written { out.new ≡ put_at out.old at (flat_map group_bytes rows.now) }
+    ensures kept { AllByRecursion (λ row. IsTrue (is_kept_group row)) rows.now }
+    ensures most { result ≤ at + 103 * length rows.now }
+{
+    let mut end = at;
+    for row in rows {
+        end = put_group(out, end, &group_row(row));
+    }
+    end
+}
+
+/// Puts the rows of tasks at a place, one behind the other, and gives the place behind them.
+pub fn put_tasks(rows: &[Task], out: &mut [u8], at: usize) -> usize
+    requires links { (n : ℕ) (row : TaskOf) → slice_get rows.now n ≡ Some row
+        → IsTrue (is_kept_link Two row.retry_of) }
+    requires room { at + 136 * length rows.now ≤ length out.old }
+    ensures end { result ≡ at + length (flat_map (task_bytes Two) rows.now) }
+    ensures written { out.new ≡ put_at out.old at (flat_map (task_bytes Two) rows.now) }
+    ensures kept { AllByRecursion (λ row. IsTrue (is_kept_task Two row)) rows.now }
+    ensures most { result ≤ at + 136 * length rows.now }
+{
+    let mut end = at;
+    for row in rows {
+        end = put_task(out, end, &task_row(row));
+    }
+    end
+}
+
+/// The group that a view shows.
+pub fn group_copy(row: &GroupRow) -> Group
+    requires { IsTrue (is_kept_group (group_of row.now)) }
+    ensures { result ≡ group_of row.now }
+{
+    Group {
+        name: name_copy(row.name),
+        scope: row.scope,
+        bare: row.bare,
+        limit: limit_of(row.limit),
+        waited: row.waited,
+        error: optional_copy(row.error),
+    }
+}
+
+/// The task that a view shows.
+pub fn task_copy(row: &TaskRow) -> Task
+    requires job { IsName row.now.job.now }
+    requires argument { IsName row.now.argument.now }
+    requires stage { IsTrue (is_kept_stage (stage_of row.now.stage)) }
+    ensures { result ≡ task_of row.now }
+{
+    Task {
+        group: row.group,
+        job: name_copy(row.job),
+        argument: name_copy(row.argument),
+        stage: stage_copy(row.stage),
+        retry_of: row.retry_of,
+    }
+}
+
+/// Not started.
+pub fn is_fresh(stage: &Stage) -> bool
+    ensures { result ≡ is_fresh stage.now }
+{
+    matches!(stage, Stage::Fresh)
+}
+
+/// Says whether the new task can be a retry of the old one.
+pub fn can_retry(new: &Task, old: &Task) -> bool
+    ensures { result ≡ can_retry new.now old.now }
+{
+    is_interrupted(&old.stage)
+        && new.group == old.group
+        && new.job == old.job
+        && new.argument == old.argument
+}
+
+/// For each group that there can be, whether one of these tasks is an error of it.
+pub fn lost_groups(tasks: &[Task]) -> [bool; MOST_GROUPS]
+    requires { (n : ℕ) (task : TaskOf) → slice_get tasks.now n ≡ Some task
+        → task.group < MOST_GROUPS }
+    ensures { (g : ℕ) → g < MOST_GROUPS → slice_index_or result g false
+        ≡ list_any (λ task. task.group == g && ended_in_error task.stage) tasks.now }
+{
+    let mut lost = [false; MOST_GROUPS];
+    for task in tasks {
+        if is_error(&task.stage) {
+            lost[task.group as usize] = true;
+        }
+    }
+    lost
+}
+
+/// Ended in failure or interrupted.
+fn is_error(stage: &Stage) -> bool
+    ensures { result ≡ ended_in_error stage.now }
+{
+    matches!(stage, Stage::Failure(_) | Stage::Interrupted)
+}
+
+fn limit_of(most: Option<u8>) -> Limit
+    requires { IsTrue (is_limit most) }
+    ensures { result ≡ most }
+{
+    match most {
+        None => Limit::none(),
+        Some(most) => match Limit::new(most) {
+            Some(limit) => limit,
+            None => unreachable!(),
+        },
+    }
+}
+
+fn optional_copy(text: Option<&[u8]>) -> Option<Text>
+    requires { IsTrue (is_optional_text (option_copied text)) }
+    ensures { result ≡ option_copied text.entry }
+{
+    match text {
+        Some(text) => Some(text_copy(text)),
+        None => None,
+    }
+}
+
+fn stage_copy(stage: StageView) -> Stage
+    requires { IsTrue (is_kept_stage (stage_of stage)) }
+    ensures { result ≡ stage_of stage.entry }
+{
+    match stage {
+        StageView::Fresh => Stage::Fresh,
+        StageView::Running => Stage::Running,
+        StageView::Success => Stage::Success,
+        StageView::Failure(text) => Stage::Failure(text_copy(text)),
+        StageView::Interrupted => Stage::Interrupted,
+    }
+}
