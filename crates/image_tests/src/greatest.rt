@@ -1,0 +1,147 @@
+//! The greatest images, and images with as many rows of a kind as there can be, and one more.
+
+use crate::plain::{Head, is_kept, is_refused, push_head, read_again};
+use record_view::ImageVersion;
+use run_model::Layout;
+use std::alloc::{AllocError, Global};
+use std::test::Fail;
+
+/// Appends the last digits of a number, as many as there are divisors.
+fn push_digits(image: &mut Vec<u8>, n: u16, divisors: &[u16]) -> Result<(), AllocError> {
+    for divisor in divisors {
+        image.push(b'0' + (n.checked_div(*divisor).unwrap_or(0) % 10) as u8)?;
+    }
+    Ok(())
+}
+
+/// Appends a name of 32 bytes that begins with the number.
+fn push_greatest_name(image: &mut Vec<u8>, n: u16) -> Result<(), AllocError> {
+    image.push(32)?;
+    push_digits(image, n, &[1_000, 100, 10, 1])?;
+    image.extend_from_slice(&[b'x'; 28])
+}
+
+/// Appends the row of a scope, of 192 bytes: a deadline of 0 that event 1 found exceeded, with two
+/// causes of 64 bytes.
+fn push_greatest_scope(image: &mut Vec<u8>, n: u16) -> Result<(), AllocError> {
+    push_greatest_name(image, n)?;
+    image.extend_from_slice(b"\x00\x00\x03\x00\x00\x00\x00\x00\x00\x00\x00\x40")?;
+    image.extend_from_slice(&[b'x'; 64])?;
+    image.extend_from_slice(b"\x01\x00\x00\x00\x00\x00\x00\x00\x01")?;
+    image.extend_from_slice(b"\x00\x00\x00\x00\x00\x00\x00\x00\x02\x40")?;
+    image.extend_from_slice(&[b'x'; 64])
+}
+
+/// Appends the row of a group, of 103 bytes: bare, in root, without a limit, with an error.
+fn push_greatest_group(image: &mut Vec<u8>, n: u16) -> Result<(), AllocError> {
+    push_greatest_name(image, n)?;
+    image.extend_from_slice(b"\x00\x00\x01\xff\x00\x40")?;
+    image.extend_from_slice(&[b'x'; 64])
+}
+
+/// Appends the row of a task of group `n % 128`, of 134 bytes and its link: it failed.
+fn push_greatest_task(image: &mut Vec<u8>, n: u16, link: &[u8]) -> Result<(), AllocError> {
+    image.extend_from_slice(&[0, (n % 128) as u8, 32])?;
+    image.extend_from_slice(&[b'x'; 32])?;
+    image.push(32)?;
+    image.extend_from_slice(&[b'x'; 32])?;
+    image.extend_from_slice(&[3, 64])?;
+    image.extend_from_slice(&[b'x'; 64])?;
+    image.extend_from_slice(link)
+}
+
+/// The image of so many of the greatest scopes and tasks and of 128 groups, at the greatest clock
+/// and count.
+fn greatest(
+    alloc: Global,
+    version: u8,
+    scopes: u16,
+    tasks: u16,
+    link: &[u8],
+) -> Result<Vec<u8>, AllocError> {
+    let mut image = Vec::new(alloc);
+    let head = Head {
+        version,
+        clock: 253_000_000_000,
+        count: 0x7fff_ffff_ffff_ffff,
+        rows: (scopes, 128, tasks),
+    };
+    push_head(&mut image, head)?;
+    for n in 0..scopes {
+        push_greatest_scope(&mut image, n)?;
+    }
+    for n in 0..128 {
+        push_greatest_group(&mut image, n)?;
+    }
+    for n in 0..tasks {
+        push_greatest_task(&mut image, n, link)?;
+    }
+    Ok(image)
+}
+
+#[test]
+fn greatest_images(rt: HostRuntime) -> Result<(), Fail> {
+    let link = b"\xff\xff";
+    let old = greatest(rt.alloc(), 1, 1_023, 2_048, b"")?;
+    let small = greatest(rt.alloc(), 2, 1_023, 2_048, link)?;
+    let large = greatest(rt.alloc(), 2, 4_095, 8_192, link)?;
+    let rows = [
+        (Layout::Small, ImageVersion::One, 484_055, &old, &small),
+        (Layout::Small, ImageVersion::Two, 488_151, &small, &small),
+        (Layout::Large, ImageVersion::One, 484_055, &old, &small),
+        (Layout::Large, ImageVersion::Two, 1_913_559, &large, &large),
+    ];
+    for (layout, version, len, image, again) in rows {
+        assert_eq!(rt; image.len(), len);
+        let read = read_again(rt.alloc(), layout, image, again)?;
+        assert!(rt; read == (version, true), "{len} bytes");
+    }
+    assert!(rt; is_refused(rt.alloc(), Layout::Small, &large)?);
+    Ok(())
+}
+
+/// The image of so many of the least rows: cancel scopes, bare groups, and tasks of group 0.
+fn least(alloc: Global, rows: (u16, u16, u16)) -> Result<Vec<u8>, AllocError> {
+    let mut image = Vec::new(alloc);
+    let head = Head {
+        version: 2,
+        clock: 0,
+        count: 1,
+        rows,
+    };
+    push_head(&mut image, head)?;
+    for n in 0..rows.0 {
+        image.push(4)?;
+        push_digits(&mut image, n, &[1_000, 100, 10, 1])?;
+        image.extend_from_slice(b"\x00\x00\x01\x00")?;
+    }
+    for n in 0..rows.1 {
+        image.push(4)?;
+        push_digits(&mut image, n, &[1_000, 100, 10, 1])?;
+        image.extend_from_slice(b"\x00\x00\x01\xff\x00\x00")?;
+    }
+    for _ in 0..rows.2 {
+        image.extend_from_slice(b"\x00\x00\x01j\x01a\x00\xff\xff")?;
+    }
+    Ok(image)
+}
+
+#[test]
+fn a_row_too_many(rt: HostRuntime) -> Result<(), Fail> {
+    let rows = [
+        (Layout::Small, (1_023, 0, 0), (1_024, 0, 0)),
+        (Layout::Small, (0, 128, 0), (0, 129, 0)),
+        (Layout::Small, (0, 1, 2_048), (0, 1, 2_049)),
+        (Layout::Large, (4_095, 0, 0), (4_096, 0, 0)),
+        (Layout::Large, (0, 128, 0), (0, 129, 0)),
+        (Layout::Large, (0, 1, 8_192), (0, 1, 8_193)),
+        (Layout::Small, (1_023, 128, 2_048), (1_024, 128, 2_048)),
+    ];
+    for (n, (layout, full, more)) in rows.into_iter().enumerate() {
+        let full = least(rt.alloc(), full)?;
+        let more = least(rt.alloc(), more)?;
+        assert!(rt; is_kept(rt.alloc(), layout, &full)?, "full, row {n}");
+        assert!(rt; is_refused(rt.alloc(), layout, &more)?, "one more, row {n}");
+    }
+    Ok(())
+}

@@ -1,0 +1,283 @@
+//! Images whose bytes are known from outside, stores that were damaged, and states that keep the
+//! rules though no history gives them.
+
+use crate::plain::{Head, Pieces, image, is_kept, is_refused, read_again};
+use record_view::ImageVersion;
+use run_model::{Layout, Reason};
+use run_state::State;
+use std::process::Abort;
+use std::test::Fail;
+
+/// Scope a, which was cancelled by event 4 with the cause `disk`, and its child b, in version 2.
+const CANCELED: &[u8; 57] = b"\x02\x00\x00\x00\x00\x00\x00\x00\x00\x00\x00\x00\x00\x00\x00\x00\x04\
+    \x00\x02\x00\x00\x00\x00\x01a\x00\x00\x02\x01\x00\x00\x00\x00\x00\x00\x00\x04\x00\x00\x00\x00\
+    \x00\x00\x00\x00\x01\x04disk\x01b\x00\x01\x01\x00";
+
+/// Asserts that a scope is cancelled with this cause.
+fn assert_canceled(rt: &impl Abort, state: &State, scope: u16, cause: &[u8], what: &str) {
+    let look = state.look(scope).expect(rt, "a scope");
+    let (reason, found) = look.done.expect(rt, "a done scope");
+    assert!(rt; reason == Reason::Canceled, "{what}: scope {scope}");
+    assert!(rt; found.as_bytes() == cause, "{what}: scope {scope}");
+}
+
+#[test]
+fn image_of_57_bytes(rt: HostRuntime) -> Result<(), Fail> {
+    for (byte, version) in [(1, ImageVersion::One), (2, ImageVersion::Two)] {
+        let mut image = *CANCELED;
+        image[0] = byte;
+        let read = read_again(rt.alloc(), Layout::Small, &image, CANCELED)?;
+        assert!(rt; read == (version, true), "version {byte}");
+        let (state, _) = State::new(rt.alloc(), Layout::Small)?.read_image(&image)?;
+        assert_eq!(rt; state.count(), 4, "version {byte}");
+        assert_canceled(&rt, &state, 1, b"disk", "a");
+        assert_canceled(&rt, &state, 2, b"disk", "b");
+    }
+    Ok(())
+}
+
+/// A group whose first task was interrupted, that task, and one more of its job and argument, each
+/// up to its link; no link, and one to task 0.
+const GROUP: &[u8] = b"\x01g\x00\x00\x01\xff\x00\x0binterrupted";
+
+const TASK: &[u8] = b"\x00\x00\x04copy\x01a\x04";
+
+const FRESH: &[u8] = b"\x00\x00\x04copy\x01a\x00";
+
+const NO_LINK: &[u8] = b"\xff\xff";
+
+const LINK: &[u8] = b"\x00\x00";
+
+#[test]
+fn a_link_is_kept(rt: HostRuntime) -> Result<(), Fail> {
+    let pieces: Pieces = &[GROUP, TASK, NO_LINK, FRESH, LINK];
+    let image = image(rt.alloc(), Head::of((0, 1, 2)), pieces)?;
+    assert!(rt; is_kept(rt.alloc(), Layout::Small, &image)?);
+    let (state, _) = State::new(rt.alloc(), Layout::Small)?.read_image(&image)?;
+    let task = state.task(1).ok_or("no task")?;
+    assert_eq!(rt; task.retry_of, Some(0));
+    Ok(())
+}
+
+#[test]
+fn rows_of_version_1_have_no_links(rt: HostRuntime) -> Result<(), Fail> {
+    let new = Head::of((0, 1, 2));
+    let old = Head { version: 1, ..new };
+    let linked: Pieces = &[GROUP, TASK, NO_LINK, FRESH, NO_LINK];
+    let again = image(rt.alloc(), new, linked)?;
+    let without = image(rt.alloc(), old, &[GROUP, TASK, FRESH])?;
+    let read = read_again(rt.alloc(), Layout::Small, &without, &again)?;
+    assert!(rt; read == (ImageVersion::One, true));
+    Ok(())
+}
+
+#[test]
+fn links_stand_in_version_2_alone(rt: HostRuntime) -> Result<(), Fail> {
+    let rows: [(u8, Pieces); 3] = [
+        (1, &[GROUP, TASK, NO_LINK, FRESH, LINK]),
+        (1, &[GROUP, TASK, NO_LINK, FRESH, NO_LINK]),
+        (2, &[GROUP, TASK, FRESH]),
+    ];
+    for (n, (version, pieces)) in rows.into_iter().enumerate() {
+        let head = Head {
+            version,
+            ..Head::of((0, 1, 2))
+        };
+        let image = image(rt.alloc(), head, pieces)?;
+        assert!(rt; is_refused(rt.alloc(), Layout::Small, &image)?, "row {n}");
+    }
+    Ok(())
+}
+
+/// The image of a store after its first opening, in version 1: one event, and no row.
+const OPENED: Head = Head {
+    version: 1,
+    clock: 0,
+    count: 1,
+    rows: (0, 0, 0),
+};
+
+#[test]
+fn damaged_images_of_an_opened_store(rt: HostRuntime) -> Result<(), Fail> {
+    let rows: [(&str, Head, Pieces, bool); 11] = [
+        ("as it is", OPENED, &[], true),
+        (
+            "version 9",
+            Head {
+                version: 9,
+                ..OPENED
+            },
+            &[],
+            false,
+        ),
+        ("00 behind it", OPENED, &[b"\x00"], false),
+        (
+            "event count 2^63",
+            Head {
+                count: 0x8000_0000_0000_0000,
+                ..OPENED
+            },
+            &[],
+            false,
+        ),
+        (
+            "event count 2^62",
+            Head {
+                count: 0x4000_0000_0000_0000,
+                ..OPENED
+            },
+            &[],
+            true,
+        ),
+        (
+            "a scope that is its own parent",
+            Head {
+                rows: (1, 0, 0),
+                ..OPENED
+            },
+            &[b"\x01a\x00\x01\x01\x00"],
+            false,
+        ),
+        (
+            "a scope called root",
+            Head {
+                rows: (1, 0, 0),
+                ..OPENED
+            },
+            &[b"\x04root\x00\x00\x01\x00"],
+            false,
+        ),
+        (
+            "a hit of event 2",
+            Head {
+                rows: (1, 0, 0),
+                ..OPENED
+            },
+            &[
+                b"\x01a\x00\x00\x01\x01\x00\x00\x00\x00\x00\x00\x00\x02\x00\x00\x00\x00\x00\x00\x00\
+            \x00\x01\x01x",
+            ],
+            false,
+        ),
+        (
+            "a hit of event 1",
+            Head {
+                rows: (1, 0, 0),
+                ..OPENED
+            },
+            &[
+                b"\x01a\x00\x00\x01\x01\x00\x00\x00\x00\x00\x00\x00\x01\x00\x00\x00\x00\x00\x00\x00\
+            \x00\x01\x01x",
+            ],
+            true,
+        ),
+        (
+            "a running task that is not admitted",
+            Head {
+                rows: (0, 1, 1),
+                ..OPENED
+            },
+            &[b"\x01h\x00\x00\x01\x00\x00\x00\x00\x00\x04copy\x01a\x01"],
+            false,
+        ),
+        (
+            "a held task",
+            Head {
+                rows: (0, 1, 1),
+                ..OPENED
+            },
+            &[b"\x01h\x00\x00\x01\x00\x00\x00\x00\x00\x04copy\x01a\x00"],
+            true,
+        ),
+    ];
+    for (what, head, pieces, read) in rows {
+        let image = image(rt.alloc(), head, pieces)?;
+        let refused = is_refused(rt.alloc(), Layout::Small, &image)?;
+        assert!(rt; refused != read, "{what}");
+    }
+    let mut short = image(rt.alloc(), OPENED, &[])?;
+    short.truncate(22);
+    assert!(rt; is_refused(rt.alloc(), Layout::Small, &short)?, "22 bytes");
+    Ok(())
+}
+
+/// Cancel scope a below root, its child b, and a group's scope, each up to its hit.
+const A: &[u8] = b"\x01a\x00\x00\x01";
+
+const B: &[u8] = b"\x01b\x00\x01\x01";
+
+const GROUPS: &[u8] = b"\x01g\x00\x00\x06";
+
+/// Hits by their event, their moment and their cause.
+const HIT_1_9_X: &[u8] =
+    b"\x01\x00\x00\x00\x00\x00\x00\x00\x01\x00\x00\x00\x00\x00\x00\x00\x09\x01\x01x";
+
+const HIT_1_9_Y: &[u8] =
+    b"\x01\x00\x00\x00\x00\x00\x00\x00\x01\x00\x00\x00\x00\x00\x00\x00\x09\x01\x01y";
+
+const HIT_1_8_Y: &[u8] =
+    b"\x01\x00\x00\x00\x00\x00\x00\x00\x01\x00\x00\x00\x00\x00\x00\x00\x08\x01\x01y";
+
+const HIT_2_8_Y: &[u8] =
+    b"\x01\x00\x00\x00\x00\x00\x00\x00\x02\x00\x00\x00\x00\x00\x00\x00\x08\x01\x01y";
+
+const HIT_2_9_Y: &[u8] =
+    b"\x01\x00\x00\x00\x00\x00\x00\x00\x02\x00\x00\x00\x00\x00\x00\x00\x09\x01\x01y";
+
+#[test]
+fn states_that_no_history_gives(rt: HostRuntime) -> Result<(), Fail> {
+    let rows: [(&str, Pieces, [&[u8]; 2]); 5] = [
+        (
+            "a cancel below a done scope",
+            &[A, HIT_1_9_X, B, HIT_2_9_Y],
+            [b"x", b"x"],
+        ),
+        (
+            "two hits of one event at one moment",
+            &[A, HIT_1_9_X, B, HIT_1_9_Y],
+            [b"x", b"x"],
+        ),
+        (
+            "two hits of one event at two moments",
+            &[A, HIT_1_9_X, B, HIT_1_8_Y],
+            [b"x", b"y"],
+        ),
+        (
+            "moments that fall while events rise",
+            &[A, HIT_1_9_X, B, HIT_2_8_Y],
+            [b"x", b"x"],
+        ),
+        (
+            "moments that rise while events fall",
+            &[A, HIT_2_8_Y, B, HIT_1_9_X],
+            [b"y", b"x"],
+        ),
+    ];
+    for (what, pieces, causes) in rows {
+        let image = image(rt.alloc(), Head::of((2, 0, 0)), pieces)?;
+        assert!(rt; is_kept(rt.alloc(), Layout::Small, &image)?, "{what}");
+        let (state, _) = State::new(rt.alloc(), Layout::Small)?.read_image(&image)?;
+        assert_canceled(&rt, &state, 1, causes[0], what);
+        assert_canceled(&rt, &state, 2, causes[1], what);
+    }
+    Ok(())
+}
+
+#[test]
+fn hits_that_no_event_sets(rt: HostRuntime) -> Result<(), Fail> {
+    let rows: [(&str, (u16, u16, u16), Pieces); 2] = [
+        ("a cause on a cancel scope", (1, 0, 0), &[A, HIT_1_9_X]),
+        (
+            "a group's scope that is done without an error or a wait",
+            (1, 1, 0),
+            &[GROUPS, HIT_1_9_X, b"\x01g\x00\x01\x00\xff\x00\x00"],
+        ),
+    ];
+    for (what, counts, pieces) in rows {
+        let image = image(rt.alloc(), Head::of(counts), pieces)?;
+        assert!(rt; is_kept(rt.alloc(), Layout::Small, &image)?, "{what}");
+        let (state, _) = State::new(rt.alloc(), Layout::Small)?.read_image(&image)?;
+        assert_canceled(&rt, &state, 1, b"x", what);
+    }
+    Ok(())
+}

@@ -1,4 +1,0 @@
-pub mod Allowing
-pub mod Asking
-pub mod Extending
-pub mod Replaying

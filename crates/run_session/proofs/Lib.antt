@@ -1,0 +1,4 @@
+pub mod Accepting
+pub mod Replaying
+pub mod Rooms
+pub mod Waiting

@@ -1,0 +1,173 @@
+-- The image of a state, piece by piece.
+use Rattle.std.proofs.Common.{◌≡◌, ◌≤◌, ◌<◌, ℕ, ◌+◌, ◌-◌, ◌^◌, ◌&&◌, true, false, List}
+use Rattle.std.proofs.Common.{◌++◌, length, drop, Some, None, refl, sym, ap, ◌∙◌, arith}
+use Rattle.std.proofs.Common.{append_assoc, length-append, length-drop, subst}
+use Rattle.std.specs.List.{flat_map, AllByRecursion}
+use Rattle.std.specs.Prelude.{IsTrue, ◌==◌, Result, Ok, Err, IfErr}
+use Rattle.std.proofs.lemmas.Bool.{lt-ltb, le-leb}
+use Rattle.std.proofs.lemmas.Option.{none-some, slice_get_within}
+use Rattle.run_model.specs.declared.bounds.TheConstants.{MOST_GROUPS, GREATEST_MOMENT}
+use Rattle.run_model.specs.declared.layouts.Layout.{Layout}
+use Rattle.run_model.specs.Layouts.{most_scopes, most_tasks}
+use Rattle.run_model.specs.Rows.{root}
+use Rattle.run_model.specs.Rules.{IsConsistent}
+use Rattle.run_model.specs.State.{State, TreeState, WorkState}
+use Rattle.record_view.specs.declared.heads.ImageHead.{ImageHead}
+use Rattle.record_view.specs.declared.heads.ImageVersion.TheVariants.{Two}
+use Rattle.record_view.specs.Between.{fits_between}
+use Rattle.record_view.specs.Image.{group_bytes, head_bytes, head_of, image, is_kept_group}
+use Rattle.record_view.specs.Image.{is_kept_head, is_kept_scope, is_kept_task, scope_bytes}
+use Rattle.record_view.specs.Image.{task_bytes}
+use Rattle.record_view.specs.Keeping.{IsImage, Rows}
+use Rattle.record_view.specs.RowReading.{head_at}
+use Rattle.record_view.specs.WorkRows.{AreWorkRows, work_at}
+use Rattle.record_view.specs.Writing.{put_at}
+use Rattle.record_view.proofs.Codecs.{both_true}
+use Rattle.record_view.proofs.Joins.{put_then}
+use Rattle.scope_tree.specs.TreeRows.{tree_at}
+use Rattle.image_laws.specs.Whole.{image_at, whole}
+use Rattle.image_laws.proofs.WholeReads.{image_again, image_takes}
+use Rattle.work_laws.proofs.WorkReads.{nothing_read, work_again}
+
+-- ---- reading
+
+pub if_err : {T E : Type 0} (r : Result T E) (P : Type 0) → P → IfErr r (λ _. P)
+if_err (Ok x) P p = tt
+if_err (Err e) P p = p
+
+-- Where nothing is read, the bytes are the image of no state.
+none_stands : (layout : Layout) (bytes : List ℕ) → image_at layout bytes ≡ None → (p : State)
+    → Rows layout bytes p → ⊥
+none_stands layout bytes none p rows =
+    none-some (rows.0, p) (sym none ∙ image_again rows.0 layout bytes p rows.1)
+
+pub no_head : (layout : Layout) (bytes : List ℕ) → head_at layout bytes ≡ None → (p : State)
+    → Rows layout bytes p → ⊥
+unfolding image_at
+no_head layout bytes none = none_stands layout bytes (at layout bytes none)
+  where
+    at : (layout : Layout) (bytes : List ℕ) → head_at layout bytes ≡ None
+        → image_at layout bytes ≡ None
+    at layout bytes none = rw none refl
+
+pub no_tree : (layout : Layout) (bytes r1 : List ℕ) (head : ImageHead)
+    → head_at layout bytes ≡ Some (head, r1) → tree_at layout head r1 ≡ None → (p : State)
+    → Rows layout bytes p → ⊥
+unfolding image_at
+no_tree layout bytes r1 head h none = none_stands layout bytes (at layout bytes r1 head h none)
+  where
+    at : (layout : Layout) (bytes r1 : List ℕ) (head : ImageHead)
+        → head_at layout bytes ≡ Some (head, r1) → tree_at layout head r1 ≡ None
+        → image_at layout bytes ≡ None
+    at layout bytes r1 head h none = rw (h, none) refl
+
+pub no_work : (layout : Layout) (bytes r1 r2 : List ℕ) (head : ImageHead) (tree : TreeState)
+    → head_at layout bytes ≡ Some (head, r1) → tree_at layout head r1 ≡ Some (tree, r2)
+    → ((w : WorkState) (rest : List ℕ) → AreWorkRows layout head r2 w rest → ⊥) → (p : State)
+    → Rows layout bytes p → ⊥
+unfolding image_at
+no_work layout bytes r1 r2 head tree h t none =
+    none_stands layout bytes
+    (at layout bytes r1 r2 head tree h t (nothing_read layout head r2 none))
+  where
+    at : (layout : Layout) (bytes r1 r2 : List ℕ) (head : ImageHead) (tree : TreeState)
+        → head_at layout bytes ≡ Some (head, r1) → tree_at layout head r1 ≡ Some (tree, r2)
+        → work_at layout head r2 ≡ None → image_at layout bytes ≡ None
+    at layout bytes r1 r2 head tree h t none = rw (h, t, none) refl
+
+-- The three parts were read, with r3 behind them.
+pub record AreParts (layout : Layout) (bytes r1 r2 r3 : List ℕ) (head : ImageHead)
+    (tree : TreeState) (work : WorkState) : Type 0 where
+  pub head_read : head_at layout bytes ≡ Some (head, r1)
+  pub tree_read : tree_at layout head r1 ≡ Some (tree, r2)
+  pub work_rows : AreWorkRows layout head r2 work r3
+
+pub no_fit : (layout : Layout) (bytes r1 r2 r3 : List ℕ) (head : ImageHead) (tree : TreeState)
+    (work : WorkState) → AreParts layout bytes r1 r2 r3 head tree work
+    → (length r3 == 0 && fits_between tree.scopes work.groups) ≡ false → (p : State)
+    → Rows layout bytes p → ⊥
+unfolding image_at
+no_fit layout bytes r1 r2 r3 head tree work parts fits =
+    none_stands layout bytes (at layout bytes r1 r2 r3 head tree work parts fits)
+  where
+    at : (layout : Layout) (bytes r1 r2 r3 : List ℕ) (head : ImageHead) (tree : TreeState)
+        (work : WorkState) → AreParts layout bytes r1 r2 r3 head tree work
+        → (length r3 == 0 && fits_between tree.scopes work.groups) ≡ false
+        → image_at layout bytes ≡ None
+    at layout bytes r1 r2 r3 head tree work parts fits =
+        let work_read = work_again layout head r2 work r3 parts.work_rows in
+        rw (parts.head_read, parts.tree_read, work_read, fits) refl
+
+pub is_image : (layout : Layout) (bytes r1 r2 r3 : List ℕ) (head : ImageHead) (tree : TreeState)
+    (work : WorkState) → AreParts layout bytes r1 r2 r3 head tree work
+    → (length r3 == 0 && fits_between tree.scopes work.groups) ≡ true
+    → IsImage head.version layout bytes (whole head tree work)
+unfolding image_at
+is_image layout bytes r1 r2 r3 head tree work parts fits =
+    image_takes head.version layout bytes (whole head tree work)
+    (at layout bytes r1 r2 r3 head tree work parts fits)
+  where
+    at : (layout : Layout) (bytes r1 r2 r3 : List ℕ) (head : ImageHead) (tree : TreeState)
+        (work : WorkState) → AreParts layout bytes r1 r2 r3 head tree work
+        → (length r3 == 0 && fits_between tree.scopes work.groups) ≡ true
+        → image_at layout bytes ≡ Some (head.version, whole head tree work)
+    at layout bytes r1 r2 r3 head tree work parts fits =
+        let work_read = work_again layout head r2 work r3 parts.work_rows in
+        rw (parts.head_read, parts.tree_read, work_read, fits) refl
+
+-- ---- writing
+
+pub written : (p : State) (old first second third : List ℕ) (e : ℕ)
+    → first ≡ put_at old 0 (head_bytes (head_of Two p))
+    → second ≡ put_at first 23 (flat_map scope_bytes (drop 1 p.tree.scopes))
+    → e ≡ 23 + length (flat_map scope_bytes (drop 1 p.tree.scopes))
+    → third
+    ≡ put_at second e (flat_map group_bytes p.work.groups ++ flat_map (task_bytes Two) p.work.tasks)
+    → e ≤ length old → third ≡ put_at old 0 (image p)
+written p old first second third e one two end three room =
+    let head = head_bytes (head_of Two p) in
+    let scopes = flat_map scope_bytes (drop 1 p.tree.scopes) in
+    let groups = flat_map group_bytes p.work.groups in
+    let tasks = flat_map (task_bytes Two) p.work.tasks in
+    let size : length head ≡ 23 = refl in
+    let front : second ≡ put_at old 0 (head ++ scopes) =
+    two ∙ ap (λ o. put_at o 23 scopes) one
+    ∙ put_then old 0 23 head scopes (omega (arith, size)) (omega (arith, room, end)) in
+    three ∙ ap (λ o. put_at o e (groups ++ tasks)) front
+    ∙ put_then old 0 e (head ++ scopes) (groups ++ tasks)
+    (omega (arith, end, size, length-append head scopes)) room
+    ∙ ap (put_at old 0) (sym (append_assoc (head ++ scopes) groups tasks))
+
+-- The fields of a consistent state are in range where those of its rows are.
+pub ranged : (p : State) → IsConsistent p → p.tree.clock ≤ GREATEST_MOMENT → p.count < 2 ^ 63
+    → AllByRecursion (λ row. IsTrue (is_kept_scope row)) (drop 1 p.tree.scopes)
+    → AllByRecursion (λ row. IsTrue (is_kept_group row)) p.work.groups
+    → AllByRecursion (λ row. IsTrue (is_kept_task Two row)) p.work.tasks
+    → IsImage Two p.tree.layout (image p) p
+ranged p rules clock few scopes groups tasks = record {
+  is = refl;
+  has_layout = record { tree = refl; work = rules.numbered.one_layout };
+  ranged = record { head = head; scopes = scopes; groups = groups; tasks = tasks };
+  consistent = rules;
+}
+  where
+    few_tasks : length p.work.tasks ≤ most_tasks p.tree.layout
+    few_tasks =
+        subst (λ l. length p.work.tasks ≤ most_tasks l) rules.numbered.one_layout
+        rules.numbered.few_tasks
+
+    head : IsTrue (is_kept_head p.tree.layout (head_of Two p))
+    head =
+        let some = slice_get_within p.tree.scopes 0 root rules.numbered.rooted in
+        let rest : length (drop 1 p.tree.scopes) ≡ length p.tree.scopes - 1 =
+        length-drop 1 p.tree.scopes in
+        both_true _ _
+        (both_true _ _
+        (both_true _ _
+        (both_true _ _ (le-leb p.tree.clock GREATEST_MOMENT clock)
+        (lt-ltb p.count (2 ^ 63) few))
+        (lt-ltb (length (drop 1 p.tree.scopes)) (most_scopes p.tree.layout)
+        (omega (arith, some, rest, rules.numbered.few_scopes))))
+        (lt-ltb (length p.work.groups) (MOST_GROUPS + 1)
+        (omega (arith, rules.numbered.few_groups))))
+        (lt-ltb (length p.work.tasks) (most_tasks p.tree.layout + 1) (omega (arith, few_tasks)))

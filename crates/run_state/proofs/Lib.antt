@@ -1,0 +1,8 @@
+pub mod AllowLemmas
+pub mod Decisions
+pub mod Ending
+pub mod Imaging
+pub mod Keeping
+pub mod Restarting
+pub mod Starting
+pub mod Staying

@@ -1,0 +1,15 @@
+use Rattle.std.proofs.Common.{◌≡◌, ℕ, fold, take, Some}
+use Rattle.run_model.specs.Allowed.{has_kind}
+use Rattle.run_model.specs.Rules.{is_group_kind}
+use Rattle.run_model.specs.TreeChanges.{after_cancel}
+use Rattle.scope_tree.specs.Checks.{AreEarlierOrAlike}
+use Rattle.run_state.proofs.hits.hit_groups.Given as goal
+
+abbrev pub invariant-loop-scope : goal.invariant-loop-scope
+invariant-loop-scope g l = record {
+  tree : l.tree
+      ≡ fold (λ t s. after_cancel l.event s (Some l.error) t) l.initial.tree
+      (take l.scope-index l.scopes);
+  kinds : (s : ℕ) → has_kind is_group_kind l.tree s ≡ has_kind is_group_kind l.initial.tree s;
+  later : AreEarlierOrAlike l.tree.scopes l.event l.error;
+}

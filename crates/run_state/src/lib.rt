@@ -1,0 +1,18 @@
+//! The state of a runner in one type: the tree of its scopes, its groups and their tasks, and how
+//! many events there were.
+//!
+//! A [`State`] is changed by events alone, each as a record shows it, so a command that is accepted
+//! now and a record that is read back go the same way. It says which event a call asks for, or why
+//! the call is refused; it answers questions; and it knows nothing of a log. It takes memory once,
+//! when it is made.
+#![tactic(auto)]
+
+mod allowing;
+mod asking;
+mod copies;
+mod hits;
+mod questions;
+mod states;
+mod wishes;
+
+pub use states::State;

@@ -1,0 +1,115 @@
+//! The log: the records of the accepted calls, byte for byte, and the events that they are.
+
+use crate::calls::Call::{
+    Advance, Bare, Cancel, Derive, Fail, Go, Group, Limit, Start, Succeed, Try, Wait,
+};
+use crate::calls::{Ask, Call, Said, assert_said, reply};
+use record_view::{EventView, KindView, OutcomeView};
+use run_model::{Fault, Layout, Refusal};
+use run_session::Session;
+
+/// Calls, each with the record that it appends.
+const ROWS: [(Call, &[u8]); 14] = [
+    (
+        Derive(b"a", b"root", Ask::Cause),
+        b"\x01\x00\x05\x01a\x00\x00\x02",
+    ),
+    (
+        Derive(b"b", b"a", Ask::Cancel),
+        b"\x01\x00\x05\x01b\x00\x01\x01",
+    ),
+    (Cancel(b"a", b"disk"), b"\x02\x00\x07\x00\x01\x04disk"),
+    (Group(b"g", b"root"), b"\x04\x00\x04\x01g\x00\x00"),
+    (Bare(b"h", b"root"), b"\x05\x00\x04\x01h\x00\x00"),
+    (Limit(b"g", Some(2)), b"\x06\x00\x03\x00\x00\x02"),
+    (Limit(b"h", None), b"\x06\x00\x03\x00\x01\xff"),
+    (
+        Go(b"g", b"copy", b"a"),
+        b"\x07\x00\x09\x00\x00\x04copy\x01a",
+    ),
+    (
+        Try(b"g", b"copy", b"b"),
+        b"\x08\x00\x09\x00\x00\x04copy\x01b",
+    ),
+    (Start, b"\x09\x00\x02\x00\x00"),
+    (Start, b"\x09\x00\x02\x00\x01"),
+    (Succeed(0), b"\x0a\x00\x03\x00\x00\x00"),
+    (Fail(1, b"x"), b"\x0a\x00\x05\x00\x01\x01\x01x"),
+    (Wait(b"g"), b"\x0b\x00\x02\x00\x00"),
+];
+
+#[test]
+fn each_accepted_call_appends_its_record(rt: HostRuntime) -> Result<(), Fault> {
+    let mut session = Session::new(rt.alloc(), Layout::Small)?;
+    for (n, row) in ROWS.iter().enumerate() {
+        let before = session.log_len();
+        let _ = reply(&rt, &mut session, row.0);
+        let log = session.history().rest();
+        assert!(rt; log.get(before..) == Some(row.1), "row {n}");
+    }
+    assert_eq!(rt; session.count(), 15);
+    assert_eq!(rt; session.log_len(), 105);
+    Ok(())
+}
+
+#[test]
+fn a_refused_call_and_a_repeated_wait_append_nothing(rt: HostRuntime) -> Result<(), Fault> {
+    let mut session = Session::new(rt.alloc(), Layout::Small)?;
+    let rows = [
+        (Bare(b"h", b"root"), Said::Group(0, None)),
+        (Wait(b"h"), Said::Waited(None)),
+        (Wait(b"h"), Said::Waited(None)),
+        (Go(b"h", b"copy", b"a"), Said::Refused(Refusal::Waited)),
+        (Succeed(0), Said::Refused(Refusal::NoSuchTask)),
+        (Start, Said::Refused(Refusal::NothingReady)),
+        (Advance(0), Said::Refused(Refusal::ClockNotForward)),
+    ];
+    assert_said(&rt, &mut session, &rows);
+    assert_eq!(rt; session.log_len(), 12);
+    assert_eq!(rt; session.count(), 3);
+    Ok(())
+}
+
+#[test]
+fn history_gives_the_events(rt: HostRuntime) -> Result<(), Fault> {
+    let mut session = Session::new(rt.alloc(), Layout::Small)?;
+    assert!(rt;
+        session.history().next().is_none(),
+        "the opening has no record"
+    );
+    let rows = [
+        (Derive(b"t", b"root", Ask::Timeout(30)), Said::Scope(1)),
+        (Group(b"g", b"t"), Said::Group(0, Some(2))),
+        (Go(b"g", b"copy", b"a"), Said::Ready(0)),
+        (Start, Said::Started(0, b"copy", b"a", false)),
+        (Fail(0, b"x"), Said::Finished(6)),
+    ];
+    assert_said(&rt, &mut session, &rows);
+    let expected = [
+        EventView::Derive {
+            name: b"t",
+            parent: 0,
+            kind: KindView::Deadline(30, None),
+        },
+        EventView::Group {
+            name: b"g",
+            parent: 1,
+        },
+        EventView::Go {
+            group: 0,
+            job: b"copy",
+            argument: b"a",
+        },
+        EventView::Start { task: 0 },
+        EventView::Finish {
+            task: 0,
+            outcome: OutcomeView::Failure(b"x"),
+        },
+    ];
+    let mut events = session.history();
+    for (n, event) in expected.iter().enumerate() {
+        assert!(rt; events.next() == Some(*event), "event {n}");
+    }
+    assert!(rt; events.next().is_none());
+    Ok(())
+}
