@@ -9,7 +9,8 @@ use Rattle.run_model.specs.Session.{Session}
 use Rattle.console_lines.specs.declared.asked.Asked.TheVariants.{BadLine}
 use Rattle.console_lines.specs.Asked.{asked_of}
 use Rattle.console_lines.specs.Progress.{kept}
-use Rattle.console_lines.specs.Script.{reply, after_line, reply_to, after_asked, written}
+use Rattle.console_lines.specs.Replies.{reply_lines}
+use Rattle.console_lines.specs.Script.{reply, after_line, replies_to, after_asked}
 
 pub asked_of_long : (line : List ℕ) → 256 < length line → asked_of line ≡ BadLine
 asked_of_long line h = grind (arith, nat_tests, common_steps, h)
@@ -24,7 +25,7 @@ asked_of_kept line = elim (cases_lt 256 (length line)) [
 
 pub reply_kept : (s : Session) (line : List ℕ) → reply s (kept line) ≡ reply s line
 unfolding reply
-reply_kept s line = ap (λ a. written (reply_to s a)) (asked_of_kept line)
+reply_kept s line = ap (λ a. reply_lines (replies_to s a)) (asked_of_kept line)
 
 pub after_line_kept :
     (s : Session) (line : List ℕ) → after_line s (kept line) ≡ after_line s line

@@ -1,13 +1,13 @@
 -- The laws of the definition.
 use Rattle.std.specs.Prelude.{◌≡◌, ◌==◌, ◌<◌, ℕ, Bool, true, false, cond, if◌then◌else◌}
-use Rattle.std.specs.Prelude.{List, [], ◌∷◌, ◌++◌, ◌⊎◌, length, codes, Option, Some, Ok}
+use Rattle.std.specs.Prelude.{List, [], ◌∷◌, ◌++◌, ◌⊎◌, length, codes, Option, Some, None, Ok}
 use Rattle.std.specs.Io.KnownBytes.{IsAtEnd}
 use Rattle.std.specs.List.{slice_split, onto_first}
-use Rattle.std.specs.Option.{option_map}
+use Rattle.std.specs.Option.{option_map, option_and_then}
 use Rattle.std.proofs.Common.{inl, inr, arith, refl, sym, ap, ◌∙◌, append_assoc, append-nil}
 use Rattle.std.proofs.lemmas.List.Splits.{length-slice_split}
 use Rattle.std.specs.List.{cons_option}
-use Rattle.run_model.specs.Session.{Session, session_after}
+use Rattle.run_model.specs.Session.{Session, session_after, event_of_step, with_event}
 use Rattle.run_model.specs.declared.commands.Step.{Step}
 use Rattle.run_model.specs.declared.commands.Wish.TheVariants as wish
 use Rattle.written_moment.specs.Moments.{moment_of}
@@ -15,12 +15,10 @@ use Rattle.written_moment.specs.Numbers.{number_of}
 use Rattle.console_lines.specs.Asked.{wish_of, wished, deadline_at}
 use Rattle.console_lines.specs.Lines.{whole_lines, open_line, lines_of}
 use Rattle.console_lines.specs.Words.{words_of, rest_of}
-use Rattle.console_lines.specs.declared.asked.Asked.{Asked}
-use Rattle.console_lines.specs.declared.asked.Asked.TheVariants as asked
 use Rattle.console_lines.specs.declared.faults.RunFault.{RunFault}
 use Rattle.console_lines.specs.Asked.{asked_of}
 use Rattle.console_lines.specs.Script.{reply, after_line, replies, after_lines, closing, script}
-use Rattle.console_lines.specs.Script.{after_asked, command_of, commands_of}
+use Rattle.console_lines.specs.Script.{step_of, steps_of}
 use Rattle.console_lines.specs.Progress.{IsFront, WritesFront, Ran, Stopped, StoppedAtEnd}
 use Rattle.console_lines.specs.Progress.{IsOfLine, IsOfReading, RunStops, BeginsScript}
 use Rattle.console_lines.proofs.Wholes.{last_state, last_reply}
@@ -97,26 +95,23 @@ replies_stay s first more =
           ∙ append_assoc (replies s a) behind end,
     )
 
--- What a line asks for leaves what its command leaves.
-asked_step :
-    (s : Session) (x : Asked) (steps : List Step)
-    → session_after (after_asked s x) steps ≡ session_after s (cons_option (command_of x) steps)
-asked_step s asked.Nothing steps = refl
-asked_step s asked.BadLine steps = refl
-asked_step s (asked.Refused why) steps = refl
-asked_step s (asked.Command call) steps = refl
-asked_step s (asked.Scope name) steps = refl
-asked_step s (asked.Value scope key) steps = refl
+-- A step leaves what it leaves as the first of some.
+step_first :
+    (s : Session) (x : Option Step) (steps : List Step)
+    → session_after (with_event s (option_and_then (event_of_step s) x)) steps
+    ≡ session_after s (cons_option x steps)
+step_first s None steps = refl
+step_first s (Some x) steps = refl
 
--- Lines leave what their commands leave.
-pub lines_are_commands :
+-- Lines leave what their steps leave.
+pub lines_are_steps :
     (s : Session) (lines : List (List ℕ))
-    → after_lines s lines ≡ session_after s (commands_of lines)
+    → after_lines s lines ≡ session_after s (steps_of lines)
 unfolding after_line
-lines_are_commands s [] = refl
-lines_are_commands s (line ∷ lines) =
-    lines_are_commands (after_line s line) lines
-    ∙ asked_step s (asked_of line) (commands_of lines)
+lines_are_steps s [] = refl
+lines_are_steps s (line ∷ lines) =
+    lines_are_steps (after_line s line) lines
+    ∙ step_first s (step_of (asked_of line)) (steps_of lines)
 
 -- ---- what a stopped run wrote
 
@@ -160,10 +155,9 @@ cut_end s bytes front (rest, cut) =
 -- A run that stopped wrote a front of what it was to write.
 pub stops_begin :
     (fault : RunFault) (s t : Session) (r0 r1 w0 w1 : Option (List ℕ))
-    → RunStops fault s t r0 r1 w0 w1
-    → BeginsScript s r0 r1 w0 w1
-stops_begin fault s t r0 r1 w0 w1 stops =
-    record { bytes = stops.bytes; read = stops.read; begins = begins stops.stopped }
+    → (stops : RunStops fault s t r0 r1 w0 w1)
+    → BeginsScript s stops.bytes r1 w0 w1
+stops_begin fault s t r0 r1 w0 w1 stops = begins stops.stopped
   where
     lines : List (List ℕ)
     lines = whole_lines [] stops.bytes
@@ -172,8 +166,7 @@ stops_begin fault s t r0 r1 w0 w1 stops =
         (IsOfReading fault × Ran lines s t w0 w1)
         ⊎ ((IsOfLine fault × Stopped fault lines s t w0 w1)
         ⊎ (IsOfLine fault × IsAtEnd r1 × StoppedAtEnd fault stops.bytes s t w0 w1))
-        → WritesFront w0 w1 (replies s lines)
-        ⊎ (IsAtEnd r1 × WritesFront w0 w1 (script s stops.bytes))
+        → BeginsScript s stops.bytes r1 w0 w1
     begins (inl (f, ran)) =
         inl (replies s lines, ([], sym (append-nil (replies s lines))), ran.written)
     begins (inr (inl (f, x))) =

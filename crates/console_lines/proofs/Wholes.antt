@@ -48,7 +48,7 @@ last_reply s t bytes e =
     subst P (sym e) whole
 
 -- The state after all lines, by what is kept of the last one.
-kept_state :
+pub kept_state :
     (s t u : Session) (bytes begun : List ℕ)
     → t ≡ after_lines s (whole_lines [] bytes)
     → begun ≡ kept (open_line [] bytes)
@@ -62,7 +62,7 @@ kept_state s t u bytes begun e b state =
     ∙ sym (last_state s bytes)
 
 -- What is printed for the last line, by what is kept of it.
-kept_end :
+pub kept_end :
     (t : Session) (line begun : List ℕ)
     → begun ≡ kept line
     → reply t begun ++ closing (after_line t begun)
@@ -75,7 +75,7 @@ kept_end t line begun b =
 -- ---- all of an input
 
 -- The input was read, and its last line and the closing line were printed.
-pub runs_all :
+abbrev pub runs_all :
     (s t u : Session) (begun : List ℕ) (r0 r1 w0 w1 w2 : Option (List ℕ))
     → ReadsAll s t begun r0 r1 w0 w1
     → Appends w1 w2 (reply t begun ++ closing (after_line t begun))
@@ -102,15 +102,15 @@ runs_all s t u begun r0 r1 w0 w1 w2 reads written state =
 -- ---- a run that stops
 
 -- A fault that a line can have is not that the input is too long.
-not_long : (fault : RunFault) → IsOfLine fault → (X : Type 0) → fault ≡ InputTooLong → X
+pub not_long : (fault : RunFault) → IsOfLine fault → (X : Type 0) → fault ≡ InputTooLong → X
 not_long fault h X e = absurd (subst IsOfLine e h)
 
 -- Nor that a read failed.
-not_unread : (fault : RunFault) → IsOfLine fault → (X : Type 0) → fault ≡ Input → X
+pub not_unread : (fault : RunFault) → IsOfLine fault → (X : Type 0) → fault ≡ Input → X
 not_unread fault h X e = absurd (subst IsOfLine e h)
 
 -- The input was read, and the last line or the closing line stopped.
-pub stops_at_the_end :
+abbrev pub stops_at_the_end :
     (fault : RunFault) (s t u : Session) (begun : List ℕ) (r0 r1 w0 w1 w2 : Option (List ℕ))
     → IsOfLine fault
     → ReadsAll s t begun r0 r1 w0 w1
@@ -144,7 +144,7 @@ stops_at_the_end fault s t u begun r0 r1 w0 w1 w2 f reads stops =
     }
 
 -- Some input was read, and a line in the next part of it stopped.
-pub stops_in_a_part :
+abbrev pub stops_in_a_part :
     (fault : RunFault) (bytes part : List ℕ) (s t u : Session)
     (r0 r1 r2 w0 w1 w2 : Option (List ℕ))
     → IsOfLine fault

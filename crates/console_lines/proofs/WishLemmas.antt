@@ -13,7 +13,8 @@ use Rattle.written_moment.specs.Numbers.{number_of}
 use Rattle.written_moment.specs.Moments.{moment_of}
 use Rattle.console_lines.specs.declared.asked.Asked.TheVariants.{BadLine, Refused}
 use Rattle.console_lines.specs.Asked.{Wished, wished, refused_behind, judged, derived, asks_judged}
-use Rattle.console_lines.specs.Asked.{asks_derive, names_in_wish, texts_in_wish}
+use Rattle.console_lines.specs.Asked.{asks_derive}
+use Rattle.console_lines.specs.Checked.{names_in_wish, texts_in_wish}
 use Rattle.console_lines.specs.Asked.{deadline_at, deadline_wish, timeout_wish, value_wish}
 use Rattle.console_lines.specs.Words.{words_of, words_in, rest_of}
 use Rattle.console_lines.proofs.WordLemmas.{rest_is}

@@ -1,7 +1,12 @@
 pub mod Asked
+pub mod Checked
+pub mod GroupLines
+pub mod GroupNights
 pub mod Lines
 pub mod Nights
 pub mod Progress
 pub mod Replies
 pub mod Script
+pub mod Tallies
+pub mod TaskLines
 pub mod Words

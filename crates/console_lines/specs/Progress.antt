@@ -146,10 +146,10 @@ pub record RunStops
       ⊎ ((IsOfLine fault × Stopped fault (whole_lines [] bytes) s t w0 w1)
       ⊎ (IsOfLine fault × IsAtEnd r1 × StoppedAtEnd fault bytes s t w0 w1))
 
--- What was written is a front of the replies to the lines that an LF ended, or, where the input was
--- read to its end, of its script.
-pub record BeginsScript (s : Session) (r0 r1 w0 w1 : Option (List ℕ)) : Type 0 where
-  pub bytes : List ℕ
-  pub read : Consumes r0 r1 bytes
-  pub begins : WritesFront w0 w1 (replies s (whole_lines [] bytes))
-      ⊎ (IsAtEnd r1 × WritesFront w0 w1 (script s bytes))
+-- Of an input these bytes were read. What was written is a front of the replies to the lines that
+-- an LF ended, or, where the input was read to its end, of its script.
+abbrev pub BeginsScript :
+    Session → List ℕ → Option (List ℕ) → Option (List ℕ) → Option (List ℕ) → Type 0
+BeginsScript s bytes r1 w0 w1 =
+    WritesFront w0 w1 (replies s (whole_lines [] bytes))
+    ⊎ (IsAtEnd r1 × WritesFront w0 w1 (script s bytes))

@@ -1,17 +1,22 @@
 -- What a reply prints.
-use Rattle.std.specs.Prelude.{ℕ, List, [], ◌∷◌, ◌++◌, codes, Option, Some, None}
+use Rattle.std.specs.Prelude.{ℕ, Bool, if◌then◌else◌, List, [], ◌∷◌, ◌++◌, codes, Option, Some}
+use Rattle.std.specs.Prelude.{None}
 use Rattle.std.specs.Fmt.{decimal}
 use Rattle.run_model.specs.declared.scopes.Reason.{Reason}
 use Rattle.run_model.specs.declared.tasks.Phase.{Phase}
 use Rattle.run_model.specs.declared.tasks.Phase.TheVariants as phase
 use Rattle.run_model.specs.declared.answers.Answer.{Answer}
 use Rattle.run_model.specs.declared.answers.Answer.TheVariants as answer
+use Rattle.run_model.specs.declared.answers.GroupLook.{GroupLook}
+use Rattle.run_model.specs.declared.answers.TaskInfo.{TaskInfo}
 use Rattle.run_model.specs.declared.refusals.Refusal.{Refusal}
 use Rattle.run_model.specs.declared.refusals.Refusal.TheVariants as refusal
 use Rattle.run_model.specs.Refusals.{refusal_number, refusal_name}
 use Rattle.run_model.specs.Reasons.{reason_text}
 use Rattle.console_lines.specs.declared.replies.Reply.{Reply}
 use Rattle.console_lines.specs.declared.replies.Reply.TheVariants as reply
+use Rattle.console_lines.specs.declared.tallies.Counts.{Counts}
+use Rattle.console_lines.specs.declared.tallies.Tally.{Tally}
 
 -- A refusal's number and name.
 abbrev pub numbered : Refusal → List ℕ
@@ -32,13 +37,17 @@ phase_text phase.Success = codes "success"
 phase_text (phase.Failure error) = codes "error " ++ error
 phase_text phase.Interrupted = codes "interrupted"
 
+-- A task's number, and how far it is.
+abbrev pub task_text : ℕ → Phase → List ℕ
+task_text n phase = codes "task " ++ decimal n ++ codes " " ++ phase_text phase
+
 -- The answer of an accepted command.
 abbrev pub answer_text : Answer → List ℕ
 answer_text (answer.Scope s) = codes "scope " ++ decimal s
 answer_text (answer.Group g None) = codes "group " ++ decimal g
 answer_text (answer.Group g (Some s)) = codes "group " ++ decimal g ++ codes " scope " ++ decimal s
 answer_text answer.Done = codes "ok"
-answer_text (answer.Task n phase) = codes "task " ++ decimal n ++ codes " " ++ phase_text phase
+answer_text (answer.Task n phase) = task_text n phase
 answer_text (answer.Waited None) = codes "wait ok"
 answer_text (answer.Waited (Some error)) = codes "wait error " ++ error
 
@@ -55,15 +64,64 @@ scope_text (Some ending) deadline =
     ++ codes "; err " ++ reason_text ending.0
     ++ codes "; cause " ++ ending.1
 
+-- A task that was started: its number, its job and its argument.
+abbrev pub started_text : TaskInfo → List ℕ
+started_text info =
+    codes "start " ++ decimal info.task ++ codes " " ++ info.job ++ codes " " ++ info.argument
+
+-- A limit, or `none`.
+abbrev pub limit_text : Option ℕ → List ℕ
+limit_text None = codes "none"
+limit_text (Some most) = decimal most
+
+-- Whether something was done.
+abbrev pub yes_or_no : Bool → List ℕ
+yes_or_no done = if done then codes "yes" else codes "no"
+
+-- An error, or `none`.
+abbrev pub error_text : Option (List ℕ) → List ℕ
+error_text None = codes "none"
+error_text (Some error) = error
+
+-- A group: its unfinished tasks, its limit, whether it was waited for, and its first error.
+abbrev pub group_text : GroupLook → List ℕ
+group_text look =
+    codes "unfinished " ++ decimal look.unfinished
+    ++ codes "; limit " ++ limit_text look.limit
+    ++ codes "; waited " ++ yes_or_no look.waited
+    ++ codes "; error " ++ error_text look.error
+
+-- How many tasks there are, and how many of them have ended in each way.
+abbrev pub counts_text : Counts → List ℕ
+counts_text counts =
+    codes "total " ++ decimal counts.total
+    ++ codes "; success " ++ decimal counts.success
+    ++ codes "; failure " ++ decimal counts.failure
+    ++ codes "; interrupted " ++ decimal counts.interrupted
+
+-- A job, and what is counted of its tasks.
+abbrev pub tally_text : Tally → List ℕ
+tally_text tally = codes "tally " ++ tally.job ++ codes " " ++ counts_text tally.counts
+
 -- What a reply prints, without its LF.
 abbrev pub reply_text : Reply → List ℕ
 reply_text reply.BadLine = codes "bad line"
 reply_text (reply.Refused why) = refusal_text why
 reply_text (reply.Answered answer) = answer_text answer
+reply_text (reply.Started started) = started_text started.info
+reply_text (reply.Finished event) = codes "ok"
 reply_text (reply.Scope look) = scope_text look.done look.deadline
 reply_text (reply.Value text) = codes "value " ++ text
+reply_text (reply.Task n phase) = task_text n phase
+reply_text (reply.Group look) = group_text look
+reply_text (reply.Tally tally) = tally_text tally
 reply_text (reply.Acked count) = codes "acked " ++ decimal count
 
 -- A reply is written as one line: its text, and an LF.
 abbrev pub reply_line : Reply → List ℕ
 reply_line reply = reply_text reply ++ 10 ∷ []
+
+-- Some replies, one line behind the other.
+abbrev pub reply_lines : List Reply → List ℕ
+reply_lines [] = []
+reply_lines (reply ∷ replies) = reply_line reply ++ reply_lines replies

@@ -1,32 +1,32 @@
 -- What is replied to the lines of an input, from a session on.
-use Rattle.std.specs.Prelude.{ℕ, List, [], ◌∷◌, ◌++◌, Option, Some, None, Result, Ok, Err}
+use Rattle.std.specs.Prelude.{ℕ, List, [], ◌∷◌, ◌++◌, map, Option, Some, None, Result, Ok, Err}
 use Rattle.std.specs.Option.{option_map_or, option_and_then}
 use Rattle.std.specs.List.{cons_option}
 use Rattle.run_model.specs.declared.commands.Step.{Step}
 use Rattle.run_model.specs.declared.commands.Step.TheVariants as step
-use Rattle.run_model.specs.declared.answers.Answer.{Answer}
 use Rattle.run_model.specs.declared.refusals.Refusal.{Refusal}
 use Rattle.run_model.specs.declared.refusals.Refusal.TheVariants as refusal
-use Rattle.run_model.specs.State.{State, scope_named}
-use Rattle.run_model.specs.Replies.{decide}
+use Rattle.run_model.specs.State.{State, scope_named, group_named}
+use Rattle.run_model.specs.Replies.{reply_start, reply_finish}
 use Rattle.run_model.specs.Replies as model
-use Rattle.run_model.specs.Questions.{look_of}
+use Rattle.run_model.specs.Questions.{look_of, group_look_of, task_look_of}
 use Rattle.run_model.specs.Scopes.{value_of}
-use Rattle.run_model.specs.Session.{Session, made, with_event}
+use Rattle.run_model.specs.Session.{Session, event_of_step, with_event}
 use Rattle.console_lines.specs.declared.asked.Asked.{Asked}
 use Rattle.console_lines.specs.declared.asked.Asked.TheVariants as asked
 use Rattle.console_lines.specs.declared.replies.Reply.{Reply}
 use Rattle.console_lines.specs.declared.replies.Reply.TheVariants as said
 use Rattle.console_lines.specs.Lines.{lines_of}
 use Rattle.console_lines.specs.Asked.{asked_of}
-use Rattle.console_lines.specs.Replies.{reply_line}
+use Rattle.console_lines.specs.Replies.{reply_line, reply_lines}
+use Rattle.console_lines.specs.Tallies.{tallies_of}
 
 -- ---- one line
 
--- A command is answered, or refused.
-abbrev pub command_reply : Result Answer Refusal → Reply
-command_reply (Ok answer) = said.Answered answer
-command_reply (Err why) = said.Refused why
+-- A call is answered, or refused.
+abbrev pub answered : {X : Type 0} → (X → Reply) → Result X Refusal → Reply
+answered answer (Ok x) = answer x
+answered answer (Err why) = said.Refused why
 
 -- A scope that is there is told, and one that is not there is refused.
 abbrev pub scope_reply : State → List ℕ → Reply
@@ -44,24 +44,45 @@ value_reply p name key =
     (said.Refused refusal.NoValue))
     (scope_named p.tree name) (said.Refused refusal.NoSuchScope)
 
--- The reply to what a line asks for; an empty line has none.
-abbrev pub reply_to : Session → Asked → Option Reply
-reply_to s asked.Nothing = None
-reply_to s asked.BadLine = Some said.BadLine
-reply_to s (asked.Refused why) = Some (said.Refused why)
-reply_to s (asked.Command call) = Some (command_reply (model.reply s.state s.log call))
-reply_to s (asked.Scope name) = Some (scope_reply s.state name)
-reply_to s (asked.Value scope key) = Some (value_reply s.state scope key)
+-- How far a task that is there is, is told, and one that is not there is refused.
+abbrev pub task_reply : State → ℕ → Reply
+task_reply p n =
+    option_map_or (λ look. said.Task n look.phase) (task_look_of p n)
+    (said.Refused refusal.NoSuchTask)
 
--- The session after what a line asks for: an accepted command alone changes it.
+-- A group that is there is told, and one that is not there is refused.
+abbrev pub group_reply : State → List ℕ → Reply
+group_reply p name =
+    option_map_or (λ look. said.Group look)
+    (option_and_then (λ g. group_look_of p g) (group_named p.work name))
+    (said.Refused refusal.NoSuchGroup)
+
+-- The reply to what a line asks for; an empty line has none, and a tally one for each job.
+abbrev pub replies_to : Session → Asked → List Reply
+replies_to s asked.Nothing = []
+replies_to s asked.BadLine = said.BadLine ∷ []
+replies_to s (asked.Refused why) = said.Refused why ∷ []
+replies_to s (asked.Command call) =
+    answered said.Answered (model.reply s.state s.log call) ∷ []
+replies_to s asked.Start = answered said.Started (reply_start s.state s.log) ∷ []
+replies_to s (asked.Finish n outcome) =
+    answered said.Finished (reply_finish s.state n outcome) ∷ []
+replies_to s (asked.Scope name) = scope_reply s.state name ∷ []
+replies_to s (asked.Value scope key) = value_reply s.state scope key ∷ []
+replies_to s (asked.Task n) = task_reply s.state n ∷ []
+replies_to s (asked.Result group) = group_reply s.state group ∷ []
+replies_to s asked.Tally = map said.Tally (tallies_of s.state.work.tasks)
+
+-- The step that a line asks for: a command, a start or a finish, and none for all else.
+abbrev pub step_of : Asked → Option Step
+step_of (asked.Command call) = Some (step.Command call)
+step_of asked.Start = Some step.Start
+step_of (asked.Finish n outcome) = Some (step.Finish n outcome)
+step_of _ = None
+
+-- The session after what a line asks for: an accepted step alone changes it.
 abbrev pub after_asked : Session → Asked → Session
-after_asked s (asked.Command call) = with_event s (made (decide s.state s.log call))
-after_asked s _ = s
-
--- What is written for a reply, where there is one.
-abbrev pub written : Option Reply → List ℕ
-written None = []
-written (Some reply) = reply_line reply
+after_asked s asks = with_event s (option_and_then (event_of_step s) (step_of asks))
 
 -- The session after a line.
 unfoldable pub after_line : Session → List ℕ → Session
@@ -69,7 +90,7 @@ after_line s line = after_asked s (asked_of line)
 
 -- What a line is replied.
 unfoldable pub reply : Session → List ℕ → List ℕ
-reply s line = written (reply_to s (asked_of line))
+reply s line = reply_lines (replies_to s (asked_of line))
 
 -- ---- the lines of an input
 
@@ -78,15 +99,10 @@ abbrev pub after_lines : Session → List (List ℕ) → Session
 after_lines s [] = s
 after_lines s (line ∷ lines) = after_lines (after_line s line) lines
 
--- The step that was asked for: a command, and none for all else.
-abbrev pub command_of : Asked → Option Step
-command_of (asked.Command call) = Some (step.Command call)
-command_of _ = None
-
--- The steps of the commands that these lines ask for, in their order.
-abbrev pub commands_of : List (List ℕ) → List Step
-commands_of [] = []
-commands_of (line ∷ lines) = cons_option (command_of (asked_of line)) (commands_of lines)
+-- The steps that these lines ask for, in their order.
+abbrev pub steps_of : List (List ℕ) → List Step
+steps_of [] = []
+steps_of (line ∷ lines) = cons_option (step_of (asked_of line)) (steps_of lines)
 
 -- What these lines are replied, one after another.
 abbrev pub replies : Session → List (List ℕ) → List ℕ

@@ -1,6 +1,6 @@
 //! What a line asks for, before any state is looked at.
 
-use run_model::{Command, Name, Refusal};
+use run_model::{Command, Name, Outcome, Refusal};
 
 /// What a line asks for.
 #[derive(Clone, Debug, Drop, PartialEq, Eq)]
@@ -13,8 +13,18 @@ pub enum Asked {
     Refused(Refusal),
     /// A command.
     Command(Command),
+    /// That the ready task with the least number is started.
+    Start,
+    /// That the running task of this number ends so.
+    Finish(u16, Outcome),
     /// How the scope of this name is.
     Scope(Name),
     /// What the scope of this name holds under a key.
     Value { scope: Name, key: Name },
+    /// How far the task of this number is.
+    Task(u16),
+    /// How the group of this name is, and what came of its tasks so far.
+    Result(Name),
+    /// How many tasks each job has, and how they ended.
+    Tally,
 }

@@ -14,7 +14,7 @@ pub enum RunFault {
     /// The input has more bytes than a run takes.
     #[error("input too long")]
     InputTooLong,
-    /// There was no memory for the words, the book or a reply.
+    /// There was no memory for the words, the session or a reply.
     #[error("fault 1 Memory")]
     Memory,
 }

@@ -14,8 +14,8 @@ ghost use Rattle.console_lines.specs.Asked.{wish_of, wished, refused_behind, ask
 ghost use Rattle.console_lines.specs.Lines.{whole_lines, lines_of};
 ghost use Rattle.console_lines.specs.Words.{words_of, rest_of};
 ghost use Rattle.console_lines.specs.Progress.{IsFront, kept};
-ghost use Rattle.console_lines.specs.Script.{after_line, after_lines, commands_of, replies, reply};
-ghost use Rattle.console_lines.specs.Script.{script};
+ghost use Rattle.console_lines.specs.Script.{after_line, after_lines, replies, reply, script};
+ghost use Rattle.console_lines.specs.Script.{steps_of};
 
 use crate::asked::Asked;
 use run_model::{Refusal, Wish};
@@ -64,10 +64,10 @@ pub fn replies_dont_wait_for_what_follows()
         → IsFront (replies s (whole_lines [] first)) (script s (first ++ more)) }
 {}
 
-/// Lines leave what the commands that they ask for leave, one after another.
-pub fn lines_leave_what_their_commands_leave()
+/// Lines leave what the steps that they ask for leave, one after another.
+pub fn lines_leave_what_their_steps_leave()
     ensures { (s : Session) (lines : List (List ℕ))
-        → after_lines s lines ≡ session_after s (commands_of lines) }
+        → after_lines s lines ≡ session_after s (steps_of lines) }
 {}
 
 /// A line that is too long may be cut behind 257 bytes: its reply and the session stay the same.

@@ -7,10 +7,14 @@
 mod asked;
 mod causes;
 mod faults;
+mod group_lines;
+pub mod group_nights;
 pub mod laws;
 mod lines;
 pub mod nights;
 mod replies;
+mod tallies;
+mod task_lines;
 mod wishes;
 mod words;
 
@@ -18,3 +22,4 @@ pub use asked::Asked;
 pub use faults::RunFault;
 pub use lines::{LONGEST_INPUT, LONGEST_LINE, read_line};
 pub use replies::Reply;
+pub use tallies::{Counts, Tally};

@@ -1,14 +1,16 @@
-//! A line of the console is its words, the first of which says what is asked.
+//! A line of the console is its words, the first of which says what is asked; and the lines that
+//! ask something of scopes.
 
 ghost use Rattle.std.specs.Prelude.{◌≡◌, unwrap_or};
 ghost use Rattle.console_lines.specs.Asked.{asked_of, asked_by, derive_line, cancel_line};
 ghost use Rattle.console_lines.specs.Asked.{advance_line, scope_line, value_line};
-ghost use Rattle.console_lines.specs.Asked.{asks_command, asks_judged, asks_advance};
-ghost use Rattle.console_lines.specs.Asked.{asks_scope, asks_value};
+ghost use Rattle.console_lines.specs.Asked.{asks_judged, asks_advance, asks_scope, asks_value};
+ghost use Rattle.console_lines.specs.Checked.{asks_command};
 ghost use Rattle.console_lines.specs.Words.{words_in, lent};
 
 use crate::asked::Asked;
 use crate::causes::read_cause;
+use crate::group_lines::read_group_line;
 use crate::wishes::read_wish;
 use crate::words::{last_word, next_word};
 use run_model::{Command, Moment, Name, Refusal, Wish};
@@ -50,7 +52,7 @@ fn read_words(line: Option<&[u8]>) -> Option<Asked>
     } else if word == b"value".as_slice() {
         read_value(left)
     } else {
-        None
+        read_group_line(word, left)
     }
 }
 
@@ -106,12 +108,12 @@ fn read_value(left: Option<&[u8]>) -> Option<Asked>
 fn derive(name: &[u8], parent: &[u8], wish: Result<Wish, Refusal>) -> Asked
     ensures { result ≡ asks_judged name.now parent.now wish }
 {
-    let (Some(name), Some(parent)) = (Name::read(name), Name::read(parent)) else {
-        return Asked::Refused(Refusal::BadName);
-    };
-    match wish {
-        Ok(wish) => Asked::Command(Command::Derive { name, parent, wish }),
-        Err(refusal) => Asked::Refused(refusal),
+    match (Name::read(name), Name::read(parent), wish) {
+        (Some(name), Some(parent), Ok(wish)) => {
+            Asked::Command(Command::Derive { name, parent, wish })
+        }
+        (Some(_), Some(_), Err(refusal)) => Asked::Refused(refusal),
+        _ => Asked::Refused(Refusal::BadName),
     }
 }
 

@@ -3,9 +3,14 @@
 ghost use Rattle.std.specs.Prelude.{◌≡◌, Some, IfOk};
 ghost use Rattle.std.specs.String.{string_bytes};
 ghost use Rattle.console_lines.specs.Replies.{reply_text, reply_line, refusal_text, answer_text};
-ghost use Rattle.console_lines.specs.Replies.{phase_text, deadline_text, scope_text};
+ghost use Rattle.console_lines.specs.Replies.{phase_text, deadline_text, scope_text, started_text};
+ghost use Rattle.console_lines.specs.Replies.{limit_text, error_text, group_text, counts_text};
+ghost use Rattle.console_lines.specs.Replies.{tally_text, yes_or_no};
 
-use run_model::{Answer, Look, Moment, Phase, Refusal, Text};
+use crate::tallies::{Counts, Tally};
+use run_model::{
+    Answer, GroupLook, Limit, Look, Moment, Name, Phase, Refusal, Started, TaskInfo, Text,
+};
 use std::alloc::{AllocError, Allocator};
 use std::{fmt, str};
 
@@ -18,10 +23,21 @@ pub enum Reply {
     Refused(Refusal),
     /// The command was accepted: `scope 1`, `ok` and likewise.
     Answered(Answer),
+    /// A task was started: `start 0 copy a`.
+    Started(Started),
+    /// A task was finished, by the event of this number: `ok`.
+    Finished(u64),
     /// How a scope is: `live; deadline D`, or `done; deadline D; err E; cause C`.
     Scope(Look),
     /// What a scope holds under the key that was asked for: `value eu`.
     Value(Text),
+    /// How far the task of this number is: `task 0 running`.
+    Task(u16, Phase),
+    /// How a group is: `unfinished N; limit L; waited W; error X`.
+    Group(GroupLook),
+    /// What is counted of the tasks of one job: `tally copy total 1; success 1; failure 0;
+    /// interrupted 0`.
+    Tally(Tally),
     /// The number of all events, the opening among them: `acked 4`.
     Acked(u64),
 }
@@ -43,8 +59,13 @@ impl fmt::Display for Reply {
             Reply::BadLine => f.write_str("bad line"),
             Reply::Refused(refusal) => write!(f, "{}", ShownRefusal(*refusal)),
             Reply::Answered(answer) => write!(f, "{}", ShownAnswer(answer)),
+            Reply::Started(started) => write!(f, "{}", ShownStart(&started.info)),
+            Reply::Finished(_) => f.write_str("ok"),
             Reply::Scope(look) => write!(f, "{}", ShownLook(look)),
             Reply::Value(text) => write!(f, "value {}", ShownText(text)),
+            Reply::Task(task, phase) => write!(f, "task {task} {}", ShownPhase(phase)),
+            Reply::Group(look) => write!(f, "{}", ShownGroup(look)),
+            Reply::Tally(tally) => write!(f, "{}", ShownTally(tally)),
             Reply::Acked(count) => write!(f, "acked {count}"),
         }
     }
@@ -106,6 +127,110 @@ impl fmt::Display for ShownPhase<'_> {
     }
 }
 
+/// A task that was started, as it is printed.
+#[derive(Clone, Copy)]
+struct ShownStart<'a>(&'a TaskInfo);
+
+impl fmt::Display for ShownStart<'_> {
+    ghost output = { λ shown. Some (started_text shown.0.now) };
+
+    fn fmt<W: fmt::Write>(&self, f: &mut fmt::Formatter<W>) -> fmt::Result {
+        let task = self.0.task;
+        let job = ShownName(&self.0.job);
+        let argument = ShownName(&self.0.argument);
+        write!(f, "start {task} {job} {argument}")
+    }
+}
+
+/// How a group is, as it is printed.
+#[derive(Clone, Copy)]
+struct ShownGroup<'a>(&'a GroupLook);
+
+impl fmt::Display for ShownGroup<'_> {
+    ghost output = { λ shown. Some (group_text shown.0.now) };
+
+    fn fmt<W: fmt::Write>(&self, f: &mut fmt::Formatter<W>) -> fmt::Result {
+        let unfinished = self.0.unfinished;
+        let limit = ShownLimit(self.0.limit);
+        let waited = yes_or_no(self.0.waited);
+        let error = ShownError(&self.0.error);
+        write!(
+            f,
+            "unfinished {unfinished}; limit {limit}; waited {waited}; error {error}"
+        )
+    }
+}
+
+/// What is counted of the tasks of one job, as it is printed.
+#[derive(Clone, Copy)]
+struct ShownTally<'a>(&'a Tally);
+
+impl fmt::Display for ShownTally<'_> {
+    ghost output = { λ shown. Some (tally_text shown.0.now) };
+
+    fn fmt<W: fmt::Write>(&self, f: &mut fmt::Formatter<W>) -> fmt::Result {
+        let job = ShownName(&self.0.job);
+        let counts = ShownCounts(self.0.counts);
+        write!(f, "tally {job} {counts}")
+    }
+}
+
+/// How many tasks there are and how they ended, as it is printed.
+#[derive(Clone, Copy)]
+struct ShownCounts(Counts);
+
+impl fmt::Display for ShownCounts {
+    ghost output = { λ shown. Some (counts_text shown.0) };
+
+    fn fmt<W: fmt::Write>(&self, f: &mut fmt::Formatter<W>) -> fmt::Result {
+        let total = self.0.total;
+        let success = self.0.success;
+        let failure = self.0.failure;
+        let interrupted = self.0.interrupted;
+        write!(
+            f,
+            "total {total}; success {success}; failure {failure}; interrupted {interrupted}"
+        )
+    }
+}
+
+/// A limit, as it is printed.
+#[derive(Clone, Copy)]
+struct ShownLimit(Limit);
+
+impl fmt::Display for ShownLimit {
+    ghost output = { λ shown. Some (limit_text shown.0) };
+
+    fn fmt<W: fmt::Write>(&self, f: &mut fmt::Formatter<W>) -> fmt::Result {
+        match self.0.get() {
+            Some(most) => write!(f, "{most}"),
+            None => f.write_str("none"),
+        }
+    }
+}
+
+/// Whether something was done, as it is printed.
+fn yes_or_no(done: bool) -> &'static str
+    ensures { result.now ≡ yes_or_no done }
+{
+    if done { "yes" } else { "no" }
+}
+
+/// A first error, as it is printed.
+#[derive(Clone, Copy)]
+struct ShownError<'a>(&'a Option<Text>);
+
+impl fmt::Display for ShownError<'_> {
+    ghost output = { λ shown. Some (error_text shown.0.now) };
+
+    fn fmt<W: fmt::Write>(&self, f: &mut fmt::Formatter<W>) -> fmt::Result {
+        match self.0 {
+            Some(error) => write!(f, "{}", ShownText(error)),
+            None => f.write_str("none"),
+        }
+    }
+}
+
 /// How a scope is, as it is printed.
 #[derive(Clone, Copy)]
 struct ShownLook<'a>(&'a Look);
@@ -154,6 +279,21 @@ impl fmt::Display for ShownText<'_> {
     fn fmt<W: fmt::Write>(&self, f: &mut fmt::Formatter<W>) -> fmt::Result {
         match str::from_utf8(self.0.as_bytes()) {
             Ok(text) => f.write_str(text),
+            Err(_) => unreachable!(),
+        }
+    }
+}
+
+/// A name, as it is printed.
+#[derive(Clone, Copy)]
+struct ShownName<'a>(&'a Name);
+
+impl fmt::Display for ShownName<'_> {
+    ghost output = { λ shown. Some shown.0.now };
+
+    fn fmt<W: fmt::Write>(&self, f: &mut fmt::Formatter<W>) -> fmt::Result {
+        match str::from_utf8(self.0.as_bytes()) {
+            Ok(name) => f.write_str(name),
             Err(_) => unreachable!(),
         }
     }

@@ -6,7 +6,7 @@ ghost use Rattle.std.specs.Option.{option_map};
 ghost use Rattle.std.specs.Prelude.{◌≡◌, []};
 ghost use Rattle.console_lines.specs.Asked.{wish_of, alone, deadline_wish, deadline_at};
 ghost use Rattle.console_lines.specs.Asked.{timeout_wish, value_wish, wished, judged};
-ghost use Rattle.console_lines.specs.Asked.{names_in_wish, texts_in_wish};
+ghost use Rattle.console_lines.specs.Checked.{names_in_wish, texts_in_wish};
 ghost use Rattle.console_lines.specs.Words.{words_in, lent};
 
 use crate::causes::read_cause;

@@ -1,16 +1,15 @@
 //! Nights that come to their end: what a person types, and what is printed.
 
-use log_book::LogBook;
-use run_console::{line, run};
+use run_console::{Session, line, run};
 use run_model::{Layout, Reason};
 use std::alloc::Global;
 use std::test::Fail;
 
-/// What is printed for an input over a new book.
+/// What is printed for an input over a new session.
 pub(crate) fn printed(alloc: Global, mut input: &[u8]) -> Result<Vec<u8>, Fail> {
-    let mut book = LogBook::new(alloc, Layout::Small)?;
+    let mut session = Session::new(alloc, Layout::Small)?;
     let mut output = Vec::new(alloc);
-    run(alloc, &mut input, &mut output, &mut book)?;
+    run(alloc, &mut input, &mut output, &mut session)?;
     Ok(output)
 }
 
@@ -106,13 +105,18 @@ fn a_line_is_any_bytes_but_the_line_feed(rt: HostRuntime) -> Result<(), Fail> {
         (b"\x80", b"bad line\n"),
         (b"scope root", b"live; deadline none\n"),
     ] {
-        let mut book = LogBook::new(rt.alloc(), Layout::Small)?;
+        let mut session = Session::new(rt.alloc(), Layout::Small)?;
         let mut output = Vec::new(rt.alloc());
-        line(rt.alloc(), b"derive a root cause", &mut output, &mut book)?;
+        line(
+            rt.alloc(),
+            b"derive a root cause",
+            &mut output,
+            &mut session,
+        )?;
         output.clear();
-        line(rt.alloc(), typed, &mut output, &mut book)?;
+        line(rt.alloc(), typed, &mut output, &mut session)?;
         assert_eq!(rt; output.as_slice(), wanted);
-        assert_eq!(rt; book.count(), 2, "the line changed nothing");
+        assert_eq!(rt; session.count(), 2, "the line changed nothing");
     }
     Ok(())
 }
@@ -185,9 +189,9 @@ const RECORDS: &[u8] =
     b"\x01\x00\x05\x01a\x00\x00\x02\x01\x00\x05\x01b\x00\x01\x01\x02\x00\x07\x00\x01\x04disk";
 
 #[test]
-fn lines_change_the_book(rt: HostRuntime) -> Result<(), Fail> {
+fn lines_change_the_session(rt: HostRuntime) -> Result<(), Fail> {
     let alloc = rt.alloc();
-    let mut book = LogBook::new(alloc, Layout::Small)?;
+    let mut session = Session::new(alloc, Layout::Small)?;
     let mut output = Vec::new(alloc);
     for typed in [
         b"derive a root cause".as_slice(),
@@ -196,15 +200,15 @@ fn lines_change_the_book(rt: HostRuntime) -> Result<(), Fail> {
         b"cancel a disk",
         b"cancel a again",
     ] {
-        line(alloc, typed, &mut output, &mut book)?;
+        line(alloc, typed, &mut output, &mut session)?;
     }
     assert_eq!(rt;
         output.as_slice(),
         b"scope 1\nscope 2\nok\nrefused 12 AlreadyDone\n".as_slice()
     );
-    assert_eq!(rt; book.count(), 4);
-    assert!(rt; book.history().rest() == RECORDS);
-    let look = book.look(2).expect(&rt, "a scope");
+    assert_eq!(rt; session.count(), 4);
+    assert!(rt; session.history().rest() == RECORDS);
+    let look = session.state().look(2).expect(&rt, "a scope");
     let (reason, cause) = look.done.expect(&rt, "a scope that is done");
     assert_eq!(rt; reason, Reason::Canceled);
     assert_eq!(rt; cause.as_bytes(), b"disk".as_slice());
@@ -214,19 +218,19 @@ fn lines_change_the_book(rt: HostRuntime) -> Result<(), Fail> {
 #[test]
 fn a_run_goes_on_where_the_last_one_ended(rt: HostRuntime) -> Result<(), Fail> {
     let alloc = rt.alloc();
-    let mut book = LogBook::new(alloc, Layout::Small)?;
+    let mut session = Session::new(alloc, Layout::Small)?;
     let mut output = Vec::new(alloc);
     run(
         alloc,
         &mut b"derive a root cause".as_slice(),
         &mut output,
-        &mut book,
+        &mut session,
     )?;
     run(
         alloc,
         &mut b"derive a root cause\nscope a".as_slice(),
         &mut output,
-        &mut book,
+        &mut session,
     )?;
     assert_eq!(rt;
         output.as_slice(),

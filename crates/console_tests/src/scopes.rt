@@ -104,7 +104,18 @@ const README_NIGHT: (&str, &str) = (
      scope copy\n\
      scope mail\n\
      value mail region\n\
-     cancel copy late\n",
+     cancel copy late\n\
+     group disks report\n\
+     limit disks 1\n\
+     go disks copy a\n\
+     go disks copy b\n\
+     start\n\
+     finish 0 error no room\n\
+     scope disks\n\
+     start\n\
+     finish 1 ok\n\
+     wait disks\n\
+     tally\n",
     "scope 1\n\
      scope 2\n\
      scope 3\n\
@@ -117,7 +128,18 @@ const README_NIGHT: (&str, &str) = (
      live; deadline none\n\
      value eu\n\
      refused 11 CauseNotTaken\n\
-     acked 8\n",
+     group 0 scope 6\n\
+     ok\n\
+     task 0 ready\n\
+     task 1 held\n\
+     start 0 copy a\n\
+     ok\n\
+     done; deadline none; err context canceled; cause no room\n\
+     start 1 copy b\n\
+     ok\n\
+     wait error no room\n\
+     tally copy total 2; success 1; failure 1; interrupted 0\n\
+     acked 17\n",
 );
 
 /// A bad form first, then names, texts, moments out of range, and what the state refuses.

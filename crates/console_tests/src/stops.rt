@@ -1,10 +1,9 @@
-//! Runs that stop: the fault, what was written, and what the book is then.
+//! Runs that stop: the fault, what was written, and what the session is then.
 
 use crate::readers::{FailingReader, HoardingReader, RepeatingReader, WatchingReader};
 use crate::writers::{CountingWriter, End, EndingWriter};
 use linked_list_allocator::LocalHeap;
-use log_book::LogBook;
-use run_console::{RunFault, line, run};
+use run_console::{RunFault, Session, line, run};
 use run_model::Layout;
 use std::alloc::{AllocError, Global};
 use std::cell::Cell;
@@ -78,14 +77,14 @@ fn a_failed_read_leaves_no_whole_line_without_its_reply(rt: HostRuntime) -> Resu
     let typed = typed(alloc)?;
     for part in [1, 7, 4_096] {
         for given in 0..typed.len() {
-            let mut book = LogBook::new(alloc, Layout::Small)?;
+            let mut session = Session::new(alloc, Layout::Small)?;
             let mut input = FailingReader::new(&typed[..given], part);
             let mut output = Vec::new(alloc);
-            let ended = run(alloc, &mut input, &mut output, &mut book);
+            let ended = run(alloc, &mut input, &mut output, &mut session);
             assert_eq!(rt; ended, Err(RunFault::Input));
             let lines = lines_within(given);
             assert_eq!(rt; output.as_slice(), replies(alloc, lines)?.as_slice());
-            assert_eq!(rt; book.count(), events_after(lines));
+            assert_eq!(rt; session.count(), events_after(lines));
         }
     }
     Ok(())
@@ -94,15 +93,15 @@ fn a_failed_read_leaves_no_whole_line_without_its_reply(rt: HostRuntime) -> Resu
 #[test]
 fn a_last_line_is_not_run_after_a_failed_read(rt: HostRuntime) -> Result<(), Fail> {
     let alloc = rt.alloc();
-    let mut book = LogBook::new(alloc, Layout::Small)?;
+    let mut session = Session::new(alloc, Layout::Small)?;
     let mut input = FailingReader::new(b"derive a root cause\nderive b a cancel", 100);
     let mut output = Vec::new(alloc);
     assert_eq!(rt;
-        run(alloc, &mut input, &mut output, &mut book),
+        run(alloc, &mut input, &mut output, &mut session),
         Err(RunFault::Input)
     );
     assert_eq!(rt; output.as_slice(), b"scope 1\n".as_slice());
-    assert_eq!(rt; book.count(), 2);
+    assert_eq!(rt; session.count(), 2);
     Ok(())
 }
 
@@ -114,9 +113,9 @@ fn a_failed_write_leaves_a_front(rt: HostRuntime) -> Result<(), Fail> {
     for end in [End::Fails, End::TakesNothing] {
         for (part, whole) in [(1, printed.len()), (100, 6)] {
             for writes in 0..=whole {
-                let mut book = LogBook::new(alloc, Layout::Small)?;
+                let mut session = Session::new(alloc, Layout::Small)?;
                 let mut output = EndingWriter::new(Vec::new(alloc), part, writes, end);
-                let ended = run(alloc, &mut typed.as_slice(), &mut output, &mut book);
+                let ended = run(alloc, &mut typed.as_slice(), &mut output, &mut session);
                 if writes == whole {
                     assert_eq!(rt; ended, Ok(()));
                     assert_eq!(rt; output.written(), printed.as_slice());
@@ -138,14 +137,14 @@ fn a_failed_write_leaves_a_front(rt: HostRuntime) -> Result<(), Fail> {
 fn a_line_is_run_whose_reply_cant_be_written(rt: HostRuntime) -> Result<(), Fail> {
     let alloc = rt.alloc();
     for end in [End::Fails, End::TakesNothing] {
-        let mut book = LogBook::new(alloc, Layout::Small)?;
+        let mut session = Session::new(alloc, Layout::Small)?;
         let mut output = EndingWriter::new(Vec::new(alloc), 3, 1, end);
         assert_eq!(rt;
-            line(alloc, b"derive a root cause", &mut output, &mut book),
+            line(alloc, b"derive a root cause", &mut output, &mut session),
             Err(RunFault::Output)
         );
         assert_eq!(rt; output.written(), b"sco".as_slice());
-        assert_eq!(rt; book.count(), 2);
+        assert_eq!(rt; session.count(), 2);
     }
     Ok(())
 }
@@ -158,11 +157,11 @@ fn each_reply_can_be_refused_its_memory(rt: HostRuntime) -> Result<(), Fail> {
     // A read for each line, and one for the end, behind which the closing line is written.
     for reads in 0..=NIGHT.len() {
         let heap = LocalHeap::new(alloc, 1_000)?;
-        let mut book = LogBook::new(alloc, Layout::Small)?;
+        let mut session = Session::new(alloc, Layout::Small)?;
         let mut input = HoardingReader::new(&typed, reads, &heap, 0);
         let mut output = Vec::new(alloc);
         assert_eq!(rt;
-            run(&heap, &mut input, &mut output, &mut book),
+            run(&heap, &mut input, &mut output, &mut session),
             Err(RunFault::Memory)
         );
         assert_eq!(rt; output.as_slice(), replies(alloc, reads)?.as_slice());
@@ -177,10 +176,10 @@ fn want_of_memory_leaves_whole_replies(rt: HostRuntime) -> Result<(), Fail> {
     let printed = printed(alloc)?;
     for spared in 0..100 {
         let heap = LocalHeap::new(alloc, 1_000)?;
-        let mut book = LogBook::new(alloc, Layout::Small)?;
+        let mut session = Session::new(alloc, Layout::Small)?;
         let mut input = HoardingReader::new(&typed, 0, &heap, spared);
         let mut output = Vec::new(alloc);
-        match run(&heap, &mut input, &mut output, &mut book) {
+        match run(&heap, &mut input, &mut output, &mut session) {
             Ok(()) => assert_eq!(rt; output.as_slice(), printed.as_slice()),
             Err(fault) => {
                 assert_eq!(rt; fault, RunFault::Memory);
@@ -197,9 +196,9 @@ fn memory_is_given_back(rt: HostRuntime) -> Result<(), Fail> {
     let alloc = rt.alloc();
     let typed = typed(alloc)?;
     let heap = LocalHeap::new(alloc, 1_000)?;
-    let mut book = LogBook::new(alloc, Layout::Small)?;
+    let mut session = Session::new(alloc, Layout::Small)?;
     let mut output = Vec::new(alloc);
-    run(&heap, &mut typed.as_slice(), &mut output, &mut book)?;
+    run(&heap, &mut typed.as_slice(), &mut output, &mut session)?;
     assert_eq!(rt; output.as_slice(), printed(alloc)?.as_slice());
     assert_eq!(rt; heap.used(), 0);
     Ok(())
@@ -208,10 +207,10 @@ fn memory_is_given_back(rt: HostRuntime) -> Result<(), Fail> {
 #[test]
 fn an_input_of_16777216_bytes_is_run(rt: HostRuntime) -> Result<(), Fail> {
     let alloc = rt.alloc();
-    let mut book = LogBook::new(alloc, Layout::Small)?;
+    let mut session = Session::new(alloc, Layout::Small)?;
     let mut output = Vec::new(alloc);
     let mut input = RepeatingReader::new(b'x', 16_777_216);
-    assert_eq!(rt; run(alloc, &mut input, &mut output, &mut book), Ok(()));
+    assert_eq!(rt; run(alloc, &mut input, &mut output, &mut session), Ok(()));
     assert_eq!(rt; output.as_slice(), b"bad line\nacked 1\n".as_slice());
     Ok(())
 }
@@ -220,11 +219,11 @@ fn an_input_of_16777216_bytes_is_run(rt: HostRuntime) -> Result<(), Fail> {
 fn a_longer_input_is_too_long(rt: HostRuntime) -> Result<(), Fail> {
     let alloc = rt.alloc();
     for more in [1, 101] {
-        let mut book = LogBook::new(alloc, Layout::Small)?;
+        let mut session = Session::new(alloc, Layout::Small)?;
         let mut output = Vec::new(alloc);
         let mut input = RepeatingReader::new(b'x', 16_777_216 + more);
         assert_eq!(rt;
-            run(alloc, &mut input, &mut output, &mut book),
+            run(alloc, &mut input, &mut output, &mut session),
             Err(RunFault::InputTooLong)
         );
         assert!(rt; output.is_empty());
@@ -238,10 +237,10 @@ fn a_line_is_replied_to_before_the_next_read(rt: HostRuntime) -> Result<(), Fail
     let alloc = rt.alloc();
     let typed = typed(alloc)?;
     let written = Cell::new(0);
-    let mut book = LogBook::new(alloc, Layout::Small)?;
+    let mut session = Session::new(alloc, Layout::Small)?;
     let mut input = WatchingReader::new(&typed, &written, Vec::new(alloc));
     let mut output = CountingWriter::new(&written);
-    run(alloc, &mut input, &mut output, &mut book)?;
+    run(alloc, &mut input, &mut output, &mut session)?;
     // The last line has no LF, so the end is read before it is run.
     assert_eq!(rt; input.seen(), [0, 8, 8, 16, 19, 42, 42].as_slice());
     assert_eq!(rt; written.get(), printed(alloc)?.len());

@@ -1,7 +1,11 @@
-//! Tests of what lines ask for and what replies print, and of the moments that words write.
+//! Tests of the console's lines, of the moments in them, and of what replies print.
 #![tactic(auto)]
 
+#[cfg(test)]
+mod group_lines;
 #[cfg(test)]
 mod lines;
 #[cfg(test)]
 mod moments;
+#[cfg(test)]
+mod replies;

@@ -1,8 +1,8 @@
 //! Tests of what lines ask for and what replies print; the values stand in
 //! `docs/formats/console.md`.
 
-use console_lines::{Asked, LONGEST_INPUT, LONGEST_LINE, Reply, RunFault, read_line};
-use run_model::{Answer, Command, Look, Moment, Name, Phase, Reason, Refusal, Text, Wish};
+use console_lines::{Asked, LONGEST_INPUT, LONGEST_LINE, read_line};
+use run_model::{Command, Moment, Name, Refusal, Text, Wish};
 use std::test::Fail;
 
 fn name(bytes: &[u8]) -> Result<Name, &'static str> {
@@ -263,102 +263,4 @@ fn a_line_of_257_bytes_is_a_bad_line(rt: HostRuntime) {
     assert_eq!(rt; read_line(&line), Asked::BadLine);
     assert_eq!(rt; LONGEST_LINE, 256);
     assert_eq!(rt; LONGEST_INPUT, 16_777_216);
-}
-
-#[test]
-fn replies_print_their_texts(rt: HostRuntime) -> Result<(), Fail> {
-    let disk = text(b"disk")?;
-    for (reply, printed) in [
-        (Reply::BadLine, "bad line"),
-        (Reply::Value(text(b"eu west")?), "value eu west"),
-        (Reply::Acked(1), "acked 1"),
-        (answered(Answer::Scope(1023)), "scope 1023"),
-        (answered(Answer::Done), "ok"),
-        (answered(Answer::Group(0, Some(1))), "group 0 scope 1"),
-        (answered(Answer::Group(1, None)), "group 1"),
-        (answered(Answer::Task(2, Phase::Held)), "task 2 held"),
-        (answered(Answer::Task(0, Phase::Ready)), "task 0 ready"),
-        (answered(Answer::Waited(None)), "wait ok"),
-        (answered(Answer::Waited(Some(disk))), "wait error disk"),
-    ] {
-        assert_eq!(rt; format!(in rt.alloc(); "{reply}")?.as_str(), printed);
-    }
-    Ok(())
-}
-
-// A command was answered so.
-fn answered(answer: Answer) -> Reply {
-    Reply::Answered(answer)
-}
-
-#[test]
-fn how_a_scope_is_prints_its_end_and_its_deadline(rt: HostRuntime) -> Result<(), Fail> {
-    let moment = Moment::new(1_704_074_400).ok_or("no moment")?;
-    let exceeded = b"context deadline exceeded";
-    for (done, deadline, printed) in [
-        (None, None, "live; deadline none"),
-        (
-            Some((Reason::Canceled, text(b"disk")?)),
-            None,
-            "done; deadline none; err context canceled; cause disk",
-        ),
-        (
-            Some((Reason::DeadlineExceeded, text(exceeded)?)),
-            Some(moment),
-            "done; deadline 1704074400; err context deadline exceeded; \
-             cause context deadline exceeded",
-        ),
-    ] {
-        let reply = Reply::Scope(Look {
-            name: name(b"root")?,
-            done,
-            deadline,
-        });
-        assert_eq!(rt; format!(in rt.alloc(); "{reply}")?.as_str(), printed);
-    }
-    Ok(())
-}
-
-#[test]
-fn a_reply_is_written_with_its_line_feed(rt: HostRuntime) -> Result<(), Fail> {
-    let alloc = rt.alloc();
-    assert_eq!(rt; Reply::Acked(4).to_line(alloc)?.as_str(), "acked 4\n");
-    Ok(())
-}
-
-#[test]
-fn refusals_print_their_number_and_name(rt: HostRuntime) -> Result<(), Fail> {
-    for (refusal, printed) in [
-        (Refusal::NoSuchScope, "refused 1 NoSuchScope"),
-        (Refusal::NameTaken, "refused 4 NameTaken"),
-        (Refusal::BadName, "refused 5 BadName"),
-        (Refusal::BadText, "refused 6 BadText"),
-        (Refusal::TooManyScopes, "refused 7 TooManyScopes"),
-        (Refusal::NotCancellable, "refused 10 NotCancellable"),
-        (Refusal::CauseNotTaken, "refused 11 CauseNotTaken"),
-        (Refusal::AlreadyDone, "refused 12 AlreadyDone"),
-        (Refusal::Unfinished(2), "refused 16 Unfinished 2"),
-        (Refusal::ClockNotForward, "refused 17 ClockNotForward"),
-        (Refusal::MomentOutOfRange, "refused 18 MomentOutOfRange"),
-        (Refusal::SessionFull, "refused 21 SessionFull"),
-        (Refusal::Broken, "refused 22 Broken"),
-        (Refusal::NoValue, "refused 23 NoValue"),
-    ] {
-        let reply = Reply::Refused(refusal);
-        assert_eq!(rt; format!(in rt.alloc(); "{reply}")?.as_str(), printed);
-    }
-    Ok(())
-}
-
-#[test]
-fn faults_of_a_run_print_their_texts(rt: HostRuntime) -> Result<(), Fail> {
-    for (fault, printed) in [
-        (RunFault::Input, "input"),
-        (RunFault::Output, "output"),
-        (RunFault::InputTooLong, "input too long"),
-        (RunFault::Memory, "fault 1 Memory"),
-    ] {
-        assert_eq!(rt; format!(in rt.alloc(); "{fault}")?.as_str(), printed);
-    }
-    Ok(())
 }

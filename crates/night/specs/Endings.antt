@@ -16,8 +16,8 @@ use Rattle.night_status.specs.declared.outcomes.Outcome.TheVariants.{Done, Words
 abbrev pub IsUntouched : (r0 r1 w0 w1 : Option (List ℕ)) → Type 0
 IsUntouched r0 r1 w0 w1 = (r1 ≡ r0) × (w1 ≡ w0)
 
--- How a run over a newly opened book ends: all lines of the input were run, or a fault stopped it.
--- Where memory was wanting for the book itself, nothing was read and nothing was written.
+-- How a run over a newly opened session ends: all lines of the input were run, or a fault stopped
+-- it. Where memory was wanting for the session itself, nothing was read and nothing was written.
 abbrev pub IsDemo : Outcome → (r0 r1 w0 w1 : Option (List ℕ)) → Type 0
 IsDemo Done r0 r1 w0 w1 = (end : Session) × RunsAll (opened Small) end r0 r1 w0 w1
 IsDemo (Stopped why) r0 r1 w0 w1 =

@@ -1,6 +1,6 @@
 //! The program `night`: a durable job runner with cancellation scopes, on the command line.
 //!
-//! `night demo` runs the lines of standard input over a book in memory, and writes the reply to
+//! `night demo` runs the lines of standard input over a session in memory, and writes the reply to
 //! each on standard output. `docs/formats/console.md` says what a line asks for and what it is
 //! answered, `night --help` which words there are.
 //!
@@ -11,17 +11,18 @@
 ghost use Rattle.std.specs.Prelude.{◌≡◌, ◌⊎◌, IfErr, OnOk};
 ghost use Rattle.std.specs.Process.{exit_status};
 ghost use Rattle.run_model.specs.declared.layouts.Layout.TheVariants.{Small};
-ghost use Rattle.run_model.specs.Session.{Session, opened};
+ghost use Rattle.run_model.specs.Session as model;
+ghost use Rattle.run_model.specs.Session.{opened};
 ghost use Rattle.console_lines.specs.Progress.{RunStops, RunsAll};
 ghost use Rattle.night_status.specs.Outcomes.{status_of};
 ghost use Rattle.night.specs.Endings.{IsEnding};
 
 use console_lines::RunFault;
-use log_book::LogBook;
 use night_status::{Outcome, ShownFault};
 use night_words::{Asked, WordsFault, own_words, read_words};
 use run_console::run;
 use run_model::Layout;
+use run_session::Session;
 use std::alloc::Global;
 use std::env::Env;
 use std::io::{Read, Write};
@@ -71,22 +72,22 @@ fn asked<R: Env + AllocGlobal>(rt: &R) -> Result<Asked, WordsFault> {
     read_words(rt.alloc(), words.as_slice())
 }
 
-/// Runs the lines of the input over a book in memory, which was just opened. Where there is no
-/// memory for the book, nothing is read and nothing written.
+/// Runs the lines of the input over a session in memory, which was just opened. Where there is no
+/// memory for the session, nothing is read and nothing written.
 fn demo<R: Read, W: Write>(alloc: Global, input: &mut R, output: &mut W) -> Result<(), RunFault>
-    ensures all { OnOk result ((end : Session) × RunsAll (opened Small) end
+    ensures all { OnOk result ((end : model.Session) × RunsAll (opened Small) end
         (R.remaining input.old) (R.remaining input.new)
         (W.contents output.old) (W.contents output.new)) }
     ensures stops { IfErr result (λ fault.
         ((fault ≡ RunFault.Memory) × (input.new ≡ input.old) × (output.new ≡ output.old))
-        ⊎ ((end : Session) × RunStops fault (opened Small) end
+        ⊎ ((end : model.Session) × RunStops fault (opened Small) end
         (R.remaining input.old) (R.remaining input.new)
         (W.contents output.old) (W.contents output.new))) }
 {
-    let Ok(mut book) = LogBook::new(alloc, Layout::Small) else {
+    let Ok(mut session) = Session::new(alloc, Layout::Small) else {
         return Err(RunFault::Memory);
     };
-    run(alloc, input, output, &mut book)
+    run(alloc, input, output, &mut session)
 }
 
 /// Prints a text on standard output.

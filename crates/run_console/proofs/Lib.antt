@@ -1,6 +1,6 @@
+pub mod Counting
 pub mod Firsts
 pub mod LineSteps
 pub mod Parts
 pub mod Sizes
-pub mod Taken
 pub mod Wholes

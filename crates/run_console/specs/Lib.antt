@@ -1,2 +1,2 @@
-pub mod BookLines
-pub mod BookProgress
+pub mod SessionLines
+pub mod SessionProgress

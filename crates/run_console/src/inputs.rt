@@ -4,16 +4,15 @@
 
 ghost use Rattle.std.specs.Io.{ReadsAtMost};
 ghost use Rattle.std.specs.Io.KnownBytes.{ReadConsumes};
-ghost use Rattle.std.specs.Prelude.{◌≡◌, [], List, ℕ, OnOk, OnErr, IfErr};
-ghost use Rattle.console_lines.specs.Progress.{IsOfLine, RunStops, kept};
-ghost use Rattle.run_console.specs.BookLines.{session_of};
-ghost use Rattle.run_console.specs.BookProgress.{BookReadsAll, Lasts, ObeysSome};
-ghost use Rattle.run_console.specs.BookProgress.{PartRan, PartStopped};
+ghost use Rattle.std.specs.Prelude.{◌≡◌, [], List, ℕ, OnOk, IfErr};
+ghost use Rattle.console_lines.specs.Progress.{IsOfLine, kept};
+ghost use Rattle.run_console.specs.SessionProgress.{SessionReadsAll, Lasts, ObeysSome};
+ghost use Rattle.run_console.specs.SessionProgress.{PartRan, PartStopped};
 
 use crate::consoles::line;
 use arrayvec::ArrayVec;
 use console_lines::{LONGEST_INPUT, LONGEST_LINE, RunFault};
-use log_book::LogBook;
+use run_session::Session;
 use std::alloc::Allocator;
 use std::io::{Read, Write};
 
@@ -31,20 +30,17 @@ pub fn run_whole_lines<A: Allocator + Copy, R: Read, W: Write, B: Allocator>(
     alloc: A,
     input: &mut R,
     output: &mut W,
-    book: &mut LogBook<B>,
+    session: &mut Session<B>,
     begun: &mut OpenLine,
 ) -> Result<(), RunFault>
     requires { begun.old.items ≡ [] }
-    ensures read { OnOk result (BookReadsAll book.old book.new begun.new.items
+    ensures read { OnOk result (SessionReadsAll session.old session.new begun.new.items
         (R.remaining input.old) (R.remaining input.new)
         (W.contents output.old) (W.contents output.new)) }
-    ensures stops { IfErr result (λ fault. RunStops fault
-        (session_of book.old) (session_of book.new)
+    ensures stops { IfErr result (λ fault. ObeysSome fault session.old session.new
         (R.remaining input.old) (R.remaining input.new)
         (W.contents output.old) (W.contents output.new)) }
-    ensures obeyed { OnErr result
-        (ObeysSome book.old book.new (R.remaining input.old) (R.remaining input.new)) }
-    ensures lasts { Lasts book.old book.new }
+    ensures lasts { Lasts session.old session.new }
 {
     let mut room = [0u8; PART];
     let mut total = 0usize;
@@ -55,7 +51,7 @@ pub fn run_whole_lines<A: Allocator + Copy, R: Read, W: Write, B: Allocator>(
             return Ok(());
         }
         total += count;
-        run_part(alloc, &room[..count], output, book, begun)?;
+        run_part(alloc, &room[..count], output, session, begun)?;
     }
     Err(RunFault::InputTooLong)
 }
@@ -66,20 +62,20 @@ fn run_part<A: Allocator + Copy, W: Write, B: Allocator>(
     alloc: A,
     part: &[u8],
     output: &mut W,
-    book: &mut LogBook<B>,
+    session: &mut Session<B>,
     begun: &mut OpenLine,
 ) -> Result<(), RunFault>
     ensures ran { (before : List ℕ) → begun.old.items ≡ kept before
-        → OnOk result (PartRan before part.now book.old book.new begun.new.items
+        → OnOk result (PartRan before part.now session.old session.new begun.new.items
         (W.contents output.old) (W.contents output.new)) }
     ensures stopped { (before : List ℕ) → begun.old.items ≡ kept before
-        → IfErr result (λ fault. PartStopped fault before part.now book.old book.new
+        → IfErr result (λ fault. PartStopped fault before part.now session.old session.new
         (W.contents output.old) (W.contents output.new)) }
     ensures fault { IfErr result IsOfLine }
 {
     for byte in part {
         if *byte == b'\n' {
-            line(alloc, begun.as_slice(), output, book)?;
+            line(alloc, begun.as_slice(), output, session)?;
             begun.clear();
         } else if !begun.is_full() {
             begun.push(*byte);

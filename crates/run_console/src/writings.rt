@@ -1,4 +1,4 @@
-//! What is written: the bytes of a reply, all of them or a front.
+//! What is written: the bytes of replies, all of them or a front.
 //!
 //! A write that fails or takes nothing ends it, and what was taken before is a front.
 
@@ -30,7 +30,7 @@ pub fn write_reply<A: Allocator + Copy, W: Write>(
 }
 
 /// Writes all of these bytes.
-fn write_whole<W: Write>(output: &mut W, bytes: &[u8]) -> Result<(), RunFault>
+pub fn write_whole<W: Write>(output: &mut W, bytes: &[u8]) -> Result<(), RunFault>
     ensures whole { OnOk result
         (Appends (W.contents output.old) (W.contents output.new) bytes.now) }
     ensures cut { OnErr result

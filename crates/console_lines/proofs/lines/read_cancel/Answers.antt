@@ -1,6 +1,6 @@
 use Rattle.std.proofs.Common.{sym, ◌∙◌, ap, List, ℕ, Option}
 use Rattle.run_model.specs.declared.commands.Command.TheVariants.{Cancel}
-use Rattle.console_lines.specs.Asked.{asks_command}
+use Rattle.console_lines.specs.Checked.{asks_command}
 use Rattle.console_lines.specs.Words.{lent}
 use Rattle.console_lines.proofs.WordLemmas.{rest_is}
 use Rattle.console_lines.proofs.lines.read_cancel.Goals as goal

@@ -7,7 +7,7 @@ use Rattle.console_lines.specs.Replies.{reply_line}
 use Rattle.console_lines.specs.Script.{after_line, closing, reply}
 use Rattle.console_lines.specs.declared.replies.Reply.TheVariants as said
 use Rattle.console_lines.proofs.Written.{appends_then, end_behind_the_line, end_in_the_line}
-use Rattle.run_console.specs.BookLines.{session_of}
+use Rattle.run_console.specs.SessionLines.{plain}
 use Rattle.run_console.proofs.LineSteps.{closing_is, fault_both}
 use Rattle.run_console.proofs.consoles.finish.Goals as goal
 
@@ -15,20 +15,20 @@ pub returns-in_err-line-clause-stops : goal.returns-in_err-line-clause-stops
 returns-in_err-line-clause-stops g c =
     let p = err_from_is_err_and c.from_residual.result c.from_residual.ensures.1 in
     rw (p.1, p.2) (
-    end_in_the_line c.in_err-line.field-0.0 c.args.last.now (session_of c.args.book.now)
-    (session_of c.line.new.book) (g.W.Write.contents c.args.output.now)
+    end_in_the_line c.in_err-line.field-0.0 c.args.last.now (plain c.args.session.now)
+    (plain c.line.new.session) (g.W.Write.contents c.args.output.now)
     (g.W.Write.contents c.line.new.output)
     c.in_err-line.ensures.cut c.in_err-line.ensures.session)
 
 pub returns-clause-whole : goal.returns-clause-whole
 returns-clause-whole g c =
-    let s = session_of c.args.book.now in
+    let s = plain c.args.session.now in
     let line = c.args.last.now in
     let w0 = g.W.Write.contents c.args.output.now in
     let w1 = g.W.Write.contents c.line.new.output in
     let w2 = g.W.Write.contents c.write_reply.new.output in
     let P : List ℕ → Type 0 = λ x. Appends w1 w2 x in
-    let same = closing_is (session_of c.line.new.book) (after_line s line) c.count.result
+    let same = closing_is (plain c.line.new.session) (after_line s line) c.count.result
     c.count.ensures.count c.line.ensures.session in
     on_ok_weaker c.write_reply.result
     (λ h. appends_then w0 w1 w2 (reply s line) (closing (after_line s line))
@@ -37,8 +37,8 @@ returns-clause-whole g c =
 
 pub returns-clause-stops : goal.returns-clause-stops
 returns-clause-stops g c =
-    let s = session_of c.args.book.now in
-    let t = session_of c.line.new.book in
+    let s = plain c.args.session.now in
+    let t = plain c.line.new.session in
     let line = c.args.last.now in
     let w0 = g.W.Write.contents c.args.output.now in
     let w1 = g.W.Write.contents c.line.new.output in

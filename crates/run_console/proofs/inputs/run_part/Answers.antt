@@ -4,7 +4,7 @@ use Rattle.std.proofs.lemmas.Bool.Decides.{nat_tests}
 use Rattle.std.proofs.lemmas.List.{take_all, take_more}
 use Rattle.std.proofs.lemmas.Result.{err_from_is_err_and}
 use Rattle.std.proofs.Math.Seq.{split_at}
-use Rattle.run_console.specs.BookProgress.{PartRan, PartStopped}
+use Rattle.run_console.specs.SessionProgress.{PartRan, PartStopped}
 use Rattle.run_console.proofs.Parts.{part_begins, part_ends, part_full, part_more, part_stops}
 use Rattle.run_console.proofs.inputs.run_part.Goals as goal
 use Rattle.run_console.proofs.inputs.run_part.Goals.{then-byte-eq10+in_ok-line}
@@ -20,19 +20,19 @@ returns-in_err-line-clause-stopped g c = λ before e.
     let i = c.loop-byte.byte-index in
     let front = take i part in
     let behind = drop (suc i) part in
-    let b = c.args.book.now in
-    let d = c.line.new.book in
+    let b = c.args.session.now in
+    let d = c.line.new.session in
     let w0 = g.W.Write.contents c.args.output.now in
     let w1 = g.W.Write.contents c.loop-byte.output in
     let w2 = g.W.Write.contents c.line.new.output in
     let fault = c.in_err-line.field-0.0 in
     let stops =
     part_stops fault before front c.loop-byte.begun.items c.as_slice.result.now behind b
-    c.loop-byte.book d w0 w1 w2 (c.loop-byte.invariant before e) c.as_slice.ensures.value
+    c.loop-byte.session d w0 w1 w2 (c.loop-byte.invariant before e) c.as_slice.ensures.value
     c.in_err-line.ensures.cut
     (record {
       session = c.in_err-line.ensures.session;
-      book = c.in_err-line.ensures.obeyed;
+      logged = c.in_err-line.ensures.obeyed;
       lasts = c.in_err-line.ensures.lasts;
     }) in
     let here : part ≡ front ++ 10 ∷ behind =
@@ -52,8 +52,8 @@ loop-byte-preserved g c = λ before e.
     let i = c.loop-byte.byte-index in
     let front = take i part in
     let byte = get_or part i 0 in
-    let b = c.args.book.now in
-    let d = c.loop-byte.book in
+    let b = c.args.session.now in
+    let d = c.loop-byte.session in
     let w0 = g.W.Write.contents c.args.output.now in
     let w1 = g.W.Write.contents c.loop-byte.output in
     let begun = c.loop-byte.begun.items in
@@ -62,24 +62,24 @@ loop-byte-preserved g c = λ before e.
       | then-byte-eq10+in_ok-line w ↦
           let w2 = g.W.Write.contents w.line.new.output in
           let P : List ℕ → Type 0 = λ x.
-          PartRan before x b w.line.new.book w.clear.new.self.items w0 w2 in
+          PartRan before x b w.line.new.session w.clear.new.self.items w0 w2 in
           let ends : take (i + 1) part ≡ front ++ 10 ∷ [] =
           next ∙ ap (λ x. front ++ x ∷ []) w.if-byte-eq10.true in
-          rw (w.book-is, w.output-is, w.begun-is) (
+          rw (w.session-is, w.output-is, w.begun-is) (
           subst P (sym ends)
           (part_ends before front begun w.as_slice.result.now w.clear.new.self.items b d
-          w.line.new.book w0 w1 w2 so_far w.as_slice.ensures.value
+          w.line.new.session w0 w1 w2 so_far w.as_slice.ensures.value
           w.in_ok-line.ensures.replied
           (record {
             session = w.in_ok-line.ensures.session;
-            book = w.in_ok-line.ensures.obeyed;
+            logged = w.in_ok-line.ensures.obeyed;
             lasts = w.in_ok-line.ensures.lasts;
           })
           w.clear.ensures)
           )
       | else-byte-eq10+then-not-is_full w ↦
           let P : List ℕ → Type 0 = λ x. PartRan before x b d w.push.new.self.items w0 w1 in
-          rw (w.book-is, w.output-is, w.begun-is) (
+          rw (w.session-is, w.output-is, w.begun-is) (
           subst P (sym next)
           (part_more before front begun w.push.new.self.items byte b d w0 w1
           (other w.if-byte-eq10.false) so_far (grind (arith, nat_tests))
@@ -87,7 +87,7 @@ loop-byte-preserved g c = λ before e.
           )
       | else-byte-eq10+else-not-is_full w ↦
           let P : List ℕ → Type 0 = λ x. PartRan before x b d begun w0 w1 in
-          rw (w.book-is, w.output-is, w.begun-is) (
+          rw (w.session-is, w.output-is, w.begun-is) (
           subst P (sym next)
           (part_full before front begun byte b d w0 w1 (other w.if-byte-eq10.false) so_far
           (grind (arith, nat_tests)))
@@ -97,7 +97,7 @@ loop-byte-preserved g c = λ before e.
 pub returns-clause-ran : goal.returns-clause-ran
 returns-clause-ran g c = λ before e.
     let P : List ℕ → Type 0 = λ x.
-    PartRan before x c.args.book.now c.loop-byte.book c.loop-byte.begun.items
+    PartRan before x c.args.session.now c.loop-byte.session c.loop-byte.begun.items
     (g.W.Write.contents c.args.output.now) (g.W.Write.contents c.loop-byte.output) in
     subst P (take_all c.loop-byte.byte-index c.args.part.now c.loop-byte-test.false)
     (c.loop-byte.invariant before e)

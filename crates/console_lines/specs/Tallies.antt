@@ -1,0 +1,42 @@
+-- How many tasks each job has, and how they ended.
+use Rattle.std.specs.Prelude.{ℕ, Bool, true, false, not, ◌&&◌, List, [], ◌∷◌, map, filter, count_by}
+use Rattle.std.specs.Str.{bytes_eq}
+use Rattle.run_model.specs.declared.tasks.Stage.{Stage}
+use Rattle.run_model.specs.declared.tasks.Stage.TheVariants as stage
+use Rattle.run_model.specs.declared.tasks.Task.{Task}
+use Rattle.run_model.specs.Tasks.{is_interrupted}
+use Rattle.console_lines.specs.declared.tallies.Counts.{Counts}
+use Rattle.console_lines.specs.declared.tallies.Tally.{Tally}
+
+-- Finished without an error.
+abbrev pub is_success : Stage → Bool
+is_success stage.Success = true
+is_success _ = false
+
+-- Finished with an error.
+abbrev pub is_failure : Stage → Bool
+is_failure (stage.Failure error) = true
+is_failure _ = false
+
+-- How many of these tasks are of the job, and at such a stage.
+abbrev pub tasks_at : (Stage → Bool) → List ℕ → List Task → ℕ
+tasks_at test job tasks = count_by (λ task. bytes_eq job task.job && test task.stage) tasks
+
+-- How many of these tasks are of the job, in all and by how they ended.
+abbrev pub counts_of : List Task → List ℕ → Counts
+counts_of tasks job = record {
+  total = tasks_at (λ stage. true) job tasks;
+  success = tasks_at is_success job tasks;
+  failure = tasks_at is_failure job tasks;
+  interrupted = tasks_at is_interrupted job tasks;
+}
+
+-- The jobs of these tasks, each once, in the order of their first tasks: the first task's job comes
+-- first, and behind it those of the other tasks but this one.
+abbrev pub jobs_of : List Task → List (List ℕ)
+jobs_of [] = []
+jobs_of (task ∷ tasks) = task.job ∷ filter (λ job. not (bytes_eq task.job job)) (jobs_of tasks)
+
+-- What is counted for each job.
+abbrev pub tallies_of : List Task → List Tally
+tallies_of tasks = map (λ job. record { job = job; counts = counts_of tasks job }) (jobs_of tasks)

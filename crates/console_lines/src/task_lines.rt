@@ -1,0 +1,162 @@
+//! The lines that ask something of tasks.
+
+ghost use Rattle.std.specs.List.{list_all};
+ghost use Rattle.std.specs.Option.{option_map_or};
+ghost use Rattle.std.specs.Prelude.{◌≡◌, true, unwrap_or};
+ghost use Rattle.run_model.specs.Texts.{is_text};
+ghost use Rattle.console_lines.specs.TaskLines.{asks_alone, asks_finish, asks_number, asks_phase};
+ghost use Rattle.console_lines.specs.TaskLines.{asks_retry, failure_of, finish_line};
+ghost use Rattle.console_lines.specs.TaskLines.{outcome_of, success_of, task_line_of};
+ghost use Rattle.console_lines.specs.TaskLines.{texts_in_outcome};
+ghost use Rattle.console_lines.specs.Words.{words_in, lent};
+
+use crate::asked::Asked;
+use crate::words::{last_word, next_word};
+use run_model::{Command, Outcome, Refusal, Text};
+use written_moment::read_number;
+
+/// What a line with this first word asks of tasks; `None` for a bad line.
+pub(crate) fn read_task_line(word: &[u8], left: Option<&[u8]>) -> Option<Asked>
+    ensures { unwrap_or result Asked.BadLine
+        ≡ task_line_of word.now (words_in (lent left.entry)) }
+{
+    if word == b"start".as_slice() {
+        read_start(left)
+    } else if word == b"finish".as_slice() {
+        read_finish(left)
+    } else if word == b"retry".as_slice() {
+        read_retry(left)
+    } else if word == b"task".as_slice() {
+        read_task(left)
+    } else if word == b"tally".as_slice() {
+        read_tally(left)
+    } else {
+        None
+    }
+}
+
+/// `start`
+fn read_start(left: Option<&[u8]>) -> Option<Asked>
+    ensures { unwrap_or result Asked.BadLine
+        ≡ asks_alone Asked.Start (words_in (lent left.entry)) }
+{
+    match left {
+        Some(_) => None,
+        None => Some(Asked::Start),
+    }
+}
+
+/// `finish NUMBER ok`, `finish NUMBER error TEXT`
+fn read_finish(left: Option<&[u8]>) -> Option<Asked>
+    ensures { unwrap_or result Asked.BadLine
+        ≡ finish_line (words_in (lent left.entry)) }
+{
+    let (number, left) = next_word(left)?;
+    let number = read_number(number)?;
+    read_outcome(number, left)
+}
+
+/// `ok`, `error TEXT`
+fn read_outcome(number: u64, left: Option<&[u8]>) -> Option<Asked>
+    ensures { unwrap_or result Asked.BadLine
+        ≡ option_map_or (asks_finish number) (outcome_of (words_in (lent left.entry)))
+        Asked.BadLine }
+{
+    let (word, left) = next_word(left)?;
+    if word == b"ok".as_slice() {
+        read_success(number, left)
+    } else if word == b"error".as_slice() {
+        read_failure(number, left)
+    } else {
+        None
+    }
+}
+
+/// Nothing is left behind `ok`.
+fn read_success(number: u64, left: Option<&[u8]>) -> Option<Asked>
+    ensures { unwrap_or result Asked.BadLine
+        ≡ option_map_or (asks_finish number) (success_of (words_in (lent left.entry)))
+        Asked.BadLine }
+{
+    match left {
+        Some(_) => None,
+        None => Some(finish(number, Outcome::Success)),
+    }
+}
+
+/// `TEXT`
+fn read_failure(number: u64, left: Option<&[u8]>) -> Option<Asked>
+    ensures { unwrap_or result Asked.BadLine
+        ≡ option_map_or (asks_finish number) (failure_of (words_in (lent left.entry)))
+        Asked.BadLine }
+{
+    let error = left?;
+    Some(fail(number, error))
+}
+
+/// `retry NUMBER`
+fn read_retry(left: Option<&[u8]>) -> Option<Asked>
+    ensures { unwrap_or result Asked.BadLine
+        ≡ asks_number asks_retry (words_in (lent left.entry)) }
+{
+    let number = read_number(last_word(left)?)?;
+    Some(retry(number))
+}
+
+/// `task NUMBER`
+fn read_task(left: Option<&[u8]>) -> Option<Asked>
+    ensures { unwrap_or result Asked.BadLine
+        ≡ asks_number asks_phase (words_in (lent left.entry)) }
+{
+    let number = read_number(last_word(left)?)?;
+    Some(phase(number))
+}
+
+/// `tally`
+fn read_tally(left: Option<&[u8]>) -> Option<Asked>
+    ensures { unwrap_or result Asked.BadLine
+        ≡ asks_alone Asked.Tally (words_in (lent left.entry)) }
+{
+    match left {
+        Some(_) => None,
+        None => Some(Asked::Tally),
+    }
+}
+
+fn retry(number: u64) -> Asked
+    ensures { result ≡ asks_retry number }
+{
+    match u16::try_from(number) {
+        Ok(task) => Asked::Command(Command::Retry(task)),
+        Err(_) => Asked::Refused(Refusal::NoSuchTask),
+    }
+}
+
+fn phase(number: u64) -> Asked
+    ensures { result ≡ asks_phase number }
+{
+    match u16::try_from(number) {
+        Ok(task) => Asked::Task(task),
+        Err(_) => Asked::Refused(Refusal::NoSuchTask),
+    }
+}
+
+/// A task ends with this error, whose text is looked at before the number.
+fn fail(number: u64, error: &[u8]) -> Asked
+    ensures { result ≡ asks_finish number (Outcome.Failure error.now) }
+{
+    match Text::read(error) {
+        Some(error) => finish(number, Outcome::Failure(error)),
+        None => Asked::Refused(Refusal::BadText),
+    }
+}
+
+fn finish(number: u64, outcome: Outcome) -> Asked
+    requires { list_all is_text (texts_in_outcome outcome) ≡ true }
+    ensures { result ≡ asks_finish number outcome }
+{
+    match u16::try_from(number) {
+        Ok(task) => Asked::Finish(task, outcome),
+        Err(_) => Asked::Refused(Refusal::NoSuchTask),
+    }
+}

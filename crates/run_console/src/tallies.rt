@@ -1,0 +1,85 @@
+//! A tally: what is counted of a state's tasks, a line for each job.
+//!
+//! It is the only reply that has memory by the number of jobs: all of its lines are made before the
+//! first is written, so that want of memory cuts none.
+
+ghost use Rattle.std.specs.Io.KnownBytes.{Appends};
+ghost use Rattle.std.specs.Prelude.{◌≡◌, ◌≢◌, ◌<◌, [], length, map, IfErr, IfOk, OnErr, OnOk, Some};
+ghost use Rattle.std.specs.String.{string_bytes};
+ghost use Rattle.run_model.specs.Questions.{task_look_of};
+ghost use Rattle.console_lines.specs.Progress.{IsOfLine, WritesCut};
+ghost use Rattle.console_lines.specs.Replies.{reply_lines};
+ghost use Rattle.console_lines.specs.Tallies.{tallies_of};
+ghost use Rattle.console_lines.specs.declared.replies.Reply.TheVariants as said;
+
+use crate::writings::write_whole;
+use console_lines::RunFault;
+use run_model::TaskLook;
+use run_state::State;
+use std::alloc::{AllocError, Allocator};
+use std::io::Write;
+use task_tally::Tallies;
+
+/// Writes the tally of a state's tasks. Nothing of it is written where there is no memory for it.
+pub fn write_tally<A: Allocator + Copy, W: Write, B: Allocator>(
+    alloc: A,
+    state: &State<B>,
+    output: &mut W,
+) -> Result<(), RunFault>
+    ensures whole { OnOk result
+        (Appends (W.contents output.old) (W.contents output.new)
+        (reply_lines (map said.Tally (tallies_of state.now.work.tasks)))) }
+    ensures cut { IfErr result (λ fault. WritesCut fault
+        (W.contents output.old) (W.contents output.new)
+        (reply_lines (map said.Tally (tallies_of state.now.work.tasks)))) }
+    ensures fault { IfErr result IsOfLine }
+{
+    let Ok(lines) = tally_lines(alloc, state) else {
+        return Err(RunFault::Memory);
+    };
+    write_whole(output, lines.as_bytes())
+}
+
+/// The lines of the tally, each with its LF. It fails only for want of memory, and only where there
+/// is a line.
+#[tactic(auto, using(crate::proofs::Counting::has_line, crate::proofs::Counting::has_tally))]
+fn tally_lines<A: Allocator + Copy, B: Allocator>(
+    alloc: A,
+    state: &State<B>,
+) -> Result<String<A>, AllocError>
+    ensures lines { IfOk result (λ lines. string_bytes lines
+        ≡ reply_lines (map said.Tally (tallies_of state.now.work.tasks))) }
+    ensures some { OnErr result
+        (reply_lines (map said.Tally (tallies_of state.now.work.tasks)) ≢ []) }
+{
+    let tallies = count_tasks(alloc, state)?;
+    tallies.to_lines(alloc)
+}
+
+/// What is counted of the tasks of a state. It fails only for want of memory, and only where there
+/// is a task.
+fn count_tasks<A: Allocator + Copy, B: Allocator>(
+    alloc: A,
+    state: &State<B>,
+) -> Result<Tallies<A>, AllocError>
+    ensures counted { IfOk result (λ tallies. tallies ≡ tallies_of state.now.work.tasks) }
+    ensures some { OnErr result (0 < length state.now.work.tasks) }
+{
+    let mut tallies = Tallies::new(alloc);
+    for task in 0..state.task_count() as u16 {
+        let look = look(state, task);
+        tallies.add(&look.job, &look.phase)?;
+    }
+    Ok(tallies)
+}
+
+/// What is seen of the task of this number.
+fn look<B: Allocator>(state: &State<B>, task: u16) -> TaskLook
+    requires { task < length state.now.work.tasks }
+    ensures { task_look_of state.now task ≡ Some result }
+{
+    match state.task(task) {
+        Some(look) => look,
+        None => unreachable!(),
+    }
+}

@@ -1,0 +1,49 @@
+-- What the table of the jobs holds, and one task more in it.
+use Rattle.std.specs.Prelude.{ℕ, ◌+◌, ◌<◌, if◌then◌else◌, List, [], ◌∷◌, Option, Some, None}
+use Rattle.std.specs.Str.{bytes_eq}
+use Rattle.run_model.specs.declared.tasks.Phase.{Phase}
+use Rattle.run_model.specs.declared.tasks.Phase.TheVariants as phase
+use Rattle.console_lines.specs.declared.tallies.Counts.{Counts}
+use Rattle.console_lines.specs.declared.tallies.Tally.{Tally}
+use Rattle.task_tally.specs.declared.jobs.Job.{Job}
+
+-- A job is counted to this number at most.
+abbrev pub MOST : ℕ
+MOST = 65535
+
+-- An entry of the table is a tally.
+abbrev pub shown : Job × Counts → Tally
+shown entry = record { job = entry.0.name; counts = entry.1 }
+
+-- What is counted of a job; none where none of its tasks was counted.
+abbrev pub counted_at : List ℕ → List Tally → Option Counts
+counted_at job [] = None
+counted_at job (tally ∷ tallies) =
+    if bytes_eq job tally.job then Some tally.counts else counted_at job tallies
+
+-- ---- for private functions: no public contract cites what follows
+
+-- The counts of no task.
+abbrev pub no_tasks : Counts
+no_tasks = record { total = 0; success = 0; failure = 0; interrupted = 0 }
+
+-- The counts can be raised.
+pub record HasRoom (counts : Counts) : Type 0 where
+  pub total : counts.total < MOST
+  pub success : counts.success < MOST
+  pub failure : counts.failure < MOST
+  pub interrupted : counts.interrupted < MOST
+
+-- The counts with one task more.
+abbrev pub one_more : Phase → Counts → Counts
+one_more phase.Success c = record c { total = c.total + 1; success = c.success + 1 }
+one_more (phase.Failure error) c = record c { total = c.total + 1; failure = c.failure + 1 }
+one_more phase.Interrupted c = record c { total = c.total + 1; interrupted = c.interrupted + 1 }
+one_more _ c = record c { total = c.total + 1 }
+
+-- The tallies where this is counted of a job; a new one goes last.
+abbrev pub with_tally : List ℕ → Counts → List Tally → List Tally
+with_tally job counts [] = record { job = job; counts = counts } ∷ []
+with_tally job counts (tally ∷ tallies) =
+    if bytes_eq job tally.job then record { job = tally.job; counts = counts } ∷ tallies
+    else tally ∷ with_tally job counts tallies
