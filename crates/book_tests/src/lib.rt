@@ -1,15 +1,11 @@
-//! Tests of the console's book: whole sessions of commands, full ones, and want of memory.
+//! Tests of the durable book: each call on its way over a disk in memory, in both layouts.
 #![tactic(auto)]
 
 #[cfg(test)]
+mod books;
+#[cfg(test)]
 mod calls;
 #[cfg(test)]
-mod deadlines;
+mod disks;
 #[cfg(test)]
-mod fulls;
-#[cfg(test)]
-mod rooms;
-#[cfg(test)]
-mod sessions;
-#[cfg(test)]
-mod values;
+mod looks;

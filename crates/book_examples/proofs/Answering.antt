@@ -1,0 +1,231 @@
+-- The steps of the examples, one by one.
+use Rattle.std.proofs.Common.{◌<◌, ◌+◌, ◌≡◌, ◌≤◌, ◌++◌, ℕ, List, length, Ok, Err, inl, inr, refl}
+use Rattle.std.proofs.Common.{arith, ap, take, length-append, Result}
+use Rattle.std.specs.List.{flat_map}
+use Rattle.run_model.specs.Session.{Session, session_after}
+use Rattle.run_model.specs.declared.answers.Reply.{Reply}
+use Rattle.run_model.specs.declared.commands.Step.{Step}
+use Rattle.run_model.specs.declared.faults.Fault.TheVariants.{DiskFailed, NotAStore, WrongSize}
+use Rattle.run_model.specs.declared.faults.Trouble.TheVariants.{Faulty, Refused}
+use Rattle.run_model.specs.declared.faults.Trouble.{Trouble}
+use Rattle.run_model.specs.declared.layouts.Layout.TheVariants.{Small}
+use Rattle.record_view.specs.Spelling.{spelling}
+use Rattle.run_disk.specs.Disk.{last_moment}
+use Rattle.run_disk.specs.Runs.{Passed}
+use Rattle.run_store.specs.Recoveries.{FailedAt}
+use Rattle.scope_laws.proofs.RunLemmas.{run_counts}
+use Rattle.model_examples.specs.Calls.{acked, faulty, flush}
+use Rattle.model_examples.specs.Nights.{new_store}
+use Rattle.book_model.specs.Holdings.{Flushes, Holding, MustCheckpoint}
+use Rattle.book_model.specs.Nights.{HasKept}
+use Rattle.book_model.specs.Openings.{Recovers}
+use Rattle.book_model.specs.Steps.{AnswersStep, Steps, reply_of_save}
+use Rattle.book_examples.specs.Plays.{first_events, first_three, three_replies}
+use Rattle.book_examples.specs.Steps.{Counts, behind_three, failed, flushed, new_book, state_of}
+use Rattle.book_examples.specs.Stores.{two_events}
+
+fits : MustCheckpoint behind_three → ⊥
+fits must =
+    let size : length (flat_map spelling first_events) ≡ 26 = refl in
+    omega (arith, size, must)
+
+flush_done : Flushes state_of behind_three (Ok 4) flushed
+flush_done = record {
+  saves = record {
+    origin = refl;
+    start = refl;
+    history = refl;
+    answer = record {
+      was = refl;
+      sound = refl;
+      counted = refl;
+      durable = refl;
+      fine = refl;
+    };
+  };
+  nothing = λ few. absurd (omega (arith, few));
+  spent = λ must last. absurd (fits must);
+  next = λ must. absurd (fits must);
+  stays = λ fits. refl;
+  unspent = λ told. absurd (cc);
+}
+
+flush_failed : Flushes state_of behind_three (Err (Faulty DiskFailed)) failed
+flush_failed = record {
+  saves = record {
+    origin = refl;
+    start = refl;
+    history = refl;
+    answer = inr (inr (record {
+      told = refl;
+      was = refl;
+      broken = refl;
+      durable = refl;
+      cause = inl (omega arith);
+    }));
+  };
+  nothing = λ few. absurd (omega (arith, few));
+  spent = λ must last. absurd (fits must);
+  next = λ must. tt;
+  stays = λ fits. refl;
+  unspent = λ told. absurd (cc);
+}
+
+-- With nothing to save.
+flush_nothing : Flushes state_of flushed (Ok 4) flushed
+flush_nothing = record {
+  saves = record {
+    origin = refl;
+    start = refl;
+    history = refl;
+    answer = record {
+      was = refl;
+      sound = refl;
+      counted = refl;
+      durable = refl;
+      fine = refl;
+    };
+  };
+  nothing = λ few. refl;
+  spent = λ must last. absurd (omega (arith, must));
+  next = λ must. absurd (omega (arith, must));
+  stays = λ fits. refl;
+  unspent = λ told. absurd (cc);
+}
+
+pub flush_again : AnswersStep state_of flushed flush (acked 4) flushed
+flush_again = record { result = Ok 4; told = refl; saves = flush_nothing; layout = refl }
+
+pub flush_acked : AnswersStep state_of behind_three flush (acked 4) flushed
+flush_acked = record { result = Ok 4; told = refl; saves = flush_done; layout = refl }
+
+pub flush_faulty : AnswersStep state_of behind_three flush (faulty DiskFailed) failed
+flush_faulty = record {
+  result = Err (Faulty DiskFailed);
+  told = refl;
+  saves = flush_failed;
+  layout = refl;
+}
+
+-- No other count is told.
+no_count : (result : Result ℕ Trouble) (new : Holding Counts)
+    → acked 3 ≡ reply_of_save result → Flushes state_of behind_three result new → ⊥
+no_count (Ok n) new told flushes =
+    let same : 3 ≡ n = cc in
+    omega (arith, same, flushes.saves.answer.counted)
+no_count (Err (Refused why)) new told flushes = cc
+no_count (Err (Faulty why)) new told flushes = cc
+
+pub count_told : (new : Holding Counts)
+    → AnswersStep state_of behind_three flush (acked 3) new → ⊥
+count_told new tells = no_count tells.result new tells.told tells.saves
+
+-- No failure is told where nothing was called.
+no_failure : (result : Result ℕ Trouble) → faulty DiskFailed ≡ reply_of_save result
+    → Flushes state_of behind_three result behind_three → ⊥
+no_failure (Ok n) told flushes = cc
+no_failure (Err why) told flushes =
+    elim flushes.saves.answer [
+      | inl refused ↦ cc (refused.was)
+      | inr (inl spent) ↦ absurd (omega (arith, spent.last))
+      | inr (inr failed) ↦ cc (failed.broken)
+    ]
+
+pub failure_caused : AnswersStep state_of behind_three flush (faulty DiskFailed) behind_three → ⊥
+failure_caused tells = no_failure tells.result tells.told tells.saves
+
+-- The session and the book behind the first n commands.
+abbrev session_at : ℕ → Session
+session_at n = session_after new_store (take n first_three)
+
+abbrev book_at : ℕ → Holding Counts
+book_at n = record new_book { history = take n first_events }
+
+-- The three commands, and then these steps.
+pub three_then : (steps : List Step) (answers : List Reply) (new : Holding Counts)
+    → Steps state_of behind_three steps answers new
+    → Steps state_of new_book (first_three ++ steps) (three_replies ++ answers) new
+three_then steps answers new rest = (
+  book_at 1,
+  record {
+    session = session_at 0;
+    is_session = record { state = refl; log = refl };
+    told = refl;
+    grown = refl;
+  },
+  (
+    book_at 2,
+    record {
+      session = session_at 1;
+      is_session = record { state = refl; log = refl };
+      told = refl;
+      grown = refl;
+    },
+    (
+      behind_three,
+      record {
+        session = session_at 2;
+        is_session = record { state = refl; log = refl };
+        told = refl;
+        grown = refl;
+      },
+      rest,
+    ),
+  ),
+)
+
+-- ---- a stop
+
+-- What three events and at most two more lead to.
+pub counts_between : (bytes : List ℕ)
+    (kept : HasKept new_store.state (first_events ++ two_events) first_events bytes)
+    → (4 ≤ kept.state.count) × (kept.state.count ≤ 6)
+counts_between bytes kept =
+    let reached = run_counts new_store.state kept.state (first_events ++ kept.more) kept.reached in
+    let all = ap (λ l. length l) kept.in_order in
+    let sum = length-append kept.more kept.lost in
+    (omega (arith, reached), omega (arith, reached, all, sum))
+
+-- ---- a recovery
+
+passed : (calls failures : ℕ)
+    → Passed (state_of (record { calls = calls; failures = failures }))
+    (state_of (record { calls = calls + 1; failures = failures + 1 }))
+passed calls failures = record {
+  size = refl;
+  honest = λ is. is;
+  honest_before = λ is. is;
+  later = omega arith;
+  failures_later = omega arith;
+}
+
+pub first_read_failed : (calls failures : ℕ)
+    → Recovers state_of (record { calls = calls; failures = failures }) (Err DiskFailed)
+    (record { calls = calls + 1; failures = failures + 1 })
+first_read_failed calls failures = record {
+  sized = (Small, refl);
+  which = inl (inl (refl, refl));
+  passed = passed calls failures;
+  only = λ honest. absurd honest;
+}
+
+pub nothing_unread : (d : Counts) → Recovers state_of d (Err NotAStore) d → ⊥
+nothing_unread d none = omega (arith, none.read.made.clock)
+
+pub nothing_uncalled : (d : Counts) → d.calls < last_moment
+    → Recovers state_of d (Err DiskFailed) d → ⊥
+nothing_uncalled d early failed =
+    elim failed.which [
+      | inl (inl first) ↦ absurd (omega (arith, first.0))
+      | inl (inr first) ↦ absurd (omega (arith, early, first.1))
+      | inr (inl (inl second)) ↦ absurd (omega (arith, second.0))
+      | inr (inl (inr second)) ↦ absurd (omega (arith, early, second.1))
+      | inr (inr third) ↦ third_called d early third.failed
+    ]
+  where
+    third_called : (d : Counts) → d.calls < last_moment → FailedAt 3 (state_of d) (state_of d) → ⊥
+    third_called d early (inl third) = omega (arith, third.0)
+    third_called d early (inr third) = omega (arith, early, third.1)
+
+pub size_is_right : (d new : Counts) → Recovers state_of d (Err WrongSize) new → ⊥
+size_is_right d new wrong = cc (wrong.0)

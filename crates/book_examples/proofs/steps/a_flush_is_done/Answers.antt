@@ -1,0 +1,15 @@
+use Rattle.std.proofs.Common.{[], ◌∷◌, refl}
+use Rattle.model_examples.specs.Calls.{acked, flush}
+use Rattle.book_examples.proofs.Answering.{count_told, flush_acked, flush_again, three_then}
+use Rattle.book_examples.specs.Steps.{flushed}
+use Rattle.book_examples.proofs.steps.a_flush_is_done.Goals as goal
+
+pub returns-clause-answered : goal.returns-clause-answered
+returns-clause-answered c =
+    three_then (flush ∷ []) (acked 4 ∷ []) flushed (flushed, flush_acked, refl)
+
+pub returns-clause-again : goal.returns-clause-again
+returns-clause-again c = flush_again
+
+pub returns-clause-counted : goal.returns-clause-counted
+returns-clause-counted c = count_told

@@ -1,0 +1,76 @@
+//! Steps over a book of a new store: a flush that is done, one that fails, and a stop between two
+//! calls.
+
+ghost use Rattle.std.specs.Prelude.{◌≡◌, ◌<◌, ◌≤◌, ◌+◌, ◌++◌, [], Err, ℕ, List};
+ghost use Rattle.run_model.specs.declared.faults.Fault.TheVariants.{DiskFailed, Memory, NotAStore};
+ghost use Rattle.run_model.specs.declared.faults.Fault.TheVariants.{WrongSize};
+ghost use Rattle.run_model.specs.declared.refusals.Refusal.TheVariants.{Broken};
+ghost use Rattle.run_model.specs.Session.{accepted, acknowledged};
+ghost use Rattle.run_disk.specs.Disk.{last_moment};
+ghost use Rattle.model_examples.specs.Calls.{acked, checkpoint, faulty, flush, refused, start};
+ghost use Rattle.model_examples.specs.Nights.{new_store};
+ghost use Rattle.book_model.specs.Holdings.{Holding};
+ghost use Rattle.book_model.specs.Nights.{HasKeptSince};
+ghost use Rattle.book_model.specs.Openings.{Formats, Opens, Recovers};
+ghost use Rattle.book_model.specs.Plays.{taken};
+ghost use Rattle.book_model.specs.Steps.{AnswersStep, Steps};
+ghost use Rattle.book_model.specs.Stores.{StoresNone};
+ghost use Rattle.book_examples.specs.Plays.{first_events};
+ghost use Rattle.book_examples.specs.Steps.{Counts, behind_three, failed, failing_call};
+ghost use Rattle.book_examples.specs.Steps.{failing_replies, first_call, first_replies, flushed};
+ghost use Rattle.book_examples.specs.Steps.{new_book, second_call, second_replies};
+ghost use Rattle.book_examples.specs.Steps.{short_state_of, state_of};
+ghost use Rattle.book_examples.specs.Stores.{two_events};
+
+/// Three commands are accepted, and a flush of them is done by six calls: it tells the count 4. A
+/// flush behind it has nothing to save: it tells the same, by no call. No other count is told.
+pub fn a_flush_is_done()
+    ensures answered { Steps state_of new_book first_call first_replies flushed }
+    ensures again { AnswersStep state_of flushed flush (acked 4) flushed }
+    ensures counted { (new : Holding Counts)
+        → AnswersStep state_of behind_three flush (acked 3) new → ⊥ }
+{}
+
+/// Its first call fails: it is answered so, the book is broken, and each step behind it is refused
+/// and leaves the book as it is. It isn't answered so where nothing was called.
+pub fn a_flush_fails()
+    ensures flush { AnswersStep state_of behind_three flush (faulty DiskFailed) failed }
+    ensures behind { AnswersStep state_of failed start (refused Broken) failed }
+    ensures save { AnswersStep state_of failed checkpoint (refused Broken) failed }
+    ensures answered { Steps state_of new_book failing_call failing_replies failed }
+    ensures caused { AnswersStep state_of behind_three flush (faulty DiskFailed) behind_three → ⊥ }
+{}
+
+/// A stop between two calls, or within the second: three events were acknowledged by the first
+/// call, two more are accepted in the second, and whatever is left has four events, five or six.
+pub fn a_stop_comes_between_two_calls()
+    ensures acknowledged { acknowledged new_store first_call first_replies ≡ first_events }
+    ensures accepted { accepted new_store
+        (taken (first_call ++ second_call) (first_replies ++ second_replies))
+        ≡ first_events ++ two_events }
+    ensures kept { (bytes : List ℕ)
+        → (kept : HasKeptSince new_store first_call first_replies second_call second_replies bytes)
+        → (4 ≤ kept.state.count) × (kept.state.count ≤ 6) }
+{}
+
+/// A disk that lacks one byte of a small store's is neither recovered nor opened nor formatted,
+/// and no call is made. Nothing is stored in a disk without a byte.
+pub fn a_disk_of_another_size_is_no_store()
+    ensures recovered { (d : Counts) → Recovers short_state_of d (Err WrongSize) d }
+    ensures opened { (d : Counts) → Opens short_state_of d (Err (WrongSize, d)) }
+    ensures formatted { (d : Counts) → Formats short_state_of d (Err (WrongSize, d)) }
+    ensures none { StoresNone [] WrongSize }
+{}
+
+/// Where the size is right, memory is refused before the first call; a first read that fails is
+/// counted. Before a read nothing is told of the bytes, and no failure of a disk that isn't spent.
+pub fn a_recovery_is_told_by_its_reads()
+    ensures memory { (d : Counts) → Recovers state_of d (Err Memory) d }
+    ensures failed { (calls failures : ℕ) → Recovers state_of
+        (record { calls = calls; failures = failures }) (Err DiskFailed)
+        (record { calls = calls + 1; failures = failures + 1 }) }
+    ensures unread { (d : Counts) → Recovers state_of d (Err NotAStore) d → ⊥ }
+    ensures uncalled { (d : Counts) → d.calls < last_moment
+        → Recovers state_of d (Err DiskFailed) d → ⊥ }
+    ensures right_size { (d new : Counts) → Recovers state_of d (Err WrongSize) new → ⊥ }
+{}

@@ -1,0 +1,14 @@
+pub mod Batches
+pub mod FrontLemmas
+pub mod HoldingLemmas
+pub mod Leading
+pub mod Meaning
+pub mod NeverBroken
+pub mod NightLemmas
+pub mod OpeningLemmas
+pub mod Playing
+pub mod Sizes
+pub mod Stepping
+pub mod Storing
+pub mod Totality
+pub mod Verdicts

@@ -1,0 +1,117 @@
+-- No session answers a step as Broken: that is a fact of the book.
+use Rattle.std.proofs.Common.{◌≡◌, ℕ, Bool, true, false, ◌||◌, if◌then◌else◌, List, [], ◌∷◌}
+use Rattle.std.proofs.Common.{Option, Some, None, Result, Ok, Err, refl}
+use Rattle.std.specs.List.{list_any}
+use Rattle.std.specs.Option.{ok_or, option_and_then}
+use Rattle.run_model.specs.declared.commands.Command.{Command}
+use Rattle.run_model.specs.declared.commands.Command.TheVariants as command
+use Rattle.run_model.specs.declared.commands.Step.{Step}
+use Rattle.run_model.specs.declared.commands.Step.TheVariants as step
+use Rattle.run_model.specs.declared.answers.Reply.{Reply}
+use Rattle.run_model.specs.declared.answers.Reply.TheVariants as reply
+use Rattle.run_model.specs.declared.refusals.Refusal.{Refusal}
+use Rattle.run_model.specs.declared.refusals.Refusal.TheVariants as refusal
+use Rattle.run_model.specs.Event.{Event}
+use Rattle.run_model.specs.Event as event
+use Rattle.run_model.specs.State.{State}
+use Rattle.run_model.specs.Tasks.{first_ready}
+use Rattle.run_model.specs.Replies.{refusals, unless, if_room, is_full, is_repeated, and_then}
+use Rattle.run_model.specs.Replies.{decide, decide_start, decide_finish, finish_refusals, event_of}
+use Rattle.run_model.specs.Replies.{started_of}
+use Rattle.run_model.specs.Session.{Session, replied, reply_of_step}
+use Rattle.book_model.specs.Plays.{is_broken, is_broken_reply}
+
+-- A result is a refusal as Broken.
+abbrev broken_result : {X : Type 0} → Result X Refusal → Bool
+broken_result (Ok x) = false
+broken_result (Err why) = is_broken why
+
+or_false : (a b : Bool) → a || b ≡ false → (a ≡ false) × (b ≡ false)
+or_false true b e = absurd (cc)
+or_false false b e = (refl, e)
+
+chosen_sound : {X : Type 0} (b : Bool) (why : Refusal) (answer : Result X Refusal)
+    → is_broken why ≡ false → broken_result answer ≡ false
+    → broken_result (if b then Err why else answer) ≡ false
+chosen_sound true why answer e sound = e
+chosen_sound false why answer e sound = sound
+
+unless_sound : {X : Type 0} (tests : List (Bool × Refusal)) (answer : Result X Refusal)
+    → list_any (λ t. is_broken t.1) tests ≡ false → broken_result answer ≡ false
+    → broken_result (unless tests answer) ≡ false
+unless_sound [] answer none sound = sound
+unless_sound (t ∷ tests) answer none sound =
+    let parts = or_false (is_broken t.1) (list_any (λ t. is_broken t.1) tests) none in
+    chosen_sound t.0 t.1 (unless tests answer) parts.0 (unless_sound tests answer parts.1 sound)
+
+and_then_sound : {X Y : Type 0} (r : Result X Refusal) (f : X → Result Y Refusal)
+    → broken_result r ≡ false → ((x : X) → broken_result (f x) ≡ false)
+    → broken_result (and_then r f) ≡ false
+and_then_sound (Ok x) f r_sound f_sound = f_sound x
+and_then_sound (Err why) f r_sound f_sound = r_sound
+
+if_room_sound : (p : State) (log : ℕ) (made : Event) → broken_result (if_room p log made) ≡ false
+if_room_sound p log made = go (is_full p log made)
+  where
+    go : (b : Bool)
+        → broken_result {X = Option Event} (if b then Err refusal.SessionFull else Ok (Some made))
+        ≡ false
+    go true = refl
+    go false = refl
+
+refusals_sound : (p : State) (call : Command)
+    → list_any (λ t. is_broken t.1) (refusals p call) ≡ false
+refusals_sound p (command.Derive name parent wish) = refl
+refusals_sound p (command.Cancel scope cause) = refl
+refusals_sound p (command.Advance moment) = refl
+refusals_sound p (command.Group name parent) = refl
+refusals_sound p (command.Bare name scope) = refl
+refusals_sound p (command.SetLimit group limit) = refl
+refusals_sound p (command.Go group job argument) = refl
+refusals_sound p (command.TryGo group job argument) = refl
+refusals_sound p (command.Retry n) = refl
+refusals_sound p (command.Wait group) = refl
+
+decide_sound : (p : State) (log : ℕ) (call : Command) → broken_result (decide p log call) ≡ false
+decide_sound p log call =
+    unless_sound (refusals p call)
+    (if is_repeated p call then Ok None else if_room p log (event_of p call))
+    (refusals_sound p call) (go (is_repeated p call))
+  where
+    go : (b : Bool)
+        → broken_result (if b then Ok None else if_room p log (event_of p call)) ≡ false
+    go true = refl
+    go false = if_room_sound p log (event_of p call)
+
+ok_or_sound : {X : Type 0} (o : Option X) → broken_result (ok_or o refusal.NothingReady) ≡ false
+ok_or_sound None = refl
+ok_or_sound (Some x) = refl
+
+start_sound : (p : State) (log : ℕ) → broken_result (decide_start p log) ≡ false
+start_sound p log =
+    and_then_sound (ok_or (first_ready p.work) refusal.NothingReady)
+    (λ n. if_room p log (event.Start n)) (ok_or_sound (first_ready p.work))
+    (λ n. if_room_sound p log (event.Start n))
+
+replied_sound : {X : Type 0} (f : X → Reply) (r : Result X Refusal)
+    → ((x : X) → is_broken_reply (f x) ≡ false) → broken_result r ≡ false
+    → is_broken_reply (replied f r) ≡ false
+replied_sound f (Ok x) f_sound r_sound = f_sound x
+replied_sound f (Err why) f_sound r_sound = r_sound
+
+pub never_broken : (s : Session) (x : Step) → is_broken_reply (reply_of_step s x) ≡ false
+never_broken s (step.Command call) =
+    replied_sound reply.Answer _ (λ x. refl)
+    (and_then_sound (decide s.state s.log call) _ (decide_sound s.state s.log call) (λ made. refl))
+never_broken s step.Start =
+    replied_sound reply.Started _ (λ x. refl)
+    (and_then_sound (decide_start s.state s.log) _ (start_sound s.state s.log)
+    (λ made.
+    ok_or_sound (option_and_then (started_of s.state) (first_ready s.state.work))))
+never_broken s (step.Finish n outcome) =
+    replied_sound reply.Finished _ (λ x. refl)
+    (and_then_sound (decide_finish s.state n outcome) _
+    (unless_sound (finish_refusals s.state n) (Ok (Some (event.Finish n outcome))) refl refl)
+    (λ made. refl))
+never_broken s step.Flush = refl
+never_broken s step.Checkpoint = refl

@@ -1,0 +1,7 @@
+use Rattle.std.proofs.Common.{sym, ◌∙◌}
+use Rattle.run_store.proofs.LayoutLemmas.{one_layout}
+use Rattle.book_model.proofs.holdings.a_book_keeps_its_layout.Goals as goal
+
+pub returns : goal.returns
+returns g c old new before after on =
+    one_layout new.journal.layout old.journal.layout (sym after ∙ on.passed.size ∙ before)

@@ -1,0 +1,7 @@
+pub mod Holdings
+pub mod Meanings
+pub mod Nights
+pub mod Openings
+pub mod Plays
+pub mod Steps
+pub mod Stores

@@ -1,0 +1,81 @@
+//! What a recovery, an opening and a format answer, by what the disk's bytes store.
+
+ghost use Rattle.std.specs.Prelude.{◌≡◌, ◌⊎◌, ◌<◌, Err, ℕ, List, length, MatchResult, Result};
+ghost use Rattle.run_model.specs.declared.faults.Fault.{Fault};
+ghost use Rattle.run_model.specs.declared.faults.Fault.TheVariants.{DiskFailed, Memory};
+ghost use Rattle.run_model.specs.declared.layouts.Layout.{Layout};
+ghost use Rattle.run_model.specs.Layouts.{store_len};
+ghost use Rattle.run_model.specs.State.{State, formatted};
+ghost use Rattle.record_view.specs.Image.{image};
+ghost use Rattle.run_disk.specs.Disk.{last_moment};
+ghost use Rattle.run_disk.specs.Runs.{OnlyReads};
+ghost use Rattle.run_journal.specs.Pairs.{HasNoPairBut};
+ghost use Rattle.book_model.specs.Holdings.{Holding};
+ghost use Rattle.book_model.specs.Openings.{Formats, HasFailedCheckpoint, Opens, OpensNot};
+ghost use Rattle.book_model.specs.Openings.{Recovers};
+ghost use Rattle.book_model.specs.Stores.{HasSpentNumbers, OpensNone, Stores, StoresNone};
+ghost use Rattle.book_model.specs.Stores.{restarted};
+
+use run_disk::RunDisk;
+
+/// Memory and the device aside, a recovery of an honest disk answers what its bytes store: the
+/// state, or the one fault that tells why they store none. It writes nothing.
+pub fn a_recovery_answers_what_is_stored<D: RunDisk>()
+    ensures state { (old new : D) (result : Result State Fault) (p : State)
+        → (D.state old).honest → Recovers D.state old result new → Stores (D.state old).now p
+        → MatchResult result (λ q. q ≡ p) (λ why. (why ≡ Memory) ⊎ (why ≡ DiskFailed)) }
+    ensures none { (old new : D) (result : Result State Fault) (why : Fault)
+        → (D.state old).honest → Recovers D.state old result new
+        → StoresNone (D.state old).now why
+        → MatchResult result (λ q. ⊥)
+        (λ told. (told ≡ why) ⊎ (told ≡ Memory) ⊎ (told ≡ DiskFailed)) }
+    ensures reads { (old new : D) (result : Result State Fault) → (D.state old).honest
+        → Recovers D.state old result new → OnlyReads (D.state old) (D.state new) }
+{}
+
+/// Memory and the device aside, an opening of an honest disk answers a book behind a restart of
+/// the state that its bytes store, or the one fault that tells why they can't be opened.
+pub fn an_opening_answers_what_is_stored<D: RunDisk>()
+    ensures state { (given : D) (result : Result (Holding D) (Fault × D)) (p : State)
+        → (D.state given).honest → Opens D.state given result → Stores (D.state given).now p
+        → (HasSpentNumbers (D.state given).now → ⊥)
+        → MatchResult result (λ h. h.start ≡ restarted p)
+        (λ e. (e.0 ≡ Memory) ⊎ (e.0 ≡ DiskFailed)) }
+    ensures none { (given : D) (result : Result (Holding D) (Fault × D)) (why : Fault)
+        → (D.state given).honest → Opens D.state given result
+        → OpensNone (D.state given).now why
+        → MatchResult result (λ h. ⊥)
+        (λ e. (e.0 ≡ why) ⊎ (e.0 ≡ Memory) ⊎ (e.0 ≡ DiskFailed)) }
+{}
+
+/// An opening that answers no book has only read; or the bytes store a state that could be opened,
+/// and a call failed, or the disk is spent, not before three calls were made.
+pub fn an_opening_writes_in_its_checkpoint_alone<D: RunDisk>()
+    ensures { (given new : D) (why : Fault) → (D.state given).honest
+        → OpensNot D.state given why new → OnlyReads (D.state given) (D.state new)
+        ⊎ HasFailedCheckpoint (D.state given) (D.state new) }
+{}
+
+/// A format that was stopped over zeros leaves no state but that of the store that it makes: in
+/// bytes whose only pair, if any, has no batch and the empty image or that of root alone.
+pub fn a_stopped_format_leaves_no_other_state()
+    ensures { (layout : Layout) (x : List ℕ) (p : State) → length x ≡ store_len layout
+        → HasNoPairBut (image (formatted layout)) x → Stores x p → p ≡ formatted layout }
+{}
+
+/// That the device failed is told only where a device call failed or the disk is spent.
+pub fn a_fault_of_the_device_has_its_cause<D: RunDisk>()
+    ensures recovers { (old new : D) (result : Result State Fault)
+        → Recovers D.state old result new → result ≡ Err DiskFailed
+        → ((D.state old).failures < (D.state new).failures)
+        ⊎ ((D.state new).clock ≡ last_moment) }
+    ensures opens { (given : D) (result : Result (Holding D) (Fault × D))
+        → Opens D.state given result
+        → MatchResult result (λ h. Unit {0}) (λ e. e.0 ≡ DiskFailed
+        → ((D.state given).failures < (D.state e.1).failures)
+        ⊎ ((D.state e.1).clock ≡ last_moment)) }
+    ensures formats { (given : D) (result : Result D (Fault × D)) → Formats D.state given result
+        → MatchResult result (λ new. Unit {0}) (λ e. e.0 ≡ DiskFailed
+        → ((D.state given).failures < (D.state e.1).failures)
+        ⊎ ((D.state e.1).clock ≡ last_moment)) }
+{}

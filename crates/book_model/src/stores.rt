@@ -1,0 +1,56 @@
+//! What the bytes of a store mean.
+
+ghost use Rattle.std.specs.Prelude.{◌≡◌, ◌⊎◌, ◌<◌, ◌-◌, ◌^◌, ℕ, List, length};
+ghost use Rattle.run_model.specs.declared.faults.Fault.{Fault};
+ghost use Rattle.run_model.specs.declared.layouts.Layout.{Layout};
+ghost use Rattle.run_model.specs.Layouts.{store_len};
+ghost use Rattle.run_model.specs.Rules.{IsConsistent, HasLayout};
+ghost use Rattle.run_model.specs.State.{State};
+ghost use Rattle.scope_laws.specs.Endings.{EndingsStay};
+ghost use Rattle.scope_laws.specs.Hits.{HitsReachDown};
+ghost use Rattle.state_laws.specs.Restarts.{IsRestart};
+ghost use Rattle.book_model.specs.Stores.{HasSpentNumbers, OpensNone, Stores, StoresNone};
+ghost use Rattle.book_model.specs.Stores.{restarted};
+
+/// A store means one state; the state meets the rules, has the layout that the number of bytes
+/// tells, and each scope with a hit on its chain is done in it.
+pub fn a_store_means_one_state()
+    ensures one { (bytes : List ℕ) (p q : State) → Stores bytes p → Stores bytes q → p ≡ q }
+    ensures rules { (bytes : List ℕ) (p : State) → Stores bytes p → IsConsistent p }
+    ensures layout { (bytes : List ℕ) (p : State) (layout : Layout) → Stores bytes p
+        → length bytes ≡ store_len layout → HasLayout p layout }
+    ensures done { (bytes : List ℕ) (p : State) → Stores bytes p → HitsReachDown p.tree.scopes }
+{}
+
+/// Any bytes store a state, or have a fault that tells why they store nothing; no bytes do both,
+/// and one fault tells it: the first in the order of reading. For an opening the fault that comes
+/// last is that the numbers of the store are used up.
+pub fn a_store_means_a_state_or_has_one_fault()
+    ensures not_both { (bytes : List ℕ) (p : State) (why : Fault) → Stores bytes p
+        → StoresNone bytes why → ⊥ }
+    ensures one_fault { (bytes : List ℕ) (why other : Fault) → StoresNone bytes why
+        → StoresNone bytes other → why ≡ other }
+    ensures one_for_opening { (bytes : List ℕ) (why other : Fault) → OpensNone bytes why
+        → OpensNone bytes other → why ≡ other }
+    ensures either { (bytes : List ℕ)
+        → ((p : State) × Stores bytes p) ⊎ ((why : Fault) × StoresNone bytes why) }
+    ensures either_for_opening { (bytes : List ℕ)
+        → ((p : State) × Stores bytes p × (HasSpentNumbers bytes → ⊥))
+        ⊎ ((why : Fault) × OpensNone bytes why) }
+    ensures unspent { (bytes : List ℕ) (p : State) (stores : Stores bytes p)
+        → p.count < 2 ^ 62 → (stores.pair.generation ≡ 2 ^ 63 - 1 → ⊥)
+        → HasSpentNumbers bytes → ⊥ }
+{}
+
+/// What an opening makes of a stored state: its running tasks are interrupted, and besides nothing
+/// changes but the count and what an interruption does to its group and that group's scope. The
+/// rules hold again, each scope with a hit on its chain is done again, and what ended before has
+/// ended as it did.
+pub fn an_opening_interrupts_what_was_running()
+    ensures restart { (bytes : List ℕ) (p : State) → Stores bytes p → IsRestart p (restarted p) }
+    ensures rules { (bytes : List ℕ) (p : State) → Stores bytes p → IsConsistent (restarted p) }
+    ensures done { (bytes : List ℕ) (p : State) → Stores bytes p
+        → HitsReachDown (restarted p).tree.scopes }
+    ensures endings { (bytes : List ℕ) (p : State) → Stores bytes p
+        → EndingsStay p.tree.scopes (restarted p).tree.scopes }
+{}

@@ -1,0 +1,11 @@
+pub mod Answering
+pub mod Beginning
+pub mod Carrying
+pub mod Filling
+pub mod Outcomes
+pub mod Playing
+pub mod Recovering
+pub mod Reopening
+pub mod Restoring
+pub mod Rooting
+pub mod Saving

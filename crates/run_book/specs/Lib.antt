@@ -1,0 +1,5 @@
+pub mod Begun
+pub mod Checkpoints
+pub mod Kept
+pub mod Opened
+pub mod Views
