@@ -3,11 +3,18 @@
 #![tactic(auto)]
 
 #[cfg(test)]
+mod examples;
+#[cfg(test)]
 mod images;
 #[cfg(test)]
 mod plain;
-pub mod runners;
+#[cfg(test)]
+mod runners;
 #[cfg(test)]
 mod shapes;
 #[cfg(test)]
+mod steps;
+#[cfg(test)]
 mod tests;
+#[cfg(test)]
+mod values;

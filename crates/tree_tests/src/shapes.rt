@@ -5,13 +5,14 @@ ghost use Rattle.std.specs.Prelude.{◌<◌};
 
 use crate::plain::Plain;
 use crate::runners::Runner;
-use run_model::{Kind, Layout, Moment, Name, Text};
+use crate::values::{moment, name, numbered, text};
+use run_model::{Kind, Layout, Text};
 use std::alloc::Global;
 use std::process::Abort;
 use std::test::Fail;
 
 /// How a tree is grown.
-#[derive(Clone, Copy)]
+#[derive(Clone, Copy, Debug)]
 enum Shape {
     /// Each scope under the one before it.
     Chain,
@@ -58,28 +59,8 @@ impl Dice {
     /// One of a hundred texts.
     fn text(&mut self) -> Result<Text, &'static str> {
         let n = self.roll(100) as u8;
-        Text::read(&[b't', b'0' + n / 10, b'0' + n % 10]).ok_or("no text")
+        text(&[b't', b'0' + n / 10, b'0' + n % 10])
     }
-}
-
-fn name(bytes: &[u8]) -> Result<Name, &'static str> {
-    Name::read(bytes).ok_or("no name")
-}
-
-fn moment(seconds: u64) -> Result<Moment, &'static str> {
-    Moment::new(seconds).ok_or("no moment")
-}
-
-/// Scope `n`'s name: `s` and four digits.
-fn numbered(n: u16) -> Result<Name, &'static str> {
-    let digit = |d: u16| b'0' + (d % 10) as u8;
-    name(&[
-        b's',
-        digit(n / 1_000),
-        digit(n / 100),
-        digit(n / 10),
-        digit(n),
-    ])
 }
 
 /// A tree beside the plain program, each after the same events.
@@ -148,21 +129,19 @@ impl Pair {
     }
 
     /// Asserts that both answer alike at each scope.
-    fn assert_alike(&self, rt: &impl Abort) {
+    fn assert_alike(&self, rt: &impl Abort, shape: Shape) {
         let tree = self.runner.tree();
         for s in 0..tree.len() {
             let found = self.plain.find(s, b"k");
             let s = s as u16;
             let ending = found.ending.as_ref();
-            assert_eq!(rt; tree.err(s), ending.map(|e| e.0), "scope {s}");
-            assert_eq!(rt; tree.cause(s), ending.map(|e| e.1.as_bytes()), "scope {s}");
-            assert_eq!(rt;
-                tree.deadline(s).map(|m| m.get()),
-                found.deadline,
-                "scope {s}"
-            );
+            assert!(rt; tree.err(s) == ending.map(|e| e.0), "{shape:?}: scope {s}");
+            let cause = ending.map(|e| e.1.as_bytes());
+            assert!(rt; tree.cause(s) == cause, "{shape:?}: scope {s}");
+            let deadline = tree.deadline(s).map(|m| m.get());
+            assert!(rt; deadline == found.deadline, "{shape:?}: scope {s}");
             let value = found.value.as_ref().map(|text| text.as_bytes());
-            assert_eq!(rt; tree.value(s, b"k"), value, "scope {s}");
+            assert!(rt; tree.value(s, b"k") == value, "{shape:?}: scope {s}");
         }
     }
 }
@@ -183,26 +162,19 @@ fn compare(rt: &impl Abort, alloc: Global, shape: Shape) -> Result<(), Fail> {
         let kind = dice.kind()?;
         pair.derive(n, parent, &kind)?;
     }
-    pair.assert_alike(rt);
+    pair.assert_alike(rt, shape);
     for _ in 0..200 {
         pair.event(&mut dice)?;
-        pair.assert_alike(rt);
+        pair.assert_alike(rt, shape);
     }
-    assert_eq!(rt; pair.runner.tree().len(), 1_024);
+    assert!(rt; pair.runner.tree().len() == 1_024, "{shape:?}");
     Ok(())
 }
 
 #[test]
-fn chain_of_1024_scopes(rt: HostRuntime) -> Result<(), Fail> {
-    compare(&rt, rt.alloc(), Shape::Chain)
-}
-
-#[test]
-fn star_of_1024_scopes(rt: HostRuntime) -> Result<(), Fail> {
-    compare(&rt, rt.alloc(), Shape::Star)
-}
-
-#[test]
-fn random_tree_of_1024_scopes(rt: HostRuntime) -> Result<(), Fail> {
-    compare(&rt, rt.alloc(), Shape::Random)
+fn trees_of_1024_scopes(rt: HostRuntime) -> Result<(), Fail> {
+    for shape in [Shape::Chain, Shape::Star, Shape::Random] {
+        compare(&rt, rt.alloc(), shape)?;
+    }
+    Ok(())
 }
