@@ -6,7 +6,8 @@
 mod fields;
 #[cfg(test)]
 mod greatest;
-pub mod plain;
+#[cfg(test)]
+mod plain;
 #[cfg(test)]
 mod rules;
 #[cfg(test)]
