@@ -5,6 +5,7 @@ use crate::steps::Answer::{Canceled, Exceeded, Live, Value};
 use crate::steps::Step::{Advance, Cancel, Derive, HitGroups};
 use crate::steps::{Answer, Ask, Step, assert_answers, take, take_all};
 use run_model::{Layout, Refusal};
+use std::process::Abort;
 use std::test::Fail;
 
 /// What is shown, steps, steps that are refused behind them, and the answers in the end.
@@ -142,16 +143,23 @@ const EXAMPLES: [Example; 10] = [
     ),
 ];
 
+/// Asserts what an example shows, on a new tree.
+fn assert_example(rt: &impl Abort, runner: &mut Runner, example: &Example) -> Result<(), Fail> {
+    let (what, steps, refused, answers) = *example;
+    take_all(rt, runner, steps, what)?;
+    for (step, refusal) in refused {
+        let told = take(rt, runner, *step)?;
+        assert!(rt; told == Some(*refusal), "{what}");
+    }
+    assert_answers(rt, runner.tree(), answers, what);
+    Ok(())
+}
+
 #[test]
 fn worked_examples(rt: HostRuntime) -> Result<(), Fail> {
-    for (what, steps, refused, answers) in EXAMPLES {
+    for example in EXAMPLES.iter() {
         let mut runner = Runner::new(rt.alloc(), Layout::Small)?;
-        take_all(&rt, &mut runner, steps, what)?;
-        for (step, refusal) in refused {
-            let told = take(&rt, &mut runner, *step)?;
-            assert!(rt; told == Some(*refusal), "{what}");
-        }
-        assert_answers(&rt, runner.tree(), answers, what);
+        assert_example(&rt, &mut runner, example)?;
     }
     Ok(())
 }

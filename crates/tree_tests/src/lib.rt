@@ -9,6 +9,8 @@ mod images;
 #[cfg(test)]
 mod plain;
 #[cfg(test)]
+mod restored;
+#[cfg(test)]
 mod runners;
 #[cfg(test)]
 mod shapes;

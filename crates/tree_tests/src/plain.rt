@@ -29,6 +29,12 @@ impl Plain {
         Ok(Plain { clock, scopes })
     }
 
+    /// This row more, whatever hit it has.
+    pub fn push(&mut self, row: Scope) -> Result<(), AllocError> {
+        self.scopes.push(row)?;
+        Ok(())
+    }
+
     /// What the clock shows.
     pub fn clock(&self) -> u64 {
         self.clock.get()

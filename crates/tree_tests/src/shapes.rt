@@ -12,8 +12,8 @@ use std::process::Abort;
 use std::test::Fail;
 
 /// How a tree is grown.
-#[derive(Clone, Copy, Debug)]
-enum Shape {
+#[derive(Clone, Copy)]
+pub enum Shape {
     /// Each scope under the one before it.
     Chain,
     /// Each scope under root.
@@ -22,15 +22,26 @@ enum Shape {
     Random,
 }
 
+impl Shape {
+    /// The parent of scope `n`, which is not root.
+    pub fn parent(self, n: u16, dice: &mut Dice) -> u16 {
+        match self {
+            Shape::Chain => n.saturating_sub(1),
+            Shape::Star => 0,
+            Shape::Random => dice.roll(n.max(1) as u64) as u16,
+        }
+    }
+}
+
 /// Numbers that look like chance, and are the same each time.
 #[derive(Drop)]
-struct Dice {
-    state: u64,
+pub struct Dice {
+    pub state: u64,
 }
 
 impl Dice {
     /// A number below this one.
-    fn roll(&mut self, sides: u64) -> u64
+    pub fn roll(&mut self, sides: u64) -> u64
         requires { 0 < sides }
         ensures { result < sides }
     {
@@ -42,7 +53,7 @@ impl Dice {
     }
 
     /// A kind, with a deadline soon after clock 0.
-    fn kind(&mut self) -> Result<Kind, &'static str> {
+    pub fn kind(&mut self) -> Result<Kind, &'static str> {
         let kind = match self.roll(64) {
             0 => Kind::Detached,
             1..=5 => Kind::Deadline(moment(1 + self.roll(300))?, None),
@@ -57,7 +68,7 @@ impl Dice {
     }
 
     /// One of a hundred texts.
-    fn text(&mut self) -> Result<Text, &'static str> {
+    pub fn text(&mut self) -> Result<Text, &'static str> {
         let n = self.roll(100) as u8;
         text(&[b't', b'0' + n / 10, b'0' + n % 10])
     }
@@ -65,12 +76,29 @@ impl Dice {
 
 /// A tree beside the plain program, each after the same events.
 #[derive(Drop)]
-struct Pair {
-    runner: Runner,
-    plain: Plain,
+pub struct Pair {
+    pub runner: Runner,
+    pub plain: Plain,
 }
 
 impl Pair {
+    /// Root alone in both, at clock 0.
+    fn new(alloc: Global) -> Result<Pair, Fail> {
+        let runner = Runner::new(alloc, Layout::Small)?;
+        let plain = Plain::new(alloc, name(b"root")?, moment(0)?)?;
+        Ok(Pair { runner, plain })
+    }
+
+    /// Derives the scopes from `first` to 1,023 in both.
+    pub fn grow(&mut self, first: u16, shape: Shape, dice: &mut Dice) -> Result<(), Fail> {
+        for n in first..1_024 {
+            let parent = shape.parent(n, dice);
+            let kind = dice.kind()?;
+            self.derive(n, parent, &kind)?;
+        }
+        Ok(())
+    }
+
     /// Derives a scope in both.
     fn derive(&mut self, n: u16, parent: u16, kind: &Kind) -> Result<(), Fail> {
         let called = numbered(n)?;
@@ -129,52 +157,50 @@ impl Pair {
     }
 
     /// Asserts that both answer alike at each scope.
-    fn assert_alike(&self, rt: &impl Abort, shape: Shape) {
+    pub fn assert_alike(&self, rt: &impl Abort, what: &str) {
         let tree = self.runner.tree();
         for s in 0..tree.len() {
             let found = self.plain.find(s, b"k");
             let s = s as u16;
             let ending = found.ending.as_ref();
-            assert!(rt; tree.err(s) == ending.map(|e| e.0), "{shape:?}: scope {s}");
+            assert!(rt; tree.err(s) == ending.map(|e| e.0), "{what}: scope {s}");
             let cause = ending.map(|e| e.1.as_bytes());
-            assert!(rt; tree.cause(s) == cause, "{shape:?}: scope {s}");
+            assert!(rt; tree.cause(s) == cause, "{what}: scope {s}");
             let deadline = tree.deadline(s).map(|m| m.get());
-            assert!(rt; deadline == found.deadline, "{shape:?}: scope {s}");
+            assert!(rt; deadline == found.deadline, "{what}: scope {s}");
             let value = found.value.as_ref().map(|text| text.as_bytes());
-            assert!(rt; tree.value(s, b"k") == value, "{shape:?}: scope {s}");
+            assert!(rt; tree.value(s, b"k") == value, "{what}: scope {s}");
         }
+    }
+    /// Asserts that both answer alike after each of so many events.
+    pub fn assert_events(
+        &mut self,
+        rt: &impl Abort,
+        many: u64,
+        dice: &mut Dice,
+        what: &str,
+    ) -> Result<(), Fail> {
+        self.assert_alike(rt, what);
+        for _ in 0..many {
+            self.event(dice)?;
+            self.assert_alike(rt, what);
+        }
+        assert!(rt; self.runner.tree().len() == 1_024, "{what}");
+        Ok(())
     }
 }
 
 /// Grows a tree of 1,024 scopes, and compares after each of 200 events.
-fn compare(rt: &impl Abort, alloc: Global, shape: Shape) -> Result<(), Fail> {
+fn compare(rt: &impl Abort, alloc: Global, shape: Shape, what: &str) -> Result<(), Fail> {
     let mut dice = Dice { state: 2_026 };
-    let mut pair = Pair {
-        runner: Runner::new(alloc, Layout::Small)?,
-        plain: Plain::new(alloc, name(b"root")?, moment(0)?)?,
-    };
-    for n in 1..1_024 {
-        let parent = match shape {
-            Shape::Chain => n - 1,
-            Shape::Star => 0,
-            Shape::Random => dice.roll(n as u64) as u16,
-        };
-        let kind = dice.kind()?;
-        pair.derive(n, parent, &kind)?;
-    }
-    pair.assert_alike(rt, shape);
-    for _ in 0..200 {
-        pair.event(&mut dice)?;
-        pair.assert_alike(rt, shape);
-    }
-    assert!(rt; pair.runner.tree().len() == 1_024, "{shape:?}");
-    Ok(())
+    let mut pair = Pair::new(alloc)?;
+    pair.grow(1, shape, &mut dice)?;
+    pair.assert_events(rt, 200, &mut dice, what)
 }
 
 #[test]
 fn trees_of_1024_scopes(rt: HostRuntime) -> Result<(), Fail> {
-    for shape in [Shape::Chain, Shape::Star, Shape::Random] {
-        compare(&rt, rt.alloc(), shape)?;
-    }
-    Ok(())
+    compare(&rt, rt.alloc(), Shape::Chain, "chain")?;
+    compare(&rt, rt.alloc(), Shape::Star, "star")?;
+    compare(&rt, rt.alloc(), Shape::Random, "random")
 }
