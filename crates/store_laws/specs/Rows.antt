@@ -7,6 +7,12 @@ use Rattle.run_store.specs.Stores.{HasPair, IsStored, sizes_of}
 use Rattle.run_journal.specs.Journals.{JournalView, room_at}
 use Rattle.run_journal.specs.Pairs.{HasNoPairBut}
 
+-- The contents have some pair.
+pub record HasSomePair (contents : List ℕ) : Type 0 where
+  pub image : List ℕ
+  pub batches : List (List ℕ)
+  pub pair : HasPair image batches contents
+
 -- A pair, or it with one batch more, or with two.
 abbrev pub HasUpToTwoMore :
     List ℕ → List (List ℕ) → List ℕ → List ℕ → List ℕ → Type 0
