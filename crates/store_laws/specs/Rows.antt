@@ -1,6 +1,8 @@
 -- What a store has while it is written: its pairs, one after another.
 use Rattle.std.specs.Prelude.{◌≡◌, ◌<◌, ◌⊎◌, ◌++◌, ◌∷◌, [], List, ℕ, Result, Ok, Err}
+use Rattle.std.specs.Prelude.{MatchResult}
 use Rattle.run_model.specs.declared.faults.Fault.{Fault}
+use Rattle.run_model.specs.declared.faults.Fault.TheVariants.{DiskFailed}
 use Rattle.run_model.specs.declared.layouts.Layout.{Layout}
 use Rattle.run_disk.specs.Disk.{DiskState, last_moment}
 use Rattle.run_store.specs.Stores.{HasPair, IsStored, sizes_of}
@@ -47,6 +49,13 @@ pub record IsFull (image : List ℕ) (batches : List (List ℕ)) (n : ℕ) (cont
 -- A device call failed between two moments, or the disk is spent.
 abbrev pub HasFailure : DiskState → DiskState → Type 0
 HasFailure old new = (old.failures < new.failures) ⊎ (new.clock ≡ last_moment)
+
+-- Where any answer but DiskFailed is given, no device call failed between two moments.
+abbrev pub TellsFailures : {T D : Type 0} → DiskState → DiskState → Result T (Fault × D) → Type 0
+TellsFailures old new result =
+    MatchResult result
+    (λ _. new.failures ≡ old.failures)
+    (λ stopped. (stopped.0 ≡ DiskFailed) ⊎ (new.failures ≡ old.failures))
 
 -- The disk that an answer gives back, in a journal or alone.
 abbrev pub disk_in : {D : Type 0} → Result (JournalView D) (Fault × D) → D
