@@ -2,7 +2,8 @@
 use Rattle.std.specs.Prelude.{◌≡◌, ◌<◌, ◌⊎◌, ◌++◌, ◌∷◌, [], List, ℕ, Result, Ok, Err}
 use Rattle.std.specs.Prelude.{MatchResult}
 use Rattle.run_model.specs.declared.faults.Fault.{Fault}
-use Rattle.run_model.specs.declared.faults.Fault.TheVariants.{DiskFailed}
+use Rattle.run_model.specs.declared.faults.Fault.TheVariants.{BadBatch, DiskFailed}
+use Rattle.run_model.specs.declared.faults.Fault.TheVariants.{Memory, NumbersSpent}
 use Rattle.run_model.specs.declared.layouts.Layout.{Layout}
 use Rattle.run_disk.specs.Disk.{DiskState, last_moment}
 use Rattle.run_store.specs.Stores.{HasPair, IsStored, sizes_of}
@@ -56,6 +57,11 @@ TellsFailures old new result =
     MatchResult result
     (λ _. new.failures ≡ old.failures)
     (λ stopped. (stopped.0 ≡ DiskFailed) ⊎ (new.failures ≡ old.failures))
+
+-- Over a disk that was formatted this row stops for want of memory, because a device call failed,
+-- because no generation is left, or because a batch doesn't fit.
+abbrev pub StopsNew : Fault → Type 0
+StopsNew why = (why ≡ Memory) ⊎ (why ≡ DiskFailed) ⊎ (why ≡ NumbersSpent) ⊎ (why ≡ BadBatch)
 
 -- The disk that an answer gives back, in a journal or alone.
 abbrev pub disk_in : {D : Type 0} → Result (JournalView D) (Fault × D) → D
