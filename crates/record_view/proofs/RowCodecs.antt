@@ -265,7 +265,6 @@ any_version _ = true
 version_known :
     (b : ℕ) (bytes : List ℕ) (x : ImageVersion × List ℕ) → version_by b bytes ≡ Some x →
     Takes version_bytes any_version (b ∷ bytes) x
-unfolding version_by
 version_known b bytes x e =
     let bare = λ (k : ℕ) (made : ImageVersion).
     bare_value version_bytes any_version b k made bytes x in
@@ -276,7 +275,7 @@ version_known b bytes x e =
 version_again :
     (made : ImageVersion) (rest : List ℕ) → IsTrue (any_version made) →
     version_at (version_bytes made ++ rest) ≡ Some (made, rest)
-unfolding version_at version_by
+unfolding version_at
 version_again One rest ok = refl
 version_again Two rest ok = refl
 

@@ -85,7 +85,7 @@ reason_at bytes = do
   reason_by b.0 b.1
 
 -- The kind of a row that this byte stands for.
-unfoldable pub row_kind_by : ℕ → Reader Kind
+abbrev pub row_kind_by : ℕ → Reader Kind
 row_kind_by b bytes = if b == 6 then Some (kind.Group, bytes) else kind_by b bytes
 
 -- The kind of a row.
@@ -185,7 +185,7 @@ task_at version =
 -- ---- the head
 
 -- The version that this byte stands for.
-unfoldable pub version_by : ℕ → Reader ImageVersion
+abbrev pub version_by : ℕ → Reader ImageVersion
 version_by b bytes =
     if b == 1 then Some (One, bytes) else (if b == 2 then Some (Two, bytes) else None)
 

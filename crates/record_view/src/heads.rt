@@ -91,7 +91,7 @@ fn read_head_fields(bytes: &[u8], layout: Layout) -> Option<(ImageHead, &[u8])>
 }
 
 /// The version, and the bytes behind it.
-#[tactic(auto, unfolding(crate::specs::RowReading::version_at, crate::specs::RowReading::version_by))]
+#[tactic(auto, unfolding(crate::specs::RowReading::version_at))]
 fn read_version(bytes: &[u8]) -> Option<(ImageVersion, &[u8])>
     ensures { option_map (λ x. (x.0, x.1.now)) result ≡ version_at bytes.now }
 {

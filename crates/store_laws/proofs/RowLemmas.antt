@@ -12,7 +12,7 @@ use Rattle.run_disk.specs.Disk.{DiskState}
 use Rattle.run_disk.specs.Runs.{LeavesOnly}
 use Rattle.run_disk.proofs.RunLemmas.{leaves_only_more, only_weaker}
 use Rattle.run_journal.specs.Pairs.{AreZeros, HasEither}
-use Rattle.store_laws.specs.Rows.{HasOneInRow, HasUpToTwoMore}
+use Rattle.store_laws.specs.Rows.{HasOneInRow, HasUpToTwoMore, StopsNew}
 
 -- two flushes
 flushes : (image : List ℕ) (batches : List (List ℕ)) (a b : List ℕ) (s0 s1 s2 : DiskState)
@@ -81,3 +81,21 @@ pub told_more : {T D : Type 0} (r : Result T (Fault × D)) (Full : Type 0)
 told_more r Full told =
     IfErr-weaker r (λ stopped. (stopped.0 ≡ Memory) ⊎ (stopped.0 ≡ DiskFailed)) _
     (λ stopped why. elim why [ inl memory ↦ inl memory | inr failed ↦ inr (inl failed) ]) told
+
+-- and what that tells is among what it tells over a new store
+pub told_new : {T D : Type 0} (r : Result T (Fault × D)) (Full : Type 0)
+    → IfErr r (λ stopped. (stopped.0 ≡ Memory) ⊎ (stopped.0 ≡ DiskFailed)
+    ⊎ (stopped.0 ≡ NumbersSpent) ⊎ ((stopped.0 ≡ BadBatch) × Full))
+    → IfErr r (λ stopped. StopsNew stopped.0)
+told_new r Full told =
+    IfErr-weaker r _ (λ stopped. StopsNew stopped.0)
+    (λ stopped why. elim why [
+      | inl memory ↦ inl memory
+      | inr other ↦ elim other [
+        | inl failed ↦ inr (inl failed)
+        | inr late ↦ elim late [
+          | inl spent ↦ inr (inr (inl spent))
+          | inr full ↦ inr (inr (inr full.0))
+        ]
+      ]
+    ]) told

@@ -3,6 +3,7 @@ use Rattle.run_disk.proofs.RunLemmas.{leaves_only_more, only_weaker, rested}
 use Rattle.run_store.proofs.StoreLemmas.{stored_pair}
 use Rattle.run_journal.specs.Pairs.{AreZeros, HasNoPairBut}
 use Rattle.store_laws.specs.Rows.{HasOneInNewRow, HasOneInRow}
+use Rattle.store_laws.proofs.RowLemmas.{told_new}
 use Rattle.store_laws.proofs.laws.use_new_store.Goals as goal
 
 pub returns-in-Ok-clause-any_moment : goal.returns-in-Ok-clause-any_moment
@@ -47,3 +48,16 @@ returns-in-Err-clause-any_moment g c honest rest zeros =
     (λ x is. inl is)
     (c.format.ensures.any_moment honest
     (λ x there. subst AreZeros (sym (rest.only x there)) zeros))
+
+pub returns-in-Ok-clause-told : goal.returns-in-Ok-clause-told
+returns-in-Ok-clause-told g c honest rest =
+    let disk = g.D.RunDisk.state c.format.new.disk in
+    let is_disk = g.met.D.RunDisk.is_disk c.format.new.disk in
+    let image = drop 12 c.args.body.now in
+    let honest_then = c.format.ensures.ran.honest honest in
+    let rest_then = rested disk is_disk honest_then (c.in-Ok.ensures.synced honest)
+    (λ i waits. rest.sure i (c.in-Ok.ensures.sure honest i waits)) in
+    let pair = stored_pair c.requires.whole.0 0 0 image [] disk.now
+    (c.in-Ok.ensures.formatted honest c.requires.whole.0 c.requires.whole.1 disk.now
+    (is_disk.now_is_image honest_then)) in
+    told_new c.use_store.result _ (c.use_store.ensures.told honest_then rest_then image [] pair)
