@@ -7,6 +7,7 @@ use Rattle.std.proofs.Common.{refl, sym, ap, ◌∙◌, subst, arith, zero, suc,
 use Rattle.std.proofs.Common.{add-one, append-nil, append_assoc}
 use Rattle.std.proofs.lemmas.List.Sums.{count_by-le-length, fold-append, length-filter}
 use Rattle.run_model.specs.declared.tasks.Phase.{Phase}
+use Rattle.run_model.specs.declared.tasks.Phase.TheVariants as phase
 use Rattle.run_model.specs.declared.tasks.Stage.{Stage}
 use Rattle.run_model.specs.declared.tasks.Stage.TheVariants as stage
 use Rattle.run_model.specs.declared.tasks.Task.{Task}
@@ -20,7 +21,7 @@ use Rattle.console_lines.specs.declared.replies.Reply.TheVariants as said
 use Rattle.indexmap.specs.IndexMap.{insert_entry}
 use Rattle.std.specs.Map.{lookup}
 use Rattle.task_tally.specs.declared.jobs.Job.{Job}
-use Rattle.task_tally.specs.Counted.{HasRoom, MOST, counted_at, no_tasks, one_more, shown}
+use Rattle.task_tally.specs.Counted.{MOST, counted_at, no_tasks, one_more, raised, shown}
 use Rattle.task_tally.specs.Counted.{with_tally}
 use Rattle.task_tally.proofs.JobLists.{AreDistinct, among_without, distinct, is_among, jobs_more}
 use Rattle.task_tally.proofs.JobLists.{same, self_same, turned, with_job, without}
@@ -69,6 +70,35 @@ counts_are {t} {t'} {s} {s'} {f} {f'} {i} {i'} ht hs hf hi =
     ap (λ n. counts n s f i) ht ∙ ap (λ n. counts t' n f i) hs ∙ ap (λ n. counts t' s' n i) hf
     ∙ ap (λ n. counts t' s' f' n) hi
 
+-- The counts can be raised.
+pub record HasRoom (counts : Counts) : Type 0 where
+  pub total : counts.total < MOST
+  pub success : counts.success < MOST
+  pub failure : counts.failure < MOST
+  pub interrupted : counts.interrupted < MOST
+
+-- The counts with one task more, where there is room for it.
+abbrev plus_one : Phase → Counts → Counts
+plus_one phase.Success c = record c { total = c.total + 1; success = c.success + 1 }
+plus_one (phase.Failure error) c = record c { total = c.total + 1; failure = c.failure + 1 }
+plus_one phase.Interrupted c = record c { total = c.total + 1; interrupted = c.interrupted + 1 }
+plus_one _ c = record c { total = c.total + 1 }
+
+raised_by_one : (n : ℕ) → n < MOST → raised n ≡ n + 1
+raised_by_one n h = omega (arith, h)
+
+-- Where there is room, no count stays.
+in_room : (p : Phase) (c : Counts) → HasRoom c → one_more p c ≡ plus_one p c
+in_room phase.Held c h = counts_are (raised_by_one _ h.total) refl refl refl
+in_room phase.Ready c h = counts_are (raised_by_one _ h.total) refl refl refl
+in_room phase.Running c h = counts_are (raised_by_one _ h.total) refl refl refl
+in_room phase.Success c h =
+    counts_are (raised_by_one _ h.total) (raised_by_one _ h.success) refl refl
+in_room (phase.Failure error) c h =
+    counts_are (raised_by_one _ h.total) refl (raised_by_one _ h.failure) refl
+in_room phase.Interrupted c h =
+    counts_are (raised_by_one _ h.total) refl refl (raised_by_one _ h.interrupted)
+
 counts_other : (xs : List Task) (task : Task) (job : List ℕ)
     → bytes_eq job task.job ≡ false
     → counts_of (xs ++ task ∷ []) job ≡ counts_of xs job
@@ -79,7 +109,7 @@ counts_other xs task job h =
 counts_by : (xs : List Task) (task : Task) (job : List ℕ) (admitted : Bool) (s : Stage)
     → bytes_eq job task.job ≡ true
     → task.stage ≡ s
-    → counts_of (xs ++ task ∷ []) job ≡ one_more (phase_by admitted s) (counts_of xs job)
+    → counts_of (xs ++ task ∷ []) job ≡ plus_one (phase_by admitted s) (counts_of xs job)
 counts_by xs task job true stage.Fresh h e =
     counts_are (at_same any job task xs true h refl)
     (at_same is_success job task xs false h (ap is_success e) ∙ plus_none _)
@@ -251,7 +281,7 @@ so_far xs job false h =
 -- The tallies with one task more.
 pub tallies_more : (xs : List Task) (task : Task) (admitted : Bool)
     → with_tally task.job
-    (one_more (phase_by admitted task.stage)
+    (plus_one (phase_by admitted task.stage)
     (unwrap_or (counted_at task.job (tallies_of xs)) no_tasks))
     (tallies_of xs)
     ≡ tallies_of (xs ++ task ∷ [])
@@ -259,9 +289,9 @@ tallies_more xs task admitted =
     let job = task.job in
     let c = counts_of xs in
     let d = counts_of (xs ++ task ∷ []) in
-    let counted : one_more (phase_by admitted task.stage)
+    let counted : plus_one (phase_by admitted task.stage)
     (unwrap_or (counted_at job (tallies_of xs)) no_tasks) ≡ d job =
-    ap (one_more (phase_by admitted task.stage)) (so_far xs job (is_among job (jobs_of xs)) refl)
+    ap (plus_one (phase_by admitted task.stage)) (so_far xs job (is_among job (jobs_of xs)) refl)
     ∙ sym (counts_by xs task job admitted task.stage (self_same job) refl) in
     ap (λ n. with_tally job n (tallies_of xs)) counted
     ∙ with_told c d job (jobs_of xs) (λ j h. counts_other xs task j (turned job j false h))
@@ -277,7 +307,7 @@ pub one_counted :
     → task.job ≡ job
     → phase_by admitted task.stage ≡ phase
     → old ≡ unwrap_or (counted_at job tallies) no_tasks
-    → (HasRoom old → new ≡ one_more phase old)
+    → new ≡ one_more phase old
     → with_tally job new tallies ≡ tallies_of (xs ++ task ∷ [])
 one_counted xs task admitted tallies job phase old new before few same_job same_phase was now =
     let A : List Tally → Type 0 = λ t. old ≡ unwrap_or (counted_at job t) no_tasks in
@@ -288,9 +318,9 @@ one_counted xs task admitted tallies job phase old new before few same_job same_
     let room : HasRoom old = subst HasRoom (sym counted) (counts_fit xs task.job few) in
     ap (λ t. with_tally job new t) before
     ∙ ap (λ j. with_tally j new (tallies_of xs)) (sym same_job)
-    ∙ ap (λ n. with_tally task.job n (tallies_of xs)) (now room)
-    ∙ ap (λ p. with_tally task.job (one_more p old) (tallies_of xs)) (sym same_phase)
-    ∙ ap (λ n. with_tally task.job (one_more (phase_by admitted task.stage) n) (tallies_of xs)) here
+    ∙ ap (λ n. with_tally task.job n (tallies_of xs)) (now ∙ in_room phase old room)
+    ∙ ap (λ p. with_tally task.job (plus_one p old) (tallies_of xs)) (sym same_phase)
+    ∙ ap (λ n. with_tally task.job (plus_one (phase_by admitted task.stage) n) (tallies_of xs)) here
     ∙ tallies_more xs task admitted
 
 -- ---- the table

@@ -1,5 +1,5 @@
 -- What the table of the jobs holds, and one task more in it.
-use Rattle.std.specs.Prelude.{ℕ, ◌+◌, ◌<◌, if◌then◌else◌, List, [], ◌∷◌, Option, Some, None}
+use Rattle.std.specs.Prelude.{ℕ, ◌+◌, min, if◌then◌else◌, List, [], ◌∷◌, Option, Some, None}
 use Rattle.std.specs.Str.{bytes_eq}
 use Rattle.run_model.specs.declared.tasks.Phase.{Phase}
 use Rattle.run_model.specs.declared.tasks.Phase.TheVariants as phase
@@ -21,25 +21,21 @@ counted_at job [] = None
 counted_at job (tally ∷ tallies) =
     if bytes_eq job tally.job then Some tally.counts else counted_at job tallies
 
--- ---- for private functions: no public contract cites what follows
-
 -- The counts of no task.
 abbrev pub no_tasks : Counts
 no_tasks = record { total = 0; success = 0; failure = 0; interrupted = 0 }
 
--- The counts can be raised.
-pub record HasRoom (counts : Counts) : Type 0 where
-  pub total : counts.total < MOST
-  pub success : counts.success < MOST
-  pub failure : counts.failure < MOST
-  pub interrupted : counts.interrupted < MOST
+-- A count with one more, where it isn't the greatest yet.
+abbrev pub raised : ℕ → ℕ
+raised n = min (n + 1) MOST
 
--- The counts with one task more.
+-- The counts with one task more, which is in this phase.
 abbrev pub one_more : Phase → Counts → Counts
-one_more phase.Success c = record c { total = c.total + 1; success = c.success + 1 }
-one_more (phase.Failure error) c = record c { total = c.total + 1; failure = c.failure + 1 }
-one_more phase.Interrupted c = record c { total = c.total + 1; interrupted = c.interrupted + 1 }
-one_more _ c = record c { total = c.total + 1 }
+one_more phase.Success c = record c { total = raised c.total; success = raised c.success }
+one_more (phase.Failure error) c = record c { total = raised c.total; failure = raised c.failure }
+one_more phase.Interrupted c =
+    record c { total = raised c.total; interrupted = raised c.interrupted }
+one_more _ c = record c { total = raised c.total }
 
 -- The tallies where this is counted of a job; a new one goes last.
 abbrev pub with_tally : List ℕ → Counts → List Tally → List Tally

@@ -8,7 +8,7 @@ ghost use Rattle.run_model.specs.Tasks.{phase_by};
 ghost use Rattle.console_lines.specs.Replies.{reply_lines};
 ghost use Rattle.console_lines.specs.Tallies.{tallies_of};
 ghost use Rattle.console_lines.specs.declared.replies.Reply.TheVariants as said;
-ghost use Rattle.task_tally.specs.Counted.{HasRoom, MOST, counted_at, no_tasks, one_more};
+ghost use Rattle.task_tally.specs.Counted.{MOST, counted_at, no_tasks, one_more};
 ghost use Rattle.task_tally.specs.Counted.{with_tally};
 
 use crate::jobs::Job;
@@ -55,6 +55,8 @@ impl<A: Allocator + Copy> Tallies<A> {
             → task.job ≡ job.now
             → phase_by admitted task.stage ≡ phase.now
             → OnOk result (self.new ≡ tallies_of (tasks ++ task ∷ [])) }
+        ensures counted { OnOk result (self.new ≡ with_tally job.now
+            (one_more phase.now (unwrap_or (counted_at job.now self.old) no_tasks)) self.old) }
         ensures refused { OnErr result (self.new ≡ self.old) }
         ensures absent { OnErr result (counted_at job.now self.old ≡ None) }
     {
@@ -132,7 +134,7 @@ const NO_TASKS: Counts = Counts {
 
 /// The counts with one task more.
 fn with_task(counts: Counts, phase: &Phase) -> Counts
-    ensures { HasRoom counts → result ≡ one_more phase.now counts }
+    ensures { result ≡ one_more phase.now counts }
 {
     let mut counts = counts;
     counts.total = counts.total.saturating_add(1);
