@@ -11,6 +11,19 @@ const NAME: &[u8] = &[b'x'; 32];
 
 const TEXT: &[u8] = &[b'x'; 64];
 
+/// Asserts that the image of the first head alone is kept, and that of the second refused.
+fn assert_heads(
+    rt: &impl Abort,
+    alloc: Global,
+    good: Head,
+    bad: Head,
+    what: &str,
+) -> Result<(), Fail> {
+    let good = image(alloc, good, &[])?;
+    let bad = image(alloc, bad, &[])?;
+    assert_pair(rt, alloc, &good, &bad, what)
+}
+
 #[test]
 fn heads(rt: HostRuntime) -> Result<(), Fail> {
     let none = Head::of((0, 0, 0));
@@ -49,9 +62,7 @@ fn heads(rt: HostRuntime) -> Result<(), Fail> {
         ),
     ];
     for (what, good, bad) in rows {
-        let good = image(rt.alloc(), good, &[])?;
-        let bad = image(rt.alloc(), bad, &[])?;
-        assert_pair(&rt, rt.alloc(), &good, &bad, what)?;
+        assert_heads(&rt, rt.alloc(), good, bad, what)?;
     }
     Ok(())
 }

@@ -102,6 +102,12 @@ fn assert_greatest(
     Ok(())
 }
 
+/// Says whether a small store refuses the greatest image of a large one.
+fn is_too_large(alloc: Global) -> Result<bool, Fail> {
+    let large = greatest(alloc, 2, 4_095, 8_192, LINK)?;
+    is_refused(alloc, Layout::Small, &large)
+}
+
 #[test]
 fn greatest_images(rt: HostRuntime) -> Result<(), Fail> {
     let rows = [
@@ -113,8 +119,7 @@ fn greatest_images(rt: HostRuntime) -> Result<(), Fail> {
     for (layout, version, many, len) in rows {
         assert_greatest(&rt, rt.alloc(), layout, version, many, len)?;
     }
-    let large = greatest(rt.alloc(), 2, 4_095, 8_192, LINK)?;
-    assert!(rt; is_refused(rt.alloc(), Layout::Small, &large)?);
+    assert!(rt; is_too_large(rt.alloc())?);
     Ok(())
 }
 

@@ -1,6 +1,8 @@
 //! Images that break one rule each, beside those that differ in the same place and keep it.
 
 use crate::plain::{Counts, Head, Pair, Pieces, assert_pairs, assert_read, image};
+use std::alloc::Global;
+use std::process::Abort;
 use std::test::Fail;
 
 /// Scopes below root up to their hit: two that are cancelled, a cause, a deadline that has come and
@@ -265,6 +267,19 @@ const OPEN: &[u8] = b"\x01h\x00\x00\x01\xff\x00\x00";
 
 const WAITED: &[u8] = b"\x01h\x00\x00\x01\xff\x01\x00";
 
+/// Asserts that the image of these rows is kept, or that it is refused.
+fn assert_rows(
+    rt: &impl Abort,
+    alloc: Global,
+    counts: Counts,
+    kept: bool,
+    pieces: Pieces,
+    what: &str,
+) -> Result<(), Fail> {
+    let image = image(alloc, Head::of(counts), pieces)?;
+    assert_read(rt, alloc, &image, kept, what)
+}
+
 #[test]
 fn running_tasks_are_admitted(rt: HostRuntime) -> Result<(), Fail> {
     let rows: [(&str, Counts, bool, Pieces); 10] = [
@@ -315,8 +330,7 @@ fn running_tasks_are_admitted(rt: HostRuntime) -> Result<(), Fail> {
         ),
     ];
     for (what, counts, kept, pieces) in rows {
-        let image = image(rt.alloc(), Head::of(counts), pieces)?;
-        assert_read(&rt, rt.alloc(), &image, kept, what)?;
+        assert_rows(&rt, rt.alloc(), counts, kept, pieces, what)?;
     }
     Ok(())
 }

@@ -94,6 +94,12 @@ fn rows_of_version_1_have_no_links(rt: HostRuntime) -> Result<(), Fail> {
     Ok(())
 }
 
+/// Says whether this is no image in a small store.
+fn is_image_refused(alloc: Global, head: Head, pieces: Pieces) -> Result<bool, Fail> {
+    let image = image(alloc, head, pieces)?;
+    is_refused(alloc, Layout::Small, &image)
+}
+
 #[test]
 fn links_stand_in_version_2_alone(rt: HostRuntime) -> Result<(), Fail> {
     let rows: [(u8, Pieces); 3] = [
@@ -106,8 +112,7 @@ fn links_stand_in_version_2_alone(rt: HostRuntime) -> Result<(), Fail> {
             version,
             ..Head::of((0, 1, 2))
         };
-        let image = image(rt.alloc(), head, pieces)?;
-        assert!(rt; is_refused(rt.alloc(), Layout::Small, &image)?, "row {n}");
+        assert!(rt; is_image_refused(rt.alloc(), head, pieces)?, "row {n}");
     }
     Ok(())
 }
@@ -119,12 +124,6 @@ const OPENED: Head = Head {
     count: 1,
     rows: (0, 0, 0),
 };
-
-/// Says whether this is no image in a small store.
-fn is_image_refused(alloc: Global, head: Head, pieces: Pieces) -> Result<bool, Fail> {
-    let image = image(alloc, head, pieces)?;
-    is_refused(alloc, Layout::Small, &image)
-}
 
 #[test]
 fn damaged_images_of_an_opened_store(rt: HostRuntime) -> Result<(), Fail> {
@@ -259,12 +258,13 @@ type Causes = &'static [(u16, &'static [u8])];
 fn assert_causes(
     rt: &impl Abort,
     alloc: Global,
-    image: &[u8],
+    (counts, pieces): (Counts, Pieces),
     causes: Causes,
     what: &str,
 ) -> Result<(), Fail> {
-    assert_read(rt, alloc, image, true, what)?;
-    let state = read_state(alloc, image)?;
+    let image = image(alloc, Head::of(counts), pieces)?;
+    assert_read(rt, alloc, &image, true, what)?;
+    let state = read_state(alloc, &image)?;
     for (scope, cause) in causes {
         assert_canceled(rt, &state, *scope, cause, what);
     }
@@ -318,8 +318,7 @@ fn states_that_no_history_gives(rt: HostRuntime) -> Result<(), Fail> {
         ),
     ];
     for (what, counts, pieces, causes) in rows {
-        let image = image(rt.alloc(), Head::of(counts), pieces)?;
-        assert_causes(&rt, rt.alloc(), &image, causes, what)?;
+        assert_causes(&rt, rt.alloc(), (counts, pieces), causes, what)?;
     }
     Ok(())
 }
