@@ -1,13 +1,28 @@
 //! The range of each field, and the numbers of bytes and rows.
 
-use crate::plain::{Head, Pair, assert_pairs, image, is_kept, is_refused};
+use crate::plain::{Counts, Head, Pair, assert_pair, assert_pairs, assert_read, image, is_refused};
 use run_model::Layout;
+use std::alloc::Global;
+use std::process::Abort;
 use std::test::Fail;
 
 /// As many bytes as a name and a text can have at most.
 const NAME: &[u8] = &[b'x'; 32];
 
 const TEXT: &[u8] = &[b'x'; 64];
+
+/// Asserts that the image of the first head alone is kept, and that of the second refused.
+fn assert_heads(
+    rt: &impl Abort,
+    alloc: Global,
+    good: Head,
+    bad: Head,
+    what: &str,
+) -> Result<(), Fail> {
+    let good = image(alloc, good, &[])?;
+    let bad = image(alloc, bad, &[])?;
+    assert_pair(rt, alloc, &good, &bad, what)
+}
 
 #[test]
 fn heads(rt: HostRuntime) -> Result<(), Fail> {
@@ -47,12 +62,7 @@ fn heads(rt: HostRuntime) -> Result<(), Fail> {
         ),
     ];
     for (what, good, bad) in rows {
-        let good = image(rt.alloc(), good, &[])?;
-        let bad = image(rt.alloc(), bad, &[])?;
-        for layout in [Layout::Small, Layout::Large] {
-            assert!(rt; is_kept(rt.alloc(), layout, &good)?, "not {what}");
-            assert!(rt; is_refused(rt.alloc(), layout, &bad)?, "{what}");
-        }
+        assert_heads(&rt, rt.alloc(), good, bad, what)?;
     }
     Ok(())
 }
@@ -331,20 +341,27 @@ const ROWS: [&[u8]; 5] = [
 
 #[test]
 fn a_byte_too_few_or_too_many(rt: HostRuntime) -> Result<(), Fail> {
-    let whole = image(rt.alloc(), Head::of((2, 1, 2)), &ROWS)?;
-    assert!(rt; is_kept(rt.alloc(), Layout::Small, &whole)?);
+    let mut whole = image(rt.alloc(), Head::of((2, 1, 2)), &ROWS)?;
+    assert_read(&rt, rt.alloc(), &whole, true, "whole")?;
     for len in 0..whole.len() {
         assert!(rt;
             is_refused(rt.alloc(), Layout::Small, &whole[..len])?,
             "{len} bytes"
         );
     }
-    let mut longer = image(rt.alloc(), Head::of((2, 1, 2)), &ROWS)?;
-    longer.push(0)?;
-    assert!(rt;
-        is_refused(rt.alloc(), Layout::Small, &longer)?,
-        "a byte too many"
-    );
+    whole.push(0)?;
+    assert_read(&rt, rt.alloc(), &whole, false, "a byte too many")
+}
+
+/// Asserts that an image with these numbers in its head is refused in both layouts.
+fn assert_refused(rt: &impl Abort, alloc: Global, image: &[u8], rows: Counts) -> Result<(), Fail> {
+    let (scopes, groups, tasks) = rows;
+    for layout in [Layout::Small, Layout::Large] {
+        assert!(rt;
+            is_refused(alloc, layout, image)?,
+            "{scopes} scopes, {groups} groups, {tasks} tasks"
+        );
+    }
     Ok(())
 }
 
@@ -365,14 +382,9 @@ fn a_row_too_few_or_too_many(rt: HostRuntime) -> Result<(), Fail> {
         (2, 65_535, 2),
         (2, 1, 65_535),
     ];
-    for (scopes, groups, tasks) in counts {
-        let image = image(rt.alloc(), Head::of((scopes, groups, tasks)), &ROWS)?;
-        for layout in [Layout::Small, Layout::Large] {
-            assert!(rt;
-                is_refused(rt.alloc(), layout, &image)?,
-                "{scopes} scopes, {groups} groups, {tasks} tasks"
-            );
-        }
+    for rows in counts {
+        let image = image(rt.alloc(), Head::of(rows), &ROWS)?;
+        assert_refused(&rt, rt.alloc(), &image, rows)?;
     }
     Ok(())
 }

@@ -4,20 +4,22 @@ use crate::plain::{Head, is_kept, is_refused, push_head, read_again};
 use record_view::ImageVersion;
 use run_model::Layout;
 use std::alloc::{AllocError, Global};
+use std::process::Abort;
 use std::test::Fail;
 
-/// Appends the last digits of a number, as many as there are divisors.
-fn push_digits(image: &mut Vec<u8>, n: u16, divisors: &[u16]) -> Result<(), AllocError> {
-    for divisor in divisors {
-        image.push(b'0' + (n.checked_div(*divisor).unwrap_or(0) % 10) as u8)?;
-    }
-    Ok(())
+/// No link.
+const LINK: &[u8] = b"\xff\xff";
+
+/// Appends the four digits of a number below 10,000.
+fn push_digits(image: &mut Vec<u8>, n: u16) -> Result<(), AllocError> {
+    let digit = |d: u16| b'0' + (d % 10) as u8;
+    image.extend_from_slice(&[digit(n / 1_000), digit(n / 100), digit(n / 10), digit(n)])
 }
 
 /// Appends a name of 32 bytes that begins with the number.
 fn push_greatest_name(image: &mut Vec<u8>, n: u16) -> Result<(), AllocError> {
     image.push(32)?;
-    push_digits(image, n, &[1_000, 100, 10, 1])?;
+    push_digits(image, n)?;
     image.extend_from_slice(&[b'x'; 28])
 }
 
@@ -79,24 +81,45 @@ fn greatest(
     Ok(image)
 }
 
+/// Asserts that the greatest image of a version is read, and written again in version 2.
+fn assert_greatest(
+    rt: &impl Abort,
+    alloc: Global,
+    layout: Layout,
+    version: ImageVersion,
+    (scopes, tasks): (u16, u16),
+    len: usize,
+) -> Result<(), Fail> {
+    let (number, link) = match version {
+        ImageVersion::One => (1, b"".as_slice()),
+        ImageVersion::Two => (2, LINK),
+    };
+    let image = greatest(alloc, number, scopes, tasks, link)?;
+    assert!(rt; image.len() == len, "{len} bytes");
+    let again = greatest(alloc, 2, scopes, tasks, LINK)?;
+    let read = read_again(alloc, layout, &image, &again)?;
+    assert!(rt; read == (version, true), "{len} bytes");
+    Ok(())
+}
+
+/// Says whether a small store refuses the greatest image of a large one.
+fn is_too_large(alloc: Global) -> Result<bool, Fail> {
+    let large = greatest(alloc, 2, 4_095, 8_192, LINK)?;
+    is_refused(alloc, Layout::Small, &large)
+}
+
 #[test]
 fn greatest_images(rt: HostRuntime) -> Result<(), Fail> {
-    let link = b"\xff\xff";
-    let old = greatest(rt.alloc(), 1, 1_023, 2_048, b"")?;
-    let small = greatest(rt.alloc(), 2, 1_023, 2_048, link)?;
-    let large = greatest(rt.alloc(), 2, 4_095, 8_192, link)?;
     let rows = [
-        (Layout::Small, ImageVersion::One, 484_055, &old, &small),
-        (Layout::Small, ImageVersion::Two, 488_151, &small, &small),
-        (Layout::Large, ImageVersion::One, 484_055, &old, &small),
-        (Layout::Large, ImageVersion::Two, 1_913_559, &large, &large),
+        (Layout::Small, ImageVersion::One, (1_023, 2_048), 484_055),
+        (Layout::Small, ImageVersion::Two, (1_023, 2_048), 488_151),
+        (Layout::Large, ImageVersion::One, (1_023, 2_048), 484_055),
+        (Layout::Large, ImageVersion::Two, (4_095, 8_192), 1_913_559),
     ];
-    for (layout, version, len, image, again) in rows {
-        assert_eq!(rt; image.len(), len);
-        let read = read_again(rt.alloc(), layout, image, again)?;
-        assert!(rt; read == (version, true), "{len} bytes");
+    for (layout, version, many, len) in rows {
+        assert_greatest(&rt, rt.alloc(), layout, version, many, len)?;
     }
-    assert!(rt; is_refused(rt.alloc(), Layout::Small, &large)?);
+    assert!(rt; is_too_large(rt.alloc())?);
     Ok(())
 }
 
@@ -112,12 +135,12 @@ fn least(alloc: Global, rows: (u16, u16, u16)) -> Result<Vec<u8>, AllocError> {
     push_head(&mut image, head)?;
     for n in 0..rows.0 {
         image.push(4)?;
-        push_digits(&mut image, n, &[1_000, 100, 10, 1])?;
+        push_digits(&mut image, n)?;
         image.extend_from_slice(b"\x00\x00\x01\x00")?;
     }
     for n in 0..rows.1 {
         image.push(4)?;
-        push_digits(&mut image, n, &[1_000, 100, 10, 1])?;
+        push_digits(&mut image, n)?;
         image.extend_from_slice(b"\x00\x00\x01\xff\x00\x00")?;
     }
     for _ in 0..rows.2 {

@@ -99,19 +99,47 @@ pub fn is_refused(alloc: Global, layout: Layout, image: &[u8]) -> Result<bool, F
     }
 }
 
+/// Asserts that an image is kept, or that it is refused, in a small store.
+pub fn assert_read(
+    rt: &impl Abort,
+    alloc: Global,
+    image: &[u8],
+    kept: bool,
+    what: &str,
+) -> Result<(), Fail> {
+    let found = if kept {
+        is_kept(alloc, Layout::Small, image)?
+    } else {
+        is_refused(alloc, Layout::Small, image)?
+    };
+    assert!(rt; found, "{what}");
+    Ok(())
+}
+
+/// Asserts that the first image is kept and the second refused, in small stores and in large ones.
+pub fn assert_pair(
+    rt: &impl Abort,
+    alloc: Global,
+    good: &[u8],
+    bad: &[u8],
+    what: &str,
+) -> Result<(), Fail> {
+    for layout in [Layout::Small, Layout::Large] {
+        assert!(rt; is_kept(alloc, layout, good)?, "not {what}");
+        assert!(rt; is_refused(alloc, layout, bad)?, "{what}");
+    }
+    Ok(())
+}
+
 /// What the second image breaks, the numbers of rows, and the rows of both.
 pub type Pair = (&'static str, Counts, Pieces, Pieces);
 
-/// Asserts of each pair that the first image is kept and the second refused, in small stores and in
-/// large ones.
+/// Asserts of each pair that the first image is kept and the second refused.
 pub fn assert_pairs(rt: &impl Abort, alloc: Global, pairs: &[Pair]) -> Result<(), Fail> {
     for (what, rows, good, bad) in pairs {
         let good = image(alloc, Head::of(*rows), good)?;
         let bad = image(alloc, Head::of(*rows), bad)?;
-        for layout in [Layout::Small, Layout::Large] {
-            assert!(rt; is_kept(alloc, layout, &good)?, "not {what}");
-            assert!(rt; is_refused(alloc, layout, &bad)?, "{what}");
-        }
+        assert_pair(rt, alloc, &good, &bad, what)?;
     }
     Ok(())
 }

@@ -1,7 +1,8 @@
 //! Images that break one rule each, beside those that differ in the same place and keep it.
 
-use crate::plain::{Head, Pair, assert_pairs, image, is_kept, is_refused};
-use run_model::Layout;
+use crate::plain::{Counts, Head, Pair, Pieces, assert_pairs, assert_read, image};
+use std::alloc::Global;
+use std::process::Abort;
 use std::test::Fail;
 
 /// Scopes below root up to their hit: two that are cancelled, a cause, a deadline that has come and
@@ -257,72 +258,79 @@ const FAILURE: &[u8] = b"\x00\x00\x01j\x01a\x03\x01x\xff\xff";
 
 const INTERRUPTED: &[u8] = b"\x00\x00\x01j\x01a\x04\xff\xff";
 
+/// Bare groups: with limit 0, with limit 1, without a limit, and one that was waited for.
+const SHUT: &[u8] = b"\x01h\x00\x00\x01\x00\x00\x00";
+
+const ONE: &[u8] = b"\x01h\x00\x00\x01\x01\x00\x00";
+
+const OPEN: &[u8] = b"\x01h\x00\x00\x01\xff\x00\x00";
+
+const WAITED: &[u8] = b"\x01h\x00\x00\x01\xff\x01\x00";
+
+/// Asserts that the image of these rows is kept, or that it is refused.
+fn assert_rows(
+    rt: &impl Abort,
+    alloc: Global,
+    counts: Counts,
+    kept: bool,
+    pieces: Pieces,
+    what: &str,
+) -> Result<(), Fail> {
+    let image = image(alloc, Head::of(counts), pieces)?;
+    assert_read(rt, alloc, &image, kept, what)
+}
+
 #[test]
 fn running_tasks_are_admitted(rt: HostRuntime) -> Result<(), Fail> {
-    let shut: &[u8] = b"\x01h\x00\x00\x01\x00\x00\x00";
-    let one: &[u8] = b"\x01h\x00\x00\x01\x01\x00\x00";
-    let open: &[u8] = b"\x01h\x00\x00\x01\xff\x00\x00";
-    let waited: &[u8] = b"\x01h\x00\x00\x01\xff\x01\x00";
-    let rows = [
-        ("held by limit 0", (0, 1, 1), true, [shut, FRESH, b""]),
-        ("running at limit 0", (0, 1, 1), false, [shut, RUNNING, b""]),
+    let rows: [(&str, Counts, bool, Pieces); 10] = [
+        ("held by limit 0", (0, 1, 1), true, &[SHUT, FRESH]),
+        ("running at limit 0", (0, 1, 1), false, &[SHUT, RUNNING]),
         (
             "one running at limit 1",
             (0, 1, 2),
             true,
-            [one, RUNNING, FRESH],
+            &[ONE, RUNNING, FRESH],
         ),
         (
             "two running at limit 1",
             (0, 1, 2),
             false,
-            [one, RUNNING, RUNNING],
+            &[ONE, RUNNING, RUNNING],
         ),
         (
             "the second alone running",
             (0, 1, 2),
             false,
-            [one, FRESH, RUNNING],
+            &[ONE, FRESH, RUNNING],
         ),
         (
             "running behind one that ended",
             (0, 1, 2),
             true,
-            [one, SUCCESS, RUNNING],
+            &[ONE, SUCCESS, RUNNING],
         ),
         (
             "two running without a limit",
             (0, 1, 2),
             true,
-            [open, RUNNING, RUNNING],
+            &[OPEN, RUNNING, RUNNING],
         ),
-        (
-            "waited for when idle",
-            (0, 1, 1),
-            true,
-            [waited, SUCCESS, b""],
-        ),
+        ("waited for when idle", (0, 1, 1), true, &[WAITED, SUCCESS]),
         (
             "waited for with a task not started",
             (0, 1, 1),
             false,
-            [waited, FRESH, b""],
+            &[WAITED, FRESH],
         ),
         (
             "waited for with a running task",
             (0, 1, 1),
             false,
-            [waited, RUNNING, b""],
+            &[WAITED, RUNNING],
         ),
     ];
     for (what, counts, kept, pieces) in rows {
-        let image = image(rt.alloc(), Head::of(counts), &pieces)?;
-        let found = if kept {
-            is_kept(rt.alloc(), Layout::Small, &image)?
-        } else {
-            is_refused(rt.alloc(), Layout::Small, &image)?
-        };
-        assert!(rt; found, "{what}");
+        assert_rows(&rt, rt.alloc(), counts, kept, pieces, what)?;
     }
     Ok(())
 }

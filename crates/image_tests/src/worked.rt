@@ -1,10 +1,11 @@
 //! Images whose bytes are known from outside, stores that were damaged, and states that keep the
 //! rules though no history gives them.
 
-use crate::plain::{Head, Pieces, image, is_kept, is_refused, read_again};
+use crate::plain::{Counts, Head, Pieces, assert_read, image, is_refused, read_again};
 use record_view::ImageVersion;
 use run_model::{Layout, Reason};
 use run_state::State;
+use std::alloc::Global;
 use std::process::Abort;
 use std::test::Fail;
 
@@ -21,19 +22,34 @@ fn assert_canceled(rt: &impl Abort, state: &State, scope: u16, cause: &[u8], wha
     assert!(rt; found.as_bytes() == cause, "{what}: scope {scope}");
 }
 
+/// The state of an image, read in a small store.
+fn read_state(alloc: Global, image: &[u8]) -> Result<State, Fail> {
+    let (state, _) = State::new(alloc, Layout::Small)?.read_image(image)?;
+    Ok(state)
+}
+
+/// Asserts that the image of 57 bytes is read in the version of this byte.
+fn assert_image_of_57_bytes(
+    rt: &impl Abort,
+    alloc: Global,
+    byte: u8,
+    version: ImageVersion,
+) -> Result<(), Fail> {
+    let mut image = *CANCELED;
+    image[0] = byte;
+    let read = read_again(alloc, Layout::Small, &image, CANCELED)?;
+    assert!(rt; read == (version, true), "version {byte}");
+    let state = read_state(alloc, &image)?;
+    assert!(rt; state.count() == 4, "version {byte}");
+    assert_canceled(rt, &state, 1, b"disk", "a");
+    assert_canceled(rt, &state, 2, b"disk", "b");
+    Ok(())
+}
+
 #[test]
 fn image_of_57_bytes(rt: HostRuntime) -> Result<(), Fail> {
-    for (byte, version) in [(1, ImageVersion::One), (2, ImageVersion::Two)] {
-        let mut image = *CANCELED;
-        image[0] = byte;
-        let read = read_again(rt.alloc(), Layout::Small, &image, CANCELED)?;
-        assert!(rt; read == (version, true), "version {byte}");
-        let (state, _) = State::new(rt.alloc(), Layout::Small)?.read_image(&image)?;
-        assert_eq!(rt; state.count(), 4, "version {byte}");
-        assert_canceled(&rt, &state, 1, b"disk", "a");
-        assert_canceled(&rt, &state, 2, b"disk", "b");
-    }
-    Ok(())
+    assert_image_of_57_bytes(&rt, rt.alloc(), 1, ImageVersion::One)?;
+    assert_image_of_57_bytes(&rt, rt.alloc(), 2, ImageVersion::Two)
 }
 
 /// A group whose first task was interrupted, that task, and one more of its job and argument, each
@@ -48,14 +64,21 @@ const NO_LINK: &[u8] = b"\xff\xff";
 
 const LINK: &[u8] = b"\x00\x00";
 
+/// The task that a task retries.
+fn retry_of(state: &State, task: u16) -> Option<u16> {
+    match state.task(task) {
+        Some(task) => task.retry_of,
+        None => None,
+    }
+}
+
 #[test]
 fn a_link_is_kept(rt: HostRuntime) -> Result<(), Fail> {
     let pieces: Pieces = &[GROUP, TASK, NO_LINK, FRESH, LINK];
     let image = image(rt.alloc(), Head::of((0, 1, 2)), pieces)?;
-    assert!(rt; is_kept(rt.alloc(), Layout::Small, &image)?);
-    let (state, _) = State::new(rt.alloc(), Layout::Small)?.read_image(&image)?;
-    let task = state.task(1).ok_or("no task")?;
-    assert_eq!(rt; task.retry_of, Some(0));
+    assert_read(&rt, rt.alloc(), &image, true, "a link")?;
+    let state = read_state(rt.alloc(), &image)?;
+    assert!(rt; retry_of(&state, 1) == Some(0));
     Ok(())
 }
 
@@ -71,6 +94,12 @@ fn rows_of_version_1_have_no_links(rt: HostRuntime) -> Result<(), Fail> {
     Ok(())
 }
 
+/// Says whether this is no image in a small store.
+fn is_image_refused(alloc: Global, head: Head, pieces: Pieces) -> Result<bool, Fail> {
+    let image = image(alloc, head, pieces)?;
+    is_refused(alloc, Layout::Small, &image)
+}
+
 #[test]
 fn links_stand_in_version_2_alone(rt: HostRuntime) -> Result<(), Fail> {
     let rows: [(u8, Pieces); 3] = [
@@ -83,8 +112,7 @@ fn links_stand_in_version_2_alone(rt: HostRuntime) -> Result<(), Fail> {
             version,
             ..Head::of((0, 1, 2))
         };
-        let image = image(rt.alloc(), head, pieces)?;
-        assert!(rt; is_refused(rt.alloc(), Layout::Small, &image)?, "row {n}");
+        assert!(rt; is_image_refused(rt.alloc(), head, pieces)?, "row {n}");
     }
     Ok(())
 }
@@ -191,8 +219,7 @@ fn damaged_images_of_an_opened_store(rt: HostRuntime) -> Result<(), Fail> {
         ),
     ];
     for (what, head, pieces, read) in rows {
-        let image = image(rt.alloc(), head, pieces)?;
-        let refused = is_refused(rt.alloc(), Layout::Small, &image)?;
+        let refused = is_image_refused(rt.alloc(), head, pieces)?;
         assert!(rt; refused != read, "{what}");
     }
     let mut short = image(rt.alloc(), OPENED, &[])?;
@@ -224,60 +251,74 @@ const HIT_2_8_Y: &[u8] =
 const HIT_2_9_Y: &[u8] =
     b"\x01\x00\x00\x00\x00\x00\x00\x00\x02\x00\x00\x00\x00\x00\x00\x00\x09\x01\x01y";
 
-#[test]
-fn states_that_no_history_gives(rt: HostRuntime) -> Result<(), Fail> {
-    let rows: [(&str, Pieces, [&[u8]; 2]); 5] = [
-        (
-            "a cancel below a done scope",
-            &[A, HIT_1_9_X, B, HIT_2_9_Y],
-            [b"x", b"x"],
-        ),
-        (
-            "two hits of one event at one moment",
-            &[A, HIT_1_9_X, B, HIT_1_9_Y],
-            [b"x", b"x"],
-        ),
-        (
-            "two hits of one event at two moments",
-            &[A, HIT_1_9_X, B, HIT_1_8_Y],
-            [b"x", b"y"],
-        ),
-        (
-            "moments that fall while events rise",
-            &[A, HIT_1_9_X, B, HIT_2_8_Y],
-            [b"x", b"x"],
-        ),
-        (
-            "moments that rise while events fall",
-            &[A, HIT_2_8_Y, B, HIT_1_9_X],
-            [b"y", b"x"],
-        ),
-    ];
-    for (what, pieces, causes) in rows {
-        let image = image(rt.alloc(), Head::of((2, 0, 0)), pieces)?;
-        assert!(rt; is_kept(rt.alloc(), Layout::Small, &image)?, "{what}");
-        let (state, _) = State::new(rt.alloc(), Layout::Small)?.read_image(&image)?;
-        assert_canceled(&rt, &state, 1, causes[0], what);
-        assert_canceled(&rt, &state, 2, causes[1], what);
+/// Causes of scopes by their number.
+type Causes = &'static [(u16, &'static [u8])];
+
+/// Asserts that an image is kept, and that its scopes are cancelled with these causes.
+fn assert_causes(
+    rt: &impl Abort,
+    alloc: Global,
+    (counts, pieces): (Counts, Pieces),
+    causes: Causes,
+    what: &str,
+) -> Result<(), Fail> {
+    let image = image(alloc, Head::of(counts), pieces)?;
+    assert_read(rt, alloc, &image, true, what)?;
+    let state = read_state(alloc, &image)?;
+    for (scope, cause) in causes {
+        assert_canceled(rt, &state, *scope, cause, what);
     }
     Ok(())
 }
 
 #[test]
-fn hits_that_no_event_sets(rt: HostRuntime) -> Result<(), Fail> {
-    let rows: [(&str, (u16, u16, u16), Pieces); 2] = [
-        ("a cause on a cancel scope", (1, 0, 0), &[A, HIT_1_9_X]),
+fn states_that_no_history_gives(rt: HostRuntime) -> Result<(), Fail> {
+    let rows: [(&str, Counts, Pieces, Causes); 7] = [
+        (
+            "a cancel below a done scope",
+            (2, 0, 0),
+            &[A, HIT_1_9_X, B, HIT_2_9_Y],
+            &[(1, b"x"), (2, b"x")],
+        ),
+        (
+            "two hits of one event at one moment",
+            (2, 0, 0),
+            &[A, HIT_1_9_X, B, HIT_1_9_Y],
+            &[(1, b"x"), (2, b"x")],
+        ),
+        (
+            "two hits of one event at two moments",
+            (2, 0, 0),
+            &[A, HIT_1_9_X, B, HIT_1_8_Y],
+            &[(1, b"x"), (2, b"y")],
+        ),
+        (
+            "moments that fall while events rise",
+            (2, 0, 0),
+            &[A, HIT_1_9_X, B, HIT_2_8_Y],
+            &[(1, b"x"), (2, b"x")],
+        ),
+        (
+            "moments that rise while events fall",
+            (2, 0, 0),
+            &[A, HIT_2_8_Y, B, HIT_1_9_X],
+            &[(1, b"y"), (2, b"x")],
+        ),
+        (
+            "a cause on a cancel scope",
+            (1, 0, 0),
+            &[A, HIT_1_9_X],
+            &[(1, b"x")],
+        ),
         (
             "a group's scope that is done without an error or a wait",
             (1, 1, 0),
             &[GROUPS, HIT_1_9_X, b"\x01g\x00\x01\x00\xff\x00\x00"],
+            &[(1, b"x")],
         ),
     ];
-    for (what, counts, pieces) in rows {
-        let image = image(rt.alloc(), Head::of(counts), pieces)?;
-        assert!(rt; is_kept(rt.alloc(), Layout::Small, &image)?, "{what}");
-        let (state, _) = State::new(rt.alloc(), Layout::Small)?.read_image(&image)?;
-        assert_canceled(&rt, &state, 1, b"x", what);
+    for (what, counts, pieces, causes) in rows {
+        assert_causes(&rt, rt.alloc(), (counts, pieces), causes, what)?;
     }
     Ok(())
 }

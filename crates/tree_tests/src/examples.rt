@@ -5,6 +5,7 @@ use crate::steps::Answer::{Canceled, Exceeded, Live, Value};
 use crate::steps::Step::{Advance, Cancel, Derive, HitGroups};
 use crate::steps::{Answer, Ask, Step, assert_answers, take, take_all};
 use run_model::{Layout, Refusal};
+use std::alloc::Global;
 use std::process::Abort;
 use std::test::Fail;
 
@@ -16,7 +17,7 @@ type Example = (
     &'static [Answer],
 );
 
-const EXAMPLES: [Example; 10] = [
+const ENDINGS: [Example; 6] = [
     (
         "a cancel ends the scopes below",
         &[
@@ -59,25 +60,6 @@ const EXAMPLES: [Example; 10] = [
         &[Exceeded(1, b"p", Some(150)), Exceeded(2, b"c", Some(100))],
     ),
     (
-        "a detached scope lets values through alone",
-        &[
-            Derive(b"v", 0, Ask::Value(b"region", b"eu")),
-            Derive(b"x", 1, Ask::Cause),
-            Derive(b"d", 2, Ask::Detached),
-            Derive(b"k", 3, Ask::Cancel),
-            Cancel(2, b"stop"),
-        ],
-        &[],
-        &[
-            Canceled(2, b"stop", None),
-            Live(3, None),
-            Live(4, None),
-            Value(4, b"region", b"eu"),
-            Value(4, b"zone", b""),
-            Value(0, b"region", b""),
-        ],
-    ),
-    (
         "a deadline at the clock is exceeded at once",
         &[
             Advance(1_704_074_400),
@@ -102,6 +84,28 @@ const EXAMPLES: [Example; 10] = [
             Canceled(2, b"context canceled", Some(50)),
             Live(3, None),
             Exceeded(4, b"e", Some(70)),
+        ],
+    ),
+];
+
+const KINDS: [Example; 4] = [
+    (
+        "a detached scope lets values through alone",
+        &[
+            Derive(b"v", 0, Ask::Value(b"region", b"eu")),
+            Derive(b"x", 1, Ask::Cause),
+            Derive(b"d", 2, Ask::Detached),
+            Derive(b"k", 3, Ask::Cancel),
+            Cancel(2, b"stop"),
+        ],
+        &[],
+        &[
+            Canceled(2, b"stop", None),
+            Live(3, None),
+            Live(4, None),
+            Value(4, b"region", b"eu"),
+            Value(4, b"zone", b""),
+            Value(0, b"region", b""),
         ],
     ),
     (
@@ -143,7 +147,7 @@ const EXAMPLES: [Example; 10] = [
     ),
 ];
 
-/// Asserts what an example shows, on a new tree.
+/// Asserts what an example shows, on a tree that is new.
 fn assert_example(rt: &impl Abort, runner: &mut Runner, example: &Example) -> Result<(), Fail> {
     let (what, steps, refused, answers) = *example;
     take_all(rt, runner, steps, what)?;
@@ -155,11 +159,24 @@ fn assert_example(rt: &impl Abort, runner: &mut Runner, example: &Example) -> Re
     Ok(())
 }
 
+/// Asserts what an example shows, on a tree of its own.
+fn assert_on_a_tree(rt: &impl Abort, alloc: Global, example: &Example) -> Result<(), Fail> {
+    let mut runner = Runner::new(alloc, Layout::Small)?;
+    assert_example(rt, &mut runner, example)
+}
+
 #[test]
-fn worked_examples(rt: HostRuntime) -> Result<(), Fail> {
-    for example in EXAMPLES.iter() {
-        let mut runner = Runner::new(rt.alloc(), Layout::Small)?;
-        assert_example(&rt, &mut runner, example)?;
+fn examples_of_cancels_and_deadlines(rt: HostRuntime) -> Result<(), Fail> {
+    for example in &ENDINGS {
+        assert_on_a_tree(&rt, rt.alloc(), example)?;
+    }
+    Ok(())
+}
+
+#[test]
+fn examples_of_other_kinds(rt: HostRuntime) -> Result<(), Fail> {
+    for example in &KINDS {
+        assert_on_a_tree(&rt, rt.alloc(), example)?;
     }
     Ok(())
 }

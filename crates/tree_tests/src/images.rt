@@ -5,6 +5,7 @@ use record_view::{ImageHead, ImageVersion, put_head, read_head};
 use run_model::{Fault, Layout, Reason};
 use scope_tree::Tree;
 use std::alloc::{AllocError, Global};
+use std::process::Abort;
 use std::test::Fail;
 
 /// Scope a, which was cancelled by event 4 with the cause `disk`, and its child b, in version 2.
@@ -24,29 +25,44 @@ fn head(scopes: u16) -> ImageHead {
     }
 }
 
+/// Asserts that the image is read in the version of this byte, and written again in version 2.
+fn assert_image(rt: &impl Abort, alloc: Global, byte: u8, what: &str) -> Result<(), Fail> {
+    let mut image = *IMAGE;
+    image[0] = byte;
+    let (head, rest) = read_head(&image, Layout::Small).ok_or("no head")?;
+    let tree = Tree::with_room(alloc, Layout::Small)?;
+    let (tree, rest) = tree.read_rows(&head, rest)?;
+    assert!(rt; rest.is_empty(), "{what}");
+    assert!(rt; tree.len() == 3, "{what}");
+    assert_scopes(rt, &tree, what);
+    let mut out = [0xee; 500];
+    let end = put_head(&mut out, 0, &head);
+    let end = tree.write_rows(&mut out, end);
+    assert!(rt; end == 57, "{what}");
+    assert!(rt; out.starts_with(IMAGE), "{what}");
+    Ok(())
+}
+
+/// Asserts that scope b is there, and that it is cancelled with a's cause.
+fn assert_scopes(rt: &impl Abort, tree: &Tree, what: &str) {
+    assert!(rt; 2 < tree.len(), "{what}");
+    assert!(rt; tree.err(2) == Some(Reason::Canceled), "{what}");
+    assert!(rt; tree.cause(2) == Some(b"disk".as_slice()), "{what}");
+}
+
 #[test]
 fn image_of_57_bytes(rt: HostRuntime) -> Result<(), Fail> {
-    for version in [1, 2] {
-        let mut image = *IMAGE;
-        image[0] = version;
-        let (head, rest) = read_head(&image, Layout::Small).ok_or("no head")?;
-        let tree = Tree::with_room(rt.alloc(), Layout::Small)?;
-        let (tree, rest) = tree.read_rows(&head, rest)?;
-        assert!(rt; rest.is_empty(), "version {version}");
-        assert_eq!(rt; tree.len(), 3, "version {version}");
-        assert_eq!(rt; tree.err(2), Some(Reason::Canceled), "version {version}");
-        assert_eq!(rt;
-            tree.cause(2),
-            Some(b"disk".as_slice()),
-            "version {version}"
-        );
-        let mut out = [0xee; 500];
-        let end = put_head(&mut out, 0, &head);
-        let end = tree.write_rows(&mut out, end);
-        assert_eq!(rt; end, 57, "version {version}");
-        assert!(rt; out.starts_with(IMAGE), "version {version}");
+    assert_image(&rt, rt.alloc(), 1, "version 1")?;
+    assert_image(&rt, rt.alloc(), 2, "version 2")
+}
+
+/// Says whether these are the rows of so many scopes, at clock 200 and behind ten events.
+fn is_read(alloc: Global, scopes: u16, bytes: &[u8]) -> Result<bool, Fault> {
+    let tree = Tree::with_room(alloc, Layout::Small)?;
+    match tree.read_rows(&head(scopes), bytes) {
+        Ok((tree, rest)) => Ok(tree.len() == scopes as usize + 1 && rest.is_empty()),
+        Err(_) => Ok(false),
     }
-    Ok(())
 }
 
 #[test]
@@ -84,13 +100,7 @@ fn rows_that_keep_the_rules_are_read(rt: HostRuntime) -> Result<(), Fail> {
         ),
     ];
     for (what, scopes, bytes) in rows {
-        let tree = Tree::with_room(rt.alloc(), Layout::Small)?;
-        let read = tree.read_rows(&head(scopes), bytes);
-        let found = match read {
-            Ok((tree, rest)) => tree.len() == scopes as usize + 1 && rest.is_empty(),
-            Err(_) => false,
-        };
-        assert!(rt; found, "{what}");
+        assert!(rt; is_read(rt.alloc(), scopes, bytes)?, "{what}");
     }
     Ok(())
 }
@@ -219,28 +229,49 @@ fn push_greatest_row(rows: &mut Vec<u8>, n: u16) -> Result<(), AllocError> {
     rows.extend_from_slice(&[b'x'; 64])
 }
 
+/// The rows of so many scopes, each of 192 bytes.
+fn greatest_rows(alloc: Global, scopes: u16) -> Result<Vec<u8>, AllocError> {
+    let mut rows = Vec::new(alloc);
+    for n in 0..scopes {
+        push_greatest_row(&mut rows, n)?;
+    }
+    Ok(rows)
+}
+
+/// Asserts that these are read as the rows of so many scopes, and written again.
+fn assert_written(
+    rt: &impl Abort,
+    alloc: Global,
+    layout: Layout,
+    scopes: u16,
+    rows: &[u8],
+) -> Result<(), Fail> {
+    let tree = Tree::with_room(alloc, layout)?;
+    let (tree, rest) = tree.read_rows(&head(scopes), rows)?;
+    assert!(rt; rest.is_empty(), "{scopes} scopes");
+    assert!(rt; tree.len() == scopes as usize + 1, "{scopes} scopes");
+    let mut again = Vec::from_elem(alloc, 0, rows.len())?;
+    assert!(rt;
+        192 * tree.len().saturating_sub(1) <= again.len(),
+        "{scopes} scopes"
+    );
+    assert!(rt;
+        tree.write_rows(&mut again, 0) == rows.len(),
+        "{scopes} scopes"
+    );
+    assert!(rt; again.as_slice() == rows, "{scopes} scopes");
+    Ok(())
+}
+
 #[test]
 fn greatest_trees(rt: HostRuntime) -> Result<(), Fail> {
     for (layout, scopes, len) in [
         (Layout::Small, 1_023, 196_416),
         (Layout::Large, 4_095, 786_240),
     ] {
-        let mut rows = Vec::with_capacity(rt.alloc(), len)?;
-        for n in 0..scopes {
-            push_greatest_row(&mut rows, n)?;
-        }
-        assert_eq!(rt; rows.len(), len, "{scopes} scopes");
-        let tree = Tree::with_room(rt.alloc(), layout)?;
-        let (tree, rest) = tree.read_rows(&head(scopes), &rows)?;
-        assert!(rt; rest.is_empty(), "{scopes} scopes");
-        assert_eq!(rt; tree.len(), scopes as usize + 1, "{scopes} scopes");
-        let mut again = Vec::from_elem(rt.alloc(), 0, len)?;
-        assert!(rt;
-            192 * tree.len().saturating_sub(1) <= again.len(),
-            "{scopes} scopes"
-        );
-        assert_eq!(rt; tree.write_rows(&mut again, 0), len, "{scopes} scopes");
-        assert!(rt; rows == again, "{scopes} scopes");
+        let rows = greatest_rows(rt.alloc(), scopes)?;
+        assert!(rt; rows.len() == len, "{scopes} scopes");
+        assert_written(&rt, rt.alloc(), layout, scopes, &rows)?;
     }
     Ok(())
 }

@@ -144,8 +144,16 @@ fn compare(rt: &impl Abort, alloc: Global, shape: Shape, what: &str) -> Result<(
 }
 
 #[test]
-fn restored_trees(rt: HostRuntime) -> Result<(), Fail> {
-    compare(&rt, rt.alloc(), Shape::Chain, "restored chain")?;
-    compare(&rt, rt.alloc(), Shape::Star, "restored star")?;
-    compare(&rt, rt.alloc(), Shape::Random, "restored random tree")
+fn restored_chain(rt: HostRuntime) -> Result<(), Fail> {
+    compare(&rt, rt.alloc(), Shape::Chain, "chain")
+}
+
+#[test]
+fn restored_star(rt: HostRuntime) -> Result<(), Fail> {
+    compare(&rt, rt.alloc(), Shape::Star, "star")
+}
+
+#[test]
+fn restored_random_tree(rt: HostRuntime) -> Result<(), Fail> {
+    compare(&rt, rt.alloc(), Shape::Random, "random tree")
 }
