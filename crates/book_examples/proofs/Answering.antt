@@ -1,11 +1,12 @@
 -- The steps of the examples, one by one.
 use Rattle.std.proofs.Common.{◌<◌, ◌+◌, ◌≡◌, ◌≤◌, ◌++◌, ℕ, List, length, Ok, Err, inl, inr, refl}
-use Rattle.std.proofs.Common.{arith, ap, take, length-append, Result}
-use Rattle.std.specs.List.{flat_map}
-use Rattle.run_model.specs.Session.{Session, session_after}
+use Rattle.std.proofs.Common.{arith, ap, take, length-append, Result, [], ◌∷◌, ◌∙◌}
+use Rattle.std.specs.List.{cons_option, flat_map}
+use Rattle.run_model.specs.Session.{Session, event_of_step, reply_of_step, session_after}
 use Rattle.run_model.specs.declared.answers.Reply.{Reply}
 use Rattle.run_model.specs.declared.commands.Step.{Step}
-use Rattle.run_model.specs.declared.faults.Fault.TheVariants.{DiskFailed, NotAStore, WrongSize}
+use Rattle.run_model.specs.declared.faults.Fault.TheVariants.{DiskFailed, NotAStore}
+use Rattle.run_model.specs.declared.faults.Fault.TheVariants.{NumbersSpent, WrongSize}
 use Rattle.run_model.specs.declared.faults.Trouble.TheVariants.{Faulty, Refused}
 use Rattle.run_model.specs.declared.faults.Trouble.{Trouble}
 use Rattle.run_model.specs.declared.layouts.Layout.TheVariants.{Small}
@@ -14,14 +15,16 @@ use Rattle.run_disk.specs.Disk.{last_moment}
 use Rattle.run_disk.specs.Runs.{Passed}
 use Rattle.run_store.specs.Recoveries.{FailedAt}
 use Rattle.scope_laws.proofs.RunLemmas.{run_counts}
-use Rattle.model_examples.specs.Calls.{acked, faulty, flush}
+use Rattle.model_examples.specs.Calls.{acked, checkpoint, faulty, flush, scope_made}
 use Rattle.model_examples.specs.Nights.{new_store}
-use Rattle.book_model.specs.Holdings.{Flushes, Holding, MustCheckpoint}
+use Rattle.book_model.specs.Holdings.{Checkpoints, Flushes, Holding, IsSession, MustCheckpoint}
 use Rattle.book_model.specs.Nights.{HasKept}
 use Rattle.book_model.specs.Openings.{Recovers}
 use Rattle.book_model.specs.Steps.{AnswersStep, Steps, reply_of_save}
+use Rattle.book_model.proofs.Stepping.{session_one}
 use Rattle.book_examples.specs.Plays.{first_events, first_three, three_replies}
-use Rattle.book_examples.specs.Steps.{Counts, behind_three, failed, flushed, new_book, state_of}
+use Rattle.book_examples.specs.Steps.{Counts, behind_three, failed, first_command, flushed}
+use Rattle.book_examples.specs.Steps.{flushed_twice, last_book, last_flushed, new_book, state_of}
 use Rattle.book_examples.specs.Stores.{two_events}
 
 fits : MustCheckpoint behind_three → ⊥
@@ -29,23 +32,41 @@ fits must =
     let size : length (flat_map spelling first_events) ≡ 26 = refl in
     omega (arith, size, must)
 
+-- So many calls and failures are passed on to as many or more.
+passed_by : (calls more failures others : ℕ) → calls ≤ more → failures ≤ others
+    → Passed (state_of (record { calls = calls; failures = failures }))
+    (state_of (record { calls = more; failures = others }))
+passed_by calls more failures others later also = record {
+  size = refl;
+  honest = λ is. is;
+  honest_before = λ is. is;
+  later = later;
+  failures_later = also;
+}
+
 flush_done : Flushes state_of behind_three (Ok 4) flushed
 flush_done = record {
   saves = record {
     origin = refl;
     start = refl;
     history = refl;
+    passed = passed_by 10 16 0 0 (omega arith) (omega arith);
+    most = omega arith;
+    any_moment = λ safe. absurd safe.honest;
     answer = record {
       was = refl;
       sound = refl;
       counted = refl;
       durable = refl;
       fine = refl;
+      rest = λ safe. absurd safe.honest;
     };
   };
   nothing = λ few. absurd (omega (arith, few));
   spent = λ must last. absurd (fits must);
   next = λ must. absurd (fits must);
+  added = λ some room. record { made = record { clock = refl; failures = refl }; journal = refl };
+  few = λ room. omega arith;
   stays = λ fits. refl;
   unspent = λ told. absurd (cc);
 }
@@ -56,17 +77,23 @@ flush_failed = record {
     origin = refl;
     start = refl;
     history = refl;
+    passed = passed_by 10 11 0 1 (omega arith) (omega arith);
+    most = omega arith;
+    any_moment = λ safe. absurd safe.honest;
     answer = inr (inr (record {
       told = refl;
       was = refl;
       broken = refl;
       durable = refl;
       cause = inl (omega arith);
+      journal = refl;
     }));
   };
   nothing = λ few. absurd (omega (arith, few));
   spent = λ must last. absurd (fits must);
   next = λ must. tt;
+  added = λ some room. tt;
+  few = λ room. omega arith;
   stays = λ fits. refl;
   unspent = λ told. absurd (cc);
 }
@@ -78,17 +105,23 @@ flush_nothing = record {
     origin = refl;
     start = refl;
     history = refl;
+    passed = passed_by 16 16 0 0 (omega arith) (omega arith);
+    most = omega arith;
+    any_moment = λ safe. absurd safe.honest;
     answer = record {
       was = refl;
       sound = refl;
       counted = refl;
       durable = refl;
       fine = refl;
+      rest = λ safe. absurd safe.honest;
     };
   };
   nothing = λ few. refl;
   spent = λ must last. absurd (omega (arith, must));
   next = λ must. absurd (omega (arith, must));
+  added = λ some room. absurd (omega (arith, some));
+  few = λ room. omega arith;
   stays = λ fits. refl;
   unspent = λ told. absurd (cc);
 }
@@ -119,6 +152,114 @@ no_count (Err (Faulty why)) new told flushes = cc
 pub count_told : (new : Holding Counts)
     → AnswersStep state_of behind_three flush (acked 3) new → ⊥
 count_told new tells = no_count tells.result new tells.told tells.saves
+
+-- Nor are two batches laid.
+no_second : (result : Result ℕ Trouble) → acked 4 ≡ reply_of_save result
+    → Flushes state_of behind_three result flushed_twice → ⊥
+no_second (Ok n) told flushes =
+    let calls = (flushes.added (omega arith) fits).made.clock in
+    omega (arith, calls)
+no_second (Err (Refused why)) told flushes = cc
+no_second (Err (Faulty why)) told flushes = cc
+
+pub batches_one : AnswersStep state_of behind_three flush (acked 4) flushed_twice → ⊥
+batches_one tells = no_second tells.result tells.told tells.saves
+
+-- ---- a command
+
+-- The book is in one session, so it is answered as that says.
+in_new_store : (s : Session) → IsSession new_book s → s ≡ new_store
+in_new_store s is = session_one new_book s new_store is (record { state = refl; log = refl })
+
+apart : scope_made 2 ≡ scope_made 1 → ⊥
+apart same = cc
+
+pub scope_told : (new : Holding Counts)
+    → AnswersStep state_of new_book first_command (scope_made 2) new → ⊥
+scope_told new takes =
+    apart (takes.told
+    ∙ ap (λ s. reply_of_step s first_command) (in_new_store takes.session takes.is_session))
+
+pub event_taken : AnswersStep state_of new_book first_command (scope_made 1) new_book → ⊥
+event_taken takes =
+    let more = ap (λ (h : Holding Counts). length h.history) takes.grown in
+    let events = ap (λ s. length (new_book.history ++ cons_option
+    (event_of_step s first_command) [])) (in_new_store takes.session takes.is_session) in
+    omega (arith, more, events)
+
+-- ---- the last generation
+
+last_spent : Checkpoints state_of last_book (Err (Faulty NumbersSpent)) last_book
+last_spent = record {
+  saves = record {
+    origin = refl;
+    start = refl;
+    history = refl;
+    passed = passed_by 10 10 0 0 (omega arith) (omega arith);
+    most = omega arith;
+    any_moment = λ safe. absurd safe.honest;
+    answer = inr (inl (record { told = refl; was = refl; last = refl; same = refl }));
+  };
+  spent = λ last. refl;
+  next = tt;
+}
+
+last_fits : MustCheckpoint last_book → ⊥
+last_fits must =
+    let size : length (flat_map spelling first_events) ≡ 26 = refl in
+    omega (arith, size, must)
+
+last_flush : Flushes state_of last_book (Ok 4) last_flushed
+last_flush = record {
+  saves = record {
+    origin = refl;
+    start = refl;
+    history = refl;
+    passed = passed_by 10 16 0 0 (omega arith) (omega arith);
+    most = omega arith;
+    any_moment = λ safe. absurd safe.honest;
+    answer = record {
+      was = refl;
+      sound = refl;
+      counted = refl;
+      durable = refl;
+      fine = refl;
+      rest = λ safe. absurd safe.honest;
+    };
+  };
+  nothing = λ few. absurd (omega (arith, few));
+  spent = λ must last. absurd (last_fits must);
+  next = λ must. absurd (last_fits must);
+  added = λ some room. record { made = record { clock = refl; failures = refl }; journal = refl };
+  few = λ room. omega arith;
+  stays = λ room. refl;
+  unspent = λ told. absurd (cc);
+}
+
+pub last_answered : Steps state_of last_book (checkpoint ∷ flush ∷ [])
+    (faulty NumbersSpent ∷ acked 4 ∷ []) last_flushed
+last_answered = (
+  last_book,
+  record { result = Err (Faulty NumbersSpent); told = refl; saves = last_spent; layout = refl },
+  (
+    last_flushed,
+    record { result = Ok 4; told = refl; saves = last_flush; layout = refl },
+    refl,
+  ),
+)
+
+no_checkpoint : (n : ℕ) (result : Result ℕ Trouble) (new : Holding Counts)
+    → acked n ≡ reply_of_save result → Checkpoints state_of last_book result new → ⊥
+no_checkpoint n (Ok m) new told saves =
+    let is : Ok m ≡ Err (Faulty NumbersSpent) = saves.spent (record { sound = refl; last = refl })
+    in
+    cc (is)
+no_checkpoint n (Err (Refused why)) new told saves = cc
+no_checkpoint n (Err (Faulty why)) new told saves = cc
+
+pub none_done : (n : ℕ) (new : Holding Counts)
+    → AnswersStep state_of last_book checkpoint (acked n) new → ⊥
+none_done n new tells = no_checkpoint n tells.result new tells.told tells.saves
 
 -- No failure is told where nothing was called.
 no_failure : (result : Result ℕ Trouble) → faulty DiskFailed ≡ reply_of_save result
@@ -188,24 +329,13 @@ counts_between bytes kept =
 
 -- ---- a recovery
 
-passed : (calls failures : ℕ)
-    → Passed (state_of (record { calls = calls; failures = failures }))
-    (state_of (record { calls = calls + 1; failures = failures + 1 }))
-passed calls failures = record {
-  size = refl;
-  honest = λ is. is;
-  honest_before = λ is. is;
-  later = omega arith;
-  failures_later = omega arith;
-}
-
 pub first_read_failed : (calls failures : ℕ)
     → Recovers state_of (record { calls = calls; failures = failures }) (Err DiskFailed)
     (record { calls = calls + 1; failures = failures + 1 })
 first_read_failed calls failures = record {
   sized = (Small, refl);
   which = inl (inl (refl, refl));
-  passed = passed calls failures;
+  passed = passed_by calls (calls + 1) failures (failures + 1) (omega arith) (omega arith);
   only = λ honest. absurd honest;
 }
 

@@ -1,9 +1,9 @@
 -- A book of a new store, over a disk of which nothing is known but its size and its counts; and
 -- what steps make of it.
-use Rattle.std.specs.Prelude.{ℕ, List, [], ◌∷◌, ◌++◌, true, false}
+use Rattle.std.specs.Prelude.{ℕ, ◌-◌, ◌^◌, List, [], ◌∷◌, ◌++◌, true, false}
 use Rattle.run_model.specs.declared.answers.Reply.{Reply}
 use Rattle.run_model.specs.declared.commands.Step.{Step}
-use Rattle.run_model.specs.declared.commands.Wish.TheVariants.{Cancel}
+use Rattle.run_model.specs.declared.commands.Wish.TheVariants.{Cancel, Cause}
 use Rattle.run_model.specs.declared.faults.Fault.TheVariants.{DiskFailed}
 use Rattle.run_model.specs.declared.layouts.Layout.TheVariants.{Small}
 use Rattle.run_model.specs.declared.refusals.Refusal.TheVariants.{Broken}
@@ -67,7 +67,26 @@ failed = record behind_three {
   journal = record new_book.journal { disk = record { calls = 11; failures = 1 }; broken = true };
 }
 
+-- The same by two batches, of one record and of two: twelve calls, and five bytes more.
+abbrev pub flushed_twice : Holding Counts
+flushed_twice = record behind_three {
+  durable = 4;
+  journal = record new_book.journal { disk = record { calls = 22; failures = 0 }; tail = 36 };
+}
+
+-- The book behind three commands, where no generation is left, and behind a flush of theirs.
+abbrev pub last_book : Holding Counts
+last_book =
+    record behind_three { journal = record new_book.journal { generation = 2 ^ 63 - 1 } }
+
+abbrev pub last_flushed : Holding Counts
+last_flushed = record flushed { journal = record flushed.journal { generation = 2 ^ 63 - 1 } }
+
 -- ---- steps
+
+-- The first of the three commands.
+abbrev pub first_command : Step
+first_command = derive "a" "root" Cause
 
 -- Three commands and a flush, and their replies where it is done.
 abbrev pub first_call : List Step

@@ -1,13 +1,16 @@
 //! Steps over a book of a new store: a flush that is done, one that fails, and a stop between two
 //! calls.
 
-ghost use Rattle.std.specs.Prelude.{◌≡◌, ◌<◌, ◌≤◌, ◌+◌, ◌++◌, [], Err, ℕ, List};
+ghost use Rattle.std.specs.Prelude.{◌≡◌, ◌<◌, ◌≤◌, ◌+◌, ◌++◌, [], ◌∷◌, Err, ℕ, List};
 ghost use Rattle.run_model.specs.declared.faults.Fault.TheVariants.{DiskFailed, Memory, NotAStore};
-ghost use Rattle.run_model.specs.declared.faults.Fault.TheVariants.{WrongSize};
+ghost use Rattle.run_model.specs.declared.faults.Fault.TheVariants.{NumbersSpent, WrongSize};
 ghost use Rattle.run_model.specs.declared.refusals.Refusal.TheVariants.{Broken};
+ghost use Rattle.run_model.specs.Allowed.{IsFront};
 ghost use Rattle.run_model.specs.Session.{accepted, acknowledged};
+ghost use Rattle.run_model.specs.State.{State};
 ghost use Rattle.run_disk.specs.Disk.{last_moment};
-ghost use Rattle.model_examples.specs.Calls.{acked, checkpoint, faulty, flush, refused, start};
+ghost use Rattle.model_examples.specs.Calls.{acked, checkpoint, faulty, flush, refused};
+ghost use Rattle.model_examples.specs.Calls.{scope_made, start};
 ghost use Rattle.model_examples.specs.Nights.{new_store};
 ghost use Rattle.book_model.specs.Holdings.{Holding};
 ghost use Rattle.book_model.specs.Nights.{HasKeptSince};
@@ -17,8 +20,9 @@ ghost use Rattle.book_model.specs.Steps.{AnswersStep, Steps};
 ghost use Rattle.book_model.specs.Stores.{StoresNone};
 ghost use Rattle.book_examples.specs.Plays.{first_events};
 ghost use Rattle.book_examples.specs.Steps.{Counts, behind_three, failed, failing_call};
-ghost use Rattle.book_examples.specs.Steps.{failing_replies, first_call, first_replies, flushed};
-ghost use Rattle.book_examples.specs.Steps.{new_book, second_call, second_replies};
+ghost use Rattle.book_examples.specs.Steps.{failing_replies, first_call, first_command};
+ghost use Rattle.book_examples.specs.Steps.{first_replies, flushed, flushed_twice, last_book};
+ghost use Rattle.book_examples.specs.Steps.{last_flushed, new_book, second_call, second_replies};
 ghost use Rattle.book_examples.specs.Steps.{short_state_of, state_of};
 ghost use Rattle.book_examples.specs.Stores.{two_events};
 
@@ -29,6 +33,30 @@ pub fn a_flush_is_done()
     ensures again { AnswersStep state_of flushed flush (acked 4) flushed }
     ensures counted { (new : Holding Counts)
         → AnswersStep state_of behind_three flush (acked 3) new → ⊥ }
+    ensures batched { AnswersStep state_of behind_three flush (acked 4) flushed_twice → ⊥ }
+{}
+
+/// The first of the three is answered by scope 1, and by no other; and the book has its event then.
+pub fn a_command_is_answered_as_its_session_says()
+    ensures told { (new : Holding Counts) → AnswersStep state_of new_book first_command
+        (scope_made 2) new → ⊥ }
+    ensures taken { AnswersStep state_of new_book first_command (scope_made 1) new_book → ⊥ }
+{}
+
+/// Where no generation is left, a checkpoint says that the numbers are spent, and changes nothing;
+/// a flush behind it, whose records fit, is done. No checkpoint is done there.
+pub fn the_last_generation_has_no_checkpoint()
+    ensures answered { Steps state_of last_book (checkpoint ∷ flush ∷ [])
+        (faulty NumbersSpent ∷ acked 4 ∷ []) last_flushed }
+    ensures undone { (n : ℕ) (new : Holding Counts)
+        → AnswersStep state_of last_book checkpoint (acked n) new → ⊥ }
+{}
+
+/// A state that lacks one of the acknowledged events is no front: three are acknowledged, and with
+/// the opening a front of them has four events at least.
+pub fn a_front_lacks_no_acknowledged_event()
+    ensures { (q : State) → q.count ≡ 3
+        → IsFront new_store.state (first_events ++ two_events) 3 q → ⊥ }
 {}
 
 /// Its first call fails: it is answered so, the book is broken, and each step behind it is refused

@@ -7,6 +7,7 @@ pub mod NeverBroken
 pub mod NightLemmas
 pub mod OpeningLemmas
 pub mod Playing
+pub mod Resting
 pub mod Sizes
 pub mod Stepping
 pub mod Storing

@@ -3,7 +3,9 @@
 ghost use Rattle.std.specs.Prelude.{◌≡◌, ◌⊎◌, ◌<◌, Err, ℕ, List, length, MatchResult, Result};
 ghost use Rattle.run_model.specs.declared.faults.Fault.{Fault};
 ghost use Rattle.run_model.specs.declared.faults.Fault.TheVariants.{DiskFailed, Memory};
+ghost use Rattle.run_model.specs.declared.faults.Fault.TheVariants.{NumbersSpent};
 ghost use Rattle.run_model.specs.declared.layouts.Layout.{Layout};
+ghost use Rattle.run_model.specs.Event.{Event};
 ghost use Rattle.run_model.specs.Layouts.{store_len};
 ghost use Rattle.run_model.specs.State.{State, formatted};
 ghost use Rattle.record_view.specs.Image.{image};
@@ -11,10 +13,11 @@ ghost use Rattle.run_disk.specs.Disk.{last_moment};
 ghost use Rattle.run_disk.specs.Runs.{OnlyReads};
 ghost use Rattle.run_journal.specs.Pairs.{HasNoPairBut};
 ghost use Rattle.book_model.specs.Holdings.{Holding};
+ghost use Rattle.book_model.specs.Nights.{HasKept};
 ghost use Rattle.book_model.specs.Openings.{Formats, HasFailedCheckpoint, Opens, OpensNot};
 ghost use Rattle.book_model.specs.Openings.{Recovers};
 ghost use Rattle.book_model.specs.Stores.{HasSpentNumbers, OpensNone, Stores, StoresNone};
-ghost use Rattle.book_model.specs.Stores.{restarted};
+ghost use Rattle.book_model.specs.Stores.{StoresFresh, StoresNothingOr, restarted};
 
 use run_disk::RunDisk;
 
@@ -48,19 +51,40 @@ pub fn an_opening_answers_what_is_stored<D: RunDisk>()
         (λ e. (e.0 ≡ why) ⊎ (e.0 ≡ Memory) ⊎ (e.0 ≡ DiskFailed)) }
 {}
 
+/// What steps left of a store, as it is kept at any moment, is read again, memory and the device
+/// aside: a recovery of an honest disk with these bytes answers the state that the first events
+/// led to; and an opening answers a book behind the restart of it, unless its numbers are used up.
+pub fn a_kept_night_is_read_again<D: RunDisk>()
+    ensures recovered { (start : State) (events acks : List Event) (old new : D)
+        (result : Result State Fault) (kept : HasKept start events acks (D.state old).now)
+        → (D.state old).honest → Recovers D.state old result new
+        → MatchResult result (λ q. q ≡ kept.state) (λ why. (why ≡ Memory) ⊎ (why ≡ DiskFailed)) }
+    ensures reopened { (start : State) (events acks : List Event) (given : D)
+        (result : Result (Holding D) (Fault × D))
+        (kept : HasKept start events acks (D.state given).now)
+        → (D.state given).honest → Opens D.state given result
+        → MatchResult result (λ h. h.start ≡ restarted kept.state)
+        (λ e. (e.0 ≡ Memory) ⊎ (e.0 ≡ DiskFailed) ⊎ (e.0 ≡ NumbersSpent)) }
+{}
+
 /// An opening that answers no book has only read; or the bytes store a state that could be opened,
 /// and a call failed, or the disk is spent, not before three calls were made.
 pub fn an_opening_writes_in_its_checkpoint_alone<D: RunDisk>()
     ensures { (given new : D) (why : Fault) → (D.state given).honest
         → OpensNot D.state given why new → OnlyReads (D.state given) (D.state new)
-        ⊎ HasFailedCheckpoint (D.state given) (D.state new) }
+        ⊎ HasFailedCheckpoint D.state given new }
 {}
 
 /// A format that was stopped over zeros leaves no state but that of the store that it makes: in
-/// bytes whose only pair, if any, has no batch and the empty image or that of root alone.
+/// bytes whose only pair, if any, has no batch and the empty image or that of root alone. So they
+/// store that state, or nothing. And a fresh store of a state stores it.
 pub fn a_stopped_format_leaves_no_other_state()
-    ensures { (layout : Layout) (x : List ℕ) (p : State) → length x ≡ store_len layout
+    ensures only { (layout : Layout) (x : List ℕ) (p : State) → length x ≡ store_len layout
         → HasNoPairBut (image (formatted layout)) x → Stores x p → p ≡ formatted layout }
+    ensures nothing_or { (layout : Layout) (x : List ℕ) → length x ≡ store_len layout
+        → HasNoPairBut (image (formatted layout)) x → StoresNothingOr (formatted layout) x }
+    ensures fresh { (layout : Layout) (generation : ℕ) (p : State) (x : List ℕ)
+        → StoresFresh layout generation p x → Stores x p }
 {}
 
 /// That the device failed is told only where a device call failed or the disk is spent.

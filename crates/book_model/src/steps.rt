@@ -10,8 +10,8 @@ ghost use Rattle.run_model.specs.declared.commands.Step.TheVariants as step;
 ghost use Rattle.run_model.specs.declared.faults.Trouble.{Trouble};
 ghost use Rattle.run_model.specs.declared.tasks.Outcome.{Outcome};
 ghost use Rattle.run_model.specs.Session.{Session};
-ghost use Rattle.run_disk.specs.Disk.{last_moment};
-ghost use Rattle.book_model.specs.Holdings.{Checkpoints, Flushes, Holding, IsSession};
+ghost use Rattle.run_disk.specs.Disk.{IsAtRest, last_moment};
+ghost use Rattle.book_model.specs.Holdings.{Checkpoints, Flushes, Holding, IsSafe, IsSession};
 ghost use Rattle.book_model.specs.Plays.{is_device_failure, is_spent_reply, last_acked};
 ghost use Rattle.book_model.specs.Steps.{AnswersStep, FallsApart, PlaysFrom, PlaysInto, Refuses};
 ghost use Rattle.book_model.specs.Steps.{Steps, Takes, reply_of_save};
@@ -88,6 +88,15 @@ pub fn steps_acknowledge_what_was_told<D: RunDisk>()
         → new.durable ≡ unwrap_or (last_acked answers) old.durable }
     ensures broken { (old new : Holding D) (steps : List Step) (answers : List Reply)
         → old.journal.broken ≡ true → Steps D.state old steps answers new → new ≡ old }
+{}
+
+/// Where a book isn't broken behind a list of steps, its disk is at rest as it was before, if the
+/// disk is honest and the book was opened on a disk at rest. So it may be opened again from there.
+pub fn a_book_that_is_not_broken_stays_at_rest<D: RunDisk>()
+    ensures { (old new : Holding D) (steps : List Step) (answers : List Reply)
+        → IsSafe D.state old → IsAtRest (D.state old.journal.disk)
+        → Steps D.state old steps answers new → new.journal.broken ≡ false
+        → IsAtRest (D.state new.journal.disk) }
 {}
 
 /// A reply says that the device failed only where a device call failed or the disk is spent, and

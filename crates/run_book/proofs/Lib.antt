@@ -1,6 +1,7 @@
 pub mod Answering
 pub mod Beginning
 pub mod Carrying
+pub mod Ending
 pub mod Filling
 pub mod Outcomes
 pub mod Playing

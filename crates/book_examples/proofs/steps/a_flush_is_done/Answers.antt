@@ -1,6 +1,7 @@
 use Rattle.std.proofs.Common.{[], ◌∷◌, refl}
 use Rattle.model_examples.specs.Calls.{acked, flush}
-use Rattle.book_examples.proofs.Answering.{count_told, flush_acked, flush_again, three_then}
+use Rattle.book_examples.proofs.Answering.{batches_one, count_told, flush_acked, flush_again}
+use Rattle.book_examples.proofs.Answering.{three_then}
 use Rattle.book_examples.specs.Steps.{flushed}
 use Rattle.book_examples.proofs.steps.a_flush_is_done.Goals as goal
 
@@ -13,3 +14,6 @@ returns-clause-again c = flush_again
 
 pub returns-clause-counted : goal.returns-clause-counted
 returns-clause-counted c = count_told
+
+pub returns-clause-batched : goal.returns-clause-batched
+returns-clause-batched c = batches_one
