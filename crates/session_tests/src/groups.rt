@@ -3,15 +3,14 @@
 use crate::calls::Call::{
     Advance, Bare, Cancel, Derive, Fail, Go, Group, Limit, Retry, Start, Succeed, Try, Wait,
 };
-use crate::calls::{Ask, Said, assert_refused, assert_said, text};
-use crate::looks::{Seen, assert_group, assert_phases, assert_scopes};
-use run_model::{Fault, Layout, Phase, Refusal};
-use run_session::Session;
+use crate::calls::{Ask, Said};
+use crate::looks::{Going, Seen};
+use crate::steps::Step::{Count, Refuses, Running, Says, Scopes, Tasks};
+use crate::steps::{Step, play};
+use run_model::{Fault, Refusal};
 
-#[test]
-fn a_limit_holds_tasks_back(rt: HostRuntime) -> Result<(), Fault> {
-    let mut session = Session::new(rt.alloc(), Layout::Small)?;
-    let rows = [
+static LIMIT_OF_TWO: [Step; 4] = [
+    Says(&[
         (Group(b"g", b"root"), Said::Group(0, Some(1))),
         (Limit(b"g", Some(2)), Said::Done),
         (Go(b"g", b"copy", b"a"), Said::Ready(0)),
@@ -25,35 +24,36 @@ fn a_limit_holds_tasks_back(rt: HostRuntime) -> Result<(), Fault> {
             Limit(b"g", Some(3)),
             Said::Refused(Refusal::LimitWhileActive),
         ),
-    ];
-    assert_said(&rt, &mut session, &rows);
-    let phases = [Phase::Success, Phase::Ready, Phase::Ready];
-    assert_phases(&rt, session.state(), &phases);
-    assert_group(&rt, session.state(), b"g", (1, 2, Some(2), false, None));
-    assert_eq!(rt; session.count(), 8);
-    Ok(())
-}
+    ]),
+    Tasks(&[Going::Success, Going::Ready, Going::Ready]),
+    Step::Group(b"g", (1, 2, Some(2), false, None)),
+    Count(8),
+];
 
 #[test]
-fn a_limit_of_0_admits_none(rt: HostRuntime) -> Result<(), Fault> {
-    let mut session = Session::new(rt.alloc(), Layout::Small)?;
-    let rows = [
+fn a_limit_holds_tasks_back(rt: HostRuntime) -> Result<(), Fault> {
+    play(&rt, rt.alloc(), &LIMIT_OF_TWO)
+}
+
+static LIMIT_OF_NONE: [Step; 2] = [
+    Says(&[
         (Group(b"g", b"root"), Said::Group(0, Some(1))),
         (Limit(b"g", Some(0)), Said::Done),
         (Go(b"g", b"copy", b"a"), Said::Held(0)),
         (Start, Said::Refused(Refusal::NothingReady)),
         (Try(b"g", b"copy", b"b"), Said::Refused(Refusal::AtLimit)),
         (Wait(b"g"), Said::Refused(Refusal::Unfinished(1))),
-    ];
-    assert_said(&rt, &mut session, &rows);
-    assert_eq!(rt; session.count(), 4);
-    Ok(())
-}
+    ]),
+    Count(4),
+];
 
 #[test]
-fn the_first_error_ends_the_group(rt: HostRuntime) -> Result<(), Fault> {
-    let mut session = Session::new(rt.alloc(), Layout::Small)?;
-    let rows = [
+fn a_limit_of_0_admits_none(rt: HostRuntime) -> Result<(), Fault> {
+    play(&rt, rt.alloc(), &LIMIT_OF_NONE)
+}
+
+static TWO_ERRORS: [Step; 5] = [
+    Says(&[
         (Group(b"g", b"root"), Said::Group(0, Some(1))),
         (Go(b"g", b"copy", b"a"), Said::Ready(0)),
         (Go(b"g", b"copy", b"b"), Said::Ready(1)),
@@ -66,47 +66,41 @@ fn the_first_error_ends_the_group(rt: HostRuntime) -> Result<(), Fault> {
         (Go(b"g", b"copy", b"c"), Said::Refused(Refusal::Waited)),
         (Try(b"g", b"copy", b"c"), Said::Refused(Refusal::Waited)),
         (Limit(b"g", None), Said::Refused(Refusal::Waited)),
-    ];
-    assert_said(&rt, &mut session, &rows);
-    assert_scopes(&rt, session.state(), &[(1, Seen::Canceled(b"x"), None)]);
-    assert_group(&rt, session.state(), b"g", (1, 0, None, true, Some(b"x")));
-    let phases = [
-        Phase::Failure(text(&rt, b"y")),
-        Phase::Failure(text(&rt, b"x")),
-    ];
-    assert_phases(&rt, session.state(), &phases);
-    assert_eq!(rt; session.count(), 9, "the second wait is no event");
-    Ok(())
-}
+    ]),
+    Scopes(&[(1, Seen::Canceled(b"x"), None)]),
+    Step::Group(b"g", (1, 0, None, true, Some(b"x"))),
+    Tasks(&[Going::Failure(b"y"), Going::Failure(b"x")]),
+    // The second wait is no event.
+    Count(9),
+];
 
 #[test]
-fn a_wait_ends_the_groups_own_scope(rt: HostRuntime) -> Result<(), Fault> {
-    let mut session = Session::new(rt.alloc(), Layout::Small)?;
-    let rows = [
+fn the_first_error_ends_the_group(rt: HostRuntime) -> Result<(), Fault> {
+    play(&rt, rt.alloc(), &TWO_ERRORS)
+}
+
+static TWO_WAITS: [Step; 3] = [
+    Says(&[
         (Group(b"g", b"root"), Said::Group(0, Some(1))),
         (Bare(b"h", b"root"), Said::Group(1, None)),
         (Wait(b"g"), Said::Waited(None)),
         (Wait(b"h"), Said::Waited(None)),
-    ];
-    assert_said(&rt, &mut session, &rows);
-    let scopes = [
+    ]),
+    Scopes(&[
         (1, Seen::Canceled(b"context canceled"), None),
         (0, Seen::Live, None),
-    ];
-    assert_scopes(&rt, session.state(), &scopes);
-    assert_eq!(rt; session.count(), 5);
-    Ok(())
-}
+    ]),
+    Count(5),
+];
 
 #[test]
-fn names_that_are_taken_or_missing_are_refused(rt: HostRuntime) -> Result<(), Fault> {
-    let mut session = Session::new(rt.alloc(), Layout::Small)?;
-    assert_said(
-        &rt,
-        &mut session,
-        &[(Group(b"g", b"root"), Said::Group(0, Some(1)))],
-    );
-    let rows = [
+fn a_wait_ends_the_groups_own_scope(rt: HostRuntime) -> Result<(), Fault> {
+    play(&rt, rt.alloc(), &TWO_WAITS)
+}
+
+static BAD_NAMES: [Step; 4] = [
+    Says(&[(Group(b"g", b"root"), Said::Group(0, Some(1)))]),
+    Refuses(&[
         (Bare(b"g", b"root"), Refusal::NameTaken),
         (Bare(b"h", b"no"), Refusal::NoSuchScope),
         (Group(b"h", b"no"), Refusal::NoSuchScope),
@@ -118,17 +112,18 @@ fn names_that_are_taken_or_missing_are_refused(rt: HostRuntime) -> Result<(), Fa
         (Retry(0), Refusal::NoSuchTask),
         (Start, Refusal::NothingReady),
         (Cancel(b"g", b""), Refusal::NotCancellable),
-    ];
-    assert_refused(&rt, &mut session, &rows);
-    assert_said(&rt, &mut session, &[(Limit(b"g", Some(64)), Said::Done)]);
-    assert_eq!(rt; session.count(), 3);
-    Ok(())
-}
+    ]),
+    Says(&[(Limit(b"g", Some(64)), Said::Done)]),
+    Count(3),
+];
 
 #[test]
-fn tasks_start_in_order_and_end_in_any(rt: HostRuntime) -> Result<(), Fault> {
-    let mut session = Session::new(rt.alloc(), Layout::Small)?;
-    let rows = [
+fn names_that_are_taken_or_missing_are_refused(rt: HostRuntime) -> Result<(), Fault> {
+    play(&rt, rt.alloc(), &BAD_NAMES)
+}
+
+static THREE_TASKS: [Step; 4] = [
+    Says(&[
         (Group(b"g", b"root"), Said::Group(0, Some(1))),
         (Go(b"g", b"spin", b"1"), Said::Ready(0)),
         (Go(b"g", b"copy", b"a"), Said::Ready(1)),
@@ -141,23 +136,19 @@ fn tasks_start_in_order_and_end_in_any(rt: HostRuntime) -> Result<(), Fault> {
         (Fail(2, b"z"), Said::Refused(Refusal::NotRunning)),
         (Retry(0), Said::Refused(Refusal::NotInterrupted)),
         (Start, Said::Started(2, b"spin", b"2", true)),
-    ];
-    assert_said(&rt, &mut session, &rows);
-    let phases = [
-        Phase::Failure(text(&rt, b"x")),
-        Phase::Success,
-        Phase::Running,
-    ];
-    assert_phases(&rt, session.state(), &phases);
-    assert_eq!(rt; session.state().running(), 1);
-    assert_eq!(rt; session.count(), 10);
-    Ok(())
-}
+    ]),
+    Tasks(&[Going::Failure(b"x"), Going::Success, Going::Running]),
+    Running(1),
+    Count(10),
+];
 
 #[test]
-fn tasks_of_a_bare_group_are_told_of_its_scope(rt: HostRuntime) -> Result<(), Fault> {
-    let mut session = Session::new(rt.alloc(), Layout::Small)?;
-    let rows = [
+fn tasks_start_in_order_and_end_in_any(rt: HostRuntime) -> Result<(), Fault> {
+    play(&rt, rt.alloc(), &THREE_TASKS)
+}
+
+static BARE_GROUP: [Step; 3] = [
+    Says(&[
         (Derive(b"s", b"root", Ask::Cause), Said::Scope(1)),
         (Bare(b"h", b"s"), Said::Group(0, None)),
         (Go(b"h", b"copy", b"a"), Said::Ready(0)),
@@ -169,26 +160,30 @@ fn tasks_of_a_bare_group_are_told_of_its_scope(rt: HostRuntime) -> Result<(), Fa
         (Advance(5), Said::Done),
         (Succeed(1), Said::Finished(11)),
         (Wait(b"h"), Said::Waited(Some(b"x"))),
-    ];
-    assert_said(&rt, &mut session, &rows);
-    assert_scopes(&rt, session.state(), &[(1, Seen::Canceled(b"stop"), None)]);
-    assert_group(&rt, session.state(), b"h", (1, 0, None, true, Some(b"x")));
-    Ok(())
-}
+    ]),
+    Scopes(&[(1, Seen::Canceled(b"stop"), None)]),
+    Step::Group(b"h", (1, 0, None, true, Some(b"x"))),
+];
 
 #[test]
-fn a_group_below_a_done_scope_keeps_the_first_cause(rt: HostRuntime) -> Result<(), Fault> {
-    let mut session = Session::new(rt.alloc(), Layout::Small)?;
-    let rows = [
+fn tasks_of_a_bare_group_are_told_of_its_scope(rt: HostRuntime) -> Result<(), Fault> {
+    play(&rt, rt.alloc(), &BARE_GROUP)
+}
+
+static DONE_SCOPE: [Step; 3] = [
+    Says(&[
         (Derive(b"s", b"root", Ask::Cause), Said::Scope(1)),
         (Group(b"g", b"s"), Said::Group(0, Some(2))),
         (Go(b"g", b"copy", b"a"), Said::Ready(0)),
         (Cancel(b"s", b"stop"), Said::Done),
         (Start, Said::Started(0, b"copy", b"a", true)),
         (Fail(0, b"x"), Said::Finished(7)),
-    ];
-    assert_said(&rt, &mut session, &rows);
-    assert_scopes(&rt, session.state(), &[(2, Seen::Canceled(b"stop"), None)]);
-    assert_group(&rt, session.state(), b"g", (2, 0, None, false, Some(b"x")));
-    Ok(())
+    ]),
+    Scopes(&[(2, Seen::Canceled(b"stop"), None)]),
+    Step::Group(b"g", (2, 0, None, false, Some(b"x"))),
+];
+
+#[test]
+fn a_group_below_a_done_scope_keeps_the_first_cause(rt: HostRuntime) -> Result<(), Fault> {
+    play(&rt, rt.alloc(), &DONE_SCOPE)
 }

@@ -9,6 +9,8 @@ mod calls;
 #[cfg(test)]
 mod deadlines;
 #[cfg(test)]
+mod fills;
+#[cfg(test)]
 mod fulls;
 #[cfg(test)]
 mod groups;
@@ -22,3 +24,5 @@ mod restarts;
 mod rooms;
 #[cfg(test)]
 mod scopes;
+#[cfg(test)]
+mod steps;

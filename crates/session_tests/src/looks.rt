@@ -1,14 +1,15 @@
-//! What a state shows, as tables write it.
+//! What a session shows, as tables write it, and the first row of a table that it doesn't show.
 
 use crate::calls::name;
-use run_model::{Look, Phase, Reason};
+use record_view::EventView;
+use run_model::{GroupLook, Look, Phase, Reason, TaskLook};
 use run_session::Session;
 use run_state::State;
 use std::alloc::Allocator;
 use std::process::Abort;
 
 /// How a scope is.
-#[derive(Clone, Copy, Debug, PartialEq, Eq)]
+#[derive(Clone, Copy, PartialEq, Eq)]
 pub enum Seen<'a> {
     /// Not done.
     Live,
@@ -27,60 +28,137 @@ fn state_of(look: &Look) -> Seen<'_> {
     }
 }
 
-/// Asserts how scopes are, each by its number and with its deadline.
-pub fn assert_scopes<A: Allocator>(
-    rt: &impl Abort,
-    state: &State<A>,
-    rows: &[(u16, Seen<'static>, Option<u64>)],
-) {
-    for row in rows.iter() {
-        let look = state.look(row.0).expect(rt, "a scope");
-        assert_eq!(rt; state_of(&look), row.1, "scope {}", row.0);
-        let deadline = look.deadline.map(|moment| moment.get());
-        assert_eq!(rt; deadline, row.2, "scope {}", row.0);
+/// A scope by its number: how it is, and its deadline.
+pub type ScopeRow = (u16, Seen<'static>, Option<u64>);
+
+fn is_scope(look: &Look, row: &ScopeRow) -> bool {
+    let deadline = look.deadline.map(|moment| moment.get());
+    state_of(look) == row.1 && deadline == row.2
+}
+
+/// The first row of a scope that is otherwise, or not there.
+pub fn first_scope_unlike<A: Allocator>(state: &State<A>, rows: &[ScopeRow]) -> Option<usize> {
+    for (n, row) in rows.iter().enumerate() {
+        match state.look(row.0) {
+            Some(look) if is_scope(&look, row) => {}
+            _ => return Some(n),
+        }
+    }
+    None
+}
+
+/// How far a task is.
+#[derive(Clone, Copy, PartialEq, Eq)]
+pub enum Going<'a> {
+    /// Not started, and not admitted.
+    Held,
+    /// Not started, and admitted.
+    Ready,
+    /// Started and not finished.
+    Running,
+    /// Finished without an error.
+    Success,
+    /// Finished with this error.
+    Failure(&'a [u8]),
+    /// Cut off by a restart.
+    Interrupted,
+}
+
+fn going_of(phase: &Phase) -> Going<'_> {
+    match phase {
+        Phase::Held => Going::Held,
+        Phase::Ready => Going::Ready,
+        Phase::Running => Going::Running,
+        Phase::Success => Going::Success,
+        Phase::Failure(error) => Going::Failure(error.as_bytes()),
+        Phase::Interrupted => Going::Interrupted,
     }
 }
 
-/// Asserts how far the tasks are, by ascending number, and that there are no more.
-pub fn assert_phases<A: Allocator>(rt: &impl Abort, state: &State<A>, phases: &[Phase]) {
-    assert_eq!(rt; state.task_count(), phases.len());
-    for (n, phase) in phases.iter().enumerate() {
+/// The first task that isn't as far as this, by ascending number; or how many there are, if that
+/// is another number.
+pub fn first_task_unlike<A: Allocator>(
+    state: &State<A>,
+    phases: &[Going<'static>],
+) -> Option<usize> {
+    for (n, going) in phases.iter().enumerate() {
         let number = n.min(65_535) as u16;
-        let look = state.task(number).expect(rt, "a task");
-        assert_eq!(rt; &look.phase, phase, "task {n}");
-        assert_eq!(rt; state.phase(number).as_ref(), Some(phase), "task {n}");
+        let (Some(look), Some(phase)) = (state.task(number), state.phase(number)) else {
+            return Some(n);
+        };
+        if going_of(&look.phase) != *going || going_of(&phase) != *going {
+            return Some(n);
+        }
+    }
+    let count = state.task_count();
+    (count != phases.len()).then_some(count)
+}
+
+/// A task by its number: its job, its argument, and which task it is a retry of.
+pub type TaskRow = (u16, &'static [u8], &'static [u8], Option<u16>);
+
+fn is_task(look: &TaskLook, row: &TaskRow) -> bool {
+    look.job.as_bytes() == row.1 && look.argument.as_bytes() == row.2 && look.retry_of == row.3
+}
+
+/// Whether there is this task.
+pub fn has_task<A: Allocator>(state: &State<A>, row: &TaskRow) -> bool {
+    match state.task(row.0) {
+        Some(look) => is_task(&look, row),
+        None => false,
     }
 }
 
 /// What is seen of a group: its scope, unfinished tasks, limit, whether it was waited for, error.
 pub type GroupSeen = (u16, u16, Option<u8>, bool, Option<&'static [u8]>);
 
-/// Asserts what is seen of a group.
-pub fn assert_group<A: Allocator>(
+fn is_group(look: &GroupLook, called: &[u8], seen: &GroupSeen) -> bool {
+    let error = look.error.as_ref().map(|text| text.as_bytes());
+    look.name.as_bytes() == called
+        && (look.scope, look.unfinished) == (seen.0, seen.1)
+        && look.limit.get() == seen.2
+        && look.waited == seen.3
+        && error == seen.4
+}
+
+/// Whether there is a group of this name, of which this is seen.
+pub fn has_group<A: Allocator>(
     rt: &impl Abort,
     state: &State<A>,
     called: &[u8],
-    seen: GroupSeen,
-) {
-    let number = state.find_group(&name(rt, called)).expect(rt, "a group");
-    let look = state.group(number).expect(rt, "a group");
-    assert!(rt; look.name.as_bytes() == called);
-    assert_eq!(rt; look.scope, seen.0);
-    assert_eq!(rt; look.unfinished, seen.1);
-    assert_eq!(rt; look.limit.get(), seen.2);
-    assert_eq!(rt; look.waited, seen.3);
-    let error = look.error.as_ref().map(|text| text.as_bytes());
-    assert_eq!(rt; error, seen.4);
+    seen: &GroupSeen,
+) -> bool {
+    let Some(number) = state.find_group(&name(rt, called)) else {
+        return false;
+    };
+    match state.group(number) {
+        Some(look) => is_group(&look, called, seen),
+        None => false,
+    }
 }
 
-/// Asserts the value of a key at a scope.
-pub fn assert_value<A: Allocator>(
+/// Whether this is the value of a key at a scope.
+pub fn has_value<A: Allocator>(
     rt: &impl Abort,
-    session: &Session<A>,
+    state: &State<A>,
     scope: u16,
     key: &[u8],
     value: Option<&[u8]>,
-) {
-    let found = session.state().value(scope, &name(rt, key));
-    assert_eq!(rt; found.as_ref().map(|text| text.as_bytes()), value);
+) -> bool {
+    let found = state.value(scope, &name(rt, key));
+    found.as_ref().map(|text| text.as_bytes()) == value
+}
+
+/// The first event that the history gives in place of one of these, or behind them.
+pub fn first_event_unlike<A: Allocator>(
+    session: &Session<A>,
+    expected: &[EventView<'static>],
+) -> Option<usize> {
+    let mut events = session.history();
+    for (n, event) in expected.iter().enumerate() {
+        if events.next() != Some(*event) {
+            return Some(n);
+        }
+    }
+    events.next().is_some().then_some(expected.len())
 }

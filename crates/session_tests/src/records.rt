@@ -3,59 +3,52 @@
 use crate::calls::Call::{
     Advance, Bare, Cancel, Derive, Fail, Go, Group, Limit, Start, Succeed, Try, Wait,
 };
-use crate::calls::{Ask, Call, Said, assert_said, reply};
+use crate::calls::{Ask, Said};
+use crate::steps::Step::{Appends, Count, Events, Log, Says};
+use crate::steps::{Step, play};
 use record_view::{EventView, KindView, OutcomeView};
-use run_model::{Fault, Layout, Refusal};
-use run_session::Session;
+use run_model::{Fault, Refusal};
 
-/// Calls, each with the record that it appends.
-const ROWS: [(Call, &[u8]); 14] = [
-    (
-        Derive(b"a", b"root", Ask::Cause),
-        b"\x01\x00\x05\x01a\x00\x00\x02",
-    ),
-    (
-        Derive(b"b", b"a", Ask::Cancel),
-        b"\x01\x00\x05\x01b\x00\x01\x01",
-    ),
-    (Cancel(b"a", b"disk"), b"\x02\x00\x07\x00\x01\x04disk"),
-    (Group(b"g", b"root"), b"\x04\x00\x04\x01g\x00\x00"),
-    (Bare(b"h", b"root"), b"\x05\x00\x04\x01h\x00\x00"),
-    (Limit(b"g", Some(2)), b"\x06\x00\x03\x00\x00\x02"),
-    (Limit(b"h", None), b"\x06\x00\x03\x00\x01\xff"),
-    (
-        Go(b"g", b"copy", b"a"),
-        b"\x07\x00\x09\x00\x00\x04copy\x01a",
-    ),
-    (
-        Try(b"g", b"copy", b"b"),
-        b"\x08\x00\x09\x00\x00\x04copy\x01b",
-    ),
-    (Start, b"\x09\x00\x02\x00\x00"),
-    (Start, b"\x09\x00\x02\x00\x01"),
-    (Succeed(0), b"\x0a\x00\x03\x00\x00\x00"),
-    (Fail(1, b"x"), b"\x0a\x00\x05\x00\x01\x01\x01x"),
-    (Wait(b"g"), b"\x0b\x00\x02\x00\x00"),
+static RECORDS: [Step; 3] = [
+    Appends(&[
+        (
+            Derive(b"a", b"root", Ask::Cause),
+            b"\x01\x00\x05\x01a\x00\x00\x02",
+        ),
+        (
+            Derive(b"b", b"a", Ask::Cancel),
+            b"\x01\x00\x05\x01b\x00\x01\x01",
+        ),
+        (Cancel(b"a", b"disk"), b"\x02\x00\x07\x00\x01\x04disk"),
+        (Group(b"g", b"root"), b"\x04\x00\x04\x01g\x00\x00"),
+        (Bare(b"h", b"root"), b"\x05\x00\x04\x01h\x00\x00"),
+        (Limit(b"g", Some(2)), b"\x06\x00\x03\x00\x00\x02"),
+        (Limit(b"h", None), b"\x06\x00\x03\x00\x01\xff"),
+        (
+            Go(b"g", b"copy", b"a"),
+            b"\x07\x00\x09\x00\x00\x04copy\x01a",
+        ),
+        (
+            Try(b"g", b"copy", b"b"),
+            b"\x08\x00\x09\x00\x00\x04copy\x01b",
+        ),
+        (Start, b"\x09\x00\x02\x00\x00"),
+        (Start, b"\x09\x00\x02\x00\x01"),
+        (Succeed(0), b"\x0a\x00\x03\x00\x00\x00"),
+        (Fail(1, b"x"), b"\x0a\x00\x05\x00\x01\x01\x01x"),
+        (Wait(b"g"), b"\x0b\x00\x02\x00\x00"),
+    ]),
+    Count(15),
+    Log(105),
 ];
 
 #[test]
 fn each_accepted_call_appends_its_record(rt: HostRuntime) -> Result<(), Fault> {
-    let mut session = Session::new(rt.alloc(), Layout::Small)?;
-    for (n, row) in ROWS.iter().enumerate() {
-        let before = session.log_len();
-        let _ = reply(&rt, &mut session, row.0);
-        let log = session.history().rest();
-        assert!(rt; log.get(before..) == Some(row.1), "row {n}");
-    }
-    assert_eq!(rt; session.count(), 15);
-    assert_eq!(rt; session.log_len(), 105);
-    Ok(())
+    play(&rt, rt.alloc(), &RECORDS)
 }
 
-#[test]
-fn a_refused_call_and_a_repeated_wait_append_nothing(rt: HostRuntime) -> Result<(), Fault> {
-    let mut session = Session::new(rt.alloc(), Layout::Small)?;
-    let rows = [
+static NO_RECORDS: [Step; 3] = [
+    Says(&[
         (Bare(b"h", b"root"), Said::Group(0, None)),
         (Wait(b"h"), Said::Waited(None)),
         (Wait(b"h"), Said::Waited(None)),
@@ -63,29 +56,27 @@ fn a_refused_call_and_a_repeated_wait_append_nothing(rt: HostRuntime) -> Result<
         (Succeed(0), Said::Refused(Refusal::NoSuchTask)),
         (Start, Said::Refused(Refusal::NothingReady)),
         (Advance(0), Said::Refused(Refusal::ClockNotForward)),
-    ];
-    assert_said(&rt, &mut session, &rows);
-    assert_eq!(rt; session.log_len(), 12);
-    assert_eq!(rt; session.count(), 3);
-    Ok(())
-}
+    ]),
+    Log(12),
+    Count(3),
+];
 
 #[test]
-fn history_gives_the_events(rt: HostRuntime) -> Result<(), Fault> {
-    let mut session = Session::new(rt.alloc(), Layout::Small)?;
-    assert!(rt;
-        session.history().next().is_none(),
-        "the opening has no record"
-    );
-    let rows = [
+fn a_refused_call_and_a_repeated_wait_append_nothing(rt: HostRuntime) -> Result<(), Fault> {
+    play(&rt, rt.alloc(), &NO_RECORDS)
+}
+
+static HISTORY: [Step; 3] = [
+    // The opening has no record.
+    Events(&[]),
+    Says(&[
         (Derive(b"t", b"root", Ask::Timeout(30)), Said::Scope(1)),
         (Group(b"g", b"t"), Said::Group(0, Some(2))),
         (Go(b"g", b"copy", b"a"), Said::Ready(0)),
         (Start, Said::Started(0, b"copy", b"a", false)),
         (Fail(0, b"x"), Said::Finished(6)),
-    ];
-    assert_said(&rt, &mut session, &rows);
-    let expected = [
+    ]),
+    Events(&[
         EventView::Derive {
             name: b"t",
             parent: 0,
@@ -105,11 +96,10 @@ fn history_gives_the_events(rt: HostRuntime) -> Result<(), Fault> {
             task: 0,
             outcome: OutcomeView::Failure(b"x"),
         },
-    ];
-    let mut events = session.history();
-    for (n, event) in expected.iter().enumerate() {
-        assert!(rt; events.next() == Some(*event), "event {n}");
-    }
-    assert!(rt; events.next().is_none());
-    Ok(())
+    ]),
+];
+
+#[test]
+fn history_gives_the_events(rt: HostRuntime) -> Result<(), Fault> {
+    play(&rt, rt.alloc(), &HISTORY)
 }

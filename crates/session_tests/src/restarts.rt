@@ -1,12 +1,15 @@
 //! Sessions that begin behind a restart: what was running is interrupted, and can be retried once.
 
-use crate::calls::Call::{Go, Retry, Start, Succeed, Wait};
-use crate::calls::{Call, Said, assert_refused, assert_said, command};
-use crate::looks::{Seen, assert_group, assert_phases, assert_scopes};
+use crate::calls::Call::{Bare, Go, Group, Limit, Retry, Start, Succeed, Wait};
+use crate::calls::{Call, Said, command};
+use crate::looks::{Going, Seen};
+use crate::steps::Step::{Count, Records, Refuses, Running, Says, Scopes, Task, Tasks};
+use crate::steps::{Step, play, take};
 use record_view::EventView;
-use run_model::{Layout, Phase, Refusal};
+use run_model::{Fault, Layout, Refusal};
 use run_session::Session;
 use run_state::State;
+use std::alloc::Global;
 use std::process::Abort;
 use std::test::Fail;
 
@@ -28,112 +31,119 @@ fn start(rt: &impl Abort, state: &mut State) -> Result<u16, Refusal> {
     Ok(task)
 }
 
-/// Restarts a state, and begins a session there.
-fn begin(rt: &impl Abort, alloc: std::alloc::Global, mut state: State) -> Result<Session, Fail> {
+/// A session that begins behind a restart of a state, which these commands and so many starts led
+/// to. The tasks start in the order of their numbers.
+fn begun(
+    rt: &impl Abort,
+    alloc: Global,
+    layout: Layout,
+    calls: &[Call],
+    starts: u16,
+) -> Result<Session, Fail> {
+    let mut state = State::new(alloc, layout)?;
+    for call in calls.iter() {
+        obey(rt, &mut state, *call)?;
+    }
+    for task in 0..starts {
+        assert!(rt; start(rt, &mut state)? == task, "task {task}");
+    }
     assert!(rt; state.count() < 1_000);
     state.restart();
     assert!(rt; state.count() < 1_000);
     Ok(Session::begin(alloc, state)?)
 }
 
-#[test]
-fn an_interrupted_task_is_retried_once(rt: HostRuntime) -> Result<(), Fail> {
-    let mut state = State::new(rt.alloc(), Layout::Small)?;
-    obey(&rt, &mut state, Call::Group(b"g", b"root"))?;
-    obey(&rt, &mut state, Call::Limit(b"g", Some(1)))?;
-    obey(&rt, &mut state, Go(b"g", b"copy", b"a"))?;
-    obey(&rt, &mut state, Go(b"g", b"copy", b"b"))?;
-    assert_eq!(rt; start(&rt, &mut state)?, 0);
-    let mut session = begin(&rt, rt.alloc(), state)?;
-    assert_phases(&rt, session.state(), &[Phase::Interrupted, Phase::Ready]);
-    let scopes = [(1, Seen::Canceled(b"interrupted"), None)];
-    assert_scopes(&rt, session.state(), &scopes);
-    let group = (1, 1, Some(1), false, Some(b"interrupted".as_slice()));
-    assert_group(&rt, session.state(), b"g", group);
-    assert_eq!(rt; session.count(), 7);
+static LIMIT_OF_ONE: [Call; 4] = [
+    Group(b"g", b"root"),
+    Limit(b"g", Some(1)),
+    Go(b"g", b"copy", b"a"),
+    Go(b"g", b"copy", b"b"),
+];
 
-    let rows = [
+static ONE_RETRY: [Step; 10] = [
+    Tasks(&[Going::Interrupted, Going::Ready]),
+    Scopes(&[(1, Seen::Canceled(b"interrupted"), None)]),
+    Step::Group(b"g", (1, 1, Some(1), false, Some(b"interrupted"))),
+    Count(7),
+    Says(&[
         (Retry(0), Said::Held(2)),
         (Retry(0), Said::Refused(Refusal::AlreadyRetried)),
         (Retry(1), Said::Refused(Refusal::NotInterrupted)),
         (Retry(3), Said::Refused(Refusal::NoSuchTask)),
-    ];
-    assert_said(&rt, &mut session, &rows);
-    let phases = [Phase::Interrupted, Phase::Ready, Phase::Held];
-    assert_phases(&rt, session.state(), &phases);
-    let look = session.state().task(2).ok_or("no task")?;
-    assert_eq!(rt; look.retry_of, Some(0));
-    assert!(rt; look.job.as_bytes() == b"copy".as_slice());
-    assert!(rt; look.argument.as_bytes() == b"a".as_slice());
-    assert_eq!(rt; session.count(), 8);
-    assert!(rt; session.history().rest() == b"\x0c\x00\x02\x00\x00".as_slice());
-
-    let rows = [
+    ]),
+    Tasks(&[Going::Interrupted, Going::Ready, Going::Held]),
+    Task((2, b"copy", b"a", Some(0))),
+    Count(8),
+    Records(b"\x0c\x00\x02\x00\x00"),
+    Says(&[
         (Start, Said::Started(1, b"copy", b"b", true)),
         (Succeed(1), Said::Finished(10)),
         (Start, Said::Started(2, b"copy", b"a", true)),
         (Succeed(2), Said::Finished(12)),
         (Wait(b"g"), Said::Waited(Some(b"interrupted"))),
         (Retry(0), Said::Refused(Refusal::AlreadyRetried)),
-    ];
-    assert_said(&rt, &mut session, &rows);
+    ]),
+];
+
+#[test]
+fn an_interrupted_task_is_retried_once(rt: HostRuntime) -> Result<(), Fail> {
+    let mut session = begun(&rt, rt.alloc(), Layout::Small, &LIMIT_OF_ONE, 1)?;
+    take(&rt, &mut session, &ONE_RETRY);
     Ok(())
 }
 
-#[test]
-fn a_restart_ends_each_group_that_has_a_running_task(rt: HostRuntime) -> Result<(), Fail> {
-    let mut state = State::new(rt.alloc(), Layout::Large)?;
-    obey(&rt, &mut state, Call::Group(b"g", b"root"))?;
-    obey(&rt, &mut state, Call::Group(b"h", b"root"))?;
-    obey(&rt, &mut state, Call::Group(b"i", b"root"))?;
-    obey(&rt, &mut state, Call::Bare(b"j", b"root"))?;
-    for group in [b"h".as_slice(), b"g", b"h", b"j", b"i"] {
-        obey(&rt, &mut state, Go(group, b"copy", b"a"))?;
-    }
-    for task in 0..4 {
-        assert_eq!(rt; start(&rt, &mut state)?, task);
-    }
-    let mut session = begin(&rt, rt.alloc(), state)?;
-    let ended = Some(b"interrupted".as_slice());
-    assert_group(&rt, session.state(), b"g", (1, 0, None, false, ended));
-    assert_group(&rt, session.state(), b"h", (2, 0, None, false, ended));
-    assert_group(&rt, session.state(), b"i", (3, 1, None, false, None));
-    assert_group(&rt, session.state(), b"j", (0, 0, None, false, ended));
-    let scopes = [
+static FOUR_GROUPS: [Call; 9] = [
+    Group(b"g", b"root"),
+    Group(b"h", b"root"),
+    Group(b"i", b"root"),
+    Bare(b"j", b"root"),
+    Go(b"h", b"copy", b"a"),
+    Go(b"g", b"copy", b"a"),
+    Go(b"h", b"copy", b"a"),
+    Go(b"j", b"copy", b"a"),
+    Go(b"i", b"copy", b"a"),
+];
+
+static THREE_ENDED: [Step; 7] = [
+    Step::Group(b"g", (1, 0, None, false, Some(b"interrupted"))),
+    Step::Group(b"h", (2, 0, None, false, Some(b"interrupted"))),
+    Step::Group(b"i", (3, 1, None, false, None)),
+    Step::Group(b"j", (0, 0, None, false, Some(b"interrupted"))),
+    Scopes(&[
         (0, Seen::Live, None),
         (1, Seen::Canceled(b"interrupted"), None),
         (2, Seen::Canceled(b"interrupted"), None),
         (3, Seen::Live, None),
-    ];
-    assert_scopes(&rt, session.state(), &scopes);
-    assert_eq!(rt; session.state().running(), 0);
-    let rows = [
-        (Wait(b"j"), Said::Waited(ended)),
+    ]),
+    Running(0),
+    Says(&[
+        (Wait(b"j"), Said::Waited(Some(b"interrupted"))),
         (Retry(3), Said::Refused(Refusal::Waited)),
         (Retry(2), Said::Ready(5)),
-    ];
-    assert_said(&rt, &mut session, &rows);
+    ]),
+];
+
+#[test]
+fn a_restart_ends_each_group_that_has_a_running_task(rt: HostRuntime) -> Result<(), Fail> {
+    let mut session = begun(&rt, rt.alloc(), Layout::Large, &FOUR_GROUPS, 4)?;
+    take(&rt, &mut session, &THREE_ENDED);
     Ok(())
 }
 
-#[test]
-fn no_task_of_a_new_session_is_interrupted(rt: HostRuntime) -> Result<(), Fail> {
-    let mut session = Session::new(rt.alloc(), Layout::Small)?;
-    let rows = [
-        (Call::Group(b"g", b"root"), Said::Group(0, Some(1))),
+static NO_RETRIES: [Step; 4] = [
+    Says(&[
+        (Group(b"g", b"root"), Said::Group(0, Some(1))),
         (Go(b"g", b"copy", b"a"), Said::Ready(0)),
-    ];
-    assert_said(&rt, &mut session, &rows);
-    assert_refused(&rt, &mut session, &[(Retry(0), Refusal::NotInterrupted)]);
-    assert_said(
-        &rt,
-        &mut session,
-        &[(Start, Said::Started(0, b"copy", b"a", false))],
-    );
-    let rows = [
+    ]),
+    Refuses(&[(Retry(0), Refusal::NotInterrupted)]),
+    Says(&[(Start, Said::Started(0, b"copy", b"a", false))]),
+    Refuses(&[
         (Retry(0), Refusal::NotInterrupted),
         (Retry(1), Refusal::NoSuchTask),
-    ];
-    assert_refused(&rt, &mut session, &rows);
-    Ok(())
+    ]),
+];
+
+#[test]
+fn no_task_of_a_new_session_is_interrupted(rt: HostRuntime) -> Result<(), Fault> {
+    play(&rt, rt.alloc(), &NO_RETRIES)
 }
