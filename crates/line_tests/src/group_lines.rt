@@ -1,118 +1,73 @@
 //! Tests of what lines of groups and tasks ask for; the values stand in
 //! `docs/formats/console.md`.
 
-use console_lines::{Asked, read_line};
-use run_model::{Command, Limit, Name, Outcome, Refusal, Text};
-use std::test::Fail;
+use crate::meanings::{Meaning, Row, assert_all, assert_read};
+use run_model::Refusal;
 
-fn name(bytes: &[u8]) -> Result<Name, &'static str> {
-    Name::read(bytes).ok_or("no name")
-}
-
-fn text(bytes: &[u8]) -> Result<Text, &'static str> {
-    Text::read(bytes).ok_or("no text")
-}
+static GROUPS: [Row; 3] = [
+    (b"group g root", Meaning::Group(b"g", b"root")),
+    (b"bare root none", Meaning::Bare(b"root", b"none")),
+    (b"wait g", Meaning::Wait(b"g")),
+];
 
 #[test]
-fn groups_are_made_and_waited_for_by_name(rt: HostRuntime) -> Result<(), Fail> {
-    for (line, command) in [
-        (
-            b"group g root".as_slice(),
-            Command::Group {
-                name: name(b"g")?,
-                parent: name(b"root")?,
-            },
-        ),
-        (
-            b"bare root none",
-            Command::Bare {
-                name: name(b"root")?,
-                scope: name(b"none")?,
-            },
-        ),
-        (b"wait g", Command::Wait { group: name(b"g")? }),
-    ] {
-        assert_eq!(rt; read_line(line), Asked::Command(command), "{line:?}");
-    }
-    Ok(())
+fn groups_are_made_and_waited_for_by_name(rt: HostRuntime) {
+    assert_read(&rt, &GROUPS);
 }
 
-#[test]
-fn a_limit_is_a_number_or_none(rt: HostRuntime) -> Result<(), Fail> {
-    for (line, limit) in [
-        (b"limit g 0".as_slice(), Limit::new(0)),
-        (b"limit g 2", Limit::new(2)),
-        (b"limit g 064", Limit::new(64)),
-        (b"limit g 000000000064", Limit::new(64)),
-        (b"limit g none", Some(Limit::none())),
-    ] {
-        let wanted = Asked::Command(Command::SetLimit {
-            group: name(b"g")?,
-            limit: limit.ok_or("no limit")?,
-        });
-        assert_eq!(rt; read_line(line), wanted, "{line:?}");
-    }
-    Ok(())
-}
+static LIMITS: [Row; 5] = [
+    (b"limit g 0", Meaning::Limit(b"g", Some(0))),
+    (b"limit g 2", Meaning::Limit(b"g", Some(2))),
+    (b"limit g 064", Meaning::Limit(b"g", Some(64))),
+    (b"limit g 000000000064", Meaning::Limit(b"g", Some(64))),
+    (b"limit g none", Meaning::Limit(b"g", None)),
+];
 
 #[test]
-fn tasks_are_submitted_with_a_job_and_an_argument(rt: HostRuntime) -> Result<(), Fail> {
-    assert_eq!(rt;
-        read_line(b"go g copy a"),
-        Asked::Command(Command::Go {
-            group: name(b"g")?,
-            job: name(b"copy")?,
-            argument: name(b"a")?
-        })
-    );
-    assert_eq!(rt;
-        read_line(b"try try go try"),
-        Asked::Command(Command::TryGo {
-            group: name(b"try")?,
-            job: name(b"go")?,
-            argument: name(b"try")?
-        })
-    );
-    for (line, task) in [
-        (b"retry 0".as_slice(), 0),
-        (b"retry 007", 7),
-        (b"retry 65535", 65_535),
-    ] {
-        assert_eq!(rt; read_line(line), Asked::Command(Command::Retry(task)));
-    }
-    Ok(())
+fn a_limit_is_a_number_or_none(rt: HostRuntime) {
+    assert_read(&rt, &LIMITS);
 }
 
-#[test]
-fn tasks_start_and_finish(rt: HostRuntime) -> Result<(), Fail> {
-    assert_eq!(rt; read_line(b"start"), Asked::Start);
-    for (line, task, outcome) in [
-        (b"finish 0 ok".as_slice(), 0, Outcome::Success),
-        (b"finish 065535 ok", 65_535, Outcome::Success),
-        (b"finish 1 error x", 1, Outcome::Failure(text(b"x")?)),
-        (
-            b"finish 1 error  disk  full ",
-            1,
-            Outcome::Failure(text(b" disk  full ")?),
-        ),
-        (b"finish 2 error ok", 2, Outcome::Failure(text(b"ok")?)),
-    ] {
-        assert_eq!(rt; read_line(line), Asked::Finish(task, outcome), "{line:?}");
-    }
-    Ok(())
-}
+static SUBMITTED: [Row; 5] = [
+    (b"go g copy a", Meaning::Go(b"g", b"copy", b"a")),
+    (b"try try go try", Meaning::Try(b"try", b"go", b"try")),
+    (b"retry 0", Meaning::Retry(0)),
+    (b"retry 007", Meaning::Retry(7)),
+    (b"retry 65535", Meaning::Retry(65_535)),
+];
 
 #[test]
-fn questions_ask_of_tasks_and_groups(rt: HostRuntime) -> Result<(), Fail> {
-    for (line, asked) in [
-        (b"task 007".as_slice(), Asked::Task(7)),
-        (b"task 65535", Asked::Task(65_535)),
-        (b"result g", Asked::Result(name(b"g")?)),
-        (b"tally", Asked::Tally),
-    ] {
-        assert_eq!(rt; read_line(line), asked, "{line:?}");
-    }
-    Ok(())
+fn tasks_are_submitted_with_a_job_and_an_argument(rt: HostRuntime) {
+    assert_read(&rt, &SUBMITTED);
+}
+
+static ENDS: [Row; 6] = [
+    (b"start", Meaning::Start),
+    (b"finish 0 ok", Meaning::Finish(0, None)),
+    (b"finish 065535 ok", Meaning::Finish(65_535, None)),
+    (b"finish 1 error x", Meaning::Finish(1, Some(b"x"))),
+    (
+        b"finish 1 error  disk  full ",
+        Meaning::Finish(1, Some(b" disk  full ")),
+    ),
+    (b"finish 2 error ok", Meaning::Finish(2, Some(b"ok"))),
+];
+
+#[test]
+fn tasks_start_and_finish(rt: HostRuntime) {
+    assert_read(&rt, &ENDS);
+}
+
+static QUESTIONS: [Row; 4] = [
+    (b"task 007", Meaning::Task(7)),
+    (b"task 65535", Meaning::Task(65_535)),
+    (b"result g", Meaning::Result(b"g")),
+    (b"tally", Meaning::Tally),
+];
+
+#[test]
+fn questions_ask_of_tasks_and_groups(rt: HostRuntime) {
+    assert_read(&rt, &QUESTIONS);
 }
 
 /// Words that are unknown, missing or left over, and numbers and limits of another form.
@@ -212,32 +167,12 @@ static NO_TASKS: [&[u8]; 6] = [
 
 #[test]
 fn words_unknown_missing_or_left_over_make_a_bad_line(rt: HostRuntime) {
-    for line in BAD_LINES {
-        assert_eq!(rt; read_line(line), Asked::BadLine, "{line:?}");
-    }
+    assert_all(&rt, &BAD_LINES, &Meaning::BadLine);
 }
 
 #[test]
 fn names_come_first_then_texts_then_numbers(rt: HostRuntime) {
-    for line in BAD_NAMES {
-        assert_eq!(rt;
-            read_line(line),
-            Asked::Refused(Refusal::BadName),
-            "{line:?}"
-        );
-    }
-    for line in BAD_TEXTS {
-        assert_eq!(rt;
-            read_line(line),
-            Asked::Refused(Refusal::BadText),
-            "{line:?}"
-        );
-    }
-    for line in NO_TASKS {
-        assert_eq!(rt;
-            read_line(line),
-            Asked::Refused(Refusal::NoSuchTask),
-            "{line:?}"
-        );
-    }
+    assert_all(&rt, &BAD_NAMES, &Meaning::Refused(Refusal::BadName));
+    assert_all(&rt, &BAD_TEXTS, &Meaning::Refused(Refusal::BadText));
+    assert_all(&rt, &NO_TASKS, &Meaning::Refused(Refusal::NoSuchTask));
 }

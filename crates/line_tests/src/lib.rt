@@ -6,6 +6,8 @@ mod group_lines;
 #[cfg(test)]
 mod lines;
 #[cfg(test)]
+mod meanings;
+#[cfg(test)]
 mod moments;
 #[cfg(test)]
 mod replies;

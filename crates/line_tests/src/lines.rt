@@ -1,136 +1,108 @@
-//! Tests of what lines ask for and what replies print; the values stand in
-//! `docs/formats/console.md`.
+//! Tests of what lines ask for; the values stand in `docs/formats/console.md`.
 
-use console_lines::{Asked, LONGEST_INPUT, LONGEST_LINE, read_line};
-use run_model::{Command, Moment, Name, Refusal, Text, Wish};
-use std::test::Fail;
+use crate::meanings::{Kind, Meaning, Row, assert_all, assert_read};
+use console_lines::{LONGEST_INPUT, LONGEST_LINE};
+use run_model::Refusal;
 
-fn name(bytes: &[u8]) -> Result<Name, &'static str> {
-    Name::read(bytes).ok_or("no name")
-}
-
-fn text(bytes: &[u8]) -> Result<Text, &'static str> {
-    Text::read(bytes).ok_or("no text")
-}
-
-fn derive(bytes: &[u8], parent: &[u8], wish: Wish) -> Result<Asked, &'static str> {
-    Ok(Asked::Command(Command::Derive {
-        name: name(bytes)?,
-        parent: name(parent)?,
-        wish,
-    }))
-}
-
-fn cancel(scope: &[u8], cause: Option<Text>) -> Result<Asked, &'static str> {
-    Ok(Asked::Command(Command::Cancel {
-        scope: name(scope)?,
-        cause,
-    }))
-}
+static DERIVES: [Row; 2] = [
+    (
+        b"derive a root cause",
+        Meaning::Derive(b"a", b"root", Kind::Cause),
+    ),
+    (
+        b"derive cause cancel cancel",
+        Meaning::Derive(b"cause", b"cancel", Kind::Cancel),
+    ),
+];
 
 #[test]
-fn derives_name_a_scope_a_parent_and_a_kind(rt: HostRuntime) -> Result<(), Fail> {
-    assert_eq!(rt;
-        read_line(b"derive a root cause"),
-        derive(b"a", b"root", Wish::Cause)?
-    );
-    assert_eq!(rt;
-        read_line(b"derive cause cancel cancel"),
-        derive(b"cause", b"cancel", Wish::Cancel)?
-    );
-    Ok(())
+fn derives_name_a_scope_a_parent_and_a_kind(rt: HostRuntime) {
+    assert_read(&rt, &DERIVES);
 }
 
-#[test]
-fn a_cancel_has_the_rest_of_its_line_as_cause(rt: HostRuntime) -> Result<(), Fail> {
-    assert_eq!(rt; read_line(b"cancel a"), cancel(b"a", None)?);
-    assert_eq!(rt;
-        read_line(b"cancel a disk"),
-        cancel(b"a", Some(text(b"disk")?))?
-    );
-    assert_eq!(rt;
-        read_line(b"cancel a  disk  is full "),
-        cancel(b"a", Some(text(b" disk  is full ")?))?
-    );
-    Ok(())
-}
+static CANCELS: [Row; 3] = [
+    (b"cancel a", Meaning::Cancel(b"a", None)),
+    (b"cancel a disk", Meaning::Cancel(b"a", Some(b"disk"))),
+    (
+        b"cancel a  disk  is full ",
+        Meaning::Cancel(b"a", Some(b" disk  is full ")),
+    ),
+];
 
 #[test]
-fn a_wish_has_the_words_behind_its_kind(rt: HostRuntime) -> Result<(), Fail> {
-    let late = Moment::new(100).ok_or("no moment")?;
-    assert_eq!(rt;
-        read_line(b"derive p root deadline 100 p"),
-        derive(b"p", b"root", Wish::Deadline(late, Some(text(b"p")?)))?
-    );
-    assert_eq!(rt;
-        read_line(b"derive p root deadline 0100"),
-        derive(b"p", b"root", Wish::Deadline(late, None))?
-    );
-    assert_eq!(rt;
-        read_line(b"derive t root timeout 999999999999 too  late "),
-        derive(
+fn a_cancel_has_the_rest_of_its_line_as_cause(rt: HostRuntime) {
+    assert_read(&rt, &CANCELS);
+}
+
+static WISHES: [Row; 6] = [
+    (
+        b"derive p root deadline 100 p",
+        Meaning::Derive(b"p", b"root", Kind::Deadline(100, Some(b"p"))),
+    ),
+    (
+        b"derive p root deadline 0100",
+        Meaning::Derive(b"p", b"root", Kind::Deadline(100, None)),
+    ),
+    (
+        b"derive t root timeout 999999999999 too  late ",
+        Meaning::Derive(
             b"t",
             b"root",
-            Wish::Timeout(999_999_999_999, Some(text(b"too  late ")?))
-        )?
-    );
-    assert_eq!(rt;
-        read_line(b"derive t root timeout 0"),
-        derive(b"t", b"root", Wish::Timeout(0, None))?
-    );
-    assert_eq!(rt;
-        read_line(b"derive v root value region eu west "),
-        derive(
-            b"v",
-            b"root",
-            Wish::Value(name(b"region")?, text(b"eu west ")?)
-        )?
-    );
-    assert_eq!(rt;
-        read_line(b"derive d x detached"),
-        derive(b"d", b"x", Wish::Detached)?
-    );
-    Ok(())
-}
+            Kind::Timeout(999_999_999_999, Some(b"too  late ")),
+        ),
+    ),
+    (
+        b"derive t root timeout 0",
+        Meaning::Derive(b"t", b"root", Kind::Timeout(0, None)),
+    ),
+    (
+        b"derive v root value region eu west ",
+        Meaning::Derive(b"v", b"root", Kind::Value(b"region", b"eu west ")),
+    ),
+    (
+        b"derive d x detached",
+        Meaning::Derive(b"d", b"x", Kind::Detached),
+    ),
+];
 
 #[test]
-fn moments_are_seconds_or_dates(rt: HostRuntime) -> Result<(), Fail> {
-    let moment = Moment::new(1_704_074_400).ok_or("no moment")?;
-    for line in [
-        b"advance 1704074400".as_slice(),
-        b"advance 001704074400",
+fn a_wish_has_the_words_behind_its_kind(rt: HostRuntime) {
+    assert_read(&rt, &WISHES);
+}
+
+static MOMENTS: [Row; 5] = [
+    (b"advance 1704074400", Meaning::Advance(1_704_074_400)),
+    (b"advance 001704074400", Meaning::Advance(1_704_074_400)),
+    (
         b"advance 2024-01-01T02:00:00Z",
+        Meaning::Advance(1_704_074_400),
+    ),
+    (
         b"advance 2024-01-01T03:00:00+01:00",
-    ] {
-        assert_eq!(rt;
-            read_line(line),
-            Asked::Command(Command::Advance { moment })
-        );
-    }
-    assert_eq!(rt;
-        read_line(b"derive u root deadline 2024-01-01T03:00:00+01:00"),
-        derive(b"u", b"root", Wish::Deadline(moment, None))?
-    );
-    Ok(())
-}
+        Meaning::Advance(1_704_074_400),
+    ),
+    (
+        b"derive u root deadline 2024-01-01T03:00:00+01:00",
+        Meaning::Derive(b"u", b"root", Kind::Deadline(1_704_074_400, None)),
+    ),
+];
 
 #[test]
-fn a_question_names_its_scope(rt: HostRuntime) -> Result<(), Fail> {
-    assert_eq!(rt; read_line(b"scope b"), Asked::Scope(name(b"b")?));
-    assert_eq!(rt; read_line(b"scope scope"), Asked::Scope(name(b"scope")?));
-    assert_eq!(rt;
-        read_line(b"value v region"),
-        Asked::Value {
-            scope: name(b"v")?,
-            key: name(b"region")?
-        }
-    );
-    Ok(())
+fn moments_are_seconds_or_dates(rt: HostRuntime) {
+    assert_read(&rt, &MOMENTS);
 }
 
+static QUESTIONS: [Row; 4] = [
+    (b"scope b", Meaning::Scope(b"b")),
+    (b"scope scope", Meaning::Scope(b"scope")),
+    (b"value v region", Meaning::Value(b"v", b"region")),
+    // An empty line asks nothing.
+    (b"", Meaning::Nothing),
+];
+
 #[test]
-fn an_empty_line_asks_nothing(rt: HostRuntime) {
-    assert_eq!(rt; read_line(b""), Asked::Nothing);
+fn a_question_names_its_scope(rt: HostRuntime) {
+    assert_read(&rt, &QUESTIONS);
 }
 
 /// Words that are unknown, missing or left over.
@@ -220,47 +192,26 @@ static LATE_MOMENTS: [&[u8]; 5] = [
 
 #[test]
 fn words_unknown_missing_or_left_over_make_a_bad_line(rt: HostRuntime) {
-    for line in BAD_LINES {
-        assert_eq!(rt; read_line(line), Asked::BadLine, "{line:?}");
-    }
+    assert_all(&rt, &BAD_LINES, &Meaning::BadLine);
 }
 
 #[test]
-fn names_are_looked_at_before_texts(rt: HostRuntime) {
-    for line in BAD_NAMES {
-        assert_eq!(rt;
-            read_line(line),
-            Asked::Refused(Refusal::BadName),
-            "{line:?}"
-        );
-    }
-}
-
-#[test]
-fn texts_are_looked_at_before_moments(rt: HostRuntime) {
-    for line in BAD_TEXTS {
-        assert_eq!(rt;
-            read_line(line),
-            Asked::Refused(Refusal::BadText),
-            "{line:?}"
-        );
-    }
-}
-
-#[test]
-fn a_moment_out_of_range_is_refused_last(rt: HostRuntime) {
-    for line in LATE_MOMENTS {
-        let refused = Asked::Refused(Refusal::MomentOutOfRange);
-        assert_eq!(rt; read_line(line), refused, "{line:?}");
-    }
+fn names_are_looked_at_before_texts_and_texts_before_moments(rt: HostRuntime) {
+    assert_all(&rt, &BAD_NAMES, &Meaning::Refused(Refusal::BadName));
+    assert_all(&rt, &BAD_TEXTS, &Meaning::Refused(Refusal::BadText));
+    assert_all(
+        &rt,
+        &LATE_MOMENTS,
+        &Meaning::Refused(Refusal::MomentOutOfRange),
+    );
 }
 
 #[test]
 fn a_line_of_257_bytes_is_a_bad_line(rt: HostRuntime) {
     let mut line = [b'x'; 257];
     line[..9].copy_from_slice(b"cancel a ");
-    assert_eq!(rt; read_line(&line[..256]), Asked::Refused(Refusal::BadText));
-    assert_eq!(rt; read_line(&line), Asked::BadLine);
-    assert_eq!(rt; LONGEST_LINE, 256);
-    assert_eq!(rt; LONGEST_INPUT, 16_777_216);
+    assert_all(&rt, &[&line[..256]], &Meaning::Refused(Refusal::BadText));
+    assert_all(&rt, &[&line], &Meaning::BadLine);
+    assert!(rt; LONGEST_LINE == 256);
+    assert!(rt; LONGEST_INPUT == 16_777_216);
 }
