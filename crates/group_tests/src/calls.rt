@@ -1,10 +1,11 @@
-//! Calls of a runner as rows of a table, with what each is answered.
+//! Steps of a story as rows of a table: calls of a runner with what each is answered, and looks at
+//! what they left.
 
-use crate::runners::Runner;
-use run_model::{Limit, Name, Outcome, Refusal, Text};
+use crate::asserts::{given, same};
+use crate::runners::{Reply, Runner};
+use run_model::{Layout, Limit, Name, Outcome, Phase, Text};
 use std::alloc::Allocator;
 use std::process::Abort;
-use std::test::Fail;
 
 /// A call of a runner. Groups and tasks go by number.
 #[derive(Clone, Copy)]
@@ -29,90 +30,193 @@ pub enum Call {
     Wait(u16),
 }
 
-/// A number that a call gives or a scope that it tells, or why it is refused.
-pub type Reply = Result<Option<u16>, Refusal>;
+/// What is seen of a group: unfinished tasks, limit, whether it was waited for, error.
+pub type Seen = (u16, Option<u8>, bool, Option<&'static [u8]>);
+
+/// How far a task is that has no error of its own.
+#[derive(Clone, Copy)]
+pub enum At {
+    /// Not started, and not admitted by its group's limit yet.
+    Held,
+    /// Not started, and admitted.
+    Ready,
+    /// Finished without an error.
+    Success,
+    /// Running when the runner stopped.
+    Interrupted,
+}
+
+/// A step of a story.
+#[derive(Clone, Copy)]
+pub enum Step {
+    /// A call, and what it is answered.
+    Is(Call, Reply),
+    /// A restart, and the scopes that are told.
+    Restart(&'static [u16]),
+    /// How far the tasks are, by ascending number.
+    Phases(&'static [At]),
+    /// What is seen of a group.
+    Look(u16, Seen),
+    /// How many tasks of a group are unfinished, and whether one more would be ready.
+    Seats(u16, u16, bool),
+    /// How many tasks are running.
+    Running(usize),
+    /// A task's argument, and the task that it retries.
+    Again(u16, &'static [u8], u16),
+}
 
 /// The name of these bytes.
-pub fn name(bytes: &[u8]) -> Result<Name, &'static str> {
-    Name::read(bytes).ok_or("no name")
+pub fn name(rt: &impl Abort, bytes: &[u8]) -> Name {
+    given(rt, Name::read(bytes), "name")
 }
 
-/// Makes a call of those that submit a task, or none.
-fn submission<A: Allocator>(
+/// Makes a group.
+fn make<A: Allocator>(
+    rt: &impl Abort,
     runner: &mut Runner<A>,
-    call: Call,
-) -> Result<Option<Reply>, &'static str> {
-    let copy = name(b"copy")?;
-    Ok(match call {
-        Call::Go(group, argument) => {
-            Some(runner.go(group, &copy, &name(argument)?).map(|n| Some(n)))
-        }
-        Call::Try(group, argument) => {
-            Some(
-                runner
-                    .try_go(group, &copy, &name(argument)?)
-                    .map(|n| Some(n)),
-            )
-        }
-        Call::Retry(task) => Some(runner.retry(task).map(|n| Some(n))),
-        _ => None,
-    })
+    called: &[u8],
+    scope: u16,
+    bare: bool,
+) -> Reply {
+    let called = name(rt, called);
+    runner.make(&called, scope, bare)
 }
 
-/// Makes a call of those that start or end a task, or none.
-fn task_call<A: Allocator>(
-    runner: &mut Runner<A>,
-    call: Call,
-) -> Result<Option<Reply>, &'static str> {
-    Ok(match call {
-        Call::Start => Some(runner.start().map(|n| Some(n))),
-        Call::Succeed(task) => Some(runner.finish(task, &Outcome::Success)),
-        Call::Lose(task, error) => {
-            let text = Text::read(error).ok_or("no text")?;
-            Some(runner.finish(task, &Outcome::Failure(text)))
-        }
-        _ => None,
-    })
+/// Sets a limit.
+fn limit<A: Allocator>(rt: &impl Abort, runner: &mut Runner<A>, group: u16, most: u8) -> Reply {
+    let limit = given(rt, Limit::new(most), "limit");
+    runner.set_limit(group, limit)
 }
 
-/// Makes a call of those on a group, or none.
-fn group_call<A: Allocator>(
+/// Submits a task, which may have to be ready at once.
+fn submit<A: Allocator>(
+    rt: &impl Abort,
     runner: &mut Runner<A>,
-    call: Call,
-) -> Result<Option<Reply>, &'static str> {
-    Ok(match call {
-        Call::Make(called, scope, bare) => {
-            Some(runner.make(&name(called)?, scope, bare).map(|n| Some(n)))
-        }
-        Call::Limit(group, most) => {
-            let limit = Limit::new(most).ok_or("no limit")?;
-            Some(runner.set_limit(group, limit).map(|_| None))
-        }
-        Call::Wait(group) => Some(runner.wait(group)),
-        _ => None,
-    })
+    group: u16,
+    argument: &[u8],
+    at_once: bool,
+) -> Reply {
+    let job = name(rt, b"copy");
+    let argument = name(rt, argument);
+    if at_once {
+        return runner.try_go(group, &job, &argument);
+    }
+    runner.go(group, &job, &argument)
+}
+
+/// Ends a task with an error.
+fn lose<A: Allocator>(rt: &impl Abort, runner: &mut Runner<A>, task: u16, error: &[u8]) -> Reply {
+    let text = given(rt, Text::read(error), "text");
+    runner.finish(task, &Outcome::Failure(text))
 }
 
 /// Makes a call.
-fn answer<A: Allocator>(runner: &mut Runner<A>, call: Call) -> Result<Reply, &'static str> {
-    if let Some(reply) = submission(runner, call)? {
-        return Ok(reply);
+fn answer<A: Allocator>(rt: &impl Abort, runner: &mut Runner<A>, call: Call) -> Reply {
+    match call {
+        Call::Make(called, scope, bare) => make(rt, runner, called, scope, bare),
+        Call::Limit(group, most) => limit(rt, runner, group, most),
+        Call::Go(group, argument) => submit(rt, runner, group, argument, false),
+        Call::Try(group, argument) => submit(rt, runner, group, argument, true),
+        Call::Retry(task) => runner.retry(task),
+        Call::Start => runner.start(),
+        Call::Succeed(task) => runner.finish(task, &Outcome::Success),
+        Call::Lose(task, error) => lose(rt, runner, task, error),
+        Call::Wait(group) => runner.wait(group),
     }
-    if let Some(reply) = task_call(runner, call)? {
-        return Ok(reply);
-    }
-    group_call(runner, call)?.ok_or("no call")
 }
 
-/// Makes the calls of a table, and asserts what each is answered.
-pub fn assert_replies<A: Allocator>(
-    rt: &impl Abort,
-    runner: &mut Runner<A>,
-    rows: &[(Call, Reply)],
-) -> Result<(), Fail> {
-    for (n, row) in rows.iter().enumerate() {
-        let reply = answer(runner, row.0)?;
-        assert_eq!(rt; &reply, &row.1, "row {n}");
+/// The phase of a task that is so far.
+fn phase(at: At) -> Phase {
+    match at {
+        At::Held => Phase::Held,
+        At::Ready => Phase::Ready,
+        At::Success => Phase::Success,
+        At::Interrupted => Phase::Interrupted,
     }
-    Ok(())
+}
+
+/// Asserts how far the tasks are, by ascending number.
+fn assert_phases<A: Allocator>(rt: &impl Abort, runner: &Runner<A>, phases: &[At]) {
+    same(
+        rt,
+        &runner.task_count(),
+        &phases.len(),
+        "tasks at step",
+        phases.len(),
+    );
+    for (n, at) in phases.iter().enumerate() {
+        let now = runner.phase(n.min(65_535) as u16);
+        same(rt, &now, &Some(phase(*at)), "task", n);
+    }
+}
+
+/// Asserts what is seen of a group.
+fn assert_seen<A: Allocator>(rt: &impl Abort, runner: &Runner<A>, group: u16, seen: Seen) {
+    let look = runner.look(group);
+    let numbers = look
+        .as_ref()
+        .map(|look| (look.unfinished, look.limit.get(), look.waited));
+    same(
+        rt,
+        &numbers,
+        &Some((seen.0, seen.1, seen.2)),
+        "group",
+        group as usize,
+    );
+    let error = look.as_ref().and_then(|look| look.error.as_ref());
+    let error = error.map(|text| text.as_bytes());
+    same(rt, &error, &seen.3, "the error of group", group as usize);
+}
+
+/// Asserts of which argument a task is, and which task it retries.
+fn assert_again<A: Allocator>(
+    rt: &impl Abort,
+    runner: &Runner<A>,
+    task: u16,
+    argument: &[u8],
+    of: u16,
+) {
+    let row = given(rt, runner.groups().task_row(task), "task");
+    same(
+        rt,
+        &row.argument.as_bytes(),
+        &argument,
+        "task",
+        task as usize,
+    );
+    same(rt, &row.retry_of, &Some(of), "task", task as usize);
+}
+
+/// Takes a step.
+fn take<A: Allocator>(rt: &impl Abort, runner: &mut Runner<A>, step: Step, row: usize) {
+    match step {
+        Step::Is(call, reply) => same(rt, &answer(rt, runner, call), &reply, "step", row),
+        Step::Restart(told) => same(rt, &runner.restart().as_slice(), &told, "step", row),
+        Step::Phases(phases) => assert_phases(rt, runner, phases),
+        Step::Look(group, seen) => assert_seen(rt, runner, group, seen),
+        Step::Seats(group, unfinished, seat) => {
+            same(
+                rt,
+                &runner.seats(group),
+                &Some((unfinished, seat)),
+                "step",
+                row,
+            )
+        }
+        Step::Running(count) => same(rt, &runner.running(), &count, "step", row),
+        Step::Again(task, argument, of) => assert_again(rt, runner, task, argument, of),
+    }
+}
+
+/// Takes the steps of a story.
+pub fn play<A: Allocator>(rt: &impl Abort, runner: &mut Runner<A>, steps: &[Step]) {
+    for (row, step) in steps.iter().enumerate() {
+        take(rt, runner, *step, row);
+    }
+}
+
+/// Takes the steps of a story from the beginning.
+pub fn begin<A: Allocator + Copy>(rt: &impl Abort, alloc: A, steps: &[Step]) {
+    let mut runner = Runner::begun(rt, alloc, Layout::Small);
+    play(rt, &mut runner, steps);
 }

@@ -3,6 +3,8 @@
 #![tactic(auto)]
 
 #[cfg(test)]
+mod asserts;
+#[cfg(test)]
 mod calls;
 #[cfg(test)]
 mod crowds;
@@ -12,6 +14,7 @@ mod images;
 mod plain;
 #[cfg(test)]
 mod randoms;
-pub mod runners;
+#[cfg(test)]
+mod runners;
 #[cfg(test)]
 mod tests;

@@ -1,22 +1,16 @@
 //! A plain program for what groups answer: rows, and a count over them each time.
 
+use crate::asserts::done;
+use crate::runners::Reply;
 use run_model::{Group, Limit, Name, Outcome, Phase, Refusal, Stage, Task, Text};
-use std::alloc::{AllocError, Global};
+use std::alloc::Global;
+use std::process::Abort;
 
 /// The rows of groups and tasks, with nothing beside them.
 #[derive(Drop)]
 pub struct Plain {
     groups: Vec<Group>,
     tasks: Vec<Task>,
-}
-
-/// What a call is answered, or that the plain program has no memory.
-#[derive(Drop)]
-pub enum Answer<T> {
-    /// It is done.
-    Done(T),
-    /// It is refused.
-    Refused(Refusal),
 }
 
 impl Plain {
@@ -90,20 +84,21 @@ impl Plain {
     }
 
     /// Makes a group.
-    pub fn make(&mut self, name: &Name, scope: u16, bare: bool) -> Result<Answer<u16>, AllocError> {
+    pub fn make(&mut self, rt: &impl Abort, name: &Name, scope: u16, bare: bool) -> Reply {
         if self.groups.iter().any(|row| &row.name == name) {
-            return Ok(Answer::Refused(Refusal::NameTaken));
+            return Err(Refusal::NameTaken);
         }
         if self.groups.len() >= 128 {
-            return Ok(Answer::Refused(Refusal::TooManyGroups));
+            return Err(Refusal::TooManyGroups);
         }
         let made = number(self.groups.len());
-        self.groups.push(Group::new(name.copy(), scope, bare))?;
-        Ok(Answer::Done(made))
+        let group = Group::new(name.copy(), scope, bare);
+        done(rt, self.groups.push(group), "memory");
+        Ok(Some(made))
     }
 
     /// Sets a limit.
-    pub fn set_limit(&mut self, group: u16, limit: Limit) -> Result<(), Refusal> {
+    pub fn set_limit(&mut self, group: u16, limit: Limit) -> Reply {
         let active = self.before(group, self.tasks.len());
         let row = self
             .groups
@@ -116,73 +111,89 @@ impl Plain {
             return Err(Refusal::LimitWhileActive);
         }
         row.limit = limit;
-        Ok(())
+        Ok(None)
+    }
+
+    /// Says why a task can't be submitted, which may have to be ready at once.
+    fn refuses(&self, group: u16, at_once: bool) -> Option<Refusal> {
+        let count = self.tasks.len();
+        let Some(row) = self.groups.get(group as usize) else {
+            return Some(Refusal::NoSuchGroup);
+        };
+        if row.waited {
+            return Some(Refusal::Waited);
+        }
+        if count >= 2_048 {
+            return Some(Refusal::TooManyTasks);
+        }
+        if at_once && !self.admits(group, self.before(group, count)) {
+            return Some(Refusal::AtLimit);
+        }
+        None
+    }
+
+    /// Appends a task, and gives its number.
+    fn append(&mut self, rt: &impl Abort, task: Task) -> Reply {
+        let made = number(self.tasks.len());
+        done(rt, self.tasks.push(task), "memory");
+        Ok(Some(made))
     }
 
     /// Submits a task, which may have to be ready at once.
     pub fn submit(
         &mut self,
+        rt: &impl Abort,
         group: u16,
         job: &Name,
         argument: &Name,
         at_once: bool,
-    ) -> Result<Answer<u16>, AllocError> {
-        let count = self.tasks.len();
-        let refusal = match self.groups.get(group as usize) {
-            None => Some(Refusal::NoSuchGroup),
-            Some(row) if row.waited => Some(Refusal::Waited),
-            Some(_) if count >= 2_048 => Some(Refusal::TooManyTasks),
-            Some(_) if at_once && !self.admits(group, self.before(group, count)) => {
-                Some(Refusal::AtLimit)
-            }
-            Some(_) => None,
-        };
-        if let Some(refusal) = refusal {
-            return Ok(Answer::Refused(refusal));
+    ) -> Reply {
+        if let Some(refusal) = self.refuses(group, at_once) {
+            return Err(refusal);
         }
-        self.tasks
-            .push(Task::new(group, job.copy(), argument.copy(), None))?;
-        Ok(Answer::Done(number(count)))
+        self.append(rt, Task::new(group, job.copy(), argument.copy(), None))
+    }
+
+    /// Says whether a group was waited for.
+    fn was_waited(&self, group: u16) -> bool {
+        match self.groups.get(group as usize) {
+            Some(row) => row.waited,
+            None => false,
+        }
     }
 
     /// Submits a task anew.
-    pub fn retry(&mut self, n: u16) -> Result<Answer<u16>, AllocError> {
-        let count = self.tasks.len();
+    pub fn retry(&mut self, rt: &impl Abort, n: u16) -> Reply {
         let Some(task) = self.tasks.get(n as usize) else {
-            return Ok(Answer::Refused(Refusal::NoSuchTask));
+            return Err(Refusal::NoSuchTask);
         };
         if task.stage != Stage::Interrupted {
-            return Ok(Answer::Refused(Refusal::NotInterrupted));
+            return Err(Refusal::NotInterrupted);
         }
         if self.tasks.iter().any(|other| other.retry_of == Some(n)) {
-            return Ok(Answer::Refused(Refusal::AlreadyRetried));
+            return Err(Refusal::AlreadyRetried);
         }
-        let waited = match self.groups.get(task.group as usize) {
-            Some(row) => row.waited,
-            None => false,
-        };
-        if waited {
-            return Ok(Answer::Refused(Refusal::Waited));
+        if self.was_waited(task.group) {
+            return Err(Refusal::Waited);
         }
-        if count >= 2_048 {
-            return Ok(Answer::Refused(Refusal::TooManyTasks));
+        if self.tasks.len() >= 2_048 {
+            return Err(Refusal::TooManyTasks);
         }
         let again = Task::new(task.group, task.job.copy(), task.argument.copy(), Some(n));
-        self.tasks.push(again)?;
-        Ok(Answer::Done(number(count)))
+        self.append(rt, again)
     }
 
     /// Starts the least ready task.
-    pub fn start(&mut self) -> Result<u16, Refusal> {
+    pub fn start(&mut self) -> Reply {
         let n = self.first_ready().ok_or(Refusal::NothingReady)?;
         if let Some(task) = self.tasks.get_mut(n) {
             task.stage = Stage::Running;
         }
-        Ok(number(n))
+        Ok(Some(number(n)))
     }
 
     /// Ends a task, and gives the scope that is told.
-    pub fn finish(&mut self, n: u16, outcome: &Outcome) -> Result<Option<u16>, Refusal> {
+    pub fn finish(&mut self, n: u16, outcome: &Outcome) -> Reply {
         let task = self.tasks.get_mut(n as usize).ok_or(Refusal::NoSuchTask)?;
         if task.stage != Stage::Running {
             return Err(Refusal::NotRunning);
@@ -211,7 +222,7 @@ impl Plain {
     }
 
     /// Waits for a group, and gives the scope that is told.
-    pub fn wait(&mut self, group: u16) -> Result<Option<u16>, Refusal> {
+    pub fn wait(&mut self, group: u16) -> Reply {
         let unfinished = self.before(group, self.tasks.len());
         let row = self
             .groups
@@ -228,17 +239,17 @@ impl Plain {
     }
 
     /// Interrupts the running tasks, and gives the scopes that are told.
-    pub fn restart(&mut self, alloc: Global, text: &Text) -> Result<Vec<u16>, AllocError> {
+    pub fn restart(&mut self, rt: &impl Abort, alloc: Global, text: &Text) -> Vec<u16> {
         let mut told = Vec::new(alloc);
         for n in 0..self.tasks.len() {
             let Some(group) = self.interrupt(n) else {
                 continue;
             };
             if let Some(scope) = self.fail(group, text) {
-                told.push(scope)?;
+                done(rt, told.push(scope), "memory");
             }
         }
-        Ok(told)
+        told
     }
 
     /// Interrupts a task that is running, and gives its group.
