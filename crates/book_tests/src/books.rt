@@ -119,13 +119,24 @@ fn assert_plays(
     Ok(())
 }
 
+/// Asserts the device calls of a list of those steps.
+fn assert_list_calls(
+    rt: &impl Abort,
+    alloc: Global,
+    layout: Layout,
+    steps: &[Step],
+) -> Result<(), Fail> {
+    let mut book = fresh(alloc, layout)?;
+    assert_plays(rt, alloc, &mut book, steps)?;
+    assert_eq!(rt; book.into_disk().calls(), 37, "in {layout:?}");
+    Ok(())
+}
+
 #[test]
 fn a_list_of_steps_is_answered_one_by_one(rt: HostRuntime) -> Result<(), Fail> {
     let steps = steps(&rt, rt.alloc())?;
-    let mut book = fresh(rt.alloc(), Layout::Small)?;
-    assert_plays(&rt, rt.alloc(), &mut book, &steps)?;
-    assert_eq!(rt; book.into_disk().calls(), 37);
-    Ok(())
+    assert_list_calls(&rt, rt.alloc(), Layout::Small, &steps)?;
+    assert_list_calls(&rt, rt.alloc(), Layout::Large, &steps)
 }
 
 /// The events since the opening of the next test.
