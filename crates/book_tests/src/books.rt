@@ -4,7 +4,7 @@ use crate::calls::Call::{
     Cancel, Cause, Checkpoint, Flush, Go, Group, Plain, Start, Succeed, Wait,
 };
 use crate::calls::{Call, Said, assert_said, meaning, step};
-use crate::disks::{formatted, fresh, opened};
+use crate::disks::{counted_on, formatted, fresh, opened, played, unformatted, unopened};
 use crate::looks::{Seen, assert_group, assert_scopes, assert_tasks};
 use record_view::EventView;
 use run_book::Book;
@@ -49,63 +49,126 @@ fn assert_left(rt: &impl Abort, book: &Book<MemoryDisk>, count: u64) {
     assert_tasks(rt, state, &[(b"a", Phase::Success, None)]);
 }
 
-#[test]
-fn each_step_is_answered(rt: HostRuntime) -> Result<(), Fail> {
-    for layout in [Layout::Small, Layout::Large] {
-        let mut book = fresh(rt.alloc(), layout)?;
-        assert_eq!(rt; (book.state().count(), book.durable()), (1, 1));
-        assert!(rt; book.history().next().is_none());
-        assert_said(&rt, &mut book, &ROWS);
-        assert_left(&rt, &book, 9);
-        assert_eq!(rt; book.state().layout(), layout);
-        // Two flushes of six calls and a checkpoint of seven, behind a format and an opening; the
-        // flush without an event makes none.
-        let disk = book.into_disk();
-        assert_eq!(rt; disk.calls(), 37, "in {layout:?}");
-        let book = opened(rt.alloc(), disk)?;
-        assert_left(&rt, &book, 10);
-        assert!(rt; book.history().next().is_none());
-        assert_eq!(rt; book.into_disk().calls(), 47, "in {layout:?}");
-    }
+/// Asserts that a book was just opened, and takes those steps.
+fn assert_answers(rt: &impl Abort, book: &mut Book<MemoryDisk>, layout: Layout) {
+    assert!(rt; book.state().layout() == layout);
+    assert_eq!(rt; (book.state().count(), book.durable()), (1, 1));
+    assert!(rt; book.history().next().is_none());
+    assert_said(rt, book, &ROWS);
+    assert_left(rt, book, 9);
+}
+
+/// The disk of a new book behind those steps.
+fn answered(rt: &impl Abort, alloc: Global, layout: Layout) -> Result<MemoryDisk, Fault> {
+    let mut book = fresh(alloc, layout)?;
+    assert_answers(rt, &mut book, layout);
+    Ok(book.into_disk())
+}
+
+/// The same disk, opened again.
+fn opened_again(rt: &impl Abort, alloc: Global, disk: MemoryDisk) -> Result<MemoryDisk, Fault> {
+    let book = opened(alloc, disk)?;
+    assert_left(rt, &book, 10);
+    assert!(rt; book.history().next().is_none());
+    Ok(book.into_disk())
+}
+
+/// Asserts the device calls. Two flushes of six calls and a checkpoint of seven stand behind a
+/// format and an opening; the flush without an event makes none.
+fn assert_calls(rt: &impl Abort, alloc: Global, layout: Layout) -> Result<(), Fault> {
+    let disk = answered(rt, alloc, layout)?;
+    assert_eq!(rt; disk.calls(), 37, "in {layout:?}");
+    let disk = opened_again(rt, alloc, disk)?;
+    assert_eq!(rt; disk.calls(), 47, "in {layout:?}");
     Ok(())
 }
 
-/// The steps of a table.
-fn steps(
-    rt: &impl Abort,
-    alloc: Global,
-    rows: &[(Call, Said<'static>)],
-) -> Result<Vec<Step>, Fail> {
+#[test]
+fn each_step_is_answered(rt: HostRuntime) -> Result<(), Fault> {
+    assert_calls(&rt, rt.alloc(), Layout::Small)?;
+    assert_calls(&rt, rt.alloc(), Layout::Large)
+}
+
+/// The steps of the table.
+fn steps(rt: &impl Abort, alloc: Global) -> Result<Vec<Step>, Fail> {
     let mut steps = Vec::new(alloc);
-    for row in rows.iter() {
+    for row in ROWS.iter() {
         steps.push(step(rt, row.0))?;
     }
     Ok(steps)
 }
 
-#[test]
-fn a_list_of_steps_is_answered_one_by_one(rt: HostRuntime) -> Result<(), Fail> {
-    for layout in [Layout::Small, Layout::Large] {
-        let mut book = fresh(rt.alloc(), layout)?;
-        let steps = steps(&rt, rt.alloc(), &ROWS)?;
-        let mut replies = Vec::<Reply>::with_capacity(rt.alloc(), steps.len())?;
-        book.play(&steps, &mut replies);
-        assert_eq!(rt; replies.len(), ROWS.len());
-        for (n, (reply, row)) in replies.iter().zip(ROWS.iter()).enumerate() {
-            assert_eq!(rt; meaning(reply), row.1, "row {n}");
-        }
-        assert_left(&rt, &book, 9);
-        assert_eq!(rt; book.into_disk().calls(), 37, "in {layout:?}");
+fn assert_replies(rt: &impl Abort, replies: &[Reply]) {
+    assert_eq!(rt; replies.len(), ROWS.len());
+    for (n, (reply, row)) in replies.iter().zip(ROWS.iter()).enumerate() {
+        assert!(rt; meaning(reply) == row.1, "row {n}");
     }
+}
+
+/// Asserts what a list of those steps is answered.
+fn assert_plays(
+    rt: &impl Abort,
+    alloc: Global,
+    book: &mut Book<MemoryDisk>,
+    steps: &[Step],
+) -> Result<(), Fail> {
+    let mut replies = Vec::<Reply>::with_capacity(alloc, steps.len())?;
+    book.play(steps, &mut replies);
+    assert_replies(rt, &replies);
+    assert_left(rt, book, 9);
+    Ok(())
+}
+
+/// Asserts the device calls of a list of those steps.
+fn assert_list_calls(
+    rt: &impl Abort,
+    alloc: Global,
+    layout: Layout,
+    steps: &[Step],
+) -> Result<(), Fail> {
+    let mut book = fresh(alloc, layout)?;
+    assert_plays(rt, alloc, &mut book, steps)?;
+    assert_eq!(rt; book.into_disk().calls(), 37, "in {layout:?}");
     Ok(())
 }
 
 #[test]
-fn history_gives_the_events_since_the_opening(rt: HostRuntime) -> Result<(), Fail> {
-    let mut book = fresh(rt.alloc(), Layout::Small)?;
-    assert_said(&rt, &mut book, &[(Cause(b"old", b"root"), Said::Scope(1))]);
-    assert_said(&rt, &mut book, &[(Flush, Said::Acked(2))]);
-    let mut book = opened(rt.alloc(), book.into_disk())?;
+fn a_list_of_steps_is_answered_one_by_one(rt: HostRuntime) -> Result<(), Fail> {
+    let steps = steps(&rt, rt.alloc())?;
+    assert_list_calls(&rt, rt.alloc(), Layout::Small, &steps)?;
+    assert_list_calls(&rt, rt.alloc(), Layout::Large, &steps)
+}
+
+/// The events since the opening of the next test.
+static EVENTS: [EventView<'static>; 3] = [
+    EventView::Group {
+        name: b"g",
+        parent: 0,
+    },
+    EventView::Go {
+        group: 0,
+        job: b"copy",
+        argument: b"a",
+    },
+    EventView::Start { task: 0 },
+];
+
+fn assert_history(rt: &impl Abort, book: &Book<MemoryDisk>) {
+    let mut events = book.history();
+    for (n, event) in EVENTS.iter().enumerate() {
+        assert!(rt; events.next() == Some(*event), "event {n}");
+    }
+    assert!(rt; events.next().is_none());
+}
+
+#[test]
+fn history_gives_the_events_since_the_opening(rt: HostRuntime) -> Result<(), Fault> {
+    let rows = [
+        (Cause(b"old", b"root"), Said::Scope(1)),
+        (Flush, Said::Acked(2)),
+    ];
+    let disk = played(&rt, rt.alloc(), Layout::Small, &[&rows])?;
+    let mut book = opened(rt.alloc(), disk)?;
     let rows = [
         (Group(b"g", b"root"), Said::Group(0, Some(2))),
         (Flush, Said::Acked(4)),
@@ -114,56 +177,51 @@ fn history_gives_the_events_since_the_opening(rt: HostRuntime) -> Result<(), Fai
         (Start, Said::Started(6, 0, b"copy", b"a", false)),
     ];
     assert_said(&rt, &mut book, &rows);
-    let expected = [
-        EventView::Group {
-            name: b"g",
-            parent: 0,
-        },
-        EventView::Go {
-            group: 0,
-            job: b"copy",
-            argument: b"a",
-        },
-        EventView::Start { task: 0 },
-    ];
-    let mut events = book.history();
-    for (n, event) in expected.iter().enumerate() {
-        assert!(rt; events.next() == Some(*event), "event {n}");
-    }
-    assert!(rt; events.next().is_none());
+    assert_history(&rt, &book);
+    Ok(())
+}
+
+/// Asserts that a recovery of a new store reads alone, by three calls.
+fn assert_recovers(
+    rt: &impl Abort,
+    alloc: Global,
+    disk: &mut MemoryDisk,
+    layout: Layout,
+    calls: u64,
+) -> Result<(), Fault> {
+    let state = Book::recover(alloc, disk)?;
+    assert!(rt; state.layout() == layout);
+    assert_eq!(rt; (state.count(), disk.calls()), (0, calls), "in {layout:?}");
+    assert_scopes(rt, &state, &[]);
     Ok(())
 }
 
 #[test]
-fn recovery_reads_alone(rt: HostRuntime) -> Result<(), Fail> {
+fn recovery_reads_alone(rt: HostRuntime) -> Result<(), Fault> {
     for layout in [Layout::Small, Layout::Large] {
         let mut disk = formatted(rt.alloc(), layout)?;
-        assert_eq!(rt; disk.calls(), 8, "in {layout:?}");
-        for calls in [11, 14] {
-            let state = Book::recover(rt.alloc(), &mut disk)?;
-            assert_eq!(rt; (state.count(), state.layout()), (0, layout));
-            assert_scopes(&rt, &state, &[]);
-            assert_eq!(rt; disk.calls(), calls, "in {layout:?}");
-        }
+        assert_recovers(&rt, rt.alloc(), &mut disk, layout, 11)?;
+        assert_recovers(&rt, rt.alloc(), &mut disk, layout, 14)?;
     }
     Ok(())
 }
 
+/// Asserts that a disk of this size is no store, and that no call is made to it.
+fn assert_wrong(rt: &impl Abort, alloc: Global, size: usize) -> Result<(), Fault> {
+    let (fault, mut disk) = unformatted(MemoryDisk::new(alloc, size)?).expect(rt, "a fault");
+    assert_eq!(rt; fault, Fault::WrongSize, "format of {size} bytes");
+    let found = counted_on(alloc, &mut disk);
+    assert_eq!(rt; found, Err(Fault::WrongSize), "recovery of {size} bytes");
+    let (fault, disk) = unopened(alloc, disk).expect(rt, "a fault");
+    assert_eq!(rt; fault, Fault::WrongSize, "opening of {size} bytes");
+    assert_eq!(rt; disk.calls(), 0);
+    Ok(())
+}
+
 #[test]
-fn another_size_is_no_store(rt: HostRuntime) -> Result<(), Fail> {
+fn another_size_is_no_store(rt: HostRuntime) -> Result<(), Fault> {
     for size in [0, 1, 1_572_863, 1_572_865, 6_291_455, 6_291_457] {
-        let disk = MemoryDisk::new(rt.alloc(), size)?;
-        let Err((fault, mut disk)) = Book::format(disk) else {
-            return Err("formatted".into());
-        };
-        assert_eq!(rt; fault, Fault::WrongSize, "format of {size} bytes");
-        let fault = Book::recover(rt.alloc(), &mut disk).err();
-        assert_eq!(rt; fault, Some(Fault::WrongSize), "recovery of {size} bytes");
-        let Err((fault, disk)) = Book::open(rt.alloc(), disk) else {
-            return Err("opened".into());
-        };
-        assert_eq!(rt; fault, Fault::WrongSize, "opening of {size} bytes");
-        assert_eq!(rt; disk.calls(), 0);
+        assert_wrong(&rt, rt.alloc(), size)?;
     }
     Ok(())
 }

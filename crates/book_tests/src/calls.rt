@@ -45,7 +45,7 @@ pub enum Call {
 }
 
 /// What a step is answered.
-#[derive(Clone, Copy, Debug, PartialEq, Eq)]
+#[derive(Clone, Copy, PartialEq)]
 pub enum Said<'a> {
     /// The number of a scope.
     Scope(u16),
@@ -247,32 +247,6 @@ pub fn assert_said<D: RunDisk, A: Allocator>(
 ) {
     for (n, row) in rows.iter().enumerate() {
         let reply = take(book, &step(rt, row.0));
-        assert_eq!(rt; meaning(&reply), row.1, "row {n}");
-    }
-}
-
-/// Takes the same step so many times, which is done each time.
-pub fn repeat<D: RunDisk, A: Allocator>(
-    rt: &impl Abort,
-    book: &mut Book<D, A>,
-    call: Call,
-    times: u64,
-) {
-    let step = step(rt, call);
-    for _ in 0..times {
-        let reply = take(book, &step);
-        assert_eq!(rt; meaning(&reply), Said::Done);
-    }
-}
-
-/// Advances the clock by one second at a time, from 1 to the last: 11 bytes each.
-pub fn advance_through<D: RunDisk, A: Allocator>(
-    rt: &impl Abort,
-    book: &mut Book<D, A>,
-    last: u64,
-) {
-    for seconds in 1..=last {
-        let reply = take(book, &step(rt, Call::Advance(seconds)));
-        assert_eq!(rt; meaning(&reply), Said::Done);
+        assert!(rt; meaning(&reply) == row.1, "row {n}");
     }
 }

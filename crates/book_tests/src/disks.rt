@@ -1,5 +1,6 @@
 //! Disks in memory with a store on them, and what a book of them is.
 
+use crate::calls::{Call, Said, assert_said};
 use run_book::{Book, State};
 use run_disk::{MemoryDisk, RunDisk, Torn};
 use run_model::{Fault, Layout};
@@ -41,10 +42,40 @@ pub fn fresh(alloc: Global, layout: Layout) -> Result<Book<MemoryDisk>, Fault> {
     opened(alloc, formatted(alloc, layout)?)
 }
 
-/// What a disk with these bytes stores.
-pub fn recovered(alloc: Global, bytes: Vec<u8>) -> Result<State, Fault> {
-    let mut disk = MemoryDisk::from_bytes(alloc, bytes)?;
-    Book::recover(alloc, &mut disk)
+/// The disk of a book that was just opened, behind lists of steps, each with its answer.
+pub fn played(
+    rt: &impl Abort,
+    alloc: Global,
+    layout: Layout,
+    lists: &[&[(Call, Said<'static>)]],
+) -> Result<MemoryDisk, Fault> {
+    let mut book = fresh(alloc, layout)?;
+    for rows in lists.iter() {
+        assert_said(rt, &mut book, rows);
+    }
+    Ok(book.into_disk())
+}
+
+/// How many events there are in what a disk stores.
+pub fn counted_on(alloc: Global, disk: &mut MemoryDisk) -> Result<u64, Fault> {
+    let state = Book::recover(alloc, disk)?;
+    Ok(state.count())
+}
+
+/// Why a disk isn't formatted, and the disk as it is handed back.
+pub fn unformatted(disk: MemoryDisk) -> Option<(Fault, MemoryDisk)> {
+    match Book::format(disk) {
+        Ok(_) => None,
+        Err(both) => Some(both),
+    }
+}
+
+/// Why a disk isn't opened, and the disk as it is handed back.
+pub fn unopened(alloc: Global, disk: MemoryDisk) -> Option<(Fault, MemoryDisk)> {
+    match Book::open(alloc, disk) {
+        Ok(_) => None,
+        Err(both) => Some(both),
+    }
 }
 
 /// What reads of a disk give.
@@ -59,8 +90,11 @@ pub fn put(rt: &impl Abort, bytes: &mut [u8], place: usize, with: &[u8]) {
     part.copy_from_slice(with);
 }
 
+/// What stands at a place, where it begins, and its bytes.
+pub type At = (&'static str, usize, &'static [u8]);
+
 /// Asserts the bytes at their places.
-pub fn assert_bytes(rt: &impl Abort, bytes: &[u8], rows: &[(&str, usize, &[u8])]) {
+pub fn assert_bytes(rt: &impl Abort, bytes: &[u8], rows: &[At]) {
     for row in rows.iter() {
         let found = bytes.get(row.1..).and_then(|rest| rest.get(..row.2.len()));
         assert_eq!(rt; found, Some(row.2), "{}", row.0);

@@ -1,0 +1,98 @@
+//! The bytes of a small store: as it is formatted, as it is opened once, behind two flushes, and
+//! behind a checkpoint.
+
+use crate::calls::Call::{Checkpoint, Flush};
+use crate::calls::{Call, Said};
+use crate::disks::{At, assert_bytes, formatted, played, reads};
+use crate::six_events::{FIRST, FIRST_BATCH, SECOND, SECOND_BATCH};
+use run_disk::MemoryDisk;
+use run_model::{Fault, Layout};
+use std::alloc::Global;
+use std::process::Abort;
+
+/// A slot of generation 0 with root alone, before any event.
+const FORMATTED: &[u8; 36] = b"\xa7\0\0\0\0\0\0\0\0\0\0\0\x17\x02\0\0\0\0\0\0\0\0\
+\0\0\0\0\0\0\0\0\0\0\0\0\0\0";
+
+/// A slot of generation 1 with root alone, behind event 1.
+const OPENED: &[u8; 36] = b"\xa7\0\0\0\0\0\0\0\x01\0\0\0\x17\x02\0\0\0\0\0\0\0\0\
+\0\0\0\0\0\0\0\x01\0\0\0\0\0\0";
+
+/// A slot of generation 2 with two scopes, the first of which event 4 cancelled.
+const CANCELED: &[u8; 70] = b"\xa7\0\0\0\0\0\0\0\x02\0\0\0\x39\x02\0\0\0\0\0\0\0\0\
+\0\0\0\0\0\0\0\x04\0\x02\0\0\0\0\
+\x01a\0\0\x02\x01\0\0\0\0\0\0\0\x04\0\0\0\0\0\0\0\0\x01\x04disk\x01b\0\x01\x01\0";
+
+/// Asserts how many calls a disk has counted, and bytes of what reads of it give.
+fn assert_disk(
+    rt: &impl Abort,
+    alloc: Global,
+    disk: &MemoryDisk,
+    calls: u64,
+    rows: &[At],
+) -> Result<(), Fault> {
+    assert_eq!(rt; disk.calls(), calls);
+    let now = reads(alloc, disk)?;
+    assert_eq!(rt; now.len(), 1_572_864);
+    assert_bytes(rt, &now, rows);
+    Ok(())
+}
+
+#[test]
+fn a_store_is_formatted_so(rt: HostRuntime) -> Result<(), Fault> {
+    let disk = formatted(rt.alloc(), Layout::Small)?;
+    let rows = [
+        ("slot 0", 0, FORMATTED.as_slice()),
+        ("slot 1's gate", 524_288, b"\0"),
+        ("segment 0's gate", 1_048_576, b"\0"),
+    ];
+    assert_disk(&rt, rt.alloc(), &disk, 8, &rows)
+}
+
+/// Asserts what steps leave of a store that was just opened.
+fn assert_left(
+    rt: &impl Abort,
+    alloc: Global,
+    steps: &[&[(Call, Said<'static>)]],
+    calls: u64,
+    rows: &[At],
+) -> Result<(), Fault> {
+    let disk = played(rt, alloc, Layout::Small, steps)?;
+    assert_disk(rt, alloc, &disk, calls, rows)
+}
+
+#[test]
+fn a_store_is_opened_so(rt: HostRuntime) -> Result<(), Fault> {
+    let rows = [
+        ("slot 0", 0, FORMATTED.as_slice()),
+        ("slot 1", 524_288, OPENED),
+        ("segment 0's gate", 1_048_576, b"\0"),
+        ("segment 1's gate", 1_310_720, b"\0"),
+    ];
+    assert_left(&rt, rt.alloc(), &[], 18, &rows)
+}
+
+#[test]
+fn two_flushes_leave_two_batches(rt: HostRuntime) -> Result<(), Fault> {
+    let rows = [
+        ("slot 0", 0, FORMATTED.as_slice()),
+        ("slot 1", 524_288, OPENED),
+        ("segment 0's gate", 1_048_576, b"\0"),
+        ("the first batch", 1_310_720, FIRST_BATCH),
+        ("the second batch", 1_310_751, SECOND_BATCH),
+        ("the third gate", 1_310_772, b"\0"),
+    ];
+    let steps = [FIRST.as_slice(), &SECOND, &[(Flush, Said::Acked(6))]];
+    assert_left(&rt, rt.alloc(), &steps, 30, &rows)
+}
+
+#[test]
+fn a_checkpoint_leaves_an_image(rt: HostRuntime) -> Result<(), Fault> {
+    let rows = [
+        ("slot 0", 0, CANCELED.as_slice()),
+        ("slot 1", 524_288, OPENED),
+        ("segment 0's gate", 1_048_576, b"\0"),
+    ];
+    let steps = [FIRST.as_slice(), &[(Checkpoint, Said::Acked(4))]];
+    assert_left(&rt, rt.alloc(), &steps, 25, &rows)
+}

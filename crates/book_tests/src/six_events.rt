@@ -1,0 +1,27 @@
+//! Six events, as steps and as bytes: the opening's, three that are flushed, and two that are
+//! pending.
+
+use crate::calls::Call::{Cancel, Cause, Flush, Plain};
+use crate::calls::{Call, Said};
+
+/// Events 2 to 4.
+pub const FIRST: [(Call, Said<'static>); 3] = [
+    (Cause(b"a", b"root"), Said::Scope(1)),
+    (Plain(b"b", b"a"), Said::Scope(2)),
+    (Cancel(b"a", b"disk"), Said::Done),
+];
+
+/// Their batch: its gate, its length and their records.
+pub const FIRST_BATCH: &[u8; 31] = b"\xa7\0\0\0\x1a\x01\0\x05\x01a\0\0\x02\
+\x01\0\x05\x01b\0\x01\x01\x02\0\x07\0\x01\x04disk";
+
+/// Their flush, and events 5 and 6.
+pub const SECOND: [(Call, Said<'static>); 3] = [
+    (Flush, Said::Acked(4)),
+    (Plain(b"c", b"root"), Said::Scope(3)),
+    (Plain(b"d", b"root"), Said::Scope(4)),
+];
+
+/// The batch of events 5 and 6.
+pub const SECOND_BATCH: &[u8; 21] = b"\xa7\0\0\0\x10\x01\0\x05\x01c\0\0\x01\
+\x01\0\x05\x01d\0\0\x01";
