@@ -1,9 +1,12 @@
 //! The places of both layouts, and the rows of calls that the laws speak of.
 
+use crate::asserts::{done, same};
+use run_disk::MemoryDisk;
 use run_journal::Journal;
 use run_model::Layout;
 use run_store::{place_of_segment, segment_size, slot_size};
-use std::test::Fail;
+use std::alloc::Global;
+use std::process::Abort;
 use store_laws::laws::use_new_store_in_memory;
 
 /// How many bytes a slot and a segment have, and where the segments begin.
@@ -13,39 +16,51 @@ static SIZES: [(Layout, u64, u64, [u64; 2]); 2] = [
 ];
 
 #[test]
-fn each_layout_has_its_sizes_and_places(rt: HostRuntime) -> Result<(), Fail> {
-    for (layout, slot, segment, places) in SIZES {
-        assert_eq!(rt; slot_size(layout), slot, "in {layout:?}");
-        assert_eq!(rt; segment_size(layout), segment, "in {layout:?}");
-        let begins = [place_of_segment(layout, 0), place_of_segment(layout, 1)];
-        assert_eq!(rt; begins, places, "in {layout:?}");
+fn each_layout_has_its_sizes_and_places(rt: HostRuntime) {
+    for (row, (layout, slot, segment, places)) in SIZES.iter().enumerate() {
+        same(&rt, &slot_size(*layout), slot, "a slot of row", row);
+        same(
+            &rt,
+            &segment_size(*layout),
+            segment,
+            "a segment of row",
+            row,
+        );
+        let begins = [place_of_segment(*layout, 0), place_of_segment(*layout, 1)];
+        same(&rt, &begins, places, "the places of row", row);
     }
-    Ok(())
+}
+
+/// The disk behind a row of calls.
+fn used(rt: &impl Abort, alloc: Global, layout: Layout) -> MemoryDisk {
+    let mut body = *b"............first";
+    let mut next = *b"............next";
+    let used = use_new_store_in_memory(
+        alloc, layout, &mut body, b"one", b"two", &mut next, b"three",
+    );
+    done(rt, used, "store").into_disk()
+}
+
+/// Asserts that a row of calls ends in its last pair.
+fn assert_last(rt: &impl Abort, alloc: Global, layout: Layout) {
+    let mut disk = used(rt, alloc, layout);
+    same(rt, &disk.calls(), &39, "calls", 39);
+    let stored = done(rt, Journal::recover(alloc, &mut disk), "store");
+    same(rt, &stored.image(), &b"next".as_slice(), "the image", 0);
+    same(
+        rt,
+        &stored.batches().next(),
+        &Some(b"three".as_slice()),
+        "batch",
+        0,
+    );
+    let numbers = (stored.generation(), stored.tail());
+    same(rt, &numbers, &(1, 10), "the numbers", 0);
 }
 
 #[test]
-fn a_row_of_calls_ends_in_its_last_pair(rt: HostRuntime) -> Result<(), Fail> {
-    let alloc = rt.alloc();
+fn a_row_of_calls_ends_in_its_last_pair(rt: HostRuntime) {
     for layout in [Layout::Small, Layout::Large] {
-        let mut body = *b"............first";
-        let mut next = *b"............next";
-        let used = use_new_store_in_memory(
-            alloc, layout, &mut body, b"one", b"two", &mut next, b"three",
-        );
-        let mut disk = used?.into_disk();
-        assert_eq!(rt; disk.calls(), 39, "in {layout:?}");
-        let stored = Journal::recover(alloc, &mut disk)?;
-        assert_eq!(rt; stored.image(), b"next".as_slice(), "in {layout:?}");
-        assert_eq!(rt;
-            stored.batches().next(),
-            Some(b"three".as_slice()),
-            "in {layout:?}"
-        );
-        assert_eq!(rt;
-            (stored.generation(), stored.tail()),
-            (1, 10),
-            "in {layout:?}"
-        );
+        assert_last(&rt, rt.alloc(), layout);
     }
-    Ok(())
 }
