@@ -10,3 +10,4 @@ pub mod Reopening
 pub mod Restoring
 pub mod Rooting
 pub mod Saving
+pub mod Stepping
