@@ -1,0 +1,310 @@
+-- A chain of calls, by what each of them leaves.
+use Rattle.std.proofs.Common.{◌≡◌, ◌⊎◌, inl, inr, ◌∷◌, ℕ, Bool, true, false, List, []}
+use Rattle.std.proofs.Common.{length, None, Ok, Some, append-nil, refl, sym, ap, ◌∙◌, subst, arith}
+use Rattle.std.specs.List.{flat_map}
+use Rattle.run_model.specs.declared.answers.Reply.{Reply}
+use Rattle.run_model.specs.declared.commands.Step.{Step}
+use Rattle.run_model.specs.declared.faults.Fault.{Fault}
+use Rattle.run_model.specs.declared.faults.Fault.TheVariants.{DiskFailed, WrongSize}
+use Rattle.run_model.specs.declared.layouts.Layout.{Layout}
+use Rattle.run_model.specs.declared.layouts.Layout.TheVariants.{Large, Small}
+use Rattle.run_model.specs.Allowed.{run}
+use Rattle.run_model.specs.Event.{Event}
+use Rattle.run_model.specs.Layouts.{layout_of, store_len}
+use Rattle.run_model.specs.Session.{Session, accepted, event_of_step, with_event}
+use Rattle.run_model.specs.State.{State, formatted}
+use Rattle.record_view.specs.Spelling.{spelling}
+use Rattle.run_disk.specs.Disk.{DiskState, IsAtRest, IsDisk}
+use Rattle.run_disk.specs.Runs.{LeavesOnly}
+use Rattle.run_disk.proofs.RunLemmas.{leaves_only_more, only_weaker}
+use Rattle.run_journal.specs.Pairs.{AreZeros}
+use Rattle.run_store.proofs.LayoutLemmas.{one_layout}
+use Rattle.run_session.specs.Logged.{Replays, begun_at}
+use Rattle.state_laws.proofs.Interrupts.{restarted as interrupted}
+use Rattle.book_model.specs.Holdings.{CarriesOn, Holding, IsOpened, IsSession, acked}
+use Rattle.book_model.specs.Nights.{opened_from}
+use Rattle.book_model.specs.Openings.{FormatsNot, HasFormatted, Opens, StopsFormat}
+use Rattle.book_model.specs.Plays.{Playing, Plays, is_device_failure, sound, taken}
+use Rattle.book_model.specs.Steps.{PlaysInto, playing_in}
+use Rattle.book_model.specs.Stores.{Stores, StoresFront, StoresNothingOr, StoresOpened}
+use Rattle.book_model.specs.Stores.{restarted}
+use Rattle.book_model.proofs.FrontLemmas.{front_here, front_kept}
+use Rattle.book_model.proofs.HoldingLemmas.{carries_after, stores_fewer}
+use Rattle.book_model.proofs.NightLemmas.{is_night, opened_safe}
+use Rattle.book_model.proofs.Playing.{accepted_run, not_refused, stuck_refuses, taken_keep}
+use Rattle.book_model.proofs.Stepping.{steps_play}
+use Rattle.book_model.proofs.Storing.{stores_one}
+use Rattle.run_book.specs.Views.{BookView, holding}
+use Rattle.book_laws.specs.Chains.{HasLasted, HasStayed, HasStayedNew, HoldsOne, HoldsOneOrNothing}
+use Rattle.book_laws.specs.Chains.{IsPlayed}
+
+-- ---- steps
+
+-- A book that isn't broken behind the steps took each of them.
+taken_all : (k : Bool) (s : Session) (end : Playing) (steps : List Step) (answers : List Reply)
+    → Plays (record { session = s; broken = k }) steps answers end → end.broken ≡ false
+    → taken steps answers ≡ steps
+taken_all k s end [] [] p fine = refl
+taken_all k s end [] (r ∷ answers) p fine = absurd p
+taken_all k s end (x ∷ steps) [] p fine = absurd p
+taken_all true s end (x ∷ steps) (r ∷ answers) p fine =
+    let broken = ap (λ (b : Playing). b.broken)
+    (stuck_refuses s end (x ∷ steps) (r ∷ answers) p).1 in
+    absurd (cc (broken, fine))
+taken_all false s end (x ∷ steps) (r ∷ answers) p fine =
+    taken_keep x r steps answers (not_refused s x r p.0)
+    ∙ ap (λ l. x ∷ l)
+    (taken_all (is_device_failure r) (with_event s (event_of_step s x)) end steps answers p.1 fine)
+
+-- ---- what a stop leaves
+
+-- What an opening leaves: the state before, or the front of no event.
+opened_holds : (p : State) (events : List Event) (x : List ℕ) → StoresOpened p x
+    → HoldsOne p events x
+opened_holds p events x (inl before) = inl before
+opened_holds p events x (inr after) =
+    inr (inl (front_kept (restarted p) events [] events x refl (record {
+      state = restarted p;
+      front = record {
+        many = 0;
+        enough = omega arith;
+        within = omega arith;
+        reached = refl;
+      };
+      stores = after;
+    })))
+
+-- A front of the events.
+front_holds : (p : State) (events : List Event) (n : ℕ) (x : List ℕ)
+    → StoresFront (restarted p) events n x → HoldsOne p events x
+front_holds p events n x front =
+    inr (inl (front_kept (restarted p) events [] events x refl
+    (stores_fewer (restarted p) events n 0 x (omega arith) front)))
+
+-- What a second opening leaves: the front of all events, or what its restart left.
+reopened_holds : (p last : State) (events : List Event) (x : List ℕ)
+    → run (restarted p) events ≡ Some last → StoresOpened last x → HoldsOne p events x
+reopened_holds p last events x reached (inl before) =
+    front_holds p events (length events) x (front_here (restarted p) last events x reached before)
+reopened_holds p last events x reached (inr after) =
+    inr (inr (record { last = last; reached = reached; stores = after }))
+
+-- No step was taken, as no book was opened.
+pub unopened : (p : State) (steps : List Step) (replies : List Reply) (old new : DiskState)
+    → LeavesOnly (StoresOpened p) old new → HasStayed p steps replies replies old new
+unopened p steps replies old new leaves = record {
+  answers = [];
+  appended = sym (append-nil replies);
+  held = only_weaker (StoresOpened p) (HoldsOne p (accepted (opened_from p) (taken steps []))) old
+      new (λ x is. opened_holds p (accepted (opened_from p) (taken steps [])) x is) leaves;
+}
+
+-- Steps were played over the book that an opening answered.
+pub is_played : {D : Type 0} (state : D → DiskState) (given : D) (p : State) (steps : List Step)
+    (before replies : List Reply) (first b : BookView D) → (state given).honest
+    → IsAtRest (state given) → Stores (state given).now p
+    → Opens state given (Ok (holding first))
+    → PlaysInto state (holding first) steps before (holding b) replies
+    → CarriesOn state (holding first) (holding b)
+    → IsPlayed state given p steps before b replies
+is_played state given p steps before replies first b honest rest stores opens plays on =
+    let opened = opens.answer in
+    let same = stores_one (state given).now opened.stored p (opened.found.stores honest) stores in
+    record {
+      first = holding first;
+      opened = subst (λ q. IsOpened state given q (holding first)) same opened.opened;
+      leaves = opens.any_moment honest rest p stores;
+      plays = plays;
+      on = on;
+    }
+
+module _ {D : Type 0} (state : D → DiskState) (given : D) (p : State) (steps : List Step)
+    (before replies : List Reply) (b : BookView D)
+    (is : IsPlayed state given p steps before b replies) where
+  -- The events that the steps led to.
+  abbrev events : List Event
+  events = accepted (opened_from p) (taken steps is.plays.answers)
+
+  -- What the book left since the opening began, once it went on from the steps without an event.
+  pub left_since : (new : Holding D) → (state given).honest → IsAtRest (state given)
+      → CarriesOn state (holding b) new → new.history ≡ (holding b).history
+      → LeavesOnly (HoldsOne p events) (state given) (state new.journal.disk)
+  left_since new honest rest on same =
+      let night = is_night state given p is.first (holding b) steps is.plays.answers is.opened
+      is.plays.played in
+      let whole = carries_after state is.first (holding b) new is.on on in
+      let safe = opened_safe state given p is.first honest rest is.opened in
+      let start = on.start ∙ night.start in
+      let history = same ∙ night.history in
+      leaves_only_more (StoresOpened p) (StoresFront new.start new.history (acked is.first))
+      (HoldsOne p events) (state given) (state is.first.journal.disk) (state new.journal.disk)
+      is.leaves (whole.any_moment safe) (λ x left. opened_holds p events x left)
+      (λ x left. front_holds p events (acked is.first) x
+      (subst (λ l. StoresFront (restarted p) l (acked is.first) x) history
+      (subst (λ q. StoresFront q new.history (acked is.first) x) start left)))
+
+  pub stayed : (new : Holding D) → (state given).honest → IsAtRest (state given)
+      → CarriesOn state (holding b) new → new.history ≡ (holding b).history
+      → HasStayed p steps before replies (state given) (state new.journal.disk)
+  stayed new honest rest on same = record {
+    answers = is.plays.answers;
+    appended = is.plays.appended;
+    held = left_since new honest rest on same;
+  }
+
+  -- ---- all events
+
+  is_session : IsSession is.first (opened_from p)
+  is_session = record {
+    state = ap (λ es. run is.first.start es) is.opened.history ∙ ap Some is.opened.start;
+    log = sym (ap (λ es. length (flat_map spelling es)) is.opened.history);
+  }
+
+  abbrev last_session : Session
+  last_session =
+      (steps_play state is.first (holding b) steps is.plays.answers (opened_from p) is_session
+      is.plays.played).last
+
+  plays : Plays (sound (opened_from p)) steps is.plays.answers (playing_in (holding b) last_session)
+  plays =
+      subst
+      (λ k.
+      Plays (record { session = opened_from p; broken = k }) steps is.plays.answers
+      (playing_in (holding b) last_session))
+      is.opened.sound
+      (steps_play state is.first (holding b) steps is.plays.answers (opened_from p) is_session
+      is.plays.played).plays
+
+  -- The state that all accepted events led to is the book's.
+  reached : Replays b.session → run (restarted p) events ≡ Some b.session.state
+  reached replays =
+      let from = steps_play state is.first (holding b) steps is.plays.answers (opened_from p)
+      is_session is.plays.played in
+      accepted_run (sound (opened_from p)) (playing_in (holding b) last_session) steps
+      is.plays.answers plays
+      ∙ sym from.is_last.state ∙ replays.replays
+
+  -- It was opened again over a disk that stores that state.
+  pub stayed_again : (new : Holding D) (over behind : D) → (state given).honest
+      → IsAtRest (state given) → Replays b.session → CarriesOn state (holding b) new
+      → new.history ≡ (holding b).history → over ≡ new.journal.disk
+      → LeavesOnly (StoresOpened b.session.state) (state over) (state behind)
+      → HasStayed p steps before replies (state given) (state behind)
+  stayed_again new over behind honest rest replays on same is_over leaves = record {
+    answers = is.plays.answers;
+    appended = is.plays.appended;
+    held =
+        leaves_only_more (HoldsOne p events) (StoresOpened b.session.state) (HoldsOne p events)
+        (state given) (state over) (state behind)
+        (subst (λ d. LeavesOnly (HoldsOne p events) (state given) (state d)) (sym is_over)
+        (left_since new honest rest on same)) leaves (λ x left. left)
+        (λ x left. reopened_holds p b.session.state events x (reached replays) left);
+  }
+
+  pub over_honest : (new : BookView D) (over : D) → (state given).honest
+      → CarriesOn state (holding b) (holding new) → over ≡ new.journal.disk → (state over).honest
+  over_honest new over honest on is_over =
+      subst (λ d. (state d).honest) (sym is_over)
+      (on.passed.honest (is.on.passed.honest (is.opened.passed.honest honest)))
+
+  -- Once all is saved, its disk stores that state.
+  pub saved_state : (new : BookView D) (over : D) → IsDisk (state over) → (state given).honest
+      → CarriesOn state (holding b) (holding new) → over ≡ new.journal.disk
+      → new.session ≡ b.session
+      → ((x : List ℕ) → (state new.journal.disk).images x → Stores x new.session.state)
+      → Stores (state over).now b.session.state
+  saved_state new over disk honest on is_over same stores =
+      let then : (state over).honest = over_honest new over honest on is_over in
+      subst (λ s. Stores (state over).now s.state) same
+      (stores (state over).now
+      (subst (λ d. (state d).images (state over).now) is_over (disk.now_is_image then)))
+
+  pub lasted : (over : D) (second : BookView D) → b.journal.broken ≡ false → Replays b.session
+      → (state over).honest → Stores (state over).now b.session.state
+      → Opens state over (Ok (holding second)) → second.session ≡ begun_at second.session.start
+      → HasLasted p steps before replies second.session
+  lasted over second fine replays honest stores opens begun =
+      let last = b.session.state in
+      let opened = opens.answer in
+      let same = stores_one (state over).now opened.stored last (opened.found.stores honest)
+      stores in
+      let end = playing_in (holding b) last_session in
+      let all = taken_all false (opened_from p) end steps is.plays.answers plays fine in
+      record {
+        answers = is.plays.answers;
+        appended = is.plays.appended;
+        end = end;
+        answered = plays;
+        sound = fine;
+        last = last;
+        reached = ap (λ l. run (restarted p) (accepted (opened_from p) l)) (sym all)
+            ∙ reached replays;
+        restart = interrupted last;
+        reopened = begun ∙ ap begun_at (opened.opened.start ∙ ap restarted same);
+      }
+
+-- ---- a format
+
+no_size : (layout : Layout) (size : ℕ) → size ≡ store_len layout → layout_of size ≡ None → ⊥
+no_size Small size is none = cc (ap layout_of is, none)
+no_size Large size is none = cc (ap layout_of is, none)
+
+module _ {D : Type 0} (state : D → DiskState) (given : D) (layout : Layout)
+    (whole : (state given).size ≡ store_len layout) where
+  -- What a format leaves, in the layout of the disk's size.
+  pub new_store : (new : D) → IsDisk (state new) → (state given).honest
+      → HasFormatted (state given) (state new) → Stores (state new).now (formatted layout)
+  new_store new disk honest is =
+      subst (λ l. Stores (state new).now (formatted l))
+      (one_layout is.layout layout (sym is.sized ∙ whole))
+      (is.stores honest (state new).now (disk.now_is_image (is.passed.honest honest)))
+
+  stops : (new : D) (other : Layout) → (state given).honest → IsAtRest (state given)
+      → AreZeros (state given).now → (state given).size ≡ store_len other
+      → StopsFormat other (state given) (state new)
+      → LeavesOnly (StoresNothingOr (formatted layout)) (state given) (state new)
+  stops new other honest rest zeros sized run =
+      subst (λ l. LeavesOnly (StoresNothingOr (formatted l)) (state given) (state new))
+      (one_layout other layout (sym sized ∙ whole))
+      (run honest (λ x left. subst AreZeros (sym (rest.only x left)) zeros))
+
+  pub new_stayed : (new behind : D) (steps : List Step) (before replies : List Reply)
+      → (state given).honest → IsAtRest (state given) → AreZeros (state given).now
+      → HasFormatted (state given) (state new)
+      → HasStayed (formatted layout) steps before replies (state new) (state behind)
+      → HasStayedNew (formatted layout) steps before replies (state given) (state behind)
+  new_stayed new behind steps before replies honest rest zeros is stayed =
+      let p = formatted layout in
+      let events = accepted (opened_from p) (taken steps stayed.answers) in
+      record {
+        answers = stayed.answers;
+        appended = stayed.appended;
+        held =
+            leaves_only_more (StoresNothingOr p) (HoldsOne p events) (HoldsOneOrNothing p events)
+            (state given) (state new) (state behind)
+            (stops new is.layout honest rest zeros is.sized is.stops) stayed.held
+            (λ x left. inl left) (λ x left. inr left);
+      }
+
+  pub not_formatted : (new : D) (why : Fault) (steps : List Step) (replies : List Reply)
+      → (state given).honest → IsAtRest (state given) → AreZeros (state given).now
+      → FormatsNot state given why new → (why ≡ WrongSize) ⊎ (why ≡ DiskFailed)
+      → HasStayedNew (formatted layout) steps replies replies (state given) (state new)
+  not_formatted new why steps replies honest rest zeros not told =
+      let p = formatted layout in
+      let events = accepted (opened_from p) (taken steps []) in
+      let left : LeavesOnly (StoresNothingOr p) (state given) (state new) =
+      elim told [
+        | inl wrong ↦
+            let failed = subst (λ w. FormatsNot state given w new) wrong not in
+            absurd (no_size layout (state given).size whole failed.0)
+        | inr failed ↦
+            let is = subst (λ w. FormatsNot state given w new) failed not in
+            stops new is.sized.0 honest rest zeros is.sized.1 is.stops
+      ] in
+      record {
+        answers = [];
+        appended = sym (append-nil replies);
+        held = only_weaker (StoresNothingOr p) (HoldsOneOrNothing p events) (state given)
+            (state new) (λ x is. inl is) left;
+      }

@@ -1,0 +1,91 @@
+-- What is left of a store that is opened, played over, saved and opened again.
+use Rattle.std.specs.Prelude.{◌≡◌, ◌⊎◌, ◌++◌, ℕ, List, [], Result, Ok, Err, Some, false}
+use Rattle.run_model.specs.declared.answers.Reply.{Reply}
+use Rattle.run_model.specs.declared.commands.Step.{Step}
+use Rattle.run_model.specs.Allowed.{run}
+use Rattle.run_model.specs.Event.{Event}
+use Rattle.run_model.specs.Session.{accepted}
+use Rattle.run_model.specs.State.{State}
+use Rattle.run_disk.specs.Disk.{DiskState}
+use Rattle.run_disk.specs.Runs.{LeavesOnly}
+use Rattle.run_session.specs.Logged.{Logged, begun_at}
+use Rattle.state_laws.specs.Restarts.{IsRestart}
+use Rattle.book_model.specs.Holdings.{CarriesOn, Holding, IsOpened}
+use Rattle.book_model.specs.Nights.{HasKept, opened_from}
+use Rattle.book_model.specs.Plays.{Playing, Plays, sound, taken}
+use Rattle.book_model.specs.Steps.{PlaysInto}
+use Rattle.book_model.specs.Stores.{Stores, StoresNothingOr, StoresOpened, restarted}
+use Rattle.run_book.specs.Views.{BookView, holding}
+
+-- The disk that an answer gives back, in a book or alone.
+abbrev pub disk_in : {D X : Type 0} → Result (BookView D) (X × D) → D
+disk_in (Ok b) = b.journal.disk
+disk_in (Err stopped) = stopped.1
+
+-- ---- at the end
+
+-- In words of a user: the steps over a store of state p, once it was opened, were answered one
+-- after another, as a book may answer them that isn't broken at their end. All events that they
+-- led to, in order and none left out, make one state; and the store was opened again behind a
+-- restart of that, which interrupts what was running, and besides changes only the count, and what
+-- an interruption does to its group and that group's scope.
+pub record HasLasted (p : State) (steps : List Step) (before replies : List Reply) (b : Logged)
+    : Type 0 where
+  pub answers : List Reply
+  pub appended : replies ≡ before ++ answers
+  pub end : Playing
+  pub answered : Plays (sound (opened_from p)) steps answers end
+  pub sound : end.broken ≡ false
+  pub last : State
+  pub reached : run (restarted p) (accepted (opened_from p) steps) ≡ Some last
+  pub restart : IsRestart last (restarted last)
+  pub reopened : b ≡ begun_at (restarted last)
+
+-- ---- at each moment
+
+-- The bytes store what a restart leaves of the state that these events lead to.
+pub record StoresReopened (start : State) (events : List Event) (bytes : List ℕ) : Type 0 where
+  pub last : State
+  pub reached : run start events ≡ Some last
+  pub stores : Stores bytes (restarted last)
+
+-- The bytes store state p; or a state that a restart of it and perhaps some first of the events led
+-- to; or what a second restart leaves behind all of them.
+abbrev pub HoldsOne : State → List Event → List ℕ → Type 0
+HoldsOne p events bytes =
+    Stores bytes p
+    ⊎ HasKept (restarted p) events [] bytes
+    ⊎ StoresReopened (restarted p) events bytes
+
+-- Whenever the disk is stopped between two moments, it holds one of these, by the events that the
+-- steps led to whose replies are at the end of the list.
+pub record HasStayed (p : State) (steps : List Step) (before replies : List Reply)
+    (old new : DiskState) : Type 0 where
+  pub answers : List Reply
+  pub appended : replies ≡ before ++ answers
+  pub held : LeavesOnly (HoldsOne p (accepted (opened_from p) (taken steps answers))) old new
+
+-- The bytes store nothing, or one of these.
+abbrev pub HoldsOneOrNothing : State → List Event → List ℕ → Type 0
+HoldsOneOrNothing p events bytes = StoresNothingOr p bytes ⊎ HoldsOne p events bytes
+
+-- The same of a disk that is formatted first: until that is done it stores nothing, or root alone.
+pub record HasStayedNew (p : State) (steps : List Step) (before replies : List Reply)
+    (old new : DiskState) : Type 0 where
+  pub answers : List Reply
+  pub appended : replies ≡ before ++ answers
+  pub held : LeavesOnly (HoldsOneOrNothing p (accepted (opened_from p) (taken steps answers))) old
+      new
+
+-- ---- on the way
+
+-- A store of state p was opened over this disk, and the steps were played over the book. No public
+-- contract cites it.
+pub record IsPlayed {D : Type 0} (state : D → DiskState) (given : D) (p : State)
+    (steps : List Step) (before : List Reply) (b : BookView D) (replies : List Reply)
+    : Type 0 where
+  pub first : Holding D
+  pub opened : IsOpened state given p first
+  pub leaves : LeavesOnly (StoresOpened p) (state given) (state first.journal.disk)
+  pub plays : PlaysInto state first steps before (holding b) replies
+  pub on : CarriesOn state first (holding b)
