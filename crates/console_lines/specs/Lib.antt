@@ -1,5 +1,6 @@
 pub mod Asked
 pub mod Checked
+pub mod Gathers
 pub mod GroupLines
 pub mod GroupNights
 pub mod Lines

@@ -1,5 +1,7 @@
 //! What ends a run of the console before its input does.
 
+use crate::replies::ShownTrouble;
+use run_model::Trouble;
 use thiserror::Error;
 
 /// Why a run ended before its input did.
@@ -14,7 +16,10 @@ pub enum RunFault {
     /// The input has more bytes than a run takes.
     #[error("input too long")]
     InputTooLong,
-    /// There was no memory for the words, the session or a reply.
+    /// There was no memory for the words, the book or a reply.
     #[error("fault 1 Memory")]
     Memory,
+    /// The store could not be read, or did not take a flush or a checkpoint.
+    #[error("{}", ShownTrouble(*.0))]
+    Store(Trouble),
 }

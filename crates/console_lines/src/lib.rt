@@ -7,6 +7,7 @@
 mod asked;
 mod causes;
 mod faults;
+mod gathers;
 mod group_lines;
 pub mod group_nights;
 pub mod laws;
@@ -20,6 +21,7 @@ mod words;
 
 pub use asked::Asked;
 pub use faults::RunFault;
+pub use gathers::LONGEST_REPLY;
 pub use lines::{LONGEST_INPUT, LONGEST_LINE, read_line};
-pub use replies::Reply;
+pub use replies::{Reply, ShownTrouble};
 pub use tallies::{Counts, Tally};

@@ -1,9 +1,12 @@
 -- How the program ends.
 use Rattle.std.specs.Prelude.{◌≡◌, ◌⊎◌, ℕ, List, Option, Result, Ok, Err}
 use Rattle.run_model.specs.declared.layouts.Layout.TheVariants.{Small}
-use Rattle.run_model.specs.Session.{Session, opened}
+use Rattle.run_model.specs.Session.{opened}
+use Rattle.run_session.specs.Logged.{Logged}
+use Rattle.console_lines.specs.declared.faults.RunFault.{RunFault}
 use Rattle.console_lines.specs.declared.faults.RunFault.TheVariants as fault
-use Rattle.console_lines.specs.Progress.{RunStops, RunsAll}
+use Rattle.run_console.specs.Progress.{RunStops, RunsAll}
+use Rattle.run_console.specs.SessionLines.{plain}
 use Rattle.night_words.specs.declared.asked.Asked.{Asked}
 use Rattle.night_words.specs.declared.asked.Asked.TheVariants.{Demo, Help}
 use Rattle.night_words.specs.declared.asked.WordsFault.{WordsFault}
@@ -16,13 +19,20 @@ use Rattle.night_status.specs.declared.outcomes.Outcome.TheVariants.{Done, Words
 abbrev pub IsUntouched : (r0 r1 w0 w1 : Option (List ℕ)) → Type 0
 IsUntouched r0 r1 w0 w1 = (r1 ≡ r0) × (w1 ≡ w0)
 
--- How a run over a newly opened session ends: all lines of the input were run, or a fault stopped
--- it. Where memory was wanting for the session itself, nothing was read and nothing was written.
+-- There is no book in memory: memory was wanting for it, or for what its disk keeps of its calls.
+abbrev pub IsUnopened : RunFault → Type 0
+IsUnopened fault.Memory = Unit {0}
+IsUnopened (fault.Store why) = Unit {0}
+IsUnopened _ = ⊥
+
+-- How a run over a book that was just formatted and opened ends: all lines of the input were run,
+-- or a fault stopped it. Where there is no book, nothing was read and nothing was written.
 abbrev pub IsDemo : Outcome → (r0 r1 w0 w1 : Option (List ℕ)) → Type 0
-IsDemo Done r0 r1 w0 w1 = (end : Session) × RunsAll (opened Small) end r0 r1 w0 w1
+IsDemo Done r0 r1 w0 w1 =
+    (b : Logged) × (c : Logged) × (plain b ≡ opened Small) × RunsAll b c r0 r1 w0 w1
 IsDemo (Stopped why) r0 r1 w0 w1 =
-    ((why ≡ fault.Memory) × IsUntouched r0 r1 w0 w1)
-    ⊎ ((end : Session) × RunStops why (opened Small) end r0 r1 w0 w1)
+    (IsUnopened why × IsUntouched r0 r1 w0 w1)
+    ⊎ ((b : Logged) × (c : Logged) × (plain b ≡ opened Small) × RunStops why b c r0 r1 w0 w1)
 IsDemo WordsRefused r0 r1 w0 w1 = ⊥
 
 -- How the program ends, by what its words ask for: a demo as a run does; help as done, or as a

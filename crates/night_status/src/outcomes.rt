@@ -3,7 +3,7 @@
 ghost use Rattle.std.specs.Prelude.{◌≡◌, IfErr, OnOk, Some};
 ghost use Rattle.night_status.specs.Outcomes.{fault_text, status_of};
 
-use console_lines::RunFault;
+use console_lines::{RunFault, ShownTrouble};
 use std::fmt;
 
 /// How the program ended.
@@ -29,8 +29,8 @@ impl Outcome {
         }
     }
 
-    /// The exit status: 0 where it is done, 2 for words that are refused, 3 for input and output,
-    /// 4 for want of memory.
+    /// The exit status: 0 where it is done, 2 for words that are refused, 3 for input, output and
+    /// the store, 4 for want of memory.
     pub fn status(self) -> u8
         ensures { result ≡ status_of self }
     {
@@ -56,6 +56,7 @@ impl fmt::Display for ShownFault {
             RunFault::Output => f.write_str("night: output"),
             RunFault::InputTooLong => f.write_str("night: input too long"),
             RunFault::Memory => f.write_str("night: fault 1 Memory"),
+            RunFault::Store(trouble) => write!(f, "night: {}", ShownTrouble(trouble)),
         }
     }
 }

@@ -1,2 +1,3 @@
+pub mod Progress
 pub mod SessionLines
-pub mod SessionProgress
+pub mod Troubles
