@@ -19,7 +19,7 @@ use Rattle.night_status.specs.declared.outcomes.Outcome.TheVariants.{Done, Words
 abbrev pub IsUntouched : (r0 r1 w0 w1 : Option (List ℕ)) → Type 0
 IsUntouched r0 r1 w0 w1 = (r1 ≡ r0) × (w1 ≡ w0)
 
--- There is no book in memory: memory was wanting for it, or for what its disk keeps of its calls.
+-- There is no book in memory: memory was wanting for it, or its store failed.
 abbrev pub IsUnopened : RunFault → Type 0
 IsUnopened fault.Memory = Unit {0}
 IsUnopened (fault.Store why) = Unit {0}
