@@ -1,14 +1,14 @@
 -- A book over a small disk that was just formatted begins as a newly opened session.
 use Rattle.std.specs.Prelude.{◌≡◌, ℕ, false, Result, Ok, Err, IfOk}
-use Rattle.std.proofs.Common.{arith, refl, sym, ap, subst, ◌∙◌}
+use Rattle.std.proofs.Common.{arith, refl, ap, ◌∙◌}
 use Rattle.run_model.specs.declared.faults.Fault.{Fault}
 use Rattle.run_model.specs.declared.layouts.Layout.{Layout}
 use Rattle.run_model.specs.declared.layouts.Layout.TheVariants.{Small, Large}
 use Rattle.run_model.specs.Layouts.{store_len}
-use Rattle.run_model.specs.Session.{Session, opened}
+use Rattle.run_model.specs.Session.{opened}
 use Rattle.run_model.specs.State.{State, formatted}
 use Rattle.run_disk.specs.Disk.{DiskState, IsDisk}
-use Rattle.run_session.specs.Logged.{Logged, begun_at}
+use Rattle.run_session.specs.Logged.{begun_at}
 use Rattle.book_model.specs.Openings.{HasFormatted, HasOpened}
 use Rattle.book_model.specs.Stores.{Stores, restarted}
 use Rattle.book_model.proofs.Storing.{stores_one}
