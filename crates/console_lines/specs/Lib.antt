@@ -3,6 +3,7 @@ pub mod Checked
 pub mod Gathers
 pub mod GroupLines
 pub mod GroupNights
+pub mod Inspected
 pub mod Lines
 pub mod Nights
 pub mod Progress

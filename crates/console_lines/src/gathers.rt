@@ -150,7 +150,7 @@ fn push_task<const N: usize>(out: &mut ArrayVec<u8, N>, task: u16, phase: &Phase
 }
 
 /// How far a task is.
-fn push_phase<const N: usize>(out: &mut ArrayVec<u8, N>, phase: &Phase)
+pub(crate) fn push_phase<const N: usize>(out: &mut ArrayVec<u8, N>, phase: &Phase)
     requires { array_vec_len out.old + 70 ≤ N }
     ensures { Gathers out.old.items out.new.items (phase_text phase.now) 70 }
 {
@@ -190,7 +190,7 @@ fn push_work<const N: usize>(out: &mut ArrayVec<u8, N>, job: &Name, argument: &N
 }
 
 /// How a scope is.
-fn push_look<const N: usize>(out: &mut ArrayVec<u8, N>, look: &Look)
+pub(crate) fn push_look<const N: usize>(out: &mut ArrayVec<u8, N>, look: &Look)
     requires { array_vec_len out.old + 130 ≤ N }
     ensures { Gathers out.old.items out.new.items (scope_text look.now.done look.now.deadline) 130 }
 {
@@ -238,7 +238,7 @@ fn push_deadline<const N: usize>(out: &mut ArrayVec<u8, N>, deadline: Option<Mom
 }
 
 /// How a group is.
-fn push_group<const N: usize>(out: &mut ArrayVec<u8, N>, look: &GroupLook)
+pub(crate) fn push_group<const N: usize>(out: &mut ArrayVec<u8, N>, look: &GroupLook)
     requires { array_vec_len out.old + 116 ≤ N }
     ensures { Gathers out.old.items out.new.items (group_text look.now) 116 }
 {
@@ -346,7 +346,7 @@ fn push_failed<const N: usize>(out: &mut ArrayVec<u8, N>, counts: Counts)
 
 /// A moment has at most 12 digits.
 #[tactic(auto, using(crate::proofs::Digits::moment_digits))]
-fn push_moment<const N: usize>(out: &mut ArrayVec<u8, N>, seconds: u64)
+pub(crate) fn push_moment<const N: usize>(out: &mut ArrayVec<u8, N>, seconds: u64)
     requires range { seconds < 10 ^ 12 }
     requires room { array_vec_len out.old + 12 ≤ N }
     ensures { Gathers out.old.items out.new.items (decimal seconds) 12 }
@@ -366,7 +366,7 @@ fn push_count<const N: usize>(out: &mut ArrayVec<u8, N>, count: u16)
 }
 
 /// A number has at most 20 digits.
-fn push_number<const N: usize>(out: &mut ArrayVec<u8, N>, number: u64)
+pub(crate) fn push_number<const N: usize>(out: &mut ArrayVec<u8, N>, number: u64)
     requires { array_vec_len out.old + 20 ≤ N }
     ensures { Gathers out.old.items out.new.items (decimal number) 20 }
 {
@@ -383,7 +383,7 @@ fn push_text<const N: usize>(out: &mut ArrayVec<u8, N>, text: &Text)
 }
 
 /// A name.
-fn push_name<const N: usize>(out: &mut ArrayVec<u8, N>, name: &Name)
+pub(crate) fn push_name<const N: usize>(out: &mut ArrayVec<u8, N>, name: &Name)
     requires { array_vec_len out.old + 32 ≤ N }
     ensures { Gathers out.old.items out.new.items name.now 32 }
 {
@@ -391,7 +391,7 @@ fn push_name<const N: usize>(out: &mut ArrayVec<u8, N>, name: &Name)
 }
 
 /// All of these bytes.
-fn push<const N: usize>(out: &mut ArrayVec<u8, N>, bytes: &[u8])
+pub(crate) fn push<const N: usize>(out: &mut ArrayVec<u8, N>, bytes: &[u8])
     requires { array_vec_len out.old + length bytes.now ≤ N }
     ensures { Gathers out.old.items out.new.items bytes.now (length bytes.now) }
 {

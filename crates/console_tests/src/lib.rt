@@ -9,6 +9,8 @@ mod books;
 #[cfg(test)]
 mod groups;
 #[cfg(test)]
+mod inspects;
+#[cfg(test)]
 mod limits;
 #[cfg(test)]
 mod nights;

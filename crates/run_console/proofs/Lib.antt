@@ -2,6 +2,7 @@ pub mod Counting
 pub mod Ends
 pub mod Fronts
 pub mod Going
+pub mod Inspecting
 pub mod LineSteps
 pub mod Lines
 pub mod Parts

@@ -1,3 +1,4 @@
+pub mod Inspecting
 pub mod Progress
 pub mod SessionLines
 pub mod Troubles

@@ -7,9 +7,11 @@
 mod answers;
 mod consoles;
 mod inputs;
+mod inspects;
 mod tallies;
 mod writings;
 
 pub use console_lines::RunFault;
 pub use consoles::{line, run};
+pub use inspects::inspect;
 pub use run_book::Book;

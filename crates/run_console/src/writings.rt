@@ -1,4 +1,4 @@
-//! What is written: replies are gathered, and written many at a time.
+//! What is written: replies and rows are gathered, and written many at a time.
 //!
 //! A write that fails or takes nothing ends it, and what was taken before is a front.
 
@@ -7,31 +7,32 @@ ghost use Rattle.std.specs.Prelude.{◌≡◌, ◌+◌, ◌≤◌, ◌++◌, [],
 ghost use Rattle.std.specs.Io.KnownBytes.{Appends};
 ghost use Rattle.arrayvec.specs.ArrayVec.{array_vec_len};
 ghost use Rattle.console_lines.specs.declared.gathers.TheConstants.{LONGEST_REPLY};
+ghost use Rattle.console_lines.specs.declared.rows.TheConstants.{LONGEST_ROW};
 ghost use Rattle.console_lines.specs.Progress.{WritesPart};
 ghost use Rattle.console_lines.specs.Replies.{reply_lines};
 ghost use Rattle.run_console.specs.Progress.{Told, Troubled};
 
 use arrayvec::ArrayVec;
-use console_lines::{LONGEST_REPLY, Reply, RunFault};
+use console_lines::{LONGEST_ROW, Reply, RunFault};
 use run_model::Trouble;
 use std::io::Write;
 
 /// So many bytes are gathered at most before they are written.
 const ROOM: usize = 8192;
 
-/// Replies that aren't written yet.
+/// Replies, and rows of a state, that aren't written yet.
 pub type Gathered = ArrayVec<u8, ROOM>;
 
-/// Makes room for another reply: where there is none, all that was gathered is written.
+/// Makes room for another reply or row: where there is none, all that was gathered is written.
 pub fn make_room<W: Write>(gathered: &mut Gathered, output: &mut W) -> Result<(), RunFault>
     ensures told { OnOk result (Told [] gathered.old.items gathered.new.items
         (W.contents output.old) (W.contents output.new)) }
-    ensures room { OnOk result (array_vec_len gathered.new + LONGEST_REPLY ≤ 8192) }
+    ensures room { OnOk result (array_vec_len gathered.new + LONGEST_ROW ≤ 8192) }
     ensures cut { OnErr result
         (WritesPart (W.contents output.old) (W.contents output.new) gathered.old.items) }
     ensures fault { IfErr result (λ fault. fault ≡ RunFault.Output) }
 {
-    if gathered.remaining_capacity() < LONGEST_REPLY {
+    if gathered.remaining_capacity() < LONGEST_ROW {
         write_gathered(gathered, output)?;
     }
     Ok(())

@@ -96,7 +96,7 @@ loop-total-preserved g c =
           c.loop-total.book.session d (g.W.Write.contents c.args.output.now) w1 w2 w3 inv.4
           (subst (λ x. P [] x) same
           (subst (λ x. P x (take n (room ++ drop c.min-most.result c.loop-total.room))) inv.5
-    (c.in_ok-run_part.ensures.ran line inv.4.tail_is)))
+          (c.in_ok-run_part.ensures.ran line inv.4.tail_is)))
           c.in_ok-write_gathered.ensures.whole,
       c.in_ok-write_gathered.ensures.none,
       record {
