@@ -1,10 +1,9 @@
 -- The laws of the definition.
 use Rattle.std.specs.Prelude.{◌≡◌, ◌==◌, ◌<◌, ℕ, Bool, true, false, cond, if◌then◌else◌}
-use Rattle.std.specs.Prelude.{List, [], ◌∷◌, ◌++◌, ◌⊎◌, length, codes, Option, Some, None, Ok}
-use Rattle.std.specs.Io.KnownBytes.{IsAtEnd}
+use Rattle.std.specs.Prelude.{List, [], ◌∷◌, ◌++◌, length, codes, Option, Some, None, Ok}
 use Rattle.std.specs.List.{slice_split, onto_first}
 use Rattle.std.specs.Option.{option_map, option_and_then}
-use Rattle.std.proofs.Common.{inl, inr, arith, refl, sym, ap, ◌∙◌, append_assoc, append-nil}
+use Rattle.std.proofs.Common.{arith, refl, sym, ap, ◌∙◌, append_assoc, append-nil}
 use Rattle.std.proofs.lemmas.List.Splits.{length-slice_split}
 use Rattle.std.specs.List.{cons_option}
 use Rattle.run_model.specs.Session.{Session, session_after, event_of_step, with_event}
@@ -15,13 +14,10 @@ use Rattle.written_moment.specs.Numbers.{number_of}
 use Rattle.console_lines.specs.Asked.{wish_of, wished, deadline_at}
 use Rattle.console_lines.specs.Lines.{whole_lines, open_line, lines_of}
 use Rattle.console_lines.specs.Words.{words_of, rest_of}
-use Rattle.console_lines.specs.declared.faults.RunFault.{RunFault}
 use Rattle.console_lines.specs.Asked.{asked_of}
-use Rattle.console_lines.specs.Script.{reply, after_line, replies, after_lines, closing, script}
+use Rattle.console_lines.specs.Script.{after_line, replies, after_lines, closing, script}
 use Rattle.console_lines.specs.Script.{step_of, steps_of}
-use Rattle.console_lines.specs.Progress.{IsFront, WritesFront, Ran, Stopped, StoppedAtEnd}
-use Rattle.console_lines.specs.Progress.{IsOfLine, IsOfReading, RunStops, BeginsScript}
-use Rattle.console_lines.proofs.Wholes.{last_state, last_reply}
+use Rattle.console_lines.specs.Progress.{IsFront}
 use Rattle.console_lines.proofs.Splits.{whole_lines-append}
 use Rattle.console_lines.proofs.Steps.{replies-append}
 use Rattle.console_lines.proofs.WordLemmas.{rest_is}
@@ -112,78 +108,6 @@ lines_are_steps s [] = refl
 lines_are_steps s (line ∷ lines) =
     lines_are_steps (after_line s line) lines
     ∙ step_first s (step_of (asked_of line)) (steps_of lines)
-
--- ---- what a stopped run wrote
-
--- A front of one of these replies, behind those before it, is a front of all.
-cut_reply :
-    (s : Session) (lines replied : List (List ℕ)) (last : List ℕ) (left : List (List ℕ))
-    (front : List ℕ)
-    → lines ≡ replied ++ last ∷ left
-    → IsFront front (reply (after_lines s replied) last)
-    → IsFront (replies s replied ++ front) (replies s lines)
-cut_reply s lines replied last left front lines_are (rest, cut) =
-    let t = after_lines s replied in
-    let behind = replies (after_line t last) left in (
-      rest ++ behind,
-      ap (replies s) lines_are
-          ∙ replies-append s replied (last ∷ left)
-          ∙ ap (λ x. replies s replied ++ (x ++ behind)) cut
-          ∙ ap (λ x. replies s replied ++ x) (append_assoc front rest behind)
-          ∙ sym (append_assoc (replies s replied) front (rest ++ behind)),
-    )
-
--- A front of the last reply and the closing line, behind the replies before, is one of the script.
-cut_end :
-    (s : Session) (bytes front : List ℕ)
-    → IsFront front
-    (reply (after_lines s (whole_lines [] bytes)) (open_line [] bytes)
-    ++ closing (after_lines s (lines_of bytes)))
-    → IsFront (replies s (whole_lines [] bytes) ++ front) (script s bytes)
-cut_end s bytes front (rest, cut) =
-    let lines = whole_lines [] bytes in
-    let t = after_lines s lines in
-    let line = open_line [] bytes in
-    let end : reply t line ++ closing (after_line t line) ≡ front ++ rest =
-    ap (λ x. reply t line ++ closing x) (sym (last_state s bytes)) ∙ cut in (
-      rest,
-      last_reply s t bytes refl
-          ∙ ap (λ x. replies s lines ++ x) end
-          ∙ sym (append_assoc (replies s lines) front rest),
-    )
-
--- A run that stopped wrote a front of what it was to write.
-pub stops_begin :
-    (fault : RunFault) (s t : Session) (r0 r1 w0 w1 : Option (List ℕ))
-    → (stops : RunStops fault s t r0 r1 w0 w1)
-    → BeginsScript s stops.bytes r1 w0 w1
-stops_begin fault s t r0 r1 w0 w1 stops = begins stops.stopped
-  where
-    lines : List (List ℕ)
-    lines = whole_lines [] stops.bytes
-
-    begins :
-        (IsOfReading fault × Ran lines s t w0 w1)
-        ⊎ ((IsOfLine fault × Stopped fault lines s t w0 w1)
-        ⊎ (IsOfLine fault × IsAtEnd r1 × StoppedAtEnd fault stops.bytes s t w0 w1))
-        → BeginsScript s stops.bytes r1 w0 w1
-    begins (inl (f, ran)) =
-        inl (replies s lines, ([], sym (append-nil (replies s lines))), ran.written)
-    begins (inr (inl (f, x))) =
-        inl (
-          replies s x.replied ++ x.front,
-          cut_reply s lines x.replied x.last x.left x.front x.lines_are (x.cut.0, x.cut.1),
-          x.written,
-        )
-    begins (inr (inr (f, ended, x))) =
-        inr (
-          ended,
-          (
-            replies s lines ++ x.front,
-            cut_end s stops.bytes x.front (x.cut.cut.0, x.cut.cut.1),
-            x.written,
-          ),
-        )
 
 -- ---- texts
 

@@ -1,11 +1,8 @@
 -- What was read and what was written, one part after another.
-use Rattle.std.specs.Prelude.{◌≡◌, ◌≢◌, List, [], ◌∷◌, ◌++◌, Option, Some, None, ℕ, length}
+use Rattle.std.specs.Prelude.{◌≢◌, List, [], ◌∷◌, ◌++◌, Option, Some, None, ℕ, length}
 use Rattle.std.specs.Io.KnownBytes.{Appends, Consumes, Keeps}
-use Rattle.std.proofs.Common.{arith, inl, inr, refl, sym, ap, ◌∙◌, append_assoc, append-nil}
-use Rattle.run_model.specs.Session.{Session}
-use Rattle.console_lines.specs.declared.faults.RunFault.{RunFault}
-use Rattle.console_lines.specs.Progress.{EndStops, IsCut, WritesCut}
-use Rattle.console_lines.specs.Script.{after_line, closing, reply}
+use Rattle.std.proofs.Common.{arith, refl, sym, ap, ◌∙◌, append_assoc, append-nil}
+use Rattle.console_lines.specs.Progress.{IsCut}
 
 pub appends_nothing : (a : Option (List ℕ)) → Appends a a []
 appends_nothing None = tt
@@ -50,49 +47,14 @@ more_than_none [] ys h = absurd (h refl)
 more_than_none (x ∷ xs) ys h = λ e. omega (arith, ap length e)
 
 -- A front of the second of two texts, behind the whole of the first, is one of both.
-front_behind : (front xs ys : List ℕ) → IsCut front ys → IsCut (xs ++ front) (xs ++ ys)
+pub front_behind : (front xs ys : List ℕ) → IsCut front ys → IsCut (xs ++ front) (xs ++ ys)
 front_behind front xs ys k =
     (k.0, ap (λ t. xs ++ t) k.1 ∙ sym (append_assoc xs front k.0), k.2)
 
 -- A front of the first of two texts is one of both.
-front_more : (front xs ys : List ℕ) → IsCut front xs → IsCut front (xs ++ ys)
+pub front_more : (front xs ys : List ℕ) → IsCut front xs → IsCut front (xs ++ ys)
 front_more front xs ys k = (
   k.0 ++ ys,
   ap (λ t. t ++ ys) k.1 ∙ append_assoc front k.0 ys,
   more_than_none k.0 ys k.2,
 )
-
--- ---- the last line, and the closing line behind it
-
--- The reply to the last line stopped.
-pub end_in_the_line :
-    (fault : RunFault) (line : List ℕ) (s t : Session) (a b : Option (List ℕ))
-    → WritesCut fault a b (reply s line)
-    → t ≡ after_line s line
-    → EndStops fault line s t a b
-end_in_the_line fault line s t a b k state = record {
-  front = k.0;
-  cut = record {
-    cut = front_more k.0 (reply s line) (closing (after_line s line)) k.1;
-    whole = λ e. inl (k.3 e);
-  };
-  written = k.2;
-  state = state;
-}
-
--- The closing line stopped.
-pub end_behind_the_line :
-    (fault : RunFault) (line : List ℕ) (s t : Session) (a b c : Option (List ℕ))
-    → Appends a b (reply s line)
-    → WritesCut fault b c (closing (after_line s line))
-    → t ≡ after_line s line
-    → EndStops fault line s t a c
-end_behind_the_line fault line s t a b c h k state = record {
-  front = reply s line ++ k.0;
-  cut = record {
-    cut = front_behind k.0 (reply s line) (closing (after_line s line)) k.1;
-    whole = λ e. inr (ap (λ x. reply s line ++ x) (k.3 e) ∙ append-nil (reply s line));
-  };
-  written = appends_then a b c (reply s line) k.0 h k.2;
-  state = state;
-}

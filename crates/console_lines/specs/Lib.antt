@@ -1,7 +1,10 @@
 pub mod Asked
 pub mod Checked
+pub mod Faults
+pub mod Gathers
 pub mod GroupLines
 pub mod GroupNights
+pub mod Inspected
 pub mod Lines
 pub mod Nights
 pub mod Progress

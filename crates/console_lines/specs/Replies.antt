@@ -11,6 +11,10 @@ use Rattle.run_model.specs.declared.answers.GroupLook.{GroupLook}
 use Rattle.run_model.specs.declared.answers.TaskInfo.{TaskInfo}
 use Rattle.run_model.specs.declared.refusals.Refusal.{Refusal}
 use Rattle.run_model.specs.declared.refusals.Refusal.TheVariants as refusal
+use Rattle.run_model.specs.declared.faults.Fault.{Fault}
+use Rattle.run_model.specs.declared.faults.Trouble.{Trouble}
+use Rattle.run_model.specs.declared.faults.Trouble.TheVariants as trouble
+use Rattle.run_model.specs.Faults.{fault_number, fault_name}
 use Rattle.run_model.specs.Refusals.{refusal_number, refusal_name}
 use Rattle.run_model.specs.Reasons.{reason_text}
 use Rattle.console_lines.specs.declared.replies.Reply.{Reply}
@@ -27,6 +31,15 @@ abbrev pub refusal_text : Refusal → List ℕ
 refusal_text (refusal.Unfinished count) =
     numbered (refusal.Unfinished count) ++ codes " " ++ decimal count
 refusal_text why = numbered why
+
+-- A fault, as in `fault 2 DiskFailed`.
+abbrev pub fault_text : Fault → List ℕ
+fault_text why = codes "fault " ++ decimal (fault_number why) ++ codes " " ++ fault_name why
+
+-- Why a flush or a checkpoint was not done: it was refused, or it failed.
+abbrev pub trouble_text : Trouble → List ℕ
+trouble_text (trouble.Refused why) = refusal_text why
+trouble_text (trouble.Faulty why) = fault_text why
 
 -- How far a task is.
 abbrev pub phase_text : Phase → List ℕ
@@ -56,13 +69,15 @@ abbrev pub deadline_text : Option ℕ → List ℕ
 deadline_text None = codes "none"
 deadline_text (Some moment) = decimal moment
 
+-- Why a scope is done, and with which cause.
+abbrev pub ending_text : Reason → List ℕ → List ℕ
+ending_text reason cause = codes "; err " ++ reason_text reason ++ codes "; cause " ++ cause
+
 -- A scope that is live or done, its deadline, and why it is done.
 abbrev pub scope_text : Option (Reason × List ℕ) → Option ℕ → List ℕ
 scope_text None deadline = codes "live; deadline " ++ deadline_text deadline
 scope_text (Some ending) deadline =
-    codes "done; deadline " ++ deadline_text deadline
-    ++ codes "; err " ++ reason_text ending.0
-    ++ codes "; cause " ++ ending.1
+    codes "done; deadline " ++ deadline_text deadline ++ ending_text ending.0 ending.1
 
 -- A task that was started: its number, its job and its argument.
 abbrev pub started_text : TaskInfo → List ℕ
@@ -116,6 +131,7 @@ reply_text (reply.Task n phase) = task_text n phase
 reply_text (reply.Group look) = group_text look
 reply_text (reply.Tally tally) = tally_text tally
 reply_text (reply.Acked count) = codes "acked " ++ decimal count
+reply_text (reply.Failed why) = trouble_text why
 
 -- A reply is written as one line: its text, and an LF.
 abbrev pub reply_line : Reply → List ℕ

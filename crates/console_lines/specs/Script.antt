@@ -57,7 +57,8 @@ group_reply p name =
     (option_and_then (λ g. group_look_of p g) (group_named p.work name))
     (said.Refused refusal.NoSuchGroup)
 
--- The reply to what a line asks for; an empty line has none, and a tally one for each job.
+-- The reply to what a line asks for; an empty line has none, and a tally one for each job. A flush
+-- and a checkpoint acknowledge all events so far.
 abbrev pub replies_to : Session → Asked → List Reply
 replies_to s asked.Nothing = []
 replies_to s asked.BadLine = said.BadLine ∷ []
@@ -72,12 +73,17 @@ replies_to s (asked.Value scope key) = value_reply s.state scope key ∷ []
 replies_to s (asked.Task n) = task_reply s.state n ∷ []
 replies_to s (asked.Result group) = group_reply s.state group ∷ []
 replies_to s asked.Tally = map said.Tally (tallies_of s.state.work.tasks)
+replies_to s asked.Flush = said.Acked s.state.count ∷ []
+replies_to s asked.Checkpoint = said.Acked s.state.count ∷ []
 
--- The step that a line asks for: a command, a start or a finish, and none for all else.
+-- The step that a line asks for: a command, a start, a finish, a flush or a checkpoint, and none
+-- for all else.
 abbrev pub step_of : Asked → Option Step
 step_of (asked.Command call) = Some (step.Command call)
 step_of asked.Start = Some step.Start
 step_of (asked.Finish n outcome) = Some (step.Finish n outcome)
+step_of asked.Flush = Some step.Flush
+step_of asked.Checkpoint = Some step.Checkpoint
 step_of _ = None
 
 -- The session after what a line asks for: an accepted step alone changes it.

@@ -1,4 +1,4 @@
--- What is asked of tasks: the forms of their lines, by the words behind the first.
+-- What is asked of tasks and of the store: the forms of their lines, by the words behind the first.
 use Rattle.std.specs.Prelude.{ℕ, if◌then◌else◌, List, [], ◌∷◌, codes, Option, Some, None}
 use Rattle.std.specs.Option.{option_map, option_map_or, option_and_then}
 use Rattle.std.specs.Str.{bytes_eq}
@@ -70,7 +70,7 @@ finish_line (number ∷ words) =
     (number_of number) asked.BadLine
 finish_line _ = asked.BadLine
 
--- What a line asks of tasks, by its first word. No other word begins a line.
+-- What a line asks of tasks or of the store, by its first word. No other word begins a line.
 abbrev pub task_line_of : List ℕ → List (List ℕ) → Asked
 task_line_of first words =
     if bytes_eq first (codes "start") then asks_alone asked.Start words
@@ -78,4 +78,6 @@ task_line_of first words =
     else if bytes_eq first (codes "retry") then asks_number asks_retry words
     else if bytes_eq first (codes "task") then asks_number asks_phase words
     else if bytes_eq first (codes "tally") then asks_alone asked.Tally words
+    else if bytes_eq first (codes "flush") then asks_alone asked.Flush words
+    else if bytes_eq first (codes "checkpoint") then asks_alone asked.Checkpoint words
     else asked.BadLine

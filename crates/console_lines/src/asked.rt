@@ -27,4 +27,8 @@ pub enum Asked {
     Result(Name),
     /// How many tasks each job has, and how they ended.
     Tally,
+    /// That all events so far are made durable.
+    Flush,
+    /// The same, by an image of the state.
+    Checkpoint,
 }

@@ -13,7 +13,8 @@ use crate::words::{last_word, next_word};
 use run_model::{Command, Limit, Name, Refusal};
 use written_moment::read_number;
 
-/// What a line with this first word asks of groups or, else, of tasks; `None` for a bad line.
+/// What a line with this first word asks of groups or, else, of tasks or of the store; `None` for a
+/// bad line.
 pub(crate) fn read_group_line(word: &[u8], left: Option<&[u8]>) -> Option<Asked>
     ensures { unwrap_or result Asked.BadLine
         ≡ group_line_of word.now (words_in (lent left.entry)) }

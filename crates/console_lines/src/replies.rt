@@ -5,11 +5,11 @@ ghost use Rattle.std.specs.String.{string_bytes};
 ghost use Rattle.console_lines.specs.Replies.{reply_text, reply_line, refusal_text, answer_text};
 ghost use Rattle.console_lines.specs.Replies.{phase_text, deadline_text, scope_text, started_text};
 ghost use Rattle.console_lines.specs.Replies.{limit_text, error_text, group_text, counts_text};
-ghost use Rattle.console_lines.specs.Replies.{tally_text, yes_or_no};
+ghost use Rattle.console_lines.specs.Replies.{tally_text, trouble_text, yes_or_no};
 
 use crate::tallies::{Counts, Tally};
 use run_model::{
-    Answer, GroupLook, Limit, Look, Moment, Name, Phase, Refusal, Started, TaskInfo, Text,
+    Answer, GroupLook, Limit, Look, Moment, Name, Phase, Refusal, Started, TaskInfo, Text, Trouble,
 };
 use std::alloc::{AllocError, Allocator};
 use std::{fmt, str};
@@ -40,6 +40,8 @@ pub enum Reply {
     Tally(Tally),
     /// The number of all events, the opening among them: `acked 4`.
     Acked(u64),
+    /// Why a flush or a checkpoint was not done: `fault 2 DiskFailed`.
+    Failed(Trouble),
 }
 
 impl Reply {
@@ -67,6 +69,7 @@ impl fmt::Display for Reply {
             Reply::Group(look) => write!(f, "{}", ShownGroup(look)),
             Reply::Tally(tally) => write!(f, "{}", ShownTally(tally)),
             Reply::Acked(count) => write!(f, "acked {count}"),
+            Reply::Failed(trouble) => write!(f, "{}", ShownTrouble(*trouble)),
         }
     }
 }
@@ -84,6 +87,25 @@ impl fmt::Display for ShownRefusal {
         match self.0 {
             Refusal::Unfinished(count) => write!(f, "refused {number} {name} {count}"),
             _ => write!(f, "refused {number} {name}"),
+        }
+    }
+}
+
+/// Why a flush or a checkpoint was not done, as it is printed.
+#[derive(Clone, Copy)]
+pub struct ShownTrouble(pub Trouble);
+
+impl fmt::Display for ShownTrouble {
+    ghost output = { λ shown. Some (trouble_text shown.0) };
+
+    fn fmt<W: fmt::Write>(&self, f: &mut fmt::Formatter<W>) -> fmt::Result {
+        match self.0 {
+            Trouble::Refused(refusal) => write!(f, "{}", ShownRefusal(refusal)),
+            Trouble::Faulty(fault) => {
+                let number = fault.number();
+                let name = fault.name();
+                write!(f, "fault {number} {name}")
+            }
         }
     }
 }

@@ -1,4 +1,4 @@
-//! The lines that ask something of tasks.
+//! The lines that ask something of tasks, or of the store.
 
 ghost use Rattle.std.specs.List.{list_all};
 ghost use Rattle.std.specs.Option.{option_map_or};
@@ -15,7 +15,7 @@ use crate::words::{last_word, next_word};
 use run_model::{Command, Outcome, Refusal, Text};
 use written_moment::read_number;
 
-/// What a line with this first word asks of tasks; `None` for a bad line.
+/// What a line with this first word asks of tasks or of the store; `None` for a bad line.
 pub(crate) fn read_task_line(word: &[u8], left: Option<&[u8]>) -> Option<Asked>
     ensures { unwrap_or result Asked.BadLine
         ≡ task_line_of word.now (words_in (lent left.entry)) }
@@ -30,6 +30,10 @@ pub(crate) fn read_task_line(word: &[u8], left: Option<&[u8]>) -> Option<Asked>
         read_task(left)
     } else if word == b"tally".as_slice() {
         read_tally(left)
+    } else if word == b"flush".as_slice() {
+        read_flush(left)
+    } else if word == b"checkpoint".as_slice() {
+        read_checkpoint(left)
     } else {
         None
     }
@@ -120,6 +124,28 @@ fn read_tally(left: Option<&[u8]>) -> Option<Asked>
     match left {
         Some(_) => None,
         None => Some(Asked::Tally),
+    }
+}
+
+/// `flush`
+fn read_flush(left: Option<&[u8]>) -> Option<Asked>
+    ensures { unwrap_or result Asked.BadLine
+        ≡ asks_alone Asked.Flush (words_in (lent left.entry)) }
+{
+    match left {
+        Some(_) => None,
+        None => Some(Asked::Flush),
+    }
+}
+
+/// `checkpoint`
+fn read_checkpoint(left: Option<&[u8]>) -> Option<Asked>
+    ensures { unwrap_or result Asked.BadLine
+        ≡ asks_alone Asked.Checkpoint (words_in (lent left.entry)) }
+{
+    match left {
+        Some(_) => None,
+        None => Some(Asked::Checkpoint),
     }
 }
 

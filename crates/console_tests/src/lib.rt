@@ -1,17 +1,32 @@
-//! Tests of the console over a session: whole nights, and runs that stop.
+//! Tests of the console over a book on a disk in memory: whole nights, runs that stop, and what a
+//! stop leaves.
 #![tactic(auto)]
 
 #[cfg(test)]
+mod asserts;
+#[cfg(test)]
+mod books;
+#[cfg(test)]
 mod groups;
 #[cfg(test)]
+mod inspects;
+#[cfg(test)]
+mod limits;
+#[cfg(test)]
 mod nights;
+#[cfg(test)]
+mod parts;
 #[cfg(test)]
 mod readers;
 #[cfg(test)]
 mod restarts;
 #[cfg(test)]
+mod runs;
+#[cfg(test)]
 mod scopes;
 #[cfg(test)]
 mod stops;
+#[cfg(test)]
+mod stores;
 #[cfg(test)]
 mod writers;

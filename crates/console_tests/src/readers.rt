@@ -4,28 +4,37 @@ use linked_list_allocator::LocalHeap;
 use std::cell::Cell;
 use std::io::{self, ErrorKind, Read};
 
-/// Gives its bytes, at most `part` at a time, fails once, and then is at its end.
-#[derive(Drop)]
-pub struct FailingReader<'a> {
-    bytes: &'a [u8],
-    part: usize,
-    failed: bool,
+/// What a reader does behind its last byte.
+#[derive(Clone, Copy)]
+pub enum Behind {
+    /// It is at its end.
+    Ends,
+    /// It fails once, and then is at its end.
+    Fails,
 }
 
-impl<'a> FailingReader<'a> {
-    pub fn new(bytes: &'a [u8], part: usize) -> FailingReader<'a> {
-        FailingReader {
+/// Gives its bytes, at most `part` at a time.
+#[derive(Drop)]
+pub struct PartReader<'a> {
+    bytes: &'a [u8],
+    part: usize,
+    behind: Behind,
+}
+
+impl<'a> PartReader<'a> {
+    pub fn new(bytes: &'a [u8], part: usize, behind: Behind) -> PartReader<'a> {
+        PartReader {
             bytes,
             part,
-            failed: false,
+            behind,
         }
     }
 }
 
-impl Read for FailingReader<'_> {
+impl Read for PartReader<'_> {
     fn read(&mut self, room: &mut [u8]) -> io::Result<usize> {
-        if self.bytes.is_empty() && !self.failed {
-            self.failed = true;
+        if self.bytes.is_empty() && matches!(self.behind, Behind::Fails) {
+            self.behind = Behind::Ends;
             return Err(io::Error::from(ErrorKind::Interrupted));
         }
         let most = room.len().min(self.part);
@@ -33,16 +42,16 @@ impl Read for FailingReader<'_> {
     }
 }
 
-/// Gives one byte again and again, so many times.
+/// Gives its bytes, and then `x` again and again, so many times.
 #[derive(Drop)]
-pub struct RepeatingReader {
-    byte: u8,
+pub struct RepeatingReader<'a> {
+    bytes: &'a [u8],
     left: usize,
 }
 
-impl RepeatingReader {
-    pub fn new(byte: u8, left: usize) -> RepeatingReader {
-        RepeatingReader { byte, left }
+impl<'a> RepeatingReader<'a> {
+    pub fn new(bytes: &'a [u8], left: usize) -> RepeatingReader<'a> {
+        RepeatingReader { bytes, left }
     }
 
     /// How many it has not given.
@@ -51,36 +60,31 @@ impl RepeatingReader {
     }
 }
 
-impl Read for RepeatingReader {
+impl Read for RepeatingReader<'_> {
     fn read(&mut self, room: &mut [u8]) -> io::Result<usize> {
+        if !self.bytes.is_empty() {
+            return self.bytes.read(room);
+        }
         let count = room.len().min(self.left);
-        room[..count].fill(self.byte);
+        room[..count].fill(b'x');
         self.left -= count;
         Ok(count)
     }
 }
 
-/// Gives a line at a read. Before the read of this number it takes the heap's memory, but for so
-/// many bytes.
+/// Gives its bytes. Before the first read it takes the heap's memory, but for so many bytes.
 #[derive(Drop)]
 pub struct HoardingReader<'a, 'h> {
     bytes: &'a [u8],
-    reads: usize,
     heap: &'h LocalHeap,
     spared: usize,
     taken: Vec<u8, &'h LocalHeap>,
 }
 
 impl<'a, 'h> HoardingReader<'a, 'h> {
-    pub fn new(
-        bytes: &'a [u8],
-        reads: usize,
-        heap: &'h LocalHeap,
-        spared: usize,
-    ) -> HoardingReader<'a, 'h> {
+    pub fn new(bytes: &'a [u8], heap: &'h LocalHeap, spared: usize) -> HoardingReader<'a, 'h> {
         HoardingReader {
             bytes,
-            reads,
             heap,
             spared,
             taken: Vec::new(heap),
@@ -90,13 +94,11 @@ impl<'a, 'h> HoardingReader<'a, 'h> {
 
 impl Read for HoardingReader<'_, '_> {
     fn read(&mut self, room: &mut [u8]) -> io::Result<usize> {
-        if self.reads == 0 && self.taken.capacity() == 0 {
+        if self.taken.capacity() == 0 {
             let most = self.heap.free().saturating_sub(self.spared);
             self.taken = Vec::with_capacity(self.heap, most)?;
         }
-        self.reads = self.reads.saturating_sub(1);
-        let most = room.len().min(line_len(self.bytes));
-        self.bytes.read(&mut room[..most])
+        self.bytes.read(room)
     }
 }
 

@@ -1,72 +1,57 @@
-//! Nights that go on behind a restart: what was running is interrupted, and is submitted anew by a
+//! Nights that go on behind a stop: what was running is interrupted, and is submitted anew by a
 //! line.
 
-use console_lines::{Asked, read_line};
-use record_view::EventView;
-use run_console::{Session, run};
-use run_model::Layout;
-use run_state::State;
-use std::alloc::Global;
-use std::process::Abort;
-use std::test::Fail;
+use crate::runs::{Night, assert_opened_again};
 
-/// Changes a state by the command of a line. Tests make a few events alone.
-fn obey(rt: &impl Abort, state: &mut State, line: &str) -> Result<(), Fail> {
-    let Asked::Command(call) = read_line(line.as_bytes()) else {
-        return Err("no command")?;
-    };
-    assert!(rt; state.count() < 1_000);
-    if let Some(event) = state.asked(&call)? {
-        state.apply(&event);
-    }
-    Ok(())
-}
+/// A night that is stopped behind its flush, with the first of two tasks running.
+const STOPPED: Night = (
+    b"group g root\nlimit g 1\ngo g copy a\ngo g copy b\nstart\nflush\n",
+    b"group 0 scope 1\n\
+      ok\n\
+      task 0 ready\n\
+      task 1 held\n\
+      start 0 copy a\n\
+      acked 6\n\
+      acked 6\n",
+);
 
-/// A session that begins where a stop cut off the first of two tasks, of which one may run.
-fn cut_off(rt: &impl Abort, alloc: Global) -> Result<Session, Fail> {
-    let mut state = State::new(alloc, Layout::Small)?;
-    obey(rt, &mut state, "group g root")?;
-    obey(rt, &mut state, "limit g 1")?;
-    obey(rt, &mut state, "go g copy a")?;
-    obey(rt, &mut state, "go g copy b")?;
-    assert!(rt; state.count() < 1_000);
-    let task = state.asked_start()?.info.task;
-    state.apply(&EventView::Start { task });
-    assert!(rt; state.count() < 1_000);
-    state.restart();
-    assert!(rt; state.count() < 1_000);
-    Ok(Session::begin(alloc, state)?)
-}
-
-/// What is typed behind the restart, and what is printed.
-const NIGHTS: [(&str, &str); 2] = [
+/// It is opened again, and once more.
+static OPENED_TWICE: [Night; 3] = [
+    STOPPED,
     (
-        "task 0\ntask 1\nresult g\nscope g\n",
-        "task 0 interrupted\n\
-         task 1 ready\n\
-         unfinished 1; limit 1; waited no; error interrupted\n\
-         done; deadline none; err context canceled; cause interrupted\n\
-         acked 7\n",
+        b"task 0\ntask 1\nresult g\nscope g\n",
+        b"task 0 interrupted\n\
+          task 1 ready\n\
+          unfinished 1; limit 1; waited no; error interrupted\n\
+          done; deadline none; err context canceled; cause interrupted\n\
+          acked 7\n",
     ),
     (
-        "retry 0\nretry 0\nretry 1\ntask 2\ntally\n",
-        "task 2 held\n\
-         refused 25 AlreadyRetried\n\
-         refused 24 NotInterrupted\n\
-         task 2 held\n\
-         tally copy total 3; success 0; failure 0; interrupted 1\n\
-         acked 8\n",
+        b"task 0\ntask 1\nresult g\nscope g\n",
+        b"task 0 interrupted\n\
+          task 1 ready\n\
+          unfinished 1; limit 1; waited no; error interrupted\n\
+          done; deadline none; err context canceled; cause interrupted\n\
+          acked 8\n",
+    ),
+];
+
+/// It is opened once, and the task is submitted anew. A tally counts it as another task.
+static RETRIED: [Night; 2] = [
+    STOPPED,
+    (
+        b"retry 0\nretry 0\nretry 1\ntask 2\ntally\n",
+        b"task 2 held\n\
+          refused 25 AlreadyRetried\n\
+          refused 24 NotInterrupted\n\
+          task 2 held\n\
+          tally copy total 3; success 0; failure 0; interrupted 1\n\
+          acked 8\n",
     ),
 ];
 
 #[test]
-fn an_interrupted_task_is_submitted_anew_by_a_line(rt: HostRuntime) -> Result<(), Fail> {
-    let alloc = rt.alloc();
-    let mut session = cut_off(&rt, alloc)?;
-    for (typed, wanted) in NIGHTS {
-        let mut output = Vec::new(alloc);
-        run(alloc, &mut typed.as_bytes(), &mut output, &mut session)?;
-        assert_eq!(rt; output.as_slice(), wanted.as_bytes(), "{typed}");
-    }
-    Ok(())
+fn an_interrupted_task_is_submitted_anew_by_a_line(rt: HostRuntime) {
+    assert_opened_again(&rt, rt.alloc(), &OPENED_TWICE);
+    assert_opened_again(&rt, rt.alloc(), &RETRIED);
 }

@@ -1,17 +1,15 @@
 //! Nights with deadlines, values and detached scopes, and the order in which lines are refused.
 
-use crate::nights::printed;
-use std::alloc::Global;
-use std::test::Fail;
+use crate::runs::{Night, assert_printed};
 
 /// Two deadlines of one moment: the parent's passes first.
-const PARENT_EARLIER: (&str, &str) = (
-    "derive p root deadline 100 p\n\
+const PARENT_EARLIER: Night = (
+    b"derive p root deadline 100 p\n\
      derive c p deadline 100 c\n\
      advance 200\n\
      scope p\n\
      scope c\n",
-    "scope 1\n\
+    b"scope 1\n\
      scope 2\n\
      ok\n\
      done; deadline 100; err context deadline exceeded; cause p\n\
@@ -20,13 +18,13 @@ const PARENT_EARLIER: (&str, &str) = (
 );
 
 /// The child's deadline passes first, and it keeps its own cause.
-const CHILD_EARLIER: (&str, &str) = (
-    "derive p root deadline 150 p\n\
+const CHILD_EARLIER: Night = (
+    b"derive p root deadline 150 p\n\
      derive c p deadline 100 c\n\
      advance 200\n\
      scope p\n\
      scope c\n",
-    "scope 1\n\
+    b"scope 1\n\
      scope 2\n\
      ok\n\
      done; deadline 150; err context deadline exceeded; cause p\n\
@@ -35,8 +33,8 @@ const CHILD_EARLIER: (&str, &str) = (
 );
 
 /// A detached scope isn't done with its parent, and values are found through it.
-const DETACHED_PART: (&str, &str) = (
-    "derive v root value region eu\n\
+const DETACHED_PART: Night = (
+    b"derive v root value region eu\n\
      derive x v cause\n\
      derive d x detached\n\
      derive k d cancel\n\
@@ -45,7 +43,7 @@ const DETACHED_PART: (&str, &str) = (
      scope d\n\
      scope k\n\
      value k region\n",
-    "scope 1\n\
+    b"scope 1\n\
      scope 2\n\
      scope 3\n\
      scope 4\n\
@@ -58,14 +56,14 @@ const DETACHED_PART: (&str, &str) = (
 );
 
 /// A timeout of 0 and a deadline at the clock are exceeded at once.
-const WRITTEN_MOMENTS: (&str, &str) = (
-    "advance 2024-01-01T02:00:00Z\n\
+const WRITTEN_MOMENTS: Night = (
+    b"advance 2024-01-01T02:00:00Z\n\
      derive t root timeout 0\n\
      derive u root deadline 2024-01-01T03:00:00+01:00\n\
      scope t\n\
      scope u\n\
      advance 1704074400\n",
-    "ok\n\
+    b"ok\n\
      scope 1\n\
      scope 2\n\
      done; deadline 1704074400; err context deadline exceeded; cause context deadline exceeded\n\
@@ -75,14 +73,14 @@ const WRITTEN_MOMENTS: (&str, &str) = (
 );
 
 /// A key that holds nothing, and a timeout past the greatest moment.
-const MISSING_VALUES: (&str, &str) = (
-    "derive v root value k x\n\
+const MISSING_VALUES: Night = (
+    b"derive v root value k x\n\
      value v k\n\
      value v j\n\
      value root k\n\
      derive t root timeout 253000000001\n\
      scope v\n",
-    "scope 1\n\
+    b"scope 1\n\
      value x\n\
      refused 23 NoValue\n\
      refused 23 NoValue\n\
@@ -92,8 +90,8 @@ const MISSING_VALUES: (&str, &str) = (
 );
 
 /// The night of README.
-const README_NIGHT: (&str, &str) = (
-    "derive night root value region eu\n\
+const README_NIGHT: Night = (
+    b"derive night root value region eu\n\
      derive backup night cause\n\
      derive copy backup deadline 3600 copy took too long\n\
      derive report backup detached\n\
@@ -116,7 +114,7 @@ const README_NIGHT: (&str, &str) = (
      finish 1 ok\n\
      wait disks\n\
      tally\n",
-    "scope 1\n\
+    b"scope 1\n\
      scope 2\n\
      scope 3\n\
      scope 4\n\
@@ -143,8 +141,8 @@ const README_NIGHT: (&str, &str) = (
 );
 
 /// A bad form first, then names, texts, moments out of range, and what the state refuses.
-const ORDER_OF_REFUSALS: (&str, &str) = (
-    "advance 9999-12-31T23:59:59Z\n\
+const ORDER_OF_REFUSALS: Night = (
+    b"advance 9999-12-31T23:59:59Z\n\
      advance 2024-01-01T24:00:00Z\n\
      derive A root deadline 253000000001\n\
      derive a nowhere deadline 253000000001 \x7f\n\
@@ -154,7 +152,7 @@ const ORDER_OF_REFUSALS: (&str, &str) = (
      advance 0\n\
      value nowhere k\n\
      value root K\n",
-    "refused 18 MomentOutOfRange\n\
+    b"refused 18 MomentOutOfRange\n\
      bad line\n\
      refused 5 BadName\n\
      refused 6 BadText\n\
@@ -167,40 +165,87 @@ const ORDER_OF_REFUSALS: (&str, &str) = (
      acked 1\n",
 );
 
-/// Whether this is what is printed for a night.
-fn prints(alloc: Global, night: (&str, &str)) -> Result<bool, Fail> {
-    let (typed, wanted) = night;
-    Ok(printed(alloc, typed.as_bytes())?.as_slice() == wanted.as_bytes())
-}
+/// A detached scope and what stands below it have no part in what ends the scopes above; of a
+/// scope that was cancelled the deadline stays.
+const DETACHED_DEADLINE: Night = (
+    b"derive p root deadline 100 p\n\
+     derive c p deadline 50 c\n\
+     derive d c detached\n\
+     derive e d deadline 70 e\n\
+     cancel c\n\
+     advance 100\n\
+     scope p\n\
+     scope c\n\
+     scope d\n\
+     scope e\n",
+    b"scope 1\n\
+     scope 2\n\
+     scope 3\n\
+     scope 4\n\
+     ok\n\
+     ok\n\
+     done; deadline 100; err context deadline exceeded; cause p\n\
+     done; deadline 50; err context canceled; cause context canceled\n\
+     live; deadline none\n\
+     done; deadline 70; err context deadline exceeded; cause e\n\
+     acked 7\n",
+);
+
+/// What can't be cancelled, what takes no cause, and what is done; the deadline of a scope is the
+/// least of its chain.
+const REFUSED_CANCELS: Night = (
+    b"derive v root value k x\n\
+     derive d root detached\n\
+     group g root\n\
+     derive c root cancel\n\
+     derive e root deadline 100\n\
+     derive f e deadline 200 f\n\
+     scope f\n\
+     cancel nowhere x\n\
+     cancel root\n\
+     cancel v x\n\
+     cancel d\n\
+     cancel g\n\
+     cancel c x\n\
+     cancel e x\n\
+     cancel c\n\
+     cancel c x\n\
+     cancel c\n\
+     scope c\n",
+    b"scope 1\n\
+     scope 2\n\
+     group 0 scope 3\n\
+     scope 4\n\
+     scope 5\n\
+     scope 6\n\
+     live; deadline 100\n\
+     refused 1 NoSuchScope\n\
+     refused 10 NotCancellable\n\
+     refused 10 NotCancellable\n\
+     refused 10 NotCancellable\n\
+     refused 10 NotCancellable\n\
+     refused 11 CauseNotTaken\n\
+     refused 11 CauseNotTaken\n\
+     ok\n\
+     refused 11 CauseNotTaken\n\
+     refused 12 AlreadyDone\n\
+     done; deadline none; err context canceled; cause context canceled\n\
+     acked 8\n",
+);
+
+static NIGHTS: [Night; 9] = [
+    PARENT_EARLIER,
+    CHILD_EARLIER,
+    DETACHED_PART,
+    WRITTEN_MOMENTS,
+    MISSING_VALUES,
+    README_NIGHT,
+    ORDER_OF_REFUSALS,
+    DETACHED_DEADLINE,
+    REFUSED_CANCELS,
+];
 
 #[test]
-fn deadlines_pass_in_order(rt: HostRuntime) -> Result<(), Fail> {
-    assert!(rt; prints(rt.alloc(), PARENT_EARLIER)?);
-    assert!(rt; prints(rt.alloc(), CHILD_EARLIER)?);
-    Ok(())
-}
-
-#[test]
-fn values_are_found_through_a_detached_scope(rt: HostRuntime) -> Result<(), Fail> {
-    assert!(rt; prints(rt.alloc(), DETACHED_PART)?);
-    assert!(rt; prints(rt.alloc(), MISSING_VALUES)?);
-    Ok(())
-}
-
-#[test]
-fn moments_are_digits_or_dates(rt: HostRuntime) -> Result<(), Fail> {
-    assert!(rt; prints(rt.alloc(), WRITTEN_MOMENTS)?);
-    Ok(())
-}
-
-#[test]
-fn the_night_of_the_readme(rt: HostRuntime) -> Result<(), Fail> {
-    assert!(rt; prints(rt.alloc(), README_NIGHT)?);
-    Ok(())
-}
-
-#[test]
-fn lines_are_refused_in_order(rt: HostRuntime) -> Result<(), Fail> {
-    assert!(rt; prints(rt.alloc(), ORDER_OF_REFUSALS)?);
-    Ok(())
+fn nights_with_deadlines_and_values_are_printed(rt: HostRuntime) {
+    assert_printed(&rt, rt.alloc(), &NIGHTS);
 }

@@ -1,261 +1,276 @@
-//! Runs that stop: the fault, what was written, and what the session is then.
+//! Runs that stop where an input or an output fails, or there is no memory: the fault, what was
+//! written, and what the book is then.
 
-use crate::readers::{FailingReader, HoardingReader, RepeatingReader, WatchingReader};
+use crate::asserts::{done, holds};
+use crate::readers::{Behind, HoardingReader, PartReader, RepeatingReader, WatchingReader};
+use crate::runs::{Ended, Night, run_lines, run_new};
 use crate::writers::{CountingWriter, End, EndingWriter};
 use linked_list_allocator::LocalHeap;
-use run_console::{RunFault, Session, line, run};
-use run_model::Layout;
-use std::alloc::{AllocError, Global};
+use run_console::RunFault;
+use std::alloc::Global;
 use std::cell::Cell;
-use std::test::Fail;
+use std::process::Abort;
 
-/// The lines of a night, each with its reply and with the number of events behind it.
-const NIGHT: [(&[u8], &[u8], u64); 6] = [
-    (b"derive a root cause\n", b"scope 1\n", 2),
-    (b"\n", b"", 2),
-    (b"derive b a cancel\n", b"scope 2\n", 3),
-    (b"cancel a disk\n", b"ok\n", 4),
-    (b"cancel a again\n", b"refused 12 AlreadyDone\n", 4),
+/// A night. The third line is empty, and the last has no LF.
+const TYPED: &[u8] = b"derive a root cause\n\nderive b a cancel\ncancel a disk\ncancel a again\n\
+    scope b";
+
+const PRINTED: &[u8] = b"scope 1\nscope 2\nok\nrefused 12 AlreadyDone\n\
+    done; deadline none; err context canceled; cause disk\nacked 4\n";
+
+/// How the book is behind some of its lines, as the questions show it.
+const NEW: &[u8] = b"refused 1 NoSuchScope\nrefused 1 NoSuchScope\nacked 1\n";
+
+const ONE: &[u8] = b"live; deadline none\nrefused 1 NoSuchScope\nacked 2\n";
+
+const TWO: &[u8] = b"live; deadline none\nlive; deadline none\nacked 3\n";
+
+const DONE: &[u8] = b"done; deadline none; err context canceled; cause disk\n\
+    done; deadline none; err context canceled; cause disk\nacked 4\n";
+
+/// Behind each of its lines that an LF ends: how many bytes were typed, how many are replied, and
+/// how the book is.
+static STEPS: [(usize, usize, &[u8]); 6] = [
+    (0, 0, NEW),
+    (20, 8, ONE),
+    (21, 8, ONE),
+    (39, 16, TWO),
+    (53, 19, DONE),
+    (68, 42, DONE),
+];
+
+/// What is replied to the lines that end in the first so many bytes, and how the book is then.
+fn behind(given: usize) -> (usize, &'static [u8]) {
+    let mut found = (0, NEW);
+    for (typed, replied, shown) in STEPS.iter() {
+        if *typed <= given {
+            found = (*replied, *shown);
+        }
+    }
+    found
+}
+
+/// Whether a text is the first so many bytes of another.
+fn is_front(text: &[u8], whole: &[u8], count: usize) -> bool {
+    text.len() == count && whole.starts_with(text)
+}
+
+/// Asserts how a run ends whose input fails behind so many bytes.
+fn assert_unread(rt: &impl Abort, alloc: Global, part: usize, given: usize) {
+    let (replied, shown) = behind(given);
+    let bytes = TYPED.get(..given).unwrap_or(TYPED);
+    let mut input = PartReader::new(bytes, part, Behind::Fails);
+    let mut printed = Vec::new(alloc);
+    let ended = run_new(rt, alloc, alloc, &mut input, &mut printed);
+    holds(rt, ended.result == Err(RunFault::Input), "fault", given);
+    holds(rt, is_front(&printed, PRINTED, replied), "replies", given);
+    holds(rt, ended.shown.as_slice() == shown, "book", given);
+}
+
+#[test]
+fn a_failed_read_leaves_no_whole_line_without_its_reply(rt: HostRuntime) {
+    for part in [1, 7, 4_096] {
+        for given in 0..=TYPED.len() {
+            assert_unread(&rt, rt.alloc(), part, given);
+        }
+    }
+}
+
+/// How a book is that is read by one byte at a time, where so many bytes were written and no more
+/// can be: the line is run whose reply is cut, and none behind it.
+fn cut_at(written: usize) -> &'static [u8] {
+    for (_, replied, shown) in STEPS.iter() {
+        if written < *replied {
+            return *shown;
+        }
+    }
+    DONE
+}
+
+/// How many bytes are written by so many whole writes, where replies are written line by line, and
+/// where all lines are read at once.
+static LINE_BY_LINE: [usize; 6] = [0, 8, 16, 19, 42, 104];
+
+static AT_ONCE: [usize; 3] = [0, 42, 104];
+
+/// A writer, and what it comes to: how many bytes it takes at a write, how many writes, its end.
+type Writing = (usize, usize, End);
+
+/// Asserts how the night ends, of which so many bytes are written. Where a part of its last line
+/// was, that said that all was durable.
+fn assert_written(rt: &impl Abort, alloc: Global, part: usize, writing: Writing, written: usize) {
+    let (most, writes, end) = writing;
+    let mut input = PartReader::new(TYPED, part, Behind::Ends);
+    let mut output = EndingWriter::new(Vec::new(alloc), most, writes, end);
+    let ended = run_new(rt, alloc, alloc, &mut input, &mut output);
+    let wanted = match written {
+        104 => Ok(()),
+        _ => Err(RunFault::Output),
+    };
+    holds(rt, ended.result == wanted, "fault", written);
+    holds(
+        rt,
+        is_front(&output.into_written(), PRINTED, written),
+        "replies",
+        written,
+    );
+    let shown = match part {
+        1 => cut_at(written),
+        _ => DONE,
+    };
+    holds(rt, ended.shown.as_slice() == shown, "book", written);
+    holds(
+        rt,
+        written <= 96 || ended.counts == (4, 4),
+        "durable events",
+        written,
+    );
+}
+
+#[test]
+fn a_failed_write_leaves_a_front(rt: HostRuntime) {
+    for end in [End::Fails, End::TakesNothing] {
+        for writes in 0..=PRINTED.len() {
+            assert_written(&rt, rt.alloc(), 1, (1, writes, end), writes);
+            assert_written(&rt, rt.alloc(), 4_096, (1, writes, end), writes);
+        }
+        for (writes, written) in LINE_BY_LINE.iter().enumerate() {
+            assert_written(&rt, rt.alloc(), 1, (100, writes, end), *written);
+        }
+        for (writes, written) in AT_ONCE.iter().enumerate() {
+            assert_written(&rt, rt.alloc(), 4_096, (100, writes, end), *written);
+        }
+    }
+}
+
+/// Lines that are run though a reply can't be written: the replies, which are never more than a
+/// part of.
+const DERIVE: Night = (b"derive a root cause", b"scope 1\n");
+
+const FLUSH: Night = (b"flush", b"acked 2\n");
+
+/// Lines, a writer's bytes at a write and its writes, what is written, and how many events there
+/// are then and how many of them are durable: a line is run whose reply can't be written.
+static CUT: [(&[Night], (usize, usize), &[u8], (u64, u64)); 4] = [
+    (&[DERIVE], (100, 0), b"", (2, 1)),
+    (&[DERIVE], (3, 1), b"sco", (2, 1)),
+    (&[DERIVE, FLUSH], (3, 3), b"scope 1\n", (2, 2)),
+    (&[DERIVE, FLUSH], (3, 4), b"scope 1\nack", (2, 2)),
+];
+
+#[test]
+fn a_line_is_run_whose_reply_cant_be_written(rt: HostRuntime) {
+    for end in [End::Fails, End::TakesNothing] {
+        for (n, (lines, (most, writes), written, counts)) in CUT.iter().enumerate() {
+            let mut output = EndingWriter::new(Vec::new(rt.alloc()), *most, *writes, end);
+            let left = run_lines(&rt, rt.alloc(), lines, &mut output);
+            assert!(rt; left.result == Err(RunFault::Output), "line {n}");
+            assert!(rt; output.into_written().as_slice() == *written, "line {n}");
+            assert!(rt; left.counts == *counts, "line {n}");
+        }
+    }
+}
+
+/// What is typed with a tally, and what is printed before the tally, and in all.
+const TALLY: &[u8] = b"group g root\ngo g spin a\ngo g copy a\ngo g spin b\ntally\n";
+
+const BEFORE: &[u8] = b"group 0 scope 1\ntask 0 ready\ntask 1 ready\ntask 2 ready\n";
+
+const TALLIED: &[u8] = b"group 0 scope 1\ntask 0 ready\ntask 1 ready\ntask 2 ready\n\
+    tally spin total 2; success 0; failure 0; interrupted 0\n\
+    tally copy total 1; success 0; failure 0; interrupted 0\n\
+    acked 5\n";
+
+/// A heap of so many bytes.
+fn heap(rt: &impl Abort, alloc: Global, bytes: usize) -> LocalHeap {
+    done(rt, LocalHeap::new(alloc, bytes), "memory")
+}
+
+/// Runs an input over a heap of which so many bytes are spared. Gives what is printed.
+fn hoarded(rt: &impl Abort, alloc: Global, typed: &[u8], spared: usize) -> (Ended, Vec<u8>) {
+    let heap = heap(rt, alloc, 4_000);
+    let mut input = HoardingReader::new(typed, &heap, spared);
+    let mut printed = Vec::new(alloc);
+    let ended = run_new(rt, alloc, &heap, &mut input, &mut printed);
+    (ended, printed)
+}
+
+#[test]
+fn a_tally_without_memory_has_no_line(rt: HostRuntime) {
+    for spared in 0..600 {
+        let (ended, printed) = hoarded(&rt, rt.alloc(), TALLY, spared);
+        let told = match ended.result {
+            Ok(()) => spared > 0 && printed.as_slice() == TALLIED,
+            Err(fault) => fault == RunFault::Memory && printed.as_slice() == BEFORE,
+        };
+        assert!(rt; told, "{spared} bytes spared");
+        assert!(rt; ended.counts.0 == 5, "the lines before it stand");
+    }
+}
+
+#[test]
+fn other_replies_take_no_memory(rt: HostRuntime) {
+    let (ended, printed) = hoarded(&rt, rt.alloc(), TYPED, 0);
+    assert!(rt; ended.result.is_ok() && printed.as_slice() == PRINTED);
+}
+
+#[test]
+fn memory_is_given_back(rt: HostRuntime) {
+    for (n, (mut typed, wanted)) in [(TYPED, PRINTED), (TALLY, TALLIED)].into_iter().enumerate() {
+        let heap = heap(&rt, rt.alloc(), 4_000);
+        let mut printed = Vec::new(rt.alloc());
+        let ended = run_new(&rt, rt.alloc(), &heap, &mut typed, &mut printed);
+        assert!(rt;
+            ended.result.is_ok() && printed.as_slice() == wanted,
+            "night {n}"
+        );
+        assert!(rt; heap.used() == 0, "night {n}");
+    }
+}
+
+/// Lines, how many `x` come behind them, how the run ends, what is printed, and how many bytes are
+/// not read: one byte more is read than an input may have.
+static SIZES: [(&[u8], usize, Result<(), RunFault>, &[u8], usize); 5] = [
+    (b"", 16_777_216, Ok(()), b"bad line\nacked 1\n", 0),
+    (b"", 16_777_217, Err(RunFault::InputTooLong), b"", 0),
+    (b"", 16_777_317, Err(RunFault::InputTooLong), b"", 100),
     (
-        b"scope b",
-        b"done; deadline none; err context canceled; cause disk\n",
-        4,
+        b"derive a root cause\n",
+        16_777_196,
+        Ok(()),
+        b"scope 1\nbad line\nacked 2\n",
+        0,
+    ),
+    (
+        b"derive a root cause\n",
+        16_777_197,
+        Err(RunFault::InputTooLong),
+        b"scope 1\n",
+        0,
     ),
 ];
 
-const CLOSING: &[u8] = b"acked 4\n";
-
-/// The lines of the night, one behind the other.
-fn typed(alloc: Global) -> Result<Vec<u8>, AllocError> {
-    let mut typed = Vec::new(alloc);
-    for (line, _, _) in NIGHT {
-        typed.extend_from_slice(line)?;
-    }
-    Ok(typed)
-}
-
-/// The replies to the first so many lines of the night.
-fn replies(alloc: Global, lines: usize) -> Result<Vec<u8>, AllocError> {
-    let mut replies = Vec::new(alloc);
-    for (_, reply, _) in NIGHT.iter().take(lines) {
-        replies.extend_from_slice(reply)?;
-    }
-    Ok(replies)
-}
-
-/// All that is printed for the night.
-fn printed(alloc: Global) -> Result<Vec<u8>, AllocError> {
-    let mut printed = replies(alloc, NIGHT.len())?;
-    printed.extend_from_slice(CLOSING)?;
-    Ok(printed)
-}
-
-/// How many of the night's lines are ended by an LF among the first so many bytes.
-fn lines_within(bytes: usize) -> usize {
-    let mut end = 0usize;
-    let mut lines = 0usize;
-    for (line, _, _) in NIGHT {
-        end = end.saturating_add(line.len());
-        if end <= bytes && line.ends_with(b"\n") {
-            lines = lines.saturating_add(1);
-        }
-    }
-    lines
-}
-
-/// How many events there are behind the first so many lines of the night.
-fn events_after(lines: usize) -> u64 {
-    match NIGHT.iter().take(lines).last() {
-        Some((_, _, events)) => *events,
-        None => 1,
-    }
-}
-
 #[test]
-fn a_failed_read_leaves_no_whole_line_without_its_reply(rt: HostRuntime) -> Result<(), Fail> {
-    let alloc = rt.alloc();
-    let typed = typed(alloc)?;
-    for part in [1, 7, 4_096] {
-        for given in 0..typed.len() {
-            let mut session = Session::new(alloc, Layout::Small)?;
-            let mut input = FailingReader::new(&typed[..given], part);
-            let mut output = Vec::new(alloc);
-            let ended = run(alloc, &mut input, &mut output, &mut session);
-            assert_eq!(rt; ended, Err(RunFault::Input));
-            let lines = lines_within(given);
-            assert_eq!(rt; output.as_slice(), replies(alloc, lines)?.as_slice());
-            assert_eq!(rt; session.count(), events_after(lines));
-        }
-    }
-    Ok(())
-}
-
-#[test]
-fn a_last_line_is_not_run_after_a_failed_read(rt: HostRuntime) -> Result<(), Fail> {
-    let alloc = rt.alloc();
-    let mut session = Session::new(alloc, Layout::Small)?;
-    let mut input = FailingReader::new(b"derive a root cause\nderive b a cancel", 100);
-    let mut output = Vec::new(alloc);
-    assert_eq!(rt;
-        run(alloc, &mut input, &mut output, &mut session),
-        Err(RunFault::Input)
-    );
-    assert_eq!(rt; output.as_slice(), b"scope 1\n".as_slice());
-    assert_eq!(rt; session.count(), 2);
-    Ok(())
-}
-
-#[test]
-fn a_failed_write_leaves_a_front(rt: HostRuntime) -> Result<(), Fail> {
-    let alloc = rt.alloc();
-    let typed = typed(alloc)?;
-    let printed = printed(alloc)?;
-    for end in [End::Fails, End::TakesNothing] {
-        for (part, whole) in [(1, printed.len()), (100, 6)] {
-            for writes in 0..=whole {
-                let mut session = Session::new(alloc, Layout::Small)?;
-                let mut output = EndingWriter::new(Vec::new(alloc), part, writes, end);
-                let ended = run(alloc, &mut typed.as_slice(), &mut output, &mut session);
-                if writes == whole {
-                    assert_eq!(rt; ended, Ok(()));
-                    assert_eq!(rt; output.written(), printed.as_slice());
-                } else {
-                    assert_eq!(rt; ended, Err(RunFault::Output));
-                    assert!(rt; printed.starts_with(output.written()));
-                    assert!(rt; output.written().len() < printed.len());
-                }
-                if part == 1 {
-                    assert_eq!(rt; output.written().len(), writes);
-                }
-            }
-        }
-    }
-    Ok(())
-}
-
-#[test]
-fn a_line_is_run_whose_reply_cant_be_written(rt: HostRuntime) -> Result<(), Fail> {
-    let alloc = rt.alloc();
-    for end in [End::Fails, End::TakesNothing] {
-        let mut session = Session::new(alloc, Layout::Small)?;
-        let mut output = EndingWriter::new(Vec::new(alloc), 3, 1, end);
-        assert_eq!(rt;
-            line(alloc, b"derive a root cause", &mut output, &mut session),
-            Err(RunFault::Output)
+fn an_input_has_at_most_16777216_bytes(rt: HostRuntime) {
+    for (n, (lines, more, result, wanted, unread)) in SIZES.iter().enumerate() {
+        let mut input = RepeatingReader::new(lines, *more);
+        let mut printed = Vec::new(rt.alloc());
+        let ended = run_new(&rt, rt.alloc(), rt.alloc(), &mut input, &mut printed);
+        assert!(rt;
+            ended.result == *result && input.left() == *unread,
+            "input {n}"
         );
-        assert_eq!(rt; output.written(), b"sco".as_slice());
-        assert_eq!(rt; session.count(), 2);
+        assert!(rt; printed.as_slice() == *wanted, "input {n}");
     }
-    Ok(())
 }
 
 #[test]
-fn each_reply_can_be_refused_its_memory(rt: HostRuntime) -> Result<(), Fail> {
-    let alloc = rt.alloc();
-    let mut typed = typed(alloc)?;
-    typed.push(b'\n')?;
-    // A read for each line, and one for the end, behind which the closing line is written.
-    for reads in 0..=NIGHT.len() {
-        let heap = LocalHeap::new(alloc, 1_000)?;
-        let mut session = Session::new(alloc, Layout::Small)?;
-        let mut input = HoardingReader::new(&typed, reads, &heap, 0);
-        let mut output = Vec::new(alloc);
-        assert_eq!(rt;
-            run(&heap, &mut input, &mut output, &mut session),
-            Err(RunFault::Memory)
-        );
-        assert_eq!(rt; output.as_slice(), replies(alloc, reads)?.as_slice());
-    }
-    Ok(())
-}
-
-#[test]
-fn want_of_memory_leaves_whole_replies(rt: HostRuntime) -> Result<(), Fail> {
-    let alloc = rt.alloc();
-    let typed = typed(alloc)?;
-    let printed = printed(alloc)?;
-    for spared in 0..100 {
-        let heap = LocalHeap::new(alloc, 1_000)?;
-        let mut session = Session::new(alloc, Layout::Small)?;
-        let mut input = HoardingReader::new(&typed, 0, &heap, spared);
-        let mut output = Vec::new(alloc);
-        match run(&heap, &mut input, &mut output, &mut session) {
-            Ok(()) => assert_eq!(rt; output.as_slice(), printed.as_slice()),
-            Err(fault) => {
-                assert_eq!(rt; fault, RunFault::Memory);
-                assert!(rt; printed.starts_with(&output));
-                assert!(rt; output.is_empty() || output.ends_with(b"\n"));
-            }
-        }
-    }
-    Ok(())
-}
-
-#[test]
-fn memory_is_given_back(rt: HostRuntime) -> Result<(), Fail> {
-    let alloc = rt.alloc();
-    let typed = typed(alloc)?;
-    let heap = LocalHeap::new(alloc, 1_000)?;
-    let mut session = Session::new(alloc, Layout::Small)?;
-    let mut output = Vec::new(alloc);
-    run(&heap, &mut typed.as_slice(), &mut output, &mut session)?;
-    assert_eq!(rt; output.as_slice(), printed(alloc)?.as_slice());
-    assert_eq!(rt; heap.used(), 0);
-    Ok(())
-}
-
-#[test]
-fn an_input_of_16777216_bytes_is_run(rt: HostRuntime) -> Result<(), Fail> {
-    let alloc = rt.alloc();
-    let mut session = Session::new(alloc, Layout::Small)?;
-    let mut output = Vec::new(alloc);
-    let mut input = RepeatingReader::new(b'x', 16_777_216);
-    assert_eq!(rt; run(alloc, &mut input, &mut output, &mut session), Ok(()));
-    assert_eq!(rt; output.as_slice(), b"bad line\nacked 1\n".as_slice());
-    Ok(())
-}
-
-#[test]
-fn a_longer_input_is_too_long(rt: HostRuntime) -> Result<(), Fail> {
-    let alloc = rt.alloc();
-    for more in [1, 101] {
-        let mut session = Session::new(alloc, Layout::Small)?;
-        let mut output = Vec::new(alloc);
-        let mut input = RepeatingReader::new(b'x', 16_777_216 + more);
-        assert_eq!(rt;
-            run(alloc, &mut input, &mut output, &mut session),
-            Err(RunFault::InputTooLong)
-        );
-        assert!(rt; output.is_empty());
-        assert_eq!(rt; input.left(), more - 1, "one byte more is read");
-    }
-    Ok(())
-}
-
-#[test]
-fn a_line_is_replied_to_before_the_next_read(rt: HostRuntime) -> Result<(), Fail> {
-    let alloc = rt.alloc();
-    let typed = typed(alloc)?;
+fn a_line_is_replied_to_before_the_next_read(rt: HostRuntime) {
     let written = Cell::new(0);
-    let mut session = Session::new(alloc, Layout::Small)?;
-    let mut input = WatchingReader::new(&typed, &written, Vec::new(alloc));
+    let mut input = WatchingReader::new(TYPED, &written, Vec::new(rt.alloc()));
     let mut output = CountingWriter::new(&written);
-    run(alloc, &mut input, &mut output, &mut session)?;
+    let ended = run_new(&rt, rt.alloc(), rt.alloc(), &mut input, &mut output);
+    assert!(rt; ended.result.is_ok() && written.get() == PRINTED.len());
     // The last line has no LF, so the end is read before it is run.
-    assert_eq!(rt; input.seen(), [0, 8, 8, 16, 19, 42, 42].as_slice());
-    assert_eq!(rt; written.get(), printed(alloc)?.len());
-    Ok(())
-}
-
-#[test]
-fn faults_have_their_texts(rt: HostRuntime) -> Result<(), Fail> {
-    for (fault, text) in [
-        (RunFault::Input, "input"),
-        (RunFault::Output, "output"),
-        (RunFault::InputTooLong, "input too long"),
-        (RunFault::Memory, "fault 1 Memory"),
-    ] {
-        assert_eq!(rt; format!(in rt.alloc(); "{fault}")?.as_str(), text);
-    }
-    Ok(())
+    assert!(rt; input.seen() == [0, 8, 8, 16, 19, 42, 42].as_slice());
 }

@@ -35,8 +35,8 @@ impl EndingWriter {
     }
 
     /// What it took.
-    pub fn written(&self) -> &[u8] {
-        self.bytes.as_slice()
+    pub fn into_written(self) -> Vec<u8> {
+        self.bytes
     }
 }
 

@@ -105,9 +105,27 @@ fn a_question_names_its_scope(rt: HostRuntime) {
     assert_read(&rt, &QUESTIONS);
 }
 
+static SAVES: [Row; 2] = [
+    (b"flush", Meaning::Flush),
+    (b"checkpoint", Meaning::Checkpoint),
+];
+
+#[test]
+fn a_save_is_one_word(rt: HostRuntime) {
+    assert_read(&rt, &SAVES);
+}
+
 /// Words that are unknown, missing or left over.
-static BAD_LINES: [&[u8]; 37] = [
+static BAD_LINES: [&[u8]; 45] = [
     b"up",
+    b"flush ",
+    b"flush 1",
+    b"flush\r",
+    b" flush",
+    b"Flush",
+    b"checkpoint ",
+    b"checkpoint x",
+    b"check",
     b" ",
     b" scope root",
     b"SCOPE root",

@@ -64,6 +64,10 @@ pub enum Meaning<'a> {
     Result(&'a [u8]),
     /// The tally.
     Tally,
+    /// All events so far, by their records.
+    Flush,
+    /// All events so far, by an image.
+    Checkpoint,
 }
 
 fn bytes_of(cause: &Option<Text>) -> Option<&[u8]> {
@@ -123,6 +127,8 @@ fn meaning_of(asked: &Asked) -> Meaning<'_> {
         Asked::Task(task) => Meaning::Task(*task),
         Asked::Result(name) => Meaning::Result(name.as_bytes()),
         Asked::Tally => Meaning::Tally,
+        Asked::Flush => Meaning::Flush,
+        Asked::Checkpoint => Meaning::Checkpoint,
     }
 }
 

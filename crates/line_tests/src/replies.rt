@@ -1,8 +1,10 @@
 //! Tests of what replies print; the texts stand in `docs/formats/console.md`.
 
-use console_lines::{Counts, Reply, RunFault, Tally};
+use arrayvec::ArrayVec;
+use console_lines::{Counts, LONGEST_REPLY, Reply, RunFault, Tally};
 use run_model::{
-    Answer, GroupLook, Limit, Look, Moment, Name, Phase, Reason, Refusal, Started, TaskInfo, Text,
+    Answer, Fault, GroupLook, Limit, Look, Moment, Name, Phase, Reason, Refusal, Started, TaskInfo,
+    Text, Trouble,
 };
 use std::alloc::{AllocError, Global};
 use std::process::Abort;
@@ -16,10 +18,20 @@ fn text(rt: &impl Abort, bytes: &[u8]) -> Text {
     Text::read(bytes).expect(rt, "a text")
 }
 
-/// Whether this is what a reply prints.
+/// Whether this is what a reply prints, and with an LF behind it what is gathered.
 fn prints(alloc: Global, reply: &Reply, wanted: &str) -> Result<bool, AllocError> {
     let printed = format!(in alloc; "{reply}")?;
-    Ok(printed.as_str() == wanted)
+    Ok(printed.as_str() == wanted && is_gathered(reply, wanted))
+}
+
+/// Whether a reply is gathered as this text and an LF.
+fn is_gathered(reply: &Reply, wanted: &str) -> bool {
+    let mut gathered = ArrayVec::<u8, LONGEST_REPLY>::new();
+    if gathered.remaining_capacity() < LONGEST_REPLY {
+        return false;
+    }
+    reply.gather(&mut gathered);
+    gathered.as_slice().split_last() == Some((&b'\n', wanted.as_bytes()))
 }
 
 /// How far a task is.
@@ -45,6 +57,7 @@ enum Told {
     WaitedError(&'static [u8]),
     Value(&'static [u8]),
     Task(u16, Going),
+    Failed(Trouble),
 }
 
 fn phase_of(rt: &impl Abort, going: &Going) -> Phase {
@@ -65,6 +78,7 @@ fn reply_of(rt: &impl Abort, told: &Told) -> Reply {
         Told::Finished(event) => Reply::Finished(*event),
         Told::Value(value) => Reply::Value(text(rt, value)),
         Told::Task(task, going) => Reply::Task(*task, phase_of(rt, going)),
+        Told::Failed(trouble) => Reply::Failed(*trouble),
         _ => Reply::Answered(answer_of(rt, told)),
     }
 }
@@ -80,10 +94,14 @@ fn answer_of(rt: &impl Abort, told: &Told) -> Answer {
     }
 }
 
-static REPLIES: [(Told, &str); 18] = [
+static REPLIES: [(Told, &str); 23] = [
     (Told::BadLine, "bad line"),
     (Told::Value(b"eu west"), "value eu west"),
     (Told::Acked(1), "acked 1"),
+    (
+        Told::Acked(9_223_372_036_854_775_807),
+        "acked 9223372036854775807",
+    ),
     (Told::Scope(1_023), "scope 1023"),
     (Told::Done, "ok"),
     (Told::Group(0, Some(1)), "group 0 scope 1"),
@@ -102,6 +120,19 @@ static REPLIES: [(Told, &str); 18] = [
         "task 7 error no  room ",
     ),
     (Told::Task(7, Going::Interrupted), "task 7 interrupted"),
+    (Told::Task(8_191, Going::Ready), "task 8191 ready"),
+    (
+        Told::Failed(Trouble::Faulty(Fault::DiskFailed)),
+        "fault 2 DiskFailed",
+    ),
+    (
+        Told::Failed(Trouble::Faulty(Fault::NumbersSpent)),
+        "fault 10 NumbersSpent",
+    ),
+    (
+        Told::Failed(Trouble::Refused(Refusal::Broken)),
+        "refused 22 Broken",
+    ),
 ];
 
 #[test]
@@ -140,6 +171,16 @@ fn how_a_scope_is_prints_its_end_and_its_deadline(rt: HostRuntime) -> Result<(),
     let printed = "done; deadline 1704074400; err context deadline exceeded; \
          cause context deadline exceeded";
     assert!(rt; prints(alloc, &exceeded, printed)?);
+    let cause = text(&rt, &[b'~'; 64]);
+    let longest = scope(
+        &rt,
+        Some((Reason::DeadlineExceeded, cause)),
+        Moment::new(253_000_000_000),
+    );
+    let printed = "done; deadline 253000000000; err context deadline exceeded; \
+         cause ~~~~~~~~~~~~~~~~~~~~~~~~~~~~~~~~~~~~~~~~~~~~~~~~~~~~~~~~~~~~~~~~";
+    assert!(rt; printed.len() + 1 == LONGEST_REPLY);
+    assert!(rt; prints(alloc, &longest, printed)?);
     Ok(())
 }
 
@@ -254,18 +295,45 @@ fn refusals_print_their_number_and_name(rt: HostRuntime) -> Result<(), Fail> {
     Ok(())
 }
 
-static FAULTS: [(RunFault, &str); 4] = [
+static FAULTS: [(RunFault, &str); 5] = [
     (RunFault::Input, "input"),
     (RunFault::Output, "output"),
     (RunFault::InputTooLong, "input too long"),
     (RunFault::Memory, "fault 1 Memory"),
+    (
+        RunFault::Store(Trouble::Refused(Refusal::Broken)),
+        "refused 22 Broken",
+    ),
 ];
+
+/// What a store can be at fault of.
+static STORE_FAULTS: [(Fault, &str); 10] = [
+    (Fault::Memory, "fault 1 Memory"),
+    (Fault::DiskFailed, "fault 2 DiskFailed"),
+    (Fault::NotAStore, "fault 3 NotAStore"),
+    (Fault::WrongSize, "fault 4 WrongSize"),
+    (Fault::BadSlot, "fault 5 BadSlot"),
+    (Fault::BadImage, "fault 6 BadImage"),
+    (Fault::BadBatch, "fault 7 BadBatch"),
+    (Fault::BadRecord, "fault 8 BadRecord"),
+    (Fault::BadEvent, "fault 9 BadEvent"),
+    (Fault::NumbersSpent, "fault 10 NumbersSpent"),
+];
+
+/// Whether this is what a fault prints.
+fn shows(alloc: Global, fault: RunFault, wanted: &str) -> Result<bool, AllocError> {
+    let printed = format!(in alloc; "{fault}")?;
+    Ok(printed.as_str() == wanted)
+}
 
 #[test]
 fn faults_of_a_run_print_their_texts(rt: HostRuntime) -> Result<(), Fail> {
     for (fault, text) in FAULTS {
-        let printed = format!(in rt.alloc(); "{fault}")?;
-        assert!(rt; printed.as_str() == text, "{text}");
+        assert!(rt; shows(rt.alloc(), fault, text)?, "{text}");
+    }
+    for (fault, text) in STORE_FAULTS {
+        let fault = RunFault::Store(Trouble::Faulty(fault));
+        assert!(rt; shows(rt.alloc(), fault, text)?, "{text}");
     }
     Ok(())
 }

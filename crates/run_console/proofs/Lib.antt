@@ -1,6 +1,12 @@
 pub mod Counting
-pub mod Firsts
+pub mod Ends
+pub mod Fronts
+pub mod Going
+pub mod Inspecting
 pub mod LineSteps
+pub mod Lines
 pub mod Parts
+pub mod Saving
 pub mod Sizes
+pub mod Troubles
 pub mod Wholes

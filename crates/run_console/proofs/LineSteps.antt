@@ -1,6 +1,6 @@
 -- One line: from what it asks for to what is written.
-use Rattle.std.specs.Prelude.{◌≡◌, ℕ, true, List, [], ◌∷◌, map, Result, Ok, Err, IfErr}
-use Rattle.std.proofs.Common.{ap, sym, refl, arith, ◌∙◌, append-nil}
+use Rattle.std.specs.Prelude.{◌≡◌, ℕ, true, List, [], ◌∷◌, map, Result, Ok, Err, IfErr, OnErr}
+use Rattle.std.proofs.Common.{ap, sym, subst, refl, arith, ◌∙◌, append-nil}
 use Rattle.run_model.specs.Session.{Session}
 use Rattle.run_session.specs.Logged.{Logged}
 use Rattle.console_lines.specs.declared.asked.Asked.{Asked}
@@ -8,11 +8,12 @@ use Rattle.console_lines.specs.declared.replies.Reply.{Reply}
 use Rattle.console_lines.specs.declared.replies.Reply.TheVariants as said
 use Rattle.console_lines.specs.Asked.{asked_of}
 use Rattle.console_lines.specs.Replies.{reply_line, reply_lines}
-use Rattle.console_lines.specs.Script.{after_line, closing, reply, replies_to}
+use Rattle.console_lines.specs.Script.{closing, reply, replies_to}
 use Rattle.console_lines.specs.Tallies.{tallies_of}
 use Rattle.console_lines.specs.declared.asked.Asked.TheVariants as asked
-use Rattle.run_console.specs.SessionLines.{is_tally, plain, logged_asked, logged_after}
-use Rattle.run_console.proofs.Sizes.{session_after}
+use Rattle.console_lines.specs.Progress.{kept}
+use Rattle.console_lines.proofs.Cuts.{asked_of_kept}
+use Rattle.run_console.specs.SessionLines.{IsSaving, is_tally, logged_asked, logged_after}
 
 -- What a line asks for was run.
 pub line_obeyed : (b c : Logged) (line : List ℕ) (a : Asked)
@@ -21,11 +22,6 @@ pub line_obeyed : (b c : Logged) (line : List ℕ) (a : Asked)
     → c ≡ logged_after b line
 unfolding logged_after
 line_obeyed b c line a read h = h ∙ ap (logged_asked b) read
-
-pub line_session : (b c : Logged) (line : List ℕ)
-    → c ≡ logged_after b line
-    → plain c ≡ after_line (plain b) line
-line_session b c line h = ap plain h ∙ session_after b line
 
 -- What is written for a line's replies.
 pub line_replies : (s : Session) (line : List ℕ) (a : Asked) (r : List Reply)
@@ -60,6 +56,8 @@ line_tally s line (asked.Scope name) read h = absurd (grind (arith, h))
 line_tally s line (asked.Value scope key) read h = absurd (grind (arith, h))
 line_tally s line (asked.Task n) read h = absurd (grind (arith, h))
 line_tally s line (asked.Result group) read h = absurd (grind (arith, h))
+line_tally s line asked.Flush read h = absurd (grind (arith, h))
+line_tally s line asked.Checkpoint read h = absurd (grind (arith, h))
 
 -- A tally leaves the session as it was.
 pub tally_leaves : (b : Logged) (line : List ℕ) (a : Asked)
@@ -78,6 +76,8 @@ tally_leaves b line (asked.Scope name) read h = absurd (grind (arith, h))
 tally_leaves b line (asked.Value scope key) read h = absurd (grind (arith, h))
 tally_leaves b line (asked.Task n) read h = absurd (grind (arith, h))
 tally_leaves b line (asked.Result group) read h = absurd (grind (arith, h))
+tally_leaves b line asked.Flush read h = absurd (grind (arith, h))
+tally_leaves b line asked.Checkpoint read h = absurd (grind (arith, h))
 
 -- The closing line has the count.
 pub closing_is : (s t : Session) (count : ℕ)
@@ -87,11 +87,52 @@ pub closing_is : (s t : Session) (count : ℕ)
 unfolding closing
 closing_is s t count h e = ap (λ n. reply_line (said.Acked n)) (h ∙ ap (λ x. x.state.count) e)
 
--- What two facts say of a fault.
-pub fault_both : {T E : Type 0} (r : Result T E) (P Q R : E → Type 0)
-    → ((e : E) → P e → Q e → R e)
+-- A tally is asked for.
+pub tally_asked : (line : List ℕ) (a : Asked)
+    → a ≡ asked_of line
+    → is_tally a ≡ true
+    → asked_of line ≡ asked.Tally
+tally_asked line asked.Tally read h = sym read
+tally_asked line asked.Nothing read h = absurd (grind (arith, h))
+tally_asked line asked.BadLine read h = absurd (grind (arith, h))
+tally_asked line (asked.Refused why) read h = absurd (grind (arith, h))
+tally_asked line (asked.Command call) read h = absurd (grind (arith, h))
+tally_asked line asked.Start read h = absurd (grind (arith, h))
+tally_asked line (asked.Finish n outcome) read h = absurd (grind (arith, h))
+tally_asked line (asked.Scope name) read h = absurd (grind (arith, h))
+tally_asked line (asked.Value scope key) read h = absurd (grind (arith, h))
+tally_asked line (asked.Task n) read h = absurd (grind (arith, h))
+tally_asked line (asked.Result group) read h = absurd (grind (arith, h))
+tally_asked line asked.Flush read h = absurd (grind (arith, h))
+tally_asked line asked.Checkpoint read h = absurd (grind (arith, h))
+
+-- What is known of an error, where the only fault is known.
+pub fault_known : {T E : Type 0} (r : Result T E) (why : E) (P : Type 0) (R : E → Type 0)
+    → (P → R why)
+    → IfErr r (λ e. e ≡ why)
+    → OnErr r P
+    → IfErr r R
+fault_known (Ok x) why P R then h k = tt
+fault_known (Err e) why P R then h k = subst R (sym h) (then k)
+
+-- What follows of an error from what is known of it.
+pub fault_then : {T E : Type 0} (r : Result T E) (P Q : E → Type 0)
+    → ((e : E) → P e → Q e)
     → IfErr r P
     → IfErr r Q
-    → IfErr r R
-fault_both (Ok x) P Q R both h k = tt
-fault_both (Err e) P Q R both h k = both e h k
+fault_then (Ok x) P Q then h = tt
+fault_then (Err e) P Q then h = then e h
+
+-- A line's flush or checkpoint is no tally.
+pub saves_no_tally : (line : List ℕ) (a : Asked) (X : Type 0)
+    → a ≡ asked_of line
+    → is_tally a ≡ true
+    → IsSaving (asked_of line)
+    → X
+saves_no_tally line a X read tally saving =
+    absurd (subst IsSaving (tally_asked line a read tally) saving)
+
+-- What is kept of a line asks for what the line does.
+pub same_asked : (line begun last : List ℕ) → last ≡ begun → begun ≡ kept line
+    → asked_of line ≡ asked_of last
+same_asked line begun last e k = sym (ap asked_of (e ∙ k) ∙ asked_of_kept line)

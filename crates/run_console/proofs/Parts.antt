@@ -2,151 +2,120 @@
 use Rattle.std.specs.Prelude.{◌≡◌, ◌==◌, ◌<◌, ◌≤◌, ◌+◌, false, ℕ, List, [], ◌∷◌, ◌++◌}
 use Rattle.std.specs.Prelude.{Option, length}
 use Rattle.std.specs.Io.KnownBytes.{Appends}
-use Rattle.std.proofs.Common.{refl, sym, ap, ◌∙◌, subst}
-use Rattle.run_state.proofs.Staying.{stays_same}
+use Rattle.std.proofs.Common.{sym, ap, ◌∙◌, subst}
 use Rattle.run_session.specs.Logged.{Logged}
 use Rattle.console_lines.specs.declared.lines.TheConstants.{LONGEST_LINE}
-use Rattle.console_lines.specs.Lines.{whole_lines, open_line}
-use Rattle.console_lines.specs.Script.{reply, after_line}
 use Rattle.console_lines.specs.declared.faults.RunFault.{RunFault}
-use Rattle.console_lines.specs.Progress.{WritesCut, kept}
+use Rattle.console_lines.specs.Lines.{whole_lines, open_line}
+use Rattle.console_lines.specs.Progress.{kept}
 use Rattle.console_lines.proofs.Splits.{line_ends, line_goes_on, kept_more, kept_full}
 use Rattle.console_lines.proofs.Splits.{whole_lines-append, open_line-append}
-use Rattle.console_lines.proofs.Steps.{ran_nothing, ran_to_the_end, ran_on}
-use Rattle.console_lines.proofs.Steps.{stopped_at_the_end}
-use Rattle.console_lines.proofs.Wholes.{ran_part}
-use Rattle.run_console.specs.SessionLines.{plain, logged_after, logged_after_lines}
-use Rattle.run_console.specs.SessionProgress.{Lasts, ObeysFirst, PartRan, PartStopped}
-use Rattle.run_console.proofs.Firsts.{logged_then, logged_kept, lasts_then}
-use Rattle.run_console.proofs.Firsts.{first_all, first_more, first_then}
+use Rattle.run_console.specs.Progress.{Cut, PartRan, Ran}
+use Rattle.run_console.proofs.Lines.{cut_more, cut_then, ran_nothing, ran_then}
+use Rattle.run_console.proofs.Lines.{ran_written}
 
 -- ---- one byte after another
 
 -- Nothing was read yet.
 pub part_begins :
-    (before begun : List ℕ) (b : Logged) (w : Option (List ℕ))
-    → begun ≡ kept before
-    → PartRan before [] b b begun w w
-part_begins before begun b w e = record {
-  ran = ran_nothing (plain b) w;
-  logged = refl;
-  lasts = stays_same b.state;
-  begun_is = e;
-}
+    (begun tail g : List ℕ) (b : Logged) (w : Option (List ℕ))
+    → tail ≡ kept begun
+    → PartRan begun [] b b tail g g w w
+part_begins begun tail g b w e = record { ran = ran_nothing b g w; tail_is = e }
 
--- What a line made of a session.
-pub record LineRan (line : List ℕ) (b c : Logged) : Type 0 where
-  pub session : plain c ≡ after_line (plain b) line
-  pub logged : c ≡ logged_after b line
-  pub lasts : Lasts b c
-
--- An LF runs the line that was begun, of which what is kept was read.
+-- An LF runs the line that was begun.
 pub part_ends :
-    (before part begun last more : List ℕ) (b c d : Logged) (w0 w1 w2 : Option (List ℕ))
-    → PartRan before part b c begun w0 w1
-    → last ≡ begun
-    → Appends w1 w2 (reply (plain c) last)
-    → LineRan last c d
+    (begun part more : List ℕ) (b c d : Logged) (tail f g h : List ℕ)
+    (w0 w1 w2 : Option (List ℕ))
+    → PartRan begun part b c tail f g w0 w1
+    → Ran (open_line begun part ∷ []) c d g h w1 w2
     → more ≡ []
-    → PartRan before (part ++ 10 ∷ []) b d more w0 w2
-part_ends before part begun last more b c d w0 w1 w2 so_far e written one none =
-    let line = open_line before part in
-    let P : List (List ℕ) → Type 0 = λ lines. d ≡ logged_after_lines b lines in
+    → PartRan begun (part ++ 10 ∷ []) b d more f h w0 w2
+part_ends begun part more b c d tail f g h w0 w1 w2 so_far ran none =
+    let P : List (List ℕ) → Type 0 = λ lines. Ran lines b d f h w0 w2 in
+    let both = line_ends begun part in
     record {
       ran =
-          ran_to_the_end before part last (plain b) (plain c) (plain d) w0 w1 w2
-          so_far.ran (e ∙ so_far.begun_is) written one.session;
-      logged =
-          subst P (sym (line_ends before part).0)
-          (logged_then (whole_lines before part) (line ∷ []) b c d so_far.logged
-          (logged_kept line last c d (e ∙ so_far.begun_is) one.logged));
-      lasts = lasts_then b c d so_far.lasts one.lasts;
-      begun_is = none ∙ sym (ap kept (line_ends before part).1);
+          subst P (sym both.0)
+          (ran_then (whole_lines begun part) (open_line begun part ∷ []) b c d f g h w0 w1 w2
+          so_far.ran ran);
+      tail_is = none ∙ sym (ap kept both.1);
     }
 
 -- Another byte runs nothing.
 part_on :
-    (before part begun more : List ℕ) (byte : ℕ) (b c : Logged) (w0 w1 : Option (List ℕ))
+    (begun part tail more f g : List ℕ) (byte : ℕ) (b c : Logged) (w0 w1 : Option (List ℕ))
     → (byte == 10) ≡ false
-    → PartRan before part b c begun w0 w1
-    → more ≡ kept (open_line before part ++ byte ∷ [])
-    → PartRan before (part ++ byte ∷ []) b c more w0 w1
-part_on before part begun more byte b c w0 w1 other so_far e =
-    let both = line_goes_on before part byte other in
-    let P : List (List ℕ) → Type 0 = λ lines. c ≡ logged_after_lines b lines in
+    → PartRan begun part b c tail f g w0 w1
+    → more ≡ kept (open_line begun part ++ byte ∷ [])
+    → PartRan begun (part ++ byte ∷ []) b c more f g w0 w1
+part_on begun part tail more f g byte b c w0 w1 other so_far e =
+    let both = line_goes_on begun part byte other in
+    let P : List (List ℕ) → Type 0 = λ lines. Ran lines b c f g w0 w1 in
     record {
-      ran = ran_on before part byte (plain b) (plain c) w0 w1 other so_far.ran;
-      logged = subst P (sym both.0) so_far.logged;
-      lasts = so_far.lasts;
-      begun_is = e ∙ sym (ap kept both.1);
+      ran = subst P (sym both.0) so_far.ran;
+      tail_is = e ∙ sym (ap kept both.1);
     }
 
 -- Another byte is kept, while there is room.
 pub part_more :
-    (before part begun more : List ℕ) (byte : ℕ) (b c : Logged) (w0 w1 : Option (List ℕ))
+    (begun part tail more f g : List ℕ) (byte : ℕ) (b c : Logged) (w0 w1 : Option (List ℕ))
     → (byte == 10) ≡ false
-    → PartRan before part b c begun w0 w1
-    → length begun < LONGEST_LINE + 1
-    → more ≡ begun ++ byte ∷ []
-    → PartRan before (part ++ byte ∷ []) b c more w0 w1
-part_more before part begun more byte b c w0 w1 other so_far room e =
-    part_on before part begun more byte b c w0 w1 other so_far
-    (e ∙ kept_more begun (open_line before part) byte so_far.begun_is room)
+    → PartRan begun part b c tail f g w0 w1
+    → length tail < LONGEST_LINE + 1
+    → more ≡ tail ++ byte ∷ []
+    → PartRan begun (part ++ byte ∷ []) b c more f g w0 w1
+part_more begun part tail more f g byte b c w0 w1 other so_far room e =
+    part_on begun part tail more f g byte b c w0 w1 other so_far
+    (e ∙ kept_more tail (open_line begun part) byte so_far.tail_is room)
 
 -- Another byte is left, once there is none.
 pub part_full :
-    (before part begun : List ℕ) (byte : ℕ) (b c : Logged) (w0 w1 : Option (List ℕ))
+    (begun part tail f g : List ℕ) (byte : ℕ) (b c : Logged) (w0 w1 : Option (List ℕ))
     → (byte == 10) ≡ false
-    → PartRan before part b c begun w0 w1
-    → LONGEST_LINE + 1 ≤ length begun
-    → PartRan before (part ++ byte ∷ []) b c begun w0 w1
-part_full before part begun byte b c w0 w1 other so_far full =
-    part_on before part begun begun byte b c w0 w1 other so_far
-    (kept_full begun (open_line before part) byte so_far.begun_is full)
+    → PartRan begun part b c tail f g w0 w1
+    → LONGEST_LINE + 1 ≤ length tail
+    → PartRan begun (part ++ byte ∷ []) b c tail f g w0 w1
+part_full begun part tail f g byte b c w0 w1 other so_far full =
+    part_on begun part tail tail f g byte b c w0 w1 other so_far
+    (kept_full tail (open_line begun part) byte so_far.tail_is full)
 
--- An LF whose line stops, whatever bytes are behind it.
-pub part_stops :
-    (fault : RunFault) (before part begun last more : List ℕ) (b c d : Logged)
+-- The next line is cut, whatever bytes are behind its LF.
+pub part_cut :
+    (why : RunFault) (begun all part more : List ℕ) (b c d : Logged) (tail f g : List ℕ)
     (w0 w1 w2 : Option (List ℕ))
-    → PartRan before part b c begun w0 w1
-    → last ≡ begun
-    → WritesCut fault w1 w2 (reply (plain c) last)
-    → LineRan last c d
-    → PartStopped fault before (part ++ 10 ∷ more) b d w0 w2
-part_stops fault before part begun last more b c d w0 w1 w2 so_far e cut one =
-    let line = open_line before part in
-    let behind = whole_lines [] more in
-    let P : List (List ℕ) → Type 0 = λ lines. ObeysFirst lines b d in
-    let stops : ObeysFirst (line ∷ behind) c d =
-    first_more (line ∷ []) behind c d
-    (first_all (line ∷ []) c d (logged_kept line last c d (e ∙ so_far.begun_is) one.logged)) in
-    record {
-      stopped =
-          stopped_at_the_end fault before part last more (plain b) (plain c)
-          (plain d) w0 w1 w2 so_far.ran (e ∙ so_far.begun_is) (cut, one.session);
-      obeyed =
-          subst P (sym (whole_lines-append before part (10 ∷ more)))
-          (first_then (whole_lines before part) (line ∷ behind) b c d so_far.logged stops);
-      lasts = lasts_then b c d so_far.lasts one.lasts;
-    }
+    → all ≡ (part ++ 10 ∷ []) ++ more
+    → PartRan begun part b c tail f g w0 w1
+    → Cut why (open_line begun part ∷ []) c d g w1 w2
+    → Cut why (whole_lines begun all) b d f w0 w2
+part_cut why begun all part more b c d tail f g w0 w1 w2 e so_far cut =
+    let P : List (List ℕ) → Type 0 = λ lines. Cut why lines b d f w0 w2 in
+    let first = whole_lines begun part ++ open_line begun part ∷ [] in
+    let behind = whole_lines (open_line begun (part ++ 10 ∷ [])) more in
+    let lines : whole_lines begun all ≡ first ++ behind =
+    ap (whole_lines begun) e ∙ whole_lines-append begun (part ++ 10 ∷ []) more
+    ∙ ap (λ l. l ++ behind) (line_ends begun part).0 in
+    subst P (sym lines)
+    (cut_more why first behind b d f w0 w2
+    (cut_then why (whole_lines begun part) (open_line begun part ∷ []) b c d f g w0 w1 w2
+    so_far.ran cut))
 
 -- ---- one part after another
 
--- Two parts were run.
+-- Two parts were run, and all that was gathered is written.
 pub part_then :
-    (before xs ys begun more : List ℕ) (b c d : Logged) (w0 w1 w2 : Option (List ℕ))
-    → PartRan before xs b c begun w0 w1
-    → PartRan (open_line before xs) ys c d more w1 w2
-    → PartRan before (xs ++ ys) b d more w0 w2
-part_then before xs ys begun more b c d w0 w1 w2 h k =
-    let P : List (List ℕ) → Type 0 = λ lines. d ≡ logged_after_lines b lines in
+    (begun xs ys tail more g : List ℕ) (b c d : Logged) (w0 w1 w2 w3 : Option (List ℕ))
+    → PartRan begun xs b c tail [] [] w0 w1
+    → PartRan (open_line begun xs) ys c d more [] g w1 w2
+    → Appends w2 w3 g
+    → PartRan begun (xs ++ ys) b d more [] [] w0 w3
+part_then begun xs ys tail more g b c d w0 w1 w2 w3 h k all =
+    let P : List (List ℕ) → Type 0 = λ lines. Ran lines b d [] [] w0 w3 in
     record {
       ran =
-          ran_part before xs ys (plain b) (plain c) (plain d) w0 w1 w2 h.ran k.ran;
-      logged =
-          subst P (sym (whole_lines-append before xs ys))
-          (logged_then (whole_lines before xs) (whole_lines (open_line before xs) ys) b c d
-          h.logged k.logged);
-      lasts = lasts_then b c d h.lasts k.lasts;
-      begun_is = k.begun_is ∙ sym (ap kept (open_line-append before xs ys));
+          subst P (sym (whole_lines-append begun xs ys))
+          (ran_then (whole_lines begun xs) (whole_lines (open_line begun xs) ys) b c d [] [] []
+          w0 w1 w3 h.ran
+          (ran_written (whole_lines (open_line begun xs) ys) c d [] g w1 w2 w3 k.ran all));
+      tail_is = k.tail_is ∙ sym (ap kept (open_line-append begun xs ys));
     }

@@ -1,24 +1,26 @@
--- A whole input over a session: what was read of it, and what its lines made of the session.
+-- A whole input: what was read of it, and how its run ended.
 use Rattle.std.specs.Prelude.{◌≡◌, ◌≤◌, ◌+◌, ◌-◌, min, ℕ, List, [], ◌∷◌, ◌++◌}
 use Rattle.std.specs.Prelude.{Option, length, take}
-use Rattle.std.specs.Io.KnownBytes.{Appends, Consumes, IsAtEnd, Keeps}
-use Rattle.std.proofs.Common.{inl, arith, sym, subst, append-nil, length-append}
+use Rattle.std.specs.Io.KnownBytes.{Appends, Consumes, IsAtEnd}
+use Rattle.std.proofs.Common.{arith, refl, sym, ap, ◌∙◌, subst, append_assoc, append-nil}
+use Rattle.std.proofs.Common.{length-append}
 use Rattle.std.proofs.lemmas.List.{length-take, length-take-le}
+use Rattle.run_model.specs.Session.{Session}
 use Rattle.run_session.specs.Logged.{Logged}
 use Rattle.console_lines.specs.declared.lines.TheConstants.{LONGEST_INPUT}
 use Rattle.console_lines.specs.declared.faults.RunFault.{RunFault}
-use Rattle.console_lines.specs.declared.faults.RunFault.TheVariants.{Input, InputTooLong}
+use Rattle.console_lines.specs.declared.faults.RunFault.TheVariants as fault
 use Rattle.console_lines.specs.Lines.{whole_lines, open_line, lines_of}
-use Rattle.console_lines.specs.Progress.{EndStops, IsOfLine, RunStops}
-use Rattle.console_lines.specs.Script.{after_line, closing, reply}
-use Rattle.console_lines.proofs.LawLemmas.{stops_begin}
+use Rattle.console_lines.specs.Script.{after_lines, closing, replies, script}
+use Rattle.console_lines.specs.Progress.{WritesPart}
 use Rattle.console_lines.proofs.Splits.{whole_lines-append}
-use Rattle.console_lines.proofs.Wholes.{runs_all, stops_at_the_end, stops_in_a_part}
-use Rattle.console_lines.proofs.Written.{consumes_kept, consumes_then}
-use Rattle.run_console.specs.SessionLines.{logged_after, logged_after_lines, plain}
-use Rattle.run_console.specs.SessionProgress.{SessionReadsAll, ObeysAll, ObeysFirst, ObeysSome}
-use Rattle.run_console.specs.SessionProgress.{PartRan, PartStopped}
-use Rattle.run_console.proofs.Firsts.{logged_then, logged_kept, first_all, first_more, first_then}
+use Rattle.console_lines.proofs.Written.{appends_then, consumes_then}
+use Rattle.run_console.specs.SessionLines.{plain, logged_after_lines}
+use Rattle.run_console.specs.Progress.{Cut, EndStops, IsOfLine, IsReached, IsRunStopped, IsStopped}
+use Rattle.run_console.specs.Progress.{IsWritten, PartRan, Ran, ReadsAll, RunStops, RunsAll, Told}
+use Rattle.run_console.specs.Progress.{WritesTrouble, Wrote, said_of, untried}
+use Rattle.run_console.proofs.Lines.{cut_then, part_behind, part_more, plain_lines}
+use Rattle.run_console.proofs.Lines.{ran_then, trouble_behind}
 
 -- ---- what is read
 
@@ -43,151 +45,297 @@ part_read bytes room old n most total part h few long is within =
 
 -- The input was read to its end.
 pub reads_all :
-    (bytes begun : List ℕ) (b c : Logged) (r0 r1 r2 w0 w1 : Option (List ℕ))
+    (bytes tail : List ℕ) (b c : Logged) (r0 r1 r2 w0 w1 : Option (List ℕ))
     → Consumes r0 r1 bytes
     → Consumes r1 r2 []
     → IsAtEnd r2
     → length bytes ≤ LONGEST_INPUT
-    → PartRan [] bytes b c begun w0 w1
-    → SessionReadsAll b c begun r0 r2 w0 w1
-reads_all bytes begun b c r0 r1 r2 w0 w1 read none ended within ran =
+    → PartRan [] bytes b c tail [] [] w0 w1
+    → ReadsAll b c tail r0 r2 w0 w1
+reads_all bytes tail b c r0 r1 r2 w0 w1 read none ended within part =
     let P : List ℕ → Type 0 = λ x. Consumes r0 r2 x in
     record {
-      reads = record {
-        bytes = bytes;
-        read = subst P (append-nil bytes) (consumes_then r0 r1 r2 bytes [] read none);
-        ended = ended;
-        within = within;
-        ran = ran.ran;
-        begun_is = ran.begun_is;
-      };
-      logged = ran.logged;
-      lasts = ran.lasts;
+      bytes = bytes;
+      read = subst P (append-nil bytes) (consumes_then r0 r1 r2 bytes [] read none);
+      ended = ended;
+      within = within;
+      part = part;
     }
 
--- ---- what was run
+-- ---- a run that stops
 
--- The lines that an LF ends are the first ones of the input.
-whole_first : (bytes : List ℕ) (b c : Logged)
-    → ObeysFirst (whole_lines [] bytes) b c
-    → ObeysFirst (lines_of bytes) b c
-whole_first bytes b c h = first_more (whole_lines [] bytes) (open_line [] bytes ∷ []) b c h
+-- A line behind is left.
+left_over : (xs : List (List ℕ)) (y : List ℕ) (X : Type 0) → xs ++ y ∷ [] ≡ [] → X
+left_over [] y X e = absurd (omega (arith, ap length e))
+left_over (x ∷ xs) y X e = absurd (omega (arith, ap length e))
 
--- What a fault left, by what stopped and by the lines that were run.
-obeys_some :
-    (fault : RunFault) (b c : Logged) (r0 r1 w0 w1 : Option (List ℕ))
-    → (stops : RunStops fault (plain b) (plain c) r0 r1 w0 w1)
-    → ObeysFirst (lines_of stops.bytes) b c
-    → ObeysSome fault b c r0 r1 w0 w1
-obeys_some fault b c r0 r1 w0 w1 stops obeyed = record {
-  stops = stops;
-  begins = stops_begin fault (plain b) (plain c) r0 r1 w0 w1 stops;
-  obeyed = obeyed;
-}
-
-abbrev IsTooLong : RunFault → Type 0
-IsTooLong InputTooLong = Unit {0}
-IsTooLong _ = ⊥
-
--- A read failed, and gave nothing: the lines that an LF ends were run.
-pub obeys_unread :
-    (bytes begun : List ℕ) (b c : Logged) (r0 r1 r2 w0 w1 : Option (List ℕ))
+-- A fault of reading, behind all lines that an LF ended.
+pub stops_reading :
+    (why : RunFault) (bytes tail : List ℕ) (b c : Logged) (r0 r1 w0 w1 : Option (List ℕ))
     → Consumes r0 r1 bytes
-    → Keeps r1 r2
-    → length bytes ≤ LONGEST_INPUT
-    → PartRan [] bytes b c begun w0 w1
-    → ObeysSome Input b c r0 r2 w0 w1
-obeys_unread bytes begun b c r0 r1 r2 w0 w1 read none within ran =
-    let P : List ℕ → Type 0 = λ x. Consumes r0 r2 x in
-    let both = consumes_then r0 r1 r2 bytes [] read (consumes_kept r1 r2 none) in
-    obeys_some Input b c r0 r2 w0 w1
-    (record {
-      bytes = bytes;
-      read = subst P (append-nil bytes) both;
-      within = omega (arith, within);
-      long = λ e. absurd (subst IsTooLong (sym e) tt);
-      short = λ e. within;
-      stopped = inl (tt, ran.ran);
-    })
-    (whole_first bytes b c (first_all (whole_lines [] bytes) b c ran.logged))
-
--- The input is too long: the lines that an LF ends were run.
-pub obeys_too_long :
-    (bytes begun : List ℕ) (b c : Logged) (r0 r1 w0 w1 : Option (List ℕ))
-    → Consumes r0 r1 bytes
-    → length bytes ≡ LONGEST_INPUT + 1
-    → PartRan [] bytes b c begun w0 w1
-    → ObeysSome InputTooLong b c r0 r1 w0 w1
-obeys_too_long bytes begun b c r0 r1 w0 w1 read long ran =
-    obeys_some InputTooLong b c r0 r1 w0 w1
-    (record {
+    → PartRan [] bytes b c tail [] [] w0 w1
+    → IsReached why bytes (whole_lines [] bytes)
+    → ((left : List (List ℕ)) → untried why left ≡ left)
+    → ((left : List (List ℕ)) → IsRunStopped why left)
+    → (Appends w0 w1 (replies (plain b) (whole_lines [] bytes))
+    → IsWritten why (plain b) (whole_lines [] bytes) (open_line [] bytes ∷ []) w0 w1)
+    → RunStops why b c r0 r1 w0 w1
+stops_reading why bytes tail b c r0 r1 w0 w1 read part reached all_left stopped written =
+    let P : List ℕ → Type 0 = λ x. Appends w0 w1 x in
+    let ran = part.ran in
+    let left = open_line [] bytes ∷ [] in
+    record {
       bytes = bytes;
       read = read;
-      within = omega (arith, long);
-      long = λ e. long;
-      short = λ e. absurd (subst IsTooLong e tt);
-      stopped = inl (tt, ran.ran);
-    })
-    (whole_first bytes b c (first_all (whole_lines [] bytes) b c ran.logged))
+      ran = whole_lines [] bytes;
+      left = left;
+      lines_are = refl;
+      ended = λ e. left_over [] (open_line [] bytes) _ (sym (all_left left) ∙ e);
+      stopped = stopped left;
+      reached = reached;
+      session = ran.session;
+      written = written (subst P (sym (ran.replied ∙ append-nil ran.out)) ran.written);
+    }
 
--- A line in the next part stopped.
-pub obeys_in_a_part :
-    (fault : RunFault) (bytes part begun : List ℕ) (b c d : Logged)
+-- What is said before lines that are left.
+said_before : (s : Session) (ran left : List (List ℕ)) (y : List ℕ)
+    → said_of s ran (left ++ y ∷ []) ≡ replies s ran
+said_before s ran [] y = refl
+said_before s ran (x ∷ left) y = refl
+
+written_before :
+    (why : RunFault) (s : Session) (ran left : List (List ℕ)) (y : List ℕ)
+    (w0 w1 : Option (List ℕ))
+    → Wrote why (replies s ran) w0 w1
+    → IsWritten why s ran (left ++ y ∷ []) w0 w1
+written_before fault.Output s ran left y w0 w1 h =
+    let P : List ℕ → Type 0 = λ x. WritesPart w0 w1 x in
+    subst P (sym (said_before s ran left y)) h
+written_before (fault.Store why) s ran left y w0 w1 h = h
+written_before fault.Memory s ran left y w0 w1 h = h
+written_before fault.Input s ran left y w0 w1 h = h
+written_before fault.InputTooLong s ran left y w0 w1 h = h
+
+reached_in : (why : RunFault) (bytes : List ℕ) (ran : List (List ℕ))
+    → IsOfLine why
+    → length bytes ≤ LONGEST_INPUT + 1
+    → IsReached why bytes ran
+reached_in fault.Output bytes ran f h = h
+reached_in (fault.Store why) bytes ran f h = h
+reached_in fault.Memory bytes ran f h = h
+reached_in fault.Input bytes ran f h = absurd f
+reached_in fault.InputTooLong bytes ran f h = absurd f
+
+-- A line that stopped, with lines behind, stops a run.
+run_stopped : (why : RunFault) (left : List (List ℕ)) (y : List ℕ)
+    → IsStopped why left → IsRunStopped why (left ++ y ∷ [])
+run_stopped (fault.Store why) [] y h = absurd h
+run_stopped (fault.Store why) (line ∷ left) y h = h
+run_stopped fault.Memory [] y h = absurd h
+run_stopped fault.Memory (line ∷ left) y h = h
+run_stopped fault.Input left y h = tt
+run_stopped fault.InputTooLong left y h = tt
+run_stopped fault.Output left y h = tt
+
+-- A line that was not tried is behind.
+untried_more : (why : RunFault) (left : List (List ℕ)) (y : List ℕ) (X : Type 0)
+    → IsStopped why left → untried why (left ++ y ∷ []) ≡ [] → X
+untried_more (fault.Store why) [] y X h e = absurd h
+untried_more (fault.Store why) (line ∷ left) y X h e = left_over left y X e
+untried_more fault.Memory [] y X h e = absurd h
+untried_more fault.Memory (line ∷ left) y X h e = left_over left y X e
+untried_more fault.Input left y X h e = left_over left y X e
+untried_more fault.InputTooLong left y X h e = left_over left y X e
+untried_more fault.Output left y X h e = left_over left y X e
+
+-- A line stopped behind some part of the input.
+pub stops_in_a_part :
+    (why : RunFault) (bytes part tail : List ℕ) (b c d : Logged)
     (r0 r1 r2 w0 w1 w2 : Option (List ℕ))
-    → IsOfLine fault
+    → IsOfLine why
     → Consumes r0 r1 bytes
     → Consumes r1 r2 part
     → length (bytes ++ part) ≤ LONGEST_INPUT + 1
-    → PartRan [] bytes b c begun w0 w1
-    → PartStopped fault (open_line [] bytes) part c d w1 w2
-    → ObeysSome fault b d r0 r2 w0 w2
-obeys_in_a_part fault bytes part begun b c d r0 r1 r2 w0 w1 w2 f read more few ran stops =
-    let P : List (List ℕ) → Type 0 = λ lines. ObeysFirst lines b d in
-    let first = whole_lines [] bytes in
-    let then = whole_lines (open_line [] bytes) part in
-    obeys_some fault b d r0 r2 w0 w2
-    (stops_in_a_part fault bytes part (plain b) (plain c) (plain d) r0 r1 r2 w0 w1 w2 f read more
-    few ran.ran stops.stopped)
-    (whole_first (bytes ++ part) b d
-    (subst P (sym (whole_lines-append [] bytes part))
-    (first_then first then b c d ran.logged stops.obeyed)))
+    → PartRan [] bytes b c tail [] [] w0 w1
+    → Cut why (whole_lines (open_line [] bytes) part) c d [] w1 w2
+    → RunStops why b d r0 r2 w0 w2
+stops_in_a_part why bytes part tail b c d r0 r1 r2 w0 w1 w2 f read more few so_far cut =
+    let all = bytes ++ part in
+    let behind = whole_lines (open_line [] bytes) part in
+    let last = open_line [] all in
+    let s = plain b in
+    let whole =
+    cut_then why (whole_lines [] bytes) behind b c d [] [] w0 w1 w2 so_far.ran cut in
+    record {
+      bytes = all;
+      read = consumes_then r0 r1 r2 bytes part read more;
+      ran = whole.ran;
+      left = whole.left ++ last ∷ [];
+      lines_are =
+          ap (λ x. x ++ last ∷ []) (whole_lines-append [] bytes part ∙ whole.lines_are)
+          ∙ append_assoc whole.ran whole.left (last ∷ []);
+      ended = untried_more why whole.left last _ whole.stopped;
+      stopped = run_stopped why whole.left last whole.stopped;
+      reached = reached_in why all whole.ran f few;
+      session = whole.session;
+      written = written_before why s whole.ran whole.left last w0 w2 whole.written;
+    }
 
--- The session after all lines, by what is kept of the last one.
-all_logged :
-    (b c d : Logged) (begun : List ℕ) (r0 r1 w0 w1 : Option (List ℕ))
-    → (all : SessionReadsAll b c begun r0 r1 w0 w1)
-    → d ≡ logged_after c begun
-    → d ≡ logged_after_lines b (lines_of all.reads.bytes)
-all_logged b c d begun r0 r1 w0 w1 all h =
-    let bytes = all.reads.bytes in
-    let line = open_line [] bytes in
-    logged_then (whole_lines [] bytes) (line ∷ []) b c d all.logged
-    (logged_kept line begun c d all.reads.begun_is h)
+-- ---- the end of the input
 
--- The input was read to its end, and its last line was run.
-pub obeys_all :
-    (b c d : Logged) (begun : List ℕ) (r0 r1 w0 w1 w2 : Option (List ℕ))
-    → SessionReadsAll b c begun r0 r1 w0 w1
-    → Appends w1 w2 (reply (plain c) begun ++ closing (after_line (plain c) begun))
-    → plain d ≡ after_line (plain c) begun
-    → d ≡ logged_after c begun
-    → ObeysAll b d r0 r1 w0 w2
-obeys_all b c d begun r0 r1 w0 w1 w2 all written state logged = record {
-  runs =
-      runs_all (plain b) (plain c) (plain d) begun r0 r1 w0 w1 w2 all.reads written state;
-  logged = all_logged b c d begun r0 r1 w0 w1 all logged;
-}
+-- All lines were run.
+pub all_ran :
+    (b c d : Logged) (tail g : List ℕ) (r0 r1 w0 w1 w2 : Option (List ℕ))
+    → (reads : ReadsAll b c tail r0 r1 w0 w1)
+    → Ran (open_line [] reads.bytes ∷ []) c d [] g w1 w2
+    → Ran (lines_of reads.bytes) b d [] g w0 w2
+all_ran b c d tail g r0 r1 w0 w1 w2 reads last =
+    ran_then (whole_lines [] reads.bytes) (open_line [] reads.bytes ∷ []) b c d [] [] g w0 w1 w2
+    reads.part.ran last
 
--- The input was read to its end, and the last line or the closing line stopped.
-pub obeys_to_the_end :
-    (fault : RunFault) (b c d : Logged) (begun : List ℕ) (r0 r1 w0 w1 w2 : Option (List ℕ))
-    → IsOfLine fault
-    → SessionReadsAll b c begun r0 r1 w0 w1
-    → EndStops fault begun (plain c) (plain d) w1 w2
-    → d ≡ logged_after c begun
-    → ObeysSome fault b d r0 r1 w0 w2
-obeys_to_the_end fault b c d begun r0 r1 w0 w1 w2 f all stops logged =
-    obeys_some fault b d r0 r1 w0 w2
-    (stops_at_the_end fault (plain b) (plain c) (plain d) begun r0 r1 w0 w1 w2 f all.reads stops)
-    (first_all (lines_of all.reads.bytes) b d
-    (all_logged b c d begun r0 r1 w0 w1 all logged))
+-- The closing line is the script's.
+script_is : (b d : Logged) (bytes : List ℕ)
+    → d ≡ logged_after_lines b (lines_of bytes)
+    → script (plain b) bytes ≡ replies (plain b) (lines_of bytes) ++ closing (plain d)
+script_is b d bytes h =
+    ap (λ s. replies (plain b) (lines_of bytes) ++ closing s)
+    (sym (ap plain h ∙ plain_lines b (lines_of bytes)))
+
+-- The closing line was written behind them.
+pub runs_all :
+    (b c d e : Logged) (tail g : List ℕ) (r0 r1 w0 w1 w2 w3 : Option (List ℕ))
+    → (reads : ReadsAll b c tail r0 r1 w0 w1)
+    → Ran (open_line [] reads.bytes ∷ []) c d [] g w1 w2
+    → e ≡ d
+    → Told (closing (plain d)) g [] w2 w3
+    → RunsAll b e r0 r1 w0 w3
+runs_all b c d e tail g r0 r1 w0 w1 w2 w3 reads last same told =
+    let bytes = reads.bytes in
+    let ran = all_ran b c d tail g r0 r1 w0 w1 w2 reads last in
+    let end = closing (plain d) in
+    let P : List ℕ → Type 0 = λ x. Appends w0 w3 x in
+    let text : script (plain b) bytes ≡ ran.out ++ told.out =
+    script_is b d bytes ran.session
+    ∙ ap (λ x. x ++ end) ran.replied
+    ∙ append_assoc ran.out g end
+    ∙ ap (λ x. ran.out ++ x) (told.told ∙ append-nil told.out) in
+    record {
+      bytes = bytes;
+      read = reads.read;
+      ended = reads.ended;
+      within = reads.within;
+      session = same ∙ ran.session;
+      written =
+          subst P (sym text) (appends_then w0 w2 w3 ran.out told.out ran.written told.written);
+    }
+
+-- The last line stopped.
+pub stops_in_the_last :
+    (why : RunFault) (b c d : Logged) (tail : List ℕ) (r0 r1 w0 w1 w2 : Option (List ℕ))
+    → IsOfLine why
+    → (reads : ReadsAll b c tail r0 r1 w0 w1)
+    → Cut why (open_line [] reads.bytes ∷ []) c d [] w1 w2
+    → RunStops why b d r0 r1 w0 w2
+stops_in_the_last why b c d tail r0 r1 w0 w1 w2 f reads cut =
+    let bytes = reads.bytes in
+    let last = open_line [] bytes in
+    let whole =
+    cut_then why (whole_lines [] bytes) (last ∷ []) b c d [] [] w0 w1 w2 reads.part.ran cut in
+    record {
+      bytes = bytes;
+      read = reads.read;
+      ran = whole.ran;
+      left = whole.left;
+      lines_are = whole.lines_are;
+      ended = λ _. reads.ended;
+      stopped = stopped_so why whole.left whole.stopped;
+      reached = reached_in why bytes whole.ran f (omega (arith, reads.within));
+      session = whole.session;
+      written = written_so why (plain b) whole.ran whole.left w0 w2 whole.written;
+    }
+  where
+    stopped_so : (why : RunFault) (left : List (List ℕ)) → IsStopped why left
+        → IsRunStopped why left
+    stopped_so (fault.Store why) [] h = tt
+    stopped_so (fault.Store why) (line ∷ left) h = h
+    stopped_so fault.Memory [] h = h
+    stopped_so fault.Memory (line ∷ left) h = h
+    stopped_so fault.Input left h = tt
+    stopped_so fault.InputTooLong left h = tt
+    stopped_so fault.Output left h = tt
+
+    more_said : (s : Session) (ran left : List (List ℕ)) (w0 w1 : Option (List ℕ))
+        → WritesPart w0 w1 (replies s ran) → WritesPart w0 w1 (said_of s ran left)
+    more_said s ran [] w0 w1 h = part_more (replies s ran) (closing (after_lines s ran)) w0 w1 h
+    more_said s ran (line ∷ left) w0 w1 h = h
+
+    written_so : (why : RunFault) (s : Session) (ran left : List (List ℕ))
+        (w0 w1 : Option (List ℕ))
+        → Wrote why (replies s ran) w0 w1 → IsWritten why s ran left w0 w1
+    written_so fault.Output s ran left w0 w1 h = more_said s ran left w0 w1 h
+    written_so (fault.Store why) s ran left w0 w1 h = h
+    written_so fault.Memory s ran left w0 w1 h = h
+    written_so fault.Input s ran left w0 w1 h = h
+    written_so fault.InputTooLong s ran left w0 w1 h = h
+
+-- The last flush stopped, or the writer failed behind it.
+pub stops_closing :
+    (why : RunFault) (b c d e : Logged) (tail g : List ℕ) (r0 r1 w0 w1 w2 w3 : Option (List ℕ))
+    → (reads : ReadsAll b c tail r0 r1 w0 w1)
+    → Ran (open_line [] reads.bytes ∷ []) c d [] g w1 w2
+    → e ≡ d
+    → EndStops why (closing (plain d)) g w2 w3
+    → RunStops why b e r0 r1 w0 w3
+stops_closing why b c d e tail g r0 r1 w0 w1 w2 w3 reads last same end =
+    let bytes = reads.bytes in
+    let lines = lines_of bytes in
+    let ran = all_ran b c d tail g r0 r1 w0 w1 w2 reads last in
+    record {
+      bytes = bytes;
+      read = reads.read;
+      ran = lines;
+      left = [];
+      lines_are = sym (append-nil lines);
+      ended = λ _. reads.ended;
+      stopped = stopped_end why g w2 w3 end;
+      reached = reached_end why g w2 w3 bytes lines end (omega (arith, reads.within));
+      session = same ∙ ran.session;
+      written = written_end why lines ran end;
+    }
+  where
+    stopped_end : (why : RunFault) (g : List ℕ) (w2 w3 : Option (List ℕ))
+        → EndStops why (closing (plain d)) g w2 w3 → IsRunStopped why []
+    stopped_end (fault.Store why) g w2 w3 h = tt
+    stopped_end fault.Output g w2 w3 h = tt
+    stopped_end fault.Memory g w2 w3 h = absurd h
+    stopped_end fault.Input g w2 w3 h = tt
+    stopped_end fault.InputTooLong g w2 w3 h = tt
+
+    reached_end : (why : RunFault) (g : List ℕ) (w2 w3 : Option (List ℕ)) (bytes : List ℕ)
+        (lines : List (List ℕ))
+        → EndStops why (closing (plain d)) g w2 w3
+        → length bytes ≤ LONGEST_INPUT + 1 → IsReached why bytes lines
+    reached_end (fault.Store why) g w2 w3 bytes lines h few = few
+    reached_end fault.Output g w2 w3 bytes lines h few = few
+    reached_end fault.Memory g w2 w3 bytes lines h few = few
+    reached_end fault.Input g w2 w3 bytes lines h few = absurd h
+    reached_end fault.InputTooLong g w2 w3 bytes lines h few = absurd h
+
+    written_end : (why : RunFault) (lines : List (List ℕ)) (ran : Ran lines b d [] g w0 w2)
+        → EndStops why (closing (plain d)) g w2 w3
+        → IsWritten why (plain b) lines [] w0 w3
+    written_end fault.Output lines ran h =
+        let P : List ℕ → Type 0 = λ x. WritesPart w0 w3 x in
+        let s = plain b in
+        let end = closing (plain d) in
+        let text : said_of s lines [] ≡ ran.out ++ (g ++ end) =
+        ap (λ t. replies s lines ++ closing t) (sym (ap plain ran.session ∙ plain_lines b lines))
+        ∙ ap (λ x. x ++ end) ran.replied
+        ∙ append_assoc ran.out g end in
+        subst P (sym text) (part_behind ran.out (g ++ end) w0 w2 w3 ran.written h)
+    written_end (fault.Store why) lines ran h =
+        let P : List ℕ → Type 0 = λ x. WritesTrouble why x w0 w3 in
+        subst P (sym ran.replied) (trouble_behind why ran.out g w0 w2 w3 ran.written h)
+    written_end fault.Memory lines ran h = absurd h
+    written_end fault.Input lines ran h = absurd h
+    written_end fault.InputTooLong lines ran h = absurd h

@@ -1,2 +1,4 @@
+pub mod Inspecting
+pub mod Progress
 pub mod SessionLines
-pub mod SessionProgress
+pub mod Troubles

@@ -26,6 +26,12 @@ abbrev pub logged_after_lines : Logged → List (List ℕ) → Logged
 logged_after_lines s [] = s
 logged_after_lines s (line ∷ lines) = logged_after_lines (logged_after s line) lines
 
+-- A flush or a checkpoint is asked for.
+abbrev pub IsSaving : Asked → Type 0
+IsSaving asked.Flush = Unit {0}
+IsSaving asked.Checkpoint = Unit {0}
+IsSaving _ = ⊥
+
 -- ---- for private functions: no public contract cites what follows
 
 -- A tally, whose replies are as many as there are jobs.

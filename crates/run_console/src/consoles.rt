@@ -1,107 +1,206 @@
-//! The console over a session: a line is run and replied to, and so is each line of an input.
+//! The console over a book: a line is run and replied to, and so is each line of an input.
 
-ghost use Rattle.std.specs.Io.KnownBytes.{Appends};
-ghost use Rattle.std.specs.Prelude.{◌≡◌, ◌++◌, OnOk, IfErr};
-ghost use Rattle.console_lines.specs.Progress.{EndStops, IsOfLine, WritesCut};
-ghost use Rattle.console_lines.specs.Script.{after_line, closing, reply};
-ghost use Rattle.run_console.specs.SessionLines.{is_tally, logged_after, plain};
-ghost use Rattle.run_console.specs.SessionProgress.{Lasts, ObeysAll, ObeysSome};
+ghost use Rattle.std.specs.Prelude.{◌≡◌, ◌∷◌, [], Err, List, ℕ, true, false, OnOk, IfErr};
+ghost use Rattle.book_model.specs.Holdings.{CarriesOn};
+ghost use Rattle.run_book.specs.Views.{holding};
+ghost use Rattle.run_model.specs.declared.faults.Trouble.TheVariants.{Refused};
+ghost use Rattle.run_model.specs.declared.refusals.Refusal.TheVariants.{Broken};
+ghost use Rattle.console_lines.specs.Asked.{asked_of};
+ghost use Rattle.console_lines.specs.Script.{closing};
+ghost use Rattle.run_console.specs.Progress.{BeginsScript, Cut, EndStops, IsOfLine, Lasts};
+ghost use Rattle.run_console.specs.Progress.{LineRuns, LineStops, Ran, RunStops, RunsAll, Told};
+ghost use Rattle.run_console.specs.SessionLines.{IsSaving, is_tally, plain};
+ghost use Rattle.run_console.specs.Troubles.{Accounts};
 
-use crate::answers::reply_to;
+use crate::answers::{flush, reply_to};
 use crate::inputs::{OpenLine, run_whole_lines};
-use crate::tallies::write_tally;
-use crate::writings::write_reply;
+use crate::tallies::gather_tally;
+use crate::writings::{Gathered, gather_reply, make_room, stop, write_gathered};
 use console_lines::{Asked, Reply, RunFault, read_line};
-use run_session::Session;
+use run_book::Book;
+use run_disk::RunDisk;
+use run_model::{Refusal, Trouble};
 use std::alloc::Allocator;
 use std::io::{Read, Write};
 
-/// Runs each line of the input over the session and writes its reply, and at the end of the input
-/// the closing line.
+/// Runs each line of the input over the book and writes its reply; at the end of the input it
+/// flushes, and writes the closing line.
 ///
-/// A line is run and replied to as soon as its LF is read; the last line, which no LF ends, where
-/// the end of the input is read behind it. So where a read fails (`Input`) or the input is longer
-/// than 16,777,216 bytes (`InputTooLong`), each line that an LF ended has its reply, and nothing
-/// more is written. Where a write fails or takes nothing (`Output`), or there is no memory for a
-/// reply (`Memory`), what was written is a front of what is written for the whole input, and not
-/// all of it; want of memory cuts no reply.
+/// What is replied to the lines that were read is written before more is read. So where a read
+/// fails (`Input`) or the input is longer than 16,777,216 bytes (`InputTooLong`), each line that an
+/// LF ended was run and has its reply. Where a write fails or takes nothing (`Output`), what was
+/// written is a front of the replies to the lines that were run, and some of these may have none.
+/// Where the store fails in a flush or a checkpoint (`Store`), its line is written behind the
+/// replies; where there is no memory for a tally (`Memory`), each line before it has its reply. The
+/// last line, which no LF ends, is run where the end of the input is read behind it.
 ///
-/// At most one byte more is read than an input may have. Memory is taken for what is written for
-/// one line at a time, and given back: for a tally by the number of jobs, else for one reply. At
-/// every exit the session is what the lines that were run made of it.
-///
-/// Each reply is handed to the writer whole, by one call where the writer takes all of it. The
+/// At most one byte more is read than an input may have. At every exit the session is what the
+/// lines that were run made of it, and the book carries on. Memory is taken for a tally alone. The
 /// writer isn't flushed: hand in one that keeps nothing back.
-pub fn run<A: Allocator + Copy, R: Read, W: Write, B: Allocator>(
+///
+/// A book that is broken is left as it is, and nothing is read or written.
+pub fn run<A: Allocator + Copy, R: Read, W: Write, D: RunDisk, B: Allocator>(
     alloc: A,
     input: &mut R,
     output: &mut W,
-    session: &mut Session<B>,
+    book: &mut Book<D, B>,
 ) -> Result<(), RunFault>
-    ensures all { OnOk result (ObeysAll session.old session.new
+    ensures all { OnOk result (RunsAll book.old.session book.new.session
         (R.remaining input.old) (R.remaining input.new)
         (W.contents output.old) (W.contents output.new)) }
-    ensures stops { IfErr result (λ fault. ObeysSome fault session.old session.new
+    ensures stops { book.old.journal.broken ≡ false
+        → IfErr result (λ fault. RunStops fault book.old.session book.new.session
         (R.remaining input.old) (R.remaining input.new)
         (W.contents output.old) (W.contents output.new)) }
-    ensures lasts { Lasts session.old session.new }
+    ensures begins { book.old.journal.broken ≡ false
+        → IfErr result (λ fault. BeginsScript fault book.old.session
+        (R.remaining input.old) (R.remaining input.new)
+        (W.contents output.old) (W.contents output.new)) }
+    ensures accounts { book.old.journal.broken ≡ false → IfErr result (λ fault.
+        Accounts D.state (holding book.old) fault (holding book.new)) }
+    ensures refused { book.old.journal.broken ≡ true
+        → (result ≡ Err (RunFault.Store (Refused Broken))) × (book.new ≡ book.old)
+        × (input.new ≡ input.old) × (output.new ≡ output.old) }
+    ensures saved { OnOk result (book.new.durable ≡ book.new.session.state.count) }
+    ensures lasts { Lasts book.old.session book.new.session }
+    ensures carries_on { CarriesOn D.state (holding book.old) (holding book.new) }
 {
-    let mut begun = OpenLine::new();
-    run_whole_lines(alloc, input, output, session, &mut begun)?;
-    finish(alloc, begun.as_slice(), output, session)
+    let _durable = book.durable();
+    if book.is_broken() {
+        return Err(RunFault::Store(Trouble::Refused(Refusal::Broken)));
+    }
+    run_sound(alloc, input, output, book)
 }
 
-/// Runs one line over the session, and writes its reply; an empty line has none, and a tally one
-/// for each job.
+/// Runs one line over the book, and writes its reply; an empty line has none.
 ///
-/// The line is run also where its reply can't be written (`Output`), or there is no memory for it
-/// (`Memory`). Of the reply a front is written, not all of it, and nothing where memory is wanting.
-pub fn line<A: Allocator + Copy, W: Write, B: Allocator>(
+/// The line is run also where its reply can't be written (`Output`); of the reply a front is
+/// written then, and not all of it. A flush or a checkpoint that the store doesn't take (`Store`),
+/// and a tally that there is no memory for (`Memory`), change no state.
+///
+/// A book that is broken is left as it is, and nothing is written.
+pub fn line<A: Allocator + Copy, W: Write, D: RunDisk, B: Allocator>(
     alloc: A,
     bytes: &[u8],
     output: &mut W,
-    session: &mut Session<B>,
+    book: &mut Book<D, B>,
 ) -> Result<(), RunFault>
-    ensures session { plain session.new ≡ after_line (plain session.old) bytes.now }
-    ensures replied { OnOk result (Appends (W.contents output.old) (W.contents output.new)
-        (reply (plain session.old) bytes.now)) }
-    ensures cut { IfErr result (λ fault. WritesCut fault
-        (W.contents output.old) (W.contents output.new)
-        (reply (plain session.old) bytes.now)) }
-    ensures fault { IfErr result IsOfLine }
-    ensures obeyed { session.new ≡ logged_after session.old bytes.now }
-    ensures lasts { Lasts session.old session.new }
+    ensures runs { OnOk result (LineRuns bytes.now book.old.session book.new.session
+        (W.contents output.old) (W.contents output.new)) }
+    ensures stops { book.old.journal.broken ≡ false
+        → IfErr result (λ fault. LineStops fault bytes.now book.old.session book.new.session
+        (W.contents output.old) (W.contents output.new)) }
+    ensures accounts { book.old.journal.broken ≡ false → IfErr result (λ fault.
+        Accounts D.state (holding book.old) fault (holding book.new)) }
+    ensures refused { book.old.journal.broken ≡ true
+        → (result ≡ Err (RunFault.Store (Refused Broken))) × (book.new ≡ book.old)
+        × (output.new ≡ output.old) }
+    ensures saved { IsSaving (asked_of bytes.now)
+        → OnOk result (book.new.durable ≡ book.new.session.state.count) }
+    ensures lasts { Lasts book.old.session book.new.session }
+    ensures carries_on { CarriesOn D.state (holding book.old) (holding book.new) }
 {
-    let asked = read_line(bytes);
-    if is_tally(&asked) {
-        return write_tally(alloc, session.state(), output);
+    let _durable = book.durable();
+    if book.is_broken() {
+        return Err(RunFault::Store(Trouble::Refused(Refusal::Broken)));
     }
-    match reply_to(&asked, session) {
-        Some(reply) => write_reply(alloc, &reply, output),
-        None => Ok(()),
-    }
+    let mut gathered = Gathered::new();
+    gather_line(alloc, bytes, &mut gathered, output, book)?;
+    write_gathered(&mut gathered, output)
 }
 
-/// Runs the last line, which no LF ends, and writes the closing line.
-fn finish<A: Allocator + Copy, W: Write, B: Allocator>(
+/// So it is over a book that isn't broken.
+fn run_sound<A: Allocator + Copy, R: Read, W: Write, D: RunDisk, B: Allocator>(
     alloc: A,
-    last: &[u8],
+    input: &mut R,
     output: &mut W,
-    session: &mut Session<B>,
+    book: &mut Book<D, B>,
 ) -> Result<(), RunFault>
-    ensures session { plain session.new ≡ after_line (plain session.old) last.now }
-    ensures whole { OnOk result (Appends (W.contents output.old) (W.contents output.new)
-        (reply (plain session.old) last.now
-        ++ closing (after_line (plain session.old) last.now))) }
-    ensures stops { IfErr result (λ fault. EndStops fault last.now
-        (plain session.old) (plain session.new)
+    requires sound { book.old.journal.broken ≡ false }
+    ensures all { OnOk result (RunsAll book.old.session book.new.session
+        (R.remaining input.old) (R.remaining input.new)
         (W.contents output.old) (W.contents output.new)) }
-    ensures fault { IfErr result IsOfLine }
-    ensures obeyed { session.new ≡ logged_after session.old last.now }
-    ensures lasts { Lasts session.old session.new }
+    ensures stops { IfErr result (λ fault. RunStops fault book.old.session book.new.session
+        (R.remaining input.old) (R.remaining input.new)
+        (W.contents output.old) (W.contents output.new)) }
+    ensures accounts { IfErr result (λ fault.
+        Accounts D.state (holding book.old) fault (holding book.new)) }
+    ensures saved { OnOk result (book.new.durable ≡ book.new.session.state.count) }
+    ensures lasts { Lasts book.old.session book.new.session }
+    ensures carries_on { CarriesOn D.state (holding book.old) (holding book.new) }
 {
-    line(alloc, last, output, session)?;
-    write_reply(alloc, &Reply::Acked(session.count()), output)
+    let mut tail = OpenLine::new();
+    let mut gathered = Gathered::new();
+    run_whole_lines(alloc, input, output, book, &mut tail, &mut gathered)?;
+    gather_line(alloc, tail.as_slice(), &mut gathered, output, book)?;
+    close(&mut gathered, output, book)
+}
+
+/// Flushes, and writes what was gathered and the closing line.
+fn close<W: Write, D: RunDisk, B: Allocator>(
+    gathered: &mut Gathered,
+    output: &mut W,
+    book: &mut Book<D, B>,
+) -> Result<(), RunFault>
+    requires sound { book.old.journal.broken ≡ false }
+    ensures whole { OnOk result (Told (closing (plain book.old.session)) gathered.old.items []
+        (W.contents output.old) (W.contents output.new)) }
+    ensures stops { IfErr result (λ fault. EndStops fault
+        (closing (plain book.old.session)) gathered.old.items
+        (W.contents output.old) (W.contents output.new)) }
+    ensures session { book.new.session ≡ book.old.session }
+    ensures accounts { IfErr result (λ fault.
+        Accounts D.state (holding book.old) fault (holding book.new)) }
+    ensures saved { OnOk result (book.new.durable ≡ book.new.session.state.count) }
+    ensures lasts { Lasts book.old.session book.new.session }
+    ensures carries_on { CarriesOn D.state (holding book.old) (holding book.new) }
+{
+    let _durable = book.durable();
+    make_room(gathered, output)?;
+    match flush(book) {
+        Ok(count) => Reply::Acked(count).gather(gathered),
+        Err(trouble) => return Err(stop(trouble, gathered, output)),
+    }
+    write_gathered(gathered, output)
+}
+
+/// Runs one line over the book, and gathers its reply; an empty line has none. The clauses speak of
+/// each line that asks for the same, since a line that is too long is handed in without its end.
+pub fn gather_line<A: Allocator + Copy, W: Write, D: RunDisk, B: Allocator>(
+    alloc: A,
+    bytes: &[u8],
+    gathered: &mut Gathered,
+    output: &mut W,
+    book: &mut Book<D, B>,
+) -> Result<(), RunFault>
+    requires sound { book.old.journal.broken ≡ false }
+    ensures ran { (line : List ℕ) → asked_of line ≡ asked_of bytes.now
+        → OnOk result (Ran (line ∷ []) book.old.session book.new.session
+        gathered.old.items gathered.new.items
+        (W.contents output.old) (W.contents output.new)) }
+    ensures cut { (line : List ℕ) → asked_of line ≡ asked_of bytes.now
+        → IfErr result (λ fault. Cut fault (line ∷ []) book.old.session book.new.session
+        gathered.old.items (W.contents output.old) (W.contents output.new)) }
+    ensures fault { IfErr result IsOfLine }
+    ensures sound { OnOk result (book.new.journal.broken ≡ false) }
+    ensures accounts { IfErr result (λ fault.
+        Accounts D.state (holding book.old) fault (holding book.new)) }
+    ensures saved { IsSaving (asked_of bytes.now)
+        → OnOk result (book.new.durable ≡ book.new.session.state.count) }
+    ensures lasts { Lasts book.old.session book.new.session }
+    ensures carries_on { CarriesOn D.state (holding book.old) (holding book.new) }
+{
+    let _durable = book.durable();
+    let asked = read_line(bytes);
+    if is_tally(&asked) {
+        return gather_tally(alloc, book.state(), gathered, output);
+    }
+    make_room(gathered, output)?;
+    match reply_to(&asked, book) {
+        Ok(reply) => gather_reply(reply, gathered),
+        Err(trouble) => return Err(stop(trouble, gathered, output)),
+    }
+    Ok(())
 }
 
 /// Says whether a line asks for a tally.

@@ -1,18 +1,24 @@
 //! An input: it is read in parts, and the line that was begun is kept from one part to the next.
 //!
-//! Of a line no more than 257 bytes are kept, which show that it is too long.
+//! Of a line no more than 257 bytes are kept, which show that it is too long. What is replied to
+//! the lines of a part is written before the next part is read.
 
 ghost use Rattle.std.specs.Io.{ReadsAtMost};
 ghost use Rattle.std.specs.Io.KnownBytes.{ReadConsumes};
-ghost use Rattle.std.specs.Prelude.{◌≡◌, [], List, ℕ, OnOk, IfErr};
-ghost use Rattle.console_lines.specs.Progress.{IsOfLine, kept};
-ghost use Rattle.run_console.specs.SessionProgress.{SessionReadsAll, Lasts, ObeysSome};
-ghost use Rattle.run_console.specs.SessionProgress.{PartRan, PartStopped};
+ghost use Rattle.std.specs.Prelude.{◌≡◌, [], false, List, ℕ, OnOk, IfErr};
+ghost use Rattle.book_model.specs.Holdings.{CarriesOn};
+ghost use Rattle.run_book.specs.Views.{holding};
+ghost use Rattle.console_lines.specs.Lines.{whole_lines};
+ghost use Rattle.console_lines.specs.Progress.{kept};
+ghost use Rattle.run_console.specs.Progress.{Cut, IsOfLine, Lasts, PartRan, ReadsAll, RunStops};
+ghost use Rattle.run_console.specs.Troubles.{Accounts};
 
-use crate::consoles::line;
+use crate::consoles::gather_line;
+use crate::writings::{Gathered, write_gathered};
 use arrayvec::ArrayVec;
 use console_lines::{LONGEST_INPUT, LONGEST_LINE, RunFault};
-use run_session::Session;
+use run_book::Book;
+use run_disk::RunDisk;
 use std::alloc::Allocator;
 use std::io::{Read, Write};
 
@@ -25,23 +31,33 @@ const KEPT: usize = LONGEST_LINE + 1;
 /// The line that was begun.
 pub type OpenLine = ArrayVec<u8, KEPT>;
 
-/// Runs each line as soon as its LF is read, to the end of the input, and keeps the last line.
-pub fn run_whole_lines<A: Allocator + Copy, R: Read, W: Write, B: Allocator>(
+/// Runs each line that an LF ends, to the end of the input, and keeps the last line. What is
+/// replied to the lines that were read is written before more is read.
+pub fn run_whole_lines<A: Allocator + Copy, R: Read, W: Write, D: RunDisk, B: Allocator>(
     alloc: A,
     input: &mut R,
     output: &mut W,
-    session: &mut Session<B>,
-    begun: &mut OpenLine,
+    book: &mut Book<D, B>,
+    tail: &mut OpenLine,
+    gathered: &mut Gathered,
 ) -> Result<(), RunFault>
-    requires { begun.old.items ≡ [] }
-    ensures read { OnOk result (SessionReadsAll session.old session.new begun.new.items
+    requires tail { tail.old.items ≡ [] }
+    requires gathered { gathered.old.items ≡ [] }
+    requires sound { book.old.journal.broken ≡ false }
+    ensures read { OnOk result (ReadsAll book.old.session book.new.session tail.new.items
         (R.remaining input.old) (R.remaining input.new)
         (W.contents output.old) (W.contents output.new)) }
-    ensures stops { IfErr result (λ fault. ObeysSome fault session.old session.new
+    ensures stops { IfErr result (λ fault. RunStops fault book.old.session book.new.session
         (R.remaining input.old) (R.remaining input.new)
         (W.contents output.old) (W.contents output.new)) }
-    ensures lasts { Lasts session.old session.new }
+    ensures none { OnOk result (gathered.new.items ≡ []) }
+    ensures accounts { IfErr result (λ fault.
+        Accounts D.state (holding book.old) fault (holding book.new)) }
+    ensures sound { OnOk result (book.new.journal.broken ≡ false) }
+    ensures lasts { Lasts book.old.session book.new.session }
+    ensures carries_on { CarriesOn D.state (holding book.old) (holding book.new) }
 {
+    let _durable = book.durable();
     let mut room = [0u8; PART];
     let mut total = 0usize;
     while total <= LONGEST_INPUT {
@@ -51,34 +67,45 @@ pub fn run_whole_lines<A: Allocator + Copy, R: Read, W: Write, B: Allocator>(
             return Ok(());
         }
         total += count;
-        run_part(alloc, &room[..count], output, session, begun)?;
+        run_part(alloc, &room[..count], output, book, tail, gathered)?;
+        write_gathered(gathered, output)?;
     }
     Err(RunFault::InputTooLong)
 }
 
-/// Runs the lines that end in this part of the input, and keeps the line that it begins. What was
-/// begun before it is kept already.
-fn run_part<A: Allocator + Copy, W: Write, B: Allocator>(
+/// Runs the lines that end in this part of the input, gathers their replies, and keeps the line
+/// that it begins. What was begun before it is kept already.
+fn run_part<A: Allocator + Copy, W: Write, D: RunDisk, B: Allocator>(
     alloc: A,
     part: &[u8],
     output: &mut W,
-    session: &mut Session<B>,
-    begun: &mut OpenLine,
+    book: &mut Book<D, B>,
+    tail: &mut OpenLine,
+    gathered: &mut Gathered,
 ) -> Result<(), RunFault>
-    ensures ran { (before : List ℕ) → begun.old.items ≡ kept before
-        → OnOk result (PartRan before part.now session.old session.new begun.new.items
+    requires sound { book.old.journal.broken ≡ false }
+    ensures ran { (begun : List ℕ) → tail.old.items ≡ kept begun
+        → OnOk result (PartRan begun part.now book.old.session book.new.session tail.new.items
+        gathered.old.items gathered.new.items
         (W.contents output.old) (W.contents output.new)) }
-    ensures stopped { (before : List ℕ) → begun.old.items ≡ kept before
-        → IfErr result (λ fault. PartStopped fault before part.now session.old session.new
+    ensures cut { (begun : List ℕ) → tail.old.items ≡ kept begun
+        → IfErr result (λ fault. Cut fault (whole_lines begun part.now)
+        book.old.session book.new.session gathered.old.items
         (W.contents output.old) (W.contents output.new)) }
     ensures fault { IfErr result IsOfLine }
+    ensures accounts { IfErr result (λ fault.
+        Accounts D.state (holding book.old) fault (holding book.new)) }
+    ensures sound { OnOk result (book.new.journal.broken ≡ false) }
+    ensures lasts { Lasts book.old.session book.new.session }
+    ensures carries_on { CarriesOn D.state (holding book.old) (holding book.new) }
 {
+    let _durable = book.durable();
     for byte in part {
         if *byte == b'\n' {
-            line(alloc, begun.as_slice(), output, session)?;
-            begun.clear();
-        } else if !begun.is_full() {
-            begun.push(*byte);
+            gather_line(alloc, tail.as_slice(), gathered, output, book)?;
+            tail.clear();
+        } else if !tail.is_full() {
+            tail.push(*byte);
         }
     }
     Ok(())

@@ -1,4 +1,4 @@
-//! The console: it reads lines, runs each over a session, and writes its reply.
+//! The console: it reads lines, runs each over a book, and writes its reply.
 //!
 //! [`run`] runs a whole input, and [`line`] one line. What is written for a whole input is its
 //! script, as `console_lines` defines it.
@@ -7,9 +7,12 @@
 mod answers;
 mod consoles;
 mod inputs;
+mod inspects;
 mod tallies;
 mod writings;
 
 pub use console_lines::RunFault;
 pub use consoles::{line, run};
-pub use run_session::Session;
+pub use inspects::inspect;
+pub use run_book::Book;
+pub use writings::write_whole;

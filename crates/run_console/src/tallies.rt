@@ -1,18 +1,17 @@
 //! A tally: what is counted of a state's tasks, a line for each job.
 //!
-//! It is the only reply that has memory by the number of jobs: all of its lines are made before the
-//! first is written, so that want of memory cuts none.
+//! It is the only reply that takes memory, by the number of jobs: all of its lines are made before
+//! the first is gathered, so that want of memory cuts none.
 
-ghost use Rattle.std.specs.Io.KnownBytes.{Appends};
 ghost use Rattle.std.specs.Prelude.{◌≡◌, ◌≢◌, ◌<◌, [], length, map, IfErr, IfOk, OnErr, OnOk, Some};
 ghost use Rattle.std.specs.String.{string_bytes};
 ghost use Rattle.run_model.specs.Questions.{task_look_of};
-ghost use Rattle.console_lines.specs.Progress.{IsOfLine, WritesCut};
 ghost use Rattle.console_lines.specs.Replies.{reply_lines};
 ghost use Rattle.console_lines.specs.Tallies.{tallies_of};
 ghost use Rattle.console_lines.specs.declared.replies.Reply.TheVariants as said;
+ghost use Rattle.run_console.specs.Progress.{Told, Untold};
 
-use crate::writings::write_whole;
+use crate::writings::{Gathered, gather_bytes, write_gathered};
 use console_lines::RunFault;
 use run_model::TaskLook;
 use run_state::State;
@@ -20,24 +19,27 @@ use std::alloc::{AllocError, Allocator};
 use std::io::Write;
 use task_tally::Tallies;
 
-/// Writes the tally of a state's tasks. Nothing of it is written where there is no memory for it.
-pub fn write_tally<A: Allocator + Copy, W: Write, B: Allocator>(
+/// Gathers the tally of a state's tasks. Where there is no memory for it, what was gathered before
+/// is written, and nothing of it.
+pub fn gather_tally<A: Allocator + Copy, W: Write, B: Allocator>(
     alloc: A,
     state: &State<B>,
+    gathered: &mut Gathered,
     output: &mut W,
 ) -> Result<(), RunFault>
-    ensures whole { OnOk result
-        (Appends (W.contents output.old) (W.contents output.new)
-        (reply_lines (map said.Tally (tallies_of state.now.work.tasks)))) }
-    ensures cut { IfErr result (λ fault. WritesCut fault
-        (W.contents output.old) (W.contents output.new)
-        (reply_lines (map said.Tally (tallies_of state.now.work.tasks)))) }
-    ensures fault { IfErr result IsOfLine }
+    ensures told { OnOk result
+        (Told (reply_lines (map said.Tally (tallies_of state.now.work.tasks)))
+        gathered.old.items gathered.new.items
+        (W.contents output.old) (W.contents output.new)) }
+    ensures untold { IfErr result (λ fault. Untold fault
+        (reply_lines (map said.Tally (tallies_of state.now.work.tasks))) gathered.old.items
+        (W.contents output.old) (W.contents output.new)) }
 {
     let Ok(lines) = tally_lines(alloc, state) else {
+        write_gathered(gathered, output)?;
         return Err(RunFault::Memory);
     };
-    write_whole(output, lines.as_bytes())
+    gather_bytes(lines.as_bytes(), gathered, output)
 }
 
 /// The lines of the tally, each with its LF. It fails only for want of memory, and only where there

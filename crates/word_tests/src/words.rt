@@ -3,91 +3,190 @@ use std::alloc::{AllocError, Global};
 use std::env::{Env, FillError};
 use std::test::Fail;
 
-/// The words that follow the program's own name, and a part of the text that they are answered.
-type Case = (&'static [&'static str], &'static str);
+/// What words are answered.
+enum Told {
+    /// They ask for the demo.
+    Demo,
+    /// They ask for this word over this store.
+    Store(&'static str, &'static str),
+    /// A text for help that has this part.
+    Help(&'static str),
+    /// This text for help.
+    Text(&'static str),
+    /// A mistake whose text has this part, and ends with a line feed.
+    Mistake(&'static str),
+}
 
-static HELP: [Case; 4] = [
-    (&["--help"], "Usage: night <COMMAND>"),
-    (&["-h"], "Usage: night <COMMAND>"),
-    (&["help"], "Usage: night <COMMAND>"),
-    (&["demo", "--help"], "Usage: night demo"),
+/// The words that follow the program's own name, and what they are answered.
+type Case = (&'static [&'static str], Told);
+
+static DEMO: [Case; 1] = [(&["demo"], Told::Demo)];
+
+static STORES: [Case; 6] = [
+    (&["format", "a.disk"], Told::Store("format", "a.disk")),
+    (&["script", "a.disk"], Told::Store("script", "a.disk")),
+    (&["inspect", "a.disk"], Told::Store("inspect", "a.disk")),
+    (&["script", "--", "-a"], Told::Store("script", "-a")),
+    (&["script", "a", "--"], Told::Store("script", "a")),
+    (&["script", ""], Told::Store("script", "")),
 ];
 
-static MISTAKES: [Case; 12] = [
-    (&[], "Usage: night <COMMAND>"),
-    (&[""], "unrecognized subcommand ''"),
-    (&["dem"], "a similar subcommand exists: 'demo'"),
-    (&["format", "a.disk"], "unrecognized subcommand 'format'"),
-    (&["script", "a.disk"], "unrecognized subcommand 'script'"),
-    (&["crew", "a.disk"], "unrecognized subcommand 'crew'"),
-    (&["inspect", "a.disk"], "unrecognized subcommand 'inspect'"),
+static HELP: [Case; 7] = [
+    (&["--help"], Told::Help("Usage: night <COMMAND>")),
+    (&["-h"], Told::Help("Usage: night <COMMAND>")),
+    (&["help"], Told::Help("Usage: night <COMMAND>")),
+    (&["demo", "--help"], Told::Help("Usage: night demo")),
+    (
+        &["format", "--help"],
+        Told::Help("Example: night format jobs.store"),
+    ),
+    (&["script", "--help"], Told::Help("Example: printf")),
+    (
+        &["inspect", "--help"],
+        Told::Help("Example: night inspect jobs.store"),
+    ),
+];
+
+static VERSION: [Case; 2] = [
+    (&["--version"], Told::Text("night 0.2.0\n")),
+    (&["-V"], Told::Text("night 0.2.0\n")),
+];
+
+static MISTAKES: [Case; 13] = [
+    (&[], Told::Mistake("Usage: night <COMMAND>")),
+    (&[""], Told::Mistake("unrecognized subcommand ''")),
+    (
+        &["dem"],
+        Told::Mistake("a similar subcommand exists: 'demo'"),
+    ),
+    (
+        &["format"],
+        Told::Mistake("required arguments were not provided"),
+    ),
+    (
+        &["script", "--"],
+        Told::Mistake("required arguments were not provided"),
+    ),
+    (
+        &["script", "a.disk", "b.disk"],
+        Told::Mistake("unexpected argument 'b.disk' found"),
+    ),
+    (
+        &["crew", "a.disk"],
+        Told::Mistake("unrecognized subcommand 'crew'"),
+    ),
+    (
+        &["inspect", "-a"],
+        Told::Mistake("unexpected argument '-a' found"),
+    ),
     (
         &["migrate", "a.disk", "b.disk"],
-        "unrecognized subcommand 'migrate'",
+        Told::Mistake("unrecognized subcommand 'migrate'"),
     ),
-    (&["--demo"], "unexpected argument '--demo' found"),
-    (&["demo", "a.disk"], "unexpected argument 'a.disk' found"),
-    (&["demo", ""], "unexpected argument '' found"),
+    (
+        &["--demo"],
+        Told::Mistake("unexpected argument '--demo' found"),
+    ),
+    (
+        &["demo", "a.disk"],
+        Told::Mistake("unexpected argument 'a.disk' found"),
+    ),
+    (&["demo", ""], Told::Mistake("unexpected argument '' found")),
     (
         &["demo", "--version"],
-        "unexpected argument '--version' found",
+        Told::Mistake("unexpected argument '--version' found"),
     ),
 ];
+
+fn push_text(alloc: Global, texts: &mut Vec<String>, word: &str) -> Result<(), AllocError> {
+    texts.push(word.to_string(alloc)?)?;
+    Ok(())
+}
 
 /// The program's own name, and the words.
 fn texts_of(alloc: Global, words: &[&str]) -> Result<Vec<String>, AllocError> {
     let mut texts = Vec::new(alloc);
-    texts.push("night".to_string(alloc)?)?;
-    for word in words {
-        texts.push(word.to_string(alloc)?)?;
+    push_text(alloc, &mut texts, "night")?;
+    for word in words.iter() {
+        push_text(alloc, &mut texts, word)?;
     }
     Ok(texts)
 }
 
+/// Whether the words ask for what they should.
+fn is_asked(asked: &Asked, told: &Told) -> bool {
+    match (asked, told) {
+        (Asked::Demo, Told::Demo) => true,
+        (Asked::Format(store), Told::Store(word, name)) => *word == "format" && store == name,
+        (Asked::Script(store), Told::Store(word, name)) => *word == "script" && store == name,
+        (Asked::Inspect(store), Told::Store(word, name)) => *word == "inspect" && store == name,
+        (Asked::Help(text), Told::Help(part)) => text.contains(*part),
+        (Asked::Help(text), Told::Text(whole)) => text.as_str() == *whole,
+        _ => false,
+    }
+}
+
+/// Whether the words are the mistake that they should be.
+fn is_mistake(alloc: Global, fault: &WordsFault, told: &Told) -> Result<bool, AllocError> {
+    let Told::Mistake(part) = told else {
+        return Ok(false);
+    };
+    let shown = fault.to_string(alloc)?;
+    let mistake = matches!(fault, WordsFault::Mistake(_));
+    Ok(mistake && shown.contains(*part) && shown.ends_with("\n"))
+}
+
+/// Whether the words are answered so.
+fn is_told(alloc: Global, words: &[&str], told: &Told) -> Result<bool, AllocError> {
+    let texts = texts_of(alloc, words)?;
+    match read_words(alloc, texts.as_slice()) {
+        Ok(asked) => Ok(is_asked(&asked, told)),
+        Err(fault) => is_mistake(alloc, &fault, told),
+    }
+}
+
+/// The first row whose words are answered otherwise.
+fn first_untold(alloc: Global, cases: &[Case]) -> Result<Option<usize>, AllocError> {
+    for (n, case) in cases.iter().enumerate() {
+        if !is_told(alloc, case.0, &case.1)? {
+            return Ok(Some(n));
+        }
+    }
+    Ok(None)
+}
+
 #[test]
 fn demo_is_asked_for(rt: HostRuntime) -> Result<(), Fail> {
-    let words = texts_of(rt.alloc(), &["demo"])?;
-    let asked = read_words(rt.alloc(), words.as_slice());
-    assert!(rt; matches!(asked, Ok(Asked::Demo)));
+    let untold = first_untold(rt.alloc(), &DEMO)?;
+    assert!(rt; untold.is_none(), "row {untold:?}");
+    Ok(())
+}
+
+#[test]
+fn a_store_is_named(rt: HostRuntime) -> Result<(), Fail> {
+    let untold = first_untold(rt.alloc(), &STORES)?;
+    assert!(rt; untold.is_none(), "row {untold:?}");
     Ok(())
 }
 
 #[test]
 fn help_is_shown(rt: HostRuntime) -> Result<(), Fail> {
-    for (words, part) in HELP {
-        let words = texts_of(rt.alloc(), words)?;
-        let Ok(Asked::Help(text)) = read_words(rt.alloc(), words.as_slice()) else {
-            return Err(Fail::from("no help"));
-        };
-        assert!(rt; text.contains(part), "{text}");
-    }
+    let untold = first_untold(rt.alloc(), &HELP)?;
+    assert!(rt; untold.is_none(), "row {untold:?}");
     Ok(())
 }
 
 #[test]
 fn the_version_is_shown(rt: HostRuntime) -> Result<(), Fail> {
-    for flag in ["--version", "-V"] {
-        let words = texts_of(rt.alloc(), &[flag])?;
-        let Ok(Asked::Help(text)) = read_words(rt.alloc(), words.as_slice()) else {
-            return Err(Fail::from("no version"));
-        };
-        assert_eq!(rt; text.as_str(), "night 0.1.0\n");
-    }
+    let untold = first_untold(rt.alloc(), &VERSION)?;
+    assert!(rt; untold.is_none(), "row {untold:?}");
     Ok(())
 }
 
 #[test]
 fn mistakes_say_what_is_wrong(rt: HostRuntime) -> Result<(), Fail> {
-    for (words, part) in MISTAKES {
-        let words = texts_of(rt.alloc(), words)?;
-        let Err(fault) = read_words(rt.alloc(), words.as_slice()) else {
-            return Err(Fail::from("no mistake"));
-        };
-        assert!(rt; matches!(&fault, WordsFault::Mistake(_)));
-        let shown = fault.to_string(rt.alloc())?;
-        assert!(rt; shown.contains(part), "{shown}");
-        assert!(rt; shown.ends_with("\n"), "{shown}");
-    }
+    let untold = first_untold(rt.alloc(), &MISTAKES)?;
+    assert!(rt; untold.is_none(), "row {untold:?}");
     Ok(())
 }
 
@@ -124,27 +223,37 @@ impl Env for Started {
     }
 }
 
+/// The words of a system that started the program with these.
+fn started_with(alloc: Global, words: &'static [&'static [u8]]) -> Result<Vec<String>, WordsFault> {
+    own_words(&(Started { words }, alloc))
+}
+
+fn are_texts(words: &[String], wanted: &[&str]) -> bool {
+    for (n, text) in wanted.iter().enumerate() {
+        match words.get(n) {
+            Some(word) if word.as_str() == *text => {}
+            _ => return false,
+        }
+    }
+    words.len() == wanted.len()
+}
+
 #[test]
 fn own_words_are_all_words(rt: HostRuntime) -> Result<(), Fail> {
-    let started = Started { words: &TEXTS };
-    let Ok(words) = own_words(&(started, rt.alloc())) else {
-        return Err(Fail::from("no words"));
-    };
-    assert_eq!(rt; words.len(), 3);
-    assert_eq!(rt; words[0].as_str(), "night");
-    assert_eq!(rt; words[1].as_str(), "");
-    assert_eq!(rt; words[2].as_str(), "d\u{e9}mo");
+    match started_with(rt.alloc(), &TEXTS) {
+        Ok(words) => assert!(rt; are_texts(&words, &["night", "", "d\u{e9}mo"])),
+        Err(_) => return Err(Fail::from("no words")),
+    }
     Ok(())
 }
 
 #[test]
 fn a_word_that_is_no_text_is_refused(rt: HostRuntime) -> Result<(), Fail> {
-    let started = Started { words: &NO_TEXT };
-    let Err(fault) = own_words(&(started, rt.alloc())) else {
+    let Err(fault) = started_with(rt.alloc(), &NO_TEXT) else {
         return Err(Fail::from("words"));
     };
     assert!(rt; matches!(&fault, WordsFault::NotText));
     let shown = fault.to_string(rt.alloc())?;
-    assert_eq!(rt; shown.as_str(), "error: a word is no text in UTF-8\n");
+    assert!(rt; shown.as_str() == "error: a word is no text in UTF-8\n");
     Ok(())
 }

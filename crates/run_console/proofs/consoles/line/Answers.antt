@@ -1,108 +1,67 @@
-use Rattle.std.specs.Prelude.{◌≡◌, true, map}
-use Rattle.std.proofs.Common.{ℕ, List, [], sym, subst, ap, ◌∙◌, OnOk, IfErr}
-use Rattle.std.specs.Io.KnownBytes.{Appends}
-use Rattle.run_model.specs.State.{State}
-use Rattle.console_lines.specs.Progress.{WritesCut}
-use Rattle.console_lines.specs.Replies.{reply_lines}
-use Rattle.console_lines.specs.Script.{reply}
-use Rattle.console_lines.specs.Tallies.{tallies_of}
-use Rattle.console_lines.specs.declared.replies.Reply.TheVariants as said
-use Rattle.console_lines.proofs.Written.{appends_nothing}
-use Rattle.run_console.specs.SessionLines.{is_tally, plain}
-use Rattle.run_console.proofs.LineSteps.{line_obeyed, line_session, line_replies, line_reply}
-use Rattle.run_console.proofs.LineSteps.{line_tally, tally_leaves}
-use Rattle.run_console.proofs.consoles.line.Given.{Over}
+use Rattle.std.proofs.Common.{[], ◌∷◌, refl, subst}
+use Rattle.std.proofs.lemmas.Result.{err_from_is_err_and, on_ok_weaker}
+use Rattle.console_lines.specs.declared.faults.RunFault.{RunFault}
+use Rattle.console_lines.specs.declared.faults.RunFault.TheVariants as fault
+use Rattle.run_console.specs.Progress.{Cut, LineStops, Ran}
+use Rattle.run_console.proofs.Ends.{line_runs, line_stops}
+use Rattle.run_console.proofs.LineSteps.{fault_known}
+use Rattle.run_console.proofs.Lines.{cut_written}
 use Rattle.run_console.proofs.consoles.line.Goals as goal
-use Rattle.run_console.proofs.consoles.line.Goals.{After-write_tally}
+use Rattle.run_book.specs.Views.{holding}
+use Rattle.run_console.proofs.Troubles.{accounts_sound}
+use Rattle.run_console.specs.Troubles.{Accounts}
 
--- ---- a tally
+pub returns-in_err-gather_line-clause-stops : goal.returns-in_err-gather_line-clause-stops
+returns-in_err-gather_line-clause-stops g c = λ sound.
+    let p = err_from_is_err_and c.from_residual.result c.from_residual.ensures.1 in
+    rw (p.1, p.2) (
+    line_stops c.args.bytes.now c.args.book.now.session c.gather_line.new.book.session
+    (g.W.Write.contents c.args.output.now) (g.W.Write.contents c.gather_line.new.output)
+    c.in_err-gather_line.field-0.0 c.in_err-gather_line.ensures.fault
+    (subst (λ f. Cut c.in_err-gather_line.field-0.0 (c.args.bytes.now ∷ [])
+    c.args.book.now.session c.gather_line.new.book.session f
+    (g.W.Write.contents c.args.output.now) (g.W.Write.contents c.gather_line.new.output))
+    c.new-gathered.ensures (c.in_err-gather_line.ensures.cut c.args.bytes.now refl)))
 
-is_one : (g : Over) (c : After-write_tally g) → is_tally c.read_line-asked.result ≡ true
-is_one g c = sym c.is_tally.ensures ∙ c.if-is_tally.true
+pub returns-clause-runs : goal.returns-clause-runs
+returns-clause-runs g c =
+    on_ok_weaker c.write_gathered.result
+    (λ h. line_runs c.args.bytes.now c.args.book.now.session c.gather_line.new.book.session
+    c.gather_line.new.gathered.items (g.W.Write.contents c.args.output.now)
+    (g.W.Write.contents c.gather_line.new.output)
+    (g.W.Write.contents c.write_gathered.new.output)
+    (subst (λ f. Ran (c.args.bytes.now ∷ [])
+    c.args.book.now.session c.gather_line.new.book.session f c.gather_line.new.gathered.items
+    (g.W.Write.contents c.args.output.now) (g.W.Write.contents c.gather_line.new.output))
+    c.new-gathered.ensures (c.in_ok-gather_line.ensures.ran c.args.bytes.now refl)) h)
+    c.write_gathered.ensures.whole
 
-tallied : (g : Over) (c : After-write_tally g)
-    → reply_lines (map said.Tally (tallies_of c.state.result.now.work.tasks))
-    ≡ reply (plain c.args.session.now) c.args.bytes.now
-tallied g c =
-    ap (λ (p : State). reply_lines (map said.Tally (tallies_of p.work.tasks)))
-    c.state.ensures.state
-    ∙ line_tally (plain c.args.session.now) c.args.bytes.now c.read_line-asked.result
-    c.read_line-asked.ensures (is_one g c)
+pub returns-clause-stops : goal.returns-clause-stops
+returns-clause-stops g c = λ sound.
+    let line = c.args.bytes.now in
+    let b = c.args.book.now.session in
+    let d = c.gather_line.new.book.session in
+    let w0 = g.W.Write.contents c.args.output.now in
+    let w1 = g.W.Write.contents c.gather_line.new.output in
+    let w2 = g.W.Write.contents c.write_gathered.new.output in
+    let Stops : RunFault → Type 0 = λ why. LineStops why line b d w0 w2 in
+    fault_known c.write_gathered.result fault.Output _ Stops
+    (λ h. line_stops line b d w0 w2 fault.Output tt
+    (cut_written (line ∷ []) b d [] c.gather_line.new.gathered.items w0 w1 w2
+    (subst (λ f. Ran (line ∷ []) b d f c.gather_line.new.gathered.items w0 w1)
+    c.new-gathered.ensures (c.in_ok-gather_line.ensures.ran line refl)) h))
+    c.write_gathered.ensures.fault c.write_gathered.ensures.cut
 
-pub returns-then-is_tally-clause-obeyed : goal.returns-then-is_tally-clause-obeyed
-returns-then-is_tally-clause-obeyed g c =
-    tally_leaves c.args.session.now c.args.bytes.now c.read_line-asked.result
-    c.read_line-asked.ensures (is_one g c)
+pub returns-in_err-gather_line-clause-accounts : goal.returns-in_err-gather_line-clause-accounts
+returns-in_err-gather_line-clause-accounts g c = λ sound.
+    let p = err_from_is_err_and c.from_residual.result c.from_residual.ensures.1 in
+    rw (p.1, p.2) c.in_err-gather_line.ensures.accounts
 
-pub returns-then-is_tally-clause-session : goal.returns-then-is_tally-clause-session
-returns-then-is_tally-clause-session g c =
-    line_session c.args.session.now c.args.session.now c.args.bytes.now
-    (tally_leaves c.args.session.now c.args.bytes.now c.read_line-asked.result
-    c.read_line-asked.ensures (is_one g c))
-
-pub returns-then-is_tally-clause-replied : goal.returns-then-is_tally-clause-replied
-returns-then-is_tally-clause-replied g c =
-    let P : List ℕ → Type 0 = λ x. OnOk c.write_tally.result
-    (Appends (g.W.Write.contents c.args.output.now)
-    (g.W.Write.contents c.write_tally.new.output) x) in
-    subst P (tallied g c) c.write_tally.ensures.whole
-
-pub returns-then-is_tally-clause-cut : goal.returns-then-is_tally-clause-cut
-returns-then-is_tally-clause-cut g c =
-    let P : List ℕ → Type 0 = λ x. IfErr c.write_tally.result
-    (λ fault. WritesCut fault (g.W.Write.contents c.args.output.now)
-    (g.W.Write.contents c.write_tally.new.output) x) in
-    subst P (tallied g c) c.write_tally.ensures.cut
-
--- ---- one reply
-
-pub returns-in-Some-clause-obeyed : goal.returns-in-Some-clause-obeyed
-returns-in-Some-clause-obeyed g c =
-    line_obeyed _ _ _ c.read_line-asked.result c.read_line-asked.ensures c.reply_to.ensures.obeyed
-
-pub returns-in-Some-clause-session : goal.returns-in-Some-clause-session
-returns-in-Some-clause-session g c =
-    line_session c.args.session.now c.reply_to.new.session c.args.bytes.now
-    (line_obeyed _ _ _ c.read_line-asked.result c.read_line-asked.ensures
-    c.reply_to.ensures.obeyed)
-
-pub returns-in-Some-clause-replied : goal.returns-in-Some-clause-replied
-returns-in-Some-clause-replied g c =
-    let P : List ℕ → Type 0 = λ x. OnOk c.write_reply.result
-    (Appends (g.W.Write.contents c.args.output.now)
-    (g.W.Write.contents c.write_reply.new.output) x) in
-    subst P
-    (line_reply (plain c.args.session.now) c.args.bytes.now c.read_line-asked.result
-    _ c.read_line-asked.ensures c.in-Some.ensures.reply)
-    c.write_reply.ensures.whole
-
-pub returns-in-Some-clause-cut : goal.returns-in-Some-clause-cut
-returns-in-Some-clause-cut g c =
-    let P : List ℕ → Type 0 = λ x. IfErr c.write_reply.result
-    (λ fault. WritesCut fault (g.W.Write.contents c.args.output.now)
-    (g.W.Write.contents c.write_reply.new.output) x) in
-    subst P
-    (line_reply (plain c.args.session.now) c.args.bytes.now c.read_line-asked.result
-    _ c.read_line-asked.ensures c.in-Some.ensures.reply)
-    c.write_reply.ensures.cut
-
--- ---- none
-
-pub returns-in-None-clause-obeyed : goal.returns-in-None-clause-obeyed
-returns-in-None-clause-obeyed g c =
-    line_obeyed _ _ _ c.read_line-asked.result c.read_line-asked.ensures c.reply_to.ensures.obeyed
-
-pub returns-in-None-clause-session : goal.returns-in-None-clause-session
-returns-in-None-clause-session g c =
-    line_session c.args.session.now c.reply_to.new.session c.args.bytes.now
-    (line_obeyed _ _ _ c.read_line-asked.result c.read_line-asked.ensures
-    c.reply_to.ensures.obeyed)
-
-pub returns-in-None-clause-replied : goal.returns-in-None-clause-replied
-returns-in-None-clause-replied g c =
-    let output = g.W.Write.contents c.args.output.now in
-    let P : List ℕ → Type 0 = λ x. Appends output output x in
-    subst P
-    (line_replies (plain c.args.session.now) c.args.bytes.now c.read_line-asked.result
-    [] c.read_line-asked.ensures c.in-None.ensures.reply)
-    (appends_nothing output)
+pub returns-clause-accounts : goal.returns-clause-accounts
+returns-clause-accounts g c = λ sound.
+    let b = holding c.args.book.now in
+    let d = holding c.gather_line.new.book in
+    let Says : RunFault → Type 0 = λ why. Accounts g.D.RunDisk.state b why d in
+    fault_known c.write_gathered.result fault.Output _ Says
+    (λ h. accounts_sound g.D.RunDisk.state b d c.in_ok-gather_line.ensures.sound)
+    c.write_gathered.ensures.fault c.write_gathered.ensures.cut

@@ -1,103 +1,147 @@
 use Rattle.std.proofs.Common.{◌≡◌, ◌==◌, ◌+◌, false, ℕ, suc, List, [], ◌∷◌, ◌++◌, take, drop}
-use Rattle.std.proofs.Common.{get_or, arith, sym, subst, ap, ◌∙◌}
+use Rattle.std.proofs.Common.{get_or, arith, sym, subst, ap, ◌∙◌, append_assoc}
 use Rattle.std.proofs.lemmas.Bool.Decides.{nat_tests}
 use Rattle.std.proofs.lemmas.List.{take_all, take_more}
 use Rattle.std.proofs.lemmas.Result.{err_from_is_err_and}
 use Rattle.std.proofs.Math.Seq.{split_at}
-use Rattle.run_console.specs.SessionProgress.{PartRan, PartStopped}
-use Rattle.run_console.proofs.Parts.{part_begins, part_ends, part_full, part_more, part_stops}
+use Rattle.console_lines.specs.Lines.{open_line}
+use Rattle.run_console.specs.Progress.{PartRan}
+use Rattle.run_console.proofs.Going.{goes_none, lives_then}
+use Rattle.run_console.proofs.LineSteps.{same_asked}
+use Rattle.run_console.proofs.Parts.{part_begins, part_cut, part_ends, part_full, part_more}
 use Rattle.run_console.proofs.inputs.run_part.Goals as goal
-use Rattle.run_console.proofs.inputs.run_part.Goals.{then-byte-eq10+in_ok-line}
+use Rattle.run_console.proofs.inputs.run_part.Goals.{then-byte-eq10+in_ok-gather_line}
 use Rattle.run_console.proofs.inputs.run_part.Goals.{else-byte-eq10+then-not-is_full}
 use Rattle.run_console.proofs.inputs.run_part.Goals.{else-byte-eq10+else-not-is_full}
+use Rattle.run_book.specs.Views.{holding}
+use Rattle.run_console.proofs.Troubles.{accounts_earlier}
 
 pub loop-byte-init : goal.loop-byte-init
-loop-byte-init g c = λ before e. part_begins before _ _ _ e
+loop-byte-init g c = (
+  λ begun e. part_begins begun _ _ _ _ e,
+  goes_none g.D.RunDisk.state c.args.book.now c.requires.sound c.durable-durable.ensures.carries_on,
+)
 
-pub returns-in_err-line-clause-stopped : goal.returns-in_err-line-clause-stopped
-returns-in_err-line-clause-stopped g c = λ before e.
+pub returns-in_err-gather_line-clause-cut : goal.returns-in_err-gather_line-clause-cut
+returns-in_err-gather_line-clause-cut g c = λ begun e.
     let part = c.args.part.now in
     let i = c.loop-byte.byte-index in
     let front = take i part in
     let behind = drop (suc i) part in
-    let b = c.args.session.now in
-    let d = c.line.new.session in
+    let b = c.args.book.now.session in
+    let mid = c.loop-byte.book.session in
+    let d = c.gather_line.new.book.session in
     let w0 = g.W.Write.contents c.args.output.now in
     let w1 = g.W.Write.contents c.loop-byte.output in
-    let w2 = g.W.Write.contents c.line.new.output in
-    let fault = c.in_err-line.field-0.0 in
-    let stops =
-    part_stops fault before front c.loop-byte.begun.items c.as_slice.result.now behind b
-    c.loop-byte.session d w0 w1 w2 (c.loop-byte.invariant before e) c.as_slice.ensures.value
-    c.in_err-line.ensures.cut
-    (record {
-      session = c.in_err-line.ensures.session;
-      logged = c.in_err-line.ensures.obeyed;
-      lasts = c.in_err-line.ensures.lasts;
-    }) in
-    let here : part ≡ front ++ 10 ∷ behind =
+    let w2 = g.W.Write.contents c.gather_line.new.output in
+    let so_far = c.loop-byte.invariant.0 begun e in
+    let why = c.in_err-gather_line.field-0.0 in
+    let here : part ≡ (front ++ 10 ∷ []) ++ behind =
     split_at part i 0 c.loop-byte-test.true
-    ∙ ap (λ x. front ++ x ∷ behind) c.if-byte-eq10.true in
-    let P : List ℕ → Type 0 = λ x. PartStopped fault before x b d w0 w2 in
+    ∙ ap (λ x. front ++ x ∷ behind) c.if-byte-eq10.true
+    ∙ sym (append_assoc front (10 ∷ []) behind) in
     let p = err_from_is_err_and c.from_residual.result c.from_residual.ensures.1 in
-    rw (p.1, p.2) (subst P (sym here) stops)
+    rw (p.1, p.2) (
+    part_cut why begun part front behind b mid d c.loop-byte.tail.items
+    c.args.gathered.now.items c.loop-byte.gathered.items w0 w1 w2 here so_far
+    (c.in_err-gather_line.ensures.cut (open_line begun front)
+    (same_asked (open_line begun front) c.loop-byte.tail.items c.as_slice.result.now
+    c.as_slice.ensures.value so_far.tail_is)))
+
+pub returns-in_err-gather_line-clause-lasts : goal.returns-in_err-gather_line-clause-lasts
+returns-in_err-gather_line-clause-lasts g c =
+    (lives_then g.D.RunDisk.state c.args.book.now c.loop-byte.book c.gather_line.new.book
+    c.loop-byte.invariant.1.lives c.gather_line.ensures.lasts
+    c.gather_line.ensures.carries_on).lasts
+
+pub returns-in_err-gather_line-clause-carries_on : goal.returns-in_err-gather_line-clause-carries_on
+returns-in_err-gather_line-clause-carries_on g c =
+    (lives_then g.D.RunDisk.state c.args.book.now c.loop-byte.book c.gather_line.new.book
+    c.loop-byte.invariant.1.lives c.gather_line.ensures.lasts
+    c.gather_line.ensures.carries_on).carries_on
 
 other : {b : ℕ} → (b ≡ 10 → ⊥) → (b == 10) ≡ false
 other h = grind (arith, nat_tests, h)
 
 pub loop-byte-preserved : goal.loop-byte-preserved
-loop-byte-preserved g c = λ before e.
-    let so_far = c.loop-byte.invariant before e in
+loop-byte-preserved g c =
     let part = c.args.part.now in
     let i = c.loop-byte.byte-index in
     let front = take i part in
     let byte = get_or part i 0 in
-    let b = c.args.session.now in
-    let d = c.loop-byte.session in
+    let b = c.args.book.now.session in
+    let d = c.loop-byte.book.session in
     let w0 = g.W.Write.contents c.args.output.now in
     let w1 = g.W.Write.contents c.loop-byte.output in
-    let begun = c.loop-byte.begun.items in
+    let tail = c.loop-byte.tail.items in
+    let f = c.args.gathered.now.items in
+    let items = c.loop-byte.gathered.items in
     let next : take (i + 1) part ≡ front ++ byte ∷ [] = take_more part i 0 c.loop-byte-test.true in
     elim c.if-byte-eq10.branch [
-      | then-byte-eq10+in_ok-line w ↦
-          let w2 = g.W.Write.contents w.line.new.output in
-          let P : List ℕ → Type 0 = λ x.
-          PartRan before x b w.line.new.session w.clear.new.self.items w0 w2 in
+      | then-byte-eq10+in_ok-gather_line w ↦
+          let w2 = g.W.Write.contents w.gather_line.new.output in
+          let h = w.gather_line.new.gathered.items in
+          let P : List ℕ → List ℕ → Type 0 = λ begun x.
+          PartRan begun x b w.gather_line.new.book.session w.clear.new.self.items f h w0 w2 in
           let ends : take (i + 1) part ≡ front ++ 10 ∷ [] =
           next ∙ ap (λ x. front ++ x ∷ []) w.if-byte-eq10.true in
-          rw (w.session-is, w.output-is, w.begun-is) (
-          subst P (sym ends)
-          (part_ends before front begun w.as_slice.result.now w.clear.new.self.items b d
-          w.line.new.session w0 w1 w2 so_far w.as_slice.ensures.value
-          w.in_ok-line.ensures.replied
-          (record {
-            session = w.in_ok-line.ensures.session;
-            logged = w.in_ok-line.ensures.obeyed;
-            lasts = w.in_ok-line.ensures.lasts;
-          })
-          w.clear.ensures)
+          rw (w.book-is, w.output-is, w.tail-is, w.gathered-is) (
+            λ begun e.
+                let so_far = c.loop-byte.invariant.0 begun e in
+                let line = open_line begun front in
+                subst (P begun) (sym ends)
+                (part_ends begun front w.clear.new.self.items b d
+                w.gather_line.new.book.session tail f items h w0 w1 w2 so_far
+                (w.in_ok-gather_line.ensures.ran line
+                (same_asked line tail w.as_slice.result.now w.as_slice.ensures.value
+                so_far.tail_is))
+                w.clear.ensures),
+            record {
+              sound = w.in_ok-gather_line.ensures.sound;
+              lives =
+                  lives_then g.D.RunDisk.state c.args.book.now c.loop-byte.book
+                  w.gather_line.new.book c.loop-byte.invariant.1.lives
+                  w.gather_line.ensures.lasts w.gather_line.ensures.carries_on;
+            },
           )
       | else-byte-eq10+then-not-is_full w ↦
-          let P : List ℕ → Type 0 = λ x. PartRan before x b d w.push.new.self.items w0 w1 in
-          rw (w.session-is, w.output-is, w.begun-is) (
-          subst P (sym next)
-          (part_more before front begun w.push.new.self.items byte b d w0 w1
-          (other w.if-byte-eq10.false) so_far (grind (arith, nat_tests))
-          w.push.ensures.items)
+          let P : List ℕ → List ℕ → Type 0 = λ begun x.
+          PartRan begun x b d w.push.new.self.items f items w0 w1 in
+          rw (w.book-is, w.output-is, w.tail-is, w.gathered-is) (
+            λ begun e. subst (P begun) (sym next)
+                (part_more begun front tail w.push.new.self.items f items byte b d w0 w1
+                (other w.if-byte-eq10.false) (c.loop-byte.invariant.0 begun e)
+                (grind (arith, nat_tests)) w.push.ensures.items),
+            c.loop-byte.invariant.1,
           )
       | else-byte-eq10+else-not-is_full w ↦
-          let P : List ℕ → Type 0 = λ x. PartRan before x b d begun w0 w1 in
-          rw (w.session-is, w.output-is, w.begun-is) (
-          subst P (sym next)
-          (part_full before front begun byte b d w0 w1 (other w.if-byte-eq10.false) so_far
-          (grind (arith, nat_tests)))
+          let P : List ℕ → List ℕ → Type 0 = λ begun x.
+          PartRan begun x b d tail f items w0 w1 in
+          rw (w.book-is, w.output-is, w.tail-is, w.gathered-is) (
+            λ begun e. subst (P begun) (sym next)
+                (part_full begun front tail f items byte b d w0 w1
+                (other w.if-byte-eq10.false) (c.loop-byte.invariant.0 begun e)
+                (grind (arith, nat_tests))),
+            c.loop-byte.invariant.1,
           )
     ]
 
 pub returns-clause-ran : goal.returns-clause-ran
-returns-clause-ran g c = λ before e.
+returns-clause-ran g c = λ begun e.
     let P : List ℕ → Type 0 = λ x.
-    PartRan before x c.args.session.now c.loop-byte.session c.loop-byte.begun.items
+    PartRan begun x c.args.book.now.session c.loop-byte.book.session c.loop-byte.tail.items
+    c.args.gathered.now.items c.loop-byte.gathered.items
     (g.W.Write.contents c.args.output.now) (g.W.Write.contents c.loop-byte.output) in
     subst P (take_all c.loop-byte.byte-index c.args.part.now c.loop-byte-test.false)
-    (c.loop-byte.invariant before e)
+    (c.loop-byte.invariant.0 begun e)
+
+pub returns-clause-lasts : goal.returns-clause-lasts
+returns-clause-lasts g c = c.loop-byte.invariant.1.lives.lasts
+
+pub returns-in_err-gather_line-clause-accounts : goal.returns-in_err-gather_line-clause-accounts
+returns-in_err-gather_line-clause-accounts g c =
+    let p = err_from_is_err_and c.from_residual.result c.from_residual.ensures.1 in
+    rw (p.1, p.2) (
+    accounts_earlier g.D.RunDisk.state (holding c.args.book.now) (holding c.loop-byte.book)
+    (holding c.gather_line.new.book) c.in_err-gather_line.field-0.0
+    c.loop-byte.invariant.1.lives.carries_on.passed c.in_err-gather_line.ensures.accounts)

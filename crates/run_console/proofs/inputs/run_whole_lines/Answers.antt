@@ -1,21 +1,30 @@
-use Rattle.std.proofs.Common.{ℕ, List, [], ◌++◌, take, drop, subst, arith, refl}
+use Rattle.std.proofs.Common.{ℕ, List, [], ◌++◌, take, drop, refl, subst, arith, append-nil}
 use Rattle.std.proofs.lemmas.List.{length-take, take-append-le}
 use Rattle.std.proofs.lemmas.Result.{err_from_is_err_and}
 use Rattle.std.specs.Io.KnownBytes.{Consumes}
-use Rattle.console_lines.specs.Lines.{open_line}
-use Rattle.console_lines.proofs.Written.{consumes_nothing, consumes_then}
-use Rattle.run_console.specs.SessionProgress.{PartRan, PartStopped}
-use Rattle.run_console.proofs.Firsts.{lasts_then}
+use Rattle.console_lines.specs.declared.faults.RunFault.TheVariants as fault
+use Rattle.console_lines.specs.Lines.{open_line, whole_lines}
+use Rattle.console_lines.proofs.Written.{consumes_kept, consumes_nothing, consumes_then}
+use Rattle.run_console.specs.Progress.{Cut, PartRan}
+use Rattle.run_console.proofs.Going.{goes_none, lives_then}
+use Rattle.run_console.proofs.Lines.{cut_written}
 use Rattle.run_console.proofs.Parts.{part_begins, part_then}
-use Rattle.run_console.proofs.Wholes.{obeys_in_a_part, obeys_too_long, obeys_unread}
-use Rattle.run_console.proofs.Wholes.{part_read, reads_all}
-use Rattle.run_console.proofs.inputs.run_whole_lines.Given.{Over}
+use Rattle.run_console.proofs.Wholes.{part_read, reads_all, stops_in_a_part, stops_reading}
 use Rattle.run_console.proofs.inputs.run_whole_lines.Goals as goal
-use Rattle.run_console.proofs.inputs.run_whole_lines.Goals.{After-from_residual-in_err-run_part}
+use Rattle.run_book.specs.Views.{holding}
+use Rattle.run_console.proofs.Troubles.{accounts_earlier, accounts_sound}
 
 pub loop-total-init : goal.loop-total-init
-loop-total-init g c =
-    ([], consumes_nothing _, refl, omega arith, part_begins [] _ _ _ c.requires)
+loop-total-init g c = (
+  [],
+  consumes_nothing _,
+  refl,
+  omega arith,
+  part_begins [] _ [] c.args.book.now.session _ c.requires.tail,
+  c.requires.gathered,
+  goes_none g.D.RunDisk.state c.args.book.now c.requires.sound
+      c.durable-durable.ensures.carries_on,
+)
 
 pub returns-then-count-eq0-clause-read : goal.returns-then-count-eq0-clause-read
 returns-then-count-eq0-clause-read g c =
@@ -23,7 +32,7 @@ returns-then-count-eq0-clause-read g c =
     let r1 = g.R.Read.remaining c.loop-total.input in
     let r2 = g.R.Read.remaining c.read_some.new.input in
     let P : ℕ → Type 0 = λ n. Consumes r1 r2 (take n c.read_some.new.room) in
-    reads_all inv.0 c.loop-total.begun.items c.args.session.now c.loop-total.session
+    reads_all inv.0 c.loop-total.tail.items c.args.book.now.session c.loop-total.book.session
     (g.R.Read.remaining c.args.input.now) r1 r2
     (g.W.Write.contents c.args.output.now) (g.W.Write.contents c.loop-total.output) inv.1
     (subst P c.if-count-eq0.true c.in_ok-count.ensures.bytes.0)
@@ -37,6 +46,30 @@ returns-then-count-eq0-clause-read g c =
     )))
     (omega (arith, inv.2, c.loop-total-test.true)) inv.4
 
+pub returns-then-count-eq0-clause-lasts : goal.returns-then-count-eq0-clause-lasts
+returns-then-count-eq0-clause-lasts g c = c.loop-total.invariant.6.lives.lasts
+
+pub returns-in_err-count-clause-lasts : goal.returns-in_err-count-clause-lasts
+returns-in_err-count-clause-lasts g c = c.loop-total.invariant.6.lives.lasts
+
+pub returns-clause-lasts : goal.returns-clause-lasts
+returns-clause-lasts g c = c.loop-total.invariant.6.lives.lasts
+
+pub returns-in_err-count-clause-stops : goal.returns-in_err-count-clause-stops
+returns-in_err-count-clause-stops g c =
+    let p = err_from_is_err_and c.from_residual.result c.from_residual.ensures.1 in
+    let inv = c.loop-total.invariant in
+    let r0 = g.R.Read.remaining c.args.input.now in
+    let r2 = g.R.Read.remaining c.read_some.new.input in
+    let P : List ℕ → Type 0 = λ x. Consumes r0 r2 x in
+    rw (p.1, p.2, c.in_err-count.ensures.fault) (
+    stops_reading fault.Input inv.0 c.loop-total.tail.items c.args.book.now.session
+    c.loop-total.book.session r0 r2
+    (g.W.Write.contents c.args.output.now) (g.W.Write.contents c.loop-total.output)
+    (subst P (append-nil inv.0)
+    (consumes_then r0 _ r2 inv.0 [] inv.1 (consumes_kept _ r2 c.in_err-count.ensures.bytes)))
+    inv.4 (omega (arith, inv.2, c.loop-total-test.true), refl) (λ l. refl) (λ l. tt) (λ h. h))
+
 pub loop-total-preserved : goal.loop-total-preserved
 loop-total-preserved g c =
     let inv = c.loop-total.invariant in
@@ -44,11 +77,14 @@ loop-total-preserved g c =
     let room = c.read_some.new.room in
     let few = c.in_ok-count.ensures.bound.0 in
     let line = open_line [] inv.0 in
-    let d = c.run_part.new.session in
-    let begun = c.run_part.new.begun.items in
+    let d = c.run_part.new.book.session in
+    let tail = c.run_part.new.tail.items in
+    let h = c.run_part.new.gathered.items in
     let w1 = g.W.Write.contents c.loop-total.output in
     let w2 = g.W.Write.contents c.run_part.new.output in
-    let P : List ℕ → Type 0 = λ x. PartRan line x c.loop-total.session d begun w1 w2 in
+    let w3 = g.W.Write.contents c.write_gathered.new.output in
+    let P : List ℕ → List ℕ → Type 0 = λ before x.
+    PartRan line x c.loop-total.book.session d tail before h w1 w2 in
     let same = take-append-le n room (drop c.min-most.result c.loop-total.room) few in
     let size = part_read inv.0 room c.loop-total.room n c.min-most.result c.loop-total.total 4096
     inv.2 few c.read_some.auto.room c.min-most.ensures c.loop-total-test.true in (
@@ -56,47 +92,32 @@ loop-total-preserved g c =
       consumes_then _ _ _ inv.0 (take n room) inv.1 c.in_ok-count.ensures.bytes.0,
       omega (arith, size.len, inv.2),
       omega (arith, size.len, size.within, inv.2),
-      part_then [] inv.0 (take n room) c.loop-total.begun.items begun c.args.session.now
-          c.loop-total.session d (g.W.Write.contents c.args.output.now) w1 w2 inv.4
-          (subst P same (c.in_ok-run_part.ensures.ran line inv.4.begun_is)),
+      part_then [] inv.0 (take n room) c.loop-total.tail.items tail h c.args.book.now.session
+          c.loop-total.book.session d (g.W.Write.contents c.args.output.now) w1 w2 w3 inv.4
+          (subst (λ x. P [] x) same
+          (subst (λ x. P x (take n (room ++ drop c.min-most.result c.loop-total.room))) inv.5
+          (c.in_ok-run_part.ensures.ran line inv.4.tail_is)))
+          c.in_ok-write_gathered.ensures.whole,
+      c.in_ok-write_gathered.ensures.none,
+      record {
+        sound = c.in_ok-run_part.ensures.sound;
+        lives =
+            lives_then g.D.RunDisk.state c.args.book.now c.loop-total.book c.run_part.new.book
+            inv.6.lives c.run_part.ensures.lasts c.run_part.ensures.carries_on;
+      },
     )
-
-pub returns-in_err-count-clause-stops : goal.returns-in_err-count-clause-stops
-returns-in_err-count-clause-stops g c =
-    let p = err_from_is_err_and c.from_residual.result c.from_residual.ensures.1 in
-    let inv = c.loop-total.invariant in
-    rw (p.1, p.2, c.in_err-count.ensures.fault) (
-    obeys_unread inv.0 c.loop-total.begun.items c.args.session.now c.loop-total.session
-    (g.R.Read.remaining c.args.input.now) (g.R.Read.remaining c.loop-total.input)
-    (g.R.Read.remaining c.read_some.new.input)
-    (g.W.Write.contents c.args.output.now) (g.W.Write.contents c.loop-total.output)
-    inv.1 c.in_err-count.ensures.bytes (omega (arith, inv.2, c.loop-total-test.true)) inv.4)
 
 pub returns-clause-stops : goal.returns-clause-stops
 returns-clause-stops g c =
     let inv = c.loop-total.invariant in
-    obeys_too_long inv.0 c.loop-total.begun.items c.args.session.now c.loop-total.session
+    stops_reading fault.InputTooLong inv.0 c.loop-total.tail.items c.args.book.now.session
+    c.loop-total.book.session
     (g.R.Read.remaining c.args.input.now) (g.R.Read.remaining c.loop-total.input)
     (g.W.Write.contents c.args.output.now) (g.W.Write.contents c.loop-total.output)
-    inv.1 (omega (arith, inv.2, inv.3, c.loop-total-test.false)) inv.4
+    inv.1 inv.4 (omega (arith, inv.2, inv.3, c.loop-total-test.false), refl) (λ l. refl) (λ l. tt)
+    (λ h. h)
 
--- A line in the part that was read stopped.
-stopped : (g : Over) (c : After-from_residual-in_err-run_part g)
-    → PartStopped c.in_err-run_part.field-0.0 (open_line [] c.loop-total.invariant.0)
-    (take c.in_ok-count.count c.read_some.new.room) c.loop-total.session c.run_part.new.session
-    (g.W.Write.contents c.loop-total.output) (g.W.Write.contents c.run_part.new.output)
-stopped g c =
-    let inv = c.loop-total.invariant in
-    let n = c.in_ok-count.count in
-    let room = c.read_some.new.room in
-    let line = open_line [] inv.0 in
-    let P : List ℕ → Type 0 =
-    λ x. PartStopped c.in_err-run_part.field-0.0 line x c.loop-total.session c.run_part.new.session
-    (g.W.Write.contents c.loop-total.output) (g.W.Write.contents c.run_part.new.output) in
-    subst P
-    (take-append-le n room (drop c.min-most.result c.loop-total.room)
-    c.in_ok-count.ensures.bound.0)
-    (c.in_err-run_part.ensures.stopped line inv.4.begun_is)
+-- ---- a part that stops
 
 pub returns-in_err-run_part-clause-stops : goal.returns-in_err-run_part-clause-stops
 returns-in_err-run_part-clause-stops g c =
@@ -105,20 +126,112 @@ returns-in_err-run_part-clause-stops g c =
     let inv = c.loop-total.invariant in
     let n = c.in_ok-count.count in
     let room = c.read_some.new.room in
+    let line = open_line [] inv.0 in
+    let why = c.in_err-run_part.field-0.0 in
+    let mid = c.loop-total.book.session in
+    let d = c.run_part.new.book.session in
+    let w1 = g.W.Write.contents c.loop-total.output in
+    let w2 = g.W.Write.contents c.run_part.new.output in
+    let P : List ℕ → List ℕ → Type 0 = λ before x. Cut why (whole_lines line x) mid d before w1 w2
+    in
+    let cut : P [] (take n room) =
+    subst (λ x. P [] x)
+    (take-append-le n room (drop c.min-most.result c.loop-total.room)
+    c.in_ok-count.ensures.bound.0)
+    (subst (λ x. P x (take n (room ++ drop c.min-most.result c.loop-total.room))) inv.5
+    (c.in_err-run_part.ensures.cut line inv.4.tail_is)) in
     let size = part_read inv.0 room c.loop-total.room n c.min-most.result c.loop-total.total 4096
     inv.2 c.in_ok-count.ensures.bound.0 c.read_some.auto.room c.min-most.ensures
     c.loop-total-test.true in
     rw (p.1, p.2) (
-    obeys_in_a_part c.in_err-run_part.field-0.0 inv.0 (take n room) c.loop-total.begun.items
-    c.args.session.now c.loop-total.session c.run_part.new.session
+    stops_in_a_part why inv.0 (take n room) c.loop-total.tail.items
+    c.args.book.now.session mid d
     (g.R.Read.remaining c.args.input.now) (g.R.Read.remaining c.loop-total.input)
     (g.R.Read.remaining c.read_some.new.input)
-    (g.W.Write.contents c.args.output.now) (g.W.Write.contents c.loop-total.output)
-    (g.W.Write.contents c.run_part.new.output)
-    c.in_err-run_part.ensures.fault inv.1 c.in_ok-count.ensures.bytes.0 size.within inv.4
-    (stopped g c))
+    (g.W.Write.contents c.args.output.now) w1 w2
+    c.in_err-run_part.ensures.fault inv.1 c.in_ok-count.ensures.bytes.0 size.within inv.4 cut)
+
+pub returns-in_err-write_gathered-clause-stops : goal.returns-in_err-write_gathered-clause-stops
+returns-in_err-write_gathered-clause-stops g c =
+    let p = err_from_is_err_and c.from_residual-in_err-write_gathered.result
+    c.from_residual-in_err-write_gathered.ensures.1 in
+    let inv = c.loop-total.invariant in
+    let n = c.in_ok-count.count in
+    let room = c.read_some.new.room in
+    let line = open_line [] inv.0 in
+    let mid = c.loop-total.book.session in
+    let d = c.run_part.new.book.session in
+    let w1 = g.W.Write.contents c.loop-total.output in
+    let w2 = g.W.Write.contents c.run_part.new.output in
+    let w3 = g.W.Write.contents c.write_gathered.new.output in
+    let P : List ℕ → List ℕ → Type 0 = λ before x.
+    PartRan line x mid d c.run_part.new.tail.items before c.run_part.new.gathered.items w1 w2 in
+    let ran : P [] (take n room) =
+    subst (λ x. P [] x)
+    (take-append-le n room (drop c.min-most.result c.loop-total.room)
+    c.in_ok-count.ensures.bound.0)
+    (subst (λ x. P x (take n (room ++ drop c.min-most.result c.loop-total.room))) inv.5
+    (c.in_ok-run_part.ensures.ran line inv.4.tail_is)) in
+    let size = part_read inv.0 room c.loop-total.room n c.min-most.result c.loop-total.total 4096
+    inv.2 c.in_ok-count.ensures.bound.0 c.read_some.auto.room c.min-most.ensures
+    c.loop-total-test.true in
+    rw (p.1, p.2, c.in_err-write_gathered.ensures.fault) (
+    stops_in_a_part fault.Output inv.0 (take n room) c.loop-total.tail.items
+    c.args.book.now.session mid d
+    (g.R.Read.remaining c.args.input.now) (g.R.Read.remaining c.loop-total.input)
+    (g.R.Read.remaining c.read_some.new.input)
+    (g.W.Write.contents c.args.output.now) w1 w3
+    tt inv.1 c.in_ok-count.ensures.bytes.0 size.within inv.4
+    (cut_written (whole_lines line (take n room)) mid d [] c.run_part.new.gathered.items
+    w1 w2 w3 ran.ran c.in_err-write_gathered.ensures.cut))
 
 pub returns-in_err-run_part-clause-lasts : goal.returns-in_err-run_part-clause-lasts
 returns-in_err-run_part-clause-lasts g c =
-    lasts_then c.args.session.now c.loop-total.session c.run_part.new.session
-    c.loop-total.invariant.4.lasts (stopped g c).lasts
+    (lives_then g.D.RunDisk.state c.args.book.now c.loop-total.book c.run_part.new.book
+    c.loop-total.invariant.6.lives c.run_part.ensures.lasts c.run_part.ensures.carries_on).lasts
+
+pub returns-in_err-run_part-clause-carries_on : goal.returns-in_err-run_part-clause-carries_on
+returns-in_err-run_part-clause-carries_on g c =
+    (lives_then g.D.RunDisk.state c.args.book.now c.loop-total.book c.run_part.new.book
+    c.loop-total.invariant.6.lives c.run_part.ensures.lasts
+    c.run_part.ensures.carries_on).carries_on
+
+pub returns-in_err-write_gathered-clause-lasts : goal.returns-in_err-write_gathered-clause-lasts
+returns-in_err-write_gathered-clause-lasts g c =
+    (lives_then g.D.RunDisk.state c.args.book.now c.loop-total.book c.run_part.new.book
+    c.loop-total.invariant.6.lives c.run_part.ensures.lasts c.run_part.ensures.carries_on).lasts
+
+pub returns-in_err-write_gathered-clause-carries_on :
+    goal.returns-in_err-write_gathered-clause-carries_on
+returns-in_err-write_gathered-clause-carries_on g c =
+    (lives_then g.D.RunDisk.state c.args.book.now c.loop-total.book c.run_part.new.book
+    c.loop-total.invariant.6.lives c.run_part.ensures.lasts
+    c.run_part.ensures.carries_on).carries_on
+
+-- ---- the store
+
+pub returns-in_err-count-clause-accounts : goal.returns-in_err-count-clause-accounts
+returns-in_err-count-clause-accounts g c =
+    let p = err_from_is_err_and c.from_residual.result c.from_residual.ensures.1 in
+    rw (p.1, p.2, c.in_err-count.ensures.fault) c.loop-total.invariant.6.sound
+
+pub returns-clause-accounts : goal.returns-clause-accounts
+returns-clause-accounts g c = c.loop-total.invariant.6.sound
+
+pub returns-in_err-run_part-clause-accounts : goal.returns-in_err-run_part-clause-accounts
+returns-in_err-run_part-clause-accounts g c =
+    let p = err_from_is_err_and c.from_residual-in_err-run_part.result
+    c.from_residual-in_err-run_part.ensures.1 in
+    rw (p.1, p.2) (
+    accounts_earlier g.D.RunDisk.state (holding c.args.book.now) (holding c.loop-total.book)
+    (holding c.run_part.new.book) c.in_err-run_part.field-0.0
+    c.loop-total.invariant.6.lives.carries_on.passed c.in_err-run_part.ensures.accounts)
+
+pub returns-in_err-write_gathered-clause-accounts :
+    goal.returns-in_err-write_gathered-clause-accounts
+returns-in_err-write_gathered-clause-accounts g c =
+    let p = err_from_is_err_and c.from_residual-in_err-write_gathered.result
+    c.from_residual-in_err-write_gathered.ensures.1 in
+    rw (p.1, p.2, c.in_err-write_gathered.ensures.fault) (
+    accounts_sound g.D.RunDisk.state (holding c.args.book.now) (holding c.run_part.new.book)
+    c.in_ok-run_part.ensures.sound)

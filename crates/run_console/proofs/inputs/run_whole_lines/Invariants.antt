@@ -1,7 +1,8 @@
 use Rattle.std.proofs.Common.{◌≡◌, ◌≤◌, ◌+◌, ◌-◌, ℕ, List, [], length}
 use Rattle.std.specs.Io.KnownBytes.{Consumes}
 use Rattle.console_lines.specs.declared.lines.TheConstants.{LONGEST_INPUT}
-use Rattle.run_console.specs.SessionProgress.{PartRan}
+use Rattle.run_console.specs.Progress.{PartRan}
+use Rattle.run_console.proofs.Going.{Goes}
 use Rattle.run_console.proofs.inputs.run_whole_lines.Given as goal
 
 -- Some bytes were read and run, and no more than may be read.
@@ -11,8 +12,10 @@ invariant-loop-total g l =
     × Consumes (g.R.Read.remaining l.initial.input) (g.R.Read.remaining l.input) bytes
     × (length bytes ≡ l.total)
     × (l.total ≤ LONGEST_INPUT + 1)
-    × PartRan [] bytes l.initial.session l.session l.begun.items
+    × PartRan [] bytes l.initial.book.session l.book.session l.tail.items [] []
     (g.W.Write.contents l.initial.output) (g.W.Write.contents l.output)
+    × (l.gathered.items ≡ [])
+    × Goes g.D.RunDisk.state l.initial.book l.book
 
 abbrev pub decreases-loop-total : goal.decreases-loop-total
 decreases-loop-total g l = LONGEST_INPUT + 1 - l.total

@@ -1,0 +1,402 @@
+//! A [`Reply`] is gathered behind other replies, as one line. It takes no memory.
+
+ghost use Rattle.std.specs.Prelude.{◌≡◌, ◌++◌, ◌+◌, ◌<◌, ◌≤◌, ◌^◌, codes, length};
+ghost use Rattle.std.specs.Fmt.{decimal};
+ghost use Rattle.arrayvec.specs.ArrayVec.{array_vec_len};
+ghost use Rattle.run_model.specs.Faults.{fault_name};
+ghost use Rattle.run_model.specs.Reasons.{reason_text};
+ghost use Rattle.run_model.specs.Refusals.{refusal_name};
+ghost use Rattle.console_lines.specs.declared.gathers.TheConstants.{LONGEST_REPLY};
+ghost use Rattle.console_lines.specs.Gathers.{Gathers, ended_text, failed_text, limited_text};
+ghost use Rattle.console_lines.specs.Gathers.{waited_text};
+ghost use Rattle.console_lines.specs.Replies.{answer_text, counts_text, deadline_text, ending_text};
+ghost use Rattle.console_lines.specs.Replies.{error_text, fault_text, group_text, limit_text};
+ghost use Rattle.console_lines.specs.Replies.{phase_text, refusal_text, reply_line, scope_text};
+ghost use Rattle.console_lines.specs.Replies.{started_text, tally_text, task_text, trouble_text};
+ghost use Rattle.console_lines.specs.Replies.{yes_or_no};
+
+use crate::replies::Reply;
+use crate::tallies::{Counts, Tally};
+use arrayvec::ArrayVec;
+use itoa::Buffer;
+use run_model::{
+    Answer, Fault, GroupLook, Limit, Look, Moment, Name, Phase, Reason, Refusal, TaskInfo, Text,
+    Trouble,
+};
+
+/// The longest reply has so many bytes, with its LF: a scope that is done, with a deadline and a
+/// cause.
+pub const LONGEST_REPLY: usize = 131;
+
+impl Reply {
+    /// Appends the reply as it is written, with its LF.
+    pub fn gather<const N: usize>(&self, out: &mut ArrayVec<u8, N>)
+        requires { array_vec_len out.old + LONGEST_REPLY ≤ N }
+        ensures { Gathers out.old.items out.new.items (reply_line self.now) LONGEST_REPLY }
+    {
+        match self {
+            Reply::BadLine => push(out, b"bad line"),
+            Reply::Refused(refusal) => push_refusal(out, *refusal),
+            Reply::Answered(answer) => push_answer(out, answer),
+            Reply::Started(started) => push_start(out, &started.info),
+            Reply::Finished(_) => push(out, b"ok"),
+            Reply::Scope(look) => push_look(out, look),
+            Reply::Value(text) => {
+                push(out, b"value ");
+                push_text(out, text);
+            }
+            Reply::Task(task, phase) => push_task(out, *task, phase),
+            Reply::Group(look) => push_group(out, look),
+            Reply::Tally(tally) => push_tally(out, tally),
+            Reply::Acked(count) => {
+                push(out, b"acked ");
+                push_number(out, *count);
+            }
+            Reply::Failed(trouble) => push_trouble(out, *trouble),
+        }
+        push(out, b"\n");
+    }
+}
+
+/// A refusal. The unfinished tasks are counted behind the name.
+fn push_refusal<const N: usize>(out: &mut ArrayVec<u8, N>, refusal: Refusal)
+    requires { array_vec_len out.old + 70 ≤ N }
+    ensures { Gathers out.old.items out.new.items (refusal_text refusal) 70 }
+{
+    push(out, b"refused ");
+    push_number(out, u64::from(refusal.number()));
+    push(out, b" ");
+    push_refusal_name(out, refusal);
+    if let Refusal::Unfinished(count) = refusal {
+        push(out, b" ");
+        push_number(out, u64::from(count));
+    }
+}
+
+fn push_refusal_name<const N: usize>(out: &mut ArrayVec<u8, N>, refusal: Refusal)
+    requires { array_vec_len out.old + 16 ≤ N }
+    ensures { Gathers out.old.items out.new.items (refusal_name refusal) 16 }
+{
+    push(out, refusal.name().as_bytes());
+}
+
+/// Why a flush or a checkpoint was not done.
+fn push_trouble<const N: usize>(out: &mut ArrayVec<u8, N>, trouble: Trouble)
+    requires { array_vec_len out.old + 70 ≤ N }
+    ensures { Gathers out.old.items out.new.items (trouble_text trouble) 70 }
+{
+    match trouble {
+        Trouble::Refused(refusal) => push_refusal(out, refusal),
+        Trouble::Faulty(fault) => push_fault(out, fault),
+    }
+}
+
+fn push_fault<const N: usize>(out: &mut ArrayVec<u8, N>, fault: Fault)
+    requires { array_vec_len out.old + 70 ≤ N }
+    ensures { Gathers out.old.items out.new.items (fault_text fault) 70 }
+{
+    push(out, b"fault ");
+    push_number(out, u64::from(fault.number()));
+    push(out, b" ");
+    push_fault_name(out, fault);
+}
+
+fn push_fault_name<const N: usize>(out: &mut ArrayVec<u8, N>, fault: Fault)
+    requires { array_vec_len out.old + 12 ≤ N }
+    ensures { Gathers out.old.items out.new.items (fault_name fault) 12 }
+{
+    push(out, fault.name().as_bytes());
+}
+
+/// The answer of an accepted command.
+fn push_answer<const N: usize>(out: &mut ArrayVec<u8, N>, answer: &Answer)
+    requires { array_vec_len out.old + 130 ≤ N }
+    ensures { Gathers out.old.items out.new.items (answer_text answer.now) 130 }
+{
+    match answer {
+        Answer::Scope(scope) => {
+            push(out, b"scope ");
+            push_number(out, u64::from(*scope));
+        }
+        Answer::Group(group, None) => {
+            push(out, b"group ");
+            push_number(out, u64::from(*group));
+        }
+        Answer::Group(group, Some(scope)) => {
+            push(out, b"group ");
+            push_number(out, u64::from(*group));
+            push(out, b" scope ");
+            push_number(out, u64::from(*scope));
+        }
+        Answer::Done => push(out, b"ok"),
+        Answer::Task(task, phase) => push_task(out, *task, phase),
+        Answer::Waited(None) => push(out, b"wait ok"),
+        Answer::Waited(Some(error)) => {
+            push(out, b"wait error ");
+            push_text(out, error);
+        }
+    }
+}
+
+/// A task's number, and how far it is.
+fn push_task<const N: usize>(out: &mut ArrayVec<u8, N>, task: u16, phase: &Phase)
+    requires { array_vec_len out.old + 100 ≤ N }
+    ensures { Gathers out.old.items out.new.items (task_text task phase.now) 100 }
+{
+    push(out, b"task ");
+    push_number(out, u64::from(task));
+    push(out, b" ");
+    push_phase(out, phase);
+}
+
+/// How far a task is.
+pub(crate) fn push_phase<const N: usize>(out: &mut ArrayVec<u8, N>, phase: &Phase)
+    requires { array_vec_len out.old + 70 ≤ N }
+    ensures { Gathers out.old.items out.new.items (phase_text phase.now) 70 }
+{
+    match phase {
+        Phase::Held => push(out, b"held"),
+        Phase::Ready => push(out, b"ready"),
+        Phase::Running => push(out, b"running"),
+        Phase::Success => push(out, b"success"),
+        Phase::Failure(error) => {
+            push(out, b"error ");
+            push_text(out, error);
+        }
+        Phase::Interrupted => push(out, b"interrupted"),
+    }
+}
+
+/// A task that was started: its number, its job and its argument.
+fn push_start<const N: usize>(out: &mut ArrayVec<u8, N>, info: &TaskInfo)
+    requires { array_vec_len out.old + 100 ≤ N }
+    ensures { Gathers out.old.items out.new.items (started_text info.now) 100 }
+{
+    push(out, b"start ");
+    push_number(out, u64::from(info.task));
+    push_work(out, &info.job, &info.argument);
+}
+
+/// A job and its argument, with a space before each.
+fn push_work<const N: usize>(out: &mut ArrayVec<u8, N>, job: &Name, argument: &Name)
+    requires { array_vec_len out.old + 66 ≤ N }
+    ensures { Gathers out.old.items out.new.items
+        (codes " " ++ job.now ++ codes " " ++ argument.now) 66 }
+{
+    push(out, b" ");
+    push_name(out, job);
+    push(out, b" ");
+    push_name(out, argument);
+}
+
+/// How a scope is.
+pub(crate) fn push_look<const N: usize>(out: &mut ArrayVec<u8, N>, look: &Look)
+    requires { array_vec_len out.old + 130 ≤ N }
+    ensures { Gathers out.old.items out.new.items (scope_text look.now.done look.now.deadline) 130 }
+{
+    match &look.done {
+        None => {
+            push(out, b"live; deadline ");
+            push_deadline(out, look.deadline);
+        }
+        Some(ending) => {
+            push(out, b"done; deadline ");
+            push_deadline(out, look.deadline);
+            push_ending(out, ending);
+        }
+    }
+}
+
+/// Why a scope is done, and with which cause.
+fn push_ending<const N: usize>(out: &mut ArrayVec<u8, N>, ending: &(Reason, Text))
+    requires { array_vec_len out.old + 103 ≤ N }
+    ensures { Gathers out.old.items out.new.items (ending_text ending.now.0 ending.now.1) 103 }
+{
+    push(out, b"; err ");
+    push_reason(out, ending.0);
+    push(out, b"; cause ");
+    push_text(out, &ending.1);
+}
+
+/// Why a scope is done.
+fn push_reason<const N: usize>(out: &mut ArrayVec<u8, N>, reason: Reason)
+    requires { array_vec_len out.old + 25 ≤ N }
+    ensures { Gathers out.old.items out.new.items (reason_text reason) 25 }
+{
+    push(out, reason.text().as_bytes());
+}
+
+/// A deadline in seconds, or `none`.
+fn push_deadline<const N: usize>(out: &mut ArrayVec<u8, N>, deadline: Option<Moment>)
+    requires { array_vec_len out.old + 12 ≤ N }
+    ensures { Gathers out.old.items out.new.items (deadline_text deadline) 12 }
+{
+    match deadline {
+        Some(moment) => push_moment(out, moment.get()),
+        None => push(out, b"none"),
+    }
+}
+
+/// How a group is.
+pub(crate) fn push_group<const N: usize>(out: &mut ArrayVec<u8, N>, look: &GroupLook)
+    requires { array_vec_len out.old + 116 ≤ N }
+    ensures { Gathers out.old.items out.new.items (group_text look.now) 116 }
+{
+    push(out, b"unfinished ");
+    push_count(out, look.unfinished);
+    push_limited(out, look);
+}
+
+/// A group from its limit on.
+fn push_limited<const N: usize>(out: &mut ArrayVec<u8, N>, look: &GroupLook)
+    requires { array_vec_len out.old + 100 ≤ N }
+    ensures { Gathers out.old.items out.new.items (limited_text look.now) 100 }
+{
+    push(out, b"; limit ");
+    push_limit(out, look.limit);
+    push_waited(out, look);
+}
+
+/// A group from its waits on.
+fn push_waited<const N: usize>(out: &mut ArrayVec<u8, N>, look: &GroupLook)
+    requires { array_vec_len out.old + 84 ≤ N }
+    ensures { Gathers out.old.items out.new.items (waited_text look.now) 84 }
+{
+    push(out, b"; waited ");
+    push_yes_or_no(out, look.waited);
+    push(out, b"; error ");
+    push_error(out, &look.error);
+}
+
+/// A limit, or `none`.
+fn push_limit<const N: usize>(out: &mut ArrayVec<u8, N>, limit: Limit)
+    requires { array_vec_len out.old + 5 ≤ N }
+    ensures { Gathers out.old.items out.new.items (limit_text limit) 5 }
+{
+    match limit.get() {
+        Some(most) => push_count(out, u16::from(most)),
+        None => push(out, b"none"),
+    }
+}
+
+/// Whether something was done.
+fn push_yes_or_no<const N: usize>(out: &mut ArrayVec<u8, N>, done: bool)
+    requires { array_vec_len out.old + 3 ≤ N }
+    ensures { Gathers out.old.items out.new.items (yes_or_no done) 3 }
+{
+    if done {
+        push(out, b"yes");
+    } else {
+        push(out, b"no");
+    }
+}
+
+/// A first error, or `none`.
+fn push_error<const N: usize>(out: &mut ArrayVec<u8, N>, error: &Option<Text>)
+    requires { array_vec_len out.old + 64 ≤ N }
+    ensures { Gathers out.old.items out.new.items (error_text error.now) 64 }
+{
+    match error {
+        Some(error) => push_text(out, error),
+        None => push(out, b"none"),
+    }
+}
+
+/// What is counted of the tasks of one job.
+fn push_tally<const N: usize>(out: &mut ArrayVec<u8, N>, tally: &Tally)
+    requires { array_vec_len out.old + 110 ≤ N }
+    ensures { Gathers out.old.items out.new.items (tally_text tally.now) 110 }
+{
+    push(out, b"tally ");
+    push_name(out, &tally.job);
+    push(out, b" ");
+    push_counts(out, tally.counts);
+}
+
+/// How many tasks there are, and how many of them have ended in each way.
+fn push_counts<const N: usize>(out: &mut ArrayVec<u8, N>, counts: Counts)
+    requires { array_vec_len out.old + 70 ≤ N }
+    ensures { Gathers out.old.items out.new.items (counts_text counts) 70 }
+{
+    push(out, b"total ");
+    push_count(out, counts.total);
+    push_ended(out, counts);
+}
+
+/// What is counted, from the successes on.
+fn push_ended<const N: usize>(out: &mut ArrayVec<u8, N>, counts: Counts)
+    requires { array_vec_len out.old + 50 ≤ N }
+    ensures { Gathers out.old.items out.new.items (ended_text counts) 50 }
+{
+    push(out, b"; success ");
+    push_count(out, counts.success);
+    push_failed(out, counts);
+}
+
+/// What is counted, from the failures on.
+fn push_failed<const N: usize>(out: &mut ArrayVec<u8, N>, counts: Counts)
+    requires { array_vec_len out.old + 35 ≤ N }
+    ensures { Gathers out.old.items out.new.items (failed_text counts) 35 }
+{
+    push(out, b"; failure ");
+    push_count(out, counts.failure);
+    push(out, b"; interrupted ");
+    push_count(out, counts.interrupted);
+}
+
+/// A moment has at most 12 digits.
+#[tactic(auto, using(crate::proofs::Digits::moment_digits))]
+pub(crate) fn push_moment<const N: usize>(out: &mut ArrayVec<u8, N>, seconds: u64)
+    requires range { seconds < 10 ^ 12 }
+    requires room { array_vec_len out.old + 12 ≤ N }
+    ensures { Gathers out.old.items out.new.items (decimal seconds) 12 }
+{
+    let mut digits = Buffer::new();
+    push(out, digits.format(seconds).as_bytes());
+}
+
+/// A count has at most 5 digits.
+#[tactic(auto, using(crate::proofs::Digits::count_digits))]
+fn push_count<const N: usize>(out: &mut ArrayVec<u8, N>, count: u16)
+    requires { array_vec_len out.old + 5 ≤ N }
+    ensures { Gathers out.old.items out.new.items (decimal count) 5 }
+{
+    let mut digits = Buffer::new();
+    push(out, digits.format(count).as_bytes());
+}
+
+/// A number has at most 20 digits.
+pub(crate) fn push_number<const N: usize>(out: &mut ArrayVec<u8, N>, number: u64)
+    requires { array_vec_len out.old + 20 ≤ N }
+    ensures { Gathers out.old.items out.new.items (decimal number) 20 }
+{
+    let mut digits = Buffer::new();
+    push(out, digits.format(number).as_bytes());
+}
+
+/// A text.
+fn push_text<const N: usize>(out: &mut ArrayVec<u8, N>, text: &Text)
+    requires { array_vec_len out.old + 64 ≤ N }
+    ensures { Gathers out.old.items out.new.items text.now 64 }
+{
+    push(out, text.as_bytes());
+}
+
+/// A name.
+pub(crate) fn push_name<const N: usize>(out: &mut ArrayVec<u8, N>, name: &Name)
+    requires { array_vec_len out.old + 32 ≤ N }
+    ensures { Gathers out.old.items out.new.items name.now 32 }
+{
+    push(out, name.as_bytes());
+}
+
+/// All of these bytes.
+pub(crate) fn push<const N: usize>(out: &mut ArrayVec<u8, N>, bytes: &[u8])
+    requires { array_vec_len out.old + length bytes.now ≤ N }
+    ensures { Gathers out.old.items out.new.items bytes.now (length bytes.now) }
+{
+    match out.try_extend_from_slice(bytes) {
+        Ok(()) => (),
+        Err(_) => unreachable!(),
+    }
+}

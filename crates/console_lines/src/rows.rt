@@ -1,0 +1,131 @@
+//! A [`Row`] is a line of what is seen of a whole state.
+
+ghost use Rattle.std.specs.Fmt.{decimal};
+ghost use Rattle.std.specs.Prelude.{◌≡◌, ◌++◌, ◌+◌, ◌≤◌, codes, length};
+ghost use Rattle.arrayvec.specs.ArrayVec.{array_vec_len};
+ghost use Rattle.console_lines.specs.declared.rows.TheConstants.{LONGEST_ROW};
+ghost use Rattle.console_lines.specs.Gathers.{Gathers};
+ghost use Rattle.console_lines.specs.Inspected.{job_text, named, numbered, retry_text, row_line};
+ghost use Rattle.console_lines.specs.Inspected.{row_text, work_text};
+
+use crate::gathers::{
+    push, push_group, push_look, push_moment, push_name, push_number, push_phase,
+};
+use arrayvec::ArrayVec;
+use run_model::{GroupLook, Look, Moment, Name, TaskLook};
+
+/// No row has more bytes, with its LF.
+pub const LONGEST_ROW: usize = 230;
+
+/// A line of what is seen of a whole state.
+#[derive(Clone, Debug, Drop, PartialEq, Eq)]
+pub enum Row {
+    /// How many events there were, and the clock: `events 6; clock 0`.
+    Counts(u64, Moment),
+    /// A scope: `scope 1 g live; deadline none`.
+    Scope(u16, Look),
+    /// A group: `group 0 g unfinished 2; limit 1; waited no; error none`.
+    Group(u16, GroupLook),
+    /// A task, with the name of its group: `task 0 g copy a running`.
+    Task(u16, Name, TaskLook),
+}
+
+impl Row {
+    /// Appends the row as it is written, with its LF. It takes no memory.
+    pub fn gather<const N: usize>(&self, out: &mut ArrayVec<u8, N>)
+        requires { array_vec_len out.old + LONGEST_ROW ≤ N }
+        ensures { Gathers out.old.items out.new.items (row_line self.now) LONGEST_ROW }
+    {
+        push_row(out, self);
+        push(out, b"\n");
+    }
+}
+
+/// A row without its LF.
+fn push_row<const N: usize>(out: &mut ArrayVec<u8, N>, row: &Row)
+    requires { array_vec_len out.old + 229 ≤ N }
+    ensures { Gathers out.old.items out.new.items (row_text row.now) 229 }
+{
+    match row {
+        Row::Counts(count, clock) => push_counts(out, *count, *clock),
+        Row::Scope(scope, look) => {
+            push_named(out, b"scope", *scope, &look.name);
+            push_look(out, look);
+        }
+        Row::Group(group, look) => {
+            push_named(out, b"group", *group, &look.name);
+            push_group(out, look);
+        }
+        Row::Task(task, group, look) => {
+            push_named(out, b"task", *task, group);
+            push_work(out, look);
+        }
+    }
+}
+
+/// How many events there were, and the clock.
+fn push_counts<const N: usize>(out: &mut ArrayVec<u8, N>, count: u64, clock: Moment)
+    requires { array_vec_len out.old + 50 ≤ N }
+    ensures { Gathers out.old.items out.new.items
+        (codes "events " ++ (decimal count ++ (codes "; clock " ++ decimal clock))) 50 }
+{
+    push(out, b"events ");
+    push_number(out, count);
+    push(out, b"; clock ");
+    push_moment(out, clock.get());
+}
+
+/// A word, a number and a name, as in `scope 1 a `.
+fn push_named<const N: usize>(out: &mut ArrayVec<u8, N>, word: &[u8], number: u16, name: &Name)
+    requires word { length word.now ≤ 5 }
+    requires room { array_vec_len out.old + 60 ≤ N }
+    ensures { Gathers out.old.items out.new.items (named word.now number name.now) 60 }
+{
+    push_numbered(out, word, number);
+    push_name(out, name);
+    push(out, b" ");
+}
+
+/// A word and a number, as in `scope 1 `.
+fn push_numbered<const N: usize>(out: &mut ArrayVec<u8, N>, word: &[u8], number: u16)
+    requires word { length word.now ≤ 5 }
+    requires room { array_vec_len out.old + 27 ≤ N }
+    ensures { Gathers out.old.items out.new.items (numbered word.now number) 27 }
+{
+    push(out, word);
+    push(out, b" ");
+    push_number(out, u64::from(number));
+    push(out, b" ");
+}
+
+/// A task's work and how far it is.
+fn push_work<const N: usize>(out: &mut ArrayVec<u8, N>, look: &TaskLook)
+    requires { array_vec_len out.old + 166 ≤ N }
+    ensures { Gathers out.old.items out.new.items (work_text look.now) 166 }
+{
+    push_job(out, look);
+    push_phase(out, &look.phase);
+    push_retry(out, look.retry_of);
+}
+
+/// A job and its argument, as in `copy a `.
+fn push_job<const N: usize>(out: &mut ArrayVec<u8, N>, look: &TaskLook)
+    requires { array_vec_len out.old + 66 ≤ N }
+    ensures { Gathers out.old.items out.new.items (job_text look.now) 66 }
+{
+    push_name(out, &look.job);
+    push(out, b" ");
+    push_name(out, &look.argument);
+    push(out, b" ");
+}
+
+/// Which task this one is a retry of, where it is one.
+fn push_retry<const N: usize>(out: &mut ArrayVec<u8, N>, retry_of: Option<u16>)
+    requires { array_vec_len out.old + 30 ≤ N }
+    ensures { Gathers out.old.items out.new.items (retry_text retry_of) 30 }
+{
+    if let Some(task) = retry_of {
+        push(out, b" retry of ");
+        push_number(out, u64::from(task));
+    }
+}

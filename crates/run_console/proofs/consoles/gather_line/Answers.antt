@@ -1,0 +1,167 @@
+use Rattle.std.specs.Prelude.{◌≡◌, ◌++◌, true, map}
+use Rattle.std.specs.Option.{option_to_list}
+use Rattle.std.proofs.Common.{ℕ, List, ◌∷◌, [], refl, sym, subst, ap, ◌∙◌}
+use Rattle.std.proofs.lemmas.Result.{err_from_is_err_and, on_ok_weaker}
+use Rattle.run_model.specs.State.{State}
+use Rattle.run_state.proofs.Staying.{stays_same}
+use Rattle.console_lines.specs.Asked.{asked_of}
+use Rattle.console_lines.specs.Replies.{reply_lines}
+use Rattle.console_lines.specs.Script.{reply}
+use Rattle.console_lines.specs.Tallies.{tallies_of}
+use Rattle.console_lines.specs.declared.faults.RunFault.{RunFault}
+use Rattle.console_lines.specs.declared.replies.Reply.TheVariants as said
+use Rattle.run_console.specs.Progress.{Cut, IsOfLine, Told, Untold}
+use Rattle.run_console.specs.SessionLines.{IsSaving, is_tally, plain}
+use Rattle.run_console.proofs.Ends.{cut_stopped, of_line, of_tally, told_more}
+use Rattle.run_console.proofs.LineSteps.{fault_then, line_obeyed, line_replies, line_tally}
+use Rattle.run_console.proofs.LineSteps.{saves_no_tally, tally_asked, tally_leaves}
+use Rattle.run_console.proofs.Lines.{cut_before, cut_untold, ran_line}
+use Rattle.run_console.proofs.consoles.gather_line.Given.{Over}
+use Rattle.run_console.proofs.consoles.gather_line.Goals as goal
+use Rattle.run_console.proofs.consoles.gather_line.Goals.{After-gather_tally}
+use Rattle.run_book.specs.Views.{holding}
+use Rattle.run_console.proofs.Troubles.{accounts_sound, accounts_told, accounts_untold}
+use Rattle.run_console.specs.Troubles.{Accounts}
+
+-- ---- a tally
+
+is_one : (g : Over) (c : After-gather_tally g) → is_tally c.read_line-asked.result ≡ true
+is_one g c = sym c.is_tally.ensures ∙ c.if-is_tally.true
+
+tallied : (g : Over) (c : After-gather_tally g) (line : List ℕ)
+    → c.read_line-asked.result ≡ asked_of line
+    → reply_lines (map said.Tally (tallies_of c.state.result.now.work.tasks))
+    ≡ reply (plain c.args.book.now.session) line
+tallied g c line read =
+    ap (λ (p : State). reply_lines (map said.Tally (tallies_of p.work.tasks)))
+    c.state.ensures.state
+    ∙ line_tally (plain c.args.book.now.session) line c.read_line-asked.result read (is_one g c)
+
+pub returns-then-is_tally-clause-ran : goal.returns-then-is_tally-clause-ran
+returns-then-is_tally-clause-ran g c = λ line e.
+    let b = c.args.book.now.session in
+    let w0 = g.W.Write.contents c.args.output.now in
+    let w1 = g.W.Write.contents c.gather_tally.new.output in
+    let f = c.args.gathered.now.items in
+    let h = c.gather_tally.new.gathered.items in
+    let read = c.read_line-asked.ensures ∙ sym e in
+    let P : List ℕ → Type 0 = λ t. Told t f h w0 w1 in
+    on_ok_weaker c.gather_tally.result
+    (λ told. ran_line line b b f h w0 w1
+    (tally_leaves b line c.read_line-asked.result read (is_one g c))
+    (subst P (tallied g c line read) told))
+    c.gather_tally.ensures.told
+
+pub returns-then-is_tally-clause-cut : goal.returns-then-is_tally-clause-cut
+returns-then-is_tally-clause-cut g c = λ line e.
+    let b = c.args.book.now.session in
+    let w0 = g.W.Write.contents c.args.output.now in
+    let w1 = g.W.Write.contents c.gather_tally.new.output in
+    let f = c.args.gathered.now.items in
+    let text = reply_lines (map said.Tally (tallies_of c.state.result.now.work.tasks)) in
+    let read = c.read_line-asked.ensures ∙ sym e in
+    let Less : RunFault → Type 0 = λ why. Untold why text f w0 w1 in
+    let Stops : RunFault → Type 0 = λ why. Cut why (line ∷ []) b b f w0 w1 in
+    fault_then c.gather_tally.result Less Stops
+    (λ why less. cut_untold why line b b f w0 w1
+    (tally_asked line c.read_line-asked.result read (is_one g c)) refl
+    (tally_leaves b line c.read_line-asked.result read (is_one g c))
+    (subst (λ t. Untold why t f w0 w1) (tallied g c line read) less))
+    c.gather_tally.ensures.untold
+
+pub returns-then-is_tally-clause-fault : goal.returns-then-is_tally-clause-fault
+returns-then-is_tally-clause-fault g c =
+    let w0 = g.W.Write.contents c.args.output.now in
+    let w1 = g.W.Write.contents c.gather_tally.new.output in
+    let f = c.args.gathered.now.items in
+    let text = reply_lines (map said.Tally (tallies_of c.state.result.now.work.tasks)) in
+    let Less : RunFault → Type 0 = λ why. Untold why text f w0 w1 in
+    fault_then c.gather_tally.result Less IsOfLine (λ why less. of_tally why text f w0 w1 less)
+    c.gather_tally.ensures.untold
+
+pub returns-then-is_tally-clause-saved : goal.returns-then-is_tally-clause-saved
+returns-then-is_tally-clause-saved g c = λ saving.
+    saves_no_tally c.args.bytes.now c.read_line-asked.result _ c.read_line-asked.ensures
+    (is_one g c) saving
+
+pub returns-then-is_tally-clause-lasts : goal.returns-then-is_tally-clause-lasts
+returns-then-is_tally-clause-lasts g c = stays_same c.args.book.now.session.state
+
+-- ---- no room
+
+pub returns-in_err-make_room-clause-cut : goal.returns-in_err-make_room-clause-cut
+returns-in_err-make_room-clause-cut g c = λ line e.
+    let p = err_from_is_err_and c.from_residual.result c.from_residual.ensures.1 in
+    let b = c.args.book.now.session in
+    rw (p.1, p.2, c.in_err-make_room.ensures.fault) (
+    cut_before line b b c.args.gathered.now.items (g.W.Write.contents c.args.output.now)
+    (g.W.Write.contents c.make_room.new.output) refl c.in_err-make_room.ensures.cut)
+
+pub returns-in_err-make_room-clause-lasts : goal.returns-in_err-make_room-clause-lasts
+returns-in_err-make_room-clause-lasts g c = stays_same c.args.book.now.session.state
+
+-- ---- a trouble
+
+pub returns-in-Err-clause-cut : goal.returns-in-Err-clause-cut
+returns-in-Err-clause-cut g c = λ line e.
+    let read = c.read_line-asked.ensures ∙ sym e in
+    cut_stopped c.stop.result c.in-Err.trouble line c.args.book.now.session
+    c.reply_to.new.book.session c.args.gathered.now.items c.make_room.new.gathered.items
+    (g.W.Write.contents c.args.output.now) (g.W.Write.contents c.make_room.new.output)
+    (g.W.Write.contents c.stop.new.output)
+    (subst IsSaving read c.in-Err.ensures.saving) c.in-Err.ensures.kept
+    c.in_ok-make_room.ensures.told c.stop.ensures
+
+pub returns-in-Err-clause-fault : goal.returns-in-Err-clause-fault
+returns-in-Err-clause-fault g c =
+    of_line c.stop.result c.in-Err.trouble c.make_room.new.gathered.items
+    (g.W.Write.contents c.make_room.new.output) (g.W.Write.contents c.stop.new.output)
+    c.stop.ensures
+
+-- ---- a reply
+
+pub returns-clause-ran : goal.returns-clause-ran
+returns-clause-ran g c = λ line e.
+    let b = c.args.book.now.session in
+    let d = c.reply_to.new.book.session in
+    let f = c.args.gathered.now.items in
+    let m = c.make_room.new.gathered.items in
+    let h = c.gather_reply.new.gathered.items in
+    let w0 = g.W.Write.contents c.args.output.now in
+    let w1 = g.W.Write.contents c.make_room.new.output in
+    let a = c.read_line-asked.result in
+    let read = c.read_line-asked.ensures ∙ sym e in
+    ran_line line b d f h w0 w1 (line_obeyed b d line a read c.in-Ok.ensures.session)
+    (told_more (reply (plain b) line) f m h w0 w1 c.in_ok-make_room.ensures.told
+    (c.gather_reply.ensures
+    ∙ ap (λ t. m ++ t)
+    (line_replies (plain b) line a (option_to_list c.in-Ok.reply) read c.in-Ok.ensures.reply)))
+
+-- ---- the store
+
+pub returns-then-is_tally-clause-accounts : goal.returns-then-is_tally-clause-accounts
+returns-then-is_tally-clause-accounts g c =
+    let b = holding c.args.book.now in
+    let w0 = g.W.Write.contents c.args.output.now in
+    let w1 = g.W.Write.contents c.gather_tally.new.output in
+    let f = c.args.gathered.now.items in
+    let text = reply_lines (map said.Tally (tallies_of c.state.result.now.work.tasks)) in
+    let Less : RunFault → Type 0 = λ why. Untold why text f w0 w1 in
+    let Says : RunFault → Type 0 = λ why. Accounts g.D.RunDisk.state b why b in
+    fault_then c.gather_tally.result Less Says
+    (λ why less. accounts_untold g.D.RunDisk.state b why text f w0 w1 c.requires.sound less)
+    c.gather_tally.ensures.untold
+
+pub returns-in_err-make_room-clause-accounts : goal.returns-in_err-make_room-clause-accounts
+returns-in_err-make_room-clause-accounts g c =
+    let p = err_from_is_err_and c.from_residual.result c.from_residual.ensures.1 in
+    let b = holding c.args.book.now in
+    rw (p.1, p.2, c.in_err-make_room.ensures.fault) (
+    accounts_sound g.D.RunDisk.state b b c.requires.sound)
+
+pub returns-in-Err-clause-accounts : goal.returns-in-Err-clause-accounts
+returns-in-Err-clause-accounts g c =
+    accounts_told g.D.RunDisk.state (holding c.args.book.now) (holding c.reply_to.new.book)
+    c.stop.result c.in-Err.trouble c.make_room.new.gathered.items
+    (g.W.Write.contents c.make_room.new.output) (g.W.Write.contents c.stop.new.output)
+    c.in-Err.ensures.told c.stop.ensures

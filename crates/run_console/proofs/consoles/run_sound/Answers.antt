@@ -1,0 +1,164 @@
+use Rattle.std.proofs.Common.{ℕ, List, [], ◌∷◌, subst}
+use Rattle.std.proofs.lemmas.Result.{err_from_is_err_and, on_ok_weaker}
+use Rattle.console_lines.specs.Lines.{open_line}
+use Rattle.console_lines.specs.Script.{closing}
+use Rattle.console_lines.specs.declared.faults.RunFault.{RunFault}
+use Rattle.run_console.specs.Progress.{Cut, EndStops, Ran, RunStops}
+use Rattle.run_console.specs.SessionLines.{plain}
+use Rattle.run_console.proofs.Going.{Lives, lives_then}
+use Rattle.run_console.proofs.LineSteps.{fault_then, same_asked}
+use Rattle.run_console.proofs.Wholes.{runs_all, stops_closing, stops_in_the_last}
+use Rattle.run_console.proofs.consoles.run_sound.Given.{Over}
+use Rattle.run_console.proofs.consoles.run_sound.Goals as goal
+use Rattle.run_console.proofs.consoles.run_sound.Goals.{After-close}
+use Rattle.run_book.specs.Views.{holding}
+use Rattle.run_console.proofs.Troubles.{accounts_earlier}
+use Rattle.run_console.specs.Troubles.{Accounts}
+
+-- ---- the last line
+
+pub returns-in_err-gather_line-clause-stops : goal.returns-in_err-gather_line-clause-stops
+returns-in_err-gather_line-clause-stops g c =
+    let p = err_from_is_err_and c.from_residual-in_err-gather_line.result
+    c.from_residual-in_err-gather_line.ensures.1 in
+    let reads = c.in_ok-run_whole_lines.ensures.read in
+    let why = c.in_err-gather_line.field-0.0 in
+    let last = open_line [] reads.bytes in
+    let mid = c.run_whole_lines.new.book.session in
+    let d = c.gather_line.new.book.session in
+    let w1 = g.W.Write.contents c.run_whole_lines.new.output in
+    let w2 = g.W.Write.contents c.gather_line.new.output in
+    let P : List ℕ → Type 0 = λ f. Cut why (last ∷ []) mid d f w1 w2 in
+    rw (p.1, p.2) (
+    stops_in_the_last why c.args.book.now.session mid d c.run_whole_lines.new.tail.items
+    (g.R.Read.remaining c.args.input.now) (g.R.Read.remaining c.run_whole_lines.new.input)
+    (g.W.Write.contents c.args.output.now) w1 w2 c.in_err-gather_line.ensures.fault reads
+    (subst P c.in_ok-run_whole_lines.ensures.none
+    (c.in_err-gather_line.ensures.cut last
+    (same_asked last c.run_whole_lines.new.tail.items c.as_slice.result.now
+    c.as_slice.ensures.value reads.part.tail_is))))
+
+-- ---- the end
+
+-- The last line was run.
+last_ran : (g : Over) (c : After-close g)
+    → Ran (open_line [] c.in_ok-run_whole_lines.ensures.read.bytes ∷ [])
+    c.run_whole_lines.new.book.session c.gather_line.new.book.session []
+    c.gather_line.new.gathered.items (g.W.Write.contents c.run_whole_lines.new.output)
+    (g.W.Write.contents c.gather_line.new.output)
+last_ran g c =
+    let reads = c.in_ok-run_whole_lines.ensures.read in
+    let last = open_line [] reads.bytes in
+    let P : List ℕ → Type 0 = λ f.
+    Ran (last ∷ []) c.run_whole_lines.new.book.session c.gather_line.new.book.session f
+    c.gather_line.new.gathered.items (g.W.Write.contents c.run_whole_lines.new.output)
+    (g.W.Write.contents c.gather_line.new.output) in
+    subst P c.in_ok-run_whole_lines.ensures.none
+    (c.in_ok-gather_line.ensures.ran last
+    (same_asked last c.run_whole_lines.new.tail.items c.as_slice.result.now
+    c.as_slice.ensures.value reads.part.tail_is))
+
+pub returns-clause-all : goal.returns-clause-all
+returns-clause-all g c =
+    on_ok_weaker c.close.result
+    (λ h. runs_all c.args.book.now.session c.run_whole_lines.new.book.session
+    c.gather_line.new.book.session c.close.new.book.session c.run_whole_lines.new.tail.items
+    c.gather_line.new.gathered.items
+    (g.R.Read.remaining c.args.input.now) (g.R.Read.remaining c.run_whole_lines.new.input)
+    (g.W.Write.contents c.args.output.now) (g.W.Write.contents c.run_whole_lines.new.output)
+    (g.W.Write.contents c.gather_line.new.output) (g.W.Write.contents c.close.new.output)
+    c.in_ok-run_whole_lines.ensures.read (last_ran g c) c.close.ensures.session h)
+    c.close.ensures.whole
+
+pub returns-clause-stops : goal.returns-clause-stops
+returns-clause-stops g c =
+    let b = c.args.book.now.session in
+    let d = c.gather_line.new.book.session in
+    let e = c.close.new.book.session in
+    let f = c.gather_line.new.gathered.items in
+    let r0 = g.R.Read.remaining c.args.input.now in
+    let r1 = g.R.Read.remaining c.run_whole_lines.new.input in
+    let w0 = g.W.Write.contents c.args.output.now in
+    let w1 = g.W.Write.contents c.run_whole_lines.new.output in
+    let w2 = g.W.Write.contents c.gather_line.new.output in
+    let w3 = g.W.Write.contents c.close.new.output in
+    let Ends : RunFault → Type 0 = λ why. EndStops why (closing (plain d)) f w2 w3 in
+    let Stops : RunFault → Type 0 = λ why. RunStops why b e r0 r1 w0 w3 in
+    fault_then c.close.result Ends Stops
+    (λ why h. stops_closing why b c.run_whole_lines.new.book.session d e
+    c.run_whole_lines.new.tail.items f r0 r1 w0 w1 w2 w3 c.in_ok-run_whole_lines.ensures.read
+    (last_ran g c) c.close.ensures.session h)
+    c.close.ensures.stops
+
+-- ---- the book
+
+lives : (g : Over) (c : After-close g)
+    → Lives g.D.RunDisk.state c.args.book.now c.close.new.book
+lives g c =
+    let state = g.D.RunDisk.state in
+    lives_then state c.args.book.now c.gather_line.new.book c.close.new.book
+    (lives_then state c.args.book.now c.run_whole_lines.new.book c.gather_line.new.book
+    (record {
+      lasts = c.run_whole_lines.ensures.lasts;
+      carries_on = c.run_whole_lines.ensures.carries_on;
+    })
+    c.gather_line.ensures.lasts c.gather_line.ensures.carries_on)
+    c.close.ensures.lasts c.close.ensures.carries_on
+
+pub returns-clause-lasts : goal.returns-clause-lasts
+returns-clause-lasts g c = (lives g c).lasts
+
+pub returns-clause-carries_on : goal.returns-clause-carries_on
+returns-clause-carries_on g c = (lives g c).carries_on
+
+pub returns-in_err-gather_line-clause-lasts : goal.returns-in_err-gather_line-clause-lasts
+returns-in_err-gather_line-clause-lasts g c =
+    (lives_then g.D.RunDisk.state c.args.book.now c.run_whole_lines.new.book
+    c.gather_line.new.book
+    (record {
+      lasts = c.run_whole_lines.ensures.lasts;
+      carries_on = c.run_whole_lines.ensures.carries_on;
+    })
+    c.gather_line.ensures.lasts c.gather_line.ensures.carries_on).lasts
+
+pub returns-in_err-gather_line-clause-carries_on :
+    goal.returns-in_err-gather_line-clause-carries_on
+returns-in_err-gather_line-clause-carries_on g c =
+    (lives_then g.D.RunDisk.state c.args.book.now c.run_whole_lines.new.book
+    c.gather_line.new.book
+    (record {
+      lasts = c.run_whole_lines.ensures.lasts;
+      carries_on = c.run_whole_lines.ensures.carries_on;
+    })
+    c.gather_line.ensures.lasts c.gather_line.ensures.carries_on).carries_on
+
+-- ---- the store
+
+pub returns-in_err-gather_line-clause-accounts : goal.returns-in_err-gather_line-clause-accounts
+returns-in_err-gather_line-clause-accounts g c =
+    let p = err_from_is_err_and c.from_residual-in_err-gather_line.result
+    c.from_residual-in_err-gather_line.ensures.1 in
+    rw (p.1, p.2) (
+    accounts_earlier g.D.RunDisk.state (holding c.args.book.now)
+    (holding c.run_whole_lines.new.book) (holding c.gather_line.new.book)
+    c.in_err-gather_line.field-0.0 c.run_whole_lines.ensures.carries_on.passed
+    c.in_err-gather_line.ensures.accounts)
+
+pub returns-clause-accounts : goal.returns-clause-accounts
+returns-clause-accounts g c =
+    let state = g.D.RunDisk.state in
+    let b = holding c.args.book.now in
+    let d = holding c.gather_line.new.book in
+    let e = holding c.close.new.book in
+    let Since : RunFault → Type 0 = λ why. Accounts state d why e in
+    let Says : RunFault → Type 0 = λ why. Accounts state b why e in
+    let before = lives_then state c.args.book.now c.run_whole_lines.new.book
+    c.gather_line.new.book
+    (record {
+      lasts = c.run_whole_lines.ensures.lasts;
+      carries_on = c.run_whole_lines.ensures.carries_on;
+    })
+    c.gather_line.ensures.lasts c.gather_line.ensures.carries_on in
+    fault_then c.close.result Since Says
+    (λ why h. accounts_earlier state b d e why before.carries_on.passed h)
+    c.close.ensures.accounts

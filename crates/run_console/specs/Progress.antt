@@ -1,0 +1,229 @@
+-- How far a run came: what was read, which lines were run, and what was written.
+use Rattle.std.specs.Prelude.{◌≡◌, ◌≤◌, ◌⊎◌, ◌+◌, ℕ, List, [], ◌∷◌, ◌++◌, Option, length}
+use Rattle.std.specs.Io.KnownBytes.{Appends, Consumes, IsAtEnd}
+use Rattle.run_model.specs.declared.faults.Trouble.{Trouble}
+use Rattle.run_model.specs.Session.{Session}
+use Rattle.run_state.specs.Lasting.{Stays}
+use Rattle.run_session.specs.Logged.{Logged}
+use Rattle.console_lines.specs.declared.asked.Asked.TheVariants as asked
+use Rattle.console_lines.specs.declared.lines.TheConstants.{LONGEST_INPUT}
+use Rattle.console_lines.specs.declared.faults.RunFault.{RunFault}
+use Rattle.console_lines.specs.declared.faults.RunFault.TheVariants as fault
+use Rattle.console_lines.specs.declared.replies.Reply.TheVariants as said
+use Rattle.console_lines.specs.Asked.{asked_of}
+use Rattle.console_lines.specs.Lines.{whole_lines, open_line, lines_of}
+use Rattle.console_lines.specs.Progress.{IsFront, WritesPart, kept}
+use Rattle.console_lines.specs.Replies.{reply_line}
+use Rattle.console_lines.specs.Script.{after_lines, closing, replies, reply, script}
+use Rattle.run_console.specs.SessionLines.{IsSaving, plain, logged_after, logged_after_lines}
+
+-- What is done or has ended stays so: each scope that was done is done still, for the same reason
+-- and with the same cause, each task that had ended is as it ended, and each group keeps its first
+-- error.
+abbrev pub Lasts : Logged → Logged → Type 0
+Lasts b c = Stays b.state c.state
+
+-- Behind a text that was written, a front of the line of a trouble was written.
+abbrev pub WritesTrouble : Trouble → List ℕ → Option (List ℕ) → Option (List ℕ) → Type 0
+WritesTrouble why text old new =
+    (front : List ℕ) × IsFront front (reply_line (said.Failed why))
+    × Appends old new (text ++ front)
+
+-- ---- a whole input, by what the reader had left and what the writer had taken
+
+-- The input was read to its end and all of its lines were run, and its script was written.
+pub record RunsAll (b c : Logged) (r0 r1 w0 w1 : Option (List ℕ)) : Type 0 where
+  pub bytes : List ℕ
+  pub read : Consumes r0 r1 bytes
+  pub ended : IsAtEnd r1
+  pub within : length bytes ≤ LONGEST_INPUT
+  pub session : c ≡ logged_after_lines b (lines_of bytes)
+  pub written : Appends w0 w1 (script (plain b) bytes)
+
+-- What is replied to the lines that were run; where no line is left, the closing line is behind.
+abbrev pub said_of : Session → (ran left : List (List ℕ)) → List ℕ
+said_of s ran [] = replies s ran ++ closing (after_lines s ran)
+said_of s ran (line ∷ left) = replies s ran
+
+-- What was written, by what stopped the run: the replies to all lines that were run. Behind them
+-- stands what was written of the line of a trouble of the store. Where the writer failed it is a
+-- front of what was said, and not all of it.
+abbrev pub IsWritten :
+    RunFault → Session → (ran left : List (List ℕ)) → Option (List ℕ) → Option (List ℕ) → Type 0
+IsWritten fault.Output s ran left old new = WritesPart old new (said_of s ran left)
+IsWritten (fault.Store why) s ran left old new = WritesTrouble why (replies s ran) old new
+IsWritten _ s ran left old new = Appends old new (replies s ran)
+
+-- How much was read and run, by what stopped the run. A failed read, and an input of which a byte
+-- more was read than it may have, come behind all lines that an LF ended.
+abbrev pub IsReached : RunFault → List ℕ → List (List ℕ) → Type 0
+IsReached fault.Input bytes ran =
+    (length bytes ≤ LONGEST_INPUT) × (ran ≡ whole_lines [] bytes)
+IsReached fault.InputTooLong bytes ran =
+    (length bytes ≡ LONGEST_INPUT + 1) × (ran ≡ whole_lines [] bytes)
+IsReached _ bytes ran = length bytes ≤ LONGEST_INPUT + 1
+
+-- The line that stopped: the store stops a flush or a checkpoint, and want of memory a tally.
+abbrev pub IsStopped : RunFault → List (List ℕ) → Type 0
+IsStopped (fault.Store why) [] = ⊥
+IsStopped (fault.Store why) (line ∷ left) = IsSaving (asked_of line)
+IsStopped fault.Memory [] = ⊥
+IsStopped fault.Memory (line ∷ left) = asked_of line ≡ asked.Tally
+IsStopped _ left = Unit {0}
+
+-- So it is in a run, which the store stops in its last flush, too, where no line is left.
+abbrev pub IsRunStopped : RunFault → List (List ℕ) → Type 0
+IsRunStopped (fault.Store why) [] = Unit {0}
+IsRunStopped why left = IsStopped why left
+
+-- The lines that were not even tried: the one that the store or want of memory stopped was.
+abbrev pub untried : RunFault → List (List ℕ) → List (List ℕ)
+untried (fault.Store why) (line ∷ left) = left
+untried fault.Memory (line ∷ left) = left
+untried _ left = left
+
+-- A run stopped: the first lines of what was read were run. The last line, which no LF ends, was
+-- tried only where the end of the input was read.
+pub record RunStops
+    (why : RunFault) (b c : Logged) (r0 r1 w0 w1 : Option (List ℕ))
+    : Type 0 where
+  pub bytes : List ℕ
+  pub read : Consumes r0 r1 bytes
+  pub ran : List (List ℕ)
+  pub left : List (List ℕ)
+  pub lines_are : lines_of bytes ≡ ran ++ left
+  pub ended : untried why left ≡ [] → IsAtEnd r1
+  pub stopped : IsRunStopped why left
+  pub reached : IsReached why bytes ran
+  pub session : c ≡ logged_after_lines b ran
+  pub written : IsWritten why (plain b) ran left w0 w1
+
+-- What was written of a trouble's line: a front of it where the store stopped the run, else
+-- nothing.
+abbrev pub IsTold : RunFault → List ℕ → Type 0
+IsTold (fault.Store why) told = IsFront told (reply_line (said.Failed why))
+IsTold _ told = told ≡ []
+
+-- What was written of an input begins its script: it is a front of the replies to the lines that an
+-- LF ended, or, where the input was read to its end, of its script. Where the store stopped the
+-- run, a front of its trouble's line stands behind.
+pub record BeginsScript
+    (why : RunFault) (b : Logged) (r0 r1 w0 w1 : Option (List ℕ))
+    : Type 0 where
+  pub bytes : List ℕ
+  pub read : Consumes r0 r1 bytes
+  pub front : List ℕ
+  pub begins : IsFront front (replies (plain b) (whole_lines [] bytes))
+      ⊎ (IsAtEnd r1 × IsFront front (script (plain b) bytes))
+  pub told : List ℕ
+  pub trouble : IsTold why told
+  pub written : Appends w0 w1 (front ++ told)
+
+-- ---- one line
+
+-- A line was run, and its reply was written.
+pub record LineRuns (line : List ℕ) (b c : Logged) (w0 w1 : Option (List ℕ)) : Type 0 where
+  pub session : c ≡ logged_after b line
+  pub written : Appends w0 w1 (reply (plain b) line)
+
+-- A line stopped. Where the writer failed, it was run, and a front of its reply was written, and
+-- not all. Where the store failed in a flush or a checkpoint, a front of the trouble's line was
+-- written. Where memory was wanting for a tally, nothing was written. Neither of these changes the
+-- session.
+abbrev pub LineStops :
+    RunFault → List ℕ → Logged → Logged → Option (List ℕ) → Option (List ℕ) → Type 0
+LineStops fault.Output line b c w0 w1 =
+    (c ≡ logged_after b line) × WritesPart w0 w1 (reply (plain b) line)
+LineStops (fault.Store why) line b c w0 w1 =
+    IsSaving (asked_of line) × (c ≡ b) × WritesTrouble why [] w0 w1
+LineStops fault.Memory line b c w0 w1 = (asked_of line ≡ asked.Tally) × (c ≡ b) × Appends w0 w1 []
+LineStops _ line b c w0 w1 = ⊥
+
+-- ---- for private functions: no public contract cites what follows
+
+-- A fault that a line can have: reading is no part of it.
+abbrev pub IsOfLine : RunFault → Type 0
+IsOfLine fault.Input = ⊥
+IsOfLine fault.InputTooLong = ⊥
+IsOfLine _ = Unit {0}
+
+-- ---- some lines
+
+-- These lines were run, where `before` was gathered when they came. Of it and of their replies the
+-- first bytes were written, and the rest is gathered.
+pub record Ran
+    (lines : List (List ℕ)) (b c : Logged) (before gathered : List ℕ) (w0 w1 : Option (List ℕ))
+    : Type 0 where
+  pub out : List ℕ
+  pub written : Appends w0 w1 out
+  pub replied : before ++ replies (plain b) lines ≡ out ++ gathered
+  pub session : c ≡ logged_after_lines b lines
+
+-- What was written of a text, by what stopped: all of it, behind it a front of the line of a
+-- trouble, or, where the writer failed, a front of it and not all.
+abbrev pub Wrote : RunFault → List ℕ → Option (List ℕ) → Option (List ℕ) → Type 0
+Wrote fault.Output text old new = WritesPart old new text
+Wrote (fault.Store why) text old new = WritesTrouble why text old new
+Wrote _ text old new = Appends old new text
+
+-- The first of these lines were run, and what was gathered before and their replies were written,
+-- by what stopped the next.
+pub record Cut
+    (why : RunFault) (lines : List (List ℕ)) (b c : Logged) (before : List ℕ)
+    (w0 w1 : Option (List ℕ))
+    : Type 0 where
+  pub ran : List (List ℕ)
+  pub left : List (List ℕ)
+  pub lines_are : lines ≡ ran ++ left
+  pub stopped : IsStopped why left
+  pub written : Wrote why (before ++ replies (plain b) ran) w0 w1
+  pub session : c ≡ logged_after_lines b ran
+
+-- A text went behind what was gathered before: the first bytes were written, and the rest is
+-- gathered.
+pub record Told (text before gathered : List ℕ) (w0 w1 : Option (List ℕ)) : Type 0 where
+  pub out : List ℕ
+  pub written : Appends w0 w1 out
+  pub told : before ++ text ≡ out ++ gathered
+
+-- It did not: what was gathered before was written, where memory was wanting for the text; where
+-- the writer failed, a front of both.
+abbrev pub Untold : RunFault → List ℕ → List ℕ → Option (List ℕ) → Option (List ℕ) → Type 0
+Untold fault.Output text before w0 w1 = WritesPart w0 w1 (before ++ text)
+Untold fault.Memory text before w0 w1 = Appends w0 w1 before
+Untold _ text before w0 w1 = ⊥
+
+-- A trouble was told behind what was gathered before, unless the writer failed in that.
+abbrev pub Troubled :
+    RunFault → Trouble → List ℕ → Option (List ℕ) → Option (List ℕ) → Type 0
+Troubled fault.Output trouble before w0 w1 = WritesPart w0 w1 before
+Troubled (fault.Store why) trouble before w0 w1 =
+    (why ≡ trouble) × WritesTrouble trouble before w0 w1
+Troubled _ trouble before w0 w1 = ⊥
+
+-- The end stopped: what was gathered before was written, and behind it a front of the line of a
+-- trouble; where the writer failed, a front of what was gathered and the closing line.
+abbrev pub EndStops : RunFault → List ℕ → List ℕ → Option (List ℕ) → Option (List ℕ) → Type 0
+EndStops fault.Output end before w0 w1 = WritesPart w0 w1 (before ++ end)
+EndStops (fault.Store why) end before w0 w1 = WritesTrouble why before w0 w1
+EndStops _ end before w0 w1 = ⊥
+
+-- ---- a part of an input, where `begun` was begun and `before` gathered when it came
+
+-- The lines that an LF ends were run, and of the line that is begun this is kept.
+pub record PartRan
+    (begun part : List ℕ) (b c : Logged) (tail before gathered : List ℕ)
+    (w0 w1 : Option (List ℕ))
+    : Type 0 where
+  pub ran : Ran (whole_lines begun part) b c before gathered w0 w1
+  pub tail_is : tail ≡ kept (open_line begun part)
+
+-- The input was read to its end, and the lines that an LF ends were run and replied to.
+pub record ReadsAll
+    (b c : Logged) (tail : List ℕ) (r0 r1 w0 w1 : Option (List ℕ))
+    : Type 0 where
+  pub bytes : List ℕ
+  pub read : Consumes r0 r1 bytes
+  pub ended : IsAtEnd r1
+  pub within : length bytes ≤ LONGEST_INPUT
+  pub part : PartRan [] bytes b c tail [] [] w0 w1

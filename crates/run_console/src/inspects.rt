@@ -1,0 +1,107 @@
+//! What is printed of a whole state.
+
+ghost use Rattle.std.specs.Io.KnownBytes.{Appends};
+ghost use Rattle.std.specs.Prelude.{◌≡◌, ◌≤◌, ◌++◌, IfErr, OnErr, OnOk};
+ghost use Rattle.console_lines.specs.Inspected.{inspected, seen_line};
+ghost use Rattle.console_lines.specs.Progress.{WritesPart};
+ghost use Rattle.run_console.specs.Inspecting.{count_of, line_of, rows_text};
+ghost use Rattle.run_console.specs.Progress.{Told};
+
+use crate::writings::{Gathered, make_room, write_gathered};
+use console_lines::{Row, RunFault};
+use run_state::State;
+use std::alloc::Allocator;
+use std::io::Write;
+
+/// Prints a state: how many events there were and the clock, and a line for each scope, each group
+/// and each task. It takes no memory. Where a write fails or takes nothing (`Output`), what was
+/// written is a front, and not all.
+pub fn inspect<W: Write, B: Allocator>(state: &State<B>, output: &mut W) -> Result<(), RunFault>
+    ensures whole { OnOk result (Appends (W.contents output.old) (W.contents output.new)
+        (inspected state.now)) }
+    ensures cut { OnErr result (WritesPart (W.contents output.old) (W.contents output.new)
+        (inspected state.now)) }
+    ensures fault { IfErr result (λ fault. fault ≡ RunFault.Output) }
+{
+    let mut gathered = Gathered::new();
+    Row::Counts(state.count(), state.clock()).gather(&mut gathered);
+    gather_rows(Rows::Scopes, state, &mut gathered, output)?;
+    gather_rows(Rows::Groups, state, &mut gathered, output)?;
+    gather_rows(Rows::Tasks, state, &mut gathered, output)?;
+    write_gathered(&mut gathered, output)
+}
+
+/// Which rows of a state are gathered.
+#[derive(Clone, Copy, Debug, PartialEq, Eq)]
+pub enum Rows {
+    Scopes,
+    Groups,
+    Tasks,
+}
+
+impl Rows {
+    /// How many there are.
+    fn count<B: Allocator>(self, state: &State<B>) -> usize
+        ensures count { result ≡ count_of self state.now }
+        ensures few { result ≤ 65535 }
+    {
+        match self {
+            Rows::Scopes => state.scope_count(),
+            Rows::Groups => state.group_count(),
+            Rows::Tasks => state.task_count(),
+        }
+    }
+
+    /// What is seen of the one of this number.
+    fn seen<B: Allocator>(self, number: u16, state: &State<B>) -> Option<Row>
+        ensures { seen_line result ≡ line_of self state.now number }
+    {
+        match self {
+            Rows::Scopes => Some(Row::Scope(number, state.look(number)?)),
+            Rows::Groups => Some(Row::Group(number, state.group(number)?)),
+            Rows::Tasks => {
+                let look = state.task(number)?;
+                let group = state.group(look.group)?;
+                Some(Row::Task(number, group.name, look))
+            }
+        }
+    }
+}
+
+/// Gathers these rows of a state. What is gathered is written where there is no room for another.
+fn gather_rows<W: Write, B: Allocator>(
+    rows: Rows,
+    state: &State<B>,
+    gathered: &mut Gathered,
+    output: &mut W,
+) -> Result<(), RunFault>
+    ensures told { OnOk result (Told (rows_text rows state.now)
+        gathered.old.items gathered.new.items (W.contents output.old) (W.contents output.new)) }
+    ensures cut { OnErr result (WritesPart (W.contents output.old) (W.contents output.new)
+        (gathered.old.items ++ rows_text rows state.now)) }
+    ensures fault { IfErr result (λ fault. fault ≡ RunFault.Output) }
+{
+    for number in 0..rows.count(state) as u16 {
+        gather_row(rows.seen(number, state), gathered, output)?;
+    }
+    Ok(())
+}
+
+/// Gathers a row, where there is one.
+fn gather_row<W: Write>(
+    row: Option<Row>,
+    gathered: &mut Gathered,
+    output: &mut W,
+) -> Result<(), RunFault>
+    ensures told { OnOk result (Told (seen_line row) gathered.old.items gathered.new.items
+        (W.contents output.old) (W.contents output.new)) }
+    ensures cut { OnErr result
+        (WritesPart (W.contents output.old) (W.contents output.new) gathered.old.items) }
+    ensures fault { IfErr result (λ fault. fault ≡ RunFault.Output) }
+{
+    make_room(gathered, output)?;
+    if let Some(row) = row {
+        row.gather(gathered);
+    }
+    Ok(())
+}
