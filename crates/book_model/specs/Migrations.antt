@@ -7,7 +7,6 @@
 -- 2^62 events or more were found; New(DiskFailed).
 use Rattle.std.specs.Prelude.{◌≡◌, ◌⊎◌, ◌<◌, ◌≤◌, ◌+◌, ◌^◌, ℕ, List, Result, Ok, Err, MatchResult}
 use Rattle.std.specs.Prelude.{IfOk}
-use Rattle.run_model.specs.declared.faults.Fault.{Fault}
 use Rattle.run_model.specs.declared.faults.Fault.TheVariants.{DiskFailed, Memory, NumbersSpent}
 use Rattle.run_model.specs.declared.faults.Fault.TheVariants.{WrongSize}
 use Rattle.run_model.specs.declared.layouts.Layout.{Layout}

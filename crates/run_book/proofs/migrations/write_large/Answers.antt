@@ -1,6 +1,5 @@
-use Rattle.std.proofs.Common.{◌≡◌, ◌+◌, ◌∙◌, take, drop, refl, sym, subst, ap, arith}
+use Rattle.std.proofs.Common.{◌∙◌, subst}
 use Rattle.std.proofs.lemmas.List.{drop-take}
-use Rattle.run_model.specs.declared.layouts.Layout.TheVariants.{Large}
 use Rattle.record_view.specs.declared.heads.ImageVersion.TheVariants.{Two}
 use Rattle.record_view.specs.Image.{image}
 use Rattle.record_view.specs.Keeping.{IsImage}
