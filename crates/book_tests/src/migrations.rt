@@ -6,7 +6,9 @@ mod stores;
 
 use crate::disks::{counted_on, opened};
 use crate::looks::{Seen, assert_group, assert_scopes, assert_tasks};
-use crate::migrations::stores::{LARGE, LARGE_LEN, SMALL, SMALL_LEN, assert_holds, migrated, small};
+use crate::migrations::stores::{
+    LARGE, LARGE_LEN, SMALL, SMALL_LEN, assert_holds, migrated, small,
+};
 use run_book::{Book, State};
 use run_disk::{MemoryDisk, Torn};
 use run_model::{Fault, Layout, Phase};
@@ -36,7 +38,10 @@ fn assert_night(rt: &impl Abort, state: &State) {
     assert_eq!(rt; state.count(), 6);
     assert_scopes(rt, state, &[(b"g", Seen::Live)]);
     assert_group(rt, state, b"g", (1, 2, Some(1), false, None));
-    let tasks = [(b"a".as_slice(), Phase::Running, None), (b"b", Phase::Held, None)];
+    let tasks = [
+        (b"a".as_slice(), Phase::Running, None),
+        (b"b", Phase::Held, None),
+    ];
     assert_tasks(rt, state, &tasks);
 }
 
@@ -54,8 +59,16 @@ fn assert_restarted(rt: &impl Abort, book: &Book<MemoryDisk>) {
     assert!(rt; state.layout() == Layout::Large);
     assert_eq!(rt; (state.count(), book.durable()), (7, 7));
     assert_scopes(rt, state, &[(b"g", Seen::Canceled(b"interrupted"))]);
-    assert_group(rt, state, b"g", (1, 1, Some(1), false, Some(b"interrupted")));
-    let tasks = [(b"a".as_slice(), Phase::Interrupted, None), (b"b", Phase::Ready, None)];
+    assert_group(
+        rt,
+        state,
+        b"g",
+        (1, 1, Some(1), false, Some(b"interrupted")),
+    );
+    let tasks = [
+        (b"a".as_slice(), Phase::Interrupted, None),
+        (b"b", Phase::Ready, None),
+    ];
     assert_tasks(rt, state, &tasks);
 }
 
@@ -102,7 +115,14 @@ const STOPS: [(u64, Torn, Result<u64, Fault>); 27] = [
 ];
 
 /// How many events there are in what a crash behind so many calls leaves, torn in this way.
-fn left(alloc: Global, new: &MemoryDisk, calls: u64, torn: Torn) -> Result<u64, Fault> {
+fn left(
+    rt: &impl Abort,
+    alloc: Global,
+    new: &MemoryDisk,
+    calls: u64,
+    torn: Torn,
+) -> Result<u64, Fault> {
+    assert!(rt; calls <= new.calls());
     let mut disk = MemoryDisk::from_bytes(alloc, new.image(alloc, calls, torn)?)?;
     counted_on(alloc, &mut disk)
 }
@@ -111,7 +131,7 @@ fn left(alloc: Global, new: &MemoryDisk, calls: u64, torn: Torn) -> Result<u64, 
 fn a_stop_leaves_no_store_or_the_large_one(rt: HostRuntime) -> Result<(), Fault> {
     let new = taken_over(&rt, rt.alloc())?;
     for (calls, torn, told) in STOPS {
-        let found = left(rt.alloc(), &new, calls, torn);
+        let found = left(&rt, rt.alloc(), &new, calls, torn);
         assert_eq!(rt; found, told, "behind call {calls}, {torn:?}");
     }
     Ok(())

@@ -63,9 +63,17 @@ fn assert_told(
 fn what_stops_a_recovery_is_told_of_the_old_disk(rt: HostRuntime) -> Result<(), Fault> {
     let rows: [(At, Fault, u64); 5] = [
         (("slot 1's generation", 524_296, b"\x02"), Fault::BadSlot, 2),
-        (("the image's version", 524_301, b"\x09"), Fault::BadImage, 3),
+        (
+            ("the image's version", 524_301, b"\x09"),
+            Fault::BadImage,
+            3,
+        ),
         (("the batch's length", 1_310_724, b"\0"), Fault::BadBatch, 3),
-        (("the first record's tag", 1_310_725, b"\x0d"), Fault::BadRecord, 3),
+        (
+            ("the first record's tag", 1_310_725, b"\x0d"),
+            Fault::BadRecord,
+            3,
+        ),
         (("its parent", 1_310_730, b"\0\x05"), Fault::BadEvent, 3),
     ];
     for (row, why, calls) in rows {
@@ -75,7 +83,11 @@ fn what_stops_a_recovery_is_told_of_the_old_disk(rt: HostRuntime) -> Result<(), 
 }
 
 /// Slot 1's number of events, behind which there are five more: 2^62 - 1 in all.
-const MOST: At = ("2^62 - 1 events", 524_310, b"\x3f\xff\xff\xff\xff\xff\xff\xfa");
+const MOST: At = (
+    "2^62 - 1 events",
+    524_310,
+    b"\x3f\xff\xff\xff\xff\xff\xff\xfa",
+);
 
 /// And 2^62 in all.
 const MANY: At = ("2^62 events", 524_310, b"\x3f\xff\xff\xff\xff\xff\xff\xfb");
