@@ -3,6 +3,7 @@ pub mod FrontLemmas
 pub mod HoldingLemmas
 pub mod Leading
 pub mod Meaning
+pub mod MigrationLemmas
 pub mod NeverBroken
 pub mod NightLemmas
 pub mod OpeningLemmas
@@ -10,6 +11,8 @@ pub mod Playing
 pub mod Resting
 pub mod Sizes
 pub mod Stepping
+pub mod Stopping
 pub mod Storing
 pub mod Totality
 pub mod Verdicts
+pub mod Widening

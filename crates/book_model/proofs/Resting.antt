@@ -1,5 +1,5 @@
 -- The disk of a book that isn't broken stays at rest.
-use Rattle.std.proofs.Common.{◌≡◌, inl, inr, ◌++◌, ◌∷◌, ℕ, Bool, true, false, List, [], Ok, Err}
+use Rattle.std.proofs.Common.{◌≡◌, inl, inr, ◌∷◌, ℕ, Bool, true, false, List, [], Ok, Err}
 use Rattle.std.proofs.Common.{Result, refl, sym, ap, ◌∙◌, subst}
 use Rattle.run_disk.specs.Disk.{DiskState, IsAtRest}
 use Rattle.run_journal.specs.Journals.{JournalView}

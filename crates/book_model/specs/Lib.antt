@@ -1,5 +1,6 @@
 pub mod Holdings
 pub mod Meanings
+pub mod Migrations
 pub mod Nights
 pub mod Openings
 pub mod Plays

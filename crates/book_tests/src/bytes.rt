@@ -11,11 +11,11 @@ use std::alloc::Global;
 use std::process::Abort;
 
 /// A slot of generation 0 with root alone, before any event.
-const FORMATTED: &[u8; 36] = b"\xa7\0\0\0\0\0\0\0\0\0\0\0\x17\x02\0\0\0\0\0\0\0\0\
+pub const FORMATTED: &[u8; 36] = b"\xa7\0\0\0\0\0\0\0\0\0\0\0\x17\x02\0\0\0\0\0\0\0\0\
 \0\0\0\0\0\0\0\0\0\0\0\0\0\0";
 
 /// A slot of generation 1 with root alone, behind event 1.
-const OPENED: &[u8; 36] = b"\xa7\0\0\0\0\0\0\0\x01\0\0\0\x17\x02\0\0\0\0\0\0\0\0\
+pub const OPENED: &[u8; 36] = b"\xa7\0\0\0\0\0\0\0\x01\0\0\0\x17\x02\0\0\0\0\0\0\0\0\
 \0\0\0\0\0\0\0\x01\0\0\0\0\0\0";
 
 /// A slot of generation 2 with two scopes, the first of which event 4 cancelled.

@@ -13,4 +13,6 @@ mod disks;
 #[cfg(test)]
 mod looks;
 #[cfg(test)]
+mod migrations;
+#[cfg(test)]
 mod six_events;

@@ -3,6 +3,7 @@ pub mod Beginning
 pub mod Carrying
 pub mod Ending
 pub mod Filling
+pub mod Migrating
 pub mod Outcomes
 pub mod Playing
 pub mod Recovering

@@ -1,5 +1,6 @@
 pub mod Begun
 pub mod Checkpoints
 pub mod Kept
+pub mod Migrating
 pub mod Opened
 pub mod Views

@@ -8,7 +8,10 @@
 
 mod books;
 mod images;
+mod migrations;
 mod openings;
 
+pub use book_model::MigrateFault;
 pub use books::Book;
+pub use migrations::migrate;
 pub use run_state::State;

@@ -1,15 +1,13 @@
-use Rattle.std.proofs.Common.{◌≡◌, ◌+◌, ◌∙◌, take, drop, refl, sym, subst, ap, arith}
+use Rattle.std.proofs.Common.{◌∙◌, subst}
 use Rattle.std.proofs.lemmas.List.{drop-take}
-use Rattle.run_model.specs.declared.layouts.Layout.TheVariants.{Large}
 use Rattle.record_view.specs.declared.heads.ImageVersion.TheVariants.{Two}
 use Rattle.record_view.specs.Image.{image}
 use Rattle.record_view.specs.Keeping.{IsImage}
 use Rattle.run_book.proofs.Migrating.{large_failed, large_written}
 use Rattle.run_book.proofs.migrations.write_large.Goals as goal
 
--- What `format` is handed behind the journal's head: `drop-take 12 count body ∙ fill.image`, as in
--- images/save_in/Answers.antt (image_is). `is` is fill's is_image, brought to Small by
--- c.requires.layout.tree.
+-- `format` is handed the image behind the journal's head. It was written as an image of the state's
+-- layout, which is the small one.
 pub returns-in-Ok-clause-written : goal.returns-in-Ok-clause-written
 returns-in-Ok-clause-written g c =
     let state = g.E.RunDisk.state in

@@ -1,4 +1,4 @@
-use Rattle.std.proofs.Common.{◌≡◌, ◌<◌, ◌≤◌, ◌^◌, sym, subst, ap, ◌∙◌, rules}
+use Rattle.std.proofs.Common.{◌<◌, ◌^◌, sym, subst, ap, ◌∙◌, rules}
 use Rattle.run_model.specs.Rules.{HasLayout}
 use Rattle.run_model.specs.State.{State}
 use Rattle.book_model.specs.Migrations.{ReadsNot}

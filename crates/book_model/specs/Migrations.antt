@@ -1,0 +1,148 @@
+-- What a migration answers, and what it leaves of its two disks: a small store is read, and a large
+-- one is made of the state that it stores.
+--
+-- Its faults come in this order, and the first whose cause holds is told: Old(WrongSize), where the
+-- old disk has not a small store's size; New(WrongSize), where the new one has not a large store's;
+-- Memory; those of a recovery of the old disk, from DiskFailed on, as Old; Old(NumbersSpent), where
+-- 2^62 events or more were found; New(DiskFailed).
+use Rattle.std.specs.Prelude.{◌≡◌, ◌⊎◌, ◌<◌, ◌≤◌, ◌+◌, ◌^◌, ℕ, List, Result, Ok, Err, MatchResult}
+use Rattle.std.specs.Prelude.{IfOk}
+use Rattle.run_model.specs.declared.faults.Fault.TheVariants.{DiskFailed, Memory, NumbersSpent}
+use Rattle.run_model.specs.declared.faults.Fault.TheVariants.{WrongSize}
+use Rattle.run_model.specs.declared.layouts.Layout.{Layout}
+use Rattle.run_model.specs.declared.layouts.Layout.TheVariants.{Small, Large}
+use Rattle.run_model.specs.Layouts.{store_len}
+use Rattle.run_model.specs.State.{State}
+use Rattle.run_disk.specs.Disk.{DiskState, IsAtRest, last_moment}
+use Rattle.run_disk.specs.Runs.{LeavesOnly, OnlyReads, Passed}
+use Rattle.run_journal.specs.Pairs.{AreZeros}
+use Rattle.run_store.specs.Recoveries.{Made}
+use Rattle.book_model.specs.declared.migrations.MigrateFault.{MigrateFault}
+use Rattle.book_model.specs.declared.migrations.MigrateFault.TheVariants as why
+use Rattle.book_model.specs.Openings.{HasRecovered, RecoversNone}
+use Rattle.book_model.specs.Stores.{Stores, StoresFresh, StoresNothingOr}
+
+-- The state in this layout: its count, its clock and all its rows are as they were.
+abbrev pub in_layout : Layout → State → State
+in_layout layout p = record p {
+  tree = record p.tree { layout = layout };
+  work = record p.work { layout = layout };
+}
+
+-- The state in the large layout, as a migration stores it. No task of it was interrupted.
+abbrev pub widened : State → State
+widened p = in_layout Large p
+
+-- The old disk has the size of a small store, and the new one that of a large one.
+pub record AreSized (old given : DiskState) : Type 0 where
+  pub small : old.size ≡ store_len Small
+  pub large : given.size ≡ store_len Large
+
+-- ---- the old disk, which is read
+
+-- The small store was read, by three calls of which none failed: it stores this state, of fewer
+-- than 2^62 events.
+pub record HasReadSmall (p : State) (old read : DiskState) : Type 0 where
+  pub recovered : HasRecovered p old read
+  pub few : p.count < 2 ^ 62
+
+-- It was read, but it stores a state of 2^62 events or more.
+pub record HasReadTooMany (old read : DiskState) : Type 0 where
+  pub state : State
+  pub recovered : HasRecovered state old read
+  pub many : 2 ^ 62 ≤ state.count
+
+-- Why a disk of a small store's size gives no state to migrate, by the fault that tells it, and
+-- what is left of it. Where memory is refused, no call was made.
+abbrev pub ReadsNot : {D : Type 0} → (D → DiskState) → D → MigrateFault → D → Type 0
+ReadsNot from old why.Memory read = read ≡ old
+ReadsNot from old (why.Old WrongSize) read = ⊥
+ReadsNot from old (why.Old Memory) read = ⊥
+ReadsNot from old (why.Old NumbersSpent) read = HasReadTooMany (from old) (from read)
+ReadsNot from old (why.Old fault) read = RecoversNone from old fault read
+ReadsNot from old (why.New fault) read = ⊥
+
+-- ---- the new disk, which is written
+
+-- Where the new disk held zeros, and whatever a crash had left of it too, a crash at any moment
+-- since leaves a disk that stores nothing, or the widened state.
+abbrev pub StopsMigration : State → DiskState → DiskState → Type 0
+StopsMigration p given new =
+    given.honest → ((x : List ℕ) → given.images x → AreZeros x)
+    → LeavesOnly (StoresNothingOr (widened p)) given new
+
+-- The large store was made, by eight calls of which none failed: every crash now leaves a fresh
+-- store of the widened state, in generation 0; and the disk is at rest where it was.
+pub record HasWritten (p : State) (given new : DiskState) : Type 0 where
+  pub made : Made 8 given new
+  pub passed : Passed given new
+  pub stores : given.honest → (x : List ℕ) → new.images x → Stores x (widened p)
+  pub fresh : given.honest → (x : List ℕ) → new.images x → StoresFresh Large 0 (widened p) x
+  pub rest : given.honest → IsAtRest given → IsAtRest new
+  pub stops : StopsMigration p given new
+
+-- A call failed, or the disk is spent: it may be no store.
+pub record HasFailedWrite (p : State) (given new : DiskState) : Type 0 where
+  pub most : new.clock ≤ given.clock + 8
+  pub cause : (given.failures < new.failures) ⊎ (new.clock ≡ last_moment)
+  pub passed : Passed given new
+  pub stops : StopsMigration p given new
+
+-- ---- a migration
+
+-- The small store was read, and the large one made of the state that it stores.
+pub record HasMigrated (old read given new : DiskState) : Type 0 where
+  pub sized : AreSized old given
+  pub state : State
+  pub found : HasReadSmall state old read
+  pub written : HasWritten state given new
+
+-- The small store was read, but a call of the new disk failed, or it is spent.
+pub record HasStopped (old read given new : DiskState) : Type 0 where
+  pub sized : AreSized old given
+  pub state : State
+  pub found : HasReadSmall state old read
+  pub failed : HasFailedWrite state given new
+
+-- Neither disk was called.
+abbrev pub AreUncalled : {D E : Type 0} → D → E → D → E → Type 0
+AreUncalled old given read new = (read ≡ old) × (new ≡ given)
+
+-- Why no large store was made, by the fault that tells it, and what is left of the two disks. The
+-- new one is as it was given, unless a call of it failed.
+abbrev pub MigratesNot : {D E : Type 0} → (D → DiskState) → (E → DiskState) → D → E
+    → MigrateFault → D → E → Type 0
+MigratesNot from to old given (why.Old WrongSize) read new =
+    ((from old).size ≡ store_len Small → ⊥) × AreUncalled old given read new
+MigratesNot from to old given (why.New WrongSize) read new =
+    ((from old).size ≡ store_len Small) × ((to given).size ≡ store_len Large → ⊥)
+    × AreUncalled old given read new
+MigratesNot from to old given (why.New DiskFailed) read new =
+    HasStopped (from old) (from read) (to given) (to new)
+MigratesNot from to old given (why.New fault) read new = ⊥
+MigratesNot from to old given fault read new =
+    AreSized (from old) (to given) × ReadsNot from old fault read × (new ≡ given)
+
+-- What a migration answers: the new disk, and at a fault the fault too.
+abbrev pub AnswersMigration : {D E : Type 0} → (D → DiskState) → (E → DiskState) → D → E
+    → Result E (MigrateFault × E) → D → Type 0
+AnswersMigration from to old given result read =
+    MatchResult result (λ new. HasMigrated (from old) (from read) (to given) (to new))
+    (λ e. MigratesNot from to old given e.0 read e.1)
+
+-- The new disk behind a migration, which is handed back at a fault too.
+abbrev pub new_disk : {E : Type 0} → Result E (MigrateFault × E) → E
+new_disk (Ok new) = new
+new_disk (Err e) = e.1
+
+-- What a migration answers and leaves. The old disk is read alone. Where it is honest and stores a
+-- state: at Ok every crash of an honest new disk leaves that state, widened; and where the new disk
+-- held zeros, a crash at any moment since the start leaves nothing or that.
+pub record Migrates {D E : Type 0} (from : D → DiskState) (to : E → DiskState) (old : D)
+    (given : E) (result : Result E (MigrateFault × E)) (read : D) : Type 0 where
+  pub answer : AnswersMigration from to old given result read
+  pub reads : (from old).honest → OnlyReads (from old) (from read)
+  pub now : (from old).honest → (to given).honest → (p : State) → Stores (from old).now p
+      → IfOk result (λ new. (x : List ℕ) → (to new).images x → Stores x (widened p))
+  pub any_moment : (from old).honest → (p : State) → Stores (from old).now p
+      → StopsMigration p (to given) (to (new_disk result))

@@ -1,0 +1,136 @@
+-- What a migration reads of the old disk, and what it makes of the new one.
+use Rattle.std.proofs.Common.{◌≡◌, ◌⊎◌, ◌<◌, ◌+◌, ℕ, List, [], Option, Some, None, Ok, Err}
+use Rattle.std.proofs.Common.{refl, sym, subst, ap, ◌∙◌}
+use Rattle.std.specs.Prelude.{IfErr, OnErr, OnOk, Result}
+use Rattle.run_model.specs.declared.faults.Fault.{Fault}
+use Rattle.run_model.specs.declared.faults.Fault.TheVariants as fault
+use Rattle.run_model.specs.declared.layouts.Layout.{Layout}
+use Rattle.run_model.specs.declared.layouts.Layout.TheVariants.{Small, Large}
+use Rattle.run_model.specs.Layouts.{layout_of, store_len}
+use Rattle.run_model.specs.State.{State}
+use Rattle.record_view.specs.declared.heads.ImageVersion.TheVariants.{Two}
+use Rattle.record_view.specs.Image.{image}
+use Rattle.record_view.specs.Keeping.{IsImage}
+use Rattle.run_disk.specs.Disk.{DiskState, IsAtRest, IsDisk, IsSynced, last_moment}
+use Rattle.run_disk.specs.Runs.{IsSurer, LeavesOnly, Ran, Took}
+use Rattle.run_disk.proofs.RunLemmas.{ran_passed}
+use Rattle.run_journal.specs.Pairs.{AreZeros, HasNoPairBut}
+use Rattle.run_store.specs.Stores.{IsStored, sizes_of}
+use Rattle.run_store.proofs.LayoutLemmas.{layout_found}
+use Rattle.book_model.specs.declared.migrations.MigrateFault.{MigrateFault}
+use Rattle.book_model.specs.declared.migrations.MigrateFault.TheVariants as why
+use Rattle.book_model.specs.Migrations.{AreSized, HasFailedWrite, HasMigrated, HasReadSmall}
+use Rattle.book_model.specs.Migrations.{HasWritten, MigratesNot, ReadsNot, StopsMigration, widened}
+use Rattle.book_model.specs.Openings.{RecoversNone}
+use Rattle.book_model.specs.Stores.{StoresFresh}
+use Rattle.book_model.proofs.OpeningLemmas.{fresh_stores}
+use Rattle.book_model.proofs.Stopping.{stops_nothing}
+use Rattle.book_model.proofs.Widening.{widened_means}
+use Rattle.run_book.specs.Migrating.{of_old}
+use Rattle.run_book.proofs.Rooting.{root_rests}
+
+-- ---- the old disk
+
+no_layout : (o : Option Layout) (layout : Layout) → o ≡ Some layout → o ≡ None → ⊥
+no_layout o layout some none = cc
+
+-- A fault of a recovery, as a migration tells it.
+pub told_not : {D : Type 0} (from : D → DiskState) (old read : D) (f : Fault)
+    → (from old).size ≡ store_len Small → RecoversNone from old f read
+    → ReadsNot from old (of_old f) read
+told_not from old read fault.Memory sized none = none.1
+told_not from old read fault.WrongSize sized none =
+    absurd (no_layout (layout_of (from old).size) Small
+    (ap (λ n. layout_of n) sized ∙ layout_found Small) none.0)
+told_not from old read fault.NumbersSpent sized none = absurd none
+told_not from old read f sized none = none
+
+-- Nothing is made of a store that isn't read.
+pub unread_not : {D E : Type 0} (from : D → DiskState) (to : E → DiskState) (old read : D)
+    (given : E) (w : MigrateFault) → AreSized (from old) (to given) → ReadsNot from old w read
+    → MigratesNot from to old given w read given
+unread_not from to old read given why.Memory sized is = (sized, is, refl)
+unread_not from to old read given (why.Old fault.WrongSize) sized is = absurd is
+unread_not from to old read given (why.Old f) sized is = (sized, is, refl)
+unread_not from to old read given (why.New f) sized is = absurd is
+
+-- ---- the new disk
+
+module _ (old new : DiskState) (r : Result (Unit {0}) Fault) (p : State) (bytes : List ℕ)
+    (disk : IsDisk new) (sized : old.size ≡ store_len Large) (is : IsImage Two Small (image p) p)
+    (ran : Ran old new r) (took : Took 8 old new r) (same : bytes ≡ image p)
+    (clause : old.honest → ((x : List ℕ) → old.images x → AreZeros x)
+    → LeavesOnly (HasNoPairBut bytes) old new) where
+  large_stops : StopsMigration p old new
+  large_stops =
+      stops_nothing Large (widened p) (widened_means p is) old new bytes disk sized
+      (ran_passed old new r ran) same clause
+
+  large_fresh : (x : List ℕ) → IsStored (sizes_of Large) 0 0 bytes [] x
+      → StoresFresh Large 0 (widened p) x
+  large_fresh x stored = record {
+    stored = subst (λ b. IsStored (sizes_of Large) 0 0 b [] x) same stored;
+    means = widened_means p is;
+  }
+
+  pub large_written : r ≡ Ok tt
+      → (old.honest → (l : Layout) → old.size ≡ store_len l
+      → OnOk r ((x : List ℕ) → new.images x → IsStored (sizes_of l) 0 0 bytes [] x))
+      → (old.honest → OnOk r (IsSynced new)) → (old.honest → OnOk r (IsSurer old new))
+      → HasWritten p old new
+  large_written ok stored synced sure =
+      let at = λ (P : Type 0) (told : OnOk r P). subst (λ s. OnOk s P) ok told in
+      let fresh = λ (honest : old.honest) (x : List ℕ) (left : new.images x).
+      large_fresh x (at ((y : List ℕ) → new.images y → IsStored (sizes_of Large) 0 0 bytes [] y)
+      (stored honest Large sized) x left) in
+      record {
+        made = record {
+          clock = at (new.clock ≡ old.clock + 8) took.exactly;
+          failures = at (new.failures ≡ old.failures) ran.fine;
+        };
+        passed = ran_passed old new r ran;
+        stores = λ honest x left. fresh_stores Large 0 (widened p) x (fresh honest x left);
+        fresh = fresh;
+        rest = λ honest rest.
+            at (IsAtRest new) (root_rests old new r disk ran synced sure honest rest);
+        stops = large_stops;
+      }
+
+  pub large_failed : (f : Fault) → r ≡ Err f → HasFailedWrite p old new
+  large_failed f err = record {
+    most = took.most;
+    cause =
+        subst (λ s. OnErr s ((old.failures < new.failures) ⊎ (new.clock ≡ last_moment))) err
+        ran.cause;
+    passed = ran_passed old new r ran;
+    stops = large_stops;
+  }
+
+-- ---- both
+
+-- A small store was read, and a large one is made of it.
+pub written_done : (old read given new : DiskState) (r : Result (Unit {0}) MigrateFault)
+    (p : State) → AreSized old given → HasReadSmall p old read → OnOk r (HasWritten p given new)
+    → OnOk r (HasMigrated old read given new)
+written_done old read given new (Ok x) p sized found written = record {
+  sized = sized;
+  state = p;
+  found = found;
+  written = written;
+}
+written_done old read given new (Err w) p sized found written = tt
+
+-- Or a call of the new disk failed.
+pub written_not : {D E : Type 0} (from : D → DiskState) (to : E → DiskState) (old read : D)
+    (given new : E) (r : Result (Unit {0}) MigrateFault) (p : State)
+    → AreSized (from old) (to given) → HasReadSmall p (from old) (from read)
+    → IfErr r (λ w. w ≡ why.New fault.DiskFailed) → OnErr r (HasFailedWrite p (to given) (to new))
+    → IfErr r (λ w. MigratesNot from to old given w read new)
+written_not from to old read given new (Ok x) p sized found told failed = tt
+written_not from to old read given new (Err w) p sized found told failed =
+    subst (λ v. MigratesNot from to old given v read new) (sym told) (record {
+      sized = sized;
+      state = p;
+      found = found;
+      failed = failed;
+    })

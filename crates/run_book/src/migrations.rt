@@ -1,0 +1,148 @@
+//! A migration: a small store becomes a large one. [`migrate`] reads the one, and makes the other
+//! of the state that it stores.
+
+ghost use Rattle.std.specs.Prelude.{◌≡◌, ◌<◌, ◌+◌, ◌^◌, length, IfOk, IfErr, OnOk, OnErr};
+ghost use Rattle.run_model.specs.declared.faults.Fault.TheVariants.{DiskFailed};
+ghost use Rattle.run_model.specs.declared.layouts.Layout.TheVariants.{Small, Large};
+ghost use Rattle.run_model.specs.Layouts.{store_len};
+ghost use Rattle.run_model.specs.Rules.{HasLayout};
+ghost use Rattle.run_model.specs.Session.{opened};
+ghost use Rattle.record_view.specs.declared.heads.ImageVersion.TheVariants.{Two};
+ghost use Rattle.record_view.specs.Image.{greatest_image};
+ghost use Rattle.book_model.specs.declared.migrations.MigrateFault.TheVariants as why;
+ghost use Rattle.book_model.specs.Migrations.{AreSized, HasFailedWrite, HasMigrated, HasReadSmall};
+ghost use Rattle.book_model.specs.Migrations.{HasWritten, Migrates, MigratesNot, ReadsNot};
+ghost use Rattle.run_book.specs.Migrating.{of_old};
+
+use crate::images::{HEAD, fill};
+use crate::openings::{body_len, read_state};
+use book_model::MigrateFault;
+use run_disk::RunDisk;
+use run_journal::Journal;
+use run_model::{Fault, Layout};
+use run_state::State;
+use std::alloc::Allocator;
+
+/// Makes a large store of a small one: of a disk of a large store's size, which is given back, with
+/// the state that the old disk stores, its number of events and its running tasks included. No
+/// restart is applied. The old disk is read by three calls, and nothing is written to it; the new
+/// one takes the eight calls of a format. All memory is taken before the first of them.
+///
+/// Its faults, of which the first that holds is told: `Old(WrongSize)` where the old disk has not
+/// the size of a small store; `New(WrongSize)` where the new one has not that of a large store;
+/// `Memory`; the other faults of [`Book::recover`](crate::Book::recover), as `Old`;
+/// `Old(NumbersSpent)` where there were 2^62 events or more; and `New(DiskFailed)` where a call of
+/// the new disk failed: then it may be no store. It is handed back at each fault, and was not
+/// called before the last. Where it held zeros, a migration that stops leaves nothing stored in it,
+/// or the new store.
+pub fn migrate<D: RunDisk, E: RunDisk, A: Allocator + Copy>(
+    alloc: A,
+    old: &mut D,
+    new: E,
+) -> Result<E, (MigrateFault, E)>
+    ensures migrates { Migrates D.state E.state old.old new result old.new }
+{
+    let mut new = new;
+    if old.size() != Layout::Small.store_len() {
+        return Err((MigrateFault::Old(Fault::WrongSize), new));
+    }
+    if new.size() != Layout::Large.store_len() {
+        return Err((MigrateFault::New(Fault::WrongSize), new));
+    }
+    match migrate_sized(alloc, old, &mut new) {
+        Ok(()) => Ok(new),
+        Err(fault) => Err((fault, new)),
+    }
+}
+
+/// Makes a large store of a small one, on disks of their sizes.
+fn migrate_sized<D: RunDisk, E: RunDisk, A: Allocator + Copy>(
+    alloc: A,
+    old: &mut D,
+    new: &mut E,
+) -> Result<(), MigrateFault>
+    requires sized { AreSized (D.state old.old) (E.state new.old) }
+    ensures migrated { OnOk result (HasMigrated (D.state old.old) (D.state old.new)
+        (E.state new.old) (E.state new.new)) }
+    ensures not { IfErr result (λ fault.
+        MigratesNot D.state E.state old.old new.old fault old.new new.new) }
+{
+    let Rooms { state, mut body } = make_rooms(alloc)?;
+    let stored = read_small(alloc, old, state)?;
+    write_large(new, &stored, &mut body)
+}
+
+/// The room of a migration: for a small state, and its image.
+#[derive(Drop)]
+struct Rooms<A: Allocator> {
+    state: State<A>,
+    body: Vec<u8, A>,
+}
+
+fn make_rooms<A: Allocator + Copy>(alloc: A) -> Result<Rooms<A>, MigrateFault>
+    ensures state { IfOk result (λ rooms. rooms.state ≡ (opened Small).state) }
+    ensures body { IfOk result (λ rooms.
+        length rooms.body.items ≡ 12 + greatest_image Two Small) }
+    ensures fault { IfErr result (λ fault. fault ≡ why.Memory) }
+{
+    let Ok(state) = State::new(alloc, Layout::Small) else {
+        return Err(MigrateFault::Memory);
+    };
+    let Ok(body) = vec![in alloc; 0u8; body_len(Layout::Small)] else {
+        return Err(MigrateFault::Memory);
+    };
+    Ok(Rooms { state, body })
+}
+
+/// The state that a small store holds, which is made in a new one.
+fn read_small<D: RunDisk, A: Allocator + Copy>(
+    alloc: A,
+    old: &mut D,
+    state: State<A>,
+) -> Result<State<A>, MigrateFault>
+    requires new { state ≡ (opened Small).state }
+    requires size { (D.state old.old).size ≡ store_len Small }
+    ensures found { IfOk result (λ p. HasReadSmall p (D.state old.old) (D.state old.new)) }
+    ensures layout { IfOk result (λ p. HasLayout p Small) }
+    ensures none { IfErr result (λ fault. ReadsNot D.state old.old fault old.new) }
+{
+    let (_stored, state) = match read_state(alloc, old, state) {
+        Ok(read) => read,
+        Err(fault) => return Err(of_old(fault)),
+    };
+    if state.count() >= 1 << 62 {
+        return Err(MigrateFault::Old(Fault::NumbersSpent));
+    }
+    Ok(state)
+}
+
+/// What a migration tells of a fault of the old disk's recovery.
+fn of_old(fault: Fault) -> MigrateFault
+    ensures { result ≡ of_old fault }
+{
+    match fault {
+        Fault::Memory => MigrateFault::Memory,
+        fault => MigrateFault::Old(fault),
+    }
+}
+
+/// Makes a large store of a small state. The buffer takes the journal's head and an image.
+fn write_large<E: RunDisk, A: Allocator>(
+    new: &mut E,
+    state: &State<A>,
+    body: &mut [u8],
+) -> Result<(), MigrateFault>
+    requires size { (E.state new.old).size ≡ store_len Large }
+    requires layout { HasLayout state.now Small }
+    requires few { state.now.count < 2 ^ 62 }
+    requires room { length body.old ≡ 12 + greatest_image Two Small }
+    ensures written { OnOk result (HasWritten state.now (E.state new.old) (E.state new.new)) }
+    ensures failed { OnErr result (HasFailedWrite state.now (E.state new.old) (E.state new.new)) }
+    ensures fault { IfErr result (λ fault. fault ≡ why.New DiskFailed) }
+{
+    let count = fill(state, body);
+    match Journal::format(new, &mut body[..HEAD + count]) {
+        Ok(()) => Ok(()),
+        Err(fault) => Err(MigrateFault::New(fault)),
+    }
+}
