@@ -11,8 +11,14 @@ mod disks;
 #[cfg(test)]
 mod journals;
 #[cfg(test)]
+mod pairs;
+#[cfg(test)]
+mod recoveries;
+#[cfg(test)]
 mod segments;
 #[cfg(test)]
 mod slots;
+#[cfg(test)]
+mod stops;
 #[cfg(test)]
 mod stores;
