@@ -1,5 +1,6 @@
 pub mod Asked
 pub mod Checked
+pub mod Faults
 pub mod Gathers
 pub mod GroupLines
 pub mod GroupNights

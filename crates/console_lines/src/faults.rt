@@ -1,25 +1,43 @@
 //! What ends a run of the console before its input does.
 
+ghost use Rattle.std.specs.Prelude.{Some};
+ghost use Rattle.console_lines.specs.Faults.{stop_text};
+
 use crate::replies::ShownTrouble;
 use run_model::Trouble;
+use std::fmt;
 use thiserror::Error;
 
-/// Why a run ended before its input did.
+/// Why a run ended before its input did. It is printed as [`ShownFault`] is.
 #[derive(Clone, Copy, Debug, PartialEq, Eq, Error)]
+#[error("{}", ShownFault(*self))]
 pub enum RunFault {
     /// The input could not be read.
-    #[error("input")]
     Input,
     /// A reply could not be written.
-    #[error("output")]
     Output,
     /// The input has more bytes than a run takes.
-    #[error("input too long")]
     InputTooLong,
     /// There was no memory for the words, the book or a reply.
-    #[error("fault 1 Memory")]
     Memory,
     /// The store could not be read, or did not take a flush or a checkpoint.
-    #[error("{}", ShownTrouble(*.0))]
     Store(Trouble),
+}
+
+/// A fault as it is printed: `input`, `output`, `input too long`, `fault 3 NotAStore` and likewise.
+#[derive(Clone, Copy)]
+pub struct ShownFault(pub RunFault);
+
+impl fmt::Display for ShownFault {
+    ghost output = { λ shown. Some (stop_text shown.0) };
+
+    fn fmt<W: fmt::Write>(&self, f: &mut fmt::Formatter<W>) -> fmt::Result {
+        match self.0 {
+            RunFault::Input => f.write_str("input"),
+            RunFault::Output => f.write_str("output"),
+            RunFault::InputTooLong => f.write_str("input too long"),
+            RunFault::Memory => f.write_str("fault 1 Memory"),
+            RunFault::Store(trouble) => write!(f, "{}", ShownTrouble(trouble)),
+        }
+    }
 }

@@ -21,7 +21,7 @@ mod wishes;
 mod words;
 
 pub use asked::Asked;
-pub use faults::RunFault;
+pub use faults::{RunFault, ShownFault};
 pub use gathers::LONGEST_REPLY;
 pub use lines::{LONGEST_INPUT, LONGEST_LINE, read_line};
 pub use replies::{Reply, ShownTrouble};

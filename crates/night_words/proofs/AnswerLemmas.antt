@@ -1,17 +1,19 @@
 -- From what the parser answered to what its caller is told.
-use Rattle.std.proofs.Common.{◌≡◌, ◌⊎◌, ◌∙◌, List, ap, inl, inr, refl, subst, true}
+use Rattle.std.proofs.Common.{◌≡◌, ◌⊎◌, ◌∙◌, List, ap, inl, inr, refl, subst, sym, true}
 use Rattle.std.specs.Prelude.{[], Result, Ok, Err, IfOk}
-use Rattle.clap.specs.Words.{App, HasKind, IsAmong, Kinds, Text, fault_of, is_simple_and_free}
-use Rattle.clap.specs.Words.{kind_of}
+use Rattle.clap.specs.Words.{App, HasKind, IsAmong, Kinds, Text, fault_of, is_simple}
+use Rattle.clap.specs.Words.{is_simple_and_free, kind_of, subcommand_of}
 use Rattle.clap.specs.declared.error.Error.{Error}
 use Rattle.clap.proofs.OnLiterals.{clap_on_literals}
 use Rattle.clap.specs.declared.error.kind.ErrorKind.{ErrorKind}
 use Rattle.clap.specs.declared.error.kind.ErrorKind.TheVariants.{OutOfMemory}
-use Rattle.night_words.specs.Commands.{night, AsksForDemo, IsAnswer, IsHelp, IsShown}
-use Rattle.night_words.specs.Commands.{faults_of}
-use Rattle.night_words.proofs.TakenLemmas.{asks_for_demo}
+use Rattle.clap.specs.declared.parser.matches.ArgMatches.{ArgMatches}
+use Rattle.clap.specs.Simple.{HasMatchesOf}
+use Rattle.night_words.specs.Commands.{night, Asks, AsksFor, IsAnswer, IsHelp, IsNamed, IsShown}
+use Rattle.night_words.specs.Commands.{faults_of, named_by, named_in}
+use Rattle.night_words.proofs.TakenLemmas.{IsTaken, taken, taken_asks, taken_is_named}
 use Rattle.night_words.specs.declared.asked.Asked.{Asked}
-use Rattle.night_words.specs.declared.asked.Asked.TheVariants.{Demo, Help}
+use Rattle.night_words.specs.declared.asked.Asked.TheVariants.{Demo, Format, Script, Inspect, Help}
 use Rattle.night_words.specs.declared.asked.WordsFault.{WordsFault}
 use Rattle.night_words.specs.declared.asked.WordsFault.TheVariants.{Mistake, NotText, Memory}
 
@@ -19,6 +21,10 @@ use Rattle.night_words.specs.declared.asked.WordsFault.TheVariants.{Mistake, Not
 night_is_simple : is_simple_and_free night ≡ true
 unfolding clap_on_literals
 night_is_simple = refl
+
+night_has_matches : is_simple night ≡ true
+unfolding clap_on_literals
+night_has_matches = refl
 
 -- want of memory is no help
 no_help : (kind : ErrorKind) → kind ≡ OutOfMemory → IsHelp kind → ⊥
@@ -29,6 +35,9 @@ no_help kind e (inr h) = cc
 shown_is_answer : (kind : ErrorKind) (kinds : Kinds) (r : Result Asked WordsFault)
     → (kind ≡ OutOfMemory) ⊎ IsAmong kind kinds → IsShown kind r → IsAnswer kinds r
 shown_is_answer kind kinds (Ok Demo) found shown = absurd shown
+shown_is_answer kind kinds (Ok (Format store)) found shown = absurd shown
+shown_is_answer kind kinds (Ok (Script store)) found shown = absurd shown
+shown_is_answer kind kinds (Ok (Inspect store)) found shown = absurd shown
 shown_is_answer kind kinds (Ok (Help text)) (inl e) shown = absurd (no_help kind e shown)
 shown_is_answer kind kinds (Ok (Help text)) (inr among) shown = (kind, among, shown)
 shown_is_answer kind kinds (Err (Mistake text)) (inl e) shown = absurd (shown.2 e)
@@ -45,16 +54,48 @@ error_is_answered a words e r is_night found shown =
     let among = found (ap is_simple_and_free is_night ∙ night_is_simple) in
     shown_is_answer (kind_of e) (faults_of words) r (subst HasFault is_night among) shown
 
--- what is shown of an error is never the command
-pub error_is_no_command : (kind : ErrorKind) (r : Result Asked WordsFault) (P : Type 0)
-    → IsShown kind r → IfOk r (λ asked. asked ≡ Demo → P)
-error_is_no_command kind (Ok Demo) P shown = absurd shown
-error_is_no_command kind (Ok (Help text)) P shown = λ e. cc
-error_is_no_command kind (Err fault) P shown = tt
+-- what is shown of an error is never a command
+pub error_asks_nothing : (kind : ErrorKind) (words : List Text) (r : Result Asked WordsFault)
+    → IsShown kind r → IfOk r (λ asked. AsksFor asked words)
+error_asks_nothing kind words (Ok Demo) shown = absurd shown
+error_asks_nothing kind words (Ok (Format store)) shown = absurd shown
+error_asks_nothing kind words (Ok (Script store)) shown = absurd shown
+error_asks_nothing kind words (Ok (Inspect store)) shown = absurd shown
+error_asks_nothing kind words (Ok (Help text)) shown = tt
+error_asks_nothing kind words (Err fault) shown = tt
 
--- where the command line is `night`, and nothing is found, the words ask for the command
-pub command_is_asked : (a : App) (words : List Text) → a ≡ night
-    → (is_simple_and_free a ≡ true → fault_of a words ≡ []) → AsksForDemo words
-command_is_asked a words is_night found =
-    let none = found (ap is_simple_and_free is_night ∙ night_is_simple) in
-    asks_for_demo words (subst (λ b. fault_of b words ≡ []) is_night none)
+-- ---- where the command line is `night`, and the parser has matches
+
+module _ (a : App) (words : List Text) (m : ArgMatches) (is_night : a ≡ night)
+    (found : is_simple_and_free a ≡ true → fault_of a words ≡ [])
+    (matches : HasMatchesOf a words m) where
+  -- nothing is found
+  pub finds_nothing : faults_of words ≡ []
+  finds_nothing = subst (λ b. fault_of b words ≡ []) is_night
+      (found (ap is_simple_and_free is_night ∙ night_is_simple))
+
+  -- what they name is what the definition names
+  names_alike : named_by m ≡ named_in (subcommand_of night words)
+  names_alike =
+      ap named_in ((matches (ap is_simple is_night ∙ night_has_matches)).1
+      ∙ ap (λ b. subcommand_of b words) is_night)
+
+  matches_taken : IsTaken words (named_by m)
+  matches_taken = subst (λ n. IsTaken words n) (sym names_alike) (taken words finds_nothing)
+
+  -- so a command is named
+  pub command_is_named : IsNamed (named_by m)
+  command_is_named = taken_is_named words (named_by m) matches_taken
+
+  -- and what is asked for of it, the words ask for
+  pub command_is_asked : (asked : Asked) → Asks (named_by m) asked → AsksFor asked words
+  command_is_asked asked asks = taken_asks words (named_by m) asked matches_taken asks
+
+  -- which is an answer
+  pub command_is_answer : (asked : Asked) → Asks (named_by m) asked
+      → IsAnswer (faults_of words) (Ok asked)
+  command_is_answer Demo asks = finds_nothing
+  command_is_answer (Format store) asks = finds_nothing
+  command_is_answer (Script store) asks = finds_nothing
+  command_is_answer (Inspect store) asks = finds_nothing
+  command_is_answer (Help text) asks = absurd asks

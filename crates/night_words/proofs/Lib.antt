@@ -1,3 +1,5 @@
 mod AnswerLemmas
+mod LineLemmas
+mod NamedLemmas
 mod TakenLemmas
 mod TurnLemmas

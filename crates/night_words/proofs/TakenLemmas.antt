@@ -1,21 +1,27 @@
--- The words that are taken: `demo`, alone or before the mark `--`.
+-- The words that are taken: a command, and the words behind it that it takes.
 use Rattle.std.proofs.Common.{◌≡◌, ◌∙◌, ◌∷◌, ◌++◌, ◌⊎◌, Bool, List, Option, Some, None, [], ap}
 use Rattle.std.proofs.Common.{append-nil, append_assoc, ap₂, cond, false, inl, inr, refl, subst}
 use Rattle.std.proofs.Common.{sym}
 use Rattle.std.proofs.Common.{true}
 use Rattle.std.specs.Prelude.{◌||◌, codes, fold, option_map}
+use Rattle.std.specs.Option.{option_map_or}
 use Rattle.std.specs.Str.{bytes_eq}
 use Rattle.std.proofs.lemmas.Slice.Eq.{bytes_eq-Decides}
 use Rattle.clap.specs.Kinds.{Kinds, or_else}
-use Rattle.clap.specs.Simple.{Shape, built, names_of}
+use Rattle.clap.specs.Simple.{Shape, built, entered, names_of, rows_at, subcommand_of}
 use Rattle.clap.specs.Faults.{built_fault, entered_fault, level_fault, other_fault}
-use Rattle.clap.specs.Faults.{turn_fault, walk_fault}
-use Rattle.clap.specs.Walk.{Names, Text, Walk, idle, nothing_held, subcommand_or_other, walk}
-use Rattle.clap.specs.Walk.{walk_from, walked, walked_from}
+use Rattle.clap.specs.Faults.{step_fault, turn_fault, walk_fault}
+use Rattle.clap.specs.Walk.{Held, Names, Step, Text, Walk, after_step, finished, first_of, idle}
+use Rattle.clap.specs.Walk.{nothing_held, subcommand_or_other, value, walk, walk_from, walked}
+use Rattle.clap.specs.Walk.{walked_from}
 use Rattle.clap.proofs.OnLiterals.{clap_on_literals}
-use Rattle.night_words.specs.Commands.{night, AsksForDemo, faults_of}
-use Rattle.night_words.proofs.TurnLemmas.{above, above_is_strict, below, below_is_strict}
-use Rattle.night_words.proofs.TurnLemmas.{first_none, mark, only_the_mark, second_none, stepped}
+use Rattle.night_words.specs.Commands.{night, Asks, AsksFor, AsksForDemo, AsksOver, IsNamed}
+use Rattle.night_words.specs.Commands.{Named, faults_of, named_in}
+use Rattle.night_words.specs.declared.asked.Asked.{Asked}
+use Rattle.night_words.specs.declared.asked.Asked.TheVariants.{Demo, Format, Script, Inspect, Help}
+use Rattle.night_words.proofs.TurnLemmas.{above, above_is_strict, demo_is_strict, demo_shape}
+use Rattle.night_words.proofs.TurnLemmas.{first_none, held, mark, mark_or_value, second_none}
+use Rattle.night_words.proofs.TurnLemmas.{store_is_strict, store_shape}
 
 -- where the parser begins, and the names that it knows
 abbrev start : Walk
@@ -24,24 +30,100 @@ start = walk_from nothing_held
 abbrev names : Names
 names = names_of (built night)
 
-abbrev demo : Text
+abbrev pub demo : Text
 demo = codes "demo"
 
--- the first word is the command, or the mark
-first_word : (word : Text) → turn_fault above names start word ≡ [] → (word ≡ demo) ⊎ (word ≡ mark)
-first_word word none = go (bytes_eq demo word) (bytes_eq (codes "help") word) refl none
-  where
-    met : Bool → Bool → Option Text
-    met d h = option_map (λ (s : Text × List Text). s.0) (cond (d || false) (Some (demo, []))
-        (cond (h || false) (Some (codes "help", [])) None))
+abbrev pub format : Text
+format = codes "format"
 
-    go : (d h : Bool) → bytes_eq demo word ≡ d
-        → or_else (other_fault above (met d h) word nothing_held)
-        (stepped above (subcommand_or_other above.rules (met d h) idle 1 word nothing_held)) ≡ []
-        → (word ≡ demo) ⊎ (word ≡ mark)
-    go true h same none = inl (sym ((bytes_eq-Decides demo word).0 same))
-    go false true other none = cc
-    go false false other none = inr (only_the_mark above above_is_strict word none)
+abbrev pub script : Text
+script = codes "script"
+
+abbrev pub inspect : Text
+inspect = codes "inspect"
+
+-- ---- levels of the parse in which nothing is found
+
+-- neither in the words of a level, nor below it
+words_pass : (s : Shape) (ns : Names) (words : List Text) (has : Bool) (lower : Kinds)
+    → level_fault s ns nothing_held words has lower ≡ [] → walk_fault s ns start words ≡ []
+words_pass s ns words has lower none = first_none _ _ none
+
+lower_passes : (s : Shape) (ns : Names) (words : List Text) (has : Bool) (lower : Kinds)
+    → level_fault s ns nothing_held words has lower ≡ [] → lower ≡ []
+lower_passes s ns words has lower none = first_none _ _ (second_none _ _ none)
+
+-- neither in the first word, nor in those behind it
+first_passes : (s : Shape) (ns : Names) (w : Walk) (word : Text) (rest : List Text)
+    → walk_fault s ns w (word ∷ rest) ≡ [] → turn_fault s ns w word ≡ []
+unfolding walk_fault
+first_passes s ns w word rest none = first_none _ _ none
+
+rest_passes : (s : Shape) (ns : Names) (w : Walk) (word : Text) (rest : List Text)
+    → walk_fault s ns w (word ∷ rest) ≡ [] → walk_fault s ns (walked s.rules ns w word) rest ≡ []
+unfolding walk_fault
+rest_passes s ns w word rest none = second_none _ _ none
+
+-- ---- what a word comes to
+
+-- what is found where a word came to this
+abbrev stepped : Shape → Held × Step → Kinds
+stepped s met = step_fault s 1 met.0 met.1
+
+-- a value that no place takes is found
+stray : (s : Shape) (met : Held × Step) (h : Held) → met ≡ (h, value)
+    → (step_fault s 1 h value ≡ [] → ⊥) → stepped s met ≡ [] → ⊥
+stray s met h is fails none = fails (subst (λ m. stepped s m ≡ []) is none)
+
+-- where a command takes no value, the mark alone is taken
+only_the_mark : (s : Shape) (word : Text)
+    → (step_fault s 1 nothing_held value ≡ [] → ⊥)
+    → (word ≡ mark)
+    ⊎ (subcommand_or_other s.rules None idle 1 word nothing_held ≡ (nothing_held, value))
+    → stepped s (subcommand_or_other s.rules None idle 1 word nothing_held) ≡ [] → word ≡ mark
+only_the_mark s word fails (inl is) none = is
+only_the_mark s word fails (inr is) none = absurd (stray s _ nothing_held is fails none)
+
+-- ---- the first word
+
+-- it is a command, or the mark
+abbrev IsFirst : Text → Type 0
+IsFirst word = (word ≡ demo)
+    ⊎ ((word ≡ format) ⊎ ((word ≡ script) ⊎ ((word ≡ inspect) ⊎ (word ≡ mark))))
+
+first_word : (word : Text) → turn_fault above names start word ≡ [] → IsFirst word
+first_word word none =
+    go (bytes_eq demo word) (bytes_eq format word) (bytes_eq script word) (bytes_eq inspect word)
+    (bytes_eq (codes "help") word) refl refl refl refl none
+  where
+    met : (d f s i h : Bool) → Option Text
+    met d f s i h = option_map (λ (c : Text × List Text). c.0)
+        (cond (d || false) (Some (demo, []))
+        (cond (f || false) (Some (format, []))
+        (cond (s || false) (Some (script, []))
+        (cond (i || false) (Some (inspect, []))
+        (cond (h || false) (Some (codes "help", [])) None)))))
+
+    is : (command : Text) → bytes_eq command word ≡ true → word ≡ command
+    is command same = sym ((bytes_eq-Decides command word).0 same)
+
+    go : (d f s i h : Bool) → bytes_eq demo word ≡ d → bytes_eq format word ≡ f
+        → bytes_eq script word ≡ s → bytes_eq inspect word ≡ i
+        → or_else (other_fault above (met d f s i h) word nothing_held)
+        (stepped above (subcommand_or_other above.rules (met d f s i h) idle 1 word nothing_held))
+        ≡ [] → IsFirst word
+    go true f s i h same e1 e2 e3 none = inl (is demo same)
+    go false true s i h e0 same e2 e3 none = inr (inl (is format same))
+    go false false true i h e0 e1 same e3 none = inr (inr (inl (is script same)))
+    go false false false true h e0 e1 e2 same none = inr (inr (inr (inl (is inspect same))))
+    go false false false false true e0 e1 e2 e3 none = cc
+    go false false false false false e0 e1 e2 e3 none =
+        let fails : step_fault above 1 nothing_held value ≡ [] → ⊥ = λ bad. cc in
+        inr (inr (inr (inr (only_the_mark above word fails
+        (mark_or_value above above_is_strict 1 word [] None (first_none _ _ none))
+        (second_none _ _ none)))))
+
+-- ---- the words behind a command
 
 -- a walk that met the command keeps the words behind it
 keeps_words : (name : Text) (taken rest : List Text) (w : Walk) → w.stopped ≡ Some (name, taken)
@@ -53,108 +135,388 @@ keeps_words name taken (x ∷ rest) w is =
     (ap (λ o. (walked_from above.rules names o w x).stopped) is)
     ∙ ap (λ t. Some (name, t)) (append_assoc taken (x ∷ []) rest)
 
--- a level of the parse at which nothing is found: neither in its words, nor below it
-words_pass : (s : Shape) (ns : Names) (words : List Text) (has : Bool) (lower : Kinds)
-    → level_fault s ns nothing_held words has lower ≡ [] → walk_fault s ns start words ≡ []
-words_pass s ns words has lower none = first_none _ _ none
+-- where the walk over a command and the words behind it stops
+abbrev stop : List Text → Option (Text × List Text)
+stop words = (walk above.rules names nothing_held words).stopped
 
-lower_passes : (s : Shape) (ns : Names) (words : List Text) (has : Bool) (lower : Kinds)
-    → level_fault s ns nothing_held words has lower ≡ [] → lower ≡ []
-lower_passes s ns words has lower none = first_none _ _ (second_none _ _ none)
+-- below a command that was met nothing is found
+below_passes : (command : Text) (rest : List Text) → stop (command ∷ rest) ≡ Some (command, rest)
+    → built_fault (built night) nothing_held (command ∷ rest) ≡ []
+    → entered_fault (built night) (Some (command, rest)) ≡ []
+below_passes command rest met none =
+    let found : entered_fault (built night) (stop (command ∷ rest)) ≡ [] = lower_passes above names
+    (command ∷ rest) _ (entered_fault (built night) (stop (command ∷ rest))) none in
+    subst (λ o. entered_fault (built night) o ≡ []) met found
 
--- words in which nothing is found: neither in the first, nor in those behind it
-first_passes : (s : Shape) (ns : Names) (w : Walk) (word : Text) (rest : List Text)
-    → walk_fault s ns w (word ∷ rest) ≡ [] → turn_fault s ns w word ≡ []
-unfolding walk_fault
-first_passes s ns w word rest none = first_none _ _ none
+-- what is named where the walk stops there
+named_at : (name command : Text) (rest : List Text)
+    → stop (command ∷ rest) ≡ Some (command, rest)
+    → named_in (subcommand_of night (name ∷ command ∷ rest))
+    ≡ named_in (entered (built night) (Some (command, rest)))
+named_at name command rest met = ap (λ o. named_in (entered (built night) o)) met
 
-rest_passes : (s : Shape) (ns : Names) (w : Walk) (word : Text) (rest : List Text)
-    → walk_fault s ns w (word ∷ rest) ≡ [] → walk_fault s ns (walked s.rules ns w word) rest ≡ []
-unfolding walk_fault
-rest_passes s ns w word rest none = second_none _ _ none
+-- ---- behind `demo`
+
+-- the first word is the mark
+demo_mark_first : (x : Text) (rest : List Text)
+    → level_fault demo_shape [] nothing_held (x ∷ rest) false [] ≡ [] → x ≡ mark
+demo_mark_first x rest none =
+    let turn = first_passes demo_shape [] start x rest
+    (words_pass demo_shape [] (x ∷ rest) false [] none) in
+    let fails : step_fault demo_shape 1 nothing_held value ≡ [] → ⊥ = λ bad. cc in
+    only_the_mark demo_shape x fails
+    (mark_or_value demo_shape demo_is_strict 1 x [] None (first_none _ _ turn))
+    (second_none _ _ turn)
 
 -- behind the mark each word is one that nothing takes
-marked_stray_above : (word : Text)
-    → turn_fault above names (walked above.rules names start mark) word ≡ [] → ⊥
+demo_stray : (word : Text)
+    → turn_fault demo_shape [] (walked demo_shape.rules [] start mark) word ≡ [] → ⊥
 unfolding walked
-marked_stray_above word none = cc
+demo_stray word none = cc
 
-marked_stray_below : (word : Text)
-    → turn_fault below [] (walked below.rules [] start mark) word ≡ [] → ⊥
-unfolding walked
-marked_stray_below word none = cc
-
--- of the words behind the command, the first is the mark
-mark_first : (x : Text) (rest : List Text)
-    → level_fault below [] nothing_held (x ∷ rest) false [] ≡ [] → x ≡ mark
-mark_first x rest none = only_the_mark below below_is_strict x
-    (first_passes below [] start x rest (words_pass below [] (x ∷ rest) false [] none))
-
--- behind the command stands nothing, or the mark
-behind_demo : (rest : List Text) → level_fault below [] nothing_held rest false [] ≡ []
+-- there stands nothing, or the mark
+behind_demo : (rest : List Text) → level_fault demo_shape [] nothing_held rest false [] ≡ []
     → (rest ≡ []) ⊎ (rest ≡ mark ∷ [])
 behind_demo [] none = inl refl
-behind_demo (x ∷ []) none = inr (ap (λ t. t ∷ []) (mark_first x [] none))
+behind_demo (x ∷ []) none = inr (ap (λ t. t ∷ []) (demo_mark_first x [] none))
 behind_demo (x ∷ y ∷ ys) none =
-    let Walks : Text → Type 0 = λ t. walk_fault below [] start (t ∷ y ∷ ys) ≡ [] in
-    let walks = subst Walks (mark_first x (y ∷ ys) none)
-    (words_pass below [] (x ∷ y ∷ ys) false [] none) in
-    absurd (marked_stray_below y (first_passes below [] (walked below.rules [] start mark) y ys
-    (rest_passes below [] start mark (y ∷ ys) walks)))
+    let Walks : Text → Type 0 = λ t. walk_fault demo_shape [] start (t ∷ y ∷ ys) ≡ [] in
+    let walks = subst Walks (demo_mark_first x (y ∷ ys) none)
+    (words_pass demo_shape [] (x ∷ y ∷ ys) false [] none) in
+    absurd (demo_stray y (first_passes demo_shape [] (walked demo_shape.rules [] start mark) y ys
+    (rest_passes demo_shape [] start mark (y ∷ ys) walks)))
 
--- behind the command, the words are those of the command
-with_demo : (rest : List Text) → built_fault (built night) nothing_held (demo ∷ rest) ≡ []
-    → (rest ≡ []) ⊎ (rest ≡ mark ∷ [])
+-- ---- behind a command over a store
+
+module _ (command : Text) where
+  abbrev pub over : Shape
+  over = store_shape command
+
+  -- where the walk stands behind the mark, and behind a store
+  abbrev marked : Walk
+  marked = walked over.rules [] start mark
+
+  abbrev stored : Text → Walk
+  stored store = after_step over.rules store start nothing_held value
+
+  -- what the parser read as the store
+  abbrev pub store_in : List Text → Option Text
+  store_in rest = first_of (codes "STORE") (rows_at over rest).1
+
+  -- the words behind the command name this store, and the parser reads it
+  pub record Behind (rest : List Text) : Type 0 where
+    pub store : Text
+    pub words : (rest ≡ store ∷ []) ⊎ ((rest ≡ mark ∷ store ∷ []) ⊎ (rest ≡ store ∷ mark ∷ []))
+    pub read : store_in rest ≡ Some store
+
+  abbrev pub Passes : List Text → Type 0
+  Passes rest = level_fault over [] nothing_held rest false [] ≡ []
+
+  -- the store is wanted
+  wants_store : Passes [] → ⊥
+  unfolding clap_on_literals
+  wants_store none = cc
+
+  mark_is_no_store : Passes (mark ∷ []) → ⊥
+  unfolding clap_on_literals
+  mark_is_no_store none = cc
+
+  -- the first word is the mark or the store
+  first_behind : (x : Text) (rest : List Text) → Passes (x ∷ rest)
+      → (x ≡ mark) ⊎ (walked over.rules [] start x ≡ stored x)
+  unfolding walked
+  first_behind x rest none = go (mark_or_value over (store_is_strict command) 1 x [] None
+      (first_none _ _ (first_passes over [] start x rest
+      (words_pass over [] (x ∷ rest) false [] none))))
+    where
+      go : (x ≡ mark)
+          ⊎ (subcommand_or_other over.rules None idle 1 x nothing_held ≡ (nothing_held, value))
+          → (x ≡ mark) ⊎ (walked over.rules [] start x ≡ stored x)
+      go (inl is) = inl is
+      go (inr is) = inr (ap (λ (m : Held × Step). after_step over.rules x start m.0 m.1) is)
+
+  -- the word behind a store is the mark
+  second_behind : (x y : Text) → turn_fault over [] (stored x) y ≡ [] → y ≡ mark
+  second_behind x y none = go (mark_or_value over (store_is_strict command) 2 y []
+      (Some (codes "STORE", x ∷ [])) (first_none _ _ none))
+    where
+      met : Held × Step
+      met = subcommand_or_other over.rules None idle 2 y (held [] (Some (codes "STORE", x ∷ [])))
+
+      go : (y ≡ mark) ⊎ (met ≡ (held [] (Some (codes "STORE", x ∷ [])), value)) → y ≡ mark
+      go (inl is) = is
+      go (inr is) =
+          let stored_held = held [] (Some (codes "STORE", x ∷ [])) in
+          let bad : step_fault over 2 stored_held value ≡ [] =
+          subst (λ (m : Held × Step). step_fault over 2 m.0 m.1 ≡ []) is
+          (second_none _ _ none) in
+          cc
+
+  -- a third word is one that nothing takes
+  third_behind_mark : (y z : Text)
+      → turn_fault over [] (walked over.rules [] marked y) z ≡ [] → ⊥
+  unfolding walked
+  third_behind_mark y z none = cc
+
+  third_behind_store : (x z : Text)
+      → turn_fault over [] (walked over.rules [] (stored x) mark) z ≡ [] → ⊥
+  unfolding walked
+  third_behind_store x z none = cc
+
+  -- what is read of each
+  reads_alone : (x : Text) → walked over.rules [] start x ≡ stored x
+      → store_in (x ∷ []) ≡ Some x
+  reads_alone x is = ap (λ (w : Walk). first_of (codes "STORE") (finished over.rules w.held)) is
+
+  reads_behind_mark : (y : Text) → store_in (mark ∷ y ∷ []) ≡ Some y
+  unfolding clap_on_literals
+  reads_behind_mark y = refl
+
+  reads_before_mark : (x : Text) → walked over.rules [] start x ≡ stored x
+      → store_in (x ∷ mark ∷ []) ≡ Some x
+  unfolding clap_on_literals
+  reads_before_mark x is = ap (λ (w : Walk). first_of (codes "STORE")
+      (finished over.rules (walked over.rules [] w mark).held)) is
+
+  -- all the words behind the command
+  walks : (rest : List Text) → Passes rest → walk_fault over [] start rest ≡ []
+  walks rest none = words_pass over [] rest false [] none
+
+  second_passes : (x y : Text) (rest : List Text) → Passes (x ∷ y ∷ rest)
+      → walk_fault over [] (walked over.rules [] start x) (y ∷ rest) ≡ []
+  second_passes x y rest none = rest_passes over [] start x (y ∷ rest)
+      (walks (x ∷ y ∷ rest) none)
+
+  pub behind : (rest : List Text) → Passes rest → Behind rest
+  behind [] none = absurd (wants_store none)
+  behind (x ∷ []) none = go (first_behind x [] none)
+    where
+      go : (x ≡ mark) ⊎ (walked over.rules [] start x ≡ stored x) → Behind (x ∷ [])
+      go (inl is) = absurd (mark_is_no_store (subst (λ t. Passes (t ∷ [])) is none))
+      go (inr is) = record { store = x; words = inl refl; read = reads_alone x is }
+  behind (x ∷ y ∷ []) none = go (first_behind x (y ∷ []) none)
+    where
+      Second : Walk → Type 0
+      Second w = turn_fault over [] w y ≡ []
+
+      turn : Second (walked over.rules [] start x)
+      turn = first_passes over [] _ y [] (second_passes x y [] none)
+
+      go : (x ≡ mark) ⊎ (walked over.rules [] start x ≡ stored x) → Behind (x ∷ y ∷ [])
+      go (inl is) = record {
+        store = y;
+        words = inr (inl (ap (λ t. t ∷ y ∷ []) is));
+        read = subst (λ t. store_in (t ∷ y ∷ []) ≡ Some y) (sym is) (reads_behind_mark y);
+      }
+      go (inr is) =
+          let last = second_behind x y (subst Second is turn) in
+          record {
+            store = x;
+            words = inr (inr (ap (λ t. x ∷ t ∷ []) last));
+            read = subst (λ t. store_in (x ∷ t ∷ []) ≡ Some x) (sym last)
+                (reads_before_mark x is);
+          }
+  behind (x ∷ y ∷ z ∷ rest) none = go (first_behind x (y ∷ z ∷ rest) none)
+    where
+      Walks : Walk → Text → Type 0
+      Walks w t = walk_fault over [] w (t ∷ z ∷ rest) ≡ []
+
+      from : Walks (walked over.rules [] start x) y
+      from = second_passes x y (z ∷ rest) none
+
+      third : (w : Walk) (t : Text) → Walks w t
+          → turn_fault over [] (walked over.rules [] w t) z ≡ []
+      third w t fine = first_passes over [] _ z rest (rest_passes over [] w t (z ∷ rest) fine)
+
+      go : (x ≡ mark) ⊎ (walked over.rules [] start x ≡ stored x) → Behind (x ∷ y ∷ z ∷ rest)
+      go (inl is) = absurd (third_behind_mark y z (third marked y
+          (subst (λ t. Walks (walked over.rules [] start t) y) is from)))
+      go (inr is) =
+          let here = subst (λ w. Walks w y) is from in
+          let last = second_behind x y (first_passes over [] (stored x) y (z ∷ rest) here) in
+          absurd (third_behind_store x z (third (stored x) mark
+          (subst (λ t. Walks (stored x) t) last here)))
+
+-- ---- all of the words
+
+-- what words ask for in which nothing is found, and what the parser names then
+pub data IsTaken (words : List Text) (named : Named) : Type 0 where
+  takes_demo : AsksForDemo words → named ≡ Some (demo, None) → IsTaken words named
+  takes_format : (store : Text) → AsksOver format store words
+      → named ≡ Some (format, Some store) → IsTaken words named
+  takes_script : (store : Text) → AsksOver script store words
+      → named ≡ Some (script, Some store) → IsTaken words named
+  takes_inspect : (store : Text) → AsksOver inspect store words
+      → named ≡ Some (inspect, Some store) → IsTaken words named
+
+abbrev named_of : List Text → Named
+named_of words = named_in (subcommand_of night words)
+
+abbrev Finds : List Text → Type 0
+Finds words = built_fault (built night) nothing_held words ≡ []
+
+-- what is named behind `demo`
+names_demo : (rest : List Text) → (rest ≡ []) ⊎ (rest ≡ mark ∷ [])
+    → named_in (entered (built night) (Some (demo, rest))) ≡ Some (demo, None)
+unfolding clap_on_literals
+names_demo rest (inl e) =
+    let named : named_in (entered (built night) (Some (demo, []))) ≡ Some (demo, None) = refl in
+    ap (λ r. named_in (entered (built night) (Some (demo, r)))) e ∙ named
+names_demo rest (inr e) =
+    let named : named_in (entered (built night) (Some (demo, mark ∷ []))) ≡ Some (demo, None)
+    = refl in
+    ap (λ r. named_in (entered (built night) (Some (demo, r)))) e ∙ named
+
+asks_demo : (name : Text) (rest : List Text) → (rest ≡ []) ⊎ (rest ≡ mark ∷ [])
+    → AsksForDemo (name ∷ demo ∷ rest)
+asks_demo name rest (inl e) = (name, inl (ap (λ r. name ∷ demo ∷ r) e))
+asks_demo name rest (inr e) = (name, inr (ap (λ r. name ∷ demo ∷ r) e))
+
+demo_taken : (name : Text) (rest : List Text) → Finds (demo ∷ rest)
+    → IsTaken (name ∷ demo ∷ rest) (named_of (name ∷ demo ∷ rest))
 unfolding walked
-with_demo rest none =
-    let end = walk above.rules names nothing_held (demo ∷ rest) in
-    let found : entered_fault (built night) end.stopped ≡ [] = lower_passes above names
-    (demo ∷ rest) _ (entered_fault (built night) end.stopped) none in
-    let stopped = keeps_words demo [] rest (walked above.rules names start demo) refl in
-    behind_demo rest (subst (λ o. entered_fault (built night) o ≡ []) stopped found)
+demo_taken name rest none =
+    let met = keeps_words demo [] rest (walked above.rules names start demo) refl in
+    let which = behind_demo rest (below_passes demo rest met none) in
+    takes_demo (asks_demo name rest which) (named_at name demo rest met ∙ names_demo rest which)
+
+-- the words behind a command that name a store ask for it
+asks_over : (name command store : Text) (rest : List Text)
+    → (rest ≡ store ∷ []) ⊎ ((rest ≡ mark ∷ store ∷ []) ⊎ (rest ≡ store ∷ mark ∷ []))
+    → AsksOver command store (name ∷ command ∷ rest)
+asks_over name command store rest (inl e) = (name, inl (ap (λ r. name ∷ command ∷ r) e))
+asks_over name command store rest (inr (inl e)) =
+    (name, inr (inl (ap (λ r. name ∷ command ∷ r) e)))
+asks_over name command store rest (inr (inr e)) =
+    (name, inr (inr (ap (λ r. name ∷ command ∷ r) e)))
+
+format_taken : (name : Text) (rest : List Text) → Finds (format ∷ rest)
+    → IsTaken (name ∷ format ∷ rest) (named_of (name ∷ format ∷ rest))
+unfolding walked
+format_taken name rest none =
+    let met = keeps_words format [] rest (walked above.rules names start format) refl in
+    let b = behind format rest (below_passes format rest met none) in
+    takes_format b.store (asks_over name format b.store rest b.words)
+    (named_at name format rest met ∙ ap (λ s. Some (format, s)) b.read)
+
+script_taken : (name : Text) (rest : List Text) → Finds (script ∷ rest)
+    → IsTaken (name ∷ script ∷ rest) (named_of (name ∷ script ∷ rest))
+unfolding walked
+script_taken name rest none =
+    let met = keeps_words script [] rest (walked above.rules names start script) refl in
+    let b = behind script rest (below_passes script rest met none) in
+    takes_script b.store (asks_over name script b.store rest b.words)
+    (named_at name script rest met ∙ ap (λ s. Some (script, s)) b.read)
+
+inspect_taken : (name : Text) (rest : List Text) → Finds (inspect ∷ rest)
+    → IsTaken (name ∷ inspect ∷ rest) (named_of (name ∷ inspect ∷ rest))
+unfolding walked
+inspect_taken name rest none =
+    let met = keeps_words inspect [] rest (walked above.rules names start inspect) refl in
+    let b = behind inspect rest (below_passes inspect rest met none) in
+    takes_inspect b.store (asks_over name inspect b.store rest b.words)
+    (named_at name inspect rest met ∙ ap (λ s. Some (inspect, s)) b.read)
 
 -- the mark alone asks for nothing, and neither do no words
-mark_alone : built_fault (built night) nothing_held (mark ∷ []) ≡ [] → ⊥
+mark_alone : Finds (mark ∷ []) → ⊥
 unfolding clap_on_literals
 mark_alone none = cc
 
-no_words : built_fault (built night) nothing_held [] ≡ [] → ⊥
+no_words : Finds [] → ⊥
 unfolding clap_on_literals
 no_words none = cc
 
--- behind the mark stands no command
-with_mark : (rest : List Text) → built_fault (built night) nothing_held (mark ∷ rest) ≡ [] → ⊥
+-- behind the mark each word is one that nothing takes
+above_stray : (word : Text)
+    → turn_fault above names (walked above.rules names start mark) word ≡ [] → ⊥
+unfolding walked
+above_stray word none = cc
+
+with_mark : (rest : List Text) → Finds (mark ∷ rest) → ⊥
 with_mark [] none = mark_alone none
 with_mark (y ∷ ys) none =
-    marked_stray_above y (first_passes above names (walked above.rules names start mark) y ys
+    above_stray y (first_passes above names (walked above.rules names start mark) y ys
     (rest_passes above names start mark (y ∷ ys)
     (words_pass above names (mark ∷ y ∷ ys) _ _ none)))
 
--- the words behind the program's own name
-taken : (words : List Text) → built_fault (built night) nothing_held words ≡ []
-    → (words ≡ demo ∷ []) ⊎ (words ≡ demo ∷ mark ∷ [])
+-- words in which nothing is found ask for a command
+pub taken : (words : List Text) → faults_of words ≡ [] → IsTaken words (named_of words)
 taken [] none = absurd (no_words none)
-taken (word ∷ rest) none = go (first_word word (first_passes above names start word rest
+taken (name ∷ []) none = absurd (no_words none)
+taken (name ∷ word ∷ rest) none = go (first_word word (first_passes above names start word rest
     (words_pass above names (word ∷ rest) _ _ none)))
   where
-    Finds : Text → Type 0
-    Finds t = built_fault (built night) nothing_held (t ∷ rest) ≡ []
+    Takes : Text → Type 0
+    Takes w = IsTaken (name ∷ w ∷ rest) (named_of (name ∷ w ∷ rest))
 
-    ends : word ≡ demo → (rest ≡ []) ⊎ (rest ≡ mark ∷ [])
-        → (word ∷ rest ≡ demo ∷ []) ⊎ (word ∷ rest ≡ demo ∷ mark ∷ [])
-    ends is_demo (inl e) = inl (ap₂ (λ w r. w ∷ r) is_demo e)
-    ends is_demo (inr e) = inr (ap₂ (λ w r. w ∷ r) is_demo e)
+    at : (command : Text) → word ≡ command → (Finds (command ∷ rest) → Takes command)
+        → Takes word
+    at command is takes =
+        subst Takes (sym is) (takes (subst (λ w. Finds (w ∷ rest)) is none))
 
-    go : (word ≡ demo) ⊎ (word ≡ mark)
-        → (word ∷ rest ≡ demo ∷ []) ⊎ (word ∷ rest ≡ demo ∷ mark ∷ [])
-    go (inl is_demo) = ends is_demo (with_demo rest (subst Finds is_demo none))
-    go (inr is_mark) = absurd (with_mark rest (subst Finds is_mark none))
+    go : IsFirst word → Takes word
+    go (inl is) = at demo is (demo_taken name rest)
+    go (inr (inl is)) = at format is (format_taken name rest)
+    go (inr (inr (inl is))) = at script is (script_taken name rest)
+    go (inr (inr (inr (inl is)))) = at inspect is (inspect_taken name rest)
+    go (inr (inr (inr (inr is)))) = absurd (with_mark rest (subst (λ w. Finds (w ∷ rest)) is none))
 
--- words in which nothing is found ask for the command
-pub asks_for_demo : (words : List Text) → faults_of words ≡ [] → AsksForDemo words
-asks_for_demo [] none = absurd (no_words none)
-asks_for_demo (name ∷ words) none = go (taken words none)
-  where
-    go : (words ≡ demo ∷ []) ⊎ (words ≡ demo ∷ mark ∷ []) → AsksForDemo (name ∷ words)
-    go (inl e) = (name, inl (ap (λ w. name ∷ w) e))
-    go (inr e) = (name, inr (ap (λ w. name ∷ w) e))
+-- ---- what the parser names
+
+-- a command is named
+pub taken_is_named : (words : List Text) (named : Named) → IsTaken words named → IsNamed named
+taken_is_named words named (takes_demo a e) = inl e
+taken_is_named words named (takes_format store a e) = inr (store, inl e)
+taken_is_named words named (takes_script store a e) = inr (store, inr (inl e))
+taken_is_named words named (takes_inspect store a e) = inr (store, inr (inr e))
+
+-- two commands that differ
+pub clash : (c d : Text) (x y : Option Text) (named : Named) → bytes_eq c d ≡ false
+    → named ≡ Some (c, x) → named ≡ Some (d, y) → ⊥
+clash c d x y named differ one other =
+    let name : Named → Text = λ n. option_map_or (λ (p : Text × Option Text). p.0) n [] in
+    let same : c ≡ d = ap name (sym one ∙ other) in
+    let bad : true ≡ false = sym ((bytes_eq-Decides c d).1 same) ∙ differ in
+    cc
+
+-- two stores of one command are one
+store_is : (c s t : Text) (named : Named) → named ≡ Some (c, Some s) → named ≡ Some (c, Some t)
+    → s ≡ t
+store_is c s t named one other =
+    let store : Named → Text = λ n. option_map_or
+    (λ (p : Text × Option Text). option_map_or (λ (u : Text). u) p.1 []) n [] in
+    ap store (sym one ∙ other)
+
+-- and what asks for it is asked for
+pub taken_asks : (words : List Text) (named : Named) (asked : Asked) → IsTaken words named
+    → Asks named asked → AsksFor asked words
+taken_asks words named Demo (takes_demo a e) is = a
+taken_asks words named Demo (takes_format s a e) is = absurd (clash demo format _ _ named refl is e)
+taken_asks words named Demo (takes_script s a e) is = absurd (clash demo script _ _ named refl is e)
+taken_asks words named Demo (takes_inspect s a e) is =
+    absurd (clash demo inspect _ _ named refl is e)
+taken_asks words named (Format t) (takes_demo a e) is =
+    absurd (clash demo format _ _ named refl e is)
+taken_asks words named (Format t) (takes_format s a e) is =
+    subst (λ (u : Text). AsksOver format u words) (store_is format s t.now named e is) a
+taken_asks words named (Format t) (takes_script s a e) is =
+    absurd (clash script format _ _ named refl e is)
+taken_asks words named (Format t) (takes_inspect s a e) is =
+    absurd (clash inspect format _ _ named refl e is)
+taken_asks words named (Script t) (takes_demo a e) is =
+    absurd (clash demo script _ _ named refl e is)
+taken_asks words named (Script t) (takes_format s a e) is =
+    absurd (clash format script _ _ named refl e is)
+taken_asks words named (Script t) (takes_script s a e) is =
+    subst (λ (u : Text). AsksOver script u words) (store_is script s t.now named e is) a
+taken_asks words named (Script t) (takes_inspect s a e) is =
+    absurd (clash inspect script _ _ named refl e is)
+taken_asks words named (Inspect t) (takes_demo a e) is =
+    absurd (clash demo inspect _ _ named refl e is)
+taken_asks words named (Inspect t) (takes_format s a e) is =
+    absurd (clash format inspect _ _ named refl e is)
+taken_asks words named (Inspect t) (takes_script s a e) is =
+    absurd (clash script inspect _ _ named refl e is)
+taken_asks words named (Inspect t) (takes_inspect s a e) is =
+    subst (λ (u : Text). AsksOver inspect u words) (store_is inspect s t.now named e is) a
+taken_asks words named (Help text) t is = absurd is

@@ -5,12 +5,18 @@ ghost use Rattle.night_words.specs.Commands.{fault_text};
 
 use std::fmt;
 
-/// What the words ask for.
+/// What the words ask for. The name of a store is lent from them.
 #[derive(Debug, Drop)]
-pub enum Asked {
-    /// `demo`: standard input runs over a book in memory.
+pub enum Asked<'a> {
+    /// `demo`: the input runs over a book in memory.
     Demo,
-    /// A text for standard output: help, or the version.
+    /// `format STORE`: the file becomes a new store.
+    Format(&'a str),
+    /// `script STORE`: the input runs over the store.
+    Script(&'a str),
+    /// `inspect STORE`: what the store holds is printed.
+    Inspect(&'a str),
+    /// A text for the output: help, or the version.
     Help(String),
 }
 

@@ -12,6 +12,31 @@ pub fn demo_is_a_command()
     ensures marked { (name : List ℕ) → faults_of (name ∷ codes "demo" ∷ codes "--" ∷ []) ≡ [] }
 {}
 
+/// `format`, `script` and `inspect` are commands over a store. Behind the mark its name may look
+/// like a flag.
+pub fn a_store_is_named()
+    ensures format { (name : List ℕ) → faults_of (name ∷ codes "format" ∷ codes "a" ∷ []) ≡ [] }
+    ensures script { (name : List ℕ) → faults_of (name ∷ codes "script" ∷ codes "a" ∷ []) ≡ [] }
+    ensures inspect { (name : List ℕ) → faults_of (name ∷ codes "inspect" ∷ codes "a" ∷ []) ≡ [] }
+    ensures before { (name : List ℕ)
+        → faults_of (name ∷ codes "format" ∷ codes "--" ∷ codes "-a" ∷ []) ≡ [] }
+    ensures behind { (name : List ℕ)
+        → faults_of (name ∷ codes "format" ∷ codes "a" ∷ codes "--" ∷ []) ≡ [] }
+{}
+
+/// One store is wanted.
+pub fn a_store_is_wanted()
+    ensures none { (name : List ℕ) → faults_of (name ∷ codes "script" ∷ [])
+        ≡ kind.MissingRequiredArgument ∷ [] }
+    ensures mark { (name : List ℕ) → faults_of (name ∷ codes "script" ∷ codes "--" ∷ [])
+        ≡ kind.MissingRequiredArgument ∷ [] }
+    ensures two { (name : List ℕ)
+        → faults_of (name ∷ codes "script" ∷ codes "a" ∷ codes "b" ∷ [])
+        ≡ kind.UnknownArgument ∷ [] }
+    ensures flag { (name : List ℕ) → faults_of (name ∷ codes "script" ∷ codes "-a" ∷ [])
+        ≡ kind.UnknownArgument ∷ [] }
+{}
+
 /// No words ask for nothing.
 pub fn no_words_are_a_mistake()
     ensures name { (name : List ℕ) → faults_of (name ∷ [])
@@ -21,7 +46,7 @@ pub fn no_words_are_a_mistake()
 
 /// A word that names no command is a mistake, and so is one that is left over.
 pub fn other_words_are_mistakes()
-    ensures unknown { (name : List ℕ) → faults_of (name ∷ codes "format" ∷ [])
+    ensures unknown { (name : List ℕ) → faults_of (name ∷ codes "crew" ∷ [])
         ≡ kind.UnknownArgument ∷ kind.InvalidSubcommand ∷ [] }
     ensures begun { (name : List ℕ) → faults_of (name ∷ codes "dem" ∷ [])
         ≡ kind.UnknownArgument ∷ kind.InvalidSubcommand ∷ [] }
@@ -41,6 +66,8 @@ pub fn help_and_the_version_are_shown()
         ≡ kind.DisplayHelp ∷ [] }
     ensures short { (name : List ℕ) → faults_of (name ∷ codes "-h" ∷ []) ≡ kind.DisplayHelp ∷ [] }
     ensures of_demo { (name : List ℕ) → faults_of (name ∷ codes "demo" ∷ codes "--help" ∷ [])
+        ≡ kind.DisplayHelp ∷ [] }
+    ensures of_format { (name : List ℕ) → faults_of (name ∷ codes "format" ∷ codes "--help" ∷ [])
         ≡ kind.DisplayHelp ∷ [] }
     ensures version { (name : List ℕ) → faults_of (name ∷ codes "--version" ∷ [])
         ≡ kind.DisplayVersion ∷ [] }

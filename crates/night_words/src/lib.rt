@@ -5,6 +5,7 @@
 #![tactic(auto)]
 
 mod asked;
+mod commands;
 pub mod examples;
 mod readers;
 

@@ -5,19 +5,17 @@ ghost use Rattle.std.specs.Prelude.{◌≡◌, ◌↔◌, IfErr, IfOk, map};
 ghost use Rattle.std.specs.String.{string_bytes};
 ghost use Rattle.std.specs.Vec.Iter.{into_iter_steps};
 ghost use Rattle.std.specs.declared.io.ErrorKind.TheVariants as system;
-ghost use Rattle.clap.specs.Words.{app_of, kind_of};
-ghost use Rattle.night_words.specs.Commands.{night, AsksForDemo, IsAnswer, IsOfSystem};
-ghost use Rattle.night_words.specs.Commands.{IsShown, faults_of};
+ghost use Rattle.clap.specs.Words.{kind_of};
+ghost use Rattle.night_words.specs.Commands.{Asks, AsksFor, IsAnswer, IsNamed, IsOfSystem};
+ghost use Rattle.night_words.specs.Commands.{IsShown, faults_of, named_by};
 
 use crate::asked::{Asked, WordsFault};
+use crate::commands::night_command;
 use clap::error::ErrorKind;
-use clap::{Command, Error};
-use std::alloc::{AllocError, Global};
+use clap::{ArgMatches, Error};
+use std::alloc::Global;
 use std::env::{Args, Env};
 use std::{env, io};
-
-/// The version that `--version` shows.
-const VERSION: &str = "0.1.0";
 
 /// The words that the program was started with, the program's own name first. `NotText` where one
 /// of them is no text in UTF-8, `Memory` where there was no memory for them.
@@ -53,35 +51,46 @@ fn refusal_of(kind: io::ErrorKind) -> WordsFault
 }
 
 /// What the words ask for, the program's own name first.
-pub fn read_words(alloc: Global, words: &[String]) -> Result<Asked, WordsFault>
+pub fn read_words<'a>(alloc: Global, words: &'a [String]) -> Result<Asked<'a>, WordsFault>
     ensures answer { IsAnswer (faults_of (map string_bytes words.now)) result }
-    ensures demo { IfOk result (λ asked. asked ≡ Asked.Demo
-        → AsksForDemo (map string_bytes words.now)) }
+    ensures asks { IfOk result (λ asked. AsksFor asked (map string_bytes words.now)) }
 {
     let Ok(command) = night_command(alloc) else {
         return Err(WordsFault::Memory);
     };
     match command.try_get_matches_from(words) {
-        Ok(_) => Ok(Asked::Demo),
+        Ok(matches) => Ok(asked_of(&matches)),
         Err(error) => shown(alloc, &error),
     }
 }
 
-/// The command line, as its parser takes it.
-fn night_command<'a>(alloc: Global) -> Result<Command<'a>, AllocError>
-    ensures { IfOk result (λ command. app_of command ≡ night) }
+/// What the parser's matches ask for: the command that was used, and its store.
+fn asked_of<'a>(matches: &ArgMatches<'a>) -> Asked<'a>
+    requires { IsNamed (named_by matches.now) }
+    ensures { Asks (named_by matches.now) result }
 {
-    let demo = Command::new(alloc, "demo").about("Runs standard input over a book in memory");
-    Command::new(alloc, "night")
-        .about("A durable job runner with cancellation scopes")
-        .version(VERSION)
-        .subcommand_required(true)
-        .arg_required_else_help(true)
-        .subcommand(demo)
+    let Some((command, inner)) = matches.subcommand() else {
+        unreachable!();
+    };
+    if command == "demo" {
+        return Asked::Demo;
+    }
+    let Some(store) = inner.get_str("STORE") else {
+        unreachable!();
+    };
+    let formats = command == "format";
+    if formats {
+        return Asked::Format(store);
+    }
+    let scripts = command == "script";
+    if scripts {
+        return Asked::Script(store);
+    }
+    Asked::Inspect(store)
 }
 
 /// What the parser answered in place of matches: help that was asked for, or a mistake.
-fn shown(alloc: Global, error: &Error) -> Result<Asked, WordsFault>
+fn shown<'a>(alloc: Global, error: &Error) -> Result<Asked<'a>, WordsFault>
     ensures { IsShown (kind_of error.now) result }
 {
     if error.kind() == ErrorKind::OutOfMemory {

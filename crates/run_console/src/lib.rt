@@ -15,3 +15,4 @@ pub use console_lines::RunFault;
 pub use consoles::{line, run};
 pub use inspects::inspect;
 pub use run_book::Book;
+pub use writings::write_whole;

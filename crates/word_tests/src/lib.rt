@@ -1,7 +1,5 @@
-//! Tests of the command line: its words, and the status and the text of each outcome.
+//! Tests of the words of the command line.
 #![tactic(auto)]
 
-#[cfg(test)]
-mod statuses;
 #[cfg(test)]
 mod words;

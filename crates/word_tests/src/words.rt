@@ -7,6 +7,8 @@ use std::test::Fail;
 enum Told {
     /// They ask for the demo.
     Demo,
+    /// They ask for this word over this store.
+    Store(&'static str, &'static str),
     /// A text for help that has this part.
     Help(&'static str),
     /// This text for help.
@@ -20,19 +22,37 @@ type Case = (&'static [&'static str], Told);
 
 static DEMO: [Case; 1] = [(&["demo"], Told::Demo)];
 
-static HELP: [Case; 4] = [
+static STORES: [Case; 6] = [
+    (&["format", "a.disk"], Told::Store("format", "a.disk")),
+    (&["script", "a.disk"], Told::Store("script", "a.disk")),
+    (&["inspect", "a.disk"], Told::Store("inspect", "a.disk")),
+    (&["script", "--", "-a"], Told::Store("script", "-a")),
+    (&["script", "a", "--"], Told::Store("script", "a")),
+    (&["script", ""], Told::Store("script", "")),
+];
+
+static HELP: [Case; 7] = [
     (&["--help"], Told::Help("Usage: night <COMMAND>")),
     (&["-h"], Told::Help("Usage: night <COMMAND>")),
     (&["help"], Told::Help("Usage: night <COMMAND>")),
     (&["demo", "--help"], Told::Help("Usage: night demo")),
+    (
+        &["format", "--help"],
+        Told::Help("Example: night format jobs.store"),
+    ),
+    (&["script", "--help"], Told::Help("Example: printf")),
+    (
+        &["inspect", "--help"],
+        Told::Help("Example: night inspect jobs.store"),
+    ),
 ];
 
 static VERSION: [Case; 2] = [
-    (&["--version"], Told::Text("night 0.1.0\n")),
-    (&["-V"], Told::Text("night 0.1.0\n")),
+    (&["--version"], Told::Text("night 0.2.0\n")),
+    (&["-V"], Told::Text("night 0.2.0\n")),
 ];
 
-static MISTAKES: [Case; 12] = [
+static MISTAKES: [Case; 13] = [
     (&[], Told::Mistake("Usage: night <COMMAND>")),
     (&[""], Told::Mistake("unrecognized subcommand ''")),
     (
@@ -40,20 +60,24 @@ static MISTAKES: [Case; 12] = [
         Told::Mistake("a similar subcommand exists: 'demo'"),
     ),
     (
-        &["format", "a.disk"],
-        Told::Mistake("unrecognized subcommand 'format'"),
+        &["format"],
+        Told::Mistake("required arguments were not provided"),
     ),
     (
-        &["script", "a.disk"],
-        Told::Mistake("unrecognized subcommand 'script'"),
+        &["script", "--"],
+        Told::Mistake("required arguments were not provided"),
+    ),
+    (
+        &["script", "a.disk", "b.disk"],
+        Told::Mistake("unexpected argument 'b.disk' found"),
     ),
     (
         &["crew", "a.disk"],
         Told::Mistake("unrecognized subcommand 'crew'"),
     ),
     (
-        &["inspect", "a.disk"],
-        Told::Mistake("unrecognized subcommand 'inspect'"),
+        &["inspect", "-a"],
+        Told::Mistake("unexpected argument '-a' found"),
     ),
     (
         &["migrate", "a.disk", "b.disk"],
@@ -93,6 +117,9 @@ fn texts_of(alloc: Global, words: &[&str]) -> Result<Vec<String>, AllocError> {
 fn is_asked(asked: &Asked, told: &Told) -> bool {
     match (asked, told) {
         (Asked::Demo, Told::Demo) => true,
+        (Asked::Format(store), Told::Store(word, name)) => *word == "format" && store == name,
+        (Asked::Script(store), Told::Store(word, name)) => *word == "script" && store == name,
+        (Asked::Inspect(store), Told::Store(word, name)) => *word == "inspect" && store == name,
         (Asked::Help(text), Told::Help(part)) => text.contains(*part),
         (Asked::Help(text), Told::Text(whole)) => text.as_str() == *whole,
         _ => false,
@@ -131,6 +158,13 @@ fn first_untold(alloc: Global, cases: &[Case]) -> Result<Option<usize>, AllocErr
 #[test]
 fn demo_is_asked_for(rt: HostRuntime) -> Result<(), Fail> {
     let untold = first_untold(rt.alloc(), &DEMO)?;
+    assert!(rt; untold.is_none(), "row {untold:?}");
+    Ok(())
+}
+
+#[test]
+fn a_store_is_named(rt: HostRuntime) -> Result<(), Fail> {
+    let untold = first_untold(rt.alloc(), &STORES)?;
     assert!(rt; untold.is_none(), "row {untold:?}");
     Ok(())
 }

@@ -21,3 +21,7 @@ returns-clause-version c = λ name. refl
 pub returns-clause-short_version : goal.returns-clause-short_version
 unfolding clap_on_literals
 returns-clause-short_version c = λ name. refl
+
+pub returns-clause-of_format : goal.returns-clause-of_format
+unfolding clap_on_literals
+returns-clause-of_format c = λ name. refl

@@ -1,21 +1,39 @@
 use Rattle.std.proofs.Common.{map}
 use Rattle.std.specs.String.{string_bytes}
-use Rattle.clap.specs.Words.{kind_of}
-use Rattle.night_words.proofs.AnswerLemmas.{command_is_asked, error_is_answered}
-use Rattle.night_words.proofs.AnswerLemmas.{error_is_no_command}
+use Rattle.clap.specs.Words.{app_of, kind_of}
+use Rattle.night_words.proofs.AnswerLemmas.{command_is_answer, command_is_asked}
+use Rattle.night_words.proofs.AnswerLemmas.{command_is_named, error_asks_nothing}
+use Rattle.night_words.proofs.AnswerLemmas.{error_is_answered}
 use Rattle.night_words.proofs.readers.read_words.Goals as goal
 
-pub returns-clause-answer : goal.returns-clause-answer
-returns-clause-answer c =
+pub asked_of-requires : goal.asked_of-requires
+asked_of-requires c =
+    command_is_named (app_of c.in-Ok.command) (map string_bytes c.args.words.now)
+    c.in-Ok-try_get_matches_from.matches c.in-Ok.ensures
+    c.in-Ok-try_get_matches_from.ensures.kinds c.in-Ok-try_get_matches_from.ensures.matches
+
+pub returns-in-Ok-try_get_matches_from-clause-answer
+    : goal.returns-in-Ok-try_get_matches_from-clause-answer
+returns-in-Ok-try_get_matches_from-clause-answer c =
+    command_is_answer (app_of c.in-Ok.command) (map string_bytes c.args.words.now)
+    c.in-Ok-try_get_matches_from.matches c.in-Ok.ensures
+    c.in-Ok-try_get_matches_from.ensures.kinds c.in-Ok-try_get_matches_from.ensures.matches
+    c.asked_of.result c.asked_of.ensures
+
+pub returns-in-Ok-try_get_matches_from-clause-asks
+    : goal.returns-in-Ok-try_get_matches_from-clause-asks
+returns-in-Ok-try_get_matches_from-clause-asks c =
+    command_is_asked (app_of c.in-Ok.command) (map string_bytes c.args.words.now)
+    c.in-Ok-try_get_matches_from.matches c.in-Ok.ensures
+    c.in-Ok-try_get_matches_from.ensures.kinds c.in-Ok-try_get_matches_from.ensures.matches
+    c.asked_of.result c.asked_of.ensures
+
+pub returns-in-Err-clause-answer : goal.returns-in-Err-clause-answer
+returns-in-Err-clause-answer c =
     error_is_answered _ (map string_bytes c.args.words.now) c.in-Err.error c.shown.result
     c.in-Ok.ensures c.in-Err.ensures.kinds c.shown.ensures
 
-pub returns-clause-demo : goal.returns-clause-demo
-returns-clause-demo c =
-    error_is_no_command (kind_of c.in-Err.error) c.shown.result _ c.shown.ensures
-
-pub returns-in-Ok-try_get_matches_from-clause-demo
-    : goal.returns-in-Ok-try_get_matches_from-clause-demo
-returns-in-Ok-try_get_matches_from-clause-demo c = λ _.
-    command_is_asked _ (map string_bytes c.args.words.now) c.in-Ok.ensures
-    c.in-Ok-try_get_matches_from.ensures.kinds
+pub returns-in-Err-clause-asks : goal.returns-in-Err-clause-asks
+returns-in-Err-clause-asks c =
+    error_asks_nothing (kind_of c.in-Err.error) (map string_bytes c.args.words.now)
+    c.shown.result c.shown.ensures

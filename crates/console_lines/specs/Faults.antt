@@ -1,0 +1,14 @@
+-- What a fault that ends a run prints.
+use Rattle.std.specs.Prelude.{ℕ, List, codes}
+use Rattle.console_lines.specs.declared.faults.RunFault.{RunFault}
+use Rattle.console_lines.specs.declared.faults.RunFault.TheVariants.{Input, Output, InputTooLong}
+use Rattle.console_lines.specs.declared.faults.RunFault.TheVariants.{Memory, Store}
+use Rattle.console_lines.specs.Replies.{trouble_text}
+
+-- Why a run ended before its input did.
+abbrev pub stop_text : RunFault → List ℕ
+stop_text Input = codes "input"
+stop_text Output = codes "output"
+stop_text InputTooLong = codes "input too long"
+stop_text Memory = codes "fault 1 Memory"
+stop_text (Store why) = trouble_text why

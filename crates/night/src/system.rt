@@ -1,0 +1,70 @@
+//! The system's files, as those that hold stores.
+
+ghost use Rattle.std.specs.Prelude.{⊤};
+
+use night_program::Files;
+use run_disk::{DiskFailed, FileDisk, RunDisk};
+use std::fs::{File, OpenOptions};
+use std::io::Write;
+use std::{fs, io};
+
+/// So many zero bytes are written at a time.
+const PART: usize = 4096;
+
+/// The files of a system. Each call that fails is a device's failure.
+#[derive(Drop)]
+pub struct SystemFiles<'a, S> {
+    system: &'a S,
+}
+
+impl<'a, S: fs::Files<File = File>> SystemFiles<'a, S> {
+    pub fn new(system: &'a S) -> Self {
+        SystemFiles { system }
+    }
+
+    /// A file that was created or emptied, and filled with so many zero bytes.
+    fn zeros(&self, name: &str, size: u64) -> io::Result<File> {
+        let mut file = OpenOptions::new()
+            .read(true)
+            .write(true)
+            .create(true)
+            .truncate(true)
+            .open(self.system, name)?;
+        let part = [0u8; PART];
+        for _ in 0..size / PART as u64 {
+            file.write_all(&part)?;
+        }
+        file.write_all(&part[..(size % PART as u64) as usize])?;
+        Ok(file)
+    }
+}
+
+impl<S: fs::Files<File = File>> Files for SystemFiles<'_, S> {
+    type Disk = FileDisk;
+
+    // What a file holds isn't known.
+    ghost holds = { λ files name disk. ⊤ };
+
+    fn open(&mut self, name: &str) -> Result<FileDisk, DiskFailed> {
+        let opened = OpenOptions::new()
+            .read(true)
+            .write(true)
+            .open(self.system, name);
+        match opened {
+            Ok(file) => FileDisk::new(file),
+            Err(_) => Err(DiskFailed),
+        }
+    }
+
+    fn create(&mut self, name: &str, size: u64) -> Result<FileDisk, DiskFailed> {
+        let Ok(file) = self.zeros(name, size) else {
+            return Err(DiskFailed);
+        };
+        let disk = FileDisk::new(file)?;
+        if disk.size() == size {
+            Ok(disk)
+        } else {
+            Err(DiskFailed)
+        }
+    }
+}

@@ -1,0 +1,44 @@
+-- From what a call wrote, or where it stopped, to how a word ends.
+use Rattle.std.specs.Prelude.{◌≡◌, ℕ, true, List, Option, Result, Ok, Err, IfErr}
+use Rattle.std.specs.Prelude.{OnErr, OnOk, is_ok}
+use Rattle.std.specs.Io.KnownBytes.{Appends}
+use Rattle.run_disk.specs.Disk.{DiskState}
+use Rattle.run_book.specs.Views.{BookView, holding}
+use Rattle.console_lines.specs.declared.faults.RunFault.{RunFault}
+use Rattle.console_lines.specs.declared.faults.RunFault.TheVariants.{Output}
+use Rattle.console_lines.specs.Progress.{WritesPart}
+use Rattle.run_console.specs.Progress.{BeginsScript, RunStops, RunsAll}
+use Rattle.run_console.specs.Troubles.{Accounts}
+use Rattle.night_program.specs.Demos.{DemoEnds, IsRun, IsUnrun}
+use Rattle.night_program.specs.Stores.{Prints, Runs}
+
+-- What was written whole or in part was printed.
+pub printed : {T : Type 0} (r : Result T RunFault) (text : List ℕ) (w0 w1 : Option (List ℕ))
+    → OnOk r (Appends w0 w1 text) → OnErr r (WritesPart w0 w1 text)
+    → IfErr r (λ why. why ≡ Output) → Prints text r w0 w1
+printed (Ok done) text w0 w1 whole cut fault = whole
+printed (Err why) text w0 w1 whole cut fault = (fault, cut)
+
+-- What a run says of both of its ends.
+pub ran : {T D : Type 0} (state : D → DiskState) (r : Result T RunFault)
+    (r0 r1 w0 w1 : Option (List ℕ)) (b c : BookView D)
+    → OnOk r (RunsAll b.session c.session r0 r1 w0 w1)
+    → OnOk r (c.durable ≡ c.session.state.count)
+    → IfErr r (λ why. RunStops why b.session c.session r0 r1 w0 w1)
+    → IfErr r (λ why. BeginsScript why b.session r0 r1 w0 w1)
+    → IfErr r (λ why. Accounts state (holding b) why (holding c))
+    → Runs state r r0 r1 w0 w1 b c
+ran state (Ok done) r0 r1 w0 w1 b c all saved stops begins accounts = (all, saved)
+ran state (Err why) r0 r1 w0 w1 b c all saved stops begins accounts = (stops, begins, accounts)
+
+-- So of a run over a book in memory.
+pub demo_ends : {T : Type 0} (r : Result T RunFault) (r0 r1 w0 w1 : Option (List ℕ))
+    → OnOk r (IsRun r0 r1 w0 w1) → IfErr r (λ why. IsUnrun why r0 r1 w0 w1)
+    → DemoEnds r r0 r1 w0 w1
+demo_ends (Ok done) r0 r1 w0 w1 all stops = all
+demo_ends (Err why) r0 r1 w0 w1 all stops = stops
+
+-- What is asked of a result, and what it says.
+pub if_ok : {T E : Type 0} (r : Result T E) (P : Type 0) → OnOk r P → is_ok r ≡ true → P
+if_ok (Ok done) P says holds = says
+if_ok (Err why) P says holds = cc

@@ -1,0 +1,17 @@
+use Rattle.std.proofs.Common.{ap, inl, inr, refl}
+use Rattle.std.specs.Prelude.{Err}
+use Rattle.console_lines.specs.Inspected.{inspected}
+use Rattle.night_program.proofs.EndLemmas.{printed}
+use Rattle.night_program.proofs.stores.inspect.Goals as goal
+
+pub returns-in-Ok : goal.returns-in-Ok
+returns-in-Ok g c =
+    inl (
+      c.in-Ok.state,
+      c.in-Ok.ensures,
+      printed c.inspect.result (inspected c.in-Ok.state) _ _
+          c.inspect.ensures.whole c.inspect.ensures.cut c.inspect.ensures.fault,
+    )
+
+pub returns-in-Err : goal.returns-in-Err
+returns-in-Err g c = inr (c.in-Err.fault, ap Err c.stopped.ensures, c.in-Err.ensures, refl)

@@ -1,0 +1,4 @@
+pub mod Demos
+pub mod Endings
+pub mod Programs
+pub mod Stores

@@ -1,0 +1,87 @@
+-- What the program does by its words.
+use Rattle.std.specs.Prelude.{◌≡◌, ◌⊎◌, ℕ, List, Option, Result, Ok, Err, ⊤, IfOk}
+use Rattle.std.specs.String.{string_bytes}
+use Rattle.run_model.specs.declared.faults.Fault.TheVariants.{DiskFailed}
+use Rattle.run_model.specs.declared.faults.Trouble.TheVariants.{Faulty}
+use Rattle.run_model.specs.declared.layouts.Layout.TheVariants.{Large}
+use Rattle.run_model.specs.Layouts.{store_len}
+use Rattle.run_disk.specs.Disk.{DiskState}
+use Rattle.console_lines.specs.declared.faults.RunFault.{RunFault}
+use Rattle.console_lines.specs.declared.faults.RunFault.TheVariants.{Store}
+use Rattle.night_words.specs.Commands.{AsksFor, IsAnswer, faults_of}
+use Rattle.night_words.specs.declared.asked.Asked.{Asked}
+use Rattle.night_words.specs.declared.asked.Asked.TheVariants.{Demo, Format, Script, Inspect, Help}
+use Rattle.night_words.specs.declared.asked.WordsFault.{WordsFault}
+use Rattle.night_program.specs.declared.endings.Ended.{Ended}
+use Rattle.night_program.specs.Demos.{DemoEnds}
+use Rattle.night_program.specs.Endings.{EndsBy, Refuses}
+use Rattle.night_program.specs.Stores.{FormatEnds, InspectEnds, Prints, ScriptEnds}
+
+-- A file was not had: its call failed.
+abbrev pub HasNoFile : {T : Type 0} → Result T RunFault → Type 0
+HasNoFile answer = answer ≡ Err (Store (Faulty DiskFailed))
+
+-- `holds` says which disks the file of a name is, as the files are.
+module _ {F D T : Type 0} (state : D → DiskState) (holds : F → List ℕ → D → Type 0) where
+  -- The file of this name was made anew with the size of a large store, and formatted.
+  abbrev pub DoesFormat : List ℕ → Result T RunFault → (f1 : F) → (w0 w1 : Option (List ℕ)) → Type 0
+  DoesFormat store answer f1 w0 w1 =
+      (HasNoFile answer × (w1 ≡ w0))
+      ⊎ ((given : D) × (left : D) × holds f1 store given
+      × ((state given).size ≡ store_len Large) × FormatEnds state given answer left w0 w1)
+
+  -- The file of this name was opened, and the input run over the store in it.
+  abbrev pub DoesScript :
+      List ℕ → Result T RunFault → (f0 : F) → (r0 r1 w0 w1 : Option (List ℕ)) → Type 0
+  DoesScript store answer f0 r0 r1 w0 w1 =
+      (HasNoFile answer × (r1 ≡ r0) × (w1 ≡ w0))
+      ⊎ ((given : D) × (left : D) × holds f0 store given
+      × ScriptEnds state given answer left r0 r1 w0 w1)
+
+  -- The file of this name was opened, and the state in it printed.
+  abbrev pub DoesInspect :
+      List ℕ → Result T RunFault → (f0 : F) → (w0 w1 : Option (List ℕ)) → Type 0
+  DoesInspect store answer f0 w0 w1 =
+      (HasNoFile answer × (w1 ≡ w0))
+      ⊎ ((given : D) × (left : D) × holds f0 store given
+      × InspectEnds state given answer left w0 w1)
+
+  -- What was asked for was done. Input and files are untouched where it needs none.
+  abbrev pub Does :
+      Asked → Result T RunFault → (f0 f1 : F) → (r0 r1 w0 w1 : Option (List ℕ)) → Type 0
+  Does Demo answer f0 f1 r0 r1 w0 w1 = DemoEnds answer r0 r1 w0 w1 × (f1 ≡ f0)
+  Does (Format store) answer f0 f1 r0 r1 w0 w1 =
+      DoesFormat store.now answer f1 w0 w1 × (r1 ≡ r0)
+  Does (Script store) answer f0 f1 r0 r1 w0 w1 = DoesScript store.now answer f0 r0 r1 w0 w1
+  Does (Inspect store) answer f0 f1 r0 r1 w0 w1 =
+      DoesInspect store.now answer f0 w0 w1 × (r1 ≡ r0)
+  Does (Help text) answer f0 f1 r0 r1 w0 w1 =
+      Prints (string_bytes text) answer w0 w1 × (f1 ≡ f0) × (r1 ≡ r0)
+
+-- Nothing was read, printed or done with a file.
+abbrev pub IsUntouched : {F : Type 0} → (f0 f1 : F) → (r0 r1 w0 w1 : Option (List ℕ)) → Type 0
+IsUntouched f0 f1 r0 r1 w0 w1 = (f1 ≡ f0) × (r1 ≡ r0) × (w1 ≡ w0)
+
+-- The words ask for nothing, and nothing was done but to tell why.
+abbrev pub IsRefused : {F : Type 0} → WordsFault → Ended → (f0 f1 : F)
+    → (r0 r1 w0 w1 e0 e1 : Option (List ℕ)) → Type 0
+IsRefused why ended f0 f1 r0 r1 w0 w1 e0 e1 =
+    Refuses why ended e0 e1 × IsUntouched f0 f1 r0 r1 w0 w1
+
+module _ {F D : Type 0} (state : D → DiskState) (holds : F → List ℕ → D → Type 0) where
+  -- What was read of the words was done, and told where it failed.
+  abbrev pub Obeys : Result Asked WordsFault → Ended → (f0 f1 : F)
+      → (r0 r1 w0 w1 e0 e1 : Option (List ℕ)) → Type 0
+  Obeys (Ok asked) ended f0 f1 r0 r1 w0 w1 e0 e1 =
+      (answer : Result ⊤ RunFault) × Does state holds asked answer f0 f1 r0 r1 w0 w1
+      × EndsBy answer ended e0 e1
+  Obeys (Err why) ended f0 f1 r0 r1 w0 w1 e0 e1 =
+      IsRefused why ended f0 f1 r0 r1 w0 w1 e0 e1
+
+  -- The words were read, and what they ask for was done.
+  abbrev pub RunsWords : List (List ℕ) → Ended → (f0 f1 : F)
+      → (r0 r1 w0 w1 e0 e1 : Option (List ℕ)) → Type 0
+  RunsWords words ended f0 f1 r0 r1 w0 w1 e0 e1 =
+      (read : Result Asked WordsFault) × IsAnswer (faults_of words) read
+      × IfOk read (λ asked. AsksFor asked words)
+      × Obeys read ended f0 f1 r0 r1 w0 w1 e0 e1

@@ -1,0 +1,85 @@
+-- What each word does to a store, by what its disk was and what is left of it.
+use Rattle.std.specs.Prelude.{◌≡◌, ◌⊎◌, ℕ, List, Option, Result, Ok, Err, codes}
+use Rattle.std.specs.Io.KnownBytes.{Appends}
+use Rattle.run_model.specs.declared.faults.Fault.{Fault}
+use Rattle.run_model.specs.declared.faults.Fault.TheVariants as of_store
+use Rattle.run_model.specs.declared.faults.Trouble.TheVariants.{Faulty}
+use Rattle.run_model.specs.State.{State}
+use Rattle.run_disk.specs.Disk.{DiskState}
+use Rattle.book_model.specs.Holdings.{CarriesOn}
+use Rattle.book_model.specs.Openings.{FormatsNot, HasFormatted, HasOpened, HasRecovered, OpensNot}
+use Rattle.book_model.specs.Openings.{RecoversNone}
+use Rattle.run_session.specs.Logged.{begun_at}
+use Rattle.run_book.specs.Views.{BookView, holding}
+use Rattle.console_lines.specs.declared.faults.RunFault.{RunFault}
+use Rattle.console_lines.specs.declared.faults.RunFault.TheVariants.{Memory, Output, Store}
+use Rattle.console_lines.specs.Inspected.{inspected}
+use Rattle.console_lines.specs.Progress.{WritesPart}
+use Rattle.run_console.specs.Progress.{BeginsScript, Lasts, RunStops, RunsAll}
+use Rattle.run_console.specs.Troubles.{Accounts}
+
+-- What a fault of a store is to the program: want of memory is told from all else.
+abbrev pub stopped : Fault → RunFault
+stopped of_store.Memory = Memory
+stopped why = Store (Faulty why)
+
+-- A text was printed whole, or as much of it as the output took.
+abbrev pub Prints : {T : Type 0} → List ℕ → Result T RunFault → (w0 w1 : Option (List ℕ)) → Type 0
+Prints text (Ok done) w0 w1 = Appends w0 w1 text
+Prints text (Err why) w0 w1 = (why ≡ Output) × WritesPart w0 w1 text
+
+-- ---- format
+
+-- The disk was formatted, and `formatted` was printed. Or it was not formatted, and nothing was
+-- printed: the fault tells why.
+abbrev pub FormatEnds : {T D : Type 0} → (D → DiskState) → (given : D)
+    → Result T RunFault → (left : D) → (w0 w1 : Option (List ℕ)) → Type 0
+FormatEnds state given answer left w0 w1 =
+    (HasFormatted (state given) (state left) × Prints (codes "formatted\n") answer w0 w1)
+    ⊎ ((why : Fault) × (answer ≡ Err (stopped why)) × FormatsNot state given why left
+    × (w1 ≡ w0))
+
+-- ---- script
+
+-- All lines of the input were run, and at the end all events are durable; or a fault stopped the
+-- run.
+abbrev pub Runs : {T D : Type 0} → (D → DiskState) → Result T RunFault
+    → (r0 r1 w0 w1 : Option (List ℕ)) → BookView D → BookView D → Type 0
+Runs state (Ok done) r0 r1 w0 w1 b c =
+    RunsAll b.session c.session r0 r1 w0 w1 × (c.durable ≡ c.session.state.count)
+Runs state (Err why) r0 r1 w0 w1 b c =
+    RunStops why b.session c.session r0 r1 w0 w1
+    × BeginsScript why b.session r0 r1 w0 w1
+    × Accounts state (holding b) why (holding c)
+
+-- A book was opened over the disk, the input was run over it, and the disk is left as it held it.
+pub record RunsOver {T D : Type 0} (state : D → DiskState) (given : D) (answer : Result T RunFault)
+    (left : D) (r0 r1 w0 w1 : Option (List ℕ)) : Type 0 where
+  pub before : BookView D
+  pub after : BookView D
+  pub opened : HasOpened state given (holding before)
+  pub begun : before.session ≡ begun_at before.session.start
+  pub runs : Runs state answer r0 r1 w0 w1 before after
+  pub lasts : Lasts before.session after.session
+  pub carries_on : CarriesOn state (holding before) (holding after)
+  pub disk : left ≡ after.journal.disk
+
+-- The store was opened, and the input run over it. Or it was not opened, and nothing was read or
+-- printed: the fault tells why.
+abbrev pub ScriptEnds : {T D : Type 0} → (D → DiskState) → (given : D)
+    → Result T RunFault → (left : D) → (r0 r1 w0 w1 : Option (List ℕ)) → Type 0
+ScriptEnds state given answer left r0 r1 w0 w1 =
+    RunsOver state given answer left r0 r1 w0 w1
+    ⊎ ((why : Fault) × (answer ≡ Err (stopped why)) × OpensNot state given why left
+    × (r1 ≡ r0) × (w1 ≡ w0))
+
+-- ---- inspect
+
+-- The state that the disk stores was recovered, and printed. Or none was, and nothing was printed:
+-- the fault tells why. In each case the disk was read alone.
+abbrev pub InspectEnds : {T D : Type 0} → (D → DiskState) → (old : D)
+    → Result T RunFault → (new : D) → (w0 w1 : Option (List ℕ)) → Type 0
+InspectEnds state old answer new w0 w1 =
+    ((p : State) × HasRecovered p (state old) (state new) × Prints (inspected p) answer w0 w1)
+    ⊎ ((why : Fault) × (answer ≡ Err (stopped why)) × RecoversNone state old why new
+    × (w1 ≡ w0))

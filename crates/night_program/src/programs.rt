@@ -1,0 +1,131 @@
+//! The program: it reads its words, and does what they ask for.
+
+ghost use Rattle.std.specs.Prelude.{◌≡◌, map, IfErr, IfOk};
+ghost use Rattle.std.specs.String.{string_bytes};
+ghost use Rattle.night_program.specs.Programs.{Does, DoesFormat, DoesInspect, DoesScript};
+ghost use Rattle.night_program.specs.Programs.{IsRefused, RunsWords};
+
+use crate::demos::demo;
+use crate::endings::{Ended, end, refuse};
+use crate::files::Files;
+use crate::stores::{format, inspect, script};
+use console_lines::RunFault;
+use night_words::{Asked, WordsFault, read_words};
+use run_console::write_whole;
+use run_disk::DiskFailed;
+use run_model::{Fault, Layout, Trouble};
+use std::alloc::Global;
+use std::io::{Read, Write};
+
+/// Does what the words ask for, the program's own name first. They come as the system gave them, or
+/// as why it gave none.
+///
+/// `demo` runs the input over a book in memory; `format STORE` makes a large store of the file;
+/// `script STORE` runs the input over the store; `inspect STORE` prints what it holds and writes
+/// nothing to it. Help and the version go to the output. Why words ask for nothing, and a fault
+/// that ended the rest, go to `errors`: any call of a file that fails is told as `fault 2
+/// DiskFailed`.
+pub fn night<F: Files, I: Read, O: Write, E: Write>(
+    alloc: Global,
+    words: Result<Vec<String>, WordsFault>,
+    files: &mut F,
+    input: &mut I,
+    output: &mut O,
+    errors: &mut E,
+) -> Ended
+    ensures refused { IfErr words (λ why. IsRefused why result files.old files.new
+        (I.remaining input.old) (I.remaining input.new)
+        (O.contents output.old) (O.contents output.new)
+        (E.contents errors.old) (E.contents errors.new)) }
+    ensures runs { IfOk words (λ words. RunsWords F.Disk.state F.holds
+        (map string_bytes words.items) result files.old files.new
+        (I.remaining input.old) (I.remaining input.new)
+        (O.contents output.old) (O.contents output.new)
+        (E.contents errors.old) (E.contents errors.new)) }
+{
+    let words = match words {
+        Ok(words) => words,
+        Err(fault) => return refuse(fault, errors),
+    };
+    match read_words(alloc, words.as_slice()) {
+        Ok(asked) => end(answer(alloc, &asked, files, input, output), errors),
+        Err(fault) => refuse(fault, errors),
+    }
+}
+
+/// Does what was asked for.
+fn answer<F: Files, I: Read, O: Write>(
+    alloc: Global,
+    asked: &Asked,
+    files: &mut F,
+    input: &mut I,
+    output: &mut O,
+) -> Result<(), RunFault>
+    ensures { Does F.Disk.state F.holds asked.now result files.old files.new
+        (I.remaining input.old) (I.remaining input.new)
+        (O.contents output.old) (O.contents output.new) }
+{
+    match asked {
+        Asked::Demo => demo(alloc, input, output),
+        Asked::Format(store) => format_file(store, files, output),
+        Asked::Script(store) => script_file(alloc, store, files, input, output),
+        Asked::Inspect(store) => inspect_file(alloc, store, files, output),
+        Asked::Help(text) => write_whole(output, text.as_bytes()),
+    }
+}
+
+/// Creates the file of this name or empties it, and makes a large store of it.
+fn format_file<F: Files, O: Write>(
+    store: &str,
+    files: &mut F,
+    output: &mut O,
+) -> Result<(), RunFault>
+    ensures { DoesFormat F.Disk.state F.holds store.now result files.new
+        (O.contents output.old) (O.contents output.new) }
+{
+    match files.create(store, Layout::Large.store_len()) {
+        Ok(disk) => format(disk, output).0,
+        Err(failed) => Err(no_file(failed)),
+    }
+}
+
+/// Opens the store in the file of this name, and runs the input over it.
+fn script_file<F: Files, I: Read, O: Write>(
+    alloc: Global,
+    store: &str,
+    files: &mut F,
+    input: &mut I,
+    output: &mut O,
+) -> Result<(), RunFault>
+    ensures { DoesScript F.Disk.state F.holds store.now result files.old
+        (I.remaining input.old) (I.remaining input.new)
+        (O.contents output.old) (O.contents output.new) }
+{
+    match files.open(store) {
+        Ok(disk) => script(alloc, disk, input, output).0,
+        Err(failed) => Err(no_file(failed)),
+    }
+}
+
+/// Prints what the store in the file of this name holds.
+fn inspect_file<F: Files, O: Write>(
+    alloc: Global,
+    store: &str,
+    files: &mut F,
+    output: &mut O,
+) -> Result<(), RunFault>
+    ensures { DoesInspect F.Disk.state F.holds store.now result files.old
+        (O.contents output.old) (O.contents output.new) }
+{
+    match files.open(store) {
+        Ok(mut disk) => inspect(alloc, &mut disk, output),
+        Err(failed) => Err(no_file(failed)),
+    }
+}
+
+/// What a file that isn't had is to the program.
+fn no_file(_failed: DiskFailed) -> RunFault
+    ensures { result ≡ RunFault.Store (Trouble.Faulty Fault.DiskFailed) }
+{
+    RunFault::Store(Trouble::Faulty(Fault::DiskFailed))
+}

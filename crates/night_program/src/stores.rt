@@ -1,0 +1,69 @@
+//! What the words do to a store, over the disk that holds it.
+
+ghost use Rattle.std.specs.Prelude.{◌≡◌};
+ghost use Rattle.night_program.specs.Stores.{FormatEnds, InspectEnds, ScriptEnds, stopped};
+
+use console_lines::RunFault;
+use run_console::{Book, run, write_whole};
+use run_disk::RunDisk;
+use run_model::{Fault, Trouble};
+use std::alloc::Global;
+use std::io::{Read, Write};
+
+/// Makes a store of a disk, and prints `formatted`. All that the disk held is lost. The disk is
+/// handed back.
+pub fn format<D: RunDisk, W: Write>(disk: D, output: &mut W) -> (Result<(), RunFault>, D)
+    ensures { FormatEnds D.state disk result.0 result.1
+        (W.contents output.old) (W.contents output.new) }
+{
+    match Book::format(disk) {
+        Ok(disk) => (write_whole(output, b"formatted\n"), disk),
+        Err((fault, disk)) => (Err(stopped(fault)), disk),
+    }
+}
+
+/// Opens the store on a disk, and runs the lines of the input over it. Where the store isn't
+/// opened, nothing is read or written. The disk is handed back, as the book held it.
+pub fn script<D: RunDisk, R: Read, W: Write>(
+    alloc: Global,
+    disk: D,
+    input: &mut R,
+    output: &mut W,
+) -> (Result<(), RunFault>, D)
+    ensures { ScriptEnds D.state disk result.0 result.1
+        (R.remaining input.old) (R.remaining input.new)
+        (W.contents output.old) (W.contents output.new) }
+{
+    match Book::open(alloc, disk) {
+        Ok(mut book) => {
+            let answer = run(alloc, input, output, &mut book);
+            (answer, book.into_disk())
+        }
+        Err((fault, disk)) => (Err(stopped(fault)), disk),
+    }
+}
+
+/// Prints the state that the store on a disk holds. The disk is read alone.
+pub fn inspect<D: RunDisk, W: Write>(
+    alloc: Global,
+    disk: &mut D,
+    output: &mut W,
+) -> Result<(), RunFault>
+    ensures { InspectEnds D.state disk.old result disk.new
+        (W.contents output.old) (W.contents output.new) }
+{
+    match Book::recover(alloc, disk) {
+        Ok(state) => run_console::inspect(&state, output),
+        Err(fault) => Err(stopped(fault)),
+    }
+}
+
+/// What a fault of a store is to the program.
+fn stopped(fault: Fault) -> RunFault
+    ensures { result ≡ stopped fault }
+{
+    match fault {
+        Fault::Memory => RunFault::Memory,
+        _ => RunFault::Store(Trouble::Faulty(fault)),
+    }
+}

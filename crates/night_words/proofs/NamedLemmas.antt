@@ -1,0 +1,117 @@
+-- What the parser's matches name, as their caller reads it.
+use Rattle.std.proofs.Common.{◌≡◌, ◌∙◌, Bool, List, Option, Some, None, [], ap, ap₂, false, inl}
+use Rattle.std.proofs.Common.{inr, refl, sym, true}
+use Rattle.std.specs.Prelude.{Box, codes, option_map}
+use Rattle.std.specs.Borrow.{Bor}
+use Rattle.std.specs.Box.{box_value}
+use Rattle.std.specs.Option.{option_map_or}
+use Rattle.std.specs.Str.{bytes_eq}
+use Rattle.std.proofs.lemmas.Slice.Eq.{bytes_eq-Decides}
+use Rattle.clap.proofs.WalkLemmas.{first_value-rows}
+use Rattle.clap.specs.Matches.{first_value, found_of, subcommand_name_of}
+use Rattle.clap.specs.Simple.{subcommand_rows, subcommand_rows_of}
+use Rattle.clap.specs.Walk.{Row, Text, first_of, rows_of}
+use Rattle.clap.specs.declared.parser.matches.ArgMatches.{ArgMatches}
+use Rattle.clap.specs.declared.parser.matches.ArgMatches.TheViews.{out-ArgMatches, out-SubCommand}
+use Rattle.clap.specs.declared.parser.matches.SubCommand.{SubCommand}
+use Rattle.night_words.specs.Commands.{IsNamed, Named, named_by, named_in}
+use Rattle.night_words.proofs.TakenLemmas.{clash, demo, format, inspect, script}
+
+-- what is read of a subcommand and of its matches
+abbrev pub Read : Type 0
+Read = Option (Bor Text × Bor ArgMatches)
+
+abbrev pub read_of : Read → Named
+read_of = option_map (λ p. (p.0.now, first_of (codes "STORE") (rows_of (found_of p.1.now))))
+
+module _ {Z : Type 0} where
+  -- is what is named
+  pub read_is_named : (r : Read) (x : Option (Box SubCommand Z))
+      → option_map (λ p. p.0.now) r
+      ≡ option_map (λ b. (out-SubCommand (box_value b)).name.now) x
+      → option_map (λ p. rows_of (found_of p.1.now)) r
+      ≡ option_map (λ p. p.1) (subcommand_rows x)
+      → named_in (subcommand_rows x) ≡ read_of r
+  read_is_named None None name rows = refl
+  read_is_named None (Some b) name rows = cc
+  read_is_named (Some p) None name rows = cc
+  read_is_named (Some p) (Some b) name rows =
+      let text : Option Text → Text = λ o. option_map_or (λ (t : Text). t) o [] in
+      let list : Option (List Row) → List Row = λ o. option_map_or (λ (t : List Row). t) o [] in
+      let both : Text → List Row → Named = λ t rs. Some (t, first_of (codes "STORE") rs) in
+      ap₂ both (sym (ap text name)) (sym (ap list rows))
+
+-- the command and the store of the parser's matches, as their caller reads them
+pub named_here : (m : ArgMatches) (command : Bor Text) (inner : Bor ArgMatches)
+    → Some command.now ≡ subcommand_name_of m
+    → Some (rows_of (found_of inner.now)) ≡ option_map (λ p. p.1) (subcommand_rows_of m)
+    → named_by m ≡ Some (command.now, first_value (found_of inner.now) (codes "STORE"))
+named_here m command inner name rows =
+    read_is_named (Some (command, inner)) (out-ArgMatches m).subcommand name rows
+    ∙ ap (λ o. Some (command.now, o)) (sym (first_value-rows (found_of inner.now) (codes "STORE")))
+
+-- the same of a command and a store that are known
+pub named_as : (named : Named) (name command store : Text) (first : Option Text)
+    → named ≡ Some (name, first) → name ≡ command → Some store ≡ first
+    → named ≡ Some (command, Some store)
+named_as named name command store first at is read =
+    at ∙ ap₂ (λ n s. Some (n, s)) is (sym read)
+
+-- a comparison of two texts, and what it says
+pub same : (a b : Text) (r : Bool) → r ≡ bytes_eq a b → r ≡ true → a ≡ b
+same a b r compared holds = (bytes_eq-Decides a b).0 (sym compared ∙ holds)
+
+pub differ : (a b : Text) (r : Bool) → r ≡ bytes_eq a b → r ≡ false → a ≡ b → ⊥
+differ a b r compared fails is =
+    let bad : true ≡ false = sym ((bytes_eq-Decides a b).1 is) ∙ (sym compared ∙ fails) in
+    cc
+
+-- the name of the command
+abbrev name_in : Named → Text
+name_in = λ n. option_map_or (λ (p : Text × Option Text). p.0) n []
+
+-- whether there is a store
+abbrev has_store : Named → Bool
+has_store = λ n. option_map_or
+    (λ (p : Text × Option Text). option_map_or (λ (t : Text). true) p.1 false) n false
+
+-- a store is there or not
+store_clash : (named : Named) (name command store : Text) → named ≡ Some (name, None)
+    → named ≡ Some (command, Some store) → ⊥
+store_clash named name command store none some =
+    let bad : false ≡ true = ap has_store (sym none ∙ some) in
+    cc
+
+-- a command without a store is `demo`
+pub no_store : (named : Named) (name : Text) → IsNamed named → named ≡ Some (name, None)
+    → name ≡ demo
+no_store named name (inl e) is = ap name_in (sym is ∙ e)
+no_store named name (inr (store, inl e)) is = absurd (store_clash named name format store is e)
+no_store named name (inr (store, inr (inl e))) is =
+    absurd (store_clash named name script store is e)
+no_store named name (inr (store, inr (inr e))) is =
+    absurd (store_clash named name inspect store is e)
+
+-- `demo` has no store
+pub demo_alone : (named : Named) (store : Option Text) → IsNamed named
+    → named ≡ Some (demo, store) → named ≡ Some (demo, None)
+demo_alone named store (inl e) is = e
+demo_alone named store (inr (s, inl e)) is =
+    absurd (clash demo format store (Some s) named refl is e)
+demo_alone named store (inr (s, inr (inl e))) is =
+    absurd (clash demo script store (Some s) named refl is e)
+demo_alone named store (inr (s, inr (inr e))) is =
+    absurd (clash demo inspect store (Some s) named refl is e)
+
+-- a command over a store that is neither `format` nor `script` is `inspect`
+pub inspect_left : (named : Named) (name store : Text) → IsNamed named
+    → named ≡ Some (name, Some store) → (name ≡ format → ⊥) → (name ≡ script → ⊥)
+    → named ≡ Some (inspect, Some store)
+inspect_left named name store (inl e) is no_format no_script =
+    absurd (store_clash named demo name store e is)
+inspect_left named name store (inr (s, inl e)) is no_format no_script =
+    absurd (no_format (ap name_in (sym is ∙ e)))
+inspect_left named name store (inr (s, inr (inl e))) is no_format no_script =
+    absurd (no_script (ap name_in (sym is ∙ e)))
+inspect_left named name store (inr (s, inr (inr e))) is no_format no_script =
+    is ∙ ap (λ n. Some (n, Some store)) (ap name_in (sym is ∙ e))

@@ -1,0 +1,78 @@
+//! The command line, as its parser takes it.
+
+ghost use Rattle.std.specs.Prelude.{◌≡◌, false, IfOk};
+ghost use Rattle.clap.specs.Words.{app_of, rule_of};
+ghost use Rattle.night_words.specs.Commands.{demo_line, night, store_line, store_rule};
+
+use clap::{Arg, ArgAction, Command};
+use std::alloc::{AllocError, Global};
+
+/// The version that `--version` shows.
+const VERSION: &str = "0.2.0";
+
+/// The command line of the program, with all of its commands.
+pub fn night_command<'a>(alloc: Global) -> Result<Command<'a>, AllocError>
+    ensures { IfOk result (λ command. app_of command ≡ night) }
+{
+    let format = store_command(
+        alloc,
+        "format",
+        "Makes a new store of a file, and prints `formatted`; what the file held is lost",
+        "Example: night format jobs.store",
+    )?;
+    let script = store_command(
+        alloc,
+        "script",
+        "Opens a store, and runs standard input over it",
+        "Example: printf 'group g root\\ngo g copy a\\n' | night script jobs.store",
+    )?;
+    let inspect = store_command(
+        alloc,
+        "inspect",
+        "Prints what a store holds, and writes nothing to it",
+        "Example: night inspect jobs.store",
+    )?;
+    Command::new(alloc, "night")
+        .about("A durable job runner with cancellation scopes")
+        .version(VERSION)
+        .subcommand_required(true)
+        .arg_required_else_help(true)
+        .subcommand(demo_command(alloc))?
+        .subcommand(format)?
+        .subcommand(script)?
+        .subcommand(inspect)
+}
+
+fn demo_command<'a>(alloc: Global) -> Command<'a>
+    ensures { app_of result ≡ demo_line }
+{
+    Command::new(alloc, "demo")
+        .about("Runs standard input over a book in memory")
+        .after_help("Example: printf 'derive a root cause\\nscope a\\n' | night demo")
+}
+
+/// A command over a store.
+fn store_command<'a>(
+    alloc: Global,
+    name: &'a str,
+    about: &'a str,
+    example: &'a str,
+) -> Result<Command<'a>, AllocError>
+    ensures { IfOk result (λ command. app_of command ≡ store_line name.now) }
+{
+    Command::new(alloc, name)
+        .about(about)
+        .after_help(example)
+        .arg(store_word(alloc))
+}
+
+/// The word that names a store, which its command wants.
+fn store_word<'a>(alloc: Global) -> Arg<'a>
+    ensures rule { rule_of result ≡ store_rule }
+    ensures local { result.global ≡ false }
+{
+    Arg::new(alloc, "STORE")
+        .required(true)
+        .action(ArgAction::Set)
+        .help("The file of the store")
+}

@@ -1,0 +1,53 @@
+//! Runs of the program, and what each printed.
+
+use crate::shelves::Shelf;
+use night_program::{Ended, night};
+use night_words::WordsFault;
+use std::alloc::{AllocError, Global};
+
+/// What a run of the program printed, and how it ended.
+#[derive(Debug, Drop)]
+pub struct Printed {
+    pub ended: Ended,
+    pub output: String,
+    pub errors: String,
+}
+
+/// The program's own name, and the words.
+pub fn words_of(alloc: Global, words: &[&str]) -> Result<Vec<String>, AllocError> {
+    let mut texts = Vec::new(alloc);
+    texts.push("night".to_string(alloc)?)?;
+    for word in words {
+        texts.push(word.to_string(alloc)?)?;
+    }
+    Ok(texts)
+}
+
+/// Runs the program with these words over one file.
+pub fn run_words(
+    alloc: Global,
+    words: &[&str],
+    shelf: &mut Shelf,
+    input: &str,
+) -> Result<Printed, AllocError> {
+    let words = words_of(alloc, words)?;
+    run_given(alloc, Ok(words), shelf, input)
+}
+
+/// Runs the program with what the system gave for its words.
+pub fn run_given(
+    alloc: Global,
+    words: Result<Vec<String>, WordsFault>,
+    shelf: &mut Shelf,
+    input: &str,
+) -> Result<Printed, AllocError> {
+    let mut output = Vec::new(alloc);
+    let mut errors = Vec::new(alloc);
+    let mut lines = input.as_bytes();
+    let ended = night(alloc, words, shelf, &mut lines, &mut output, &mut errors);
+    Ok(Printed {
+        ended,
+        output: String::from_utf8_lossy(alloc, output.as_slice())?,
+        errors: String::from_utf8_lossy(alloc, errors.as_slice())?,
+    })
+}

@@ -1,0 +1,183 @@
+//! What each word does: its exit status, and a part of what it prints on either stream.
+
+use crate::closed::Closed;
+use crate::runs::{run_given, run_words, words_of};
+use crate::shelves::Shelf;
+use night_program::{Ended, night};
+use night_words::WordsFault;
+use std::alloc::{AllocError, Global};
+use std::test::Fail;
+
+/// Words, the exit status, and a part of what goes to the output and to the errors.
+type Case = (&'static [&'static str], u8, &'static str, &'static str);
+
+static CASES: [Case; 21] = [
+    (&[], 2, "", "Usage: night <COMMAND>"),
+    (&[""], 2, "", "unrecognized subcommand ''"),
+    (&["crew", "a"], 2, "", "unrecognized subcommand 'crew'"),
+    (&["format"], 2, "", "required arguments were not provided"),
+    (
+        &["script", "a", "b"],
+        2,
+        "",
+        "unexpected argument 'b' found",
+    ),
+    (&["inspect", "-a"], 2, "", "unexpected argument '-a' found"),
+    (&["demo", "a"], 2, "", "unexpected argument 'a' found"),
+    (&["--help"], 0, "Usage: night <COMMAND>", ""),
+    (&["help"], 0, "Usage: night <COMMAND>", ""),
+    (&["demo", "--help"], 0, "Example: printf", ""),
+    (
+        &["format", "--help"],
+        0,
+        "Example: night format jobs.store",
+        "",
+    ),
+    (&["script", "-h"], 0, "night script jobs.store", ""),
+    (
+        &["inspect", "--help"],
+        0,
+        "Example: night inspect jobs.store",
+        "",
+    ),
+    (&["--version"], 0, "night 0.2.0\n", ""),
+    (&["-V"], 0, "night 0.2.0\n", ""),
+    (&["demo"], 0, "scope 1\nacked 2\n", ""),
+    (&["demo", "--"], 0, "scope 1\nacked 2\n", ""),
+    (&["format", "new"], 0, "formatted\n", ""),
+    (&["script", "none"], 3, "", "night: fault 2 DiskFailed\n"),
+    (&["inspect", "none"], 3, "", "night: fault 2 DiskFailed\n"),
+    (&["script", "a"], 3, "", "night: fault 4 WrongSize\n"),
+];
+
+/// A file of no bytes, which is no store.
+fn empty_file(alloc: Global) -> Shelf {
+    Shelf {
+        alloc,
+        name: "a",
+        bytes: Vec::new(alloc),
+    }
+}
+
+#[test]
+fn each_word_has_its_status_and_its_text(rt: HostRuntime) -> Result<(), Fail> {
+    for (words, status, output, errors) in CASES {
+        let mut shelf = empty_file(rt.alloc());
+        let printed = run_words(rt.alloc(), words, &mut shelf, "derive a root cause\n")?;
+        let wanted = Ended { status, told: true };
+        assert_eq!(rt; printed.ended, wanted, "{words:?} {printed:?}");
+        assert!(rt;
+            is_shown(output, printed.output.as_str()),
+            "{words:?} {printed:?}"
+        );
+        assert!(rt;
+            is_shown(errors, printed.errors.as_str()),
+            "{words:?} {printed:?}"
+        );
+    }
+    Ok(())
+}
+
+/// Nothing is printed where nothing is wanted.
+fn is_shown(part: &str, printed: &str) -> bool {
+    part.is_empty() == printed.is_empty() && printed.contains(part)
+}
+
+#[test]
+fn words_that_the_system_did_not_give_are_told(rt: HostRuntime) -> Result<(), Fail> {
+    let cases = [
+        (
+            WordsFault::NotText,
+            2,
+            "error: a word is no text in UTF-8\n",
+        ),
+        (WordsFault::Memory, 4, "night: fault 1 Memory\n"),
+    ];
+    for (fault, status, line) in cases {
+        let mut shelf = empty_file(rt.alloc());
+        let printed = run_given(rt.alloc(), Err(fault), &mut shelf, "")?;
+        assert_eq!(rt; printed.ended, Ended { status, told: true });
+        assert_eq!(rt; printed.errors.as_str(), line);
+        assert!(rt; printed.output.is_empty(), "{line}");
+    }
+    Ok(())
+}
+
+/// Words that print something.
+static PRINTING: [&[&str]; 3] = [&["demo"], &["format", "new"], &["--help"]];
+
+#[test]
+fn an_output_that_takes_nothing_is_told(rt: HostRuntime) -> Result<(), Fail> {
+    for words in PRINTING {
+        let mut errors = Vec::new(rt.alloc());
+        let given = Ok(words_of(rt.alloc(), words)?);
+        let mut shelf = empty_file(rt.alloc());
+        let mut input: &[u8] = b"scope root\n";
+        let ended = night(
+            rt.alloc(),
+            given,
+            &mut shelf,
+            &mut input,
+            &mut Closed,
+            &mut errors,
+        );
+        let told = Ended {
+            status: 3,
+            told: true,
+        };
+        assert_eq!(rt; ended, told, "{words:?}");
+        assert_eq!(rt;
+            errors.as_slice(),
+            b"night: output\n".as_slice(),
+            "{words:?}"
+        );
+    }
+    Ok(())
+}
+
+#[test]
+fn an_input_that_fails_is_told(rt: HostRuntime) -> Result<(), Fail> {
+    let mut output = Vec::new(rt.alloc());
+    let mut errors = Vec::new(rt.alloc());
+    let given = Ok(words_of(rt.alloc(), &["demo"])?);
+    let mut shelf = empty_file(rt.alloc());
+    let ended = night(
+        rt.alloc(),
+        given,
+        &mut shelf,
+        &mut Closed,
+        &mut output,
+        &mut errors,
+    );
+    assert_eq!(rt; ended.status, 3);
+    assert_eq!(rt; errors.as_slice(), b"night: input\n".as_slice());
+    assert!(rt; output.is_empty());
+    Ok(())
+}
+
+/// Words that something is told of, and the status.
+static TOLD: [(&[&str], u8); 3] = [(&["crew"], 2), (&["script", "none"], 3), (&[], 2)];
+
+#[test]
+fn what_could_not_be_told_is_said(rt: HostRuntime) -> Result<(), Fail> {
+    for (words, status) in TOLD {
+        let mut output = Vec::new(rt.alloc());
+        let given = Ok(words_of(rt.alloc(), words)?);
+        let mut shelf = empty_file(rt.alloc());
+        let mut input: &[u8] = b"";
+        let ended = night(
+            rt.alloc(),
+            given,
+            &mut shelf,
+            &mut input,
+            &mut output,
+            &mut Closed,
+        );
+        let untold = Ended {
+            status,
+            told: false,
+        };
+        assert_eq!(rt; ended, untold, "{words:?}");
+    }
+    Ok(())
+}
