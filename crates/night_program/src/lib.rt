@@ -1,7 +1,7 @@
 //! All that the program `night` does, over whatever words, files, input and outputs it is given.
 //!
 //! [`night`] reads the words and does what they ask for. Each word over a store is a function of
-//! its own over a disk: [`format`], [`script`] and [`inspect`]; [`demo`] runs over a disk in memory.
+//! its own over a disk: [`format`], [`script`] and [`inspect`]; [`demo`] runs over one in memory.
 #![tactic(auto)]
 
 mod demos;
