@@ -1,0 +1,4 @@
+pub mod Desks
+pub mod Notes
+pub mod Seats
+pub mod Shifts
