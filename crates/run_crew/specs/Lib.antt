@@ -1,3 +1,4 @@
+pub mod Audits
 pub mod Desks
 pub mod Notes
 pub mod Seats

@@ -9,6 +9,7 @@ use crate::bells::Bell;
 use crate::desks::Desk;
 use crate::jobs::{Gate, Job};
 use crate::notes::WorkerNotes;
+use crate::places::{CountedPlace, Place};
 use crate::seats::Seat;
 use crate::workers::{Shift, Station};
 use run_disk::RunDisk;
@@ -102,7 +103,7 @@ fn stations_of<S: Ledger, F: Ledger>(
 /// What the workers leave, each in a thread of its own, beside a thread that flushes. All room is
 /// made before the first thread, and every thread is joined.
 fn shifts_of<
-    D: RunDisk + Send,
+    T: CountedPlace<S, F> + Send,
     S: Ledger + Send + Sync,
     F: Ledger + Send + Sync,
     G: Gate + Sync,
@@ -110,7 +111,7 @@ fn shifts_of<
 >(
     rt: &R,
     alloc: Global,
-    shared: &Mutex<Desk<D, S, F>>,
+    shared: &Mutex<T>,
     stations: Vec<Station<S, F>>,
     gate: &G,
 ) -> Result<Vec<Shift<S, F>>, AllocError>
@@ -154,11 +155,7 @@ fn shifts_of<
 }
 
 /// Flushes whenever the bell rings, until it is closed. A flush that is refused is no end.
-fn flush_at<D: RunDisk, S: Ledger, F: Ledger, R: Wait>(
-    rt: &R,
-    shared: &Mutex<Desk<D, S, F>>,
-    bell: &Bell,
-) {
+fn flush_at<T: Place, R: Wait>(rt: &R, shared: &Mutex<T>, bell: &Bell) {
     for _ in rt.forever() {
         if bell.wait(rt) {
             return;
@@ -184,7 +181,10 @@ fn gather<S: Ledger, F: Ledger>(
         ≤ seat.old.starts + noted notes.new.items + vec_len shifts }
 {
     for shift in shifts {
-        let Shift { seat: part, notes: list } = shift;
+        let Shift {
+            seat: part,
+            notes: list,
+        } = shift;
         seat.join(part);
         notes.push_reserved(list);
     }

@@ -90,7 +90,7 @@ pub fn have_note(lists: &[WorkerNotes], note: &Note) -> bool
     lists.iter().any(|notes| has_note(notes.as_slice(), note))
 }
 
-fn is_same_note(note: &Note, other: &Note) -> bool
+pub fn is_same_note(note: &Note, other: &Note) -> bool
     ensures { result ≡ is_same note.now other.now }
 {
     note.event == other.event

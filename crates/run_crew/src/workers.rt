@@ -8,12 +8,11 @@ ghost use Rattle.run_crew.specs.Seats.{one_part, one_start};
 ghost use Rattle.run_crew.specs.Shifts.{AfterTask};
 
 use crate::bells::Bell;
-use crate::desks::Desk;
 use crate::jobs::{Gate, Job, Turn};
 use crate::notes::{Note, WorkerNotes};
+use crate::places::{CountedPlace, Place};
 use crate::seats::Seat;
-use run_disk::RunDisk;
-use run_model::{Name, Outcome, Started, TaskInfo, Text};
+use run_model::{Outcome, Started, TaskInfo, Text};
 use std::sync::ledger::Ledger;
 use std::sync::{Mutex, Wait};
 
@@ -60,10 +59,10 @@ impl<S: Ledger, F: Ledger> Station<S, F> {
     }
 
     /// Takes tasks until one isn't finished and noted, as where none is ready.
-    pub fn work<D: RunDisk, G: Gate, R: Wait>(
+    pub fn work<T: CountedPlace<S, F>, G: Gate, R: Wait>(
         self,
         rt: &R,
-        shared: &Mutex<Desk<D, S, F>>,
+        shared: &Mutex<T>,
         bell: &Bell,
         gate: &G,
     ) -> Shift<S, F> {
@@ -83,9 +82,9 @@ impl<S: Ledger, F: Ledger> Station<S, F> {
 
 /// Starts a task, makes its turns, finishes it and notes it. Says whether it came so far: not where
 /// the notes are full, and not where the start, its flush or the finish wasn't done.
-fn take_task<D: RunDisk, S: Ledger, F: Ledger, G: Gate, R: Wait>(
+fn take_task<T: CountedPlace<S, F>, S: Ledger, F: Ledger, G: Gate, R: Wait>(
     rt: &R,
-    shared: &Mutex<Desk<D, S, F>>,
+    shared: &Mutex<T>,
     bell: &Bell,
     gate: &G,
     jobs: &mut Vec<Box<dyn Job + Send>>,
@@ -118,9 +117,9 @@ fn take_task<D: RunDisk, S: Ledger, F: Ledger, G: Gate, R: Wait>(
 
 /// Starts the ready task with the least number, and makes the start durable before the first turn.
 /// `None` where one of the two wasn't done.
-fn start<D: RunDisk, S: Ledger, F: Ledger, R: Wait>(
+fn start<T: CountedPlace<S, F>, S: Ledger, F: Ledger, R: Wait>(
     rt: &R,
-    shared: &Mutex<Desk<D, S, F>>,
+    shared: &Mutex<T>,
     seat: &mut Seat<S, F>,
 ) -> Option<Started>
     requires part { 0 < seat.old.start_parts }
@@ -134,9 +133,9 @@ fn start<D: RunDisk, S: Ledger, F: Ledger, R: Wait>(
 
 /// How a task ends, by the first job that handles its name. Without one it is the failure `no such
 /// job`.
-fn run<D: RunDisk, S: Ledger, F: Ledger, G: Gate, R: Wait>(
+fn run<T: Place, G: Gate, R: Wait>(
     rt: &R,
-    shared: &Mutex<Desk<D, S, F>>,
+    shared: &Mutex<T>,
     gate: &G,
     jobs: &mut Vec<Box<dyn Job + Send>>,
     info: &TaskInfo,
@@ -151,9 +150,9 @@ fn run<D: RunDisk, S: Ledger, F: Ledger, G: Gate, R: Wait>(
 
 /// How a task ends by this job. Before each turn the gate is asked, and then, under the lock,
 /// whether the task's scope is done. The lock is let go before the turn.
-fn make_turns<D: RunDisk, S: Ledger, F: Ledger, G: Gate, R: Wait>(
+fn make_turns<T: Place, G: Gate, R: Wait>(
     rt: &R,
-    shared: &Mutex<Desk<D, S, F>>,
+    shared: &Mutex<T>,
     gate: &G,
     job: &mut Box<dyn Job + Send>,
     info: &TaskInfo,

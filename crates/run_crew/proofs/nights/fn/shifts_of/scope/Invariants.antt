@@ -7,7 +7,7 @@ invariant-loop-station g l =
     (l.count ≤ vec_capacity l.handles)
     × (vec_len l.handles + into_iter_len l.station-iterator ≤ l.count)
     × (l.refused ≡ false
-        → vec_len l.handles + into_iter_len l.station-iterator ≡ l.count)
+    → vec_len l.handles + into_iter_len l.station-iterator ≡ l.count)
     × (vec_len l.shifts ≡ 0)
     × (l.count ≤ vec_capacity l.shifts)
 
@@ -16,4 +16,4 @@ invariant-loop-handle g l =
     (l.count ≤ vec_capacity l.shifts)
     × (vec_len l.shifts + into_iter_len l.handle-iterator ≤ l.count)
     × (l.refused ≡ false
-        → vec_len l.shifts + into_iter_len l.handle-iterator ≡ l.count)
+    → vec_len l.shifts + into_iter_len l.handle-iterator ≡ l.count)
