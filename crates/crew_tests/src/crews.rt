@@ -14,7 +14,7 @@ use std::thread::Threads;
 
 /// What a night leaves.
 #[derive(Drop)]
-pub struct Night<D: RunDisk> {
+pub struct NightEnd<D: RunDisk> {
     pub book: Book<D>,
     pub lists: Vec<WorkerNotes>,
     pub last: Result<u64, Trouble>,
@@ -30,7 +30,7 @@ pub fn night<D: RunDisk + Drop + Send, G: Gate + Sync, R: Threads + Wait + Sync>
     book: Book<D>,
     jobs: Vec<Vec<Box<dyn Job + Send>>>,
     gate: &G,
-) -> Result<Night<D>, Fault> {
+) -> Result<NightEnd<D>, Fault> {
     let parts = jobs.len() as u64 + 1;
     night_in::<D, Brand, Brand, G, R>(
         rt,
@@ -58,7 +58,7 @@ fn night_in<
     gate: &G,
     starts: Blank,
     finishes: Blank,
-) -> Result<Night<D>, Fault>
+) -> Result<NightEnd<D>, Fault>
     requires starts { (starts.name ≡ S.name) × (starts.parts ≡ S.parts)
         × (vec_len jobs < S.parts) }
     requires finishes { (finishes.name ≡ F.name) × (finishes.parts ≡ F.parts)
@@ -70,7 +70,7 @@ fn night_in<
     let mut desk = shared.into_inner();
     let audited = audit(&desk, lists.as_slice());
     let settled = desk.settle(&mut seat);
-    Ok(Night {
+    Ok(NightEnd {
         book: desk.into_book(),
         lists,
         last,
@@ -100,17 +100,20 @@ pub struct Plain;
 impl Job for Plain {
     fn handles(&self, job: &Name) -> bool {
         let job = job.as_bytes();
-        job == b"spin" || job == b"fail" || job == b"copy" || job == b"more"
+        job == b"spin".as_slice()
+            || job == b"fail".as_slice()
+            || job == b"copy".as_slice()
+            || job == b"more".as_slice()
     }
 
     fn turn(&mut self, info: &TaskInfo, turn: u32, done: bool) -> Turn {
         let job = info.job.as_bytes();
         let argument = info.argument.as_bytes();
-        if job == b"copy" {
+        if job == b"copy".as_slice() {
             Turn::Finished
-        } else if job == b"more" {
+        } else if job == b"more".as_slice() {
             Turn::More
-        } else if job == b"fail" {
+        } else if job == b"fail".as_slice() {
             failed(argument)
         } else {
             spin(argument, turn, done)
@@ -142,7 +145,7 @@ pub fn plain_night<D: RunDisk + Drop + Send, G: Gate + Sync, R: Threads + Wait +
     book: Book<D>,
     workers: usize,
     gate: &G,
-) -> Result<Night<D>, Fault> {
+) -> Result<NightEnd<D>, Fault> {
     let Ok(jobs) = Vec::with_capacity(alloc, workers) else {
         return Err(Fault::Memory);
     };

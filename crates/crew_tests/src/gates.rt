@@ -2,7 +2,7 @@
 
 ghost use Rattle.std.specs.Prelude.{◌≡◌, ◌<◌};
 
-use crate::crews::{Plain, Night, night, plain_night};
+use crate::crews::{Fixed, NightEnd, Plain, night, plain_night};
 use crate::stores::{Now, assert_tasks, opened, stored};
 use run_crew::{Desk, Gate, Job, Turn, run_night};
 use run_disk::{MemoryDisk, RunDisk};
@@ -48,7 +48,7 @@ impl<C: Clock + Drop> Gate for Second<C> {
     }
 }
 
-fn assert_two<D: RunDisk>(rt: &impl Abort, night: &Night<D>) {
+fn assert_two<D: RunDisk>(rt: &impl Abort, night: &NightEnd<D>) {
     assert!(rt; night.audited == Ok(()));
     assert!(rt; night.settled == (2, 2));
     assert_tasks(rt, night.book.state(), &[Now::Success, Now::Success]);
@@ -79,7 +79,7 @@ impl<C: Clock + Drop> Job for Flag<C> {
     }
 
     fn turn(&mut self, info: &TaskInfo, _turn: u32, _done: bool) -> Turn {
-        if info.argument.as_bytes() == b"set" {
+        if info.argument.as_bytes() == b"set".as_slice() {
             self.flag.store(true, Ordering::SeqCst);
             return Turn::Finished;
         }
@@ -93,7 +93,12 @@ impl<C: Clock + Drop> Job for Flag<C> {
 
 #[test]
 fn two_turns_overlap(rt: HostRuntime) -> Result<(), Fail> {
-    let disk = stored(&rt, rt.alloc(), None, &[(b"flag", b"look"), (b"flag", b"set")])?;
+    let disk = stored(
+        &rt,
+        rt.alloc(),
+        None,
+        &[(b"flag", b"look"), (b"flag", b"set")],
+    )?;
     let flag = Arc::new(rt.alloc(), AtomicBool::new(false))?;
     let mut jobs: Vec<Vec<Box<dyn Job + Send>>> = Vec::new(rt.alloc());
     for _ in 0..2 {
@@ -105,7 +110,7 @@ fn two_turns_overlap(rt: HostRuntime) -> Result<(), Fail> {
         list.push(Box::new(rt.alloc(), job)?)?;
         jobs.push(list)?;
     }
-    let gate = crate::crews::Fixed(true);
+    let gate = Fixed(true);
     let night = night(&rt, rt.alloc(), opened(rt.alloc(), disk)?, jobs, &gate)?;
     assert_two(&rt, &night);
     Ok(())
@@ -138,12 +143,7 @@ fn durable_starts<
     S: Ledger + Send + Sync,
     F: Ledger + Send + Sync,
     R: Threads + Wait + Sync + Abort,
->(
-    rt: &R,
-    alloc: Global,
-    starts: Blank,
-    finishes: Blank,
-) -> Result<u32, Fail>
+>(rt: &R, alloc: Global, starts: Blank, finishes: Blank) -> Result<u32, Fail>
     requires starts { (starts.name ≡ S.name) × (starts.parts ≡ S.parts) × (1 < S.parts) }
     requires finishes { (finishes.name ≡ F.name) × (finishes.parts ≡ F.parts)
         × (1 < F.parts) }

@@ -22,21 +22,19 @@ struct Row {
     ends: &'static [Now<'static>],
 }
 
-/// 64 tasks of three turns more each.
-static SPINS: [Task; 64] = [(b"spin", b"3"); 64];
-
-static SPUN: [Now<'static>; 64] = [Now::Success; 64];
+/// Three turns more.
+const SPIN: Task = (b"spin", b"3");
 
 static ROWS: [Row; 8] = [
     Row {
         limit: None,
-        tasks: &SPINS,
+        tasks: &[SPIN; 64],
         workers: 4,
         open: true,
         audited: Ok(()),
         settled: (64, 64),
         acked: 195,
-        ends: &SPUN,
+        ends: &[Now::Success; 64],
     },
     // The first error cancels the group's scope, and the second task is told so.
     Row {

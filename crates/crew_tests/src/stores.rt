@@ -80,7 +80,7 @@ pub enum Now<'a> {
     None,
 }
 
-fn now(phase: &Option<Phase>) -> Now<'_> {
+fn shown(phase: &Option<Phase>) -> Now<'_> {
     match phase {
         Some(Phase::Held) => Now::Held,
         Some(Phase::Ready) => Now::Ready,
@@ -97,6 +97,6 @@ pub fn assert_tasks(rt: &impl Abort, state: &State, rows: &[Now<'static>]) {
     assert_eq!(rt; state.task_count(), rows.len());
     for (n, row) in rows.iter().enumerate() {
         let phase = state.phase(n.min(65_535) as u16);
-        assert!(rt; now(&phase) == *row, "task {n}");
+        assert!(rt; shown(&phase) == *row, "task {n}");
     }
 }
