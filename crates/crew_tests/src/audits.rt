@@ -1,0 +1,155 @@
+//! Audits, by tables of notes: those that are complete, and the first thing that strays.
+
+ghost use Rattle.std.specs.Prelude.{◌≡◌, ◌<◌};
+
+use crate::stores::{Task, opened, stored};
+use run_crew::{Desk, Note, Strayed, WorkerNotes, audit};
+use run_disk::MemoryDisk;
+use run_model::{Fault, Outcome, Text};
+use std::alloc::Global;
+use std::marker::Brand;
+use std::process::Abort;
+use std::sync::ledger::{Blank, Ledger};
+
+/// The number of an event, of a task, and its error; none of no bytes.
+type Noted = (u64, u16, &'static [u8]);
+
+/// How many tasks of five are started, and how many of these are then finished, each by turns a
+/// success and the failure `x`; the notes of two workers; and what the audit names, if anything.
+type Row = (u64, u16, [&'static [Noted]; 2], Option<(usize, usize)>);
+
+const TASKS: [Task; 4] = [(b"copy", b"a"); 4];
+
+/// The tasks are started by events 8 to 11, and finished from there on.
+static ROWS: [Row; 12] = [
+    (
+        4,
+        4,
+        [
+            &[(12, 0, b""), (14, 2, b"")],
+            &[(13, 1, b"x"), (15, 3, b"x")],
+        ],
+        None,
+    ),
+    (
+        4,
+        4,
+        [
+            &[(15, 3, b"x"), (13, 1, b"x"), (14, 2, b""), (12, 0, b"")],
+            &[],
+        ],
+        None,
+    ),
+    // A note that the log lacks: by its number, its task, its outcome, its error.
+    (
+        4,
+        4,
+        [&[(12, 0, b"")], &[(13, 1, b"x"), (16, 2, b"")]],
+        Some((1, 1)),
+    ),
+    (
+        4,
+        4,
+        [&[(12, 0, b""), (14, 3, b"")], &[(13, 1, b"x")]],
+        Some((0, 1)),
+    ),
+    (4, 4, [&[(12, 0, b"x")], &[(13, 1, b"x")]], Some((0, 0))),
+    (4, 4, [&[(12, 0, b"")], &[(13, 1, b"y")]], Some((1, 0))),
+    // The event of a start.
+    (
+        4,
+        4,
+        [&[(12, 0, b"")], &[(13, 1, b"x"), (8, 0, b"")]],
+        Some((1, 1)),
+    ),
+    // A note that repeats another: in its list, and in an earlier one.
+    (
+        4,
+        4,
+        [&[(12, 0, b""), (12, 0, b"")], &[(13, 1, b"x")]],
+        Some((0, 1)),
+    ),
+    (
+        4,
+        4,
+        [
+            &[(12, 0, b""), (13, 1, b"x")],
+            &[(14, 2, b""), (13, 1, b"x")],
+        ],
+        Some((1, 1)),
+    ),
+    // A finish in neither list.
+    (
+        4,
+        4,
+        [&[(12, 0, b""), (14, 2, b"")], &[(15, 3, b"x")]],
+        Some((2, 0)),
+    ),
+    // All are noted, and task 3 is left running.
+    (
+        4,
+        3,
+        [&[(12, 0, b""), (14, 2, b"")], &[(13, 1, b"x")]],
+        Some((2, 4)),
+    ),
+    // All are noted, and task 2 is left ready.
+    (2, 2, [&[(10, 0, b"")], &[(11, 1, b"x")]], Some((2, 3))),
+];
+
+fn outcome(rt: &impl Abort, error: &[u8]) -> Outcome {
+    if error.is_empty() {
+        return Outcome::Success;
+    }
+    Outcome::Failure(Text::read(error).expect(rt, "a text"))
+}
+
+fn listed(rt: &impl Abort, alloc: Global, rows: &[Noted]) -> Result<WorkerNotes, Fault> {
+    let mut notes = WorkerNotes::with_room(alloc)?;
+    for row in rows.iter() {
+        if !notes.is_full() {
+            notes.note(Note {
+                event: row.0,
+                task: row.1,
+                outcome: outcome(rt, row.2),
+            });
+        }
+    }
+    assert_eq!(rt; notes.as_slice().len(), rows.len());
+    Ok(notes)
+}
+
+/// What an audit says of a row.
+fn audited<S: Ledger, F: Ledger>(
+    rt: &impl Abort,
+    alloc: Global,
+    row: &Row,
+    starts: Blank,
+    finishes: Blank,
+) -> Result<Result<(), Strayed>, Fault>
+    requires starts { (starts.name ≡ S.name) × (starts.parts ≡ S.parts) × (0 < S.parts) }
+    requires finishes { (finishes.name ≡ F.name) × (finishes.parts ≡ F.parts)
+        × (0 < F.parts) }
+{
+    let book = opened(alloc, stored(rt, alloc, None, &TASKS)?)?;
+    let (mut desk, mut seat) = Desk::<MemoryDisk, S, F>::new(book, starts, finishes);
+    for _ in 0..row.0 {
+        assert!(rt; desk.start_as(&mut seat).is_ok());
+    }
+    for task in 0..row.1 {
+        let error: &[u8] = if task % 2 == 0 { b"" } else { b"x" };
+        assert!(rt; desk.finish_as(&mut seat, task, &outcome(rt, error)).is_ok());
+    }
+    let first = listed(rt, alloc, row.2[0])?;
+    let second = listed(rt, alloc, row.2[1])?;
+    Ok(audit(&desk, &[first, second]))
+}
+
+#[test]
+fn an_audit_names_what_strays_first(rt: HostRuntime) -> Result<(), Fault> {
+    for (n, row) in ROWS.iter().enumerate() {
+        let found = audited::<Brand, Brand>(&rt, rt.alloc(), row, Blank::new(1), Blank::new(1))?;
+        let named = found.err().map(|strayed| (strayed.worker, strayed.note));
+        assert!(&rt; named == row.3, "row {n}");
+    }
+    Ok(())
+}

@@ -1,0 +1,163 @@
+//! A night over a book, with jobs for tests; and what it leaves.
+
+ghost use Rattle.std.specs.Prelude.{◌≡◌, ◌<◌, vec_len};
+
+use run_book::Book;
+use run_crew::{Desk, Gate, Job, Strayed, Turn, WorkerNotes, audit, run_night};
+use run_disk::RunDisk;
+use run_model::{Fault, Name, TaskInfo, Text, Trouble};
+use std::alloc::Global;
+use std::marker::Brand;
+use std::sync::ledger::{Blank, Ledger};
+use std::sync::{Mutex, Wait};
+use std::thread::Threads;
+
+/// What a night leaves.
+#[derive(Drop)]
+pub struct NightEnd<D: RunDisk> {
+    pub book: Book<D>,
+    pub lists: Vec<WorkerNotes>,
+    pub last: Result<u64, Trouble>,
+    pub audited: Result<(), Strayed>,
+    /// What the desk settled: starts and finishes.
+    pub settled: (u64, u64),
+}
+
+/// A night over a book, with one worker for each list of jobs.
+pub fn night<D: RunDisk + Drop + Send, G: Gate + Sync, R: Threads + Wait + Sync>(
+    rt: &R,
+    alloc: Global,
+    book: Book<D>,
+    jobs: Vec<Vec<Box<dyn Job + Send>>>,
+    gate: &G,
+) -> Result<NightEnd<D>, Fault> {
+    let parts = jobs.len() as u64 + 1;
+    night_in::<D, Brand, Brand, G, R>(
+        rt,
+        alloc,
+        book,
+        jobs,
+        gate,
+        Blank::new(parts),
+        Blank::new(parts),
+    )
+}
+
+/// The night, for any two ledgers.
+fn night_in<
+    D: RunDisk + Drop + Send,
+    S: Ledger + Send + Sync,
+    F: Ledger + Send + Sync,
+    G: Gate + Sync,
+    R: Threads + Wait + Sync,
+>(
+    rt: &R,
+    alloc: Global,
+    book: Book<D>,
+    jobs: Vec<Vec<Box<dyn Job + Send>>>,
+    gate: &G,
+    starts: Blank,
+    finishes: Blank,
+) -> Result<NightEnd<D>, Fault>
+    requires starts { (starts.name ≡ S.name) × (starts.parts ≡ S.parts)
+        × (vec_len jobs < S.parts) }
+    requires finishes { (finishes.name ≡ F.name) × (finishes.parts ≡ F.parts)
+        × (vec_len jobs < F.parts) }
+{
+    let (desk, mut seat) = Desk::<D, S, F>::new(book, starts, finishes);
+    let shared = Mutex::new(desk);
+    let (lists, last) = run_night(rt, alloc, &shared, &mut seat, jobs, gate)?;
+    let mut desk = shared.into_inner();
+    let audited = audit(&desk, lists.as_slice());
+    let settled = desk.settle(&mut seat);
+    Ok(NightEnd {
+        book: desk.into_book(),
+        lists,
+        last,
+        audited,
+        settled,
+    })
+}
+
+/// A gate that lets each turn pass, or none.
+#[derive(Drop)]
+pub struct Fixed(pub bool);
+
+impl Gate for Fixed {
+    fn before(&self, _task: u16, _turn: u32) -> bool {
+        self.0
+    }
+
+    fn finished(&self, _task: u16) {}
+}
+
+/// Does the job `spin` in as many turns more as its argument says, one digit, unless it is told
+/// that its scope is done; `fail` with its argument as the error; `copy` at once; and `more`
+/// without an end.
+#[derive(Drop)]
+pub struct Plain;
+
+impl Job for Plain {
+    fn handles(&self, job: &Name) -> bool {
+        let job = job.as_bytes();
+        job == b"spin".as_slice()
+            || job == b"fail".as_slice()
+            || job == b"copy".as_slice()
+            || job == b"more".as_slice()
+    }
+
+    fn turn(&mut self, info: &TaskInfo, turn: u32, done: bool) -> Turn {
+        let job = info.job.as_bytes();
+        let argument = info.argument.as_bytes();
+        if job == b"copy".as_slice() {
+            Turn::Finished
+        } else if job == b"more".as_slice() {
+            Turn::More
+        } else if job == b"fail".as_slice() {
+            failed(argument)
+        } else {
+            spin(argument, turn, done)
+        }
+    }
+}
+
+fn spin(argument: &[u8], turn: u32, done: bool) -> Turn {
+    if done {
+        return failed(b"canceled");
+    }
+    match argument.first() {
+        Some(digit) if turn < u32::from(digit.saturating_sub(b'0')) => Turn::More,
+        _ => Turn::Finished,
+    }
+}
+
+fn failed(error: &[u8]) -> Turn {
+    match Text::read(error) {
+        Some(error) => Turn::Failed(error),
+        None => Turn::More,
+    }
+}
+
+/// A night over a book, with so many workers that have a plain job each.
+pub fn plain_night<D: RunDisk + Drop + Send, G: Gate + Sync, R: Threads + Wait + Sync>(
+    rt: &R,
+    alloc: Global,
+    book: Book<D>,
+    workers: usize,
+    gate: &G,
+) -> Result<NightEnd<D>, Fault> {
+    let Ok(jobs) = Vec::with_capacity(alloc, workers) else {
+        return Err(Fault::Memory);
+    };
+    let mut jobs: Vec<Vec<Box<dyn Job + Send>>> = jobs;
+    for _ in 0..workers {
+        let mut list: Vec<Box<dyn Job + Send>> = Vec::new(alloc);
+        let Ok(job) = Box::new(alloc, Plain) else {
+            return Err(Fault::Memory);
+        };
+        if list.push(job).is_err() || jobs.push(list).is_err() {
+            return Err(Fault::Memory);
+        }
+    }
+    night(rt, alloc, book, jobs, gate)
+}

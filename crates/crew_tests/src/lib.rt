@@ -1,0 +1,18 @@
+//! Tests of the crew: nights of worker threads over a disk in memory, and what an audit says of
+//! them.
+#![tactic(auto)]
+
+#[cfg(test)]
+mod audits;
+#[cfg(test)]
+mod crews;
+#[cfg(test)]
+mod desks;
+#[cfg(test)]
+mod failures;
+#[cfg(test)]
+mod gates;
+#[cfg(test)]
+mod nights;
+#[cfg(test)]
+mod stores;

@@ -1,0 +1,102 @@
+//! Books with one group of tasks, and how the tasks of a state have ended.
+
+use run_book::{Book, State};
+use run_disk::{MemoryDisk, RunDisk};
+use run_model::{Command, Fault, Limit, Name, Phase};
+use std::alloc::Global;
+use std::process::Abort;
+
+/// The job of a task and its argument.
+pub type Task = (&'static [u8], &'static [u8]);
+
+pub fn name(rt: &impl Abort, bytes: &[u8]) -> Name {
+    Name::read(bytes).expect(rt, "a name")
+}
+
+fn limit(rt: &impl Abort, most: Option<u8>) -> Limit {
+    match most {
+        Some(most) => Limit::new(most).expect(rt, "a limit"),
+        None => Limit::none(),
+    }
+}
+
+pub fn opened<D: RunDisk + Drop>(alloc: Global, disk: D) -> Result<Book<D>, Fault> {
+    match Book::open(alloc, disk) {
+        Ok(book) => Ok(book),
+        Err((fault, _)) => Err(fault),
+    }
+}
+
+fn fresh(alloc: Global) -> Result<Book<MemoryDisk>, Fault> {
+    match Book::format(MemoryDisk::new(alloc, 1_572_864)?) {
+        Ok(disk) => opened(alloc, disk),
+        Err((fault, _)) => Err(fault),
+    }
+}
+
+/// A small store with group `g` under root, of this limit, and its tasks: events 1, the group, the
+/// limit where there is one, and a go for each task.
+pub fn stored(
+    rt: &impl Abort,
+    alloc: Global,
+    most: Option<u8>,
+    tasks: &[Task],
+) -> Result<MemoryDisk, Fault> {
+    let mut book = fresh(alloc)?;
+    let group = Command::Group {
+        name: name(rt, b"g"),
+        parent: name(rt, b"root"),
+    };
+    assert!(rt; book.command(&group).is_ok());
+    if most.is_some() {
+        let change = Command::SetLimit {
+            group: name(rt, b"g"),
+            limit: limit(rt, most),
+        };
+        assert!(rt; book.command(&change).is_ok());
+    }
+    for task in tasks.iter() {
+        let go = Command::Go {
+            group: name(rt, b"g"),
+            job: name(rt, task.0),
+            argument: name(rt, task.1),
+        };
+        assert!(rt; book.command(&go).is_ok());
+    }
+    assert!(rt; book.flush().is_ok());
+    Ok(book.into_disk())
+}
+
+/// How a task is, as tables write it.
+#[derive(Clone, Copy, PartialEq)]
+pub enum Now<'a> {
+    Held,
+    Ready,
+    Running,
+    Success,
+    Failure(&'a [u8]),
+    Interrupted,
+    /// There is no such task.
+    None,
+}
+
+fn shown(phase: &Option<Phase>) -> Now<'_> {
+    match phase {
+        Some(Phase::Held) => Now::Held,
+        Some(Phase::Ready) => Now::Ready,
+        Some(Phase::Running) => Now::Running,
+        Some(Phase::Success) => Now::Success,
+        Some(Phase::Failure(error)) => Now::Failure(error.as_bytes()),
+        Some(Phase::Interrupted) => Now::Interrupted,
+        None => Now::None,
+    }
+}
+
+/// Asserts how the tasks of a state are, by ascending number, and that there are no more.
+pub fn assert_tasks(rt: &impl Abort, state: &State, rows: &[Now<'static>]) {
+    assert_eq!(rt; state.task_count(), rows.len());
+    for (n, row) in rows.iter().enumerate() {
+        let phase = state.phase(n.min(65_535) as u16);
+        assert!(rt; shown(&phase) == *row, "task {n}");
+    }
+}

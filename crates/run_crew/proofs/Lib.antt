@@ -1,0 +1,4 @@
+pub mod Auditing
+pub mod Counting
+pub mod Permuting
+pub mod Strays

@@ -1,0 +1,5 @@
+pub mod Audits
+pub mod Desks
+pub mod Notes
+pub mod Seats
+pub mod Shifts

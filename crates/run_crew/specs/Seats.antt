@@ -1,0 +1,30 @@
+-- What contracts see of a seat.
+use Rattle.std.specs.Prelude.{ℕ, ◌+◌}
+
+-- The parts and the amount of its share of the starts, and of that of the finishes.
+pub record SeatView : Type 0 where
+  pub start_parts : ℕ
+  pub starts : ℕ
+  pub finish_parts : ℕ
+  pub finishes : ℕ
+
+-- One part of each share, and no amount.
+abbrev pub one_part : SeatView
+one_part = record { start_parts = 1; starts = 0; finish_parts = 1; finishes = 0 }
+
+-- The seat has counted one start more.
+abbrev pub one_start : SeatView → SeatView
+one_start seat = record seat { starts = seat.starts + 1 }
+
+-- The seat has counted one finish more.
+abbrev pub one_finish : SeatView → SeatView
+one_finish seat = record seat { finishes = seat.finishes + 1 }
+
+-- Both seats in one.
+abbrev pub joined : SeatView → SeatView → SeatView
+joined seat other = record {
+  start_parts = seat.start_parts + other.start_parts;
+  starts = seat.starts + other.starts;
+  finish_parts = seat.finish_parts + other.finish_parts;
+  finishes = seat.finishes + other.finishes;
+}

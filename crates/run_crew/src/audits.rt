@@ -1,0 +1,129 @@
+//! The audit of a night: whether the notes of its workers are the finishes of the history, each
+//! once, and no task is left.
+
+ghost use Rattle.std.specs.Prelude.{◌≡◌, ◌++◌, ◌||◌, MatchOption};
+ghost use Rattle.std.specs.Prelude.{MatchResult, OnOk};
+ghost use Rattle.std.specs.List.Sorted.{IsPermutation};
+ghost use Rattle.run_crew.specs.Audits.{FirstStrayIn, HasStrayed, IsComplete, IsFirstLeft};
+ghost use Rattle.run_crew.specs.Audits.{IsFirstStray, NoStray, NoneLeft, is_left};
+ghost use Rattle.run_crew.specs.Audits.{is_stray, made_at};
+ghost use Rattle.run_crew.specs.Notes.{all_notes, has};
+
+use crate::desks::Desk;
+use crate::finishes::Finishes;
+use crate::notes::{Note, WorkerNotes, has_note, have_note};
+use run_book::State;
+use run_disk::RunDisk;
+use run_model::Phase;
+use std::sync::ledger::Ledger;
+
+/// Where an audit failed first: a worker, and a place among its notes, both from 0 on.
+///
+/// Where a finish is in no list, it is the number of lists, and 0. Where only a task is left, ready
+/// or running, it is the number of lists, and that of the least such task plus 1.
+#[derive(Clone, Copy, Debug, PartialEq, Eq)]
+pub struct Strayed {
+    /// The number of the worker.
+    pub worker: usize,
+    /// The place of the note.
+    pub note: usize,
+}
+
+/// Says whether the notes of the workers are the finishes since the desk was made, each once, with
+/// its number, task and outcome, and no task is ready or running. If not, it names the first note,
+/// by worker and then by place, that is of none of them or repeats an earlier one; else that a
+/// finish is in no list; else the task that is left. Takes no memory.
+pub fn audit<D: RunDisk, S: Ledger, F: Ledger>(
+    desk: &Desk<D, S, F>,
+    lists: &[WorkerNotes],
+) -> Result<(), Strayed>
+    ensures answer { MatchResult result (λ _. IsComplete desk.now lists.now)
+        (λ strayed. HasStrayed desk.now lists.now strayed) }
+    ensures exactly { OnOk result (IsPermutation (made_at desk.now) (all_notes lists.now)) }
+{
+    let made = Finishes::since_made(desk);
+    if let Some(strayed) = first_stray(&made, lists) {
+        return Err(strayed);
+    }
+    let worker = lists.len();
+    let are_noted = made.are_noted(lists);
+    if !are_noted {
+        return Err(Strayed { worker, note: 0 });
+    }
+    match first_left(desk.book().state()) {
+        Some(task) => Err(Strayed {
+            worker,
+            note: task as usize + 1,
+        }),
+        None => Ok(()),
+    }
+}
+
+/// The first stray note, by worker and then by place.
+fn first_stray(made: &Finishes<'_>, lists: &[WorkerNotes]) -> Option<Strayed>
+    ensures { MatchOption result (NoStray made.now lists.now)
+        (λ strayed. IsFirstStray made.now lists.now strayed) }
+{
+    for worker in 0..lists.len() {
+        let notes = lists[worker].as_slice();
+        if let Some(note) = first_stray_in(made, &lists[..worker], notes) {
+            return Some(Strayed { worker, note });
+        }
+    }
+    None
+}
+
+/// The place of the first stray one of these notes, behind the lists before them.
+fn first_stray_in(made: &Finishes<'_>, before: &[WorkerNotes], notes: &[Note]) -> Option<usize>
+    ensures { FirstStrayIn made.now (all_notes before.now) notes.now result }
+{
+    for place in 0..notes.len() {
+        if is_stray(made, before, &notes[..place], &notes[place]) {
+            return Some(place);
+        }
+    }
+    None
+}
+
+/// Says whether a note behind these is of no finish that was made, or repeats one of them.
+fn is_stray(made: &Finishes<'_>, before: &[WorkerNotes], earlier: &[Note], note: &Note) -> bool
+    ensures { result ≡ is_stray made.now (all_notes before.now ++ earlier.now) note.now }
+{
+    let was_made = made.has(note);
+    let was_noted = have_noted(before, note);
+    let stands_earlier = has_note(earlier, note);
+    is_any_of(!was_made, was_noted, stands_earlier)
+}
+
+fn is_any_of(one: bool, two: bool, three: bool) -> bool
+    ensures { result ≡ (one || (two || three)) }
+{
+    one || two || three
+}
+
+/// Says whether these workers together noted this.
+fn have_noted(lists: &[WorkerNotes], note: &Note) -> bool
+    ensures { result ≡ has (all_notes lists.now) note.now }
+{
+    have_note(lists, note)
+}
+
+/// The ready or running task with the least number.
+fn first_left(state: &State) -> Option<u16>
+    ensures { MatchOption result (NoneLeft state.now.work)
+        (λ task. IsFirstLeft state.now.work task) }
+{
+    for task in 0..state.task_count() as u16 {
+        if is_left(state, task) {
+            return Some(task);
+        }
+    }
+    None
+}
+
+/// Says whether a task is ready or running.
+fn is_left(state: &State, task: u16) -> bool
+    ensures { result ≡ is_left state.now.work task }
+{
+    matches!(state.phase(task), Some(Phase::Ready | Phase::Running))
+}

@@ -1,0 +1,245 @@
+//! A [`Desk`] is what lies under the one lock: the book, and the totals of its starts and finishes.
+
+ghost use Rattle.std.specs.Prelude.{◌≡◌, ◌<◌, ◌≤◌, ◌+◌, ◌^◌, ℕ, List, length, MatchResult};
+ghost use Rattle.std.specs.Prelude.{OnErr, OnOk, Some};
+ghost use Rattle.run_model.specs.declared.answers.Reply.TheVariants as told;
+ghost use Rattle.run_model.specs.declared.commands.Step.TheVariants as step;
+ghost use Rattle.run_model.specs.Allowed.{run};
+ghost use Rattle.run_model.specs.Replies.{decide, decide_finish, decide_start, reply};
+ghost use Rattle.run_model.specs.Replies.{reply_finish, reply_start};
+ghost use Rattle.run_model.specs.Session.{made, replied};
+ghost use Rattle.record_view.specs.Records.{events_in};
+ghost use Rattle.run_state.specs.Lasting.{Stays};
+ghost use Rattle.run_session.specs.Logged.{GoesOnBy, Replays, after_command, after_finish};
+ghost use Rattle.run_session.specs.Logged.{after_start};
+ghost use Rattle.book_model.specs.Holdings.{CarriesOn, Checkpoints, Flushes, IsDurable, IsSafe};
+ghost use Rattle.book_model.specs.Steps.{AnswersStep};
+ghost use Rattle.book_model.specs.Stores.{Stores};
+ghost use Rattle.run_book.specs.Views.{holding, unless_broken, with_session};
+ghost use Rattle.run_crew.specs.Desks.{DeskView, finishes_of, history_of, is_done_for, starts_of};
+ghost use Rattle.run_crew.specs.Seats.{one_finish, one_start};
+
+use crate::counts::counts_of;
+use crate::seats::Seat;
+use run_book::Book;
+use run_disk::RunDisk;
+use run_model::{Answer, Command, Outcome, Refusal, Started, Trouble};
+use std::marker::Model;
+use std::sync::ledger::{Blank, Book as Total, Ledger};
+
+/// A book, how many events it had when the desk was made, and the totals of the starts and the
+/// finishes in its history. It is the value of the one lock that all workers share, so each of its
+/// calls is one step of the book.
+#[derive(Drop)]
+pub struct Desk<D: RunDisk, S: Ledger, F: Ledger> {
+    book: Book<D>,
+    since: u64,
+    starts: Total<S>,
+    finishes: Total<F>,
+}
+
+impl<D: RunDisk, S: Ledger, F: Ledger> Model for Desk<D, S, F> {
+    ghost use Rattle.std.specs.Prelude.{◌≡◌};
+    ghost use Rattle.run_crew.specs.Desks.{DeskView, finishes_of, history_of, starts_of};
+
+    ghost Value = { DeskView D };
+
+    ghost view = { λ d. record { book = d.book; since = d.since } };
+
+    ghost invariant = { λ d. (d.starts.total ≡ starts_of (history_of d.book))
+        × (d.finishes.total ≡ finishes_of (history_of d.book)) };
+}
+
+impl<D: RunDisk, S: Ledger, F: Ledger> Desk<D, S, F> {
+    /// A desk over a book, and the seat with every part of both shares. It has counted what the
+    /// book's history has already.
+    pub fn new(book: Book<D>, starts: Blank, finishes: Blank) -> (Desk<D, S, F>, Seat<S, F>)
+        requires starts { (starts.name ≡ S.name) × (starts.parts ≡ S.parts) × (0 < S.parts) }
+        requires finishes { (finishes.name ≡ F.name) × (finishes.parts ≡ F.parts)
+            × (0 < F.parts) }
+        ensures desk { result.0 ≡ record { book = book; since = book.session.state.count } }
+        ensures seat { result.1 ≡ record {
+          start_parts = S.parts;
+          starts = starts_of (history_of book);
+          finish_parts = F.parts;
+          finishes = finishes_of (history_of book);
+        } }
+    {
+        let (mut start_total, mut start_share) = starts.open::<S>();
+        let (mut finish_total, mut finish_share) = finishes.open::<F>();
+        let counts = counts_of(&book);
+        start_total.add(&mut start_share, counts.starts);
+        finish_total.add(&mut finish_share, counts.finishes);
+        let desk = Desk {
+            since: book.state().count(),
+            book,
+            starts: start_total,
+            finishes: finish_total,
+        };
+        (desk, Seat::new(start_share, finish_share))
+    }
+
+    /// Obeys a command, as [`Book::command`] does.
+    pub fn command(&mut self, call: &Command) -> Result<Answer, Refusal>
+        ensures reply { result ≡ unless_broken self.old.book
+            (reply self.old.book.session.state (length self.old.book.session.log) call.now) }
+        ensures after { self.new.book ≡ with_session self.old.book
+            (after_command self.old.book.session call.now) }
+        ensures history { GoesOnBy (made (unless_broken self.old.book
+            (decide self.old.book.session.state (length self.old.book.session.log) call.now)))
+            self.old.book.session self.new.book.session }
+        ensures answers { AnswersStep D.state (holding self.old.book) (step.Command call.now)
+            (replied told.Answer result) (holding self.new.book) }
+        ensures refused { OnErr result (self.new.book ≡ self.old.book) }
+        ensures stays { Stays self.old.book.session.state self.new.book.session.state }
+        ensures carries_on { CarriesOn D.state (holding self.old.book) (holding self.new.book) }
+        ensures since { self.new.since ≡ self.old.since }
+    {
+        self.book.command(call)
+    }
+
+    /// Starts the ready task with the least number, as [`Book::start`] does. Where it is accepted,
+    /// the seat has counted one start more.
+    pub fn start_as(&mut self, seat: &mut Seat<S, F>) -> Result<Started, Refusal>
+        requires part { 0 < seat.old.start_parts }
+        ensures reply { result ≡ unless_broken self.old.book
+            (reply_start self.old.book.session.state (length self.old.book.session.log)) }
+        ensures after { self.new.book
+            ≡ with_session self.old.book (after_start self.old.book.session) }
+        ensures history { GoesOnBy (made (unless_broken self.old.book
+            (decide_start self.old.book.session.state (length self.old.book.session.log))))
+            self.old.book.session self.new.book.session }
+        ensures answers { AnswersStep D.state (holding self.old.book) step.Start
+            (replied told.Started result) (holding self.new.book) }
+        ensures refused { OnErr result (self.new.book ≡ self.old.book) }
+        ensures stays { Stays self.old.book.session.state self.new.book.session.state }
+        ensures carries_on { CarriesOn D.state (holding self.old.book) (holding self.new.book) }
+        ensures since { self.new.since ≡ self.old.since }
+        ensures seat { MatchResult result (λ _. seat.new ≡ one_start seat.old)
+            (λ _. seat.new ≡ seat.old) }
+    {
+        let started = self.book.start()?;
+        self.starts.add(&mut seat.starts, 1);
+        Ok(started)
+    }
+
+    /// Ends a running task with this outcome, as [`Book::finish`] does. Where it is accepted, the
+    /// seat has counted one finish more.
+    pub fn finish_as(
+        &mut self,
+        seat: &mut Seat<S, F>,
+        task: u16,
+        outcome: &Outcome,
+    ) -> Result<u64, Refusal>
+        requires part { 0 < seat.old.finish_parts }
+        ensures reply { result ≡ unless_broken self.old.book
+            (reply_finish self.old.book.session.state task outcome.now) }
+        ensures after { self.new.book ≡ with_session self.old.book
+            (after_finish self.old.book.session task outcome.now) }
+        ensures history { GoesOnBy (made (unless_broken self.old.book
+            (decide_finish self.old.book.session.state task outcome.now)))
+            self.old.book.session self.new.book.session }
+        ensures answers { AnswersStep D.state (holding self.old.book)
+            (step.Finish task outcome.now) (replied told.Finished result)
+            (holding self.new.book) }
+        ensures refused { OnErr result (self.new.book ≡ self.old.book) }
+        ensures stays { Stays self.old.book.session.state self.new.book.session.state }
+        ensures carries_on { CarriesOn D.state (holding self.old.book) (holding self.new.book) }
+        ensures since { self.new.since ≡ self.old.since }
+        ensures seat { MatchResult result (λ _. seat.new ≡ one_finish seat.old)
+            (λ _. seat.new ≡ seat.old) }
+    {
+        let number = self.book.finish(task, outcome)?;
+        self.finishes.add(&mut seat.finishes, 1);
+        Ok(number)
+    }
+
+    /// Makes all events so far durable by their records, as [`Book::flush`] does.
+    pub fn flush(&mut self) -> Result<u64, Trouble>
+        ensures session { self.new.book.session ≡ self.old.book.session }
+        ensures layout { self.new.book.journal.layout ≡ self.old.book.journal.layout }
+        ensures flushes { Flushes D.state (holding self.old.book) result
+            (holding self.new.book) }
+        ensures carries_on { CarriesOn D.state (holding self.old.book) (holding self.new.book) }
+        ensures stores { IsSafe D.state (holding self.old.book) → OnOk result ((x : List ℕ)
+            → (D.state self.new.book.journal.disk).images x
+            → Stores x self.new.book.session.state) }
+        ensures since { self.new.since ≡ self.old.since }
+    {
+        self.book.flush()
+    }
+
+    /// Makes all events so far durable by an image, as [`Book::checkpoint`] does.
+    pub fn checkpoint(&mut self) -> Result<u64, Trouble>
+        ensures session { self.new.book.session ≡ self.old.book.session }
+        ensures layout { self.new.book.journal.layout ≡ self.old.book.journal.layout }
+        ensures checkpoints { Checkpoints D.state (holding self.old.book) result
+            (holding self.new.book) }
+        ensures carries_on { CarriesOn D.state (holding self.old.book) (holding self.new.book) }
+        ensures stores { IsSafe D.state (holding self.old.book) → OnOk result ((x : List ℕ)
+            → (D.state self.new.book.journal.disk).images x
+            → Stores x self.new.book.session.state) }
+        ensures since { self.new.since ≡ self.old.since }
+    {
+        self.book.checkpoint()
+    }
+
+    /// How many starts and finishes the book's history has. A seat with every part has counted as
+    /// many.
+    pub fn settle(&mut self, seat: &mut Seat<S, F>) -> (u64, u64)
+        requires parts { (seat.old.start_parts ≡ S.parts) × (seat.old.finish_parts ≡ F.parts) }
+        ensures same { (self.new ≡ self.old) × (seat.new ≡ seat.old) }
+        ensures counted { (result.0 ≡ seat.old.starts) × (result.1 ≡ seat.old.finishes) }
+        ensures history { (result.0 ≡ starts_of (history_of self.old.book))
+            × (result.1 ≡ finishes_of (history_of self.old.book)) }
+    {
+        self.starts.audit(&mut seat.starts);
+        self.finishes.audit(&mut seat.finishes);
+        let counts = counts_of(&self.book);
+        (counts.starts, counts.finishes)
+    }
+
+    /// The book, for reading. Whenever the lock is free, its state is what its history leads to,
+    /// and whatever a crash leaves has the acknowledged events.
+    pub fn book(&self) -> &Book<D>
+        ensures book { result.now ≡ self.now.book }
+        ensures replays { Replays self.now.book.session }
+        ensures images { IsDurable D.state (holding self.now.book) }
+    {
+        let _state = self.book.state();
+        let _durable = self.book.durable();
+        &self.book
+    }
+
+    /// How many events there had been when the desk was made.
+    pub fn since(&self) -> u64
+        ensures { result ≡ self.now.since }
+    {
+        self.since
+    }
+
+    /// Says whether there is a task of this number and the scope that it lives in is done.
+    pub fn is_done(&self, task: u16) -> bool
+        ensures { result ≡ is_done_for self.now.book.session.state task }
+    {
+        let state = self.book.state();
+        let Some(row) = state.task(task) else {
+            return false;
+        };
+        let Some(group) = state.group(row.group) else {
+            return false;
+        };
+        match state.look(group.scope) {
+            Some(look) => look.done.is_some(),
+            None => false,
+        }
+    }
+
+    /// The book, given back.
+    pub fn into_book(self) -> Book<D>
+        ensures { result ≡ self.book }
+    {
+        let Desk { book, .. } = self;
+        book
+    }
+}

@@ -1,0 +1,34 @@
+//! A [`Job`] is what a worker runs for a task, turn by turn; a [`Gate`] is asked before each turn.
+
+use run_model::{Name, TaskInfo, Text};
+
+/// What a turn of a job answers.
+#[derive(Clone, Debug, Drop, PartialEq, Eq)]
+pub enum Turn {
+    /// The task wants another turn.
+    More,
+    /// The task has ended without an error.
+    Finished,
+    /// The task has ended with this error.
+    Failed(Text),
+}
+
+/// What a worker runs for a task. Each worker has jobs of its own, and asks them in their order.
+pub trait Job: Drop {
+    /// Says whether it does the jobs of this name.
+    fn handles(&self, job: &Name) -> bool;
+
+    /// Makes a turn of a task: the first is turn 0. It is told whether the scope that the task
+    /// lives in is done, and may end then or go on. No lock is held meanwhile.
+    fn turn(&mut self, info: &TaskInfo, turn: u32, done: bool) -> Turn;
+}
+
+/// What the workers share beside the desk. No lock is held while it is called.
+pub trait Gate {
+    /// Says whether a worker may make this turn of a task. Where it may not, the task ends as the
+    /// failure `gate`.
+    fn before(&self, task: u16, turn: u32) -> bool;
+
+    /// Is told that a task was finished.
+    fn finished(&self, task: u16);
+}

@@ -1,0 +1,26 @@
+//! The crew: worker threads that work off the ready tasks of one book, under one lock.
+//!
+//! A [`Desk`] is the value of the lock: the book, and the totals of its starts and finishes. Each
+//! worker counts by a [`Seat`] of its own, runs its [`Job`]s with the lock let go, and notes what it
+//! finished; a thread more makes the finishes durable. [`run_night`] starts and joins them all, and
+//! [`audit`] compares the notes with the book's history.
+#![tactic(auto)]
+
+mod audits;
+mod bells;
+mod counts;
+mod desks;
+mod finishes;
+mod jobs;
+mod nights;
+mod notes;
+mod places;
+mod seats;
+mod workers;
+
+pub use audits::{Strayed, audit};
+pub use desks::Desk;
+pub use jobs::{Gate, Job, Turn};
+pub use nights::run_night;
+pub use notes::{Note, WorkerNotes};
+pub use seats::Seat;

@@ -1,0 +1,191 @@
+//! A night: one worker for each list of jobs, beside a thread that flushes.
+
+ghost use Rattle.std.specs.Prelude.{◌≡◌, ◌+◌, ◌<◌, ◌≤◌, [], vec_len, vec_capacity};
+ghost use Rattle.std.specs.Prelude.{IfOk, IfErr, OnOk};
+ghost use Rattle.run_model.specs.declared.faults.Fault.TheVariants.{Memory};
+ghost use Rattle.run_crew.specs.Notes.{noted};
+
+use crate::bells::Bell;
+use crate::desks::Desk;
+use crate::jobs::{Gate, Job};
+use crate::notes::WorkerNotes;
+use crate::places::{CountedPlace, Place};
+use crate::seats::Seat;
+use crate::workers::{Shift, Station};
+use run_disk::RunDisk;
+use run_model::{Fault, Trouble};
+use std::alloc::{AllocError, Global};
+use std::sync::ledger::Ledger;
+use std::sync::{Mutex, Wait};
+use std::thread;
+use std::thread::Threads;
+
+/// Works off the ready tasks of the book under the lock, by one thread for each list of jobs, and
+/// then flushes. Gives the notes of the workers, in the order of the lists, and what the last flush
+/// answered.
+///
+/// Each worker starts the ready task with the least number and makes the start durable, makes the
+/// turns by the first of its jobs that handles the task, finishes it and notes it, until it finds no
+/// task ready, its start or its finish is refused, its flush isn't done, or its notes are full. A
+/// thread more flushes whenever a task was finished. No lock is held while a job or the gate runs.
+///
+/// `Memory` where a growth or the start of a thread was refused. Every thread that was started has
+/// been joined then, too; the seat may lack some parts.
+pub fn run_night<
+    D: RunDisk + Send,
+    S: Ledger + Send + Sync,
+    F: Ledger + Send + Sync,
+    G: Gate + Sync,
+    R: Threads + Wait + Sync,
+>(
+    rt: &R,
+    alloc: Global,
+    shared: &Mutex<Desk<D, S, F>>,
+    seat: &mut Seat<S, F>,
+    jobs: Vec<Vec<Box<dyn Job + Send>>>,
+    gate: &G,
+) -> Result<(Vec<WorkerNotes>, Result<u64, Trouble>), Fault>
+    requires start_parts { vec_len jobs < seat.old.start_parts }
+    requires finish_parts { vec_len jobs < seat.old.finish_parts }
+    ensures workers { IfOk result (λ r. vec_len r.0 ≡ vec_len jobs) }
+    ensures start_parts { OnOk result (seat.new.start_parts ≡ seat.old.start_parts) }
+    ensures finish_parts { OnOk result (seat.new.finish_parts ≡ seat.old.finish_parts) }
+    ensures finishes { IfOk result (λ r.
+        seat.new.finishes ≡ seat.old.finishes + noted r.0.items) }
+    ensures starts { IfOk result (λ r.
+        seat.old.starts + noted r.0.items ≤ seat.new.starts) }
+    ensures one_more { IfOk result (λ r.
+        seat.new.starts ≤ seat.old.starts + noted r.0.items + vec_len jobs) }
+    ensures fault { IfErr result (λ fault. fault ≡ Memory) }
+{
+    let Ok(mut notes) = Vec::with_capacity(alloc, jobs.len()) else {
+        return Err(Fault::Memory);
+    };
+    let Ok(stations) = stations_of(alloc, seat, jobs) else {
+        return Err(Fault::Memory);
+    };
+    let shifts = shifts_of(rt, alloc, shared, stations, gate);
+    let last = shared.lock(rt).flush();
+    let Ok(shifts) = shifts else {
+        return Err(Fault::Memory);
+    };
+    gather(seat, shifts, &mut notes);
+    Ok((notes, last))
+}
+
+/// A station for each list of jobs, with one part of the seat.
+fn stations_of<S: Ledger, F: Ledger>(
+    alloc: Global,
+    seat: &mut Seat<S, F>,
+    jobs: Vec<Vec<Box<dyn Job + Send>>>,
+) -> Result<Vec<Station<S, F>>, Fault>
+    requires start_parts { vec_len jobs < seat.old.start_parts }
+    requires finish_parts { vec_len jobs < seat.old.finish_parts }
+    ensures len { IfOk result (λ v. vec_len v ≡ vec_len jobs) }
+    ensures start_parts { OnOk result
+        (seat.new.start_parts + vec_len jobs ≡ seat.old.start_parts) }
+    ensures finish_parts { OnOk result
+        (seat.new.finish_parts + vec_len jobs ≡ seat.old.finish_parts) }
+    ensures starts { seat.new.starts ≡ seat.old.starts }
+    ensures finishes { seat.new.finishes ≡ seat.old.finishes }
+    ensures fault { IfErr result (λ fault. fault ≡ Memory) }
+{
+    let Ok(mut stations) = Vec::with_capacity(alloc, jobs.len()) else {
+        return Err(Fault::Memory);
+    };
+    for list in jobs {
+        let notes = WorkerNotes::with_room(alloc)?;
+        stations.push_reserved(Station::new(list, seat.split_one(), notes));
+    }
+    Ok(stations)
+}
+
+/// What the workers leave, each in a thread of its own, beside a thread that flushes. All room is
+/// made before the first thread, and every thread is joined.
+fn shifts_of<
+    T: CountedPlace<S, F> + Send,
+    S: Ledger + Send + Sync,
+    F: Ledger + Send + Sync,
+    G: Gate + Sync,
+    R: Threads + Wait + Sync,
+>(
+    rt: &R,
+    alloc: Global,
+    shared: &Mutex<T>,
+    stations: Vec<Station<S, F>>,
+    gate: &G,
+) -> Result<Vec<Shift<S, F>>, AllocError>
+    ensures { IfOk result (λ v. vec_len v ≡ vec_len stations) }
+{
+    let count = stations.len();
+    let mut handles = Vec::with_capacity(alloc, count)?;
+    let mut shifts = Vec::with_capacity(alloc, count)?;
+    let bell = Bell::new();
+    let bell = &bell;
+    thread::scope(
+        thread::scope_env(),
+        rt,
+        |scope| -> Result<Vec<Shift<S, F>>, AllocError>
+            requires stations { vec_len stations ≡ count }
+            requires handles { (vec_len handles ≡ 0) × (count ≤ vec_capacity handles) }
+            requires shifts { (vec_len shifts ≡ 0) × (count ≤ vec_capacity shifts) }
+            ensures { IfOk result (λ v. vec_len v ≡ count) }
+        {
+            let flusher = scope.spawn(move || flush_at(rt, shared, bell))?;
+            let mut refused = false;
+            for station in stations {
+                match scope.spawn(move || station.work(rt, shared, bell, gate)) {
+                    Ok(handle) => handles.push_reserved(handle),
+                    Err(_) => refused = true,
+                }
+            }
+            for handle in handles {
+                shifts.push_reserved(handle.join(rt));
+            }
+            bell.close(rt);
+            flusher.join(rt);
+            // the clauses above speak of it
+            let _ = &count;
+            if refused {
+                return Err(AllocError);
+            }
+            Ok(shifts)
+        },
+    )
+}
+
+/// Flushes whenever the bell rings, until it is closed. A flush that is refused is no end.
+fn flush_at<T: Place, R: Wait>(rt: &R, shared: &Mutex<T>, bell: &Bell) {
+    for _ in rt.forever() {
+        if bell.wait(rt) {
+            return;
+        }
+        let _ = shared.lock(rt).flush();
+    }
+}
+
+/// Takes the parts back, and puts the notes of the shifts into a list that has room for them.
+fn gather<S: Ledger, F: Ledger>(
+    seat: &mut Seat<S, F>,
+    shifts: Vec<Shift<S, F>>,
+    notes: &mut Vec<WorkerNotes>,
+)
+    requires empty { vec_len notes.old ≡ 0 }
+    requires room { vec_len shifts ≤ vec_capacity notes.old }
+    ensures len { vec_len notes.new ≡ vec_len shifts }
+    ensures start_parts { seat.new.start_parts ≡ seat.old.start_parts + vec_len shifts }
+    ensures finish_parts { seat.new.finish_parts ≡ seat.old.finish_parts + vec_len shifts }
+    ensures finishes { seat.new.finishes ≡ seat.old.finishes + noted notes.new.items }
+    ensures starts { seat.old.starts + noted notes.new.items ≤ seat.new.starts }
+    ensures one_more { seat.new.starts
+        ≤ seat.old.starts + noted notes.new.items + vec_len shifts }
+{
+    for shift in shifts {
+        let Shift {
+            seat: part,
+            notes: list,
+        } = shift;
+        seat.join(part);
+        notes.push_reserved(list);
+    }
+}

@@ -1,0 +1,66 @@
+//! A [`Seat`] is what a thread counts its own starts and finishes by.
+
+ghost use Rattle.std.specs.Prelude.{◌≡◌, ◌+◌, ◌<◌};
+ghost use Rattle.run_crew.specs.Seats.{SeatView, joined, one_part};
+
+use std::marker::Model;
+use std::sync::ledger::{Ledger, Share};
+
+/// A share of the total of starts, and one of that of finishes. It takes no bytes. A seat with
+/// every part has counted all starts and finishes of its desk.
+#[derive(Drop)]
+pub struct Seat<S: Ledger, F: Ledger> {
+    pub(crate) starts: Share<S>,
+    pub(crate) finishes: Share<F>,
+}
+
+impl<S: Ledger, F: Ledger> Model for Seat<S, F> {
+    ghost use Rattle.run_crew.specs.Seats.{SeatView};
+
+    ghost Value = { SeatView };
+
+    ghost view = { λ s. record {
+      start_parts = s.starts.parts;
+      starts = s.starts.amount;
+      finish_parts = s.finishes.parts;
+      finishes = s.finishes.amount;
+    } };
+}
+
+impl<S: Ledger, F: Ledger> Seat<S, F> {
+    /// A seat of these shares.
+    pub(crate) fn new(starts: Share<S>, finishes: Share<F>) -> Seat<S, F>
+        ensures { result ≡ record {
+          start_parts = starts.parts;
+          starts = starts.amount;
+          finish_parts = finishes.parts;
+          finishes = finishes.amount;
+        } }
+    {
+        Seat { starts, finishes }
+    }
+
+    /// Gives one part of each share away, and no amount.
+    pub(crate) fn split_one(&mut self) -> Seat<S, F>
+        requires starts { 1 < self.old.start_parts }
+        requires finishes { 1 < self.old.finish_parts }
+        ensures one { result ≡ one_part }
+        ensures start_parts { self.new.start_parts + 1 ≡ self.old.start_parts }
+        ensures finish_parts { self.new.finish_parts + 1 ≡ self.old.finish_parts }
+        ensures starts { self.new.starts ≡ self.old.starts }
+        ensures finishes { self.new.finishes ≡ self.old.finishes }
+    {
+        let starts = self.starts.split_off(1, 0);
+        let finishes = self.finishes.split_off(1, 0);
+        Seat { starts, finishes }
+    }
+
+    /// Takes another seat in.
+    pub(crate) fn join(&mut self, other: Seat<S, F>)
+        ensures { self.new ≡ joined self.old other }
+    {
+        let Seat { starts, finishes } = other;
+        self.starts.merge(starts);
+        self.finishes.merge(finishes);
+    }
+}
