@@ -31,9 +31,9 @@ fn assert_disk(
     calls: u64,
     rows: &[At],
 ) -> Result<(), Fault> {
-    assert_eq!(rt; disk.calls(), calls);
+    assert!(rt; disk.calls() == calls);
     let now = reads(alloc, disk)?;
-    assert_eq!(rt; now.len(), 1_572_864);
+    assert!(rt; now.len() == 1_572_864);
     assert_bytes(rt, &now, rows);
     Ok(())
 }

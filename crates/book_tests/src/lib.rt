@@ -9,8 +9,26 @@ mod bytes;
 #[cfg(test)]
 mod calls;
 #[cfg(test)]
+mod crowds;
+#[cfg(test)]
+mod damages;
+#[cfg(test)]
 mod disks;
+#[cfg(test)]
+mod failures;
 #[cfg(test)]
 mod looks;
 #[cfg(test)]
+mod nights;
+#[cfg(test)]
+mod numbers;
+#[cfg(test)]
+mod rooms;
+#[cfg(test)]
+mod segments;
+#[cfg(test)]
 mod six_events;
+#[cfg(test)]
+mod stops;
+#[cfg(test)]
+mod versions;

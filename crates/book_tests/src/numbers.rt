@@ -1,12 +1,12 @@
 //! Stores whose numbers are spent, or nearly so: events and generations.
 
 use crate::calls::Call::{Checkpoint, Flush, Plain};
-use crate::calls::{Said, assert_said};
-use crate::disks::{opened, small_disk};
-use run_book::Book;
+use crate::calls::Said;
+use crate::disks::{counted, counted_on, played_on, small_disk, unopened};
 use run_disk::MemoryDisk;
 use run_model::Fault;
-use std::test::Fail;
+use std::alloc::Global;
+use std::process::Abort;
 
 /// Slots with root alone: slot 0 of generation 0 behind 2^62 events, an event less, and 2^63 - 1
 /// events; slot 1 of the last generation, 2^63 - 1, and slot 0 of the one before it, behind none.
@@ -39,54 +39,58 @@ static SPENT: [Spent; 4] = [
     ("the last generation", 524_288, LAST, b"", 0),
 ];
 
+/// Asserts that a store is recovered, and that an opening of it only reads.
+fn assert_spent(rt: &impl Abort, alloc: Global, row: &Spent) -> Result<(), Fault> {
+    let bytes = small_disk(rt, alloc, &[(row.1, row.2), (1_048_576, row.3)])?;
+    let mut disk = MemoryDisk::from_bytes(alloc, bytes)?;
+    let found = counted_on(alloc, &mut disk);
+    assert!(rt; found == Ok(row.4), "{}", row.0);
+    let (fault, disk) = unopened(alloc, disk).expect(rt, "a fault");
+    assert!(rt;
+        (fault, disk.calls()) == (Fault::NumbersSpent, 6),
+        "{}",
+        row.0
+    );
+    Ok(())
+}
+
 #[test]
-fn a_store_of_spent_numbers_is_read_alone(rt: HostRuntime) -> Result<(), Fail> {
-    for (what, place, slot, batch, count) in SPENT.iter() {
-        let bytes = small_disk(&rt, rt.alloc(), &[(*place, *slot), (1_048_576, *batch)])?;
-        let mut disk = MemoryDisk::from_bytes(rt.alloc(), bytes)?;
-        let state = Book::recover(rt.alloc(), &mut disk)?;
-        assert_eq!(rt; state.count(), *count, "{what}");
-        let Err((fault, disk)) = Book::open(rt.alloc(), disk) else {
-            return Err("opened".into());
-        };
-        assert_eq!(rt; (fault, disk.calls()), (Fault::NumbersSpent, 6), "{what}");
+fn a_store_of_spent_numbers_is_only_read(rt: HostRuntime) -> Result<(), Fault> {
+    for row in SPENT.iter() {
+        assert_spent(&rt, rt.alloc(), row)?;
     }
     Ok(())
 }
 
 #[test]
-fn the_last_count_is_opened(rt: HostRuntime) -> Result<(), Fail> {
+fn the_last_count_is_opened(rt: HostRuntime) -> Result<(), Fault> {
     let bytes = small_disk(&rt, rt.alloc(), &[(0, ONE_LESS.as_slice())])?;
-    let mut book = opened(rt.alloc(), MemoryDisk::from_bytes(rt.alloc(), bytes)?)?;
     let rows = [
         (Flush, Said::Acked(1 << 62)),
         (Plain(b"a", b"root"), Said::Scope(1)),
         (Flush, Said::Acked((1 << 62) + 1)),
     ];
-    assert_said(&rt, &mut book, &rows);
-    let Err((fault, _)) = Book::open(rt.alloc(), book.into_disk()) else {
-        return Err("opened".into());
-    };
-    assert_eq!(rt; fault, Fault::NumbersSpent);
+    let disk = MemoryDisk::from_bytes(rt.alloc(), bytes)?;
+    let disk = played_on(&rt, rt.alloc(), disk, &[&rows])?;
+    let told = unopened(rt.alloc(), disk).map(|back| back.0);
+    assert!(rt; told == Some(Fault::NumbersSpent));
     Ok(())
 }
 
 #[test]
 fn a_checkpoint_of_the_last_generation_changes_nothing(rt: HostRuntime) -> Result<(), Fault> {
     let bytes = small_disk(&rt, rt.alloc(), &[(0, BEFORE_LAST.as_slice())])?;
-    let mut book = opened(rt.alloc(), MemoryDisk::from_bytes(rt.alloc(), bytes)?)?;
     let rows = [
         (Plain(b"a", b"root"), Said::Scope(1)),
         (Checkpoint, Said::Faulty(Fault::NumbersSpent)),
         (Plain(b"b", b"root"), Said::Scope(2)),
         (Checkpoint, Said::Faulty(Fault::NumbersSpent)),
+        // A flush that fits still lasts.
+        (Flush, Said::Acked(3)),
     ];
-    assert_said(&rt, &mut book, &rows);
-    assert_eq!(rt; (book.durable(), book.is_broken()), (1, false));
-    // A flush that fits still lasts.
-    assert_said(&rt, &mut book, &[(Flush, Said::Acked(3))]);
-    let mut disk = book.into_disk();
-    assert_eq!(rt; disk.calls(), 16);
-    assert_eq!(rt; Book::recover(rt.alloc(), &mut disk)?.count(), 3);
+    let disk = MemoryDisk::from_bytes(rt.alloc(), bytes)?;
+    let mut disk = played_on(&rt, rt.alloc(), disk, &[&rows])?;
+    assert!(rt; disk.calls() == 16);
+    assert!(rt; counted_on(rt.alloc(), &mut disk) == Ok(3));
     Ok(())
 }

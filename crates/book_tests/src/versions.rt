@@ -1,9 +1,9 @@
 //! Stores of version 1, kept as bytes: each is read, and its opening takes it over.
 
 use crate::calls::Call::{Flush, Retry};
-use crate::calls::{Said, assert_said};
+use crate::calls::Said;
 use crate::disks::{
-    assert_bytes, counted, opened, reads, recovered, small_disk, torn_image, unopened,
+    assert_bytes, counted, played_on, reads, recovered, small_disk, torn_image, unopened,
 };
 use crate::looks::{Seen, assert_group, assert_scopes, assert_tasks};
 use run_book::State;
@@ -50,7 +50,7 @@ fn stored(rt: &impl Abort, alloc: Global, rows: &[(usize, &[u8])]) -> Result<Sta
 
 /// Asserts that task 0 runs, and task 1 is held.
 fn assert_running(rt: &impl Abort, state: &State) {
-    assert_eq!(rt; (state.count(), state.clock().get()), (6, 0));
+    assert!(rt; (state.count(), state.clock().get()) == (6, 0));
     assert_scopes(rt, state, &[(b"g", Seen::Live)]);
     assert_group(rt, state, b"g", (1, 2, Some(1), false, None));
     let tasks = [
@@ -62,7 +62,7 @@ fn assert_running(rt: &impl Abort, state: &State) {
 
 /// Asserts that task 0 is interrupted, task 1 ready, and besides all as it was.
 fn assert_interrupted(rt: &impl Abort, state: &State) {
-    assert_eq!(rt; (state.count(), state.clock().get()), (7, 0));
+    assert!(rt; (state.count(), state.clock().get()) == (7, 0));
     assert_scopes(rt, state, &[(b"g", Seen::Canceled(b"interrupted"))]);
     assert_group(
         rt,
@@ -79,7 +79,7 @@ fn assert_interrupted(rt: &impl Abort, state: &State) {
 
 /// Asserts that task 2 retries task 0.
 fn assert_retried(rt: &impl Abort, state: &State) {
-    assert_eq!(rt; state.count(), 8);
+    assert!(rt; state.count() == 8);
     let tasks = [
         (b"a".as_slice(), Phase::Interrupted, None),
         (b"b", Phase::Ready, None),
@@ -100,12 +100,8 @@ fn a_store_of_either_version_is_recovered(rt: HostRuntime) -> Result<(), Fault> 
 /// A disk on which a store of version 1 was opened, by ten calls, and its task 0 retried, by six.
 fn taken_over(rt: &impl Abort, alloc: Global) -> Result<MemoryDisk, Fault> {
     let bytes = small_disk(rt, alloc, &[(0, RUNNING)])?;
-    let mut book = opened(alloc, MemoryDisk::from_bytes(alloc, bytes)?)?;
-    assert_interrupted(rt, book.state());
     let rows = [(Retry(0), Said::Held(2)), (Flush, Said::Acked(8))];
-    assert_said(rt, &mut book, &rows);
-    assert_retried(rt, book.state());
-    Ok(book.into_disk())
+    played_on(rt, alloc, MemoryDisk::from_bytes(alloc, bytes)?, &[&rows])
 }
 
 /// Asserts how many events a stop behind so many calls leaves.
@@ -116,14 +112,14 @@ fn assert_left(
     row: (u64, Torn, u64),
 ) -> Result<(), Fault> {
     let found = counted(alloc, torn_image(rt, alloc, disk, row.0, row.1)?);
-    assert_eq!(rt; found, Ok(row.2), "behind call {}", row.0);
+    assert!(rt; found == Ok(row.2), "behind call {}", row.0);
     Ok(())
 }
 
 #[test]
 fn an_opening_takes_a_store_of_version_1_over(rt: HostRuntime) -> Result<(), Fault> {
     let disk = taken_over(&rt, rt.alloc())?;
-    assert_eq!(rt; disk.calls(), 16);
+    assert!(rt; disk.calls() == 16);
     let rows = [
         ("the store as it was", 0, RUNNING.as_slice()),
         ("its restart", 524_288, RESTARTED),
@@ -131,10 +127,26 @@ fn an_opening_takes_a_store_of_version_1_over(rt: HostRuntime) -> Result<(), Fau
         ("the next gate", 1_310_730, b"\0"),
     ];
     assert_bytes(&rt, &reads(rt.alloc(), &disk)?, &rows);
-    assert_left(&rt, rt.alloc(), &disk, (6, Torn::Take, 6))?;
-    assert_left(&rt, rt.alloc(), &disk, (9, Torn::Keep, 6))?;
-    assert_left(&rt, rt.alloc(), &disk, (9, Torn::Take, 7))?;
-    assert_left(&rt, rt.alloc(), &disk, (10, Torn::Keep, 7))
+    // The calls behind which it stops, and the events that are left.
+    for row in [
+        (6, Torn::Take, 6),
+        (9, Torn::Keep, 6),
+        (9, Torn::Take, 7),
+        (10, Torn::Keep, 7),
+        (16, Torn::Keep, 8),
+    ] {
+        assert_left(&rt, rt.alloc(), &disk, row)?;
+    }
+    Ok(())
+}
+
+#[test]
+fn an_opening_restarts_a_store_of_version_1(rt: HostRuntime) -> Result<(), Fault> {
+    let disk = taken_over(&rt, rt.alloc())?;
+    let opened = torn_image(&rt, rt.alloc(), &disk, 10, Torn::Keep)?;
+    assert_interrupted(&rt, &recovered(rt.alloc(), opened)?);
+    assert_retried(&rt, &recovered(rt.alloc(), reads(rt.alloc(), &disk)?)?);
+    Ok(())
 }
 
 /// Asserts that two scopes are cancelled, and a third is not.
@@ -144,7 +156,7 @@ fn assert_three(rt: &impl Abort, state: &State, count: u64) {
         (b"b", Seen::Canceled(b"disk")),
         (b"c", Seen::Live),
     ];
-    assert_eq!(rt; state.count(), count);
+    assert!(rt; state.count() == count);
     assert_scopes(rt, state, &scopes);
 }
 
@@ -153,8 +165,9 @@ fn records_behind_version_1_are_applied(rt: HostRuntime) -> Result<(), Fault> {
     let rows = [(0, CANCELED.as_slice()), (1_048_576, DERIVED)];
     assert_three(&rt, &stored(&rt, rt.alloc(), &rows)?, 5);
     let bytes = small_disk(&rt, rt.alloc(), &rows)?;
-    let book = opened(rt.alloc(), MemoryDisk::from_bytes(rt.alloc(), bytes)?)?;
-    assert_three(&rt, book.state(), 6);
+    let disk = MemoryDisk::from_bytes(rt.alloc(), bytes)?;
+    let disk = played_on(&rt, rt.alloc(), disk, &[])?;
+    assert_three(&rt, &recovered(rt.alloc(), reads(rt.alloc(), &disk)?)?, 6);
     Ok(())
 }
 
@@ -164,6 +177,6 @@ fn a_retry_behind_version_1_is_no_event(rt: HostRuntime) -> Result<(), Fault> {
     let bytes = small_disk(&rt, rt.alloc(), &rows)?;
     let disk = MemoryDisk::from_bytes(rt.alloc(), bytes)?;
     let (fault, disk) = unopened(rt.alloc(), disk).expect(&rt, "a fault");
-    assert_eq!(rt; (fault, disk.calls()), (Fault::BadEvent, 3));
+    assert!(rt; (fault, disk.calls()) == (Fault::BadEvent, 3));
     Ok(())
 }

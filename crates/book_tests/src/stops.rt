@@ -2,9 +2,10 @@
 //! with each kind of tearing.
 
 use crate::calls::Call::{Cause, Checkpoint, Flush};
-use crate::calls::{Call, Said, assert_said};
-use crate::disks::{TEARS, counted, formatted, opened, played, recovered, torn_image};
+use crate::calls::{Call, Said};
+use crate::disks::{TEARS, counted, formatted, played, played_on, recovered, torn_image};
 use crate::looks::{Seen, assert_scopes};
+use crate::nights::opens;
 use crate::six_events::{FIRST, SECOND};
 use run_disk::{MemoryDisk, Torn};
 use run_model::{Fault, Layout};
@@ -32,11 +33,6 @@ const SIX: Stored = (
     ],
 );
 
-/// Says whether a write of an open gate is left so by this kind of tearing.
-fn opens(torn: Torn) -> bool {
-    matches!(torn, Torn::Take | Torn::Fill(0xA7) | Torn::Front(1))
-}
-
 /// Asserts what a stop behind so many calls leaves, torn in this way.
 fn assert_left(
     rt: &impl Abort,
@@ -47,7 +43,7 @@ fn assert_left(
     stored: Stored,
 ) -> Result<(), Fault> {
     let state = recovered(alloc, torn_image(rt, alloc, disk, calls, torn)?)?;
-    assert_eq!(rt; state.count(), stored.0, "behind call {calls}, {torn:?}");
+    assert!(rt; state.count() == stored.0, "behind call {calls}, {torn:?}");
     assert_scopes(rt, &state, stored.1);
     Ok(())
 }
@@ -61,7 +57,7 @@ fn assert_stops(
     last: u64,
     after: Stored,
 ) -> Result<(), Fault> {
-    assert_eq!(rt; disk.calls(), last);
+    assert!(rt; disk.calls() == last);
     for calls in 24..=last {
         for torn in TEARS {
             let is_there = calls == last || (last.saturating_sub(calls) == 1 && opens(torn));
@@ -101,7 +97,7 @@ fn a_stop_of_a_save_of_a_large_store(rt: HostRuntime) -> Result<(), Fault> {
 /// calls of a checkpoint.
 fn opened_again(rt: &impl Abort, alloc: Global) -> Result<MemoryDisk, Fault> {
     let disk = played(rt, alloc, Layout::Small, &[&FIRST, &SECOND])?;
-    Ok(opened(alloc, disk)?.into_disk())
+    played_on(rt, alloc, disk, &[])
 }
 
 #[test]
@@ -118,13 +114,12 @@ fn assert_goes_on(
     count: u64,
     next: u16,
 ) -> Result<(), Fault> {
-    let mut book = opened(alloc, MemoryDisk::from_bytes(alloc, bytes)?)?;
     let rows = [
         (Flush, Said::Acked(count)),
         (Cause(b"e", b"root"), Said::Scope(next)),
         (Flush, Said::Acked(count.saturating_add(1))),
     ];
-    assert_said(rt, &mut book, &rows);
+    played_on(rt, alloc, MemoryDisk::from_bytes(alloc, bytes)?, &[&rows])?;
     Ok(())
 }
 
@@ -161,7 +156,7 @@ fn told(calls: u64, torn: Torn) -> Result<u64, Fault> {
 fn assert_told(rt: &impl Abort, alloc: Global, disk: &MemoryDisk, calls: u64) -> Result<(), Fault> {
     for torn in TEARS {
         let found = counted(alloc, torn_image(rt, alloc, disk, calls, torn)?);
-        assert_eq!(rt; found, told(calls, torn), "behind call {calls}, {torn:?}");
+        assert!(rt; found == told(calls, torn), "behind call {calls}, {torn:?}");
     }
     Ok(())
 }
