@@ -1,5 +1,6 @@
 //! Steps as tables write them, by bytes and numbers, and what each is answered.
 
+use crate::asserts::done;
 use run_book::Book;
 use run_disk::RunDisk;
 use run_model::{
@@ -240,30 +241,24 @@ pub fn meaning(reply: &Reply) -> Said<'_> {
 }
 
 /// The steps of tables, one behind the other.
-pub fn steps_of(
-    rt: &impl Abort,
-    alloc: Global,
-    lists: &[&[(Call, Said<'static>)]],
-) -> Result<Vec<Step>, Fault> {
+pub fn steps_of(rt: &impl Abort, alloc: Global, lists: &[&[(Call, Said<'static>)]]) -> Vec<Step> {
     let mut steps = Vec::new(alloc);
     for rows in lists.iter() {
-        add_steps(rt, &mut steps, rows)?;
+        add_steps(rt, &mut steps, rows);
     }
-    Ok(steps)
+    steps
+}
+
+/// Adds a step.
+pub fn add(rt: &impl Abort, steps: &mut Vec<Step>, step: Step) {
+    done(rt, steps.push(step), "memory");
 }
 
 /// Adds the steps of a table.
-pub fn add_steps(
-    rt: &impl Abort,
-    steps: &mut Vec<Step>,
-    rows: &[(Call, Said<'static>)],
-) -> Result<(), Fault> {
+pub fn add_steps(rt: &impl Abort, steps: &mut Vec<Step>, rows: &[(Call, Said<'static>)]) {
     for row in rows.iter() {
-        if steps.push(step(rt, row.0)).is_err() {
-            return Err(Fault::Memory);
-        }
+        add(rt, steps, step(rt, row.0));
     }
-    Ok(())
 }
 
 /// Asserts that there is one reply for each step of the tables, which says what stands there.

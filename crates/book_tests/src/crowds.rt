@@ -1,10 +1,11 @@
 //! As many tasks as a small store takes, in as many groups, over a heap without a byte to spare.
 
+use crate::asserts::given;
 use crate::calls::Call::{Checkpoint, Flush, Start};
-use crate::calls::{Call, Said, add_steps, meaning, name};
-use crate::disks::{counted_on, formatted, play_without_memory, reads, recovered};
+use crate::calls::{Call, Said, add, add_steps, meaning, name};
+use crate::disks::{formatted, now, play_without_memory, recovered};
 use run_book::State;
-use run_model::{Command, Fault, Layout, Limit, Name, Outcome, Phase, Refusal, Reply, Step};
+use run_model::{Command, Layout, Limit, Name, Outcome, Phase, Refusal, Reply, Step};
 use std::alloc::Global;
 use std::process::Abort;
 
@@ -14,51 +15,40 @@ fn numbered(rt: &impl Abort, n: u16) -> Name {
     name(rt, &[b'g', digit(n / 100), digit(n / 10), digit(n)])
 }
 
-/// Adds a step.
-fn add(steps: &mut Vec<Step>, step: Step) -> Result<(), Fault> {
-    match steps.push(step) {
-        Ok(()) => Ok(()),
-        Err(_) => Err(Fault::Memory),
-    }
-}
-
 /// Adds the steps that make 128 groups of limit 1: each is made, and then limited.
-fn add_groups(rt: &impl Abort, steps: &mut Vec<Step>) -> Result<(), Fault> {
+fn add_groups(rt: &impl Abort, steps: &mut Vec<Step>) {
     for n in 0..128 {
         let bare = Command::Bare {
             name: numbered(rt, n),
             scope: name(rt, b"root"),
         };
-        add(steps, Step::Command(bare))?;
+        add(rt, steps, Step::Command(bare));
         let limit = Command::SetLimit {
             group: numbered(rt, n),
-            limit: Limit::new(1).expect(rt, "a limit"),
+            limit: given(rt, Limit::new(1), "limit"),
         };
-        add(steps, Step::Command(limit))?;
+        add(rt, steps, Step::Command(limit));
     }
-    Ok(())
 }
 
 /// Adds the steps that submit 2,048 tasks, to the groups by turns.
-fn add_tasks(rt: &impl Abort, steps: &mut Vec<Step>) -> Result<(), Fault> {
+fn add_tasks(rt: &impl Abort, steps: &mut Vec<Step>) {
     for n in 0..2_048 {
         let go = Command::Go {
             group: numbered(rt, n % 128),
             job: name(rt, b"copy"),
             argument: name(rt, b"a"),
         };
-        add(steps, Step::Command(go))?;
+        add(rt, steps, Step::Command(go));
     }
-    Ok(())
 }
 
 /// Adds the steps that start and finish them all.
-fn add_work(steps: &mut Vec<Step>) -> Result<(), Fault> {
+fn add_work(rt: &impl Abort, steps: &mut Vec<Step>) {
     for n in 0..2_048 {
-        add(steps, Step::Start)?;
-        add(steps, Step::Finish(n, Outcome::Success))?;
+        add(rt, steps, Step::Start);
+        add(rt, steps, Step::Finish(n, Outcome::Success));
     }
-    Ok(())
 }
 
 const SUBMITTED: [(Call, Said<'static>); 1] = [(Flush, Said::Acked(2_305))];
@@ -70,14 +60,14 @@ const WORKED: [(Call, Said<'static>); 3] = [
 ];
 
 /// All those steps.
-fn crowd(rt: &impl Abort, alloc: Global) -> Result<Vec<Step>, Fault> {
+fn crowd(rt: &impl Abort, alloc: Global) -> Vec<Step> {
     let mut steps = Vec::new(alloc);
-    add_groups(rt, &mut steps)?;
-    add_tasks(rt, &mut steps)?;
-    add_steps(rt, &mut steps, &SUBMITTED)?;
-    add_work(&mut steps)?;
-    add_steps(rt, &mut steps, &WORKED)?;
-    Ok(steps)
+    add_groups(rt, &mut steps);
+    add_tasks(rt, &mut steps);
+    add_steps(rt, &mut steps, &SUBMITTED);
+    add_work(rt, &mut steps);
+    add_steps(rt, &mut steps, &WORKED);
+    steps
 }
 
 /// What step `n` is answered. The first task of each group is ready, and each that finishes lets
@@ -116,11 +106,13 @@ fn assert_worked(rt: &impl Abort, state: &State) {
 }
 
 #[test]
-fn a_book_of_2_048_tasks_takes_no_memory(rt: HostRuntime) -> Result<(), Fault> {
-    let steps = crowd(&rt, rt.alloc())?;
-    let disk = formatted(rt.alloc(), Layout::Small)?;
-    let (disk, replies) = play_without_memory(&rt, rt.alloc(), disk, &steps)?;
+fn a_book_of_2_048_tasks_takes_no_memory(rt: HostRuntime) {
+    let steps = crowd(&rt, rt.alloc());
+    let disk = formatted(&rt, rt.alloc(), Layout::Small);
+    let (disk, replies) = play_without_memory(&rt, rt.alloc(), disk, &steps);
     assert_crowd(&rt, &replies);
-    assert_worked(&rt, &recovered(rt.alloc(), reads(rt.alloc(), &disk)?)?);
-    Ok(())
+    assert_worked(
+        &rt,
+        &recovered(&rt, rt.alloc(), now(&rt, rt.alloc(), &disk)),
+    );
 }

@@ -1,8 +1,8 @@
 //! Damaged stores, each with the fault that tells it, or with what it stores still.
 
-use crate::disks::{counted, put, small_disk, unopened};
+use crate::asserts::given;
+use crate::disks::{counted, disk_of, put, small_disk, unopened};
 use crate::six_events::FIRST_BATCH;
-use run_disk::MemoryDisk;
 use run_model::Fault;
 use std::alloc::Global;
 use std::process::Abort;
@@ -17,7 +17,7 @@ type Puts = &'static [(usize, &'static [u8])];
 
 /// A small store of root alone behind its first opening, with a batch of events 2 to 4 and with
 /// images of this version; but for some bytes.
-fn damaged(rt: &impl Abort, alloc: Global, version: u8, damages: Puts) -> Result<Vec<u8>, Fault> {
+fn damaged(rt: &impl Abort, alloc: Global, version: u8, damages: Puts) -> Vec<u8> {
     let rows = [
         (0, OLDER.as_slice()),
         (13, &[version]),
@@ -26,11 +26,11 @@ fn damaged(rt: &impl Abort, alloc: Global, version: u8, damages: Puts) -> Result
         (524_317, b"\x01"),
         (1_310_720, FIRST_BATCH),
     ];
-    let mut bytes = small_disk(rt, alloc, &rows)?;
+    let mut bytes = small_disk(rt, alloc, &rows);
     for row in damages.iter() {
         put(rt, &mut bytes, row.0, row.1);
     }
-    Ok(bytes)
+    bytes
 }
 
 /// What is damaged, by these bytes, and the event count or the fault.
@@ -176,23 +176,21 @@ static IN_TWO_PLACES: [Damage; 5] = [
 ];
 
 /// Asserts what each damage is told as, behind images of this version.
-fn assert_told(rt: &impl Abort, alloc: Global, version: u8, rows: &[Damage]) -> Result<(), Fault> {
+fn assert_told(rt: &impl Abort, alloc: Global, version: u8, rows: &[Damage]) {
     for row in rows.iter() {
-        let found = counted(alloc, damaged(rt, alloc, version, row.1)?);
+        let found = counted(rt, alloc, damaged(rt, alloc, version, row.1));
         assert!(rt; found == row.2, "{} in version {version}", row.0);
     }
-    Ok(())
 }
 
 #[test]
-fn the_first_damage_is_told(rt: HostRuntime) -> Result<(), Fault> {
+fn the_first_damage_is_told(rt: HostRuntime) {
     for version in [1, 2] {
-        assert_told(&rt, rt.alloc(), version, &IN_SLOTS)?;
-        assert_told(&rt, rt.alloc(), version, &IN_IMAGES)?;
-        assert_told(&rt, rt.alloc(), version, &IN_SEGMENTS)?;
-        assert_told(&rt, rt.alloc(), version, &IN_TWO_PLACES)?;
+        assert_told(&rt, rt.alloc(), version, &IN_SLOTS);
+        assert_told(&rt, rt.alloc(), version, &IN_IMAGES);
+        assert_told(&rt, rt.alloc(), version, &IN_SEGMENTS);
+        assert_told(&rt, rt.alloc(), version, &IN_TWO_PLACES);
     }
-    Ok(())
 }
 
 /// What rows an image has, its version, how many scopes, groups and tasks, its length and the rows;
@@ -277,28 +275,27 @@ static IN_ROWS: [Rows; 10] = [
 const HELD: &[u8; 18] = b"\x01h\0\0\x01\0\0\0\0\0\x04copy\x01a\0";
 
 /// The same store without a batch, and with these rows in its newer image.
-fn with_rows(rt: &impl Abort, alloc: Global, row: &Rows) -> Result<Vec<u8>, Fault> {
+fn with_rows(rt: &impl Abort, alloc: Global, row: &Rows) -> Vec<u8> {
     let rows = [
         (0, OLDER.as_slice()),
         (13, b"\x02"),
         (524_288, NEWER),
         (524_317, b"\x01"),
     ];
-    let mut bytes = small_disk(rt, alloc, &rows)?;
-    let (counts, rows) = (row.2, row.4);
+    let (counts, rows_of_kind) = (row.2, row.4);
+    let mut bytes = small_disk(rt, alloc, &rows);
     put(rt, &mut bytes, 524_300, &[row.3, row.1]);
     put(rt, &mut bytes, 524_318, counts);
-    put(rt, &mut bytes, 524_324, rows);
-    Ok(bytes)
+    put(rt, &mut bytes, 524_324, rows_of_kind);
+    bytes
 }
 
 #[test]
-fn rows_against_the_rules_are_told(rt: HostRuntime) -> Result<(), Fault> {
+fn rows_against_the_rules_are_told(rt: HostRuntime) {
     for row in IN_ROWS.iter() {
-        let found = counted(rt.alloc(), with_rows(&rt, rt.alloc(), row)?);
+        let found = counted(&rt, rt.alloc(), with_rows(&rt, rt.alloc(), row));
         assert!(rt; found == row.5, "{}", row.0);
     }
-    Ok(())
 }
 
 /// Damages, each with the fault that an opening tells and the reads that it made. The read of the
@@ -311,23 +308,15 @@ static REFUSED: [(Puts, Fault, u64); 4] = [
 ];
 
 /// Asserts that a damaged store isn't opened, by this fault behind so many calls.
-fn assert_unopened(
-    rt: &impl Abort,
-    alloc: Global,
-    damages: Puts,
-    fault: Fault,
-    calls: u64,
-) -> Result<(), Fault> {
-    let disk = MemoryDisk::from_bytes(alloc, damaged(rt, alloc, 2, damages)?)?;
-    let (told, disk) = unopened(alloc, disk).expect(rt, "a fault");
+fn assert_unopened(rt: &impl Abort, alloc: Global, damages: Puts, fault: Fault, calls: u64) {
+    let disk = disk_of(rt, alloc, damaged(rt, alloc, 2, damages));
+    let (told, disk) = given(rt, unopened(alloc, disk), "fault");
     assert!(rt; (told, disk.calls()) == (fault, calls));
-    Ok(())
 }
 
 #[test]
-fn an_opening_of_a_damaged_store_only_reads(rt: HostRuntime) -> Result<(), Fault> {
+fn an_opening_of_a_damaged_store_only_reads(rt: HostRuntime) {
     for row in REFUSED.iter() {
-        assert_unopened(&rt, rt.alloc(), row.0, row.1, row.2)?;
+        assert_unopened(&rt, rt.alloc(), row.0, row.1, row.2);
     }
-    Ok(())
 }

@@ -1,5 +1,8 @@
 //! Disks in memory with a store on them, and what a book of them is.
 
+ghost use Rattle.std.specs.Prelude.{◌≡◌, ◌≤◌, [], length, vec_capacity};
+
+use crate::asserts::done;
 use crate::calls::{Call, Said, assert_replies, steps_of};
 use linked_list_allocator::LocalHeap;
 use run_book::{Book, State};
@@ -18,15 +21,21 @@ pub const TEARS: [Torn; 6] = [
     Torn::Front(1),
 ];
 
+/// A disk with these bytes, at rest.
+pub fn disk_of(rt: &impl Abort, alloc: Global, bytes: Vec<u8>) -> MemoryDisk {
+    done(rt, MemoryDisk::from_bytes(alloc, bytes), "memory")
+}
+
 /// A disk of a layout's size, formatted by eight calls.
-pub fn formatted(alloc: Global, layout: Layout) -> Result<MemoryDisk, Fault> {
-    let disk = match layout {
-        Layout::Small => MemoryDisk::new(alloc, 1_572_864)?,
-        Layout::Large => MemoryDisk::new(alloc, 6_291_456)?,
-    };
+pub fn formatted(rt: &impl Abort, alloc: Global, layout: Layout) -> MemoryDisk {
+    let disk = done(
+        rt,
+        MemoryDisk::new(alloc, layout.store_len() as usize),
+        "memory",
+    );
     match Book::format(disk) {
-        Ok(disk) => Ok(disk),
-        Err((fault, _)) => Err(fault),
+        Ok(disk) => disk,
+        Err(_) => panic!(rt; "no format"),
     }
 }
 
@@ -41,23 +50,42 @@ pub fn opened<D: RunDisk + Drop, A: Allocator + Copy>(
     }
 }
 
+/// A book over a disk that holds a store.
+fn book_of<D: RunDisk + Drop, A: Allocator + Copy>(
+    rt: &impl Abort,
+    alloc: A,
+    disk: D,
+) -> Book<D, A> {
+    done(rt, opened(alloc, disk), "book")
+}
+
 /// A book over a formatted disk, opened by ten calls.
-pub fn fresh(alloc: Global, layout: Layout) -> Result<Book<MemoryDisk>, Fault> {
-    opened(alloc, formatted(alloc, layout)?)
+pub fn fresh(rt: &impl Abort, alloc: Global, layout: Layout) -> Book<MemoryDisk> {
+    book_of(rt, alloc, formatted(rt, alloc, layout))
+}
+
+/// Room for a reply to each step.
+pub fn room(rt: &impl Abort, alloc: Global, steps: &[Step]) -> Vec<Reply>
+    ensures room { length steps.now ≤ vec_capacity result }
+    ensures empty { result.items ≡ [] }
+{
+    match Vec::with_capacity(alloc, steps.len()) {
+        Ok(replies) => replies,
+        Err(_) => panic!(rt; "no memory"),
+    }
 }
 
 /// Opens a disk and plays steps, and gives the disk back, and a reply for each.
 pub fn play<D: RunDisk + Drop>(
+    rt: &impl Abort,
     alloc: Global,
     disk: D,
     steps: &[Step],
-) -> Result<(D, Vec<Reply>), Fault> {
-    let Ok(mut replies) = Vec::with_capacity(alloc, steps.len()) else {
-        return Err(Fault::Memory);
-    };
-    let mut book = opened(alloc, disk)?;
+) -> (D, Vec<Reply>) {
+    let mut replies = room(rt, alloc, steps);
+    let mut book = book_of(rt, alloc, disk);
     book.play(steps, &mut replies);
-    Ok((book.into_disk(), replies))
+    (book.into_disk(), replies)
 }
 
 /// Opens a disk and plays lists of steps, each with its answer, and gives the disk back.
@@ -66,11 +94,11 @@ pub fn played_on<D: RunDisk + Drop>(
     alloc: Global,
     disk: D,
     lists: &[&[(Call, Said<'static>)]],
-) -> Result<D, Fault> {
-    let steps = steps_of(rt, alloc, lists)?;
-    let (disk, replies) = play(alloc, disk, &steps)?;
+) -> D {
+    let steps = steps_of(rt, alloc, lists);
+    let (disk, replies) = play(rt, alloc, disk, &steps);
     assert_replies(rt, &replies, lists);
-    Ok(disk)
+    disk
 }
 
 /// The disk of a book that was just opened over a new store, behind lists of steps, each with its
@@ -80,39 +108,42 @@ pub fn played(
     alloc: Global,
     layout: Layout,
     lists: &[&[(Call, Said<'static>)]],
-) -> Result<MemoryDisk, Fault> {
-    played_on(rt, alloc, formatted(alloc, layout)?, lists)
+) -> MemoryDisk {
+    played_on(rt, alloc, formatted(rt, alloc, layout), lists)
 }
 
 /// A heap of so many bytes.
-pub fn heap(alloc: Global, bytes: usize) -> Result<LocalHeap, Fault> {
-    match LocalHeap::new(alloc, bytes) {
-        Ok(heap) => Ok(heap),
-        Err(_) => Err(Fault::Memory),
-    }
+pub fn heap(rt: &impl Abort, alloc: Global, bytes: usize) -> LocalHeap {
+    done(rt, LocalHeap::new(alloc, bytes), "memory")
 }
 
 /// More bytes than any book takes while it is opened.
 pub const AMPLE: usize = 16_000_000;
 
-/// Opens a disk over a heap, takes what is left of the heap, and plays steps. Gives the disk back,
-/// a reply for each step, and how many bytes the heap had for them.
-pub fn play_within(
+/// What is left of a heap.
+fn rest_of<'h>(rt: &impl Abort, heap: &'h LocalHeap) -> Vec<u8, &'h LocalHeap> {
+    done(
+        rt,
+        Vec::<u8, &LocalHeap>::with_capacity(heap, heap.free()),
+        "rest",
+    )
+}
+
+/// Opens a disk over a heap, and plays steps while no byte of memory can be had. Gives the disk
+/// back, and a reply for each step.
+fn play_within(
+    rt: &impl Abort,
     alloc: Global,
     heap: &LocalHeap,
     disk: MemoryDisk,
     steps: &[Step],
-) -> Result<(MemoryDisk, Vec<Reply>, usize), Fault> {
-    let Ok(mut replies) = Vec::with_capacity(alloc, steps.len()) else {
-        return Err(Fault::Memory);
-    };
-    let mut book = opened(heap, disk)?;
-    let Ok(_rest) = Vec::<u8, &LocalHeap>::with_capacity(heap, heap.free()) else {
-        return Err(Fault::Memory);
-    };
-    let free = heap.free();
+) -> (MemoryDisk, Vec<Reply>) {
+    let mut replies = room(rt, alloc, steps);
+    let mut book = book_of(rt, heap, disk);
+    let _rest = rest_of(rt, heap);
+    assert!(rt; heap.free() == 0);
     book.play(steps, &mut replies);
-    Ok((book.into_disk(), replies, free))
+    (book.into_disk(), replies)
 }
 
 /// Opens a disk, and plays steps while no byte of memory can be had. Gives the disk back, and a
@@ -122,11 +153,9 @@ pub fn play_without_memory(
     alloc: Global,
     disk: MemoryDisk,
     steps: &[Step],
-) -> Result<(MemoryDisk, Vec<Reply>), Fault> {
-    let heap = heap(alloc, AMPLE)?;
-    let (disk, replies, free) = play_within(alloc, &heap, disk, steps)?;
-    assert!(rt; free == 0);
-    Ok((disk, replies))
+) -> (MemoryDisk, Vec<Reply>) {
+    let heap = heap(rt, alloc, AMPLE);
+    play_within(rt, alloc, &heap, disk, steps)
 }
 
 /// How many events there are in what a disk stores.
@@ -136,14 +165,14 @@ pub fn counted_on<D: RunDisk>(alloc: Global, disk: &mut D) -> Result<u64, Fault>
 }
 
 /// What a disk with these bytes stores.
-pub fn recovered(alloc: Global, bytes: Vec<u8>) -> Result<State, Fault> {
-    let mut disk = MemoryDisk::from_bytes(alloc, bytes)?;
-    Book::recover(alloc, &mut disk)
+pub fn recovered(rt: &impl Abort, alloc: Global, bytes: Vec<u8>) -> State {
+    let mut disk = disk_of(rt, alloc, bytes);
+    done(rt, Book::recover(alloc, &mut disk), "store")
 }
 
 /// How many events there are in what a disk with these bytes stores.
-pub fn counted(alloc: Global, bytes: Vec<u8>) -> Result<u64, Fault> {
-    let mut disk = MemoryDisk::from_bytes(alloc, bytes)?;
+pub fn counted(rt: &impl Abort, alloc: Global, bytes: Vec<u8>) -> Result<u64, Fault> {
+    let mut disk = disk_of(rt, alloc, bytes);
     counted_on(alloc, &mut disk)
 }
 
@@ -154,24 +183,18 @@ pub fn torn_image(
     disk: &MemoryDisk,
     calls: u64,
     torn: Torn,
-) -> Result<Vec<u8>, Fault> {
+) -> Vec<u8> {
     assert!(rt; calls <= disk.calls());
-    disk.image(alloc, calls, torn)
+    done(rt, disk.image(alloc, calls, torn), "memory")
 }
 
 /// A disk of a small store's size with zeros, but for these bytes from their places on.
-pub fn small_disk(
-    rt: &impl Abort,
-    alloc: Global,
-    rows: &[(usize, &[u8])],
-) -> Result<Vec<u8>, Fault> {
-    let Ok(mut bytes) = vec![in alloc; 0u8; 1_572_864] else {
-        return Err(Fault::Memory);
-    };
+pub fn small_disk(rt: &impl Abort, alloc: Global, rows: &[(usize, &[u8])]) -> Vec<u8> {
+    let mut bytes = done(rt, vec![in alloc; 0u8; 1_572_864], "memory");
     for row in rows.iter() {
         put(rt, &mut bytes, row.0, row.1);
     }
-    Ok(bytes)
+    bytes
 }
 
 /// Why a disk isn't formatted, and the disk as it is handed back.
@@ -193,6 +216,11 @@ pub fn unopened<A: Allocator + Copy>(alloc: A, disk: MemoryDisk) -> Option<(Faul
 /// What reads of a disk give.
 pub fn reads(alloc: Global, disk: &MemoryDisk) -> Result<Vec<u8>, Fault> {
     disk.image(alloc, disk.calls(), Torn::Keep)
+}
+
+/// What reads of a disk give, where they must.
+pub fn now(rt: &impl Abort, alloc: Global, disk: &MemoryDisk) -> Vec<u8> {
+    done(rt, reads(alloc, disk), "memory")
 }
 
 /// Puts bytes in place of those from a place on.

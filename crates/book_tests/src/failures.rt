@@ -1,11 +1,14 @@
 //! Devices that fail in one call, or from one call on: what each step is answered then, and what is
 //! left.
 
+use crate::asserts::done;
 use crate::calls::Call::{
     Cancel, Cause, Checkpoint, Flush, Go, Group, Retry, Start, Succeed, Wait,
 };
 use crate::calls::{Call, Said, assert_replies, meaning, steps_of};
-use crate::disks::{TEARS, counted, counted_on, formatted, opened, played_on, torn_image};
+use crate::disks::{
+    TEARS, counted, counted_on, disk_of, formatted, opened, played_on, room, small_disk, torn_image,
+};
 use crate::nights::{NIGHT, left};
 use crate::six_events::{FIRST, SECOND};
 use run_book::Book;
@@ -23,48 +26,58 @@ type Back<D> = (D, Option<Fault>, Vec<Reply>);
 
 /// Opens a disk, plays steps where it is opened, and gives it back.
 fn play_or_fail<D: RunDisk + Drop>(
+    rt: &impl Abort,
     alloc: Global,
     disk: D,
     steps: &[Step],
-) -> Result<Back<D>, Fault> {
-    let Ok(mut replies) = Vec::with_capacity(alloc, steps.len()) else {
-        return Err(Fault::Memory);
-    };
+) -> Back<D> {
+    let mut replies = room(rt, alloc, steps);
     match Book::open(alloc, disk) {
         Ok(mut book) => {
             book.play(steps, &mut replies);
-            Ok((book.into_disk(), None, replies))
+            (book.into_disk(), None, replies)
         }
-        Err((fault, disk)) => Ok((disk, Some(fault), replies)),
+        Err((fault, disk)) => (disk, Some(fault), replies),
     }
 }
 
 /// Plays steps over a new store, one of whose calls fails.
-fn play_over_failure(alloc: Global, steps: &[Step], call: u64) -> Result<Back<MemoryDisk>, Fault> {
-    let disk = FailOnce::new(formatted(alloc, Layout::Small)?, call);
-    let (disk, fault, replies) = play_or_fail(alloc, disk, steps)?;
-    Ok((disk.into_inner(), fault, replies))
+fn play_over_failure(
+    rt: &impl Abort,
+    alloc: Global,
+    steps: &[Step],
+    call: u64,
+) -> Back<MemoryDisk> {
+    let disk = FailOnce::new(formatted(rt, alloc, Layout::Small), call);
+    let (disk, fault, replies) = play_or_fail(rt, alloc, disk, steps);
+    (disk.into_inner(), fault, replies)
 }
 
 /// Plays steps over a new store, each of whose calls fails from this one on.
-fn play_over_fuse(alloc: Global, steps: &[Step], call: u64) -> Result<Back<MemoryDisk>, Fault> {
-    let disk = Fuse::new(formatted(alloc, Layout::Small)?, call.saturating_sub(1));
-    let (disk, fault, replies) = play_or_fail(alloc, disk, steps)?;
-    Ok((disk.into_inner(), fault, replies))
+fn play_over_fuse(rt: &impl Abort, alloc: Global, steps: &[Step], call: u64) -> Back<MemoryDisk> {
+    let disk = Fuse::new(formatted(rt, alloc, Layout::Small), call.saturating_sub(1));
+    let (disk, fault, replies) = play_or_fail(rt, alloc, disk, steps);
+    (disk.into_inner(), fault, replies)
 }
 
-/// The calls of the opening, and of each step that makes some: the last one, and the step.
-const SAVES: [(u64, usize); 5] = [(10, 0), (16, 3), (22, 6), (29, 9), (35, 11)];
+/// The last call of the opening, and of each step of the night that makes some, with the step.
+static SAVES: [(u64, Option<usize>); 5] = [
+    (10, None),
+    (16, Some(3)),
+    (22, Some(6)),
+    (29, Some(9)),
+    (35, Some(11)),
+];
 
 /// The step of the night in which this call lies, if it isn't in the opening.
 fn step_of(call: u64) -> Option<usize> {
     let mut step = None;
     for row in SAVES.iter().rev() {
         if call <= row.0 {
-            step = Some(row.1);
+            step = row.1;
         }
     }
-    if call <= 10 { None } else { step }
+    step
 }
 
 /// Asserts that the step at this place failed, and that all behind it are refused.
@@ -87,61 +100,54 @@ fn assert_broken(rt: &impl Abort, replies: &[Reply], failing: usize, call: u64) 
 
 /// Asserts what a disk that was handed back stores, torn in each way: the call that failed changed
 /// nothing.
-fn assert_kept(rt: &impl Abort, alloc: Global, disk: &MemoryDisk, call: u64) -> Result<(), Fault> {
+fn assert_kept(rt: &impl Abort, alloc: Global, disk: &MemoryDisk, call: u64) {
     let before = call.saturating_sub(1);
     for torn in TEARS {
         let calls = before.saturating_add(8);
-        let found = counted(alloc, torn_image(rt, alloc, disk, calls, torn)?);
+        let found = counted(rt, alloc, torn_image(rt, alloc, disk, calls, torn));
         assert!(rt;
             found == Ok(left(before, torn)),
             "where call {call} fails, {torn:?}"
         );
     }
-    Ok(())
 }
 
-/// Asserts what the night is answered where this call fails.
-fn assert_fails(rt: &impl Abort, back: &Back<MemoryDisk>, call: u64) {
+/// Asserts what the night is answered where this call fails, and what is left then.
+fn assert_fails(rt: &impl Abort, alloc: Global, back: &Back<MemoryDisk>, call: u64) {
     match step_of(call) {
-        Some(step) => {
-            assert!(rt; back.1.is_none(), "where call {call} fails");
-            assert_broken(rt, &back.2, step, call);
-        }
-        None => {
-            assert!(rt;
-                back.1 == Some(Fault::DiskFailed),
-                "where call {call} fails"
-            );
-            assert!(rt; back.2.is_empty());
-        }
+        Some(step) => assert_broken(rt, &back.2, step, call),
+        None => assert!(rt; back.2.is_empty()),
     }
+    let fault = if call <= 10 {
+        Some(Fault::DiskFailed)
+    } else {
+        None
+    };
     // A format's eight calls, and those before the one that failed: no call comes behind it.
+    let wanted = (fault, call.saturating_add(7));
     assert!(rt;
-        back.0.calls() == call.saturating_add(7),
+        (back.1, back.0.calls()) == wanted,
         "where call {call} fails"
     );
+    assert_kept(rt, alloc, &back.0, call);
 }
 
 #[test]
-fn a_call_that_fails_breaks_the_book(rt: HostRuntime) -> Result<(), Fault> {
-    let steps = steps_of(&rt, rt.alloc(), &[&NIGHT])?;
+fn a_call_that_fails_breaks_the_book(rt: HostRuntime) {
+    let steps = steps_of(&rt, rt.alloc(), &[&NIGHT]);
     for call in 1..36 {
-        let back = play_over_failure(rt.alloc(), &steps, call)?;
-        assert_fails(&rt, &back, call);
-        assert_kept(&rt, rt.alloc(), &back.0, call)?;
+        let back = play_over_failure(&rt, rt.alloc(), &steps, call);
+        assert_fails(&rt, rt.alloc(), &back, call);
     }
-    Ok(())
 }
 
 #[test]
-fn a_device_that_fails_for_good_breaks_the_book(rt: HostRuntime) -> Result<(), Fault> {
-    let steps = steps_of(&rt, rt.alloc(), &[&NIGHT])?;
+fn a_device_that_fails_for_good_breaks_the_book(rt: HostRuntime) {
+    let steps = steps_of(&rt, rt.alloc(), &[&NIGHT]);
     for call in 1..36 {
-        let back = play_over_fuse(rt.alloc(), &steps, call)?;
-        assert_fails(&rt, &back, call);
-        assert_kept(&rt, rt.alloc(), &back.0, call)?;
+        let back = play_over_fuse(&rt, rt.alloc(), &steps, call);
+        assert_fails(&rt, rt.alloc(), &back, call);
     }
-    Ok(())
 }
 
 /// A flush that fails, then each kind of step, and some that would be refused by a sound book too.
@@ -168,90 +174,109 @@ type Answers = (bool, u64, u64, usize, usize);
 
 /// Plays steps over a disk, and asks the book.
 fn asked(
+    rt: &impl Abort,
     alloc: Global,
     disk: FailOnce<MemoryDisk>,
     steps: &[Step],
-) -> Result<(Answers, Vec<Reply>), Fault> {
-    let Ok(mut replies) = Vec::with_capacity(alloc, steps.len()) else {
-        return Err(Fault::Memory);
-    };
-    let mut book = opened(alloc, disk)?;
+) -> (Answers, Vec<Reply>) {
+    let mut replies = room(rt, alloc, steps);
+    let mut book = done(rt, opened(alloc, disk), "book");
     book.play(steps, &mut replies);
-    let (count, scopes) = (book.state().count(), book.state().scope_count());
+    (answers(&book), replies)
+}
+
+fn answers(book: &Book<FailOnce<MemoryDisk>>) -> Answers {
+    let state = book.state();
     let bytes = book.history().rest().len();
-    Ok((
-        (book.is_broken(), count, book.durable(), scopes, bytes),
-        replies,
-    ))
+    (
+        book.is_broken(),
+        state.count(),
+        book.durable(),
+        state.scope_count(),
+        bytes,
+    )
+}
+
+/// Asserts what steps are answered where this call fails, and then the questions.
+fn assert_asked(
+    rt: &impl Abort,
+    alloc: Global,
+    lists: &[&[(Call, Said<'static>)]],
+    call: u64,
+    wanted: Answers,
+) {
+    let steps = steps_of(rt, alloc, lists);
+    let disk = FailOnce::new(formatted(rt, alloc, Layout::Small), call);
+    let (answers, replies) = asked(rt, alloc, disk, &steps);
+    assert_replies(rt, &replies, lists);
+    assert!(rt; answers == wanted);
 }
 
 #[test]
-fn a_broken_book_answers_questions_alone(rt: HostRuntime) -> Result<(), Fault> {
+fn a_broken_book_answers_questions_alone(rt: HostRuntime) {
     let lists = [FIRST.as_slice(), &SECOND, &REFUSED];
-    let steps = steps_of(&rt, rt.alloc(), &lists)?;
-    let disk = FailOnce::new(formatted(rt.alloc(), Layout::Small)?, 20);
-    let (answers, replies) = asked(rt.alloc(), disk, &steps)?;
-    assert_replies(&rt, &replies, &lists);
     // Records of 26 bytes, of 16 and of 8.
-    assert!(rt; answers == (true, 7, 4, 6, 50));
-    Ok(())
+    assert_asked(&rt, rt.alloc(), &lists, 20, (true, 7, 4, 6, 50));
 }
 
 /// Why a disk isn't formatted whose calls fail behind so many, and the calls that it made.
-fn unformatted(alloc: Global, calls: u64) -> Result<(Option<Fault>, u64), Fault> {
-    let disk = Fuse::new(MemoryDisk::new(alloc, 1_572_864)?, calls);
+fn unformatted(rt: &impl Abort, alloc: Global, calls: u64) -> (Option<Fault>, u64) {
+    let disk = Fuse::new(disk_of_zeros(rt, alloc), calls);
     match Book::format(disk) {
-        Ok(disk) => Ok((None, disk.into_inner().calls())),
-        Err((fault, disk)) => Ok((Some(fault), disk.into_inner().calls())),
+        Ok(disk) => (None, disk.into_inner().calls()),
+        Err((fault, disk)) => (Some(fault), disk.into_inner().calls()),
     }
 }
 
+fn disk_of_zeros(rt: &impl Abort, alloc: Global) -> MemoryDisk {
+    disk_of(rt, alloc, small_disk(rt, alloc, &[]))
+}
+
 #[test]
-fn a_format_that_fails_hands_the_disk_back(rt: HostRuntime) -> Result<(), Fault> {
+fn a_format_that_fails_hands_the_disk_back(rt: HostRuntime) {
     for calls in 0..9 {
         let fault = if calls < 8 {
             Some(Fault::DiskFailed)
         } else {
             None
         };
-        let found = unformatted(rt.alloc(), calls)?;
+        let found = unformatted(&rt, rt.alloc(), calls);
         assert!(rt; found == (fault, calls), "behind call {calls}");
     }
-    Ok(())
 }
 
 /// How many events are recovered of a new store, one of whose calls fails, and again behind it.
 fn recovered_twice(
+    rt: &impl Abort,
     alloc: Global,
     call: u64,
-) -> Result<(Result<u64, Fault>, Result<u64, Fault>), Fault> {
-    let mut disk = FailOnce::new(formatted(alloc, Layout::Small)?, call);
+) -> (Result<u64, Fault>, Result<u64, Fault>) {
+    let mut disk = FailOnce::new(formatted(rt, alloc, Layout::Small), call);
     let first = counted_on(alloc, &mut disk);
-    Ok((first, counted_on(alloc, &mut disk)))
+    (first, counted_on(alloc, &mut disk))
 }
 
 #[test]
-fn a_recovery_that_fails_tells_so(rt: HostRuntime) -> Result<(), Fault> {
+fn a_recovery_that_fails_tells_so(rt: HostRuntime) {
     for call in 1..4 {
-        let found = recovered_twice(rt.alloc(), call)?;
+        let found = recovered_twice(&rt, rt.alloc(), call);
         assert!(rt;
             found == (Err(Fault::DiskFailed), Ok(0)),
             "where call {call} fails"
         );
     }
-    Ok(())
 }
 
+/// Behind a second flush that failed event 4 is durable, and events 5 and 6 are lost.
+const BEHIND: [(Call, Said<'static>); 3] = [
+    (Flush, Said::Acked(5)),
+    (Cause(b"c", b"root"), Said::Scope(3)),
+    (Flush, Said::Acked(6)),
+];
+
 #[test]
-fn a_store_goes_on_behind_a_failure(rt: HostRuntime) -> Result<(), Fault> {
-    let steps = steps_of(&rt, rt.alloc(), &[&NIGHT])?;
-    // Event 4 is durable, and events 5 and 6 are lost with the flush that failed.
-    let (disk, _, _) = play_over_failure(rt.alloc(), &steps, 19)?;
-    let rows = [
-        (Flush, Said::Acked(5)),
-        (Cause(b"c", b"root"), Said::Scope(3)),
-        (Flush, Said::Acked(6)),
-    ];
-    played_on(&rt, rt.alloc(), disk, &[&rows])?;
-    Ok(())
+fn a_store_goes_on_behind_a_failure(rt: HostRuntime) {
+    let steps = steps_of(&rt, rt.alloc(), &[&NIGHT]);
+    let back = play_over_failure(&rt, rt.alloc(), &steps, 19);
+    played_on(&rt, rt.alloc(), back.0, &[&BEHIND]);
 }

@@ -3,6 +3,8 @@
 #![tactic(auto)]
 
 #[cfg(test)]
+mod asserts;
+#[cfg(test)]
 mod books;
 #[cfg(test)]
 mod bytes;
@@ -22,6 +24,8 @@ mod looks;
 mod nights;
 #[cfg(test)]
 mod numbers;
+#[cfg(test)]
+mod restarts;
 #[cfg(test)]
 mod rooms;
 #[cfg(test)]

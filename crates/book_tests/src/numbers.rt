@@ -1,8 +1,9 @@
 //! Stores whose numbers are spent, or nearly so: events and generations.
 
+use crate::asserts::given;
 use crate::calls::Call::{Checkpoint, Flush, Plain};
-use crate::calls::Said;
-use crate::disks::{counted, counted_on, played_on, small_disk, unopened};
+use crate::calls::{Call, Said};
+use crate::disks::{counted_on, disk_of, played_on, small_disk, unopened};
 use run_disk::MemoryDisk;
 use run_model::Fault;
 use std::alloc::Global;
@@ -40,57 +41,62 @@ static SPENT: [Spent; 4] = [
 ];
 
 /// Asserts that a store is recovered, and that an opening of it only reads.
-fn assert_spent(rt: &impl Abort, alloc: Global, row: &Spent) -> Result<(), Fault> {
-    let bytes = small_disk(rt, alloc, &[(row.1, row.2), (1_048_576, row.3)])?;
-    let mut disk = MemoryDisk::from_bytes(alloc, bytes)?;
+fn assert_spent(rt: &impl Abort, alloc: Global, row: &Spent) {
+    let bytes = small_disk(rt, alloc, &[(row.1, row.2), (1_048_576, row.3)]);
+    let mut disk = disk_of(rt, alloc, bytes);
     let found = counted_on(alloc, &mut disk);
     assert!(rt; found == Ok(row.4), "{}", row.0);
-    let (fault, disk) = unopened(alloc, disk).expect(rt, "a fault");
+    let (fault, disk) = given(rt, unopened(alloc, disk), "fault");
     assert!(rt;
         (fault, disk.calls()) == (Fault::NumbersSpent, 6),
         "{}",
         row.0
     );
-    Ok(())
 }
 
 #[test]
-fn a_store_of_spent_numbers_is_only_read(rt: HostRuntime) -> Result<(), Fault> {
+fn a_store_of_spent_numbers_is_only_read(rt: HostRuntime) {
     for row in SPENT.iter() {
-        assert_spent(&rt, rt.alloc(), row)?;
+        assert_spent(&rt, rt.alloc(), row);
     }
-    Ok(())
 }
 
-#[test]
-fn the_last_count_is_opened(rt: HostRuntime) -> Result<(), Fault> {
-    let bytes = small_disk(&rt, rt.alloc(), &[(0, ONE_LESS.as_slice())])?;
-    let rows = [
-        (Flush, Said::Acked(1 << 62)),
-        (Plain(b"a", b"root"), Said::Scope(1)),
-        (Flush, Said::Acked((1 << 62) + 1)),
-    ];
-    let disk = MemoryDisk::from_bytes(rt.alloc(), bytes)?;
-    let disk = played_on(&rt, rt.alloc(), disk, &[&rows])?;
-    let told = unopened(rt.alloc(), disk).map(|back| back.0);
-    assert!(rt; told == Some(Fault::NumbersSpent));
-    Ok(())
+/// The disk of a store with this slot 0, behind lists of steps, each with its answer.
+fn played_over(
+    rt: &impl Abort,
+    alloc: Global,
+    slot: &[u8],
+    lists: &[&[(Call, Said<'static>)]],
+) -> MemoryDisk {
+    let bytes = small_disk(rt, alloc, &[(0, slot)]);
+    played_on(rt, alloc, disk_of(rt, alloc, bytes), lists)
 }
 
+const TO_THE_LAST_COUNT: [(Call, Said<'static>); 3] = [
+    (Flush, Said::Acked(1 << 62)),
+    (Plain(b"a", b"root"), Said::Scope(1)),
+    (Flush, Said::Acked((1 << 62) + 1)),
+];
+
 #[test]
-fn a_checkpoint_of_the_last_generation_changes_nothing(rt: HostRuntime) -> Result<(), Fault> {
-    let bytes = small_disk(&rt, rt.alloc(), &[(0, BEFORE_LAST.as_slice())])?;
-    let rows = [
-        (Plain(b"a", b"root"), Said::Scope(1)),
-        (Checkpoint, Said::Faulty(Fault::NumbersSpent)),
-        (Plain(b"b", b"root"), Said::Scope(2)),
-        (Checkpoint, Said::Faulty(Fault::NumbersSpent)),
-        // A flush that fits still lasts.
-        (Flush, Said::Acked(3)),
-    ];
-    let disk = MemoryDisk::from_bytes(rt.alloc(), bytes)?;
-    let mut disk = played_on(&rt, rt.alloc(), disk, &[&rows])?;
+fn the_last_count_is_opened(rt: HostRuntime) {
+    let disk = played_over(&rt, rt.alloc(), ONE_LESS, &[&TO_THE_LAST_COUNT]);
+    let (fault, _) = given(&rt, unopened(rt.alloc(), disk), "fault");
+    assert!(rt; fault == Fault::NumbersSpent);
+}
+
+const IN_THE_LAST_GENERATION: [(Call, Said<'static>); 5] = [
+    (Plain(b"a", b"root"), Said::Scope(1)),
+    (Checkpoint, Said::Faulty(Fault::NumbersSpent)),
+    (Plain(b"b", b"root"), Said::Scope(2)),
+    (Checkpoint, Said::Faulty(Fault::NumbersSpent)),
+    // A flush that fits still lasts.
+    (Flush, Said::Acked(3)),
+];
+
+#[test]
+fn a_checkpoint_of_the_last_generation_changes_nothing(rt: HostRuntime) {
+    let mut disk = played_over(&rt, rt.alloc(), BEFORE_LAST, &[&IN_THE_LAST_GENERATION]);
     assert!(rt; disk.calls() == 16);
     assert!(rt; counted_on(rt.alloc(), &mut disk) == Ok(3));
-    Ok(())
 }

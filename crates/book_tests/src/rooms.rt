@@ -1,5 +1,6 @@
 //! Want of memory: all of it is taken before the first device call, and none later.
 
+use crate::asserts::{done, given};
 use crate::calls::Call::{Cancel, Cause, Checkpoint, Flush, Go, Group, Limit, Retry, Start, Wait};
 use crate::calls::{Call, Said, assert_replies, steps_of};
 use crate::disks::{AMPLE, formatted, heap, play_without_memory, unopened};
@@ -10,11 +11,11 @@ use std::alloc::Global;
 use std::process::Abort;
 
 /// How many bytes a state has in memory.
-fn bytes_of_state(alloc: Global, layout: Layout) -> Result<usize, Fault> {
-    let heap = heap(alloc, AMPLE)?;
-    let mut disk = formatted(alloc, layout)?;
-    let _state = Book::recover(&heap, &mut disk)?;
-    Ok(heap.used())
+fn bytes_of_state(rt: &impl Abort, alloc: Global, layout: Layout) -> usize {
+    let heap = heap(rt, alloc, AMPLE);
+    let mut disk = formatted(rt, alloc, layout);
+    let _state = done(rt, Book::recover(&heap, &mut disk), "store");
+    heap.used()
 }
 
 /// A layout, and what an opening takes behind the state: the log, the room of an image, both slots'
@@ -30,22 +31,17 @@ static BEHIND_STATE: [(Layout, [usize; 5]); 2] = [
     ),
 ];
 
-/// Asserts that neither a recovery nor an opening with so many bytes of memory makes a device call,
-/// and gives the disk back.
-fn refused(
-    rt: &impl Abort,
-    alloc: Global,
-    disk: MemoryDisk,
-    bytes: usize,
-) -> Result<MemoryDisk, Fault> {
-    let heap = heap(alloc, bytes)?;
-    let (fault, disk) = unopened(&heap, disk).expect(rt, "a fault");
+/// Asserts that an opening with so many bytes of memory is refused before any device call, and
+/// gives the disk back.
+fn refused(rt: &impl Abort, alloc: Global, disk: MemoryDisk, bytes: usize) -> MemoryDisk {
+    let heap = heap(rt, alloc, bytes);
+    let (fault, disk) = given(rt, unopened(&heap, disk), "fault");
     assert!(rt; fault == Fault::Memory, "with {bytes} bytes");
     assert!(rt; (disk.calls(), heap.used()) == (8, 0), "with {bytes} bytes");
-    Ok(disk)
+    disk
 }
 
-/// Asserts that an opening with a byte less than each sum of growths is refused, and gives the
+/// Asserts that an opening with a unit less than each sum of growths is refused, and gives the
 /// disk and the whole sum.
 fn refused_behind(
     rt: &impl Abort,
@@ -53,53 +49,41 @@ fn refused_behind(
     disk: MemoryDisk,
     state: usize,
     growths: &[usize],
-) -> Result<(MemoryDisk, usize), Fault> {
+) -> (MemoryDisk, usize) {
     let mut disk = disk;
     let mut sum = state;
     for growth in growths.iter() {
         sum = sum.saturating_add(*growth);
-        disk = refused(rt, alloc, disk, sum.saturating_sub(16))?;
+        disk = refused(rt, alloc, disk, sum.saturating_sub(16));
     }
-    Ok((disk, sum))
+    (disk, sum)
 }
 
 /// Asserts that an opening is refused with each multiple of 512 bytes that is too little for a
 /// state, and gives the disk back. No growth of a state is less.
-fn refused_within(
-    rt: &impl Abort,
-    alloc: Global,
-    disk: MemoryDisk,
-    state: usize,
-) -> Result<MemoryDisk, Fault> {
+fn refused_within(rt: &impl Abort, alloc: Global, disk: MemoryDisk, state: usize) -> MemoryDisk {
     let mut disk = disk;
     for part in 0..state / 512 {
-        disk = refused(rt, alloc, disk, part.saturating_mul(512))?;
+        disk = refused(rt, alloc, disk, part.saturating_mul(512));
     }
-    Ok(disk)
+    disk
 }
 
 /// Asserts that each growth of an opening can be refused, that it is before the first device call,
 /// and that there are no others.
-fn assert_growths(
-    rt: &impl Abort,
-    alloc: Global,
-    layout: Layout,
-    growths: &[usize],
-) -> Result<(), Fault> {
-    let state = bytes_of_state(alloc, layout)?;
-    let disk = refused_within(rt, alloc, formatted(alloc, layout)?, state)?;
-    let (disk, sum) = refused_behind(rt, alloc, disk, state, growths)?;
-    let heap = heap(alloc, sum)?;
+fn assert_growths(rt: &impl Abort, alloc: Global, layout: Layout, growths: &[usize]) {
+    let state = bytes_of_state(rt, alloc, layout);
+    let disk = refused_within(rt, alloc, formatted(rt, alloc, layout), state);
+    let (disk, sum) = refused_behind(rt, alloc, disk, state, growths);
+    let heap = heap(rt, alloc, sum);
     assert!(rt; unopened(&heap, disk).is_none(), "in {layout:?}");
-    Ok(())
 }
 
 #[test]
-fn a_refused_growth_comes_before_any_device_call(rt: HostRuntime) -> Result<(), Fault> {
+fn a_refused_growth_comes_before_any_device_call(rt: HostRuntime) {
     for row in BEHIND_STATE.iter() {
-        assert_growths(&rt, rt.alloc(), row.0, &row.1)?;
+        assert_growths(&rt, rt.alloc(), row.0, &row.1);
     }
-    Ok(())
 }
 
 /// Steps of each kind, each with its answer.
@@ -121,14 +105,16 @@ const ROWS: [(Call, Said<'static>); 15] = [
     (Flush, Said::Acked(10)),
 ];
 
+/// Asserts what those steps are answered without memory.
+fn assert_steps(rt: &impl Abort, alloc: Global, layout: Layout) {
+    let steps = steps_of(rt, alloc, &[&ROWS]);
+    let (disk, replies) = play_without_memory(rt, alloc, formatted(rt, alloc, layout), &steps);
+    assert_replies(rt, &replies, &[&ROWS]);
+    assert!(rt; disk.calls() == 37, "in {layout:?}");
+}
+
 #[test]
-fn no_step_takes_memory(rt: HostRuntime) -> Result<(), Fault> {
-    let steps = steps_of(&rt, rt.alloc(), &[&ROWS])?;
-    for layout in [Layout::Small, Layout::Large] {
-        let disk = formatted(rt.alloc(), layout)?;
-        let (disk, replies) = play_without_memory(&rt, rt.alloc(), disk, &steps)?;
-        assert_replies(&rt, &replies, &[&ROWS]);
-        assert!(rt; disk.calls() == 37, "in {layout:?}");
-    }
-    Ok(())
+fn no_step_takes_memory(rt: HostRuntime) {
+    assert_steps(&rt, rt.alloc(), Layout::Small);
+    assert_steps(&rt, rt.alloc(), Layout::Large);
 }

@@ -2,37 +2,36 @@
 
 use crate::calls::Call::{Advance, Bare, Checkpoint, Flush, Go, Group, Limit, Start, Wait};
 use crate::calls::{Call, Said, add_steps, assert_last};
-use crate::disks::{assert_bytes, counted_on, formatted, play, played_on, reads};
+use crate::disks::{At, assert_bytes, counted_on, formatted, now, play, played_on};
 use run_disk::MemoryDisk;
-use run_model::{Fault, Layout, Refusal, Step};
+use run_model::{Layout, Refusal, Step};
 use std::alloc::Global;
 use std::process::Abort;
 
 /// Adds so many advances of the clock, by one second each: 11 bytes each.
-fn add_advances(rt: &impl Abort, steps: &mut Vec<Step>, advances: u64) -> Result<(), Fault> {
+fn add_advances(rt: &impl Abort, steps: &mut Vec<Step>, advances: u64) {
     for before in 0..advances {
         add_steps(
             rt,
             steps,
             &[(Advance(before.saturating_add(1)), Said::Done)],
-        )?;
+        );
     }
-    Ok(())
 }
 
 /// A group, its limit set so many times, and so many advances: 7, 6 and 11 bytes each.
-fn pending(rt: &impl Abort, alloc: Global, limits: u64, advances: u64) -> Result<Vec<Step>, Fault> {
+fn pending(rt: &impl Abort, alloc: Global, limits: u64, advances: u64) -> Vec<Step> {
     let mut steps = Vec::new(alloc);
     add_steps(
         rt,
         &mut steps,
         &[(Group(b"g", b"root"), Said::Group(0, Some(1)))],
-    )?;
+    );
     for _ in 0..limits {
-        add_steps(rt, &mut steps, &[(Limit(b"g", Some(2)), Said::Done)])?;
+        add_steps(rt, &mut steps, &[(Limit(b"g", Some(2)), Said::Done)]);
     }
-    add_advances(rt, &mut steps, advances)?;
-    Ok(steps)
+    add_advances(rt, &mut steps, advances);
+    steps
 }
 
 /// Takes steps over a new store, and then those of a table, each with its answer, and gives the
@@ -43,12 +42,12 @@ fn played_behind(
     layout: Layout,
     steps: Vec<Step>,
     rows: &[(Call, Said<'static>)],
-) -> Result<MemoryDisk, Fault> {
+) -> MemoryDisk {
     let mut steps = steps;
-    add_steps(rt, &mut steps, rows)?;
-    let (disk, replies) = play(alloc, formatted(alloc, layout)?, &steps)?;
+    add_steps(rt, &mut steps, rows);
+    let (disk, replies) = play(rt, alloc, formatted(rt, alloc, layout), &steps);
     assert_last(rt, &replies, rows);
-    Ok(disk)
+    disk
 }
 
 /// A layout, how many limits and advances, the calls of the flush, and the number that it answers.
@@ -63,73 +62,76 @@ static FLUSHED: [Flushed; 4] = [
     (Layout::Large, 0, 95_324, 25, 95_326),
 ];
 
-fn assert_flushed(rt: &impl Abort, alloc: Global, row: Flushed) -> Result<(), Fault> {
+fn assert_flushed(rt: &impl Abort, alloc: Global, row: Flushed) {
     let (layout, limits, advances, calls, acked) = row;
-    let steps = pending(rt, alloc, limits, advances)?;
+    let steps = pending(rt, alloc, limits, advances);
     let rows = [(Flush, Said::Acked(acked))];
-    let mut disk = played_behind(rt, alloc, layout, steps, &rows)?;
+    let mut disk = played_behind(rt, alloc, layout, steps, &rows);
     assert!(rt; disk.calls() == calls, "behind {advances} advances");
-    assert!(rt; counted_on(alloc, &mut disk)? == acked);
-    Ok(())
+    assert!(rt;
+        counted_on(alloc, &mut disk) == Ok(acked),
+        "behind {advances} advances"
+    );
 }
 
 #[test]
-fn a_flush_fills_a_segment_or_is_a_checkpoint(rt: HostRuntime) -> Result<(), Fault> {
+fn a_flush_fills_a_segment_or_is_a_checkpoint(rt: HostRuntime) {
     for row in FLUSHED.iter() {
-        assert_flushed(&rt, rt.alloc(), *row)?;
+        assert_flushed(&rt, rt.alloc(), *row);
     }
-    Ok(())
 }
 
 /// Steps of 262,138 bytes, which are all that a small segment takes.
-fn filling(rt: &impl Abort, alloc: Global) -> Result<Vec<Step>, Fault> {
+fn filling(rt: &impl Abort, alloc: Global) -> Vec<Step> {
     pending(rt, alloc, 2, 23_829)
 }
 
-#[test]
-fn a_segment_is_filled_to_its_last_byte(rt: HostRuntime) -> Result<(), Fault> {
-    let rows = [(Flush, Said::Acked(23_833))];
-    let steps = filling(&rt, rt.alloc())?;
-    let disk = played_behind(&rt, rt.alloc(), Layout::Small, steps, &rows)?;
-    let rows = [
-        ("the gate", 1_310_720, b"\xa7\0\x03\xff\xfa".as_slice()),
-        ("the first record", 1_310_725, b"\x04\0\x04\x01g\0\0"),
-        (
-            "the last record",
-            1_572_852,
-            b"\x03\0\x08\0\0\0\0\0\0\x5d\x15",
-        ),
-        ("the next gate", 1_572_863, b"\0"),
-    ];
-    assert_bytes(&rt, &reads(rt.alloc(), &disk)?, &rows);
-    Ok(())
-}
+static FILLED: [At; 4] = [
+    ("the gate", 1_310_720, b"\xa7\0\x03\xff\xfa"),
+    ("the first record", 1_310_725, b"\x04\0\x04\x01g\0\0"),
+    (
+        "the last record",
+        1_572_852,
+        b"\x03\0\x08\0\0\0\0\0\0\x5d\x15",
+    ),
+    ("the next gate", 1_572_863, b"\0"),
+];
 
 #[test]
-fn a_flush_behind_a_full_segment_is_a_checkpoint(rt: HostRuntime) -> Result<(), Fault> {
-    let rows = [
-        (Flush, Said::Acked(23_833)),
-        (Flush, Said::Acked(23_833)),
-        (Limit(b"g", Some(3)), Said::Done),
-        (Flush, Said::Acked(23_834)),
-        (Limit(b"g", Some(4)), Said::Done),
-        (Flush, Said::Acked(23_835)),
-    ];
-    let steps = filling(&rt, rt.alloc())?;
-    let mut disk = played_behind(&rt, rt.alloc(), Layout::Small, steps, &rows)?;
-    // Behind the opening: a flush, a checkpoint, and a flush of six bytes into the other segment.
+fn a_segment_is_filled_to_its_last_byte(rt: HostRuntime) {
+    let steps = filling(&rt, rt.alloc());
+    let rows = [(Flush, Said::Acked(23_833))];
+    let disk = played_behind(&rt, rt.alloc(), Layout::Small, steps, &rows);
+    assert_bytes(&rt, &now(&rt, rt.alloc(), &disk), &FILLED);
+}
+
+/// Behind a full segment a flush of nothing, a checkpoint, and a flush of six bytes into the other
+/// segment.
+const BEHIND: [(Call, Said<'static>); 6] = [
+    (Flush, Said::Acked(23_833)),
+    (Flush, Said::Acked(23_833)),
+    (Limit(b"g", Some(3)), Said::Done),
+    (Flush, Said::Acked(23_834)),
+    (Limit(b"g", Some(4)), Said::Done),
+    (Flush, Said::Acked(23_835)),
+];
+
+static OTHER_SEGMENT: [At; 2] = [
+    ("slot 0", 0, b"\xa7\0\0\0\0\0\0\0\x02"),
+    (
+        "segment 0",
+        1_048_576,
+        b"\xa7\0\0\0\x06\x06\0\x03\0\0\x04\0",
+    ),
+];
+
+#[test]
+fn a_flush_behind_a_full_segment_is_a_checkpoint(rt: HostRuntime) {
+    let steps = filling(&rt, rt.alloc());
+    let mut disk = played_behind(&rt, rt.alloc(), Layout::Small, steps, &BEHIND);
     assert!(rt; disk.calls() == 37);
-    let rows = [
-        ("slot 0", 0, b"\xa7\0\0\0\0\0\0\0\x02".as_slice()),
-        (
-            "segment 0",
-            1_048_576,
-            b"\xa7\0\0\0\x06\x06\0\x03\0\0\x04\0",
-        ),
-    ];
-    assert_bytes(&rt, &reads(rt.alloc(), &disk)?, &rows);
-    assert!(rt; counted_on(rt.alloc(), &mut disk)? == 23_835);
-    Ok(())
+    assert_bytes(&rt, &now(&rt, rt.alloc(), &disk), &OTHER_SEGMENT);
+    assert!(rt; counted_on(rt.alloc(), &mut disk) == Ok(23_835));
 }
 
 /// The longest error.
@@ -166,28 +168,34 @@ const FULL: [(Call, Said<'static>); 9] = [
     (Flush, Said::Acked(95_326)),
 ];
 
-#[test]
-fn a_start_that_just_fits_is_accepted(rt: HostRuntime) -> Result<(), Fault> {
-    let mut steps = Vec::new(rt.alloc());
-    add_steps(&rt, &mut steps, &FRONT)?;
-    add_advances(&rt, &mut steps, 95_308)?;
-    let disk = played_behind(&rt, rt.alloc(), Layout::Small, steps, &FULL)?;
-    // The next opening begins with an empty log.
-    let rows = [(Start, Said::Started(95_328, 1, b"copy", b"b", true))];
-    played_on(&rt, rt.alloc(), disk, &[&rows])?;
-    Ok(())
+/// What fills the log so far.
+fn nearly_full(rt: &impl Abort, alloc: Global) -> Vec<Step> {
+    let mut steps = Vec::new(alloc);
+    add_steps(rt, &mut steps, &FRONT);
+    add_advances(rt, &mut steps, 95_308);
+    steps
 }
 
+/// The next opening begins with an empty log.
+const NEXT: [(Call, Said<'static>); 1] = [(Start, Said::Started(95_328, 1, b"copy", b"b", true))];
+
 #[test]
-fn a_start_that_is_a_byte_too_long_is_refused(rt: HostRuntime) -> Result<(), Fault> {
-    // 7 bytes, 5 limits of 6, 95,313 advances of 11, and a task of 12: 1,048,492.
-    let rows = [
-        (Go(b"g", b"copy", b"a"), Said::Ready(0)),
-        (Flush, Said::Acked(95_321)),
-        (Start, Said::Refused(Refusal::SessionFull)),
-        (Flush, Said::Acked(95_321)),
-    ];
-    let steps = pending(&rt, rt.alloc(), 5, 95_313)?;
-    played_behind(&rt, rt.alloc(), Layout::Large, steps, &rows)?;
-    Ok(())
+fn a_start_that_just_fits_is_accepted(rt: HostRuntime) {
+    let steps = nearly_full(&rt, rt.alloc());
+    let disk = played_behind(&rt, rt.alloc(), Layout::Small, steps, &FULL);
+    played_on(&rt, rt.alloc(), disk, &[&NEXT]);
+}
+
+/// Behind 7 bytes, 5 limits of 6 and 95,313 advances of 11 a task of 12 makes 1,048,492.
+const OVERFULL: [(Call, Said<'static>); 4] = [
+    (Go(b"g", b"copy", b"a"), Said::Ready(0)),
+    (Flush, Said::Acked(95_321)),
+    (Start, Said::Refused(Refusal::SessionFull)),
+    (Flush, Said::Acked(95_321)),
+];
+
+#[test]
+fn a_start_that_is_a_byte_too_long_is_refused(rt: HostRuntime) {
+    let steps = pending(&rt, rt.alloc(), 5, 95_313);
+    played_behind(&rt, rt.alloc(), Layout::Large, steps, &OVERFULL);
 }
