@@ -1,18 +1,18 @@
 //! Each call of a book, in both layouts, and a book that is opened again.
 
+use crate::asserts::{done, given};
 use crate::calls::Call::{
     Cancel, Cause, Checkpoint, Flush, Go, Group, Plain, Start, Succeed, Wait,
 };
-use crate::calls::{Call, Said, assert_said, meaning, step};
+use crate::calls::{Call, Said, assert_said};
 use crate::disks::{counted_on, formatted, fresh, opened, played, unformatted, unopened};
 use crate::looks::{Seen, assert_group, assert_scopes, assert_tasks};
 use record_view::EventView;
 use run_book::Book;
 use run_disk::MemoryDisk;
-use run_model::{Fault, Layout, Phase, Refusal, Reply, Step};
+use run_model::{Fault, Layout, Phase, Refusal};
 use std::alloc::Global;
 use std::process::Abort;
-use std::test::Fail;
 
 /// Steps, each with its answer.
 const ROWS: [(Call, Said<'static>); 16] = [
@@ -37,7 +37,7 @@ const ROWS: [(Call, Said<'static>); 16] = [
 /// Asserts that a book is as those steps leave it, or as it is opened behind them.
 fn assert_left(rt: &impl Abort, book: &Book<MemoryDisk>, count: u64) {
     let state = book.state();
-    assert_eq!(rt; (state.count(), book.durable()), (count, count));
+    assert!(rt; (state.count(), book.durable()) == (count, count));
     assert!(rt; !book.is_broken());
     let scopes = [
         (b"a".as_slice(), Seen::Canceled(b"disk")),
@@ -52,94 +52,69 @@ fn assert_left(rt: &impl Abort, book: &Book<MemoryDisk>, count: u64) {
 /// Asserts that a book was just opened, and takes those steps.
 fn assert_answers(rt: &impl Abort, book: &mut Book<MemoryDisk>, layout: Layout) {
     assert!(rt; book.state().layout() == layout);
-    assert_eq!(rt; (book.state().count(), book.durable()), (1, 1));
+    assert!(rt; (book.state().count(), book.durable()) == (1, 1));
     assert!(rt; book.history().next().is_none());
     assert_said(rt, book, &ROWS);
     assert_left(rt, book, 9);
 }
 
 /// The disk of a new book behind those steps.
-fn answered(rt: &impl Abort, alloc: Global, layout: Layout) -> Result<MemoryDisk, Fault> {
-    let mut book = fresh(alloc, layout)?;
+fn answered(rt: &impl Abort, alloc: Global, layout: Layout) -> MemoryDisk {
+    let mut book = fresh(rt, alloc, layout);
     assert_answers(rt, &mut book, layout);
-    Ok(book.into_disk())
+    book.into_disk()
 }
 
 /// The same disk, opened again.
-fn opened_again(rt: &impl Abort, alloc: Global, disk: MemoryDisk) -> Result<MemoryDisk, Fault> {
-    let book = opened(alloc, disk)?;
+fn opened_again(rt: &impl Abort, alloc: Global, disk: MemoryDisk) -> MemoryDisk {
+    let book = done(rt, opened(alloc, disk), "book");
     assert_left(rt, &book, 10);
     assert!(rt; book.history().next().is_none());
-    Ok(book.into_disk())
+    book.into_disk()
 }
 
 /// Asserts the device calls. Two flushes of six calls and a checkpoint of seven stand behind a
 /// format and an opening; the flush without an event makes none.
-fn assert_calls(rt: &impl Abort, alloc: Global, layout: Layout) -> Result<(), Fault> {
-    let disk = answered(rt, alloc, layout)?;
-    assert_eq!(rt; disk.calls(), 37, "in {layout:?}");
-    let disk = opened_again(rt, alloc, disk)?;
-    assert_eq!(rt; disk.calls(), 47, "in {layout:?}");
-    Ok(())
+fn assert_calls(rt: &impl Abort, alloc: Global, layout: Layout) {
+    let disk = answered(rt, alloc, layout);
+    assert!(rt; disk.calls() == 37, "in {layout:?}");
+    let disk = opened_again(rt, alloc, disk);
+    assert!(rt; disk.calls() == 47, "in {layout:?}");
 }
 
 #[test]
-fn each_step_is_answered(rt: HostRuntime) -> Result<(), Fault> {
-    assert_calls(&rt, rt.alloc(), Layout::Small)?;
-    assert_calls(&rt, rt.alloc(), Layout::Large)
-}
-
-/// The steps of the table.
-fn steps(rt: &impl Abort, alloc: Global) -> Result<Vec<Step>, Fail> {
-    let mut steps = Vec::new(alloc);
-    for row in ROWS.iter() {
-        steps.push(step(rt, row.0))?;
-    }
-    Ok(steps)
-}
-
-fn assert_replies(rt: &impl Abort, replies: &[Reply]) {
-    assert_eq!(rt; replies.len(), ROWS.len());
-    for (n, (reply, row)) in replies.iter().zip(ROWS.iter()).enumerate() {
-        assert!(rt; meaning(reply) == row.1, "row {n}");
-    }
-}
-
-/// Asserts what a list of those steps is answered.
-fn assert_plays(
-    rt: &impl Abort,
-    alloc: Global,
-    book: &mut Book<MemoryDisk>,
-    steps: &[Step],
-) -> Result<(), Fail> {
-    let mut replies = Vec::<Reply>::with_capacity(alloc, steps.len())?;
-    book.play(steps, &mut replies);
-    assert_replies(rt, &replies);
-    assert_left(rt, book, 9);
-    Ok(())
+fn each_step_is_answered(rt: HostRuntime) {
+    assert_calls(&rt, rt.alloc(), Layout::Small);
+    assert_calls(&rt, rt.alloc(), Layout::Large);
 }
 
 /// Asserts the device calls of a list of those steps.
-fn assert_list_calls(
-    rt: &impl Abort,
-    alloc: Global,
-    layout: Layout,
-    steps: &[Step],
-) -> Result<(), Fail> {
-    let mut book = fresh(alloc, layout)?;
-    assert_plays(rt, alloc, &mut book, steps)?;
-    assert_eq!(rt; book.into_disk().calls(), 37, "in {layout:?}");
-    Ok(())
+fn assert_list(rt: &impl Abort, alloc: Global, layout: Layout) {
+    let disk = played(rt, alloc, layout, &[&ROWS]);
+    assert!(rt; disk.calls() == 37, "in {layout:?}");
 }
 
 #[test]
-fn a_list_of_steps_is_answered_one_by_one(rt: HostRuntime) -> Result<(), Fail> {
-    let steps = steps(&rt, rt.alloc())?;
-    assert_list_calls(&rt, rt.alloc(), Layout::Small, &steps)?;
-    assert_list_calls(&rt, rt.alloc(), Layout::Large, &steps)
+fn a_list_of_steps_is_answered_one_by_one(rt: HostRuntime) {
+    assert_list(&rt, rt.alloc(), Layout::Small);
+    assert_list(&rt, rt.alloc(), Layout::Large);
 }
 
-/// The events since the opening of the next test.
+/// Steps before and since the opening of the next test.
+const BEFORE: [(Call, Said<'static>); 2] = [
+    (Cause(b"old", b"root"), Said::Scope(1)),
+    (Flush, Said::Acked(2)),
+];
+
+const SINCE: [(Call, Said<'static>); 5] = [
+    (Group(b"g", b"root"), Said::Group(0, Some(2))),
+    (Flush, Said::Acked(4)),
+    (Go(b"g", b"copy", b"a"), Said::Ready(0)),
+    (Checkpoint, Said::Acked(5)),
+    (Start, Said::Started(6, 0, b"copy", b"a", false)),
+];
+
+/// The events since that opening.
 static EVENTS: [EventView<'static>; 3] = [
     EventView::Group {
         name: b"g",
@@ -162,23 +137,11 @@ fn assert_history(rt: &impl Abort, book: &Book<MemoryDisk>) {
 }
 
 #[test]
-fn history_gives_the_events_since_the_opening(rt: HostRuntime) -> Result<(), Fault> {
-    let rows = [
-        (Cause(b"old", b"root"), Said::Scope(1)),
-        (Flush, Said::Acked(2)),
-    ];
-    let disk = played(&rt, rt.alloc(), Layout::Small, &[&rows])?;
-    let mut book = opened(rt.alloc(), disk)?;
-    let rows = [
-        (Group(b"g", b"root"), Said::Group(0, Some(2))),
-        (Flush, Said::Acked(4)),
-        (Go(b"g", b"copy", b"a"), Said::Ready(0)),
-        (Checkpoint, Said::Acked(5)),
-        (Start, Said::Started(6, 0, b"copy", b"a", false)),
-    ];
-    assert_said(&rt, &mut book, &rows);
+fn history_gives_the_events_since_the_opening(rt: HostRuntime) {
+    let disk = played(&rt, rt.alloc(), Layout::Small, &[&BEFORE]);
+    let mut book = done(&rt, opened(rt.alloc(), disk), "book");
+    assert_said(&rt, &mut book, &SINCE);
     assert_history(&rt, &book);
-    Ok(())
 }
 
 /// Asserts that a recovery of a new store reads alone, by three calls.
@@ -188,40 +151,47 @@ fn assert_recovers(
     disk: &mut MemoryDisk,
     layout: Layout,
     calls: u64,
-) -> Result<(), Fault> {
-    let state = Book::recover(alloc, disk)?;
+) {
+    let state = done(rt, Book::recover(alloc, disk), "store");
     assert!(rt; state.layout() == layout);
-    assert_eq!(rt; (state.count(), disk.calls()), (0, calls), "in {layout:?}");
+    assert!(rt;
+        (state.count(), disk.calls()) == (0, calls),
+        "in {layout:?}"
+    );
     assert_scopes(rt, &state, &[]);
-    Ok(())
+}
+
+/// Asserts that so do two recoveries of a new store.
+fn assert_recovers_twice(rt: &impl Abort, alloc: Global, layout: Layout) {
+    let mut disk = formatted(rt, alloc, layout);
+    assert_recovers(rt, alloc, &mut disk, layout, 11);
+    assert_recovers(rt, alloc, &mut disk, layout, 14);
 }
 
 #[test]
-fn recovery_reads_alone(rt: HostRuntime) -> Result<(), Fault> {
-    for layout in [Layout::Small, Layout::Large] {
-        let mut disk = formatted(rt.alloc(), layout)?;
-        assert_recovers(&rt, rt.alloc(), &mut disk, layout, 11)?;
-        assert_recovers(&rt, rt.alloc(), &mut disk, layout, 14)?;
-    }
-    Ok(())
+fn recovery_reads_alone(rt: HostRuntime) {
+    assert_recovers_twice(&rt, rt.alloc(), Layout::Small);
+    assert_recovers_twice(&rt, rt.alloc(), Layout::Large);
 }
 
 /// Asserts that a disk of this size is no store, and that no call is made to it.
-fn assert_wrong(rt: &impl Abort, alloc: Global, size: usize) -> Result<(), Fault> {
-    let (fault, mut disk) = unformatted(MemoryDisk::new(alloc, size)?).expect(rt, "a fault");
-    assert_eq!(rt; fault, Fault::WrongSize, "format of {size} bytes");
+fn assert_wrong(rt: &impl Abort, alloc: Global, size: usize) {
+    let disk = done(rt, MemoryDisk::new(alloc, size), "memory");
+    let (fault, mut disk) = given(rt, unformatted(disk), "fault");
+    assert!(rt; fault == Fault::WrongSize, "format of {size} bytes");
     let found = counted_on(alloc, &mut disk);
-    assert_eq!(rt; found, Err(Fault::WrongSize), "recovery of {size} bytes");
-    let (fault, disk) = unopened(alloc, disk).expect(rt, "a fault");
-    assert_eq!(rt; fault, Fault::WrongSize, "opening of {size} bytes");
-    assert_eq!(rt; disk.calls(), 0);
-    Ok(())
+    assert!(rt; found == Err(Fault::WrongSize), "recovery of {size} bytes");
+    let (fault, disk) = given(rt, unopened(alloc, disk), "fault");
+    assert!(rt; fault == Fault::WrongSize, "opening of {size} bytes");
+    assert!(rt; disk.calls() == 0);
 }
 
+/// Sizes of no store: prefixes of a small one among them.
+static SIZES: [usize; 7] = [0, 1, 1_048_576, 1_572_863, 1_572_865, 6_291_455, 6_291_457];
+
 #[test]
-fn another_size_is_no_store(rt: HostRuntime) -> Result<(), Fault> {
-    for size in [0, 1, 1_572_863, 1_572_865, 6_291_455, 6_291_457] {
-        assert_wrong(&rt, rt.alloc(), size)?;
+fn another_size_is_no_store(rt: HostRuntime) {
+    for size in SIZES.iter() {
+        assert_wrong(&rt, rt.alloc(), *size);
     }
-    Ok(())
 }

@@ -3,10 +3,10 @@
 
 use crate::calls::Call::{Checkpoint, Flush};
 use crate::calls::{Call, Said};
-use crate::disks::{At, assert_bytes, formatted, played, reads};
+use crate::disks::{At, assert_bytes, formatted, now, played};
 use crate::six_events::{FIRST, FIRST_BATCH, SECOND, SECOND_BATCH};
 use run_disk::MemoryDisk;
-use run_model::{Fault, Layout};
+use run_model::Layout;
 use std::alloc::Global;
 use std::process::Abort;
 
@@ -24,29 +24,23 @@ const CANCELED: &[u8; 70] = b"\xa7\0\0\0\0\0\0\0\x02\0\0\0\x39\x02\0\0\0\0\0\0\0
 \x01a\0\0\x02\x01\0\0\0\0\0\0\0\x04\0\0\0\0\0\0\0\0\x01\x04disk\x01b\0\x01\x01\0";
 
 /// Asserts how many calls a disk has counted, and bytes of what reads of it give.
-fn assert_disk(
-    rt: &impl Abort,
-    alloc: Global,
-    disk: &MemoryDisk,
-    calls: u64,
-    rows: &[At],
-) -> Result<(), Fault> {
-    assert_eq!(rt; disk.calls(), calls);
-    let now = reads(alloc, disk)?;
-    assert_eq!(rt; now.len(), 1_572_864);
+fn assert_disk(rt: &impl Abort, alloc: Global, disk: &MemoryDisk, calls: u64, rows: &[At]) {
+    assert!(rt; disk.calls() == calls);
+    let now = now(rt, alloc, disk);
+    assert!(rt; now.len() == 1_572_864);
     assert_bytes(rt, &now, rows);
-    Ok(())
 }
 
+static FORMATTED_SO: [At; 3] = [
+    ("slot 0", 0, FORMATTED),
+    ("slot 1's gate", 524_288, b"\0"),
+    ("segment 0's gate", 1_048_576, b"\0"),
+];
+
 #[test]
-fn a_store_is_formatted_so(rt: HostRuntime) -> Result<(), Fault> {
-    let disk = formatted(rt.alloc(), Layout::Small)?;
-    let rows = [
-        ("slot 0", 0, FORMATTED.as_slice()),
-        ("slot 1's gate", 524_288, b"\0"),
-        ("segment 0's gate", 1_048_576, b"\0"),
-    ];
-    assert_disk(&rt, rt.alloc(), &disk, 8, &rows)
+fn a_store_is_formatted_so(rt: HostRuntime) {
+    let disk = formatted(&rt, rt.alloc(), Layout::Small);
+    assert_disk(&rt, rt.alloc(), &disk, 8, &FORMATTED_SO);
 }
 
 /// Asserts what steps leave of a store that was just opened.
@@ -56,43 +50,46 @@ fn assert_left(
     steps: &[&[(Call, Said<'static>)]],
     calls: u64,
     rows: &[At],
-) -> Result<(), Fault> {
-    let disk = played(rt, alloc, Layout::Small, steps)?;
-    assert_disk(rt, alloc, &disk, calls, rows)
+) {
+    let disk = played(rt, alloc, Layout::Small, steps);
+    assert_disk(rt, alloc, &disk, calls, rows);
 }
 
-#[test]
-fn a_store_is_opened_so(rt: HostRuntime) -> Result<(), Fault> {
-    let rows = [
-        ("slot 0", 0, FORMATTED.as_slice()),
-        ("slot 1", 524_288, OPENED),
-        ("segment 0's gate", 1_048_576, b"\0"),
-        ("segment 1's gate", 1_310_720, b"\0"),
-    ];
-    assert_left(&rt, rt.alloc(), &[], 18, &rows)
-}
+static OPENED_SO: [At; 4] = [
+    ("slot 0", 0, FORMATTED),
+    ("slot 1", 524_288, OPENED),
+    ("segment 0's gate", 1_048_576, b"\0"),
+    ("segment 1's gate", 1_310_720, b"\0"),
+];
 
 #[test]
-fn two_flushes_leave_two_batches(rt: HostRuntime) -> Result<(), Fault> {
-    let rows = [
-        ("slot 0", 0, FORMATTED.as_slice()),
-        ("slot 1", 524_288, OPENED),
-        ("segment 0's gate", 1_048_576, b"\0"),
-        ("the first batch", 1_310_720, FIRST_BATCH),
-        ("the second batch", 1_310_751, SECOND_BATCH),
-        ("the third gate", 1_310_772, b"\0"),
-    ];
+fn a_store_is_opened_so(rt: HostRuntime) {
+    assert_left(&rt, rt.alloc(), &[], 18, &OPENED_SO);
+}
+
+static FLUSHED_SO: [At; 6] = [
+    ("slot 0", 0, FORMATTED),
+    ("slot 1", 524_288, OPENED),
+    ("segment 0's gate", 1_048_576, b"\0"),
+    ("the first batch", 1_310_720, FIRST_BATCH),
+    ("the second batch", 1_310_751, SECOND_BATCH),
+    ("the third gate", 1_310_772, b"\0"),
+];
+
+#[test]
+fn two_flushes_leave_two_batches(rt: HostRuntime) {
     let steps = [FIRST.as_slice(), &SECOND, &[(Flush, Said::Acked(6))]];
-    assert_left(&rt, rt.alloc(), &steps, 30, &rows)
+    assert_left(&rt, rt.alloc(), &steps, 30, &FLUSHED_SO);
 }
 
+static CHECKPOINTED_SO: [At; 3] = [
+    ("slot 0", 0, CANCELED),
+    ("slot 1", 524_288, OPENED),
+    ("segment 0's gate", 1_048_576, b"\0"),
+];
+
 #[test]
-fn a_checkpoint_leaves_an_image(rt: HostRuntime) -> Result<(), Fault> {
-    let rows = [
-        ("slot 0", 0, CANCELED.as_slice()),
-        ("slot 1", 524_288, OPENED),
-        ("segment 0's gate", 1_048_576, b"\0"),
-    ];
+fn a_checkpoint_leaves_an_image(rt: HostRuntime) {
     let steps = [FIRST.as_slice(), &[(Checkpoint, Said::Acked(4))]];
-    assert_left(&rt, rt.alloc(), &steps, 25, &rows)
+    assert_left(&rt, rt.alloc(), &steps, 25, &CHECKPOINTED_SO);
 }

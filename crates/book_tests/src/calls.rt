@@ -1,12 +1,13 @@
 //! Steps as tables write them, by bytes and numbers, and what each is answered.
 
+use crate::asserts::done;
 use run_book::Book;
 use run_disk::RunDisk;
 use run_model::{
     Answer, Command, Fault, Limit, Moment, Name, Outcome, Phase, Refusal, Reply, Started, Step,
     Text, Trouble, Wish,
 };
-use std::alloc::Allocator;
+use std::alloc::{Allocator, Global};
 use std::process::Abort;
 
 /// A step. Scopes and groups go by name, tasks by number. A cause of no bytes is none.
@@ -236,6 +237,51 @@ pub fn meaning(reply: &Reply) -> Said<'_> {
         Reply::Acked(event) => Said::Acked(*event),
         Reply::Refused(refusal) => Said::Refused(*refusal),
         Reply::Faulty(fault) => Said::Faulty(*fault),
+    }
+}
+
+/// The steps of tables, one behind the other.
+pub fn steps_of(rt: &impl Abort, alloc: Global, lists: &[&[(Call, Said<'static>)]]) -> Vec<Step> {
+    let mut steps = Vec::new(alloc);
+    for rows in lists.iter() {
+        add_steps(rt, &mut steps, rows);
+    }
+    steps
+}
+
+/// Adds a step.
+pub fn add(rt: &impl Abort, steps: &mut Vec<Step>, step: Step) {
+    done(rt, steps.push(step), "memory");
+}
+
+/// Adds the steps of a table.
+pub fn add_steps(rt: &impl Abort, steps: &mut Vec<Step>, rows: &[(Call, Said<'static>)]) {
+    for row in rows.iter() {
+        add(rt, steps, step(rt, row.0));
+    }
+}
+
+/// Asserts that there is one reply for each step of the tables, which says what stands there.
+pub fn assert_replies(rt: &impl Abort, replies: &[Reply], lists: &[&[(Call, Said<'static>)]]) {
+    let mut rest = replies;
+    for rows in lists.iter() {
+        let (front, back) = rest.split_at_checked(rows.len()).expect(rt, "replies");
+        assert_rows(rt, front, rows);
+        rest = back;
+    }
+    assert!(rt; rest.is_empty());
+}
+
+/// Asserts that the last replies are those of this table.
+pub fn assert_last(rt: &impl Abort, replies: &[Reply], rows: &[(Call, Said<'static>)]) {
+    let front = replies.len().checked_sub(rows.len()).expect(rt, "replies");
+    let (_, last) = replies.split_at_checked(front).expect(rt, "replies");
+    assert_rows(rt, last, rows);
+}
+
+fn assert_rows(rt: &impl Abort, replies: &[Reply], rows: &[(Call, Said<'static>)]) {
+    for (n, (reply, row)) in replies.iter().zip(rows.iter()).enumerate() {
+        assert!(rt; meaning(reply) == row.1, "row {n}");
     }
 }
 

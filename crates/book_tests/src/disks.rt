@@ -1,10 +1,14 @@
 //! Disks in memory with a store on them, and what a book of them is.
 
-use crate::calls::{Call, Said, assert_said};
+ghost use Rattle.std.specs.Prelude.{◌≡◌, ◌≤◌, [], length, vec_capacity};
+
+use crate::asserts::done;
+use crate::calls::{Call, Said, assert_replies, steps_of};
+use linked_list_allocator::LocalHeap;
 use run_book::{Book, State};
 use run_disk::{MemoryDisk, RunDisk, Torn};
-use run_model::{Fault, Layout};
-use std::alloc::Global;
+use run_model::{Fault, Layout, Reply, Step};
+use std::alloc::{Allocator, Global};
 use std::process::Abort;
 
 /// How a crash may tear what was not synced.
@@ -17,49 +21,180 @@ pub const TEARS: [Torn; 6] = [
     Torn::Front(1),
 ];
 
+/// A disk with these bytes, at rest.
+pub fn disk_of(rt: &impl Abort, alloc: Global, bytes: Vec<u8>) -> MemoryDisk {
+    done(rt, MemoryDisk::from_bytes(alloc, bytes), "memory")
+}
+
 /// A disk of a layout's size, formatted by eight calls.
-pub fn formatted(alloc: Global, layout: Layout) -> Result<MemoryDisk, Fault> {
-    let disk = match layout {
-        Layout::Small => MemoryDisk::new(alloc, 1_572_864)?,
-        Layout::Large => MemoryDisk::new(alloc, 6_291_456)?,
-    };
+pub fn formatted(rt: &impl Abort, alloc: Global, layout: Layout) -> MemoryDisk {
+    let disk = done(
+        rt,
+        MemoryDisk::new(alloc, layout.store_len() as usize),
+        "memory",
+    );
     match Book::format(disk) {
-        Ok(disk) => Ok(disk),
-        Err((fault, _)) => Err(fault),
+        Ok(disk) => disk,
+        Err(_) => panic!(rt; "no format"),
     }
 }
 
 /// A book over a disk.
-pub fn opened<D: RunDisk + Drop>(alloc: Global, disk: D) -> Result<Book<D>, Fault> {
+pub fn opened<D: RunDisk + Drop, A: Allocator + Copy>(
+    alloc: A,
+    disk: D,
+) -> Result<Book<D, A>, Fault> {
     match Book::open(alloc, disk) {
         Ok(book) => Ok(book),
         Err((fault, _)) => Err(fault),
     }
 }
 
-/// A book over a formatted disk, opened by ten calls.
-pub fn fresh(alloc: Global, layout: Layout) -> Result<Book<MemoryDisk>, Fault> {
-    opened(alloc, formatted(alloc, layout)?)
+/// A book over a disk that holds a store.
+fn book_of<D: RunDisk + Drop, A: Allocator + Copy>(
+    rt: &impl Abort,
+    alloc: A,
+    disk: D,
+) -> Book<D, A> {
+    done(rt, opened(alloc, disk), "book")
 }
 
-/// The disk of a book that was just opened, behind lists of steps, each with its answer.
+/// A book over a formatted disk, opened by ten calls.
+pub fn fresh(rt: &impl Abort, alloc: Global, layout: Layout) -> Book<MemoryDisk> {
+    book_of(rt, alloc, formatted(rt, alloc, layout))
+}
+
+/// Room for a reply to each step.
+pub fn room(rt: &impl Abort, alloc: Global, steps: &[Step]) -> Vec<Reply>
+    ensures room { length steps.now ≤ vec_capacity result }
+    ensures empty { result.items ≡ [] }
+{
+    match Vec::with_capacity(alloc, steps.len()) {
+        Ok(replies) => replies,
+        Err(_) => panic!(rt; "no memory"),
+    }
+}
+
+/// Opens a disk and plays steps, and gives the disk back, and a reply for each.
+pub fn play<D: RunDisk + Drop>(
+    rt: &impl Abort,
+    alloc: Global,
+    disk: D,
+    steps: &[Step],
+) -> (D, Vec<Reply>) {
+    let mut replies = room(rt, alloc, steps);
+    let mut book = book_of(rt, alloc, disk);
+    book.play(steps, &mut replies);
+    (book.into_disk(), replies)
+}
+
+/// Opens a disk and plays lists of steps, each with its answer, and gives the disk back.
+pub fn played_on<D: RunDisk + Drop>(
+    rt: &impl Abort,
+    alloc: Global,
+    disk: D,
+    lists: &[&[(Call, Said<'static>)]],
+) -> D {
+    let steps = steps_of(rt, alloc, lists);
+    let (disk, replies) = play(rt, alloc, disk, &steps);
+    assert_replies(rt, &replies, lists);
+    disk
+}
+
+/// The disk of a book that was just opened over a new store, behind lists of steps, each with its
+/// answer.
 pub fn played(
     rt: &impl Abort,
     alloc: Global,
     layout: Layout,
     lists: &[&[(Call, Said<'static>)]],
-) -> Result<MemoryDisk, Fault> {
-    let mut book = fresh(alloc, layout)?;
-    for rows in lists.iter() {
-        assert_said(rt, &mut book, rows);
-    }
-    Ok(book.into_disk())
+) -> MemoryDisk {
+    played_on(rt, alloc, formatted(rt, alloc, layout), lists)
+}
+
+/// A heap of so many bytes.
+pub fn heap(rt: &impl Abort, alloc: Global, bytes: usize) -> LocalHeap {
+    done(rt, LocalHeap::new(alloc, bytes), "memory")
+}
+
+/// More bytes than any book takes while it is opened.
+pub const AMPLE: usize = 16_000_000;
+
+/// What is left of a heap.
+fn rest_of<'h>(rt: &impl Abort, heap: &'h LocalHeap) -> Vec<u8, &'h LocalHeap> {
+    done(
+        rt,
+        Vec::<u8, &LocalHeap>::with_capacity(heap, heap.free()),
+        "rest",
+    )
+}
+
+/// Opens a disk over a heap, and plays steps while no byte of memory can be had. Gives the disk
+/// back, and a reply for each step.
+fn play_within(
+    rt: &impl Abort,
+    alloc: Global,
+    heap: &LocalHeap,
+    disk: MemoryDisk,
+    steps: &[Step],
+) -> (MemoryDisk, Vec<Reply>) {
+    let mut replies = room(rt, alloc, steps);
+    let mut book = book_of(rt, heap, disk);
+    let _rest = rest_of(rt, heap);
+    assert!(rt; heap.free() == 0);
+    book.play(steps, &mut replies);
+    (book.into_disk(), replies)
+}
+
+/// Opens a disk, and plays steps while no byte of memory can be had. Gives the disk back, and a
+/// reply for each step.
+pub fn play_without_memory(
+    rt: &impl Abort,
+    alloc: Global,
+    disk: MemoryDisk,
+    steps: &[Step],
+) -> (MemoryDisk, Vec<Reply>) {
+    let heap = heap(rt, alloc, AMPLE);
+    play_within(rt, alloc, &heap, disk, steps)
 }
 
 /// How many events there are in what a disk stores.
-pub fn counted_on(alloc: Global, disk: &mut MemoryDisk) -> Result<u64, Fault> {
+pub fn counted_on<D: RunDisk>(alloc: Global, disk: &mut D) -> Result<u64, Fault> {
     let state = Book::recover(alloc, disk)?;
     Ok(state.count())
+}
+
+/// What a disk with these bytes stores.
+pub fn recovered(rt: &impl Abort, alloc: Global, bytes: Vec<u8>) -> State {
+    let mut disk = disk_of(rt, alloc, bytes);
+    done(rt, Book::recover(alloc, &mut disk), "store")
+}
+
+/// How many events there are in what a disk with these bytes stores.
+pub fn counted(rt: &impl Abort, alloc: Global, bytes: Vec<u8>) -> Result<u64, Fault> {
+    let mut disk = disk_of(rt, alloc, bytes);
+    counted_on(alloc, &mut disk)
+}
+
+/// What a stop behind so many calls leaves of a disk, torn in this way.
+pub fn torn_image(
+    rt: &impl Abort,
+    alloc: Global,
+    disk: &MemoryDisk,
+    calls: u64,
+    torn: Torn,
+) -> Vec<u8> {
+    assert!(rt; calls <= disk.calls());
+    done(rt, disk.image(alloc, calls, torn), "memory")
+}
+
+/// A disk of a small store's size with zeros, but for these bytes from their places on.
+pub fn small_disk(rt: &impl Abort, alloc: Global, rows: &[(usize, &[u8])]) -> Vec<u8> {
+    let mut bytes = done(rt, vec![in alloc; 0u8; 1_572_864], "memory");
+    for row in rows.iter() {
+        put(rt, &mut bytes, row.0, row.1);
+    }
+    bytes
 }
 
 /// Why a disk isn't formatted, and the disk as it is handed back.
@@ -71,7 +206,7 @@ pub fn unformatted(disk: MemoryDisk) -> Option<(Fault, MemoryDisk)> {
 }
 
 /// Why a disk isn't opened, and the disk as it is handed back.
-pub fn unopened(alloc: Global, disk: MemoryDisk) -> Option<(Fault, MemoryDisk)> {
+pub fn unopened<A: Allocator + Copy>(alloc: A, disk: MemoryDisk) -> Option<(Fault, MemoryDisk)> {
     match Book::open(alloc, disk) {
         Ok(_) => None,
         Err(both) => Some(both),
@@ -81,6 +216,11 @@ pub fn unopened(alloc: Global, disk: MemoryDisk) -> Option<(Fault, MemoryDisk)> 
 /// What reads of a disk give.
 pub fn reads(alloc: Global, disk: &MemoryDisk) -> Result<Vec<u8>, Fault> {
     disk.image(alloc, disk.calls(), Torn::Keep)
+}
+
+/// What reads of a disk give, where they must.
+pub fn now(rt: &impl Abort, alloc: Global, disk: &MemoryDisk) -> Vec<u8> {
+    done(rt, reads(alloc, disk), "memory")
 }
 
 /// Puts bytes in place of those from a place on.
@@ -97,6 +237,6 @@ pub type At = (&'static str, usize, &'static [u8]);
 pub fn assert_bytes(rt: &impl Abort, bytes: &[u8], rows: &[At]) {
     for row in rows.iter() {
         let found = bytes.get(row.1..).and_then(|rest| rest.get(..row.2.len()));
-        assert_eq!(rt; found, Some(row.2), "{}", row.0);
+        assert!(rt; found == Some(row.2), "{}", row.0);
     }
 }

@@ -3,16 +3,38 @@
 #![tactic(auto)]
 
 #[cfg(test)]
+mod asserts;
+#[cfg(test)]
 mod books;
 #[cfg(test)]
 mod bytes;
 #[cfg(test)]
 mod calls;
 #[cfg(test)]
+mod crowds;
+#[cfg(test)]
+mod damages;
+#[cfg(test)]
 mod disks;
+#[cfg(test)]
+mod failures;
 #[cfg(test)]
 mod looks;
 #[cfg(test)]
 mod migrations;
 #[cfg(test)]
+mod nights;
+#[cfg(test)]
+mod numbers;
+#[cfg(test)]
+mod restarts;
+#[cfg(test)]
+mod rooms;
+#[cfg(test)]
+mod segments;
+#[cfg(test)]
 mod six_events;
+#[cfg(test)]
+mod stops;
+#[cfg(test)]
+mod versions;

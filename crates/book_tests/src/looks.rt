@@ -1,5 +1,6 @@
 //! What a state shows, as tables write it.
 
+use crate::asserts::given;
 use crate::calls::name;
 use run_book::State;
 use run_model::{Look, Phase, Reason};
@@ -31,11 +32,14 @@ pub fn assert_scopes<A: Allocator>(
     state: &State<A>,
     rows: &[(&'static [u8], Seen<'static>)],
 ) {
-    assert_eq!(rt; state.scope_count().checked_sub(1), Some(rows.len()));
+    assert!(rt; state.scope_count().checked_sub(1) == Some(rows.len()));
     for (n, row) in rows.iter().enumerate() {
-        let number = state.find_scope(&name(rt, row.0)).expect(rt, "a scope");
-        assert_eq!(rt; (number as usize).checked_sub(1), Some(n), "scope {number}");
-        let look = state.look(number).expect(rt, "a scope");
+        let number = given(rt, state.find_scope(&name(rt, row.0)), "scope");
+        assert!(rt;
+            (number as usize).checked_sub(1) == Some(n),
+            "scope {number}"
+        );
+        let look = given(rt, state.look(number), "scope");
         assert!(rt; look.name.as_bytes() == row.0, "scope {number}");
         assert!(rt; state_of(&look) == row.1, "scope {number}");
     }
@@ -48,14 +52,14 @@ pub fn assert_tasks<A: Allocator>(
     state: &State<A>,
     rows: &[(&'static [u8], Phase, Option<u16>)],
 ) {
-    assert_eq!(rt; state.task_count(), rows.len());
+    assert!(rt; state.task_count() == rows.len());
     for (n, row) in rows.iter().enumerate() {
         let number = n.min(65_535) as u16;
-        let look = state.task(number).expect(rt, "a task");
+        let look = given(rt, state.task(number), "task");
         assert!(rt; look.job.as_bytes() == b"copy".as_slice(), "task {n}");
         assert!(rt; look.argument.as_bytes() == row.0, "task {n}");
-        assert_eq!(rt; &look.phase, &row.1, "task {n}");
-        assert_eq!(rt; look.retry_of, row.2, "task {n}");
+        assert!(rt; &look.phase == &row.1, "task {n}");
+        assert!(rt; look.retry_of == row.2, "task {n}");
     }
 }
 
@@ -69,11 +73,11 @@ pub fn assert_group<A: Allocator>(
     called: &[u8],
     seen: GroupSeen,
 ) {
-    let number = state.find_group(&name(rt, called)).expect(rt, "a group");
-    let look = state.group(number).expect(rt, "a group");
+    let number = given(rt, state.find_group(&name(rt, called)), "group");
+    let look = given(rt, state.group(number), "group");
     assert!(rt; look.name.as_bytes() == called);
     let numbers = (look.scope, look.unfinished, look.limit.get());
-    assert_eq!(rt; numbers, (seen.0, seen.1, seen.2));
-    assert_eq!(rt; look.waited, seen.3);
-    assert_eq!(rt; look.error.as_ref().map(|text| text.as_bytes()), seen.4);
+    assert!(rt; numbers == (seen.0, seen.1, seen.2));
+    assert!(rt; look.waited == seen.3);
+    assert!(rt; look.error.as_ref().map(|text| text.as_bytes()) == seen.4);
 }

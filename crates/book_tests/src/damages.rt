@@ -1,8 +1,8 @@
 //! Damaged stores, each with the fault that tells it, or with what it stores still.
 
-use crate::disks::{counted, put, small_disk, unopened};
+use crate::asserts::given;
+use crate::disks::{counted, disk_of, put, small_disk, unopened};
 use crate::six_events::FIRST_BATCH;
-use run_disk::MemoryDisk;
 use run_model::Fault;
 use std::alloc::Global;
 use std::process::Abort;
@@ -17,7 +17,7 @@ type Puts = &'static [(usize, &'static [u8])];
 
 /// A small store of root alone behind its first opening, with a batch of events 2 to 4 and with
 /// images of this version; but for some bytes.
-fn damaged(rt: &impl Abort, alloc: Global, version: u8, damages: Puts) -> Result<Vec<u8>, Fault> {
+fn damaged(rt: &impl Abort, alloc: Global, version: u8, damages: Puts) -> Vec<u8> {
     let rows = [
         (0, OLDER.as_slice()),
         (13, &[version]),
@@ -26,17 +26,17 @@ fn damaged(rt: &impl Abort, alloc: Global, version: u8, damages: Puts) -> Result
         (524_317, b"\x01"),
         (1_310_720, FIRST_BATCH),
     ];
-    let mut bytes = small_disk(rt, alloc, &rows)?;
+    let mut bytes = small_disk(rt, alloc, &rows);
     for row in damages.iter() {
         put(rt, &mut bytes, row.0, row.1);
     }
-    Ok(bytes)
+    bytes
 }
 
 /// What is damaged, by these bytes, and the event count or the fault.
 type Damage = (&'static str, Puts, Result<u64, Fault>);
 
-static IN_SLOTS: [Damage; 9] = [
+static IN_SLOTS: [Damage; 10] = [
     ("nothing", &[], Ok(4)),
     ("slot 1's gate", &[(524_288, b"\xa6")], Ok(0)),
     (
@@ -53,6 +53,11 @@ static IN_SLOTS: [Damage; 9] = [
     (
         "slot 0's greatest bit",
         &[(1, b"\x80")],
+        Err(Fault::BadSlot),
+    ),
+    (
+        "slot 1's greatest bit",
+        &[(524_289, b"\x80")],
         Err(Fault::BadSlot),
     ),
     (
@@ -81,7 +86,7 @@ static IN_IMAGES: [Damage; 6] = [
     ),
     (
         "slot 1's count",
-        &[(524_310, b"\x80")],
+        &[(524_310, b"\x80\0\0\0\0\0\0\0")],
         Err(Fault::BadImage),
     ),
     (
@@ -171,23 +176,126 @@ static IN_TWO_PLACES: [Damage; 5] = [
 ];
 
 /// Asserts what each damage is told as, behind images of this version.
-fn assert_told(rt: &impl Abort, alloc: Global, version: u8, rows: &[Damage]) -> Result<(), Fault> {
+fn assert_told(rt: &impl Abort, alloc: Global, version: u8, rows: &[Damage]) {
     for row in rows.iter() {
-        let found = counted(alloc, damaged(rt, alloc, version, row.1)?);
-        assert_eq!(rt; found, row.2, "{} in version {version}", row.0);
+        let found = counted(rt, alloc, damaged(rt, alloc, version, row.1));
+        assert!(rt; found == row.2, "{} in version {version}", row.0);
     }
-    Ok(())
 }
 
 #[test]
-fn the_first_damage_is_told(rt: HostRuntime) -> Result<(), Fault> {
+fn the_first_damage_is_told(rt: HostRuntime) {
     for version in [1, 2] {
-        assert_told(&rt, rt.alloc(), version, &IN_SLOTS)?;
-        assert_told(&rt, rt.alloc(), version, &IN_IMAGES)?;
-        assert_told(&rt, rt.alloc(), version, &IN_SEGMENTS)?;
-        assert_told(&rt, rt.alloc(), version, &IN_TWO_PLACES)?;
+        assert_told(&rt, rt.alloc(), version, &IN_SLOTS);
+        assert_told(&rt, rt.alloc(), version, &IN_IMAGES);
+        assert_told(&rt, rt.alloc(), version, &IN_SEGMENTS);
+        assert_told(&rt, rt.alloc(), version, &IN_TWO_PLACES);
     }
-    Ok(())
+}
+
+/// What rows an image has, its version, how many scopes, groups and tasks, its length and the rows;
+/// and the event count or the fault.
+type Rows = (
+    &'static str,
+    u8,
+    &'static [u8; 6],
+    u8,
+    &'static [u8],
+    Result<u64, Fault>,
+);
+
+const SCOPE: &[u8; 6] = b"\0\x01\0\0\0\0";
+
+const TASK: &[u8; 6] = b"\0\0\0\x01\0\x01";
+
+/// One row of its kind each; event 1 is the last one. The group has limit 0.
+static IN_ROWS: [Rows; 10] = [
+    ("no row", 1, &[0; 6], 23, b"", Ok(1)),
+    ("a scope", 1, SCOPE, 29, b"\x01a\0\0\x01\0", Ok(1)),
+    (
+        "a scope below itself",
+        1,
+        SCOPE,
+        29,
+        b"\x01a\0\x01\x01\0",
+        Err(Fault::BadImage),
+    ),
+    (
+        "a scope called root",
+        1,
+        SCOPE,
+        32,
+        b"\x04root\0\0\x01\0",
+        Err(Fault::BadImage),
+    ),
+    (
+        "a hit by event 1",
+        1,
+        SCOPE,
+        51,
+        b"\x01a\0\0\x01\x01\0\0\0\0\0\0\0\x01\0\0\0\0\0\0\0\0\x01\x04disk",
+        Ok(1),
+    ),
+    (
+        "a hit by event 2",
+        1,
+        SCOPE,
+        51,
+        b"\x01a\0\0\x01\x01\0\0\0\0\0\0\0\x02\0\0\0\0\0\0\0\0\x01\x04disk",
+        Err(Fault::BadImage),
+    ),
+    (
+        "a task that runs, and isn't admitted",
+        1,
+        TASK,
+        41,
+        b"\x01h\0\0\x01\0\0\0\0\0\x04copy\x01a\x01",
+        Err(Fault::BadImage),
+    ),
+    (
+        "the same in version 2",
+        2,
+        TASK,
+        43,
+        b"\x01h\0\0\x01\0\0\0\0\0\x04copy\x01a\x01\xff\xff",
+        Err(Fault::BadImage),
+    ),
+    ("a task that is held", 1, TASK, 41, HELD, Ok(1)),
+    (
+        "the same in version 2, without a link",
+        2,
+        TASK,
+        41,
+        HELD,
+        Err(Fault::BadImage),
+    ),
+];
+
+/// Bare group `h` of limit 0, and its task, in version 1.
+const HELD: &[u8; 18] = b"\x01h\0\0\x01\0\0\0\0\0\x04copy\x01a\0";
+
+/// The same store without a batch, and with these rows in its newer image.
+fn with_rows(rt: &impl Abort, alloc: Global, row: &Rows) -> Vec<u8> {
+    let rows = [
+        (0, OLDER.as_slice()),
+        (13, b"\x02"),
+        (524_288, NEWER),
+        (524_317, b"\x01"),
+    ];
+    let (counts, rows_of_kind) = (row.2, row.4);
+    let mut bytes = small_disk(rt, alloc, &rows);
+    put(rt, &mut bytes, 524_300, &[row.3, row.1]);
+    put(rt, &mut bytes, 524_318, counts);
+    put(rt, &mut bytes, 524_324, rows_of_kind);
+    bytes
+}
+
+#[test]
+fn rows_against_the_rules_are_told(rt: HostRuntime) {
+    for row in IN_ROWS.iter() {
+        let found = counted(&rt, rt.alloc(), with_rows(&rt, rt.alloc(), row));
+        assert!(rt; found == row.5, "{}", row.0);
+    }
 }
 
 /// Damages, each with the fault that an opening tells and the reads that it made. The read of the
@@ -200,23 +308,15 @@ static REFUSED: [(Puts, Fault, u64); 4] = [
 ];
 
 /// Asserts that a damaged store isn't opened, by this fault behind so many calls.
-fn assert_unopened(
-    rt: &impl Abort,
-    alloc: Global,
-    damages: Puts,
-    fault: Fault,
-    calls: u64,
-) -> Result<(), Fault> {
-    let disk = MemoryDisk::from_bytes(alloc, damaged(rt, alloc, 2, damages)?)?;
-    let (told, disk) = unopened(alloc, disk).expect(rt, "a fault");
-    assert_eq!(rt; (told, disk.calls()), (fault, calls));
-    Ok(())
+fn assert_unopened(rt: &impl Abort, alloc: Global, damages: Puts, fault: Fault, calls: u64) {
+    let disk = disk_of(rt, alloc, damaged(rt, alloc, 2, damages));
+    let (told, disk) = given(rt, unopened(alloc, disk), "fault");
+    assert!(rt; (told, disk.calls()) == (fault, calls));
 }
 
 #[test]
-fn an_opening_of_a_damaged_store_only_reads(rt: HostRuntime) -> Result<(), Fault> {
+fn an_opening_of_a_damaged_store_only_reads(rt: HostRuntime) {
     for row in REFUSED.iter() {
-        assert_unopened(&rt, rt.alloc(), row.0, row.1, row.2)?;
+        assert_unopened(&rt, rt.alloc(), row.0, row.1, row.2);
     }
-    Ok(())
 }

@@ -1,9 +1,10 @@
 //! Stores of version 1, kept as bytes: each is read, and its opening takes it over.
 
+use crate::asserts::given;
 use crate::calls::Call::{Flush, Retry};
-use crate::calls::{Said, assert_said};
+use crate::calls::Said;
 use crate::disks::{
-    assert_bytes, counted, opened, reads, recovered, small_disk, torn_image, unopened,
+    At, assert_bytes, counted, disk_of, now, played_on, recovered, small_disk, torn_image, unopened,
 };
 use crate::looks::{Seen, assert_group, assert_scopes, assert_tasks};
 use run_book::State;
@@ -44,13 +45,18 @@ const CANCELED: &[u8; 70] = b"\xa7\0\0\0\0\0\0\0\0\0\0\0\x39\x01\0\0\0\0\0\0\0\0
 const DERIVED: &[u8; 13] = b"\xa7\0\0\0\x08\x01\0\x05\x01c\0\0\x01";
 
 /// The state that a small store with these bytes has.
-fn stored(rt: &impl Abort, alloc: Global, rows: &[(usize, &[u8])]) -> Result<State, Fault> {
-    recovered(alloc, small_disk(rt, alloc, rows)?)
+fn stored(rt: &impl Abort, alloc: Global, rows: &[(usize, &[u8])]) -> State {
+    recovered(rt, alloc, small_disk(rt, alloc, rows))
+}
+
+/// A small disk with these bytes, at rest.
+fn disk_with(rt: &impl Abort, alloc: Global, rows: &[(usize, &[u8])]) -> MemoryDisk {
+    disk_of(rt, alloc, small_disk(rt, alloc, rows))
 }
 
 /// Asserts that task 0 runs, and task 1 is held.
 fn assert_running(rt: &impl Abort, state: &State) {
-    assert_eq!(rt; (state.count(), state.clock().get()), (6, 0));
+    assert!(rt; (state.count(), state.clock().get()) == (6, 0));
     assert_scopes(rt, state, &[(b"g", Seen::Live)]);
     assert_group(rt, state, b"g", (1, 2, Some(1), false, None));
     let tasks = [
@@ -62,7 +68,7 @@ fn assert_running(rt: &impl Abort, state: &State) {
 
 /// Asserts that task 0 is interrupted, task 1 ready, and besides all as it was.
 fn assert_interrupted(rt: &impl Abort, state: &State) {
-    assert_eq!(rt; (state.count(), state.clock().get()), (7, 0));
+    assert!(rt; (state.count(), state.clock().get()) == (7, 0));
     assert_scopes(rt, state, &[(b"g", Seen::Canceled(b"interrupted"))]);
     assert_group(
         rt,
@@ -79,7 +85,7 @@ fn assert_interrupted(rt: &impl Abort, state: &State) {
 
 /// Asserts that task 2 retries task 0.
 fn assert_retried(rt: &impl Abort, state: &State) {
-    assert_eq!(rt; state.count(), 8);
+    assert!(rt; state.count() == 8);
     let tasks = [
         (b"a".as_slice(), Phase::Interrupted, None),
         (b"b", Phase::Ready, None),
@@ -89,52 +95,63 @@ fn assert_retried(rt: &impl Abort, state: &State) {
 }
 
 #[test]
-fn a_store_of_either_version_is_recovered(rt: HostRuntime) -> Result<(), Fault> {
-    assert_running(&rt, &stored(&rt, rt.alloc(), &[(0, RUNNING)])?);
-    assert_interrupted(&rt, &stored(&rt, rt.alloc(), &[(0, RESTARTED_BEFORE)])?);
+fn a_store_of_either_version_is_recovered(rt: HostRuntime) {
+    assert_running(&rt, &stored(&rt, rt.alloc(), &[(0, RUNNING)]));
+    assert_interrupted(&rt, &stored(&rt, rt.alloc(), &[(0, RESTARTED_BEFORE)]));
     let rows = [(524_288, RESTARTED.as_slice()), (1_310_720, RETRY)];
-    assert_retried(&rt, &stored(&rt, rt.alloc(), &rows)?);
-    Ok(())
+    assert_retried(&rt, &stored(&rt, rt.alloc(), &rows));
 }
 
 /// A disk on which a store of version 1 was opened, by ten calls, and its task 0 retried, by six.
-fn taken_over(rt: &impl Abort, alloc: Global) -> Result<MemoryDisk, Fault> {
-    let bytes = small_disk(rt, alloc, &[(0, RUNNING)])?;
-    let mut book = opened(alloc, MemoryDisk::from_bytes(alloc, bytes)?)?;
-    assert_interrupted(rt, book.state());
+fn taken_over(rt: &impl Abort, alloc: Global) -> MemoryDisk {
+    let disk = disk_with(rt, alloc, &[(0, RUNNING)]);
     let rows = [(Retry(0), Said::Held(2)), (Flush, Said::Acked(8))];
-    assert_said(rt, &mut book, &rows);
-    assert_retried(rt, book.state());
-    Ok(book.into_disk())
+    played_on(rt, alloc, disk, &[&rows])
 }
 
-/// Asserts how many events a stop behind so many calls leaves.
-fn assert_left(
-    rt: &impl Abort,
-    alloc: Global,
-    disk: &MemoryDisk,
-    row: (u64, Torn, u64),
-) -> Result<(), Fault> {
-    let found = counted(alloc, torn_image(rt, alloc, disk, row.0, row.1)?);
-    assert_eq!(rt; found, Ok(row.2), "behind call {}", row.0);
-    Ok(())
+/// The calls behind which it stops, and the events that are left.
+static LEFT: [(u64, Torn, u64); 5] = [
+    (6, Torn::Take, 6),
+    (9, Torn::Keep, 6),
+    (9, Torn::Take, 7),
+    (10, Torn::Keep, 7),
+    (16, Torn::Keep, 8),
+];
+
+/// Asserts how many events each of those stops leaves.
+fn assert_left(rt: &impl Abort, alloc: Global, disk: &MemoryDisk) {
+    for row in LEFT.iter() {
+        let found = counted(rt, alloc, torn_image(rt, alloc, disk, row.0, row.1));
+        assert!(rt; found == Ok(row.2), "behind call {}", row.0);
+    }
+}
+
+/// What stands on the disk then.
+static TAKEN_OVER: [At; 4] = [
+    ("the store as it was", 0, RUNNING),
+    ("its restart", 524_288, RESTARTED),
+    ("the retry", 1_310_720, RETRY),
+    ("the next gate", 1_310_730, b"\0"),
+];
+
+#[test]
+fn an_opening_takes_a_store_of_version_1_over(rt: HostRuntime) {
+    let disk = taken_over(&rt, rt.alloc());
+    assert!(rt; disk.calls() == 16);
+    assert_bytes(&rt, &now(&rt, rt.alloc(), &disk), &TAKEN_OVER);
+    assert_left(&rt, rt.alloc(), &disk);
+}
+
+/// What a stop behind so many calls leaves of a disk.
+fn stopped(rt: &impl Abort, alloc: Global, disk: &MemoryDisk, calls: u64) -> State {
+    recovered(rt, alloc, torn_image(rt, alloc, disk, calls, Torn::Keep))
 }
 
 #[test]
-fn an_opening_takes_a_store_of_version_1_over(rt: HostRuntime) -> Result<(), Fault> {
-    let disk = taken_over(&rt, rt.alloc())?;
-    assert_eq!(rt; disk.calls(), 16);
-    let rows = [
-        ("the store as it was", 0, RUNNING.as_slice()),
-        ("its restart", 524_288, RESTARTED),
-        ("the retry", 1_310_720, RETRY),
-        ("the next gate", 1_310_730, b"\0"),
-    ];
-    assert_bytes(&rt, &reads(rt.alloc(), &disk)?, &rows);
-    assert_left(&rt, rt.alloc(), &disk, (6, Torn::Take, 6))?;
-    assert_left(&rt, rt.alloc(), &disk, (9, Torn::Keep, 6))?;
-    assert_left(&rt, rt.alloc(), &disk, (9, Torn::Take, 7))?;
-    assert_left(&rt, rt.alloc(), &disk, (10, Torn::Keep, 7))
+fn an_opening_restarts_a_store_of_version_1(rt: HostRuntime) {
+    let disk = taken_over(&rt, rt.alloc());
+    assert_interrupted(&rt, &stopped(&rt, rt.alloc(), &disk, 10));
+    assert_retried(&rt, &stopped(&rt, rt.alloc(), &disk, 16));
 }
 
 /// Asserts that two scopes are cancelled, and a third is not.
@@ -144,26 +161,27 @@ fn assert_three(rt: &impl Abort, state: &State, count: u64) {
         (b"b", Seen::Canceled(b"disk")),
         (b"c", Seen::Live),
     ];
-    assert_eq!(rt; state.count(), count);
+    assert!(rt; state.count() == count);
     assert_scopes(rt, state, &scopes);
 }
 
-#[test]
-fn records_behind_version_1_are_applied(rt: HostRuntime) -> Result<(), Fault> {
-    let rows = [(0, CANCELED.as_slice()), (1_048_576, DERIVED)];
-    assert_three(&rt, &stored(&rt, rt.alloc(), &rows)?, 5);
-    let bytes = small_disk(&rt, rt.alloc(), &rows)?;
-    let book = opened(rt.alloc(), MemoryDisk::from_bytes(rt.alloc(), bytes)?)?;
-    assert_three(&rt, book.state(), 6);
-    Ok(())
-}
+/// A store of version 1 with a record behind its image.
+static BEHIND: [(usize, &'static [u8]); 2] = [(0, CANCELED), (1_048_576, DERIVED)];
 
 #[test]
-fn a_retry_behind_version_1_is_no_event(rt: HostRuntime) -> Result<(), Fault> {
-    let rows = [(0, RESTARTED_BEFORE.as_slice()), (1_048_576, RETRY)];
-    let bytes = small_disk(&rt, rt.alloc(), &rows)?;
-    let disk = MemoryDisk::from_bytes(rt.alloc(), bytes)?;
-    let (fault, disk) = unopened(rt.alloc(), disk).expect(&rt, "a fault");
-    assert_eq!(rt; (fault, disk.calls()), (Fault::BadEvent, 3));
-    Ok(())
+fn records_behind_version_1_are_applied(rt: HostRuntime) {
+    assert_three(&rt, &stored(&rt, rt.alloc(), &BEHIND), 5);
+    let disk = disk_with(&rt, rt.alloc(), &BEHIND);
+    let disk = played_on(&rt, rt.alloc(), disk, &[]);
+    assert_three(&rt, &stopped(&rt, rt.alloc(), &disk, 10), 6);
+}
+
+/// A retry behind an image of version 1.
+static RETRIED_BEFORE: [(usize, &'static [u8]); 2] = [(0, RESTARTED_BEFORE), (1_048_576, RETRY)];
+
+#[test]
+fn a_retry_behind_version_1_is_no_event(rt: HostRuntime) {
+    let disk = disk_with(&rt, rt.alloc(), &RETRIED_BEFORE);
+    let (fault, disk) = given(&rt, unopened(rt.alloc(), disk), "fault");
+    assert!(rt; (fault, disk.calls()) == (Fault::BadEvent, 3));
 }

@@ -1,0 +1,282 @@
+//! Devices that fail in one call, or from one call on: what each step is answered then, and what is
+//! left.
+
+use crate::asserts::done;
+use crate::calls::Call::{
+    Cancel, Cause, Checkpoint, Flush, Go, Group, Retry, Start, Succeed, Wait,
+};
+use crate::calls::{Call, Said, assert_replies, meaning, steps_of};
+use crate::disks::{
+    TEARS, counted, counted_on, disk_of, formatted, opened, played_on, room, small_disk, torn_image,
+};
+use crate::nights::{NIGHT, left};
+use crate::six_events::{FIRST, SECOND};
+use run_book::Book;
+use run_disk::{FailOnce, Fuse, MemoryDisk, RunDisk};
+use run_model::{Fault, Layout, Refusal, Reply, Step};
+use std::alloc::Global;
+use std::process::Abort;
+
+const BROKEN: Said<'static> = Said::Refused(Refusal::Broken);
+
+const FAILED: Said<'static> = Said::Faulty(Fault::DiskFailed);
+
+/// A disk as it is handed back, by a book or with the fault of an opening, and the replies.
+type Back<D> = (D, Option<Fault>, Vec<Reply>);
+
+/// Opens a disk, plays steps where it is opened, and gives it back.
+fn play_or_fail<D: RunDisk + Drop>(
+    rt: &impl Abort,
+    alloc: Global,
+    disk: D,
+    steps: &[Step],
+) -> Back<D> {
+    let mut replies = room(rt, alloc, steps);
+    match Book::open(alloc, disk) {
+        Ok(mut book) => {
+            book.play(steps, &mut replies);
+            (book.into_disk(), None, replies)
+        }
+        Err((fault, disk)) => (disk, Some(fault), replies),
+    }
+}
+
+/// Plays steps over a new store, one of whose calls fails.
+fn play_over_failure(
+    rt: &impl Abort,
+    alloc: Global,
+    steps: &[Step],
+    call: u64,
+) -> Back<MemoryDisk> {
+    let disk = FailOnce::new(formatted(rt, alloc, Layout::Small), call);
+    let (disk, fault, replies) = play_or_fail(rt, alloc, disk, steps);
+    (disk.into_inner(), fault, replies)
+}
+
+/// Plays steps over a new store, each of whose calls fails from this one on.
+fn play_over_fuse(rt: &impl Abort, alloc: Global, steps: &[Step], call: u64) -> Back<MemoryDisk> {
+    let disk = Fuse::new(formatted(rt, alloc, Layout::Small), call.saturating_sub(1));
+    let (disk, fault, replies) = play_or_fail(rt, alloc, disk, steps);
+    (disk.into_inner(), fault, replies)
+}
+
+/// The last call of the opening, and of each step of the night that makes some, with the step.
+static SAVES: [(u64, Option<usize>); 5] = [
+    (10, None),
+    (16, Some(3)),
+    (22, Some(6)),
+    (29, Some(9)),
+    (35, Some(11)),
+];
+
+/// The step of the night in which this call lies, if it isn't in the opening.
+fn step_of(call: u64) -> Option<usize> {
+    let mut step = None;
+    for row in SAVES.iter().rev() {
+        if call <= row.0 {
+            step = row.1;
+        }
+    }
+    step
+}
+
+/// Asserts that the step at this place failed, and that all behind it are refused.
+fn assert_broken(rt: &impl Abort, replies: &[Reply], failing: usize, call: u64) {
+    assert!(rt; replies.len() == NIGHT.len());
+    for (n, (reply, row)) in replies.iter().zip(NIGHT.iter()).enumerate() {
+        let wanted = if n < failing {
+            row.1
+        } else if n == failing {
+            FAILED
+        } else {
+            BROKEN
+        };
+        assert!(rt;
+            meaning(reply) == wanted,
+            "step {n}, where call {call} fails"
+        );
+    }
+}
+
+/// Asserts what a disk that was handed back stores, torn in each way: the call that failed changed
+/// nothing.
+fn assert_kept(rt: &impl Abort, alloc: Global, disk: &MemoryDisk, call: u64) {
+    let before = call.saturating_sub(1);
+    for torn in TEARS {
+        let calls = before.saturating_add(8);
+        let found = counted(rt, alloc, torn_image(rt, alloc, disk, calls, torn));
+        assert!(rt;
+            found == Ok(left(before, torn)),
+            "where call {call} fails, {torn:?}"
+        );
+    }
+}
+
+/// Asserts what the night is answered where this call fails, and what is left then.
+fn assert_fails(rt: &impl Abort, alloc: Global, back: &Back<MemoryDisk>, call: u64) {
+    match step_of(call) {
+        Some(step) => assert_broken(rt, &back.2, step, call),
+        None => assert!(rt; back.2.is_empty()),
+    }
+    let fault = if call <= 10 {
+        Some(Fault::DiskFailed)
+    } else {
+        None
+    };
+    // A format's eight calls, and those before the one that failed: no call comes behind it.
+    let wanted = (fault, call.saturating_add(7));
+    assert!(rt;
+        (back.1, back.0.calls()) == wanted,
+        "where call {call} fails"
+    );
+    assert_kept(rt, alloc, &back.0, call);
+}
+
+#[test]
+fn a_call_that_fails_breaks_the_book(rt: HostRuntime) {
+    let steps = steps_of(&rt, rt.alloc(), &[&NIGHT]);
+    for call in 1..36 {
+        let back = play_over_failure(&rt, rt.alloc(), &steps, call);
+        assert_fails(&rt, rt.alloc(), &back, call);
+    }
+}
+
+#[test]
+fn a_device_that_fails_for_good_breaks_the_book(rt: HostRuntime) {
+    let steps = steps_of(&rt, rt.alloc(), &[&NIGHT]);
+    for call in 1..36 {
+        let back = play_over_fuse(&rt, rt.alloc(), &steps, call);
+        assert_fails(&rt, rt.alloc(), &back, call);
+    }
+}
+
+/// A flush that fails, then each kind of step, and some that would be refused by a sound book too.
+const REFUSED: [(Call, Said<'static>); 14] = [
+    (Cause(b"e", b"root"), Said::Scope(5)),
+    (Checkpoint, FAILED),
+    (Cause(b"f", b"root"), BROKEN),
+    (Cause(b"a", b"nowhere"), BROKEN),
+    (Cancel(b"a", b"x"), BROKEN),
+    (Group(b"g", b"root"), BROKEN),
+    (Go(b"g", b"copy", b"a"), BROKEN),
+    (Wait(b"g"), BROKEN),
+    (Call::Advance(1), BROKEN),
+    (Retry(0), BROKEN),
+    (Start, BROKEN),
+    (Succeed(0), BROKEN),
+    (Flush, BROKEN),
+    (Checkpoint, BROKEN),
+];
+
+/// What a book answers behind steps: whether it is broken, how many events it has and how many of
+/// them are durable, its scopes, and the bytes of its history.
+type Answers = (bool, u64, u64, usize, usize);
+
+/// Plays steps over a disk, and asks the book.
+fn asked(
+    rt: &impl Abort,
+    alloc: Global,
+    disk: FailOnce<MemoryDisk>,
+    steps: &[Step],
+) -> (Answers, Vec<Reply>) {
+    let mut replies = room(rt, alloc, steps);
+    let mut book = done(rt, opened(alloc, disk), "book");
+    book.play(steps, &mut replies);
+    (answers(&book), replies)
+}
+
+fn answers(book: &Book<FailOnce<MemoryDisk>>) -> Answers {
+    let state = book.state();
+    let bytes = book.history().rest().len();
+    (
+        book.is_broken(),
+        state.count(),
+        book.durable(),
+        state.scope_count(),
+        bytes,
+    )
+}
+
+/// Asserts what steps are answered where this call fails, and then the questions.
+fn assert_asked(
+    rt: &impl Abort,
+    alloc: Global,
+    lists: &[&[(Call, Said<'static>)]],
+    call: u64,
+    wanted: Answers,
+) {
+    let steps = steps_of(rt, alloc, lists);
+    let disk = FailOnce::new(formatted(rt, alloc, Layout::Small), call);
+    let (answers, replies) = asked(rt, alloc, disk, &steps);
+    assert_replies(rt, &replies, lists);
+    assert!(rt; answers == wanted);
+}
+
+#[test]
+fn a_broken_book_answers_questions_alone(rt: HostRuntime) {
+    let lists = [FIRST.as_slice(), &SECOND, &REFUSED];
+    // Records of 26 bytes, of 16 and of 8.
+    assert_asked(&rt, rt.alloc(), &lists, 20, (true, 7, 4, 6, 50));
+}
+
+/// Why a disk isn't formatted whose calls fail behind so many, and the calls that it made.
+fn unformatted(rt: &impl Abort, alloc: Global, calls: u64) -> (Option<Fault>, u64) {
+    let disk = Fuse::new(disk_of_zeros(rt, alloc), calls);
+    match Book::format(disk) {
+        Ok(disk) => (None, disk.into_inner().calls()),
+        Err((fault, disk)) => (Some(fault), disk.into_inner().calls()),
+    }
+}
+
+fn disk_of_zeros(rt: &impl Abort, alloc: Global) -> MemoryDisk {
+    disk_of(rt, alloc, small_disk(rt, alloc, &[]))
+}
+
+#[test]
+fn a_format_that_fails_hands_the_disk_back(rt: HostRuntime) {
+    for calls in 0..9 {
+        let fault = if calls < 8 {
+            Some(Fault::DiskFailed)
+        } else {
+            None
+        };
+        let found = unformatted(&rt, rt.alloc(), calls);
+        assert!(rt; found == (fault, calls), "behind call {calls}");
+    }
+}
+
+/// How many events are recovered of a new store, one of whose calls fails, and again behind it.
+fn recovered_twice(
+    rt: &impl Abort,
+    alloc: Global,
+    call: u64,
+) -> (Result<u64, Fault>, Result<u64, Fault>) {
+    let mut disk = FailOnce::new(formatted(rt, alloc, Layout::Small), call);
+    let first = counted_on(alloc, &mut disk);
+    (first, counted_on(alloc, &mut disk))
+}
+
+#[test]
+fn a_recovery_that_fails_tells_so(rt: HostRuntime) {
+    for call in 1..4 {
+        let found = recovered_twice(&rt, rt.alloc(), call);
+        assert!(rt;
+            found == (Err(Fault::DiskFailed), Ok(0)),
+            "where call {call} fails"
+        );
+    }
+}
+
+/// Behind a second flush that failed event 4 is durable, and events 5 and 6 are lost.
+const BEHIND: [(Call, Said<'static>); 3] = [
+    (Flush, Said::Acked(5)),
+    (Cause(b"c", b"root"), Said::Scope(3)),
+    (Flush, Said::Acked(6)),
+];
+
+#[test]
+fn a_store_goes_on_behind_a_failure(rt: HostRuntime) {
+    let steps = steps_of(&rt, rt.alloc(), &[&NIGHT]);
+    let back = play_over_failure(&rt, rt.alloc(), &steps, 19);
+    played_on(&rt, rt.alloc(), back.0, &[&BEHIND]);
+}

@@ -1,0 +1,154 @@
+//! Stops: what a crash leaves behind each call of a flush, a checkpoint, an opening and a format,
+//! with each kind of tearing.
+
+use crate::calls::Call::{Cause, Checkpoint, Flush};
+use crate::calls::{Call, Said};
+use crate::disks::{TEARS, counted, disk_of, formatted, played, played_on, recovered, torn_image};
+use crate::looks::{Seen, assert_scopes};
+use crate::nights::opens;
+use crate::six_events::{FIRST, SECOND};
+use run_disk::{MemoryDisk, Torn};
+use run_model::{Fault, Layout};
+use std::alloc::Global;
+use std::process::Abort;
+
+/// A number of events, and the scopes behind them.
+type Stored = (u64, &'static [(&'static [u8], Seen<'static>)]);
+
+const FOUR: Stored = (
+    4,
+    &[
+        (b"a", Seen::Canceled(b"disk")),
+        (b"b", Seen::Canceled(b"disk")),
+    ],
+);
+
+const SIX: Stored = (
+    6,
+    &[
+        (b"a", Seen::Canceled(b"disk")),
+        (b"b", Seen::Canceled(b"disk")),
+        (b"c", Seen::Live),
+        (b"d", Seen::Live),
+    ],
+);
+
+/// Asserts what a stop behind so many calls leaves, torn in this way.
+fn assert_left(
+    rt: &impl Abort,
+    alloc: Global,
+    disk: &MemoryDisk,
+    calls: u64,
+    torn: Torn,
+    stored: Stored,
+) {
+    let state = recovered(rt, alloc, torn_image(rt, alloc, disk, calls, torn));
+    assert!(rt; state.count() == stored.0, "behind call {calls}, {torn:?}");
+    assert_scopes(rt, &state, stored.1);
+}
+
+/// Asserts what stops from call 24 to the last one leave, torn in each way. The last call syncs
+/// the gate that the one before wrote: where it is open, all is there.
+fn assert_stops(rt: &impl Abort, alloc: Global, disk: &MemoryDisk, last: u64, after: Stored) {
+    assert!(rt; disk.calls() == last);
+    for calls in 24..=last {
+        for torn in TEARS {
+            let is_there = calls == last || (last.saturating_sub(calls) == 1 && opens(torn));
+            let stored = if is_there { after } else { FOUR };
+            assert_left(rt, alloc, disk, calls, torn, stored);
+        }
+    }
+}
+
+/// Asserts what stops of a flush of events 5 and 6, or of a checkpoint, leave behind 24 calls.
+fn assert_saves(rt: &impl Abort, alloc: Global, layout: Layout, by: Call, last: u64) {
+    let steps = [FIRST.as_slice(), &SECOND, &[(by, Said::Acked(6))]];
+    let disk = played(rt, alloc, layout, &steps);
+    assert_stops(rt, alloc, &disk, last, SIX);
+}
+
+#[test]
+fn a_stop_of_a_save_leaves_its_events_or_none(rt: HostRuntime) {
+    assert_saves(&rt, rt.alloc(), Layout::Small, Flush, 30);
+    assert_saves(&rt, rt.alloc(), Layout::Small, Checkpoint, 31);
+}
+
+#[test]
+fn a_stop_of_a_save_of_a_large_store(rt: HostRuntime) {
+    assert_saves(&rt, rt.alloc(), Layout::Large, Flush, 30);
+    assert_saves(&rt, rt.alloc(), Layout::Large, Checkpoint, 31);
+}
+
+/// A disk that is opened again, where events 5 and 6 were pending: by three reads and the seven
+/// calls of a checkpoint.
+fn opened_again(rt: &impl Abort, alloc: Global) -> MemoryDisk {
+    let disk = played(rt, alloc, Layout::Small, &[&FIRST, &SECOND]);
+    played_on(rt, alloc, disk, &[])
+}
+
+#[test]
+fn a_stop_of_an_opening_leaves_the_store_or_its_restart(rt: HostRuntime) {
+    let disk = opened_again(&rt, rt.alloc());
+    assert_stops(&rt, rt.alloc(), &disk, 34, (5, FOUR.1));
+}
+
+/// Asserts that a store goes on behind a stop which left so many events, and scopes up to one.
+fn assert_goes_on(rt: &impl Abort, alloc: Global, bytes: Vec<u8>, count: u64, next: u16) {
+    let rows = [
+        (Flush, Said::Acked(count)),
+        (Cause(b"e", b"root"), Said::Scope(next)),
+        (Flush, Said::Acked(count.saturating_add(1))),
+    ];
+    played_on(rt, alloc, disk_of(rt, alloc, bytes), &[&rows]);
+}
+
+/// The call behind which it stops, the events behind the next opening, and the next scope.
+static GO_ON: [(u64, Torn, u64, u16); 4] = [
+    (26, Torn::Front(9), 5, 3),
+    (28, Torn::Take, 5, 3),
+    (29, Torn::Keep, 5, 3),
+    (29, Torn::Take, 7, 5),
+];
+
+/// Asserts that a store goes on behind each of those stops.
+fn assert_all_go_on(rt: &impl Abort, alloc: Global, disk: &MemoryDisk) {
+    for row in GO_ON.iter() {
+        let left = torn_image(rt, alloc, disk, row.0, row.1);
+        assert_goes_on(rt, alloc, left, row.2, row.3);
+    }
+}
+
+#[test]
+fn a_store_goes_on_behind_a_stop(rt: HostRuntime) {
+    let steps = [FIRST.as_slice(), &SECOND, &[(Flush, Said::Acked(6))]];
+    let disk = played(&rt, rt.alloc(), Layout::Small, &steps);
+    assert_all_go_on(&rt, rt.alloc(), &disk);
+}
+
+/// What is told behind a stop of a format over zeros: a store without events, or why it is none.
+fn told(calls: u64, torn: Torn) -> Result<u64, Fault> {
+    match (calls, torn) {
+        (8, _) => Ok(0),
+        (7, torn) if opens(torn) => Ok(0),
+        // Over zeros a torn gate opens an image of no bytes, and in slot 1 an even generation.
+        (1, Torn::Fill(0xA7)) => Err(Fault::BadImage),
+        (2, Torn::Fill(0xA7)) => Err(Fault::BadSlot),
+        _ => Err(Fault::NotAStore),
+    }
+}
+
+/// Asserts what stops of a format leave behind so many calls, torn in each way.
+fn assert_told(rt: &impl Abort, alloc: Global, disk: &MemoryDisk, calls: u64) {
+    for torn in TEARS {
+        let found = counted(rt, alloc, torn_image(rt, alloc, disk, calls, torn));
+        assert!(rt; found == told(calls, torn), "behind call {calls}, {torn:?}");
+    }
+}
+
+#[test]
+fn a_stop_of_a_format_leaves_no_store_or_a_new_one(rt: HostRuntime) {
+    let disk = formatted(&rt, rt.alloc(), Layout::Small);
+    for calls in 0..9 {
+        assert_told(&rt, rt.alloc(), &disk, calls);
+    }
+}
