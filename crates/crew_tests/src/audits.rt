@@ -133,11 +133,15 @@ fn audited<S: Ledger, F: Ledger>(
     let book = opened(alloc, stored(rt, alloc, None, &TASKS)?)?;
     let (mut desk, mut seat) = Desk::<MemoryDisk, S, F>::new(book, starts, finishes);
     for _ in 0..row.0 {
-        assert!(rt; desk.start_as(&mut seat).is_ok());
+        let Ok(_) = desk.start_as(&mut seat) else {
+            return Err(Fault::BadEvent);
+        };
     }
     for task in 0..row.1 {
         let error: &[u8] = if task % 2 == 0 { b"" } else { b"x" };
-        assert!(rt; desk.finish_as(&mut seat, task, &outcome(rt, error)).is_ok());
+        let Ok(_) = desk.finish_as(&mut seat, task, &outcome(rt, error)) else {
+            return Err(Fault::BadEvent);
+        };
     }
     let first = listed(rt, alloc, row.2[0])?;
     let second = listed(rt, alloc, row.2[1])?;

@@ -27,13 +27,27 @@ fn used<S: Ledger, F: Ledger>(
     let book = opened(alloc, stored(rt, alloc, None, &tasks)?)?;
     let (mut desk, mut seat) = Desk::<MemoryDisk, S, F>::new(book, starts, finishes);
     assert!(rt; desk.settle(&mut seat) == (0, 0));
-    let started = desk.start_as(&mut seat).ok().expect(rt, "a start");
-    assert!(rt; (started.event, started.info.task, started.done) == (6, 0, false));
+    let Ok(first) = desk.start_as(&mut seat) else {
+        return Err(Fault::BadEvent);
+    };
+    assert!(rt; (first.event, first.info.task, first.done) == (6, 0, false));
     assert!(rt; desk.flush() == Ok(6));
-    assert!(rt; desk.start_as(&mut seat).is_ok());
-    assert!(rt; desk.start_as(&mut seat).err() == Some(Refusal::NothingReady));
-    assert!(rt; desk.finish_as(&mut seat, 1, &Outcome::Success) == Ok(8));
-    assert!(rt; desk.finish_as(&mut seat, 1, &Outcome::Success) == Err(Refusal::NotRunning));
+    let Ok(second) = desk.start_as(&mut seat) else {
+        return Err(Fault::BadEvent);
+    };
+    assert!(rt; (second.event, second.info.task, second.done) == (7, 1, false));
+    let Err(refusal) = desk.start_as(&mut seat) else {
+        return Err(Fault::BadEvent);
+    };
+    assert!(rt; refusal == Refusal::NothingReady);
+    let Ok(event) = desk.finish_as(&mut seat, 1, &Outcome::Success) else {
+        return Err(Fault::BadEvent);
+    };
+    assert!(rt; event == 8);
+    let Err(refusal) = desk.finish_as(&mut seat, 1, &Outcome::Success) else {
+        return Err(Fault::BadEvent);
+    };
+    assert!(rt; refusal == Refusal::NotRunning);
     let bare = Command::Bare {
         name: name(rt, b"h"),
         scope: name(rt, b"root"),

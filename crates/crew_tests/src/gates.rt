@@ -4,6 +4,7 @@ ghost use Rattle.std.specs.Prelude.{◌≡◌, ◌<◌};
 
 use crate::crews::{Fixed, NightEnd, Plain, night, plain_night};
 use crate::stores::{Now, assert_tasks, opened, stored};
+use run_book::Book;
 use run_crew::{Desk, Gate, Job, Turn, run_night};
 use run_disk::{MemoryDisk, RunDisk};
 use run_model::{Fault, Name, TaskInfo};
@@ -116,20 +117,31 @@ fn two_turns_overlap(rt: HostRuntime) -> Result<(), Fail> {
     Ok(())
 }
 
+/// What tells how many events are durable.
+trait Acknowledges {
+    fn durable(&self) -> u64;
+}
+
+impl<D: RunDisk, S: Ledger, F: Ledger> Acknowledges for Desk<D, S, F> {
+    fn durable(&self) -> u64 {
+        self.book().durable()
+    }
+}
+
 /// Takes the lock before the first turn of a task, and counts the tasks whose start it finds
 /// durable: of the tasks of one worker, task n is started by event 2 * n behind the first start.
 #[derive(Drop)]
-struct Durable<'a, S: Ledger, F: Ledger, R: Wait> {
+struct Durable<'a, T: Acknowledges, R: Wait> {
     rt: &'a R,
-    shared: &'a Mutex<Desk<MemoryDisk, S, F>>,
+    shared: &'a Mutex<T>,
     first: u64,
     found: AtomicU32,
 }
 
-impl<'a, S: Ledger, F: Ledger, R: Wait> Gate for Durable<'a, S, F, R> {
+impl<'a, T: Acknowledges, R: Wait> Gate for Durable<'a, T, R> {
     fn before(&self, task: u16, turn: u32) -> bool {
-        let start = self.first + 2 * u64::from(task);
-        if turn == 0 && start <= self.shared.lock(self.rt).book().durable() {
+        let start = self.first.saturating_add(2 * u64::from(task));
+        if turn == 0 && start <= self.shared.lock(self.rt).durable() {
             self.found.fetch_add(1, Ordering::SeqCst);
         }
         true
@@ -138,20 +150,19 @@ impl<'a, S: Ledger, F: Ledger, R: Wait> Gate for Durable<'a, S, F, R> {
     fn finished(&self, _task: u16) {}
 }
 
-/// How many of three starts are durable before their first turns, under one worker.
+/// How many starts of a book are durable before their first turns, under one worker.
 fn durable_starts<
+    D: RunDisk + Drop + Send,
     S: Ledger + Send + Sync,
     F: Ledger + Send + Sync,
-    R: Threads + Wait + Sync + Abort,
->(rt: &R, alloc: Global, starts: Blank, finishes: Blank) -> Result<u32, Fail>
+    R: Threads + Wait + Sync,
+>(rt: &R, alloc: Global, book: Book<D>, starts: Blank, finishes: Blank) -> Result<u32, Fail>
     requires starts { (starts.name ≡ S.name) × (starts.parts ≡ S.parts) × (1 < S.parts) }
     requires finishes { (finishes.name ≡ F.name) × (finishes.parts ≡ F.parts)
         × (1 < F.parts) }
 {
-    let tasks = [(b"spin".as_slice(), b"2".as_slice()); 3];
-    let book = opened(alloc, stored(rt, alloc, None, &tasks)?)?;
-    let first = book.durable() + 1;
-    let (desk, mut seat) = Desk::<MemoryDisk, S, F>::new(book, starts, finishes);
+    let first = book.durable().saturating_add(1);
+    let (desk, mut seat) = Desk::<D, S, F>::new(book, starts, finishes);
     let shared = Mutex::new(desk);
     let gate = Durable {
         rt,
@@ -169,9 +180,12 @@ fn durable_starts<
 
 #[test]
 fn each_start_is_durable_before_its_first_turn(rt: HostRuntime) -> Result<(), Fail> {
-    let found = durable_starts::<Brand, Brand, HostRuntime>(
+    let tasks = [(b"spin".as_slice(), b"2".as_slice()); 3];
+    let book = opened(rt.alloc(), stored(&rt, rt.alloc(), None, &tasks)?)?;
+    let found = durable_starts::<MemoryDisk, Brand, Brand, HostRuntime>(
         &rt,
         rt.alloc(),
+        book,
         Blank::new(2),
         Blank::new(2),
     )?;
