@@ -4,9 +4,10 @@ use crate::calls::Call::{Bare, Derive, Go, Group, Start, Succeed, Try, Wait};
 use crate::calls::{Ask, Said};
 use crate::fills::Fill;
 use crate::steps::Step::{Fills, Refuses, Says};
-use crate::steps::{Step, play, take};
-use run_model::{Fault, Layout, Refusal};
-use run_session::Session;
+use crate::steps::{Step, begun, play, take};
+use run_model::{Layout, Refusal};
+use std::alloc::Global;
+use std::process::Abort;
 
 /// There is room for no scope.
 static NO_SCOPES_LEFT: [Step; 2] = [
@@ -21,14 +22,17 @@ static NO_SCOPES_LEFT: [Step; 2] = [
     Says(&[(Bare(b"more", b"root"), Said::Group(0, None))]),
 ];
 
+/// Asserts that there are so many scopes, root beside as many as this.
+fn assert_most(rt: &impl Abort, alloc: Global, layout: Layout, last: u16) {
+    let mut session = begun(rt, alloc, layout);
+    take(rt, &mut session, &[Fills(Fill::Scopes(1, last))]);
+    take(rt, &mut session, &NO_SCOPES_LEFT);
+}
+
 #[test]
-fn there_are_1_024_scopes_or_4_096(rt: HostRuntime) -> Result<(), Fault> {
-    for (layout, last) in [(Layout::Small, 1_023), (Layout::Large, 4_095)] {
-        let mut session = Session::new(rt.alloc(), layout)?;
-        take(&rt, &mut session, &[Fills(Fill::Scopes(1, last))]);
-        take(&rt, &mut session, &NO_SCOPES_LEFT);
-    }
-    Ok(())
+fn there_are_1_024_scopes_or_4_096(rt: HostRuntime) {
+    assert_most(&rt, rt.alloc(), Layout::Small, 1_023);
+    assert_most(&rt, rt.alloc(), Layout::Large, 4_095);
 }
 
 static MOST_GROUPS: [Step; 3] = [
@@ -44,7 +48,7 @@ static MOST_GROUPS: [Step; 3] = [
 ];
 
 #[test]
-fn there_are_128_groups(rt: HostRuntime) -> Result<(), Fault> {
+fn there_are_128_groups(rt: HostRuntime) {
     play(&rt, rt.alloc(), &MOST_GROUPS)
 }
 
@@ -79,7 +83,7 @@ static REFUSED_GROUPS: [Step; 7] = [
 ];
 
 #[test]
-fn a_group_is_refused_in_order(rt: HostRuntime) -> Result<(), Fault> {
+fn a_group_is_refused_in_order(rt: HostRuntime) {
     play(&rt, rt.alloc(), &REFUSED_GROUPS)
 }
 
@@ -94,7 +98,7 @@ static NO_GROUPS_LEFT: [Step; 2] = [
 ];
 
 #[test]
-fn room_for_groups_is_asked_last(rt: HostRuntime) -> Result<(), Fault> {
+fn room_for_groups_is_asked_last(rt: HostRuntime) {
     play(&rt, rt.alloc(), &NO_GROUPS_LEFT)
 }
 
@@ -123,6 +127,6 @@ static MOST_TASKS: [Step; 4] = [
 ];
 
 #[test]
-fn there_are_2_048_tasks(rt: HostRuntime) -> Result<(), Fault> {
+fn there_are_2_048_tasks(rt: HostRuntime) {
     play(&rt, rt.alloc(), &MOST_TASKS)
 }

@@ -5,7 +5,7 @@ use crate::calls::{Ask, Said};
 use crate::looks::Seen;
 use crate::steps::Step::{Count, Refuses, Says, Scopes};
 use crate::steps::{Step, play};
-use run_model::{Fault, Refusal};
+use run_model::Refusal;
 
 /// The text of a deadline's reason.
 const EXCEEDED: &[u8] = b"context deadline exceeded";
@@ -27,7 +27,7 @@ static EQUAL_DEADLINES: [Step; 3] = [
 ];
 
 #[test]
-fn equal_deadlines_pass_in_order_of_number(rt: HostRuntime) -> Result<(), Fault> {
+fn equal_deadlines_pass_in_order_of_number(rt: HostRuntime) {
     play(&rt, rt.alloc(), &EQUAL_DEADLINES)
 }
 
@@ -48,7 +48,7 @@ static CHILD_EARLIER: [Step; 3] = [
 ];
 
 #[test]
-fn deadlines_pass_in_order_of_moment(rt: HostRuntime) -> Result<(), Fault> {
+fn deadlines_pass_in_order_of_moment(rt: HostRuntime) {
     play(&rt, rt.alloc(), &CHILD_EARLIER)
 }
 
@@ -73,7 +73,7 @@ static AT_THE_CLOCK: [Step; 3] = [
 ];
 
 #[test]
-fn a_deadline_at_the_clock_is_exceeded_at_once(rt: HostRuntime) -> Result<(), Fault> {
+fn a_deadline_at_the_clock_is_exceeded_at_once(rt: HostRuntime) {
     play(&rt, rt.alloc(), &AT_THE_CLOCK)
 }
 
@@ -107,7 +107,7 @@ static SEVERAL_DEADLINES: [Step; 4] = [
 ];
 
 #[test]
-fn one_advance_passes_several_deadlines(rt: HostRuntime) -> Result<(), Fault> {
+fn one_advance_passes_several_deadlines(rt: HostRuntime) {
     play(&rt, rt.alloc(), &SEVERAL_DEADLINES)
 }
 
@@ -125,7 +125,7 @@ static CANCELLED_FIRST: [Step; 2] = [
 ];
 
 #[test]
-fn a_cancelled_deadline_stays_cancelled(rt: HostRuntime) -> Result<(), Fault> {
+fn a_cancelled_deadline_stays_cancelled(rt: HostRuntime) {
     play(&rt, rt.alloc(), &CANCELLED_FIRST)
 }
 
@@ -156,6 +156,6 @@ static LONG_TIMEOUTS: [Step; 4] = [
 ];
 
 #[test]
-fn timeouts_reach_the_greatest_moment(rt: HostRuntime) -> Result<(), Fault> {
+fn timeouts_reach_the_greatest_moment(rt: HostRuntime) {
     play(&rt, rt.alloc(), &LONG_TIMEOUTS)
 }

@@ -6,7 +6,7 @@ use crate::calls::{Ask, Said};
 use crate::fills::Fill;
 use crate::steps::Step::{Fills, Log, Refuses, Says};
 use crate::steps::{Step, play};
-use run_model::{Fault, Refusal};
+use run_model::Refusal;
 
 /// The longest error.
 const LONGEST: &[u8] = b"0123456789abcdef0123456789abcdef0123456789abcdef0123456789abcdef";
@@ -50,7 +50,7 @@ static JUST_FITS: [Step; 11] = [
 ];
 
 #[test]
-fn a_start_that_just_fits_is_accepted(rt: HostRuntime) -> Result<(), Fault> {
+fn a_start_that_just_fits_is_accepted(rt: HostRuntime) {
     play(&rt, rt.alloc(), &JUST_FITS)
 }
 
@@ -67,7 +67,7 @@ static A_BYTE_TOO_LONG: [Step; 7] = [
 ];
 
 #[test]
-fn a_start_that_is_a_byte_too_long_is_refused(rt: HostRuntime) -> Result<(), Fault> {
+fn a_start_that_is_a_byte_too_long_is_refused(rt: HostRuntime) {
     play(&rt, rt.alloc(), &A_BYTE_TOO_LONG)
 }
 
@@ -103,6 +103,6 @@ static TWO_RUNNING: [Step; 8] = [
 ];
 
 #[test]
-fn each_running_task_can_finish_in_a_full_session(rt: HostRuntime) -> Result<(), Fault> {
+fn each_running_task_can_finish_in_a_full_session(rt: HostRuntime) {
     play(&rt, rt.alloc(), &TWO_RUNNING)
 }

@@ -7,7 +7,7 @@ use crate::calls::{Ask, Said};
 use crate::looks::{Going, Seen};
 use crate::steps::Step::{Count, Refuses, Running, Says, Scopes, Tasks};
 use crate::steps::{Step, play};
-use run_model::{Fault, Refusal};
+use run_model::Refusal;
 
 static LIMIT_OF_TWO: [Step; 4] = [
     Says(&[
@@ -31,7 +31,7 @@ static LIMIT_OF_TWO: [Step; 4] = [
 ];
 
 #[test]
-fn a_limit_holds_tasks_back(rt: HostRuntime) -> Result<(), Fault> {
+fn a_limit_holds_tasks_back(rt: HostRuntime) {
     play(&rt, rt.alloc(), &LIMIT_OF_TWO)
 }
 
@@ -48,7 +48,7 @@ static LIMIT_OF_NONE: [Step; 2] = [
 ];
 
 #[test]
-fn a_limit_of_0_admits_none(rt: HostRuntime) -> Result<(), Fault> {
+fn a_limit_of_0_admits_none(rt: HostRuntime) {
     play(&rt, rt.alloc(), &LIMIT_OF_NONE)
 }
 
@@ -75,7 +75,7 @@ static TWO_ERRORS: [Step; 5] = [
 ];
 
 #[test]
-fn the_first_error_ends_the_group(rt: HostRuntime) -> Result<(), Fault> {
+fn the_first_error_ends_the_group(rt: HostRuntime) {
     play(&rt, rt.alloc(), &TWO_ERRORS)
 }
 
@@ -94,7 +94,7 @@ static TWO_WAITS: [Step; 3] = [
 ];
 
 #[test]
-fn a_wait_ends_the_groups_own_scope(rt: HostRuntime) -> Result<(), Fault> {
+fn a_wait_ends_the_groups_own_scope(rt: HostRuntime) {
     play(&rt, rt.alloc(), &TWO_WAITS)
 }
 
@@ -118,7 +118,7 @@ static BAD_NAMES: [Step; 4] = [
 ];
 
 #[test]
-fn names_that_are_taken_or_missing_are_refused(rt: HostRuntime) -> Result<(), Fault> {
+fn names_that_are_taken_or_missing_are_refused(rt: HostRuntime) {
     play(&rt, rt.alloc(), &BAD_NAMES)
 }
 
@@ -143,7 +143,7 @@ static THREE_TASKS: [Step; 4] = [
 ];
 
 #[test]
-fn tasks_start_in_order_and_end_in_any(rt: HostRuntime) -> Result<(), Fault> {
+fn tasks_start_in_order_and_end_in_any(rt: HostRuntime) {
     play(&rt, rt.alloc(), &THREE_TASKS)
 }
 
@@ -166,7 +166,7 @@ static BARE_GROUP: [Step; 3] = [
 ];
 
 #[test]
-fn tasks_of_a_bare_group_are_told_of_its_scope(rt: HostRuntime) -> Result<(), Fault> {
+fn tasks_of_a_bare_group_are_told_of_its_scope(rt: HostRuntime) {
     play(&rt, rt.alloc(), &BARE_GROUP)
 }
 
@@ -184,6 +184,6 @@ static DONE_SCOPE: [Step; 3] = [
 ];
 
 #[test]
-fn a_group_below_a_done_scope_keeps_the_first_cause(rt: HostRuntime) -> Result<(), Fault> {
+fn a_group_below_a_done_scope_keeps_the_first_cause(rt: HostRuntime) {
     play(&rt, rt.alloc(), &DONE_SCOPE)
 }

@@ -7,7 +7,7 @@ use crate::calls::{Ask, Said};
 use crate::steps::Step::{Appends, Count, Events, Log, Says};
 use crate::steps::{Step, play};
 use record_view::{EventView, KindView, OutcomeView};
-use run_model::{Fault, Refusal};
+use run_model::Refusal;
 
 static RECORDS: [Step; 3] = [
     Appends(&[
@@ -43,7 +43,7 @@ static RECORDS: [Step; 3] = [
 ];
 
 #[test]
-fn each_accepted_call_appends_its_record(rt: HostRuntime) -> Result<(), Fault> {
+fn each_accepted_call_appends_its_record(rt: HostRuntime) {
     play(&rt, rt.alloc(), &RECORDS)
 }
 
@@ -62,7 +62,7 @@ static NO_RECORDS: [Step; 3] = [
 ];
 
 #[test]
-fn a_refused_call_and_a_repeated_wait_append_nothing(rt: HostRuntime) -> Result<(), Fault> {
+fn a_refused_call_and_a_repeated_wait_append_nothing(rt: HostRuntime) {
     play(&rt, rt.alloc(), &NO_RECORDS)
 }
 
@@ -100,6 +100,6 @@ static HISTORY: [Step; 3] = [
 ];
 
 #[test]
-fn history_gives_the_events(rt: HostRuntime) -> Result<(), Fault> {
+fn history_gives_the_events(rt: HostRuntime) {
     play(&rt, rt.alloc(), &HISTORY)
 }

@@ -1,56 +1,59 @@
 //! Sessions that begin behind a restart: what was running is interrupted, and can be retried once.
 
+use crate::asserts::{done, holds};
 use crate::calls::Call::{Bare, Go, Group, Limit, Retry, Start, Succeed, Wait};
 use crate::calls::{Call, Said, command};
 use crate::looks::{Going, Seen};
 use crate::steps::Step::{Count, Records, Refuses, Running, Says, Scopes, Task, Tasks};
 use crate::steps::{Step, play, take};
 use record_view::EventView;
-use run_model::{Fault, Layout, Refusal};
+use run_model::{Command, Layout, Refusal};
 use run_session::Session;
 use run_state::State;
 use std::alloc::Global;
 use std::process::Abort;
-use std::test::Fail;
 
-/// Changes a state by what a command asks for. Tests make a few events alone.
-fn obey(rt: &impl Abort, state: &mut State, call: Call) -> Result<(), Refusal> {
-    let command = command(rt, call).expect(rt, "a command");
-    assert!(rt; state.count() < 1_000);
-    if let Some(event) = state.asked(&command)? {
+/// Changes a state by what a command asks for.
+fn obey(state: &mut State, command: &Command) -> Result<(), Refusal> {
+    if 1_000 <= state.count() {
+        return Err(Refusal::SessionFull);
+    }
+    if let Some(event) = state.asked(command)? {
         state.apply(&event);
     }
     Ok(())
 }
 
 /// Starts the least ready task of a state.
-fn start(rt: &impl Abort, state: &mut State) -> Result<u16, Refusal> {
-    assert!(rt; state.count() < 1_000);
+fn start(state: &mut State) -> Result<u16, Refusal> {
+    if 1_000 <= state.count() {
+        return Err(Refusal::SessionFull);
+    }
     let task = state.asked_start()?.info.task;
     state.apply(&EventView::Start { task });
     Ok(task)
 }
 
-/// A session that begins behind a restart of a state, which these commands and so many starts led
-/// to. The tasks start in the order of their numbers.
-fn begun(
-    rt: &impl Abort,
-    alloc: Global,
-    layout: Layout,
-    calls: &[Call],
-    starts: u16,
-) -> Result<Session, Fail> {
-    let mut state = State::new(alloc, layout)?;
-    for call in calls.iter() {
-        obey(rt, &mut state, *call)?;
-    }
-    for task in 0..starts {
-        assert!(rt; start(rt, &mut state)? == task, "task {task}");
-    }
+/// A session that begins behind a restart of a state.
+fn restarted(rt: &impl Abort, alloc: Global, mut state: State) -> Session {
     assert!(rt; state.count() < 1_000);
     state.restart();
     assert!(rt; state.count() < 1_000);
-    Ok(Session::begin(alloc, state)?)
+    done(rt, Session::begin(alloc, state), "session")
+}
+
+/// A session that begins behind a restart of a state, which these commands and so many starts led
+/// to. The tasks start in the order of their numbers.
+fn begun(rt: &impl Abort, alloc: Global, layout: Layout, calls: &[Call], starts: u16) -> Session {
+    let mut state = done(rt, State::new(alloc, layout), "state");
+    for call in calls.iter() {
+        let command = command(rt, *call).expect(rt, "a command");
+        done(rt, obey(&mut state, &command), "event");
+    }
+    for task in 0..starts {
+        holds(rt, start(&mut state) == Ok(task), "start", task as usize);
+    }
+    restarted(rt, alloc, state)
 }
 
 static LIMIT_OF_ONE: [Call; 4] = [
@@ -86,10 +89,9 @@ static ONE_RETRY: [Step; 10] = [
 ];
 
 #[test]
-fn an_interrupted_task_is_retried_once(rt: HostRuntime) -> Result<(), Fail> {
-    let mut session = begun(&rt, rt.alloc(), Layout::Small, &LIMIT_OF_ONE, 1)?;
+fn an_interrupted_task_is_retried_once(rt: HostRuntime) {
+    let mut session = begun(&rt, rt.alloc(), Layout::Small, &LIMIT_OF_ONE, 1);
     take(&rt, &mut session, &ONE_RETRY);
-    Ok(())
 }
 
 static FOUR_GROUPS: [Call; 9] = [
@@ -124,10 +126,9 @@ static THREE_ENDED: [Step; 7] = [
 ];
 
 #[test]
-fn a_restart_ends_each_group_that_has_a_running_task(rt: HostRuntime) -> Result<(), Fail> {
-    let mut session = begun(&rt, rt.alloc(), Layout::Large, &FOUR_GROUPS, 4)?;
+fn a_restart_ends_each_group_that_has_a_running_task(rt: HostRuntime) {
+    let mut session = begun(&rt, rt.alloc(), Layout::Large, &FOUR_GROUPS, 4);
     take(&rt, &mut session, &THREE_ENDED);
-    Ok(())
 }
 
 static NO_RETRIES: [Step; 4] = [
@@ -144,6 +145,6 @@ static NO_RETRIES: [Step; 4] = [
 ];
 
 #[test]
-fn no_task_of_a_new_session_is_interrupted(rt: HostRuntime) -> Result<(), Fault> {
+fn no_task_of_a_new_session_is_interrupted(rt: HostRuntime) {
     play(&rt, rt.alloc(), &NO_RETRIES)
 }

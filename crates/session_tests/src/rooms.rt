@@ -1,54 +1,60 @@
 //! Want of memory: a session takes its room when it is made, and none later.
 
+use crate::asserts::{done, holds};
 use crate::calls::Call::{Advance, Bare, Cancel, Derive, Go, Group, Limit, Start, Try, Wait};
 use crate::calls::{Ask, Call, Said};
 use crate::looks::{Going, Seen};
 use crate::steps::Step::{Says, Scopes, Tasks, Value};
-use crate::steps::{Step, take};
+use crate::steps::{Step, begun, take};
 use linked_list_allocator::LocalHeap;
 use run_model::{Fault, Layout, Refusal};
 use run_session::Session;
 use run_state::State;
-use std::test::Fail;
+use std::alloc::Global;
+use std::process::Abort;
 
-/// How many bytes a heap has in use over a state alone, and over a whole session: its log of
-/// 1,048,576 bytes comes last.
-fn used(heap: &LocalHeap) -> Result<(usize, usize), Fault> {
-    let state = State::new(heap, Layout::Small)?;
-    let part = heap.used();
-    drop(state);
-    let session = Session::new(heap, Layout::Small)?;
-    let whole = heap.used();
-    drop(session);
-    Ok((part, whole))
+/// A heap of so many bytes.
+fn heap_of(rt: &impl Abort, alloc: Global, bytes: usize) -> LocalHeap {
+    done(rt, LocalHeap::new(alloc, bytes), "heap")
+}
+
+/// How many bytes a state alone takes of a heap.
+fn bytes_of_a_state(rt: &impl Abort, heap: &LocalHeap) -> usize {
+    let _state = done(rt, State::new(heap, Layout::Small), "state");
+    heap.used()
+}
+
+/// How many bytes a whole session takes of a heap: its log of 1,048,576 bytes comes last.
+fn bytes_of_a_session(rt: &impl Abort, heap: &LocalHeap, layout: Layout) -> usize {
+    let _session = begun(rt, heap, layout);
+    heap.used()
 }
 
 /// Why no session can be made over this heap, if none can. One that was made is given up again.
 fn fault_of(heap: &LocalHeap) -> Option<Fault> {
-    match Session::new(heap, Layout::Small) {
-        Ok(_) => None,
-        Err(fault) => Some(fault),
-    }
+    Session::new(heap, Layout::Small).err()
+}
+
+/// Asserts why no session is made over so many bytes, if none is, and that all are given back.
+fn assert_fault(rt: &impl Abort, alloc: Global, bytes: usize, fault: Option<Fault>) {
+    let heap = heap_of(rt, alloc, bytes);
+    holds(rt, fault_of(&heap) == fault, "over bytes", bytes);
+    holds(rt, heap.used() == 0, "given back of bytes", bytes);
 }
 
 #[test]
-fn each_growth_can_be_refused(rt: HostRuntime) -> Result<(), Fail> {
-    let heap = LocalHeap::new(rt.alloc(), 8_000_000)?;
-    let (part, whole) = used(&heap)?;
-    assert!(rt; heap.used() == 0, "all was given back");
+fn each_growth_can_be_refused(rt: HostRuntime) {
+    let heap = heap_of(&rt, rt.alloc(), 8_000_000);
+    let part = bytes_of_a_state(&rt, &heap);
+    holds(&rt, heap.used() == 0, "given back of bytes", part);
+    let whole = bytes_of_a_session(&rt, &heap, Layout::Small);
+    holds(&rt, heap.used() == 0, "given back of bytes", whole);
     // A row, half the state, the log, and the log's end are refused, and nothing.
-    for (bytes, fault) in [
-        (1_000, Some(Fault::Memory)),
-        (part / 2, Some(Fault::Memory)),
-        (part, Some(Fault::Memory)),
-        (whole.saturating_sub(2_048), Some(Fault::Memory)),
-        (whole.saturating_add(2_048), None),
-    ] {
-        let heap = LocalHeap::new(rt.alloc(), bytes)?;
-        assert!(rt; fault_of(&heap) == fault, "over {bytes} bytes");
-        assert!(rt; heap.used() == 0, "{bytes} bytes are given back");
+    let less = whole.saturating_sub(2_048);
+    for bytes in [1_000, part / 2, part, less] {
+        assert_fault(&rt, rt.alloc(), bytes, Some(Fault::Memory));
     }
-    Ok(())
+    assert_fault(&rt, rt.alloc(), whole.saturating_add(2_048), None);
 }
 
 static ALL_CALLS: [Step; 4] = [
@@ -76,19 +82,24 @@ static ALL_CALLS: [Step; 4] = [
     Tasks(&[Going::Failure(b"x"), Going::Ready, Going::Ready]),
 ];
 
+/// Whether a heap has no byte left.
+fn is_full(heap: &LocalHeap) -> bool {
+    Vec::<u8, _>::with_capacity(heap, 1).is_err()
+}
+
+/// Makes all calls on a session over a heap that it fills to its last byte.
+fn assert_full_heap(rt: &impl Abort, alloc: Global, layout: Layout, row: usize) {
+    let ample = heap_of(rt, alloc, 16_000_000);
+    let heap = heap_of(rt, alloc, bytes_of_a_session(rt, &ample, layout));
+    let mut session = begun(rt, &heap, layout);
+    holds(rt, is_full(&heap), "full heap", row);
+    take(rt, &mut session, &ALL_CALLS);
+    holds(rt, session.state().group(0).is_some(), "group", row);
+    holds(rt, session.history().next().is_some(), "history", row);
+}
+
 #[test]
-fn no_memory_is_taken_once_a_session_is_made(rt: HostRuntime) -> Result<(), Fail> {
-    for layout in [Layout::Small, Layout::Large] {
-        let ample = LocalHeap::new(rt.alloc(), 16_000_000)?;
-        let whole = Session::new(&ample, layout)?;
-        // The session fills this heap to its last byte.
-        let heap = LocalHeap::new(rt.alloc(), ample.used())?;
-        drop(whole);
-        let mut session = Session::new(&heap, layout)?;
-        assert!(rt; Vec::<u8, _>::with_capacity(&heap, 1).is_err());
-        take(&rt, &mut session, &ALL_CALLS);
-        assert!(rt; session.state().group(0).is_some());
-        assert!(rt; session.history().next().is_some());
-    }
-    Ok(())
+fn no_memory_is_taken_once_a_session_is_made(rt: HostRuntime) {
+    assert_full_heap(&rt, rt.alloc(), Layout::Small, 0);
+    assert_full_heap(&rt, rt.alloc(), Layout::Large, 1);
 }

@@ -1,12 +1,14 @@
 //! Scopes by commands: cancels, values, and refusals in their order.
 
+use crate::asserts::holds;
 use crate::calls::Call::{Advance, Cancel, Derive};
 use crate::calls::{Ask, Said, name};
 use crate::looks::Seen;
 use crate::steps::Step::{Refuses, Says, Scopes, Value};
-use crate::steps::{Step, play, take};
-use run_model::{Fault, Layout, Refusal};
-use run_session::Session;
+use crate::steps::{Step, begun, play, take};
+use run_model::{Layout, Name, Refusal};
+use run_state::State;
+use std::process::Abort;
 
 static CANCELLED_PARENT: [Step; 2] = [
     Says(&[
@@ -24,7 +26,7 @@ static CANCELLED_PARENT: [Step; 2] = [
 ];
 
 #[test]
-fn a_cancel_reaches_the_scopes_below(rt: HostRuntime) -> Result<(), Fault> {
+fn a_cancel_reaches_the_scopes_below(rt: HostRuntime) {
     play(&rt, rt.alloc(), &CANCELLED_PARENT)
 }
 
@@ -45,7 +47,7 @@ static CHILD_FIRST: [Step; 2] = [
 ];
 
 #[test]
-fn a_scope_that_is_done_stays_as_it_ended(rt: HostRuntime) -> Result<(), Fault> {
+fn a_scope_that_is_done_stays_as_it_ended(rt: HostRuntime) {
     play(&rt, rt.alloc(), &CHILD_FIRST)
 }
 
@@ -54,21 +56,52 @@ static ONE_SCOPE: [Step; 1] = [Says(&[
     (Advance(7), Said::Done),
 ])];
 
+/// The numbers of a scope and of a group of this name.
+fn found(state: &State, called: &Name) -> (Option<u16>, Option<u16>) {
+    (state.find_scope(called), state.find_group(called))
+}
+
+/// Whether a scope is there, and has this name.
+fn is_named(state: &State, scope: u16, called: &Name) -> bool {
+    match state.look(scope) {
+        Some(look) => look.name == *called,
+        None => false,
+    }
+}
+
+/// Whether there are a group, a task and a task's phase of number 0.
+fn firsts(state: &State) -> (bool, bool, bool) {
+    (
+        state.group(0).is_some(),
+        state.task(0).is_some(),
+        state.phase(0).is_some(),
+    )
+}
+
+/// How many scopes, groups, tasks and events there are.
+fn counts(state: &State) -> (usize, usize, usize, u64) {
+    let (scopes, groups, tasks) = (state.scope_count(), state.group_count(), state.task_count());
+    (scopes, groups, tasks, state.count())
+}
+
+/// Asserts what a state of scope `a` alone shows.
+fn assert_one_scope(rt: &impl Abort, state: &State, a: &Name) {
+    holds(rt, found(state, a) == (Some(1), None), "found", 1);
+    holds(rt, is_named(state, 1, a), "scope", 1);
+    holds(rt, state.look(2).is_none(), "no scope", 2);
+    holds(rt, firsts(state) == (false, false, false), "no rows", 0);
+    holds(rt, state.clock().get() == 7, "clock", 7);
+    holds(rt, state.layout() == Layout::Large, "large", 0);
+    holds(rt, counts(state) == (2, 0, 0, 3), "counts", 2);
+}
+
 #[test]
-fn rows_are_found_by_name_and_by_number(rt: HostRuntime) -> Result<(), Fault> {
-    let mut session = Session::new(rt.alloc(), Layout::Large)?;
+fn rows_are_found_by_name_and_by_number(rt: HostRuntime) {
+    let mut session = begun(&rt, rt.alloc(), Layout::Large);
     let a = name(&rt, b"a");
-    assert!(rt; session.state().find_scope(&a).is_none());
+    holds(&rt, found(session.state(), &a) == (None, None), "found", 0);
     take(&rt, &mut session, &ONE_SCOPE);
-    let state = session.state();
-    assert!(rt; state.find_scope(&a) == Some(1) && state.find_group(&a).is_none());
-    assert!(rt; state.look(1).expect(&rt, "a scope").name == a);
-    assert!(rt; state.look(2).is_none() && state.group(0).is_none());
-    assert!(rt; state.task(0).is_none() && state.phase(0).is_none());
-    assert!(rt; state.clock().get() == 7 && state.layout() == Layout::Large);
-    let counts = (state.scope_count(), state.group_count(), state.task_count());
-    assert!(rt; counts == (2, 0, 0) && state.count() == 3);
-    Ok(())
+    assert_one_scope(&rt, session.state(), &a);
 }
 
 static REFUSED_IN_ORDER: [Step; 3] = [
@@ -90,7 +123,7 @@ static REFUSED_IN_ORDER: [Step; 3] = [
 ];
 
 #[test]
-fn derives_and_cancels_are_refused_in_order(rt: HostRuntime) -> Result<(), Fault> {
+fn derives_and_cancels_are_refused_in_order(rt: HostRuntime) {
     play(&rt, rt.alloc(), &REFUSED_IN_ORDER)
 }
 
@@ -116,7 +149,7 @@ static DETACHED_PART: [Step; 3] = [
 ];
 
 #[test]
-fn a_detached_scope_lets_values_through_alone(rt: HostRuntime) -> Result<(), Fault> {
+fn a_detached_scope_lets_values_through_alone(rt: HostRuntime) {
     play(&rt, rt.alloc(), &DETACHED_PART)
 }
 
@@ -145,6 +178,6 @@ static NEAREST_VALUES: [Step; 7] = [
 ];
 
 #[test]
-fn the_nearest_value_is_found(rt: HostRuntime) -> Result<(), Fault> {
+fn the_nearest_value_is_found(rt: HostRuntime) {
     play(&rt, rt.alloc(), &NEAREST_VALUES)
 }

@@ -1,6 +1,7 @@
 //! Tests as tables of steps: calls with what they are answered, and what a session shows behind
 //! them.
 
+use crate::asserts::done;
 use crate::calls::{Call, Said, first_unlike, first_unrefused};
 use crate::fills::{Fill, first_unfilled};
 use crate::looks::{
@@ -8,7 +9,7 @@ use crate::looks::{
     has_group, has_task, has_value,
 };
 use record_view::EventView;
-use run_model::{Fault, Layout, Refusal};
+use run_model::{Layout, Refusal};
 use run_session::Session;
 use std::alloc::{Allocator, Global};
 use std::process::Abort;
@@ -102,19 +103,18 @@ pub fn take<A: Allocator>(rt: &impl Abort, session: &mut Session<A>, steps: &[St
     }
 }
 
+/// A new session.
+pub fn begun<A: Allocator + Copy>(rt: &impl Abort, alloc: A, layout: Layout) -> Session<A> {
+    done(rt, Session::new(alloc, layout), "session")
+}
+
 /// Takes the steps of a test over a new session of a layout.
-pub fn play_in(
-    rt: &impl Abort,
-    alloc: Global,
-    layout: Layout,
-    steps: &[Step],
-) -> Result<(), Fault> {
-    let mut session = Session::new(alloc, layout)?;
+pub fn play_in(rt: &impl Abort, alloc: Global, layout: Layout, steps: &[Step]) {
+    let mut session = begun(rt, alloc, layout);
     take(rt, &mut session, steps);
-    Ok(())
 }
 
 /// Takes the steps of a test over a new session of the small layout.
-pub fn play(rt: &impl Abort, alloc: Global, steps: &[Step]) -> Result<(), Fault> {
+pub fn play(rt: &impl Abort, alloc: Global, steps: &[Step]) {
     play_in(rt, alloc, Layout::Small, steps)
 }

@@ -3,11 +3,10 @@
 use crate::runners::Runner;
 use crate::steps::Answer::{Canceled, Exceeded, Live, Value};
 use crate::steps::Step::{Advance, Cancel, Derive, HitGroups};
-use crate::steps::{Answer, Ask, Step, assert_answers, take, take_all};
+use crate::steps::{Answer, Ask, Step, assert_answers, refuse_all, take_all};
 use run_model::{Layout, Refusal};
 use std::alloc::Global;
 use std::process::Abort;
-use std::test::Fail;
 
 /// What is shown, steps, steps that are refused behind them, and the answers in the end.
 type Example = (
@@ -17,7 +16,7 @@ type Example = (
     &'static [Answer],
 );
 
-const ENDINGS: [Example; 6] = [
+static ENDINGS: [Example; 6] = [
     (
         "a cancel ends the scopes below",
         &[
@@ -88,7 +87,7 @@ const ENDINGS: [Example; 6] = [
     ),
 ];
 
-const KINDS: [Example; 4] = [
+static KINDS: [Example; 4] = [
     (
         "a detached scope lets values through alone",
         &[
@@ -147,36 +146,22 @@ const KINDS: [Example; 4] = [
     ),
 ];
 
-/// Asserts what an example shows, on a tree that is new.
-fn assert_example(rt: &impl Abort, runner: &mut Runner, example: &Example) -> Result<(), Fail> {
-    let (what, steps, refused, answers) = *example;
-    take_all(rt, runner, steps, what)?;
-    for (step, refusal) in refused {
-        let told = take(rt, runner, *step)?;
-        assert!(rt; told == Some(*refusal), "{what}");
+/// Asserts what each example shows, on a tree of its own.
+fn assert_examples(rt: &impl Abort, alloc: Global, examples: &[Example]) {
+    for (what, steps, refused, answers) in examples.iter() {
+        let mut runner = Runner::begun(rt, alloc, Layout::Small);
+        take_all(rt, &mut runner, steps, what);
+        refuse_all(rt, &mut runner, refused, what);
+        assert_answers(rt, &runner, answers, what);
     }
-    assert_answers(rt, runner.tree(), answers, what);
-    Ok(())
-}
-
-/// Asserts what an example shows, on a tree of its own.
-fn assert_on_a_tree(rt: &impl Abort, alloc: Global, example: &Example) -> Result<(), Fail> {
-    let mut runner = Runner::new(alloc, Layout::Small)?;
-    assert_example(rt, &mut runner, example)
 }
 
 #[test]
-fn examples_of_cancels_and_deadlines(rt: HostRuntime) -> Result<(), Fail> {
-    for example in &ENDINGS {
-        assert_on_a_tree(&rt, rt.alloc(), example)?;
-    }
-    Ok(())
+fn examples_of_cancels_and_deadlines(rt: HostRuntime) {
+    assert_examples(&rt, rt.alloc(), &ENDINGS)
 }
 
 #[test]
-fn examples_of_other_kinds(rt: HostRuntime) -> Result<(), Fail> {
-    for example in &KINDS {
-        assert_on_a_tree(&rt, rt.alloc(), example)?;
-    }
-    Ok(())
+fn examples_of_other_kinds(rt: HostRuntime) {
+    assert_examples(&rt, rt.alloc(), &KINDS)
 }

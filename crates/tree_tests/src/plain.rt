@@ -1,7 +1,11 @@
 //! A plain program for what a tree answers: rows, and a walk from a scope upwards each time.
 
+use crate::asserts::done;
+use crate::runners::Look;
+use crate::values::text;
 use run_model::{Hit, Kind, Moment, Name, Reason, Scope, Text};
 use std::alloc::{AllocError, Global};
+use std::process::Abort;
 
 /// The rows of a tree and its clock, with nothing beside them.
 #[derive(Drop)]
@@ -21,9 +25,36 @@ pub struct Found {
     pub value: Option<Text>,
 }
 
+impl Found {
+    /// What is found, as a tree shows it.
+    pub fn look(&self) -> Look<'_> {
+        let (reason, cause) = match &self.ending {
+            Some((reason, cause)) => (Some(*reason), Some(cause.as_bytes())),
+            None => (None, None),
+        };
+        Look {
+            reason,
+            cause,
+            deadline: self.deadline,
+        }
+    }
+
+    /// The bytes of the value.
+    pub fn value(&self) -> Option<&[u8]> {
+        match &self.value {
+            Some(text) => Some(text.as_bytes()),
+            None => None,
+        }
+    }
+}
+
 impl Plain {
     /// Root alone, at this clock.
-    pub fn new(alloc: Global, root: Name, clock: Moment) -> Result<Plain, AllocError> {
+    pub fn begun(rt: &impl Abort, alloc: Global, root: Name, clock: Moment) -> Plain {
+        done(rt, Plain::new(alloc, root, clock), "memory")
+    }
+
+    fn new(alloc: Global, root: Name, clock: Moment) -> Result<Plain, AllocError> {
         let mut scopes = Vec::new(alloc);
         scopes.push(Scope::new(root, 0, Kind::Root))?;
         Ok(Plain { clock, scopes })
@@ -55,18 +86,13 @@ impl Plain {
     }
 
     /// A scope's own hit, if it has none.
-    pub fn cancel(
-        &mut self,
-        event: u64,
-        s: usize,
-        cause: Option<&Text>,
-    ) -> Result<(), &'static str> {
+    pub fn cancel(&mut self, rt: &impl Abort, event: u64, s: u16, cause: Option<&Text>) {
         let moment = self.clock;
         let cause = match cause {
             Some(cause) => cause.copy(),
-            None => Text::read(b"context canceled").ok_or("no text")?,
+            None => text(rt, b"context canceled"),
         };
-        let row = self.scopes.get_mut(s).ok_or("no scope")?;
+        let row = self.scopes.get_mut(s as usize).expect(rt, "a scope");
         if row.hit.is_none() {
             row.hit = Some(Hit {
                 event,
@@ -75,7 +101,6 @@ impl Plain {
                 cause,
             });
         }
-        Ok(())
     }
 
     /// Each deadline that has come is exceeded.

@@ -1,6 +1,7 @@
 //! Trees that are read from rows with hits that no history gives, compared scope by scope with the
 //! plain program after each of 100 events more.
 
+use crate::asserts::done;
 use crate::plain::Plain;
 use crate::runners::Runner;
 use crate::shapes::{Dice, Pair, Shape};
@@ -9,7 +10,6 @@ use record_view::{ImageHead, ImageVersion};
 use run_model::{Hit, Kind, Layout, Reason, Scope};
 use std::alloc::{AllocError, Global};
 use std::process::Abort;
-use std::test::Fail;
 
 /// What the clock shows when the rows are read.
 const CLOCK: u64 = 200;
@@ -19,12 +19,12 @@ const EVENTS: u64 = 10;
 
 /// The hit that an image can have on a scope of this kind: its moment is any up to the clock,
 /// whatever its event.
-fn hit(dice: &mut Dice, kind: &Kind) -> Result<Option<Hit>, &'static str> {
+fn hit(rt: &impl Abort, dice: &mut Dice, kind: &Kind) -> Option<Hit> {
     let event = 1 + dice.roll(EVENTS);
-    let cause = dice.text()?;
-    let past = moment(dice.roll(CLOCK + 1))?;
+    let cause = dice.text(rt);
+    let past = moment(rt, dice.roll(CLOCK + 1));
     let (moment, reason) = match kind {
-        Kind::Root | Kind::Value(_, _) | Kind::Detached => return Ok(None),
+        Kind::Root | Kind::Value(_, _) | Kind::Detached => return None,
         Kind::Deadline(due, _) if due.get() <= CLOCK => {
             if dice.roll(3) == 0 {
                 (past, Reason::Canceled)
@@ -34,17 +34,17 @@ fn hit(dice: &mut Dice, kind: &Kind) -> Result<Option<Hit>, &'static str> {
         }
         _ => {
             if dice.roll(2) == 0 {
-                return Ok(None);
+                return None;
             }
             (past, Reason::Canceled)
         }
     };
-    Ok(Some(Hit {
+    Some(Hit {
         event,
         moment,
         reason,
         cause,
-    }))
+    })
 }
 
 /// Appends a name or a text: its length, and its bytes.
@@ -102,58 +102,63 @@ fn push_row(rows: &mut Vec<u8>, row: &Scope) -> Result<(), AllocError> {
 
 /// Appends the rows of scopes 1 to 999 to both.
 fn push_rows(
+    rt: &impl Abort,
     rows: &mut Vec<u8>,
     plain: &mut Plain,
     shape: Shape,
     dice: &mut Dice,
-) -> Result<(), Fail> {
+) {
     for n in 1..1_000 {
         let parent = shape.parent(n, dice);
-        let mut row = Scope::new(numbered(n)?, parent, dice.kind()?);
-        row.hit = hit(dice, &row.kind)?;
-        push_row(rows, &row)?;
-        plain.push(row)?;
+        let mut row = Scope::new(numbered(rt, n), parent, dice.kind(rt));
+        row.hit = hit(rt, dice, &row.kind);
+        done(rt, push_row(rows, &row), "memory");
+        done(rt, plain.push(row), "memory");
     }
-    Ok(())
 }
 
+/// The head of an image with these rows.
+const HEAD: ImageHead = ImageHead {
+    version: ImageVersion::Two,
+    clock: CLOCK,
+    count: EVENTS,
+    scopes: 999,
+    groups: 0,
+    tasks: 0,
+};
+
 /// A tree of 1,000 scopes that was read from its rows, beside the plain program with the same rows.
-fn restored(alloc: Global, shape: Shape, dice: &mut Dice) -> Result<Pair, Fail> {
-    let mut plain = Plain::new(alloc, name(b"root")?, moment(CLOCK)?)?;
+fn restored(rt: &impl Abort, alloc: Global, shape: Shape, dice: &mut Dice) -> Pair {
+    let mut plain = Plain::begun(rt, alloc, name(rt, b"root"), moment(rt, CLOCK));
     let mut rows = Vec::new(alloc);
-    push_rows(&mut rows, &mut plain, shape, dice)?;
-    let head = ImageHead {
-        version: ImageVersion::Two,
-        clock: CLOCK,
-        count: EVENTS,
-        scopes: 999,
-        groups: 0,
-        tasks: 0,
-    };
-    let runner = Runner::restored(alloc, Layout::Small, &head, &rows)?;
-    Ok(Pair { runner, plain })
+    push_rows(rt, &mut rows, &mut plain, shape, dice);
+    let runner = Runner::restored(alloc, Layout::Small, &HEAD, &rows);
+    Pair {
+        runner: done(rt, runner, "tree"),
+        plain,
+    }
 }
 
 /// Reads a tree of 1,000 scopes, derives 24 more, and compares after each of 100 events.
-fn compare(rt: &impl Abort, alloc: Global, shape: Shape, what: &str) -> Result<(), Fail> {
+fn compare(rt: &impl Abort, alloc: Global, shape: Shape, what: &str) {
     let mut dice = Dice { state: 24 };
-    let mut pair = restored(alloc, shape, &mut dice)?;
+    let mut pair = restored(rt, alloc, shape, &mut dice);
     pair.assert_alike(rt, what);
-    pair.grow(1_000, shape, &mut dice)?;
-    pair.assert_events(rt, 100, &mut dice, what)
+    pair.grow(rt, 1_000, shape, &mut dice);
+    pair.assert_events(rt, 100, &mut dice, what);
 }
 
 #[test]
-fn restored_chain(rt: HostRuntime) -> Result<(), Fail> {
+fn restored_chain(rt: HostRuntime) {
     compare(&rt, rt.alloc(), Shape::Chain, "chain")
 }
 
 #[test]
-fn restored_star(rt: HostRuntime) -> Result<(), Fail> {
+fn restored_star(rt: HostRuntime) {
     compare(&rt, rt.alloc(), Shape::Star, "star")
 }
 
 #[test]
-fn restored_random_tree(rt: HostRuntime) -> Result<(), Fail> {
+fn restored_random_tree(rt: HostRuntime) {
     compare(&rt, rt.alloc(), Shape::Random, "random tree")
 }

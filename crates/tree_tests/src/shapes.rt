@@ -3,13 +3,13 @@
 
 ghost use Rattle.std.specs.Prelude.{◌<◌};
 
+use crate::asserts::{done, holds};
 use crate::plain::Plain;
 use crate::runners::Runner;
 use crate::values::{moment, name, numbered, text};
-use run_model::{Kind, Layout, Text};
+use run_model::{Kind, Layout, Moment, Text};
 use std::alloc::Global;
 use std::process::Abort;
-use std::test::Fail;
 
 /// How a tree is grown.
 #[derive(Clone, Copy)]
@@ -53,24 +53,28 @@ impl Dice {
     }
 
     /// A kind, with a deadline soon after clock 0.
-    pub fn kind(&mut self) -> Result<Kind, &'static str> {
-        let kind = match self.roll(64) {
+    pub fn kind(&mut self, rt: &impl Abort) -> Kind {
+        match self.roll(64) {
             0 => Kind::Detached,
-            1..=5 => Kind::Deadline(moment(1 + self.roll(300))?, None),
-            6..=10 => Kind::Deadline(moment(1 + self.roll(300))?, Some(self.text()?)),
-            11..=15 => Kind::Value(name(b"k")?, self.text()?),
-            16..=18 => Kind::Value(name(b"other")?, self.text()?),
+            1..=5 => Kind::Deadline(self.moment(rt), None),
+            6..=10 => Kind::Deadline(self.moment(rt), Some(self.text(rt))),
+            11..=15 => Kind::Value(name(rt, b"k"), self.text(rt)),
+            16..=18 => Kind::Value(name(rt, b"other"), self.text(rt)),
             19..=28 => Kind::Group,
             29..=40 => Kind::Cancel,
             _ => Kind::Cause,
-        };
-        Ok(kind)
+        }
+    }
+
+    /// A moment soon after clock 0.
+    fn moment(&mut self, rt: &impl Abort) -> Moment {
+        moment(rt, 1 + self.roll(300))
     }
 
     /// One of a hundred texts.
-    pub fn text(&mut self) -> Result<Text, &'static str> {
+    pub fn text(&mut self, rt: &impl Abort) -> Text {
         let n = self.roll(100) as u8;
-        text(&[b't', b'0' + n / 10, b'0' + n % 10])
+        text(rt, &[b't', b'0' + n / 10, b'0' + n % 10])
     }
 }
 
@@ -83,132 +87,122 @@ pub struct Pair {
 
 impl Pair {
     /// Root alone in both, at clock 0.
-    fn new(alloc: Global) -> Result<Pair, Fail> {
-        let runner = Runner::new(alloc, Layout::Small)?;
-        let plain = Plain::new(alloc, name(b"root")?, moment(0)?)?;
-        Ok(Pair { runner, plain })
+    fn begun(rt: &impl Abort, alloc: Global) -> Pair {
+        Pair {
+            runner: Runner::begun(rt, alloc, Layout::Small),
+            plain: Plain::begun(rt, alloc, name(rt, b"root"), moment(rt, 0)),
+        }
     }
 
     /// Derives the scopes from `first` to 1,023 in both.
-    pub fn grow(&mut self, first: u16, shape: Shape, dice: &mut Dice) -> Result<(), Fail> {
+    pub fn grow(&mut self, rt: &impl Abort, first: u16, shape: Shape, dice: &mut Dice) {
         for n in first..1_024 {
             let parent = shape.parent(n, dice);
-            let kind = dice.kind()?;
-            self.derive(n, parent, &kind)?;
+            let kind = dice.kind(rt);
+            self.derive(rt, n, parent, &kind);
         }
-        Ok(())
     }
 
     /// Derives a scope in both.
-    fn derive(&mut self, n: u16, parent: u16, kind: &Kind) -> Result<(), Fail> {
-        let called = numbered(n)?;
-        self.runner.derive(&called, parent, kind)?;
-        self.plain
-            .derive(self.runner.count(), &called, parent, kind)?;
-        Ok(())
+    fn derive(&mut self, rt: &impl Abort, n: u16, parent: u16, kind: &Kind) {
+        let called = numbered(rt, n);
+        done(rt, self.runner.derive(&called, parent, kind), "scope");
+        let event = self.runner.count();
+        done(
+            rt,
+            self.plain.derive(event, &called, parent, kind),
+            "memory",
+        );
     }
 
     /// Cancels a scope in both, if the tree accepts it.
-    fn cancel(&mut self, s: u16, cause: Option<&Text>) -> Result<(), Fail> {
+    fn cancel(&mut self, rt: &impl Abort, s: u16, cause: Option<&Text>) {
         if self.runner.cancel(s, cause).is_ok() {
-            self.plain.cancel(self.runner.count(), s as usize, cause)?;
+            self.plain.cancel(rt, self.runner.count(), s, cause);
         }
-        Ok(())
     }
 
     /// Ends two groups in both, if both scopes are groups'.
-    fn hit_groups(&mut self, a: u16, b: u16, error: &Text) -> Result<(), Fail> {
+    fn hit_groups(&mut self, rt: &impl Abort, a: u16, b: u16, error: &Text) {
         if self.runner.hit_groups(a, b, Some(error)).is_ok() {
-            self.plain
-                .cancel(self.runner.count(), a as usize, Some(error))?;
-            self.plain
-                .cancel(self.runner.count(), b as usize, Some(error))?;
+            let event = self.runner.count();
+            self.plain.cancel(rt, event, a, Some(error));
+            self.plain.cancel(rt, event, b, Some(error));
         }
-        Ok(())
     }
 
     /// Moves the clock in both.
-    fn advance(&mut self, seconds: u64) -> Result<(), Fail> {
-        let to = moment(seconds)?;
-        self.runner.advance(to)?;
+    fn advance(&mut self, rt: &impl Abort, seconds: u64) {
+        let to = moment(rt, seconds);
+        done(rt, self.runner.advance(to), "advance");
         self.plain.advance(self.runner.count(), to);
-        Ok(())
     }
 
     /// An event that the dice choose.
-    fn event(&mut self, dice: &mut Dice) -> Result<(), Fail> {
+    fn event(&mut self, rt: &impl Abort, dice: &mut Dice) {
         let s = dice.roll(1_024) as u16;
         match dice.roll(8) {
             0..=2 => {
                 let forward = 1 + dice.roll(3);
                 let now = self.plain.clock();
-                self.advance(now.saturating_add(forward))
+                self.advance(rt, now.saturating_add(forward))
             }
             3..=4 => {
-                let error = dice.text()?;
-                self.hit_groups(s, dice.roll(1_024) as u16, &error)
+                let error = dice.text(rt);
+                self.hit_groups(rt, s, dice.roll(1_024) as u16, &error)
             }
-            5 => self.cancel(s, None),
+            5 => self.cancel(rt, s, None),
             _ => {
-                let cause = dice.text()?;
-                self.cancel(s, Some(&cause))
+                let cause = dice.text(rt);
+                self.cancel(rt, s, Some(&cause))
             }
         }
+    }
+
+    /// Whether both answer alike at a scope.
+    fn is_alike(&self, s: u16) -> bool {
+        let found = self.plain.find(s as usize, b"k");
+        self.runner.look(s) == Some(found.look())
+            && self.runner.value(s, b"k") == Some(found.value())
     }
 
     /// Asserts that both answer alike at each scope.
     pub fn assert_alike(&self, rt: &impl Abort, what: &str) {
-        let tree = self.runner.tree();
-        for s in 0..tree.len() {
-            let found = self.plain.find(s, b"k");
-            let s = s as u16;
-            let ending = found.ending.as_ref();
-            assert!(rt; tree.err(s) == ending.map(|e| e.0), "{what}: scope {s}");
-            let cause = ending.map(|e| e.1.as_bytes());
-            assert!(rt; tree.cause(s) == cause, "{what}: scope {s}");
-            let deadline = tree.deadline(s).map(|m| m.get());
-            assert!(rt; deadline == found.deadline, "{what}: scope {s}");
-            let value = found.value.as_ref().map(|text| text.as_bytes());
-            assert!(rt; tree.value(s, b"k") == value, "{what}: scope {s}");
+        for s in 0..self.runner.tree().len() {
+            holds(rt, self.is_alike(s as u16), what, "scope", s);
         }
     }
+
     /// Asserts that both answer alike after each of so many events.
-    pub fn assert_events(
-        &mut self,
-        rt: &impl Abort,
-        many: u64,
-        dice: &mut Dice,
-        what: &str,
-    ) -> Result<(), Fail> {
+    pub fn assert_events(&mut self, rt: &impl Abort, many: u64, dice: &mut Dice, what: &str) {
         self.assert_alike(rt, what);
         for _ in 0..many {
-            self.event(dice)?;
+            self.event(rt, dice);
             self.assert_alike(rt, what);
         }
-        assert!(rt; self.runner.tree().len() == 1_024, "{what}");
-        Ok(())
+        holds(rt, self.runner.len() == 1_024, what, "scopes", 1_024);
     }
 }
 
 /// Grows a tree of 1,024 scopes, and compares after each of 200 events.
-fn compare(rt: &impl Abort, alloc: Global, shape: Shape, what: &str) -> Result<(), Fail> {
+fn compare(rt: &impl Abort, alloc: Global, shape: Shape, what: &str) {
     let mut dice = Dice { state: 2_026 };
-    let mut pair = Pair::new(alloc)?;
-    pair.grow(1, shape, &mut dice)?;
-    pair.assert_events(rt, 200, &mut dice, what)
+    let mut pair = Pair::begun(rt, alloc);
+    pair.grow(rt, 1, shape, &mut dice);
+    pair.assert_events(rt, 200, &mut dice, what);
 }
 
 #[test]
-fn chain_of_1024_scopes(rt: HostRuntime) -> Result<(), Fail> {
+fn chain_of_1024_scopes(rt: HostRuntime) {
     compare(&rt, rt.alloc(), Shape::Chain, "chain")
 }
 
 #[test]
-fn star_of_1024_scopes(rt: HostRuntime) -> Result<(), Fail> {
+fn star_of_1024_scopes(rt: HostRuntime) {
     compare(&rt, rt.alloc(), Shape::Star, "star")
 }
 
 #[test]
-fn random_tree_of_1024_scopes(rt: HostRuntime) -> Result<(), Fail> {
+fn random_tree_of_1024_scopes(rt: HostRuntime) {
     compare(&rt, rt.alloc(), Shape::Random, "random tree")
 }

@@ -1,9 +1,9 @@
 //! What is asked of a tree, one step after another, and what its scopes answer then.
 
-use crate::runners::Runner;
+use crate::asserts::holds;
+use crate::runners::{Look, Runner};
 use crate::values::{moment, name, text};
 use run_model::{Kind, Reason, Refusal, Text};
-use scope_tree::Tree;
 use std::alloc::Allocator;
 use std::process::Abort;
 
@@ -42,118 +42,105 @@ pub enum Answer {
 }
 
 /// A cause, if it has bytes.
-fn cause(bytes: &[u8]) -> Result<Option<Text>, &'static str> {
+fn cause(rt: &impl Abort, bytes: &[u8]) -> Option<Text> {
     if bytes.is_empty() {
-        return Ok(None);
+        return None;
     }
-    Ok(Some(text(bytes)?))
+    Some(text(rt, bytes))
 }
 
 /// The kind that is asked for.
-pub fn kind(ask: Ask) -> Result<Kind, &'static str> {
-    Ok(match ask {
+pub fn kind(rt: &impl Abort, ask: Ask) -> Kind {
+    match ask {
         Ask::Cancel => Kind::Cancel,
         Ask::Cause => Kind::Cause,
-        Ask::Deadline(seconds, bytes) => Kind::Deadline(moment(seconds)?, cause(bytes)?),
-        Ask::Value(key, value) => Kind::Value(name(key)?, text(value)?),
+        Ask::Deadline(seconds, bytes) => Kind::Deadline(moment(rt, seconds), cause(rt, bytes)),
+        Ask::Value(key, value) => Kind::Value(name(rt, key), text(rt, value)),
         Ask::Detached => Kind::Detached,
         Ask::Group => Kind::Group,
-    })
+    }
+}
+
+/// Derives a scope, which has the next number unless it is refused.
+fn derive<A: Allocator>(
+    rt: &impl Abort,
+    runner: &mut Runner<A>,
+    called: &[u8],
+    parent: u16,
+    ask: Ask,
+) -> Result<(), Refusal> {
+    let next = runner.len();
+    let number = runner.derive(&name(rt, called), parent, &kind(rt, ask))?;
+    holds(rt, number as usize == next, "derived", "scope", next);
+    Ok(())
 }
 
 /// Takes a step, and says why it was refused, if it was. A scope that is derived has the next
 /// number.
-pub fn take<A: Allocator>(
-    rt: &impl Abort,
-    runner: &mut Runner<A>,
-    step: Step,
-) -> Result<Option<Refusal>, &'static str> {
+pub fn take<A: Allocator>(rt: &impl Abort, runner: &mut Runner<A>, step: Step) -> Option<Refusal> {
     let told = match step {
-        Step::Derive(called, parent, ask) => {
-            let next = runner.tree().len();
-            let kind = kind(ask)?;
-            match runner.derive(&name(called)?, parent, &kind) {
-                Ok(number) => {
-                    assert!(rt; number as usize == next, "scope {next}");
-                    Ok(())
-                }
-                Err(refusal) => Err(refusal),
-            }
-        }
-        Step::Cancel(s, bytes) => runner.cancel(s, cause(bytes)?.as_ref()),
-        Step::HitGroups(a, b, bytes) => runner.hit_groups(a, b, cause(bytes)?.as_ref()),
-        Step::Advance(seconds) => runner.advance(moment(seconds)?),
+        Step::Derive(called, parent, ask) => derive(rt, runner, called, parent, ask),
+        Step::Cancel(s, bytes) => runner.cancel(s, cause(rt, bytes).as_ref()),
+        Step::HitGroups(a, b, bytes) => runner.hit_groups(a, b, cause(rt, bytes).as_ref()),
+        Step::Advance(seconds) => runner.advance(moment(rt, seconds)),
     };
-    Ok(told.err())
+    told.err()
 }
 
 /// Takes each step, of which none is refused.
-pub fn take_all<A: Allocator>(
+pub fn take_all<A: Allocator>(rt: &impl Abort, runner: &mut Runner<A>, steps: &[Step], what: &str) {
+    for (n, step) in steps.iter().enumerate() {
+        holds(rt, take(rt, runner, *step).is_none(), what, "step", n);
+    }
+}
+
+/// Takes each step, of which each is refused so.
+pub fn refuse_all<A: Allocator>(
     rt: &impl Abort,
     runner: &mut Runner<A>,
-    steps: &[Step],
+    steps: &[(Step, Refusal)],
     what: &str,
-) -> Result<(), &'static str> {
-    for (n, step) in steps.iter().enumerate() {
-        let refusal = take(rt, runner, *step)?;
-        assert!(rt; refusal.is_none(), "{what}: step {n}");
+) {
+    for (n, (step, refusal)) in steps.iter().enumerate() {
+        let told = take(rt, runner, *step);
+        holds(rt, told == Some(*refusal), what, "refused step", n);
     }
-    Ok(())
 }
 
-/// Asserts why a scope is done, and until when it is not.
-fn assert_ending<A: Allocator>(
-    rt: &impl Abort,
-    tree: &Tree<A>,
-    s: u16,
-    ending: Option<(Reason, &[u8])>,
-    deadline: Option<u64>,
-    what: &str,
-) {
-    assert!(rt; (s as usize) < tree.len(), "{what}: scope {s}");
-    assert!(rt; tree.err(s) == ending.map(|e| e.0), "{what}: scope {s}");
-    assert!(rt; tree.cause(s) == ending.map(|e| e.1), "{what}: scope {s}");
-    assert!(rt;
-        tree.deadline(s).map(|m| m.get()) == deadline,
-        "{what}: scope {s}"
-    );
+/// Whether a scope answers so.
+fn has_answer<A: Allocator>(runner: &Runner<A>, answer: Answer) -> bool {
+    let (s, reason, cause, deadline) = match answer {
+        Answer::Live(s, deadline) => (s, None, None, deadline),
+        Answer::Canceled(s, cause, deadline) => {
+            (s, Some(Reason::Canceled), Some(cause), deadline)
+        }
+        Answer::Exceeded(s, cause, deadline) => {
+            (s, Some(Reason::DeadlineExceeded), Some(cause), deadline)
+        }
+        Answer::Value(s, key, value) => return has_value(runner, s, key, value),
+    };
+    let look = Look {
+        reason,
+        cause,
+        deadline,
+    };
+    runner.look(s) == Some(look)
 }
 
-/// Asserts the value of a key at a scope.
-fn assert_value<A: Allocator>(
-    rt: &impl Abort,
-    tree: &Tree<A>,
-    s: u16,
-    key: &[u8],
-    value: Option<&[u8]>,
-    what: &str,
-) {
-    assert!(rt; (s as usize) < tree.len(), "{what}: scope {s}");
-    assert!(rt; tree.value(s, key) == value, "{what}: scope {s}");
+/// Whether a key has this value at a scope; none where it has no bytes.
+fn has_value<A: Allocator>(runner: &Runner<A>, s: u16, key: &[u8], value: &[u8]) -> bool {
+    let value = if value.is_empty() { None } else { Some(value) };
+    runner.value(s, key) == Some(value)
 }
 
 /// Asserts each answer.
 pub fn assert_answers<A: Allocator>(
     rt: &impl Abort,
-    tree: &Tree<A>,
+    runner: &Runner<A>,
     answers: &[Answer],
     what: &str,
 ) {
-    for answer in answers {
-        match *answer {
-            Answer::Live(s, deadline) => assert_ending(rt, tree, s, None, deadline, what),
-            Answer::Canceled(s, cause, deadline) => {
-                let ending = Some((Reason::Canceled, cause));
-                assert_ending(rt, tree, s, ending, deadline, what)
-            }
-            Answer::Exceeded(s, cause, deadline) => {
-                let ending = Some((Reason::DeadlineExceeded, cause));
-                assert_ending(rt, tree, s, ending, deadline, what)
-            }
-            Answer::Value(s, key, value) => {
-                let value = if value.is_empty() { None } else { Some(value) };
-                assert_value(rt, tree, s, key, value, what)
-            }
-        }
+    for (n, answer) in answers.iter().enumerate() {
+        holds(rt, has_answer(runner, *answer), what, "answer", n);
     }
 }
