@@ -1,11 +1,11 @@
 //! The greatest images, and images with as many rows of a kind as there can be, and one more.
 
-use crate::plain::{Head, is_kept, is_refused, push_head, read_again};
+use crate::asserts::{done, holds};
+use crate::plain::{Counts, Head, is_kept, is_refused, push_head, read_again};
 use record_view::ImageVersion;
 use run_model::Layout;
 use std::alloc::{AllocError, Global};
 use std::process::Abort;
-use std::test::Fail;
 
 /// No link.
 const LINK: &[u8] = b"\xff\xff";
@@ -81,50 +81,47 @@ fn greatest(
     Ok(image)
 }
 
+/// A layout and a version, how many scopes and tasks, and the length of their greatest image.
+type Greatest = (Layout, ImageVersion, (u16, u16), usize);
+
 /// Asserts that the greatest image of a version is read, and written again in version 2.
-fn assert_greatest(
-    rt: &impl Abort,
-    alloc: Global,
-    layout: Layout,
-    version: ImageVersion,
-    (scopes, tasks): (u16, u16),
-    len: usize,
-) -> Result<(), Fail> {
+fn assert_greatest(rt: &impl Abort, alloc: Global, kind: Greatest) {
+    let (layout, version, (scopes, tasks), len) = kind;
     let (number, link) = match version {
         ImageVersion::One => (1, b"".as_slice()),
         ImageVersion::Two => (2, LINK),
     };
-    let image = greatest(alloc, number, scopes, tasks, link)?;
-    assert!(rt; image.len() == len, "{len} bytes");
-    let again = greatest(alloc, 2, scopes, tasks, LINK)?;
-    let read = read_again(alloc, layout, &image, &again)?;
-    assert!(rt; read == (version, true), "{len} bytes");
-    Ok(())
+    let image = done(rt, greatest(alloc, number, scopes, tasks, link), "memory");
+    holds(rt, image.len() == len, "bytes", len);
+    let again = done(rt, greatest(alloc, 2, scopes, tasks, LINK), "memory");
+    let read = read_again(rt, alloc, layout, &image, &again);
+    holds(rt, read == Ok((version, true)), "again of bytes", len);
 }
 
-/// Says whether a small store refuses the greatest image of a large one.
-fn is_too_large(alloc: Global) -> Result<bool, Fail> {
-    let large = greatest(alloc, 2, 4_095, 8_192, LINK)?;
-    is_refused(alloc, Layout::Small, &large)
-}
+static GREATEST: [Greatest; 4] = [
+    (Layout::Small, ImageVersion::One, (1_023, 2_048), 484_055),
+    (Layout::Small, ImageVersion::Two, (1_023, 2_048), 488_151),
+    (Layout::Large, ImageVersion::One, (1_023, 2_048), 484_055),
+    (Layout::Large, ImageVersion::Two, (4_095, 8_192), 1_913_559),
+];
 
 #[test]
-fn greatest_images(rt: HostRuntime) -> Result<(), Fail> {
-    let rows = [
-        (Layout::Small, ImageVersion::One, (1_023, 2_048), 484_055),
-        (Layout::Small, ImageVersion::Two, (1_023, 2_048), 488_151),
-        (Layout::Large, ImageVersion::One, (1_023, 2_048), 484_055),
-        (Layout::Large, ImageVersion::Two, (4_095, 8_192), 1_913_559),
-    ];
-    for (layout, version, many, len) in rows {
-        assert_greatest(&rt, rt.alloc(), layout, version, many, len)?;
+fn greatest_images(rt: HostRuntime) {
+    for kind in GREATEST.iter() {
+        assert_greatest(&rt, rt.alloc(), *kind);
     }
-    assert!(rt; is_too_large(rt.alloc())?);
-    Ok(())
+    // A small store refuses the greatest image of a large one.
+    let large = done(&rt, greatest(rt.alloc(), 2, 4_095, 8_192, LINK), "memory");
+    holds(
+        &rt,
+        is_refused(&rt, rt.alloc(), Layout::Small, &large),
+        "large",
+        0,
+    );
 }
 
 /// The image of so many of the least rows: cancel scopes, bare groups, and tasks of group 0.
-fn least(alloc: Global, rows: (u16, u16, u16)) -> Result<Vec<u8>, AllocError> {
+fn least(alloc: Global, rows: Counts) -> Result<Vec<u8>, AllocError> {
     let mut image = Vec::new(alloc);
     let head = Head {
         version: 2,
@@ -149,22 +146,33 @@ fn least(alloc: Global, rows: (u16, u16, u16)) -> Result<Vec<u8>, AllocError> {
     Ok(image)
 }
 
+/// A layout, as many rows as there can be, and one more.
+static FULL: [(Layout, Counts, Counts); 7] = [
+    (Layout::Small, (1_023, 0, 0), (1_024, 0, 0)),
+    (Layout::Small, (0, 128, 0), (0, 129, 0)),
+    (Layout::Small, (0, 1, 2_048), (0, 1, 2_049)),
+    (Layout::Large, (4_095, 0, 0), (4_096, 0, 0)),
+    (Layout::Large, (0, 128, 0), (0, 129, 0)),
+    (Layout::Large, (0, 1, 8_192), (0, 1, 8_193)),
+    (Layout::Small, (1_023, 128, 2_048), (1_024, 128, 2_048)),
+];
+
 #[test]
-fn a_row_too_many(rt: HostRuntime) -> Result<(), Fail> {
-    let rows = [
-        (Layout::Small, (1_023, 0, 0), (1_024, 0, 0)),
-        (Layout::Small, (0, 128, 0), (0, 129, 0)),
-        (Layout::Small, (0, 1, 2_048), (0, 1, 2_049)),
-        (Layout::Large, (4_095, 0, 0), (4_096, 0, 0)),
-        (Layout::Large, (0, 128, 0), (0, 129, 0)),
-        (Layout::Large, (0, 1, 8_192), (0, 1, 8_193)),
-        (Layout::Small, (1_023, 128, 2_048), (1_024, 128, 2_048)),
-    ];
-    for (n, (layout, full, more)) in rows.into_iter().enumerate() {
-        let full = least(rt.alloc(), full)?;
-        let more = least(rt.alloc(), more)?;
-        assert!(rt; is_kept(rt.alloc(), layout, &full)?, "full, row {n}");
-        assert!(rt; is_refused(rt.alloc(), layout, &more)?, "one more, row {n}");
+fn a_row_too_many(rt: HostRuntime) {
+    for (n, (layout, full, more)) in FULL.iter().enumerate() {
+        let full = done(&rt, least(rt.alloc(), *full), "memory");
+        let more = done(&rt, least(rt.alloc(), *more), "memory");
+        holds(
+            &rt,
+            is_kept(&rt, rt.alloc(), *layout, &full),
+            "full, row",
+            n,
+        );
+        holds(
+            &rt,
+            is_refused(&rt, rt.alloc(), *layout, &more),
+            "one more, row",
+            n,
+        );
     }
-    Ok(())
 }

@@ -4,12 +4,12 @@ ghost use Rattle.std.specs.Prelude.{◌≡◌};
 ghost use Rattle.record_view.specs.declared.heads.ImageVersion.TheVariants.{Two};
 ghost use Rattle.record_view.specs.Image.{greatest_image};
 
+use crate::asserts::{done, holds};
 use record_view::ImageVersion;
 use run_model::{Fault, Layout};
 use run_state::State;
 use std::alloc::{AllocError, Global};
 use std::process::Abort;
-use std::test::Fail;
 
 /// Bytes one behind the other.
 pub type Pieces = &'static [&'static [u8]];
@@ -49,14 +49,18 @@ pub fn push_head(image: &mut Vec<u8>, head: Head) -> Result<(), AllocError> {
     Ok(())
 }
 
-/// A head and the pieces behind it.
-pub fn image(alloc: Global, head: Head, pieces: &[&[u8]]) -> Result<Vec<u8>, AllocError> {
+fn joined(alloc: Global, head: Head, pieces: &[&[u8]]) -> Result<Vec<u8>, AllocError> {
     let mut image = Vec::new(alloc);
     push_head(&mut image, head)?;
     for piece in pieces {
         image.extend_from_slice(piece)?;
     }
     Ok(image)
+}
+
+/// A head and the pieces behind it.
+pub fn image(rt: &impl Abort, alloc: Global, head: Head, pieces: &[&[u8]]) -> Vec<u8> {
+    done(rt, joined(alloc, head, pieces), "memory")
 }
 
 /// The length of the greatest image in a store of this layout.
@@ -69,51 +73,60 @@ pub fn greatest_len(layout: Layout) -> usize
     }
 }
 
+/// What is read as an image in a new store of this layout.
+pub fn read(
+    rt: &impl Abort,
+    alloc: Global,
+    layout: Layout,
+    image: &[u8],
+) -> Result<(State, ImageVersion), Fault> {
+    match State::new(alloc, layout) {
+        Ok(state) => state.read_image(image),
+        Err(_) => panic!(rt; "no memory"),
+    }
+}
+
+/// Says whether these bytes are what a state writes, over bytes of 0xEE.
+fn is_written(rt: &impl Abort, alloc: Global, state: &State, again: &[u8]) -> bool {
+    let Ok(mut out) = Vec::from_elem(alloc, 0xee, greatest_len(state.layout())) else {
+        panic!(rt; "no memory");
+    };
+    if 1 << 63 <= state.count() {
+        return false;
+    }
+    let len = state.write_image(&mut out);
+    len == again.len() && out.starts_with(again)
+}
+
 /// The version of the image that is read, and whether these bytes are written again.
 pub fn read_again(
+    rt: &impl Abort,
     alloc: Global,
     layout: Layout,
     image: &[u8],
     again: &[u8],
-) -> Result<(ImageVersion, bool), Fail> {
-    let (state, version) = State::new(alloc, layout)?.read_image(image)?;
-    let mut out = Vec::from_elem(alloc, 0xee, greatest_len(state.layout()))?;
-    if 1 << 63 <= state.count() {
-        return Ok((version, false));
-    }
-    let len = state.write_image(&mut out);
-    Ok((version, len == again.len() && out.starts_with(again)))
+) -> Result<(ImageVersion, bool), Fault> {
+    let (state, version) = read(rt, alloc, layout, image)?;
+    Ok((version, is_written(rt, alloc, &state, again)))
 }
 
 /// Says whether these bytes are read as an image of version 2, and written again.
-pub fn is_kept(alloc: Global, layout: Layout, image: &[u8]) -> Result<bool, Fail> {
-    let (version, same) = read_again(alloc, layout, image, image)?;
-    Ok(same && version == ImageVersion::Two)
+pub fn is_kept(rt: &impl Abort, alloc: Global, layout: Layout, image: &[u8]) -> bool {
+    read_again(rt, alloc, layout, image, image) == Ok((ImageVersion::Two, true))
 }
 
 /// Says whether these bytes are no image in a store of this layout.
-pub fn is_refused(alloc: Global, layout: Layout, image: &[u8]) -> Result<bool, Fail> {
-    match State::new(alloc, layout)?.read_image(image) {
-        Ok(_) => Ok(false),
-        Err(fault) => Ok(fault == Fault::BadImage),
-    }
+pub fn is_refused(rt: &impl Abort, alloc: Global, layout: Layout, image: &[u8]) -> bool {
+    read(rt, alloc, layout, image).err() == Some(Fault::BadImage)
 }
 
-/// Asserts that an image is kept, or that it is refused, in a small store.
-pub fn assert_read(
-    rt: &impl Abort,
-    alloc: Global,
-    image: &[u8],
-    kept: bool,
-    what: &str,
-) -> Result<(), Fail> {
-    let found = if kept {
-        is_kept(alloc, Layout::Small, image)?
+/// Says whether an image is kept, or else refused, in a small store.
+pub fn is_read(rt: &impl Abort, alloc: Global, image: &[u8], kept: bool) -> bool {
+    if kept {
+        is_kept(rt, alloc, Layout::Small, image)
     } else {
-        is_refused(alloc, Layout::Small, image)?
-    };
-    assert!(rt; found, "{what}");
-    Ok(())
+        is_refused(rt, alloc, Layout::Small, image)
+    }
 }
 
 /// Asserts that the first image is kept and the second refused, in small stores and in large ones.
@@ -123,23 +136,22 @@ pub fn assert_pair(
     good: &[u8],
     bad: &[u8],
     what: &str,
-) -> Result<(), Fail> {
+    row: usize,
+) {
     for layout in [Layout::Small, Layout::Large] {
-        assert!(rt; is_kept(alloc, layout, good)?, "not {what}");
-        assert!(rt; is_refused(alloc, layout, bad)?, "{what}");
+        holds(rt, is_kept(rt, alloc, layout, good), what, row);
+        holds(rt, is_refused(rt, alloc, layout, bad), what, row);
     }
-    Ok(())
 }
 
 /// What the second image breaks, the numbers of rows, and the rows of both.
 pub type Pair = (&'static str, Counts, Pieces, Pieces);
 
 /// Asserts of each pair that the first image is kept and the second refused.
-pub fn assert_pairs(rt: &impl Abort, alloc: Global, pairs: &[Pair]) -> Result<(), Fail> {
-    for (what, rows, good, bad) in pairs {
-        let good = image(alloc, Head::of(*rows), good)?;
-        let bad = image(alloc, Head::of(*rows), bad)?;
-        assert_pair(rt, alloc, &good, &bad, what)?;
+pub fn assert_pairs(rt: &impl Abort, alloc: Global, pairs: &[Pair]) {
+    for (n, (what, rows, good, bad)) in pairs.iter().enumerate() {
+        let good = image(rt, alloc, Head::of(*rows), good);
+        let bad = image(rt, alloc, Head::of(*rows), bad);
+        assert_pair(rt, alloc, &good, &bad, what, n);
     }
-    Ok(())
 }
