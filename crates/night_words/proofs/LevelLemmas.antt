@@ -1,6 +1,6 @@
 -- Levels of the parse in which nothing is found.
 use Rattle.std.proofs.Common.{◌≡◌, ◌∷◌, Bool, List, []}
-use Rattle.clap.specs.Kinds.{Kinds, or_else}
+use Rattle.clap.specs.Kinds.{Kinds}
 use Rattle.clap.specs.Simple.{Shape}
 use Rattle.clap.specs.Faults.{level_fault, turn_fault, walk_fault}
 use Rattle.clap.specs.Walk.{Names, Text, Walk, nothing_held, walk_from, walked}

@@ -1,13 +1,11 @@
 -- The words behind `migrate`: they name two stores, and the parser reads them.
-use Rattle.std.proofs.Common.{◌≡◌, ◌∙◌, ◌∷◌, ◌⊎◌, List, Option, Some, None, [], ap, ap₂, inl, inr}
+use Rattle.std.proofs.Common.{◌≡◌, ◌∙◌, ◌∷◌, ◌⊎◌, List, Some, None, [], ap, ap₂, inl, inr}
 use Rattle.std.proofs.Common.{false, refl, subst, sym}
 use Rattle.std.specs.Prelude.{codes}
-use Rattle.clap.specs.Kinds.{Kinds, or_else}
-use Rattle.clap.specs.Simple.{Shape, rows_at}
-use Rattle.clap.specs.Faults.{check_fault, defaults_fault, level_fault, settle_fault, step_fault}
+use Rattle.clap.specs.Faults.{check_fault, level_fault, step_fault}
 use Rattle.clap.specs.Faults.{turn_fault, walk_fault}
 use Rattle.clap.specs.Walk.{Held, Step, Text, Walk, after_step, finished, first_of, idle}
-use Rattle.clap.specs.Walk.{nothing_held, settled, subcommand_or_other, value, walk, walked}
+use Rattle.clap.specs.Walk.{nothing_held, subcommand_or_other, value, walk, walked}
 use Rattle.clap.proofs.OnLiterals.{clap_on_literals}
 use Rattle.night_words.proofs.LevelLemmas.{first_passes, rest_passes, start, words_pass}
 use Rattle.night_words.proofs.TurnLemmas.{first_none, mark, mark_or_value, migrate_is_strict}

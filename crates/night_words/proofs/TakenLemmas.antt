@@ -1,10 +1,10 @@
 -- The words that are taken: a command, and the words behind it that it takes.
 use Rattle.std.proofs.Common.{◌≡◌, ◌∙◌, ◌∷◌, ◌++◌, ◌⊎◌, Bool, List, Option, Some, None, [], ap}
-use Rattle.std.proofs.Common.{append-nil, append_assoc, ap₂, cond, false, inl, inr, refl, subst}
+use Rattle.std.proofs.Common.{append-nil, append_assoc, cond, false, inl, inr, refl, subst}
 use Rattle.std.proofs.Common.{sym}
 use Rattle.std.proofs.Common.{true}
 use Rattle.std.specs.Prelude.{◌||◌, codes, fold, option_map}
-use Rattle.std.specs.Prelude.{Result, Ok, Err}
+use Rattle.std.specs.Prelude.{Ok, Err}
 use Rattle.std.specs.Option.{option_map_or}
 use Rattle.std.specs.Str.{bytes_eq}
 use Rattle.std.proofs.lemmas.Slice.Eq.{bytes_eq-Decides}
@@ -13,7 +13,7 @@ use Rattle.clap.specs.Simple.{Shape, built, entered, names_of, rows_at, subcomma
 use Rattle.clap.specs.Faults.{built_fault, entered_fault, level_fault, other_fault}
 use Rattle.clap.specs.Faults.{step_fault, turn_fault, walk_fault}
 use Rattle.clap.specs.Walk.{Held, Names, Step, Text, Walk, after_step, finished, first_of, idle}
-use Rattle.clap.specs.Walk.{nothing_held, subcommand_or_other, value, walk, walk_from, walked}
+use Rattle.clap.specs.Walk.{nothing_held, subcommand_or_other, value, walk, walked}
 use Rattle.clap.specs.Walk.{walked_from}
 use Rattle.clap.proofs.OnLiterals.{clap_on_literals}
 use Rattle.night_words.specs.Commands.{night, Asks, AsksFor, AsksForDemo, AsksOver, AsksToMigrate}
@@ -26,7 +26,7 @@ use Rattle.night_words.specs.declared.asked.WordsFault.TheVariants.{Memory, Mist
 use Rattle.night_words.specs.declared.asked.WordsFault.TheVariants.{SameStores}
 use Rattle.night_words.proofs.LevelLemmas.{first_passes, lower_passes, rest_passes, start}
 use Rattle.night_words.proofs.LevelLemmas.{words_pass}
-use Rattle.night_words.proofs.PairLemmas.{BehindBoth, behind_both, migrate}
+use Rattle.night_words.proofs.PairLemmas.{behind_both, migrate}
 use Rattle.night_words.proofs.TurnLemmas.{above, above_is_strict, demo_is_strict, demo_shape}
 use Rattle.night_words.proofs.TurnLemmas.{first_none, held, mark, mark_or_value, second_none}
 use Rattle.night_words.proofs.TurnLemmas.{store_is_strict, store_shape}

@@ -76,7 +76,12 @@ fn migrate_command<'a>(alloc: Global) -> Result<Command<'a>, AllocError>
         .about("Makes a large store NEW of a small store OLD; what NEW held is lost")
         .after_help("Example: night migrate small.store large.store")
         .arg(store_word(alloc, "STORE", "OLD", "The small store, which is only read"))?
-        .arg(store_word(alloc, "NEW", "NEW", "The new file; one that is there is emptied"))
+        .arg(store_word(
+            alloc,
+            "NEW",
+            "NEW",
+            "The new file; one that is there is emptied",
+        ))
 }
 
 /// A word that names a store, which its command wants, and what help calls it.
