@@ -1,5 +1,6 @@
 -- From what a call wrote, or where it stopped, to how a word ends.
-use Rattle.std.specs.Prelude.{◌≡◌, ℕ, true, List, Option, Result, Ok, Err, IfErr}
+use Rattle.std.proofs.Common.{◌∙◌, append_assoc, ap, ap₂}
+use Rattle.std.specs.Prelude.{◌≡◌, ◌++◌, [], ℕ, true, List, Option, Result, Ok, Err, IfErr}
 use Rattle.std.specs.Prelude.{OnErr, OnOk, is_ok}
 use Rattle.std.specs.Io.KnownBytes.{Appends}
 use Rattle.run_disk.specs.Disk.{DiskState}
@@ -42,3 +43,12 @@ demo_ends (Err why) r0 r1 w0 w1 all stops = stops
 pub if_ok : {T E : Type 0} (r : Result T E) (P : Type 0) → OnOk r P → is_ok r ≡ true → P
 if_ok (Ok done) P says holds = says
 if_ok (Err why) P says holds = cc
+
+-- A line that was made of three parts, one behind the other.
+pub three_parts : (none one two three line : List ℕ) (a b c given : List ℕ)
+    → none ≡ [] → one ≡ none ++ a → two ≡ one ++ given → three ≡ two ++ c → line ≡ three
+    → given ≡ b → line ≡ a ++ (b ++ c)
+three_parts none one two three line a b c given e0 e1 e2 e3 is same =
+    is ∙ (e3 ∙ (ap (λ l. l ++ c)
+    (e2 ∙ ap₂ (λ l m. l ++ m) (e1 ∙ ap (λ l. l ++ a) e0) same)
+    ∙ append_assoc a b c))

@@ -1,34 +1,43 @@
 -- What the program does by its words.
-use Rattle.std.specs.Prelude.{◌≡◌, ◌⊎◌, ℕ, List, Option, Result, Ok, Err, ⊤, IfOk}
+use Rattle.std.specs.Prelude.{◌≡◌, ◌⊎◌, ℕ, List, Option, Result, Ok, Err, ⊤, IfErr, IfOk}
 use Rattle.std.specs.String.{string_bytes}
 use Rattle.run_model.specs.declared.faults.Fault.TheVariants.{DiskFailed}
 use Rattle.run_model.specs.declared.faults.Trouble.TheVariants.{Faulty}
 use Rattle.run_model.specs.declared.layouts.Layout.TheVariants.{Large}
 use Rattle.run_model.specs.Layouts.{store_len}
 use Rattle.run_disk.specs.Disk.{DiskState}
+use Rattle.run_journal.specs.Pairs.{AreZeros}
 use Rattle.console_lines.specs.declared.faults.RunFault.{RunFault}
 use Rattle.console_lines.specs.declared.faults.RunFault.TheVariants.{Store}
-use Rattle.night_words.specs.Commands.{AsksFor, IsAnswer, faults_of}
+use Rattle.night_words.specs.Commands.{AsksFor, IsAnswer, IsCausedBy, faults_of}
 use Rattle.night_words.specs.declared.asked.Asked.{Asked}
 use Rattle.night_words.specs.declared.asked.Asked.TheVariants.{Demo, Format, Script, Inspect, Help}
+use Rattle.night_words.specs.declared.asked.Asked.TheVariants.{Migrate}
 use Rattle.night_words.specs.declared.asked.WordsFault.{WordsFault}
 use Rattle.night_program.specs.declared.endings.Ended.{Ended}
 use Rattle.night_program.specs.Demos.{DemoEnds}
 use Rattle.night_program.specs.Endings.{EndsBy, Refuses}
-use Rattle.night_program.specs.Stores.{FormatEnds, InspectEnds, Prints, ScriptEnds}
+use Rattle.night_program.specs.Stores.{FormatEnds, InspectEnds, MigrateEnds, Prints, ScriptEnds}
 
 -- A file was not had: its call failed.
 abbrev pub HasNoFile : {T : Type 0} → Result T RunFault → Type 0
 HasNoFile answer = answer ≡ Err (Store (Faulty DiskFailed))
 
 -- `holds` says which disks the file of a name is, as the files are.
+module _ {F D : Type 0} (state : D → DiskState) (holds : F → List ℕ → D → Type 0) where
+  -- The file of this name was made anew with the size of a large store, and an honest one has zeros.
+  pub record IsMade (f : F) (name : List ℕ) (made : D) : Type 0 where
+    pub held : holds f name made
+    pub sized : (state made).size ≡ store_len Large
+    pub zeros : (state made).honest → (x : List ℕ) → (state made).images x → AreZeros x
+
 module _ {F D T : Type 0} (state : D → DiskState) (holds : F → List ℕ → D → Type 0) where
-  -- The file of this name was made anew with the size of a large store, and formatted.
+  -- The file of this name was made anew, and formatted.
   abbrev pub DoesFormat : List ℕ → Result T RunFault → (f1 : F) → (w0 w1 : Option (List ℕ)) → Type 0
   DoesFormat store answer f1 w0 w1 =
       (HasNoFile answer × (w1 ≡ w0))
-      ⊎ ((given : D) × (left : D) × holds f1 store given
-      × ((state given).size ≡ store_len Large) × FormatEnds state given answer left w0 w1)
+      ⊎ ((given : D) × (left : D) × IsMade state holds f1 store given
+      × FormatEnds state given answer left w0 w1)
 
   -- The file of this name was opened, and the input run over the store in it.
   abbrev pub DoesScript :
@@ -46,6 +55,16 @@ module _ {F D T : Type 0} (state : D → DiskState) (holds : F → List ℕ → 
       ⊎ ((given : D) × (left : D) × holds f0 store given
       × InspectEnds state given answer left w0 w1)
 
+  -- The file of the old name was opened, then that of the new one made anew, and the store in the
+  -- one migrated to the other.
+  abbrev pub DoesMigrate :
+      (old new : List ℕ) → Result T RunFault → (f0 f1 : F) → (w0 w1 : Option (List ℕ)) → Type 0
+  DoesMigrate old new answer f0 f1 w0 w1 =
+      (HasNoFile answer × (w1 ≡ w0))
+      ⊎ ((source : D) × (given : D) × (read : D) × (left : D) × holds f0 old source
+      × IsMade state holds f1 new given
+      × MigrateEnds state state source given answer read left w0 w1)
+
   -- What was asked for was done. Input and files are untouched where it needs none.
   abbrev pub Does :
       Asked → Result T RunFault → (f0 f1 : F) → (r0 r1 w0 w1 : Option (List ℕ)) → Type 0
@@ -55,6 +74,8 @@ module _ {F D T : Type 0} (state : D → DiskState) (holds : F → List ℕ → 
   Does (Script store) answer f0 f1 r0 r1 w0 w1 = DoesScript store.now answer f0 r0 r1 w0 w1
   Does (Inspect store) answer f0 f1 r0 r1 w0 w1 =
       DoesInspect store.now answer f0 w0 w1 × (r1 ≡ r0)
+  Does (Migrate old new) answer f0 f1 r0 r1 w0 w1 =
+      DoesMigrate old.now new.now answer f0 f1 w0 w1 × (r1 ≡ r0)
   Does (Help text) answer f0 f1 r0 r1 w0 w1 =
       Prints (string_bytes text) answer w0 w1 × (f1 ≡ f0) × (r1 ≡ r0)
 
@@ -83,5 +104,5 @@ module _ {F D : Type 0} (state : D → DiskState) (holds : F → List ℕ → D 
       → (r0 r1 w0 w1 e0 e1 : Option (List ℕ)) → Type 0
   RunsWords words ended f0 f1 r0 r1 w0 w1 e0 e1 =
       (read : Result Asked WordsFault) × IsAnswer (faults_of words) read
-      × IfOk read (λ asked. AsksFor asked words)
+      × IfOk read (λ asked. AsksFor asked words) × IfErr read (λ why. IsCausedBy why words)
       × Obeys read ended f0 f1 r0 r1 w0 w1 e0 e1

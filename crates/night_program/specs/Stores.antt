@@ -1,5 +1,6 @@
 -- What each word does to a store, by what its disk was and what is left of it.
-use Rattle.std.specs.Prelude.{◌≡◌, ◌⊎◌, ℕ, List, Option, Result, Ok, Err, codes}
+use Rattle.std.specs.Prelude.{◌≡◌, ◌⊎◌, ◌++◌, ℕ, List, Option, Result, Ok, Err, codes}
+use Rattle.std.specs.Fmt.{decimal}
 use Rattle.std.specs.Io.KnownBytes.{Appends}
 use Rattle.run_model.specs.declared.faults.Fault.{Fault}
 use Rattle.run_model.specs.declared.faults.Fault.TheVariants as of_store
@@ -9,6 +10,9 @@ use Rattle.run_disk.specs.Disk.{DiskState}
 use Rattle.book_model.specs.Holdings.{CarriesOn}
 use Rattle.book_model.specs.Openings.{FormatsNot, HasFormatted, HasOpened, HasRecovered, OpensNot}
 use Rattle.book_model.specs.Openings.{RecoversNone}
+use Rattle.book_model.specs.declared.migrations.MigrateFault.{MigrateFault}
+use Rattle.book_model.specs.declared.migrations.MigrateFault.TheVariants as of_two
+use Rattle.book_model.specs.Migrations.{Migrates}
 use Rattle.run_session.specs.Logged.{begun_at}
 use Rattle.run_book.specs.Views.{BookView, holding}
 use Rattle.console_lines.specs.declared.faults.RunFault.{RunFault}
@@ -75,11 +79,42 @@ ScriptEnds state given answer left r0 r1 w0 w1 =
 
 -- ---- inspect
 
--- The state that the disk stores was recovered, and printed. Or none was, and nothing was printed:
--- the fault tells why. In each case the disk was read alone.
-abbrev pub InspectEnds : {T D : Type 0} → (D → DiskState) → (old : D)
+-- The state that the disk stores was recovered, and this text of it printed. Or none was, and
+-- nothing was printed: the fault tells why. In each case the disk was read alone.
+abbrev pub Shows : {T D : Type 0} → (State → List ℕ) → (D → DiskState) → (old : D)
     → Result T RunFault → (new : D) → (w0 w1 : Option (List ℕ)) → Type 0
-InspectEnds state old answer new w0 w1 =
-    ((p : State) × HasRecovered p (state old) (state new) × Prints (inspected p) answer w0 w1)
+Shows text state old answer new w0 w1 =
+    ((p : State) × HasRecovered p (state old) (state new) × Prints (text p) answer w0 w1)
     ⊎ ((why : Fault) × (answer ≡ Err (stopped why)) × RecoversNone state old why new
     × (w1 ≡ w0))
+
+-- The whole state is shown.
+abbrev pub InspectEnds : {T D : Type 0} → (D → DiskState) → (old : D)
+    → Result T RunFault → (new : D) → (w0 w1 : Option (List ℕ)) → Type 0
+InspectEnds state old answer new w0 w1 = Shows inspected state old answer new w0 w1
+
+-- ---- migrate
+
+-- How many events there are in the store that was made, as in `migrated; events 6`.
+abbrev pub migrated_line : ℕ → List ℕ
+migrated_line count = codes "migrated; events " ++ (decimal count ++ codes "\n")
+
+abbrev pub counted : State → List ℕ
+counted p = migrated_line p.count
+
+-- What a fault of a migration is to the program: it doesn't tell which of the two stores failed.
+abbrev pub unmigrated : MigrateFault → RunFault
+unmigrated of_two.Memory = Memory
+unmigrated (of_two.Old why) = stopped why
+unmigrated (of_two.New why) = stopped why
+
+-- The small store was migrated, and the number of events shown that the new one stores. Or it was
+-- not, and nothing was printed: the fault tells why. What is left of the two disks `Migrates` says.
+abbrev pub MigrateEnds : {T D E : Type 0} → (D → DiskState) → (E → DiskState) → (old : D)
+    → (given : E) → Result T RunFault → (read : D) → (left : E)
+    → (w0 w1 : Option (List ℕ)) → Type 0
+MigrateEnds {E = E} from to old given answer read left w0 w1 =
+    ((made : E) × Migrates from to old given (Ok made) read
+    × Shows counted to made answer left w0 w1)
+    ⊎ ((why : MigrateFault) × (answer ≡ Err (unmigrated why))
+    × Migrates from to old given (Err (why, left)) read × (w1 ≡ w0))

@@ -1,17 +1,20 @@
 //! All that the program `night` does, over whatever words, files, input and outputs it is given.
 //!
 //! [`night`] reads the words and does what they ask for. Each word over a store is a function of
-//! its own over a disk: [`format`], [`script`] and [`inspect`]; [`demo`] runs over one in memory.
+//! its own over a disk: [`format`], [`script`] and [`inspect`], and over two [`migrate`]; [`demo`]
+//! runs over a disk in memory.
 #![tactic(auto)]
 
 mod demos;
 mod endings;
 mod files;
+mod migrations;
 mod programs;
 mod stores;
 
 pub use demos::demo;
 pub use endings::Ended;
 pub use files::Files;
+pub use migrations::migrate;
 pub use programs::night;
 pub use stores::{format, inspect, script};

@@ -2,12 +2,13 @@
 
 ghost use Rattle.std.specs.Prelude.{◌≡◌, map, IfErr, IfOk};
 ghost use Rattle.std.specs.String.{string_bytes};
-ghost use Rattle.night_program.specs.Programs.{Does, DoesFormat, DoesInspect, DoesScript};
-ghost use Rattle.night_program.specs.Programs.{IsRefused, RunsWords};
+ghost use Rattle.night_program.specs.Programs.{Does, DoesFormat, DoesInspect, DoesMigrate};
+ghost use Rattle.night_program.specs.Programs.{DoesScript, IsRefused, RunsWords};
 
 use crate::demos::demo;
 use crate::endings::{Ended, end, refuse};
 use crate::files::Files;
+use crate::migrations::migrate;
 use crate::stores::{format, inspect, script};
 use console_lines::RunFault;
 use night_words::{Asked, WordsFault, read_words};
@@ -22,8 +23,9 @@ use std::io::{Read, Write};
 ///
 /// `demo` runs the input over a book in memory; `format STORE` makes a large store of the file;
 /// `script STORE` runs the input over the store; `inspect STORE` prints what it holds and writes
-/// nothing to it. Help and the version go to the output. Why words ask for nothing, and a fault
-/// that ended the rest, go to `errors`: any call of a file that fails is told as `fault 2
+/// nothing to it; `migrate OLD NEW` opens OLD, and only then makes of NEW a large store with the
+/// state of OLD's small one. Help and the version go to the output. Why words ask for nothing, and
+/// a fault that ended the rest, go to `errors`: any call of a file that fails is told as `fault 2
 /// DiskFailed`.
 pub fn night<F: Files, I: Read, O: Write, E: Write>(
     alloc: Global,
@@ -70,6 +72,7 @@ fn answer<F: Files, I: Read, O: Write>(
         Asked::Format(store) => format_file(store, files, output),
         Asked::Script(store) => script_file(alloc, store, files, input, output),
         Asked::Inspect(store) => inspect_file(alloc, store, files, output),
+        Asked::Migrate(old, new) => migrate_file(alloc, old, new, files, output),
         Asked::Help(text) => write_whole(output, text.as_bytes()),
     }
 }
@@ -119,6 +122,28 @@ fn inspect_file<F: Files, O: Write>(
 {
     match files.open(store) {
         Ok(mut disk) => inspect(alloc, &mut disk, output),
+        Err(failed) => Err(no_file(failed)),
+    }
+}
+
+/// Opens the small store in the file of the old name, creates that of the new name or empties it,
+/// and makes a large store of it with the state of the old one.
+fn migrate_file<F: Files, O: Write>(
+    alloc: Global,
+    old: &str,
+    new: &str,
+    files: &mut F,
+    output: &mut O,
+) -> Result<(), RunFault>
+    ensures { DoesMigrate F.Disk.state F.holds old.now new.now result files.old files.new
+        (O.contents output.old) (O.contents output.new) }
+{
+    let mut source = match files.open(old) {
+        Ok(disk) => disk,
+        Err(failed) => return Err(no_file(failed)),
+    };
+    match files.create(new, Layout::Large.store_len()) {
+        Ok(disk) => migrate(alloc, &mut source, disk, output).0,
         Err(failed) => Err(no_file(failed)),
     }
 }

@@ -59,7 +59,7 @@ pub fn inspect<D: RunDisk, W: Write>(
 }
 
 /// What a fault of a store is to the program.
-fn stopped(fault: Fault) -> RunFault
+pub fn stopped(fault: Fault) -> RunFault
     ensures { result ≡ stopped fault }
 {
     match fault {

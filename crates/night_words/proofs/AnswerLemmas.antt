@@ -1,21 +1,23 @@
 -- From what the parser answered to what its caller is told.
 use Rattle.std.proofs.Common.{◌≡◌, ◌⊎◌, ◌∙◌, List, ap, inl, inr, refl, subst, sym, true}
-use Rattle.std.specs.Prelude.{[], Result, Ok, Err, IfOk}
+use Rattle.std.specs.Prelude.{[], Result, Ok, Err, IfErr, IfOk}
 use Rattle.clap.specs.Words.{App, HasKind, IsAmong, Kinds, Text, fault_of, is_simple}
-use Rattle.clap.specs.Words.{is_simple_and_free, kind_of, subcommand_of}
+use Rattle.clap.specs.Words.{is_simple_and_free, kind_of, subcommand_of, subcommand_rows_of}
 use Rattle.clap.specs.declared.error.Error.{Error}
 use Rattle.clap.proofs.OnLiterals.{clap_on_literals}
 use Rattle.clap.specs.declared.error.kind.ErrorKind.{ErrorKind}
 use Rattle.clap.specs.declared.error.kind.ErrorKind.TheVariants.{OutOfMemory}
 use Rattle.clap.specs.declared.parser.matches.ArgMatches.{ArgMatches}
 use Rattle.clap.specs.Simple.{HasMatchesOf}
-use Rattle.night_words.specs.Commands.{night, Asks, AsksFor, IsAnswer, IsHelp, IsNamed, IsShown}
-use Rattle.night_words.specs.Commands.{faults_of, named_by, named_in}
-use Rattle.night_words.proofs.TakenLemmas.{IsTaken, taken, taken_asks, taken_is_named}
+use Rattle.night_words.specs.Commands.{night, Asks, AsksFor, IsAnswer, IsCausedBy, IsHelp, IsNamed}
+use Rattle.night_words.specs.Commands.{IsShown, faults_of, named_by, named_in, new_by, new_in}
+use Rattle.night_words.proofs.TakenLemmas.{IsTaken, taken, taken_asks, taken_fails, taken_is_named}
 use Rattle.night_words.specs.declared.asked.Asked.{Asked}
 use Rattle.night_words.specs.declared.asked.Asked.TheVariants.{Demo, Format, Script, Inspect, Help}
+use Rattle.night_words.specs.declared.asked.Asked.TheVariants.{Migrate}
 use Rattle.night_words.specs.declared.asked.WordsFault.{WordsFault}
 use Rattle.night_words.specs.declared.asked.WordsFault.TheVariants.{Mistake, NotText, Memory}
+use Rattle.night_words.specs.declared.asked.WordsFault.TheVariants.{SameStores}
 
 -- the parser's statements on simple commands are about `night`
 night_is_simple : is_simple_and_free night ≡ true
@@ -38,10 +40,12 @@ shown_is_answer kind kinds (Ok Demo) found shown = absurd shown
 shown_is_answer kind kinds (Ok (Format store)) found shown = absurd shown
 shown_is_answer kind kinds (Ok (Script store)) found shown = absurd shown
 shown_is_answer kind kinds (Ok (Inspect store)) found shown = absurd shown
+shown_is_answer kind kinds (Ok (Migrate old new)) found shown = absurd shown
 shown_is_answer kind kinds (Ok (Help text)) (inl e) shown = absurd (no_help kind e shown)
 shown_is_answer kind kinds (Ok (Help text)) (inr among) shown = (kind, among, shown)
 shown_is_answer kind kinds (Err (Mistake text)) (inl e) shown = absurd (shown.2 e)
 shown_is_answer kind kinds (Err (Mistake text)) (inr among) shown = (kind, among, shown)
+shown_is_answer kind kinds (Err SameStores) found shown = absurd shown
 shown_is_answer kind kinds (Err NotText) found shown = absurd shown
 shown_is_answer kind kinds (Err Memory) found shown = tt
 
@@ -61,8 +65,18 @@ error_asks_nothing kind words (Ok Demo) shown = absurd shown
 error_asks_nothing kind words (Ok (Format store)) shown = absurd shown
 error_asks_nothing kind words (Ok (Script store)) shown = absurd shown
 error_asks_nothing kind words (Ok (Inspect store)) shown = absurd shown
+error_asks_nothing kind words (Ok (Migrate old new)) shown = absurd shown
 error_asks_nothing kind words (Ok (Help text)) shown = tt
 error_asks_nothing kind words (Err fault) shown = tt
+
+-- and no fault of equal names
+pub error_is_no_clash : (kind : ErrorKind) (words : List Text) (r : Result Asked WordsFault)
+    → IsShown kind r → IfErr r (λ why. IsCausedBy why words)
+error_is_no_clash kind words (Ok asked) shown = tt
+error_is_no_clash kind words (Err (Mistake text)) shown = tt
+error_is_no_clash kind words (Err SameStores) shown = absurd shown
+error_is_no_clash kind words (Err NotText) shown = absurd shown
+error_is_no_clash kind words (Err Memory) shown = tt
 
 -- ---- where the command line is `night`, and the parser has matches
 
@@ -75,27 +89,42 @@ module _ (a : App) (words : List Text) (m : ArgMatches) (is_night : a ≡ night)
       (found (ap is_simple_and_free is_night ∙ night_is_simple))
 
   -- what they name is what the definition names
-  names_alike : named_by m ≡ named_in (subcommand_of night words)
-  names_alike =
-      ap named_in ((matches (ap is_simple is_night ∙ night_has_matches)).1
-      ∙ ap (λ b. subcommand_of b words) is_night)
+  names_alike : subcommand_rows_of m ≡ subcommand_of night words
+  names_alike = (matches (ap is_simple is_night ∙ night_has_matches)).1
+      ∙ ap (λ b. subcommand_of b words) is_night
 
-  matches_taken : IsTaken words (named_by m)
-  matches_taken = subst (λ n. IsTaken words n) (sym names_alike) (taken words finds_nothing)
+  matches_taken : IsTaken words (named_by m) (new_by m)
+  matches_taken = subst (λ e. IsTaken words (named_in e) (new_in e)) (sym names_alike)
+      (taken words finds_nothing)
 
   -- so a command is named
-  pub command_is_named : IsNamed (named_by m)
-  command_is_named = taken_is_named words (named_by m) matches_taken
+  pub command_is_named : IsNamed (named_by m) (new_by m)
+  command_is_named = taken_is_named words (named_by m) (new_by m) matches_taken
 
   -- and what is asked for of it, the words ask for
-  pub command_is_asked : (asked : Asked) → Asks (named_by m) asked → AsksFor asked words
-  command_is_asked asked asks = taken_asks words (named_by m) asked matches_taken asks
+  pub command_is_asked : (r : Result Asked WordsFault) → Asks (named_by m) (new_by m) r
+      → IfOk r (λ asked. AsksFor asked words)
+  command_is_asked (Ok asked) asks =
+      taken_asks words (named_by m) (new_by m) asked matches_taken asks
+  command_is_asked (Err why) asks = tt
+
+  -- or they name one store twice
+  pub command_is_cause : (r : Result Asked WordsFault) → Asks (named_by m) (new_by m) r
+      → IfErr r (λ why. IsCausedBy why words)
+  command_is_cause (Ok asked) asks = tt
+  command_is_cause (Err why) asks =
+      taken_fails words (named_by m) (new_by m) why matches_taken asks
 
   -- which is an answer
-  pub command_is_answer : (asked : Asked) → Asks (named_by m) asked
-      → IsAnswer (faults_of words) (Ok asked)
-  command_is_answer Demo asks = finds_nothing
-  command_is_answer (Format store) asks = finds_nothing
-  command_is_answer (Script store) asks = finds_nothing
-  command_is_answer (Inspect store) asks = finds_nothing
-  command_is_answer (Help text) asks = absurd asks
+  pub command_is_answer : (r : Result Asked WordsFault) → Asks (named_by m) (new_by m) r
+      → IsAnswer (faults_of words) r
+  command_is_answer (Ok Demo) asks = finds_nothing
+  command_is_answer (Ok (Format store)) asks = finds_nothing
+  command_is_answer (Ok (Script store)) asks = finds_nothing
+  command_is_answer (Ok (Inspect store)) asks = finds_nothing
+  command_is_answer (Ok (Migrate old new)) asks = finds_nothing
+  command_is_answer (Ok (Help text)) asks = absurd asks
+  command_is_answer (Err SameStores) asks = finds_nothing
+  command_is_answer (Err (Mistake text)) asks = absurd asks
+  command_is_answer (Err NotText) asks = absurd asks
+  command_is_answer (Err Memory) asks = absurd asks

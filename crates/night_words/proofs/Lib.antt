@@ -1,5 +1,7 @@
 mod AnswerLemmas
+mod LevelLemmas
 mod LineLemmas
 mod NamedLemmas
+mod PairLemmas
 mod TakenLemmas
 mod TurnLemmas

@@ -1,7 +1,8 @@
 -- What the parser's matches name, as their caller reads it.
 use Rattle.std.proofs.Common.{◌≡◌, ◌∙◌, Bool, List, Option, Some, None, [], ap, ap₂, false, inl}
 use Rattle.std.proofs.Common.{inr, refl, sym, true}
-use Rattle.std.specs.Prelude.{Box, codes, option_map}
+use Rattle.std.specs.Prelude.{Box, codes, option_and_then, option_map}
+use Rattle.std.specs.Prelude.{Result, Ok, Err}
 use Rattle.std.specs.Borrow.{Bor}
 use Rattle.std.specs.Box.{box_value}
 use Rattle.std.specs.Option.{option_map_or}
@@ -14,7 +15,15 @@ use Rattle.clap.specs.Walk.{Row, Text, first_of, rows_of}
 use Rattle.clap.specs.declared.parser.matches.ArgMatches.{ArgMatches}
 use Rattle.clap.specs.declared.parser.matches.ArgMatches.TheViews.{out-ArgMatches, out-SubCommand}
 use Rattle.clap.specs.declared.parser.matches.SubCommand.{SubCommand}
-use Rattle.night_words.specs.Commands.{IsNamed, Named, named_by, named_in}
+use Rattle.night_words.specs.Commands.{Asks, IsMigration, IsNamed, Named, named_by, named_in, new_by}
+use Rattle.night_words.specs.Commands.{new_in}
+use Rattle.night_words.specs.declared.asked.Asked.{Asked}
+use Rattle.night_words.specs.declared.asked.Asked.TheVariants.{Demo, Format, Script, Inspect, Help}
+use Rattle.night_words.specs.declared.asked.Asked.TheVariants.{Migrate}
+use Rattle.night_words.specs.declared.asked.WordsFault.{WordsFault}
+use Rattle.night_words.specs.declared.asked.WordsFault.TheVariants.{Memory, Mistake, NotText}
+use Rattle.night_words.specs.declared.asked.WordsFault.TheVariants.{SameStores}
+use Rattle.night_words.proofs.PairLemmas.{migrate}
 use Rattle.night_words.proofs.TakenLemmas.{clash, demo, format, inspect, script}
 
 -- what is read of a subcommand and of its matches
@@ -41,6 +50,19 @@ module _ {Z : Type 0} where
       let both : Text → List Row → Named = λ t rs. Some (t, first_of (codes "STORE") rs) in
       ap₂ both (sym (ap text name)) (sym (ap list rows))
 
+  -- and the new store of a migration is read with them
+  pub read_is_new : (r : Read) (x : Option (Box SubCommand Z))
+      → option_map (λ p. rows_of (found_of p.1.now)) r
+      ≡ option_map (λ p. p.1) (subcommand_rows x)
+      → new_in (subcommand_rows x)
+      ≡ option_and_then (λ p. first_of (codes "NEW") (rows_of (found_of p.1.now))) r
+  read_is_new None None rows = refl
+  read_is_new None (Some b) rows = cc
+  read_is_new (Some p) None rows = cc
+  read_is_new (Some p) (Some b) rows =
+      let list : Option (List Row) → List Row = λ o. option_map_or (λ (t : List Row). t) o [] in
+      ap (λ rs. first_of (codes "NEW") rs) (sym (ap list rows))
+
 -- the command and the store of the parser's matches, as their caller reads them
 pub named_here : (m : ArgMatches) (command : Bor Text) (inner : Bor ArgMatches)
     → Some command.now ≡ subcommand_name_of m
@@ -49,6 +71,14 @@ pub named_here : (m : ArgMatches) (command : Bor Text) (inner : Bor ArgMatches)
 named_here m command inner name rows =
     read_is_named (Some (command, inner)) (out-ArgMatches m).subcommand name rows
     ∙ ap (λ o. Some (command.now, o)) (sym (first_value-rows (found_of inner.now) (codes "STORE")))
+
+-- and the new store
+pub new_here : (m : ArgMatches) (command : Bor Text) (inner : Bor ArgMatches)
+    → Some (rows_of (found_of inner.now)) ≡ option_map (λ p. p.1) (subcommand_rows_of m)
+    → new_by m ≡ first_value (found_of inner.now) (codes "NEW")
+new_here m command inner rows =
+    read_is_new (Some (command, inner)) (out-ArgMatches m).subcommand rows
+    ∙ sym (first_value-rows (found_of inner.now) (codes "NEW"))
 
 -- the same of a command and a store that are known
 pub named_as : (named : Named) (name command store : Text) (first : Option Text)
@@ -83,35 +113,70 @@ store_clash named name command store none some =
     cc
 
 -- a command without a store is `demo`
-pub no_store : (named : Named) (name : Text) → IsNamed named → named ≡ Some (name, None)
-    → name ≡ demo
-no_store named name (inl e) is = ap name_in (sym is ∙ e)
-no_store named name (inr (store, inl e)) is = absurd (store_clash named name format store is e)
-no_store named name (inr (store, inr (inl e))) is =
+pub no_store : (named : Named) (new : Option Text) (name : Text) → IsNamed named new
+    → named ≡ Some (name, None) → name ≡ demo
+no_store named new name (inl e) is = ap name_in (sym is ∙ e)
+no_store named new name (inr (store, inl e)) is =
+    absurd (store_clash named name format store is e)
+no_store named new name (inr (store, inr (inl e))) is =
     absurd (store_clash named name script store is e)
-no_store named name (inr (store, inr (inr e))) is =
+no_store named new name (inr (store, inr (inr (inl e)))) is =
     absurd (store_clash named name inspect store is e)
+no_store named new name (inr (store, inr (inr (inr (given, e, n))))) is =
+    absurd (store_clash named name migrate store is e)
 
 -- `demo` has no store
-pub demo_alone : (named : Named) (store : Option Text) → IsNamed named
+pub demo_alone : (named : Named) (new store : Option Text) → IsNamed named new
     → named ≡ Some (demo, store) → named ≡ Some (demo, None)
-demo_alone named store (inl e) is = e
-demo_alone named store (inr (s, inl e)) is =
+demo_alone named new store (inl e) is = e
+demo_alone named new store (inr (s, inl e)) is =
     absurd (clash demo format store (Some s) named refl is e)
-demo_alone named store (inr (s, inr (inl e))) is =
+demo_alone named new store (inr (s, inr (inl e))) is =
     absurd (clash demo script store (Some s) named refl is e)
-demo_alone named store (inr (s, inr (inr e))) is =
+demo_alone named new store (inr (s, inr (inr (inl e)))) is =
     absurd (clash demo inspect store (Some s) named refl is e)
+demo_alone named new store (inr (s, inr (inr (inr (given, e, n))))) is =
+    absurd (clash demo migrate store (Some s) named refl is e)
 
--- a command over a store that is neither `format` nor `script` is `inspect`
-pub inspect_left : (named : Named) (name store : Text) → IsNamed named
+-- a command over a store that is neither `format` nor `script` nor `inspect` is `migrate`
+pub migrate_left : (named : Named) (new : Option Text) (name store : Text) → IsNamed named new
     → named ≡ Some (name, Some store) → (name ≡ format → ⊥) → (name ≡ script → ⊥)
-    → named ≡ Some (inspect, Some store)
-inspect_left named name store (inl e) is no_format no_script =
+    → (name ≡ inspect → ⊥)
+    → (named ≡ Some (migrate, Some store)) × ((given : Text) × (new ≡ Some given))
+migrate_left named new name store (inl e) is no_format no_script no_inspect =
     absurd (store_clash named demo name store e is)
-inspect_left named name store (inr (s, inl e)) is no_format no_script =
+migrate_left named new name store (inr (s, inl e)) is no_format no_script no_inspect =
     absurd (no_format (ap name_in (sym is ∙ e)))
-inspect_left named name store (inr (s, inr (inl e))) is no_format no_script =
+migrate_left named new name store (inr (s, inr (inl e))) is no_format no_script no_inspect =
     absurd (no_script (ap name_in (sym is ∙ e)))
-inspect_left named name store (inr (s, inr (inr e))) is no_format no_script =
-    is ∙ ap (λ n. Some (n, Some store)) (ap name_in (sym is ∙ e))
+migrate_left named new name store (inr (s, inr (inr (inl e)))) is no_format no_script no_inspect =
+    absurd (no_inspect (ap name_in (sym is ∙ e)))
+migrate_left named new name store (inr (s, inr (inr (inr (given, e, n))))) is no_format no_script
+    no_inspect =
+    (is ∙ ap (λ m. Some (m, Some store)) (ap name_in (sym is ∙ e)), (given, n))
+
+-- a new store is there
+pub new_is_there : (new : Option Text) (given : Text) → new ≡ Some given → new ≡ None → ⊥
+new_is_there new given some none =
+    let bad : Some given ≡ None = sym some ∙ none in
+    cc
+
+-- a migration is what is named
+pub migration_asks : (named : Named) (new : Option Text) (store given : Text)
+    (r : Result Asked WordsFault) → named ≡ Some (migrate, Some store) → new ≡ Some given
+    → IsMigration store given r → Asks named new r
+migration_asks named new store given (Ok Demo) is fresh made = absurd made
+migration_asks named new store given (Ok (Format s)) is fresh made = absurd made
+migration_asks named new store given (Ok (Script s)) is fresh made = absurd made
+migration_asks named new store given (Ok (Inspect s)) is fresh made = absurd made
+migration_asks named new store given (Ok (Help text)) is fresh made = absurd made
+migration_asks named new store given (Ok (Migrate o n)) is fresh made = (
+  is ∙ ap (λ t. Some (migrate, Some t)) (sym made.0),
+  fresh ∙ ap Some (sym made.1),
+  λ same. made.2 (sym made.0 ∙ (same ∙ made.1)),
+)
+migration_asks named new store given (Err SameStores) is fresh made =
+    (store, is, fresh ∙ ap Some (sym made))
+migration_asks named new store given (Err (Mistake text)) is fresh made = absurd made
+migration_asks named new store given (Err NotText) is fresh made = absurd made
+migration_asks named new store given (Err Memory) is fresh made = absurd made

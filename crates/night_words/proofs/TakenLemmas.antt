@@ -1,9 +1,10 @@
 -- The words that are taken: a command, and the words behind it that it takes.
 use Rattle.std.proofs.Common.{◌≡◌, ◌∙◌, ◌∷◌, ◌++◌, ◌⊎◌, Bool, List, Option, Some, None, [], ap}
-use Rattle.std.proofs.Common.{append-nil, append_assoc, ap₂, cond, false, inl, inr, refl, subst}
+use Rattle.std.proofs.Common.{append-nil, append_assoc, cond, false, inl, inr, refl, subst}
 use Rattle.std.proofs.Common.{sym}
 use Rattle.std.proofs.Common.{true}
 use Rattle.std.specs.Prelude.{◌||◌, codes, fold, option_map}
+use Rattle.std.specs.Prelude.{Ok, Err}
 use Rattle.std.specs.Option.{option_map_or}
 use Rattle.std.specs.Str.{bytes_eq}
 use Rattle.std.proofs.lemmas.Slice.Eq.{bytes_eq-Decides}
@@ -12,21 +13,25 @@ use Rattle.clap.specs.Simple.{Shape, built, entered, names_of, rows_at, subcomma
 use Rattle.clap.specs.Faults.{built_fault, entered_fault, level_fault, other_fault}
 use Rattle.clap.specs.Faults.{step_fault, turn_fault, walk_fault}
 use Rattle.clap.specs.Walk.{Held, Names, Step, Text, Walk, after_step, finished, first_of, idle}
-use Rattle.clap.specs.Walk.{nothing_held, subcommand_or_other, value, walk, walk_from, walked}
+use Rattle.clap.specs.Walk.{nothing_held, subcommand_or_other, value, walk, walked}
 use Rattle.clap.specs.Walk.{walked_from}
 use Rattle.clap.proofs.OnLiterals.{clap_on_literals}
-use Rattle.night_words.specs.Commands.{night, Asks, AsksFor, AsksForDemo, AsksOver, IsNamed}
-use Rattle.night_words.specs.Commands.{Named, faults_of, named_in}
+use Rattle.night_words.specs.Commands.{night, Asks, AsksFor, AsksForDemo, AsksOver, AsksToMigrate}
+use Rattle.night_words.specs.Commands.{IsCausedBy, IsNamed, Named, faults_of, named_in, new_in}
 use Rattle.night_words.specs.declared.asked.Asked.{Asked}
 use Rattle.night_words.specs.declared.asked.Asked.TheVariants.{Demo, Format, Script, Inspect, Help}
+use Rattle.night_words.specs.declared.asked.Asked.TheVariants.{Migrate}
+use Rattle.night_words.specs.declared.asked.WordsFault.{WordsFault}
+use Rattle.night_words.specs.declared.asked.WordsFault.TheVariants.{Memory, Mistake, NotText}
+use Rattle.night_words.specs.declared.asked.WordsFault.TheVariants.{SameStores}
+use Rattle.night_words.proofs.LevelLemmas.{first_passes, lower_passes, rest_passes, start}
+use Rattle.night_words.proofs.LevelLemmas.{words_pass}
+use Rattle.night_words.proofs.PairLemmas.{behind_both, migrate}
 use Rattle.night_words.proofs.TurnLemmas.{above, above_is_strict, demo_is_strict, demo_shape}
 use Rattle.night_words.proofs.TurnLemmas.{first_none, held, mark, mark_or_value, second_none}
 use Rattle.night_words.proofs.TurnLemmas.{store_is_strict, store_shape}
 
--- where the parser begins, and the names that it knows
-abbrev start : Walk
-start = walk_from nothing_held
-
+-- the names that the parser knows
 abbrev names : Names
 names = names_of (built night)
 
@@ -41,28 +46,6 @@ script = codes "script"
 
 abbrev pub inspect : Text
 inspect = codes "inspect"
-
--- ---- levels of the parse in which nothing is found
-
--- neither in the words of a level, nor below it
-words_pass : (s : Shape) (ns : Names) (words : List Text) (has : Bool) (lower : Kinds)
-    → level_fault s ns nothing_held words has lower ≡ [] → walk_fault s ns start words ≡ []
-words_pass s ns words has lower none = first_none _ _ none
-
-lower_passes : (s : Shape) (ns : Names) (words : List Text) (has : Bool) (lower : Kinds)
-    → level_fault s ns nothing_held words has lower ≡ [] → lower ≡ []
-lower_passes s ns words has lower none = first_none _ _ (second_none _ _ none)
-
--- neither in the first word, nor in those behind it
-first_passes : (s : Shape) (ns : Names) (w : Walk) (word : Text) (rest : List Text)
-    → walk_fault s ns w (word ∷ rest) ≡ [] → turn_fault s ns w word ≡ []
-unfolding walk_fault
-first_passes s ns w word rest none = first_none _ _ none
-
-rest_passes : (s : Shape) (ns : Names) (w : Walk) (word : Text) (rest : List Text)
-    → walk_fault s ns w (word ∷ rest) ≡ [] → walk_fault s ns (walked s.rules ns w word) rest ≡ []
-unfolding walk_fault
-rest_passes s ns w word rest none = second_none _ _ none
 
 -- ---- what a word comes to
 
@@ -89,39 +72,44 @@ only_the_mark s word fails (inr is) none = absurd (stray s _ nothing_held is fai
 -- it is a command, or the mark
 abbrev IsFirst : Text → Type 0
 IsFirst word = (word ≡ demo)
-    ⊎ ((word ≡ format) ⊎ ((word ≡ script) ⊎ ((word ≡ inspect) ⊎ (word ≡ mark))))
+    ⊎ ((word ≡ format) ⊎ ((word ≡ script) ⊎ ((word ≡ inspect) ⊎ ((word ≡ migrate)
+    ⊎ (word ≡ mark)))))
 
 first_word : (word : Text) → turn_fault above names start word ≡ [] → IsFirst word
 first_word word none =
     go (bytes_eq demo word) (bytes_eq format word) (bytes_eq script word) (bytes_eq inspect word)
-    (bytes_eq (codes "help") word) refl refl refl refl none
+    (bytes_eq migrate word) (bytes_eq (codes "help") word) refl refl refl refl refl none
   where
-    met : (d f s i h : Bool) → Option Text
-    met d f s i h = option_map (λ (c : Text × List Text). c.0)
+    met : (d f s i m h : Bool) → Option Text
+    met d f s i m h = option_map (λ (c : Text × List Text). c.0)
         (cond (d || false) (Some (demo, []))
         (cond (f || false) (Some (format, []))
         (cond (s || false) (Some (script, []))
         (cond (i || false) (Some (inspect, []))
-        (cond (h || false) (Some (codes "help", [])) None)))))
+        (cond (m || false) (Some (migrate, []))
+        (cond (h || false) (Some (codes "help", [])) None))))))
 
     is : (command : Text) → bytes_eq command word ≡ true → word ≡ command
     is command same = sym ((bytes_eq-Decides command word).0 same)
 
-    go : (d f s i h : Bool) → bytes_eq demo word ≡ d → bytes_eq format word ≡ f
-        → bytes_eq script word ≡ s → bytes_eq inspect word ≡ i
-        → or_else (other_fault above (met d f s i h) word nothing_held)
-        (stepped above (subcommand_or_other above.rules (met d f s i h) idle 1 word nothing_held))
+    go : (d f s i m h : Bool) → bytes_eq demo word ≡ d → bytes_eq format word ≡ f
+        → bytes_eq script word ≡ s → bytes_eq inspect word ≡ i → bytes_eq migrate word ≡ m
+        → or_else (other_fault above (met d f s i m h) word nothing_held)
+        (stepped above
+        (subcommand_or_other above.rules (met d f s i m h) idle 1 word nothing_held))
         ≡ [] → IsFirst word
-    go true f s i h same e1 e2 e3 none = inl (is demo same)
-    go false true s i h e0 same e2 e3 none = inr (inl (is format same))
-    go false false true i h e0 e1 same e3 none = inr (inr (inl (is script same)))
-    go false false false true h e0 e1 e2 same none = inr (inr (inr (inl (is inspect same))))
-    go false false false false true e0 e1 e2 e3 none = cc
-    go false false false false false e0 e1 e2 e3 none =
+    go true f s i m h same e1 e2 e3 e4 none = inl (is demo same)
+    go false true s i m h e0 same e2 e3 e4 none = inr (inl (is format same))
+    go false false true i m h e0 e1 same e3 e4 none = inr (inr (inl (is script same)))
+    go false false false true m h e0 e1 e2 same e4 none = inr (inr (inr (inl (is inspect same))))
+    go false false false false true h e0 e1 e2 e3 same none =
+        inr (inr (inr (inr (inl (is migrate same)))))
+    go false false false false false true e0 e1 e2 e3 e4 none = cc
+    go false false false false false false e0 e1 e2 e3 e4 none =
         let fails : step_fault above 1 nothing_held value ≡ [] → ⊥ = λ bad. cc in
-        inr (inr (inr (inr (only_the_mark above word fails
+        inr (inr (inr (inr (inr (only_the_mark above word fails
         (mark_or_value above above_is_strict 1 word [] None (first_none _ _ none))
-        (second_none _ _ none)))))
+        (second_none _ _ none))))))
 
 -- ---- the words behind a command
 
@@ -154,6 +142,13 @@ named_at : (name command : Text) (rest : List Text)
     → named_in (subcommand_of night (name ∷ command ∷ rest))
     ≡ named_in (entered (built night) (Some (command, rest)))
 named_at name command rest met = ap (λ o. named_in (entered (built night) o)) met
+
+-- and what is the new store there
+new_at : (name command : Text) (rest : List Text)
+    → stop (command ∷ rest) ≡ Some (command, rest)
+    → new_in (subcommand_of night (name ∷ command ∷ rest))
+    ≡ new_in (entered (built night) (Some (command, rest)))
+new_at name command rest met = ap (λ o. new_in (entered (built night) o)) met
 
 -- ---- behind `demo`
 
@@ -340,17 +335,25 @@ module _ (command : Text) where
 -- ---- all of the words
 
 -- what words ask for in which nothing is found, and what the parser names then
-pub data IsTaken (words : List Text) (named : Named) : Type 0 where
-  takes_demo : AsksForDemo words → named ≡ Some (demo, None) → IsTaken words named
+pub data IsTaken (words : List Text) (named : Named) (new : Option Text) : Type 0 where
+  takes_demo : AsksForDemo words → named ≡ Some (demo, None) → IsTaken words named new
   takes_format : (store : Text) → AsksOver format store words
-      → named ≡ Some (format, Some store) → IsTaken words named
+      → named ≡ Some (format, Some store) → IsTaken words named new
   takes_script : (store : Text) → AsksOver script store words
-      → named ≡ Some (script, Some store) → IsTaken words named
+      → named ≡ Some (script, Some store) → IsTaken words named new
   takes_inspect : (store : Text) → AsksOver inspect store words
-      → named ≡ Some (inspect, Some store) → IsTaken words named
+      → named ≡ Some (inspect, Some store) → IsTaken words named new
+  takes_migrate : (store given : Text) → AsksToMigrate store given words
+      → named ≡ Some (migrate, Some store) → new ≡ Some given → IsTaken words named new
 
 abbrev named_of : List Text → Named
 named_of words = named_in (subcommand_of night words)
+
+abbrev new_of : List Text → Option Text
+new_of words = new_in (subcommand_of night words)
+
+abbrev Taken : List Text → Type 0
+Taken words = IsTaken words (named_of words) (new_of words)
 
 abbrev Finds : List Text → Type 0
 Finds words = built_fault (built night) nothing_held words ≡ []
@@ -373,7 +376,7 @@ asks_demo name rest (inl e) = (name, inl (ap (λ r. name ∷ demo ∷ r) e))
 asks_demo name rest (inr e) = (name, inr (ap (λ r. name ∷ demo ∷ r) e))
 
 demo_taken : (name : Text) (rest : List Text) → Finds (demo ∷ rest)
-    → IsTaken (name ∷ demo ∷ rest) (named_of (name ∷ demo ∷ rest))
+    → Taken (name ∷ demo ∷ rest)
 unfolding walked
 demo_taken name rest none =
     let met = keeps_words demo [] rest (walked above.rules names start demo) refl in
@@ -391,7 +394,7 @@ asks_over name command store rest (inr (inr e)) =
     (name, inr (inr (ap (λ r. name ∷ command ∷ r) e)))
 
 format_taken : (name : Text) (rest : List Text) → Finds (format ∷ rest)
-    → IsTaken (name ∷ format ∷ rest) (named_of (name ∷ format ∷ rest))
+    → Taken (name ∷ format ∷ rest)
 unfolding walked
 format_taken name rest none =
     let met = keeps_words format [] rest (walked above.rules names start format) refl in
@@ -400,7 +403,7 @@ format_taken name rest none =
     (named_at name format rest met ∙ ap (λ s. Some (format, s)) b.read)
 
 script_taken : (name : Text) (rest : List Text) → Finds (script ∷ rest)
-    → IsTaken (name ∷ script ∷ rest) (named_of (name ∷ script ∷ rest))
+    → Taken (name ∷ script ∷ rest)
 unfolding walked
 script_taken name rest none =
     let met = keeps_words script [] rest (walked above.rules names start script) refl in
@@ -409,13 +412,36 @@ script_taken name rest none =
     (named_at name script rest met ∙ ap (λ s. Some (script, s)) b.read)
 
 inspect_taken : (name : Text) (rest : List Text) → Finds (inspect ∷ rest)
-    → IsTaken (name ∷ inspect ∷ rest) (named_of (name ∷ inspect ∷ rest))
+    → Taken (name ∷ inspect ∷ rest)
 unfolding walked
 inspect_taken name rest none =
     let met = keeps_words inspect [] rest (walked above.rules names start inspect) refl in
     let b = behind inspect rest (below_passes inspect rest met none) in
     takes_inspect b.store (asks_over name inspect b.store rest b.words)
     (named_at name inspect rest met ∙ ap (λ s. Some (inspect, s)) b.read)
+
+-- so do those behind `migrate` that name two
+asks_both : (name store given : Text) (rest : List Text)
+    → (rest ≡ store ∷ given ∷ []) ⊎ ((rest ≡ mark ∷ store ∷ given ∷ [])
+    ⊎ ((rest ≡ store ∷ mark ∷ given ∷ []) ⊎ (rest ≡ store ∷ given ∷ mark ∷ [])))
+    → AsksToMigrate store given (name ∷ migrate ∷ rest)
+asks_both name store given rest (inl e) = (name, inl (ap (λ r. name ∷ migrate ∷ r) e))
+asks_both name store given rest (inr (inl e)) =
+    (name, inr (inl (ap (λ r. name ∷ migrate ∷ r) e)))
+asks_both name store given rest (inr (inr (inl e))) =
+    (name, inr (inr (inl (ap (λ r. name ∷ migrate ∷ r) e))))
+asks_both name store given rest (inr (inr (inr e))) =
+    (name, inr (inr (inr (ap (λ r. name ∷ migrate ∷ r) e))))
+
+migrate_taken : (name : Text) (rest : List Text) → Finds (migrate ∷ rest)
+    → Taken (name ∷ migrate ∷ rest)
+unfolding walked
+migrate_taken name rest none =
+    let met = keeps_words migrate [] rest (walked above.rules names start migrate) refl in
+    let b = behind_both rest (below_passes migrate rest met none) in
+    takes_migrate b.store b.given (asks_both name b.store b.given rest b.words)
+    (named_at name migrate rest met ∙ ap (λ s. Some (migrate, s)) b.read.0)
+    (new_at name migrate rest met ∙ b.read.1)
 
 -- the mark alone asks for nothing, and neither do no words
 mark_alone : Finds (mark ∷ []) → ⊥
@@ -440,14 +466,14 @@ with_mark (y ∷ ys) none =
     (words_pass above names (mark ∷ y ∷ ys) _ _ none)))
 
 -- words in which nothing is found ask for a command
-pub taken : (words : List Text) → faults_of words ≡ [] → IsTaken words (named_of words)
+pub taken : (words : List Text) → faults_of words ≡ [] → Taken words
 taken [] none = absurd (no_words none)
 taken (name ∷ []) none = absurd (no_words none)
 taken (name ∷ word ∷ rest) none = go (first_word word (first_passes above names start word rest
     (words_pass above names (word ∷ rest) _ _ none)))
   where
     Takes : Text → Type 0
-    Takes w = IsTaken (name ∷ w ∷ rest) (named_of (name ∷ w ∷ rest))
+    Takes w = Taken (name ∷ w ∷ rest)
 
     at : (command : Text) → word ≡ command → (Finds (command ∷ rest) → Takes command)
         → Takes word
@@ -459,16 +485,21 @@ taken (name ∷ word ∷ rest) none = go (first_word word (first_passes above na
     go (inr (inl is)) = at format is (format_taken name rest)
     go (inr (inr (inl is))) = at script is (script_taken name rest)
     go (inr (inr (inr (inl is)))) = at inspect is (inspect_taken name rest)
-    go (inr (inr (inr (inr is)))) = absurd (with_mark rest (subst (λ w. Finds (w ∷ rest)) is none))
+    go (inr (inr (inr (inr (inl is))))) = at migrate is (migrate_taken name rest)
+    go (inr (inr (inr (inr (inr is))))) =
+        absurd (with_mark rest (subst (λ w. Finds (w ∷ rest)) is none))
 
 -- ---- what the parser names
 
 -- a command is named
-pub taken_is_named : (words : List Text) (named : Named) → IsTaken words named → IsNamed named
-taken_is_named words named (takes_demo a e) = inl e
-taken_is_named words named (takes_format store a e) = inr (store, inl e)
-taken_is_named words named (takes_script store a e) = inr (store, inr (inl e))
-taken_is_named words named (takes_inspect store a e) = inr (store, inr (inr e))
+pub taken_is_named : (words : List Text) (named : Named) (new : Option Text)
+    → IsTaken words named new → IsNamed named new
+taken_is_named words named new (takes_demo a e) = inl e
+taken_is_named words named new (takes_format store a e) = inr (store, inl e)
+taken_is_named words named new (takes_script store a e) = inr (store, inr (inl e))
+taken_is_named words named new (takes_inspect store a e) = inr (store, inr (inr (inl e)))
+taken_is_named words named new (takes_migrate store given a e n) =
+    inr (store, inr (inr (inr (given, e, n))))
 
 -- two commands that differ
 pub clash : (c d : Text) (x y : Option Text) (named : Named) → bytes_eq c d ≡ false
@@ -487,36 +518,79 @@ store_is c s t named one other =
     (λ (p : Text × Option Text). option_map_or (λ (u : Text). u) p.1 []) n [] in
     ap store (sym one ∙ other)
 
+-- two texts that are named are one
+text_is : (s t : Text) (new : Option Text) → new ≡ Some s → new ≡ Some t → s ≡ t
+text_is s t new one other =
+    let text : Option Text → Text = λ o. option_map_or (λ (u : Text). u) o [] in
+    ap text (sym one ∙ other)
+
+-- two stores that are named behind `migrate` are those that the words ask for
+migrates : (words : List Text) (named : Named) (new : Option Text) (old given : Text)
+    → IsTaken words named new → named ≡ Some (migrate, Some old) → new ≡ Some given
+    → AsksToMigrate old given words
+migrates words named new old given (takes_demo a e) is fresh =
+    absurd (clash demo migrate _ _ named refl e is)
+migrates words named new old given (takes_format s a e) is fresh =
+    absurd (clash format migrate _ _ named refl e is)
+migrates words named new old given (takes_script s a e) is fresh =
+    absurd (clash script migrate _ _ named refl e is)
+migrates words named new old given (takes_inspect s a e) is fresh =
+    absurd (clash inspect migrate _ _ named refl e is)
+migrates words named new old given (takes_migrate s t a e n) is fresh =
+    subst (λ (u : Text). AsksToMigrate u given words) (store_is migrate s old named e is)
+    (subst (λ (u : Text). AsksToMigrate s u words) (text_is t given new n fresh) a)
+
 -- and what asks for it is asked for
-pub taken_asks : (words : List Text) (named : Named) (asked : Asked) → IsTaken words named
-    → Asks named asked → AsksFor asked words
-taken_asks words named Demo (takes_demo a e) is = a
-taken_asks words named Demo (takes_format s a e) is = absurd (clash demo format _ _ named refl is e)
-taken_asks words named Demo (takes_script s a e) is = absurd (clash demo script _ _ named refl is e)
-taken_asks words named Demo (takes_inspect s a e) is =
-    absurd (clash demo inspect _ _ named refl is e)
-taken_asks words named (Format t) (takes_demo a e) is =
+pub taken_asks : (words : List Text) (named : Named) (new : Option Text) (asked : Asked)
+    → IsTaken words named new → Asks named new (Ok asked) → AsksFor asked words
+taken_asks words named new Demo (takes_demo a e) is = a
+taken_asks words named new Demo (takes_format s a e) is =
+    absurd (clash format demo _ _ named refl e is)
+taken_asks words named new Demo (takes_script s a e) is =
+    absurd (clash script demo _ _ named refl e is)
+taken_asks words named new Demo (takes_inspect s a e) is =
+    absurd (clash inspect demo _ _ named refl e is)
+taken_asks words named new Demo (takes_migrate s g a e n) is =
+    absurd (clash migrate demo _ _ named refl e is)
+taken_asks words named new (Format t) (takes_demo a e) is =
     absurd (clash demo format _ _ named refl e is)
-taken_asks words named (Format t) (takes_format s a e) is =
+taken_asks words named new (Format t) (takes_format s a e) is =
     subst (λ (u : Text). AsksOver format u words) (store_is format s t.now named e is) a
-taken_asks words named (Format t) (takes_script s a e) is =
+taken_asks words named new (Format t) (takes_script s a e) is =
     absurd (clash script format _ _ named refl e is)
-taken_asks words named (Format t) (takes_inspect s a e) is =
+taken_asks words named new (Format t) (takes_inspect s a e) is =
     absurd (clash inspect format _ _ named refl e is)
-taken_asks words named (Script t) (takes_demo a e) is =
+taken_asks words named new (Format t) (takes_migrate s g a e n) is =
+    absurd (clash migrate format _ _ named refl e is)
+taken_asks words named new (Script t) (takes_demo a e) is =
     absurd (clash demo script _ _ named refl e is)
-taken_asks words named (Script t) (takes_format s a e) is =
+taken_asks words named new (Script t) (takes_format s a e) is =
     absurd (clash format script _ _ named refl e is)
-taken_asks words named (Script t) (takes_script s a e) is =
+taken_asks words named new (Script t) (takes_script s a e) is =
     subst (λ (u : Text). AsksOver script u words) (store_is script s t.now named e is) a
-taken_asks words named (Script t) (takes_inspect s a e) is =
+taken_asks words named new (Script t) (takes_inspect s a e) is =
     absurd (clash inspect script _ _ named refl e is)
-taken_asks words named (Inspect t) (takes_demo a e) is =
+taken_asks words named new (Script t) (takes_migrate s g a e n) is =
+    absurd (clash migrate script _ _ named refl e is)
+taken_asks words named new (Inspect t) (takes_demo a e) is =
     absurd (clash demo inspect _ _ named refl e is)
-taken_asks words named (Inspect t) (takes_format s a e) is =
+taken_asks words named new (Inspect t) (takes_format s a e) is =
     absurd (clash format inspect _ _ named refl e is)
-taken_asks words named (Inspect t) (takes_script s a e) is =
+taken_asks words named new (Inspect t) (takes_script s a e) is =
     absurd (clash script inspect _ _ named refl e is)
-taken_asks words named (Inspect t) (takes_inspect s a e) is =
+taken_asks words named new (Inspect t) (takes_inspect s a e) is =
     subst (λ (u : Text). AsksOver inspect u words) (store_is inspect s t.now named e is) a
-taken_asks words named (Help text) t is = absurd is
+taken_asks words named new (Inspect t) (takes_migrate s g a e n) is =
+    absurd (clash migrate inspect _ _ named refl e is)
+taken_asks words named new (Migrate o g) t is =
+    (migrates words named new o.now g.now t is.0 is.1, is.2)
+taken_asks words named new (Help text) t is = absurd is
+
+-- and two equal names are those of the words
+pub taken_fails : (words : List Text) (named : Named) (new : Option Text) (why : WordsFault)
+    → IsTaken words named new → Asks named new (Err why) → IsCausedBy why words
+taken_fails words named new SameStores t is =
+    (is.0, migrates words named new is.0 is.0 t is.1 is.2)
+taken_fails words named new (Mistake text) t is = absurd is
+taken_fails words named new NotText t is = absurd is
+taken_fails words named new Memory t is = absurd is

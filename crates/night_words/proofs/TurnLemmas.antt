@@ -125,6 +125,10 @@ demo_shape = slice_index_or (built night).subs 0 above
 abbrev pub store_shape : Text → Shape
 store_shape name = record (slice_index_or (built night).subs 1 above) { name = name }
 
+-- `migrate`
+abbrev pub migrate_shape : Shape
+migrate_shape = slice_index_or (built night).subs 4 above
+
 abbrev flag_of : Shape → ℕ → Rule
 flag_of s i = slice_index_or s.rules i help_rule
 
@@ -230,3 +234,29 @@ module _ (command : Text) where
 
   pub store_is_strict : IsStrict over
   store_is_strict = record { longs = store_longs; shorts = store_shorts }
+
+-- the two words of `migrate` have places, too
+migrate_longs : (name : Text) (v : Option Text) (h : Held)
+    → LongFails migrate_shape v h (arg_by_long migrate_shape.rules name)
+migrate_longs name None h =
+    let no : LongFails migrate_shape None h None = λ none. cc in
+    let help : LongFails migrate_shape None h (Some (flag_of migrate_shape 2)) = λ none.
+    help_is_found _ _ _ none in
+    found_of_one (has_name name) (LongFails migrate_shape None h) (flag_of migrate_shape 2) no help
+migrate_longs name (Some v) h =
+    let no : LongFails migrate_shape (Some v) h None = λ none. cc in
+    let help : LongFails migrate_shape (Some v) h (Some (flag_of migrate_shape 2)) = λ none. cc in
+    found_of_one (has_name name) (LongFails migrate_shape (Some v) h) (flag_of migrate_shape 2)
+    no help
+
+migrate_shorts : (x : ℕ) (rest : Text) (h : Held) (next : Held → Kinds)
+    → ShortFails migrate_shape rest h next (arg_by_short migrate_shape.rules x)
+migrate_shorts x rest h next =
+    let no : ShortFails migrate_shape rest h next None = λ none. cc in
+    let help : ShortFails migrate_shape rest h next (Some (flag_of migrate_shape 2)) = λ none.
+    help_is_found _ _ _ (first_none _ _ none) in
+    found_of_one (has_letter x) (ShortFails migrate_shape rest h next) (flag_of migrate_shape 2)
+    no help
+
+pub migrate_is_strict : IsStrict migrate_shape
+migrate_is_strict = record { longs = migrate_longs; shorts = migrate_shorts }

@@ -1,6 +1,6 @@
 -- Which words the command line takes.
 use Rattle.std.specs.Prelude.{◌≡◌, ◌≢◌, ◌⊎◌, ◌∷◌, [], ℕ, List, Option, Some, None, Result, Ok, Err}
-use Rattle.std.specs.Prelude.{codes, option_map, true}
+use Rattle.std.specs.Prelude.{codes, option_and_then, option_map, true}
 use Rattle.std.specs.String.{string_bytes}
 use Rattle.clap.specs.Words.{App, IsAmong, Kinds, Row, Rule, Shape, Text, fault_of, first_of}
 use Rattle.clap.specs.Words.{new_app, new_rule, subcommand_rows_of, with_rule, with_subcommand}
@@ -11,8 +11,10 @@ use Rattle.clap.specs.declared.error.kind.ErrorKind.TheVariants.{OutOfMemory}
 use Rattle.clap.specs.declared.parser.matches.ArgMatches.{ArgMatches}
 use Rattle.night_words.specs.declared.asked.Asked.{Asked}
 use Rattle.night_words.specs.declared.asked.Asked.TheVariants.{Demo, Format, Script, Inspect, Help}
+use Rattle.night_words.specs.declared.asked.Asked.TheVariants.{Migrate}
 use Rattle.night_words.specs.declared.asked.WordsFault.{WordsFault}
 use Rattle.night_words.specs.declared.asked.WordsFault.TheVariants.{Mistake, NotText, Memory}
+use Rattle.night_words.specs.declared.asked.WordsFault.TheVariants.{SameStores}
 
 -- ---- the command line
 
@@ -28,25 +30,31 @@ night_alone = record (new_app (codes "night")).top {
 abbrev pub demo_line : App
 demo_line = new_app (codes "demo")
 
--- the word that names a store, which is wanted
-abbrev pub store_rule : Rule
-store_rule = record (new_rule (codes "STORE")) { action = Some Set; required = true }
+-- a word that names a store, which is wanted; help has one name for it
+abbrev pub wanted : Text → Rule
+wanted id = record (new_rule id) { action = Some Set; required = true; value_names = 1 }
 
 -- a command that takes the name of a store
 abbrev pub store_line : Text → App
-store_line name = with_rule (new_app name) store_rule
+store_line name = with_rule (new_app name) (wanted (codes "STORE"))
 
--- the command line of `night`: the commands are `demo`, and over a store `format`, `script` and
--- `inspect`
+-- a command that takes the names of two stores, the old one first
+abbrev pub migrate_line : App
+migrate_line = with_rule (store_line (codes "migrate")) (wanted (codes "NEW"))
+
+-- the command line of `night`: the commands are `demo`, over a store `format`, `script` and
+-- `inspect`, and over two `migrate`
 abbrev pub night : App
 night =
     with_subcommand
     (with_subcommand
     (with_subcommand
+    (with_subcommand
     (with_subcommand (record { top = night_alone; subs = [] }) demo_line.top)
     (store_line (codes "format")).top)
     (store_line (codes "script")).top)
-    (store_line (codes "inspect")).top
+    (store_line (codes "inspect")).top)
+    migrate_line.top
 
 -- what the parser finds in these words, the program's own name first: nothing where they ask for a
 -- command; help and the version are found like mistakes
@@ -67,13 +75,30 @@ AsksOver command store words = (name : Text) × ((words ≡ name ∷ command ∷
     ⊎ ((words ≡ name ∷ command ∷ codes "--" ∷ store ∷ [])
     ⊎ (words ≡ name ∷ command ∷ store ∷ codes "--" ∷ [])))
 
+-- the words ask for a migration from this store to that one: the two stand behind the program's own
+-- name and the command, and the mark `--` may stand before, between or behind them
+abbrev pub AsksToMigrate : Text → Text → List Text → Type 0
+AsksToMigrate old new words = (name : Text)
+    × ((words ≡ name ∷ codes "migrate" ∷ old ∷ new ∷ [])
+    ⊎ ((words ≡ name ∷ codes "migrate" ∷ codes "--" ∷ old ∷ new ∷ [])
+    ⊎ ((words ≡ name ∷ codes "migrate" ∷ old ∷ codes "--" ∷ new ∷ [])
+    ⊎ (words ≡ name ∷ codes "migrate" ∷ old ∷ new ∷ codes "--" ∷ []))))
+
 -- the words ask for this; of a text that is shown nothing is said here
 abbrev pub AsksFor : Asked → List Text → Type 0
 AsksFor Demo words = AsksForDemo words
 AsksFor (Format store) words = AsksOver (codes "format") store.now words
 AsksFor (Script store) words = AsksOver (codes "script") store.now words
 AsksFor (Inspect store) words = AsksOver (codes "inspect") store.now words
+AsksFor (Migrate old new) words =
+    AsksToMigrate old.now new.now words × (old.now ≢ new.now)
 AsksFor (Help text) words = Unit {0}
+
+-- the words lead to this fault: to that of equal names where a migration is asked for from a store
+-- to itself; of the others `IsAnswer` tells
+abbrev pub IsCausedBy : WordsFault → List Text → Type 0
+IsCausedBy SameStores words = (store : Text) × AsksToMigrate store store words
+IsCausedBy why words = Unit {0}
 
 -- ---- what is answered
 
@@ -85,23 +110,27 @@ IsHelp kind = (kind ≡ DisplayHelp) ⊎ (kind ≡ DisplayVersion)
 abbrev pub IsMistake : ErrorKind → Type 0
 IsMistake kind = (kind ≢ DisplayHelp) × (kind ≢ DisplayVersion) × (kind ≢ OutOfMemory)
 
--- what is answered where the parser may find these: a command exactly where it finds nothing
+-- what is answered where the parser may find these: a command exactly where it finds nothing, but
+-- for equal names
 abbrev pub IsAnswer : Kinds → Result Asked WordsFault → Type 0
 IsAnswer kinds (Ok (Help text)) = (kind : ErrorKind) × IsAmong kind kinds × IsHelp kind
 IsAnswer kinds (Ok command) = kinds ≡ []
 IsAnswer kinds (Err (Mistake text)) = (kind : ErrorKind) × IsAmong kind kinds × IsMistake kind
+IsAnswer kinds (Err SameStores) = kinds ≡ []
 IsAnswer kinds (Err NotText) = ⊥
 IsAnswer kinds (Err Memory) = Unit {0}
 
 -- the words could not be had from the system: that is no mistake in them
 abbrev pub IsOfSystem : WordsFault → Type 0
 IsOfSystem (Mistake text) = ⊥
+IsOfSystem SameStores = ⊥
 IsOfSystem NotText = Unit {0}
 IsOfSystem Memory = Unit {0}
 
 -- what standard error shows where words ask for nothing
 abbrev pub fault_text : WordsFault → List ℕ
 fault_text (Mistake text) = string_bytes text
+fault_text SameStores = codes "error: OLD and NEW name the same file\n"
 fault_text NotText = codes "error: a word is no text in UTF-8\n"
 fault_text Memory = codes "night: fault 1 Memory\n"
 
@@ -112,6 +141,7 @@ abbrev pub IsShown : ErrorKind → Result Asked WordsFault → Type 0
 IsShown kind (Ok (Help text)) = IsHelp kind
 IsShown kind (Ok command) = ⊥
 IsShown kind (Err (Mistake text)) = IsMistake kind
+IsShown kind (Err SameStores) = ⊥
 IsShown kind (Err NotText) = ⊥
 IsShown kind (Err Memory) = Unit {0}
 
@@ -126,17 +156,37 @@ named_in entered = option_map (λ s. (s.0, first_of (codes "STORE") s.1)) entere
 abbrev pub named_by : ArgMatches → Named
 named_by matches = named_in (subcommand_rows_of matches)
 
--- what is named is asked for
-abbrev pub Asks : Named → Asked → Type 0
-Asks named Demo = named ≡ Some (codes "demo", None)
-Asks named (Format store) = named ≡ Some (codes "format", Some store.now)
-Asks named (Script store) = named ≡ Some (codes "script", Some store.now)
-Asks named (Inspect store) = named ≡ Some (codes "inspect", Some store.now)
-Asks named (Help text) = ⊥
+-- the new store of a migration
+abbrev pub new_in : Option (Text × List Row) → Option Text
+new_in entered = option_and_then (λ s. first_of (codes "NEW") s.1) entered
 
--- a command is named, and a store where it wants one
-abbrev pub IsNamed : Named → Type 0
-IsNamed named = (named ≡ Some (codes "demo", None))
+abbrev pub new_by : ArgMatches → Option Text
+new_by matches = new_in (subcommand_rows_of matches)
+
+-- what is named is asked for, or the two stores of a migration are one
+abbrev pub Asks : Named → Option Text → Result Asked WordsFault → Type 0
+Asks named new (Ok Demo) = named ≡ Some (codes "demo", None)
+Asks named new (Ok (Format store)) = named ≡ Some (codes "format", Some store.now)
+Asks named new (Ok (Script store)) = named ≡ Some (codes "script", Some store.now)
+Asks named new (Ok (Inspect store)) = named ≡ Some (codes "inspect", Some store.now)
+Asks named new (Ok (Migrate old given)) = (named ≡ Some (codes "migrate", Some old.now))
+    × (new ≡ Some given.now) × (old.now ≢ given.now)
+Asks named new (Ok (Help text)) = ⊥
+Asks named new (Err SameStores) = (store : Text)
+    × (named ≡ Some (codes "migrate", Some store)) × (new ≡ Some store)
+Asks named new (Err why) = ⊥
+
+-- a command is named, and the stores that it wants
+abbrev pub IsNamed : Named → Option Text → Type 0
+IsNamed named new = (named ≡ Some (codes "demo", None))
     ⊎ ((store : Text) × ((named ≡ Some (codes "format", Some store))
     ⊎ ((named ≡ Some (codes "script", Some store))
-    ⊎ (named ≡ Some (codes "inspect", Some store)))))
+    ⊎ ((named ≡ Some (codes "inspect", Some store))
+    ⊎ ((given : Text) × (named ≡ Some (codes "migrate", Some store)) × (new ≡ Some given))))))
+
+-- a migration between two names that differ, or the fault of equal ones
+abbrev pub IsMigration : Text → Text → Result Asked WordsFault → Type 0
+IsMigration old new (Ok (Migrate o n)) = (o.now ≡ old) × (n.now ≡ new) × (old ≢ new)
+IsMigration old new (Ok asked) = ⊥
+IsMigration old new (Err SameStores) = old ≡ new
+IsMigration old new (Err why) = ⊥

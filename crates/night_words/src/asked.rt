@@ -5,7 +5,7 @@ ghost use Rattle.night_words.specs.Commands.{fault_text};
 
 use std::fmt;
 
-/// What the words ask for. The name of a store is lent from them.
+/// What the words ask for. The names of stores are lent from them.
 #[derive(Debug, Drop)]
 pub enum Asked<'a> {
     /// `demo`: the input runs over a book in memory.
@@ -16,6 +16,9 @@ pub enum Asked<'a> {
     Script(&'a str),
     /// `inspect STORE`: what the store holds is printed.
     Inspect(&'a str),
+    /// `migrate OLD NEW`: the file NEW becomes a large store with the state of the small store OLD.
+    /// The two names differ.
+    Migrate(&'a str, &'a str),
     /// A text for the output: help, or the version.
     Help(String),
 }
@@ -27,6 +30,8 @@ pub enum WordsFault {
     /// The words are no command of the program; the text says what is wrong, and what would be
     /// right.
     Mistake(String),
+    /// A migration is asked for, but OLD and NEW are one name.
+    SameStores,
     /// A word is no text in UTF-8.
     NotText,
     /// There was no memory to read the words.
@@ -39,6 +44,7 @@ impl fmt::Display for WordsFault {
     fn fmt<W: fmt::Write>(&self, f: &mut fmt::Formatter<W>) -> fmt::Result {
         match self {
             WordsFault::Mistake(text) => f.write_str(text.as_str()),
+            WordsFault::SameStores => f.write_str("error: OLD and NEW name the same file\n"),
             WordsFault::NotText => f.write_str("error: a word is no text in UTF-8\n"),
             WordsFault::Memory => f.write_str("night: fault 1 Memory\n"),
         }

@@ -2,7 +2,7 @@
 
 ghost use Rattle.std.specs.Prelude.{◌≡◌, false, IfOk};
 ghost use Rattle.clap.specs.Words.{app_of, rule_of};
-ghost use Rattle.night_words.specs.Commands.{demo_line, night, store_line, store_rule};
+ghost use Rattle.night_words.specs.Commands.{demo_line, migrate_line, night, store_line, wanted};
 
 use clap::{Arg, ArgAction, Command};
 use std::alloc::{AllocError, Global};
@@ -32,6 +32,7 @@ pub fn night_command<'a>(alloc: Global) -> Result<Command<'a>, AllocError>
         "Prints what a store holds, and writes nothing to it",
         "Example: night inspect jobs.store",
     )?;
+    let migrate = migrate_command(alloc)?;
     Command::new(alloc, "night")
         .about("A durable job runner with cancellation scopes")
         .version(VERSION)
@@ -40,7 +41,8 @@ pub fn night_command<'a>(alloc: Global) -> Result<Command<'a>, AllocError>
         .subcommand(demo_command(alloc))?
         .subcommand(format)?
         .subcommand(script)?
-        .subcommand(inspect)
+        .subcommand(inspect)?
+        .subcommand(migrate)
 }
 
 fn demo_command<'a>(alloc: Global) -> Command<'a>
@@ -63,16 +65,33 @@ fn store_command<'a>(
     Command::new(alloc, name)
         .about(about)
         .after_help(example)
-        .arg(store_word(alloc))
+        .arg(store_word(alloc, "STORE", "STORE", "The file of the store"))
 }
 
-/// The word that names a store, which its command wants.
-fn store_word<'a>(alloc: Global) -> Arg<'a>
-    ensures rule { rule_of result ≡ store_rule }
+/// The command over two stores.
+fn migrate_command<'a>(alloc: Global) -> Result<Command<'a>, AllocError>
+    ensures { IfOk result (λ command. app_of command ≡ migrate_line) }
+{
+    Command::new(alloc, "migrate")
+        .about("Makes a large store NEW of a small store OLD; what NEW held is lost")
+        .after_help("Example: night migrate small.store large.store")
+        .arg(store_word(alloc, "STORE", "OLD", "The small store, which is only read"))?
+        .arg(store_word(
+            alloc,
+            "NEW",
+            "NEW",
+            "The new file; one that is there is emptied",
+        ))
+}
+
+/// A word that names a store, which its command wants, and what help calls it.
+fn store_word<'a>(alloc: Global, id: &'a str, name: &'a str, help: &'a str) -> Arg<'a>
+    ensures rule { rule_of result ≡ wanted id.now }
     ensures local { result.global ≡ false }
 {
-    Arg::new(alloc, "STORE")
+    Arg::new(alloc, id)
+        .value_name(name)
         .required(true)
         .action(ArgAction::Set)
-        .help("The file of the store")
+        .help(help)
 }

@@ -37,6 +37,27 @@ pub fn a_store_is_wanted()
         ≡ kind.UnknownArgument ∷ [] }
 {}
 
+/// `migrate` is a command over two stores, which may look like flags behind the mark.
+pub fn two_stores_are_named()
+    ensures alone { (name : List ℕ)
+        → faults_of (name ∷ codes "migrate" ∷ codes "a" ∷ codes "b" ∷ []) ≡ [] }
+    ensures before { (name : List ℕ)
+        → faults_of (name ∷ codes "migrate" ∷ codes "--" ∷ codes "-a" ∷ codes "-b" ∷ []) ≡ [] }
+    ensures between { (name : List ℕ)
+        → faults_of (name ∷ codes "migrate" ∷ codes "a" ∷ codes "--" ∷ codes "-b" ∷ []) ≡ [] }
+    ensures behind { (name : List ℕ)
+        → faults_of (name ∷ codes "migrate" ∷ codes "a" ∷ codes "b" ∷ codes "--" ∷ []) ≡ [] }
+{}
+
+/// Two stores are wanted.
+pub fn two_stores_are_wanted()
+    ensures one { (name : List ℕ) → faults_of (name ∷ codes "migrate" ∷ codes "a" ∷ [])
+        ≡ kind.MissingRequiredArgument ∷ [] }
+    ensures three { (name : List ℕ)
+        → faults_of (name ∷ codes "migrate" ∷ codes "a" ∷ codes "b" ∷ codes "c" ∷ [])
+        ≡ kind.UnknownArgument ∷ [] }
+{}
+
 /// No words ask for nothing.
 pub fn no_words_are_a_mistake()
     ensures name { (name : List ℕ) → faults_of (name ∷ [])

@@ -6,8 +6,9 @@ ghost use Rattle.std.specs.String.{string_bytes};
 ghost use Rattle.std.specs.Vec.Iter.{into_iter_steps};
 ghost use Rattle.std.specs.declared.io.ErrorKind.TheVariants as system;
 ghost use Rattle.clap.specs.Words.{kind_of};
-ghost use Rattle.night_words.specs.Commands.{Asks, AsksFor, IsAnswer, IsNamed, IsOfSystem};
-ghost use Rattle.night_words.specs.Commands.{IsShown, faults_of, named_by};
+ghost use Rattle.night_words.specs.Commands.{Asks, AsksFor, IsAnswer, IsCausedBy, IsMigration};
+ghost use Rattle.night_words.specs.Commands.{IsNamed, IsOfSystem, IsShown, faults_of, named_by};
+ghost use Rattle.night_words.specs.Commands.{new_by};
 
 use crate::asked::{Asked, WordsFault};
 use crate::commands::night_command;
@@ -54,39 +55,58 @@ fn refusal_of(kind: io::ErrorKind) -> WordsFault
 pub fn read_words<'a>(alloc: Global, words: &'a [String]) -> Result<Asked<'a>, WordsFault>
     ensures answer { IsAnswer (faults_of (map string_bytes words.now)) result }
     ensures asks { IfOk result (λ asked. AsksFor asked (map string_bytes words.now)) }
+    ensures cause { IfErr result (λ why. IsCausedBy why (map string_bytes words.now)) }
 {
     let Ok(command) = night_command(alloc) else {
         return Err(WordsFault::Memory);
     };
     match command.try_get_matches_from(words) {
-        Ok(matches) => Ok(asked_of(&matches)),
+        Ok(matches) => asked_of(&matches),
         Err(error) => shown(alloc, &error),
     }
 }
 
-/// What the parser's matches ask for: the command that was used, and its store.
-fn asked_of<'a>(matches: &ArgMatches<'a>) -> Asked<'a>
-    requires { IsNamed (named_by matches.now) }
-    ensures { Asks (named_by matches.now) result }
+/// What the parser's matches ask for: the command that was used, and its stores.
+fn asked_of<'a>(matches: &ArgMatches<'a>) -> Result<Asked<'a>, WordsFault>
+    requires { IsNamed (named_by matches.now) (new_by matches.now) }
+    ensures { Asks (named_by matches.now) (new_by matches.now) result }
 {
     let Some((command, inner)) = matches.subcommand() else {
         unreachable!();
     };
     if command == "demo" {
-        return Asked::Demo;
+        return Ok(Asked::Demo);
     }
     let Some(store) = inner.get_str("STORE") else {
         unreachable!();
     };
     let formats = command == "format";
     if formats {
-        return Asked::Format(store);
+        return Ok(Asked::Format(store));
     }
     let scripts = command == "script";
     if scripts {
-        return Asked::Script(store);
+        return Ok(Asked::Script(store));
     }
-    Asked::Inspect(store)
+    let inspects = command == "inspect";
+    if inspects {
+        return Ok(Asked::Inspect(store));
+    }
+    let Some(new) = inner.get_str("NEW") else {
+        unreachable!();
+    };
+    migration(store, new)
+}
+
+/// A migration between two stores. Two equal names are a mistake.
+fn migration<'a>(old: &'a str, new: &'a str) -> Result<Asked<'a>, WordsFault>
+    ensures { IsMigration old.now new.now result }
+{
+    if old == new {
+        Err(WordsFault::SameStores)
+    } else {
+        Ok(Asked::Migrate(old, new))
+    }
 }
 
 /// What the parser answered in place of matches: help that was asked for, or a mistake.

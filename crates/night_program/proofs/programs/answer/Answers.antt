@@ -18,7 +18,7 @@ returns-in-Help g c =
     let same : c.as_bytes.result.now ≡ string_bytes c.in-Help.text = cc in
     rw c.in-Help.is (
       subst P same (printed c.write_whole.result c.as_bytes.result.now w0 w1
-      c.write_whole.ensures.whole c.write_whole.ensures.cut c.write_whole.ensures.fault),
+          c.write_whole.ensures.whole c.write_whole.ensures.cut c.write_whole.ensures.fault),
       refl,
       refl,
     )
@@ -31,3 +31,6 @@ returns-in-Script g c = rw c.in-Script.is c.script_file.ensures
 
 pub returns-in-Inspect : goal.returns-in-Inspect
 returns-in-Inspect g c = rw c.in-Inspect.is (c.inspect_file.ensures, refl)
+
+pub returns-in-Migrate : goal.returns-in-Migrate
+returns-in-Migrate g c = rw c.in-Migrate.is (c.migrate_file.ensures, refl)

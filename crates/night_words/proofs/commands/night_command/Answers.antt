@@ -20,6 +20,9 @@ returns c =
     let three = c.in_ok-subcommand-3.ensures.shape
     (third_is_false _ _ _ _ (ap plain c.in_ok-script.ensures))
     ∙ ap₂ with_subcommand two (ap top c.in_ok-script.ensures) in
-    IfOk-weaker c.subcommand-4.result _ _ (λ command added.
-    added.shape (third_is_false _ _ _ _ (ap plain c.in_ok-inspect.ensures))
-    ∙ ap₂ with_subcommand three (ap top c.in_ok-inspect.ensures)) c.subcommand-4.ensures
+    let four = c.in_ok-subcommand-4.ensures.shape
+    (third_is_false _ _ _ _ (ap plain c.in_ok-inspect.ensures))
+    ∙ ap₂ with_subcommand three (ap top c.in_ok-inspect.ensures) in
+    IfOk-weaker c.subcommand-5.result _ _ (λ command added.
+    added.shape (third_is_false _ _ _ _ (ap plain c.in_ok-migrate.ensures))
+    ∙ ap₂ with_subcommand four (ap top c.in_ok-migrate.ensures)) c.subcommand-5.ensures

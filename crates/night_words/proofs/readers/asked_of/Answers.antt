@@ -1,8 +1,8 @@
 use Rattle.std.proofs.Common.{◌∙◌, Some, ap, sym}
-use Rattle.night_words.proofs.TakenLemmas.{demo, format, script}
-use Rattle.night_words.proofs.NamedLemmas.{differ, inspect_left, named_as, named_here, no_store}
-use Rattle.night_words.proofs.NamedLemmas.{same}
-use Rattle.night_words.specs.Commands.{named_by}
+use Rattle.night_words.proofs.TakenLemmas.{demo, format, inspect, script}
+use Rattle.night_words.proofs.NamedLemmas.{differ, migrate_left, migration_asks, named_as}
+use Rattle.night_words.proofs.NamedLemmas.{named_here, new_here, new_is_there, no_store, same}
+use Rattle.night_words.specs.Commands.{named_by, new_by}
 use Rattle.night_words.proofs.readers.asked_of.Goals as goal
 
 pub unreachable-requires-in_default-get_str : goal.unreachable-requires-in_default-get_str
@@ -11,7 +11,7 @@ unreachable-requires-in_default-get_str c =
     let at = named_here c.args.matches.now c.in-Some.command c.in-Some.inner
     c.in-Some.ensures.name c.in-Some.ensures.rows in
     differ command demo c.eq.result c.eq.ensures c.if-eq.false
-    (no_store (named_by c.args.matches.now) command c.requires
+    (no_store (named_by c.args.matches.now) (new_by c.args.matches.now) command c.requires
     (at ∙ ap (λ s. Some (command, s)) (sym c.in_default-get_str.ensures)))
 
 pub returns-then-formats : goal.returns-then-formats
@@ -32,12 +32,43 @@ returns-then-scripts c =
     (same command script c.eq-scripts.result c.eq-scripts.ensures c.if-scripts.true)
     c.in-Some-get_str.ensures
 
+pub returns-then-inspects : goal.returns-then-inspects
+returns-then-inspects c =
+    let command = c.in-Some.command.now in
+    let at = named_here c.args.matches.now c.in-Some.command c.in-Some.inner
+    c.in-Some.ensures.name c.in-Some.ensures.rows in
+    named_as (named_by c.args.matches.now) command inspect c.in-Some-get_str.store.now _ at
+    (same command inspect c.eq-inspects.result c.eq-inspects.ensures c.if-inspects.true)
+    c.in-Some-get_str.ensures
+
+pub unreachable-requires-in_default-get_str-2 : goal.unreachable-requires-in_default-get_str-2
+unreachable-requires-in_default-get_str-2 c =
+    let command = c.in-Some.command.now in
+    let at = named_here c.args.matches.now c.in-Some.command c.in-Some.inner
+    c.in-Some.ensures.name c.in-Some.ensures.rows in
+    let left = migrate_left (named_by c.args.matches.now) (new_by c.args.matches.now) command
+    c.in-Some-get_str.store.now c.requires
+    (at ∙ ap (λ s. Some (command, s)) (sym c.in-Some-get_str.ensures))
+    (differ command format c.eq-formats.result c.eq-formats.ensures c.if-formats.false)
+    (differ command script c.eq-scripts.result c.eq-scripts.ensures c.if-scripts.false)
+    (differ command inspect c.eq-inspects.result c.eq-inspects.ensures c.if-inspects.false) in
+    new_is_there (new_by c.args.matches.now) left.1.0 left.1.1
+    (new_here c.args.matches.now c.in-Some.command c.in-Some.inner c.in-Some.ensures.rows
+    ∙ sym c.in_default-get_str-2.ensures)
+
 pub returns : goal.returns
 returns c =
     let command = c.in-Some.command.now in
     let at = named_here c.args.matches.now c.in-Some.command c.in-Some.inner
     c.in-Some.ensures.name c.in-Some.ensures.rows in
-    inspect_left (named_by c.args.matches.now) command c.in-Some-get_str.store.now c.requires
+    let left = migrate_left (named_by c.args.matches.now) (new_by c.args.matches.now) command
+    c.in-Some-get_str.store.now c.requires
     (at ∙ ap (λ s. Some (command, s)) (sym c.in-Some-get_str.ensures))
     (differ command format c.eq-formats.result c.eq-formats.ensures c.if-formats.false)
     (differ command script c.eq-scripts.result c.eq-scripts.ensures c.if-scripts.false)
+    (differ command inspect c.eq-inspects.result c.eq-inspects.ensures c.if-inspects.false) in
+    migration_asks (named_by c.args.matches.now) (new_by c.args.matches.now)
+    c.in-Some-get_str.store.now c.in-Some-get_str-2.new.now c.migration.result left.0
+    (new_here c.args.matches.now c.in-Some.command c.in-Some.inner c.in-Some.ensures.rows
+    ∙ sym c.in-Some-get_str-2.ensures)
+    c.migration.ensures
