@@ -10,46 +10,61 @@ use std::process::Abort;
 /// No link.
 const LINK: &[u8] = b"\xff\xff";
 
-/// Appends the four digits of a number below 10,000.
-fn push_digits(image: &mut Vec<u8>, n: u16) -> Result<(), AllocError> {
+/// As many bytes as a text can have, and as the rest of a name.
+const TEXT: &[u8] = &[b'x'; 64];
+
+const REST: &[u8] = &[b'x'; 28];
+
+/// Appends pieces, one behind the other.
+fn push_all(image: &mut Vec<u8>, pieces: &[&[u8]]) -> Result<(), AllocError> {
+    for piece in pieces.iter() {
+        image.extend_from_slice(piece)?;
+    }
+    Ok(())
+}
+
+/// The four digits of a number below 10,000.
+fn digits(n: u16) -> [u8; 4] {
     let digit = |d: u16| b'0' + (d % 10) as u8;
-    image.extend_from_slice(&[digit(n / 1_000), digit(n / 100), digit(n / 10), digit(n)])
+    [digit(n / 1_000), digit(n / 100), digit(n / 10), digit(n)]
 }
 
-/// Appends a name of 32 bytes that begins with the number.
-fn push_greatest_name(image: &mut Vec<u8>, n: u16) -> Result<(), AllocError> {
-    image.push(32)?;
-    push_digits(image, n)?;
-    image.extend_from_slice(&[b'x'; 28])
-}
-
-/// Appends the row of a scope, of 192 bytes: a deadline of 0 that event 1 found exceeded, with two
-/// causes of 64 bytes.
+/// Appends the row of a scope, of 192 bytes: its name of 32 begins with its number, and event 1
+/// found its deadline of 0 exceeded, with two causes of 64 bytes.
 fn push_greatest_scope(image: &mut Vec<u8>, n: u16) -> Result<(), AllocError> {
-    push_greatest_name(image, n)?;
-    image.extend_from_slice(b"\x00\x00\x03\x00\x00\x00\x00\x00\x00\x00\x00\x40")?;
-    image.extend_from_slice(&[b'x'; 64])?;
-    image.extend_from_slice(b"\x01\x00\x00\x00\x00\x00\x00\x00\x01")?;
-    image.extend_from_slice(b"\x00\x00\x00\x00\x00\x00\x00\x00\x02\x40")?;
-    image.extend_from_slice(&[b'x'; 64])
+    let pieces: [&[u8]; 8] = [
+        b"\x20",
+        &digits(n),
+        REST,
+        b"\x00\x00\x03\x00\x00\x00\x00\x00\x00\x00\x00\x40",
+        TEXT,
+        b"\x01\x00\x00\x00\x00\x00\x00\x00\x01",
+        b"\x00\x00\x00\x00\x00\x00\x00\x00\x02\x40",
+        TEXT,
+    ];
+    push_all(image, &pieces)
 }
 
-/// Appends the row of a group, of 103 bytes: bare, in root, without a limit, with an error.
+/// Appends the row of a group, of 103 bytes: its name of 32 begins with its number, and it is bare,
+/// in root, without a limit, with an error.
 fn push_greatest_group(image: &mut Vec<u8>, n: u16) -> Result<(), AllocError> {
-    push_greatest_name(image, n)?;
-    image.extend_from_slice(b"\x00\x00\x01\xff\x00\x40")?;
-    image.extend_from_slice(&[b'x'; 64])
+    let fields = b"\x00\x00\x01\xff\x00\x40";
+    push_all(image, &[b"\x20", &digits(n), REST, fields, TEXT])
 }
+
+/// A job, an argument and an error, each as long as it can be, of a task that failed.
+const FAILURE: &[&[u8]] = &[
+    b"\x20xxxxxxxxxxxxxxxxxxxxxxxxxxxxxxxx",
+    b"\x20xxxxxxxxxxxxxxxxxxxxxxxxxxxxxxxx",
+    b"\x03\x40",
+    TEXT,
+];
 
 /// Appends the row of a task of group `n % 128`, of 134 bytes and its link: it failed.
 fn push_greatest_task(image: &mut Vec<u8>, n: u16, link: &[u8]) -> Result<(), AllocError> {
-    image.extend_from_slice(&[0, (n % 128) as u8, 32])?;
-    image.extend_from_slice(&[b'x'; 32])?;
-    image.push(32)?;
-    image.extend_from_slice(&[b'x'; 32])?;
-    image.extend_from_slice(&[3, 64])?;
-    image.extend_from_slice(&[b'x'; 64])?;
-    image.extend_from_slice(link)
+    push_all(image, &[&[0, (n % 128) as u8]])?;
+    push_all(image, FAILURE)?;
+    push_all(image, &[link])
 }
 
 /// The image of so many of the greatest scopes and tasks and of 128 groups, at the greatest clock
@@ -131,14 +146,11 @@ fn least(alloc: Global, rows: Counts) -> Result<Vec<u8>, AllocError> {
     };
     push_head(&mut image, head)?;
     for n in 0..rows.0 {
-        image.push(4)?;
-        push_digits(&mut image, n)?;
-        image.extend_from_slice(b"\x00\x00\x01\x00")?;
+        push_all(&mut image, &[b"\x04", &digits(n), b"\x00\x00\x01\x00"])?;
     }
     for n in 0..rows.1 {
-        image.push(4)?;
-        push_digits(&mut image, n)?;
-        image.extend_from_slice(b"\x00\x00\x01\xff\x00\x00")?;
+        let fields = b"\x00\x00\x01\xff\x00\x00";
+        push_all(&mut image, &[b"\x04", &digits(n), fields])?;
     }
     for _ in 0..rows.2 {
         image.extend_from_slice(b"\x00\x00\x01j\x01a\x00\xff\xff")?;

@@ -88,14 +88,23 @@ fn is_full(heap: &LocalHeap) -> bool {
 }
 
 /// Makes all calls on a session over a heap that it fills to its last byte.
+fn assert_full(rt: &impl Abort, heap: &LocalHeap, layout: Layout, row: usize) {
+    let mut session = begun(rt, heap, layout);
+    holds(rt, is_full(heap), "full heap", row);
+    take(rt, &mut session, &ALL_CALLS);
+    holds(rt, has_first_rows(&session), "group and event", row);
+}
+
+/// Whether a session shows a group and an event.
+fn has_first_rows(session: &Session<&LocalHeap>) -> bool {
+    session.state().group(0).is_some() && session.history().next().is_some()
+}
+
+/// Makes all calls on a session of this layout over a heap of as many bytes as it takes.
 fn assert_full_heap(rt: &impl Abort, alloc: Global, layout: Layout, row: usize) {
     let ample = heap_of(rt, alloc, 16_000_000);
-    let heap = heap_of(rt, alloc, bytes_of_a_session(rt, &ample, layout));
-    let mut session = begun(rt, &heap, layout);
-    holds(rt, is_full(&heap), "full heap", row);
-    take(rt, &mut session, &ALL_CALLS);
-    holds(rt, session.state().group(0).is_some(), "group", row);
-    holds(rt, session.history().next().is_some(), "history", row);
+    let bytes = bytes_of_a_session(rt, &ample, layout);
+    assert_full(rt, &heap_of(rt, alloc, bytes), layout, row);
 }
 
 #[test]

@@ -249,22 +249,35 @@ fn rows_that_break_a_rule_are_refused(rt: HostRuntime) {
 
 /// What stands behind the name in a row with every field of the greatest length: a deadline scope
 /// that was exceeded, without its two causes.
-const PARENT_AND_KIND: &[u8; 12] = b"\x00\x00\x03\x00\x00\x00\x00\x00\x00\x00\x00\x40";
+const PARENT_AND_KIND: &[u8] = b"\x00\x00\x03\x00\x00\x00\x00\x00\x00\x00\x00\x40";
 
 /// The hit of event 1 at clock 0, up to its cause.
-const HIT: &[u8; 19] = b"\x01\x00\x00\x00\x00\x00\x00\x00\x01\x00\x00\x00\x00\x00\x00\x00\x00\
+const HIT: &[u8] = b"\x01\x00\x00\x00\x00\x00\x00\x00\x01\x00\x00\x00\x00\x00\x00\x00\x00\
     \x02\x40";
 
-/// Appends the row of scope `n`, below 10,000, of 192 bytes.
-fn push_greatest_row(rows: &mut Vec<u8>, n: u16) -> Result<(), AllocError> {
+/// As many bytes as a text can have, and as the rest of a name.
+const TEXT: &[u8] = &[b'x'; 64];
+
+const REST: &[u8] = &[b'x'; 28];
+
+/// Appends pieces, one behind the other.
+fn push_all(rows: &mut Vec<u8>, pieces: &[&[u8]]) -> Result<(), AllocError> {
+    for piece in pieces.iter() {
+        rows.extend_from_slice(piece)?;
+    }
+    Ok(())
+}
+
+/// The four digits of a number below 10,000.
+fn digits(n: u16) -> [u8; 4] {
     let digit = |d: u16| b'0' + (d % 10) as u8;
-    rows.push(32)?;
-    rows.extend_from_slice(&[digit(n / 1_000), digit(n / 100), digit(n / 10), digit(n)])?;
-    rows.extend_from_slice(&[b'x'; 28])?;
-    rows.extend_from_slice(PARENT_AND_KIND)?;
-    rows.extend_from_slice(&[b'x'; 64])?;
-    rows.extend_from_slice(HIT)?;
-    rows.extend_from_slice(&[b'x'; 64])
+    [digit(n / 1_000), digit(n / 100), digit(n / 10), digit(n)]
+}
+
+/// Appends the row of scope `n`, of 192 bytes: its name of 32 begins with its number.
+fn push_greatest_row(rows: &mut Vec<u8>, n: u16) -> Result<(), AllocError> {
+    let pieces: [&[u8]; 7] = [b"\x20", &digits(n), REST, PARENT_AND_KIND, TEXT, HIT, TEXT];
+    push_all(rows, &pieces)
 }
 
 /// The rows of so many scopes, each of 192 bytes.
