@@ -22,6 +22,20 @@ impl<'a, S: fs::Files<File = File>> SystemFiles<'a, S> {
         SystemFiles { system }
     }
 
+    /// A file that is open: for reading alone, where it may not be written.
+    fn opened(&self, name: &str) -> io::Result<File> {
+        let both = OpenOptions::new()
+            .read(true)
+            .write(true)
+            .open(self.system, name);
+        match both {
+            Err(error) if is_unwritable(error.kind()) => {
+                OpenOptions::new().read(true).open(self.system, name)
+            }
+            both => both,
+        }
+    }
+
     /// A file that was created or emptied, and filled with so many zero bytes.
     fn zeros(&self, name: &str, size: u64) -> io::Result<File> {
         let mut file = OpenOptions::new()
@@ -46,11 +60,7 @@ impl<S: fs::Files<File = File>> Files for SystemFiles<'_, S> {
     ghost holds = { λ files name disk. ⊤ };
 
     fn open(&mut self, name: &str) -> Result<FileDisk, DiskFailed> {
-        let opened = OpenOptions::new()
-            .read(true)
-            .write(true)
-            .open(self.system, name);
-        match opened {
+        match self.opened(name) {
             Ok(file) => FileDisk::new(file),
             Err(_) => Err(DiskFailed),
         }
@@ -67,4 +77,12 @@ impl<S: fs::Files<File = File>> Files for SystemFiles<'_, S> {
             Err(DiskFailed)
         }
     }
+}
+
+/// Whether a file that failed so may not be written, but perhaps read.
+fn is_unwritable(kind: io::ErrorKind) -> bool {
+    matches!(
+        kind,
+        io::ErrorKind::PermissionDenied | io::ErrorKind::ReadOnlyFilesystem
+    )
 }
