@@ -1,8 +1,8 @@
 //! What a store means, and what a book promises of it: the definitions that the durable book's
 //! contracts are made in, and their first laws.
 //!
-//! Each function has an empty body, and its clauses are the law. A [`MigrateFault`] stands here too,
-//! since definitions speak of it.
+//! Each function has an empty body, and its clauses are the law. A [`MigrateFault`] stands here
+//! too, since definitions speak of it.
 #![tactic(auto)]
 
 pub mod fronts;

@@ -96,7 +96,8 @@ fn assert_nights<R: Threads + Wait + Sync + Abort>(
 }
 
 // Behind the ten calls of the opening, a night makes six for each flush: of a start, of a finish,
-// and the last one. A flush may save several events, and the more workers meet, the fewer there are.
+// and the last one. A flush may save several events, and the more workers meet, the fewer there
+// are.
 
 #[test]
 fn a_failure_at_an_early_call_loses_nothing_acknowledged(rt: HostRuntime) -> Result<(), Fail> {

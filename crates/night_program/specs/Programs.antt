@@ -25,7 +25,7 @@ HasNoFile answer = answer ≡ Err (Store (Faulty DiskFailed))
 
 -- `holds` says which disks the file of a name is, as the files are.
 module _ {F D : Type 0} (state : D → DiskState) (holds : F → List ℕ → D → Type 0) where
-  -- The file of this name was made anew with the size of a large store, and an honest one has zeros.
+  -- The file of this name was made anew with the size of a large store. An honest one has zeros.
   pub record IsMade (f : F) (name : List ℕ) (made : D) : Type 0 where
     pub held : holds f name made
     pub sized : (state made).size ≡ store_len Large

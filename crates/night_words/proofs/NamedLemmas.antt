@@ -15,7 +15,8 @@ use Rattle.clap.specs.Walk.{Row, Text, first_of, rows_of}
 use Rattle.clap.specs.declared.parser.matches.ArgMatches.{ArgMatches}
 use Rattle.clap.specs.declared.parser.matches.ArgMatches.TheViews.{out-ArgMatches, out-SubCommand}
 use Rattle.clap.specs.declared.parser.matches.SubCommand.{SubCommand}
-use Rattle.night_words.specs.Commands.{Asks, IsMigration, IsNamed, Named, named_by, named_in, new_by}
+use Rattle.night_words.specs.Commands.{Asks, IsMigration, IsNamed, Named}
+use Rattle.night_words.specs.Commands.{named_by, named_in, new_by}
 use Rattle.night_words.specs.Commands.{new_in}
 use Rattle.night_words.specs.declared.asked.Asked.{Asked}
 use Rattle.night_words.specs.declared.asked.Asked.TheVariants.{Demo, Format, Script, Inspect, Help}

@@ -1,5 +1,6 @@
 -- What a command leaves of the totals.
-use Rattle.std.proofs.Common.{◌≡◌, ℕ, ◌+◌, List, [], ◌∷◌, ◌++◌, Bool, true, false, Option, None, Some}
+use Rattle.std.proofs.Common.{◌≡◌, ℕ, ◌+◌, List, [], ◌∷◌, ◌++◌}
+use Rattle.std.proofs.Common.{Bool, true, false, Option, None, Some}
 use Rattle.std.proofs.Common.{refl, ap, ◌∙◌, arith}
 use Rattle.std.specs.Prelude.{Result, Ok, Err, cond, count_by, option_to_list, if◌then◌else◌}
 use Rattle.std.proofs.lemmas.List.Sums.{sum_by-append}
@@ -8,7 +9,8 @@ use Rattle.run_model.specs.declared.commands.Command.TheVariants as command
 use Rattle.run_model.specs.declared.refusals.Refusal.{Refusal}
 use Rattle.run_model.specs.declared.refusals.Refusal.TheVariants.{Broken, SessionFull}
 use Rattle.run_model.specs.Event.{Event}
-use Rattle.run_model.specs.Replies.{decide, event_of, if_room, is_full, is_repeated, refusals, unless}
+use Rattle.run_model.specs.Replies.{decide, event_of, if_room, is_full, is_repeated}
+use Rattle.run_model.specs.Replies.{refusals, unless}
 use Rattle.run_model.specs.Session.{made}
 use Rattle.run_model.specs.State.{State}
 use Rattle.run_book.specs.Views.{BookView, unless_broken}

@@ -1,7 +1,8 @@
 -- Notes of which none is stray, and which lack no finish, are the finishes in some order.
 use Rattle.std.proofs.Common.{◌≡◌, ℕ, ◌+◌, ◌<◌, ◌≤◌, List, [], ◌∷◌, ◌++◌, length, take, Bool, true}
 use Rattle.std.proofs.Common.{false, ◌||◌, ◌&&◌, refl, ap, sym, ◌∙◌, arith, append_assoc, subst}
-use Rattle.std.specs.Prelude.{suc, not, slice_get, slice_index_or, Some, ◌==◌, nat_lt, if◌then◌else◌}
+use Rattle.std.specs.Prelude.{suc, not, slice_get, slice_index_or, Some, ◌==◌, nat_lt}
+use Rattle.std.specs.Prelude.{if◌then◌else◌}
 use Rattle.std.specs.List.{list_all, list_any}
 use Rattle.std.specs.List.Sorted.{IsPermutation}
 use Rattle.std.specs.Str.{bytes_eq}

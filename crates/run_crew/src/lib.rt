@@ -1,9 +1,9 @@
 //! The crew: worker threads that work off the ready tasks of one book, under one lock.
 //!
 //! A [`Desk`] is the value of the lock: the book, and the totals of its starts and finishes. Each
-//! worker counts by a [`Seat`] of its own, runs its [`Job`]s with the lock let go, and notes what it
-//! finished; a thread more makes the finishes durable. [`run_night`] starts and joins them all, and
-//! [`audit`] compares the notes with the book's history.
+//! worker counts by a [`Seat`] of its own, runs its [`Job`]s with the lock let go, and notes what
+//! it finished; a thread more makes the finishes durable. [`run_night`] starts and joins them all,
+//! and [`audit`] compares the notes with the book's history.
 #![tactic(auto)]
 
 mod audits;

@@ -25,9 +25,10 @@ use std::thread::Threads;
 /// answered.
 ///
 /// Each worker starts the ready task with the least number and makes the start durable, makes the
-/// turns by the first of its jobs that handles the task, finishes it and notes it, until it finds no
-/// task ready, its start or its finish is refused, its flush isn't done, or its notes are full. A
-/// thread more flushes whenever a task was finished. No lock is held while a job or the gate runs.
+/// turns by the first of its jobs that handles the task, finishes it and notes it, until it finds
+/// no task ready, its start or its finish is refused, its flush isn't done, or its notes are full.
+/// A thread more flushes whenever a task was finished. No lock is held while a job or the gate
+/// runs.
 ///
 /// `Memory` where a growth or the start of a thread was refused. Every thread that was started has
 /// been joined then, too; the seat may lack some parts.
