@@ -1,8 +1,8 @@
-//! A night that is stopped, inspected and opened again.
+//! A night that is stopped, inspected, opened again and migrated.
 
 use crate::runs::run_words;
 use crate::shelves::Shelf;
-use night_program::{format, script};
+use night_program::{format, migrate, script};
 use run_disk::{MemoryDisk, Torn};
 use std::alloc::Global;
 use std::test::Fail;
@@ -30,6 +30,9 @@ const AGAIN: (&str, &str) = (
      acked 7\n",
 );
 
+/// How many bytes a small and a large store have.
+const SIZES: (usize, usize) = (1_572_864, 6_291_456);
+
 /// A disk as it is left at rest.
 fn left(alloc: Global, disk: &MemoryDisk) -> Result<Vec<u8>, Fail> {
     Ok(disk.image(alloc, disk.calls(), Torn::Take)?)
@@ -38,7 +41,7 @@ fn left(alloc: Global, disk: &MemoryDisk) -> Result<Vec<u8>, Fail> {
 /// A small store that a night ran over until it was stopped.
 fn stopped(alloc: Global) -> Result<Shelf, Fail> {
     let mut output = Vec::new(alloc);
-    let (made, disk) = format(MemoryDisk::new(alloc, 1_572_864)?, &mut output);
+    let (made, disk) = format(MemoryDisk::new(alloc, SIZES.0)?, &mut output);
     made?;
     let mut input = STOPPED.0.as_bytes();
     let (ran, disk) = script(alloc, disk, &mut input, &mut output);
@@ -72,5 +75,73 @@ fn a_stopped_night_is_opened_again(rt: HostRuntime) -> Result<(), Fail> {
     let printed = run_words(rt.alloc(), &["script", "jobs.store"], &mut shelf, AGAIN.0)?;
     assert_eq!(rt; printed.output.as_str(), AGAIN.1);
     assert_eq!(rt; printed.ended.status, 0);
+    Ok(())
+}
+
+/// The large store that a small one is migrated to; and what was printed, and what is left of the
+/// small one.
+fn migrated(alloc: Global, small: &Shelf) -> Result<(Shelf, Vec<u8>, Vec<u8>), Fail> {
+    let bytes = Vec::from_slice(alloc, small.bytes.as_slice())?;
+    let mut old = MemoryDisk::from_bytes(alloc, bytes)?;
+    let mut output = Vec::new(alloc);
+    let new = MemoryDisk::new(alloc, SIZES.1)?;
+    let (answer, new) = migrate(alloc, &mut old, new, &mut output);
+    answer?;
+    let large = Shelf {
+        alloc,
+        name: "new.store",
+        bytes: left(alloc, &new)?,
+    };
+    Ok((large, output, left(alloc, &old)?))
+}
+
+#[test]
+fn a_stopped_night_is_migrated(rt: HostRuntime) -> Result<(), Fail> {
+    let small = stopped(rt.alloc())?;
+    let (mut large, printed, old) = migrated(rt.alloc(), &small)?;
+    assert!(rt; printed.as_slice() == b"migrated; events 6\n".as_slice());
+    assert!(rt; old.as_slice() == small.bytes.as_slice(), "the old store");
+    let runs = [("inspect", "", INSPECTED), ("script", AGAIN.0, AGAIN.1)];
+    for (word, input, wanted) in runs {
+        let shown = run_words(rt.alloc(), &[word, "new.store"], &mut large, input)?;
+        assert!(rt; shown.output.as_str() == wanted, "{word} {shown:?}");
+        assert!(rt; shown.ended.status == 0, "{word} {shown:?}");
+    }
+    Ok(())
+}
+
+/// What a file of so many zeros is answered that is to be migrated.
+static UNMIGRATED: [(usize, &str); 3] = [
+    (SIZES.1, "night: fault 4 WrongSize\n"),
+    (SIZES.0 - 1, "night: fault 4 WrongSize\n"),
+    (SIZES.0, "night: fault 3 NotAStore\n"),
+];
+
+#[test]
+fn what_is_no_small_store_is_not_migrated(rt: HostRuntime) -> Result<(), Fail> {
+    for (size, told) in UNMIGRATED {
+        let mut shelf = Shelf {
+            alloc: rt.alloc(),
+            name: "a",
+            bytes: vec![in rt.alloc(); 0u8; size]?,
+        };
+        let printed = run_words(rt.alloc(), &["migrate", "a", "b"], &mut shelf, "")?;
+        assert!(rt; printed.ended.status == 3, "{size} {printed:?}");
+        assert!(rt; printed.errors.as_str() == told, "{size} {printed:?}");
+        assert!(rt; printed.output.is_empty(), "{size} {printed:?}");
+    }
+    Ok(())
+}
+
+#[test]
+fn a_migration_goes_by_its_words(rt: HostRuntime) -> Result<(), Fail> {
+    let mut shelf = stopped(rt.alloc())?;
+    let words = ["migrate", "jobs.store", "new.store"];
+    let printed = run_words(rt.alloc(), &words, &mut shelf, "")?;
+    assert!(rt;
+        printed.output.as_str() == "migrated; events 6\n",
+        "{printed:?}"
+    );
+    assert!(rt; printed.ended.status == 0, "{printed:?}");
     Ok(())
 }

@@ -11,7 +11,7 @@ use std::test::Fail;
 /// Words, the exit status, and a part of what goes to the output and to the errors.
 type Case = (&'static [&'static str], u8, &'static str, &'static str);
 
-static CASES: [Case; 21] = [
+static CASES: [Case; 28] = [
     (&[], 2, "", "Usage: night <COMMAND>"),
     (&[""], 2, "", "unrecognized subcommand ''"),
     (&["crew", "a"], 2, "", "unrecognized subcommand 'crew'"),
@@ -48,6 +48,48 @@ static CASES: [Case; 21] = [
     (&["script", "none"], 3, "", "night: fault 2 DiskFailed\n"),
     (&["inspect", "none"], 3, "", "night: fault 2 DiskFailed\n"),
     (&["script", "a"], 3, "", "night: fault 4 WrongSize\n"),
+    (
+        &["migrate", "a", "a"],
+        2,
+        "",
+        "error: OLD and NEW name the same file\n",
+    ),
+    (
+        &["migrate", "a"],
+        2,
+        "",
+        "required arguments were not provided",
+    ),
+    (
+        &["migrate", "a", "b", "c"],
+        2,
+        "",
+        "unexpected argument 'c' found",
+    ),
+    (
+        &["migrate", "none", "new"],
+        3,
+        "",
+        "night: fault 2 DiskFailed\n",
+    ),
+    (
+        &["migrate", "a", "new"],
+        3,
+        "",
+        "night: fault 4 WrongSize\n",
+    ),
+    (
+        &["migrate", "-h"],
+        0,
+        "Example: night migrate small.store large.store",
+        "",
+    ),
+    (
+        &["migrate", "--help"],
+        0,
+        "one that is there is emptied",
+        "",
+    ),
 ];
 
 /// A file of no bytes, which is no store.

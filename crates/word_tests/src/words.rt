@@ -9,10 +9,14 @@ enum Told {
     Demo,
     /// They ask for this word over this store.
     Store(&'static str, &'static str),
+    /// They ask for a migration from this store to that one.
+    Migration(&'static str, &'static str),
     /// A text for help that has this part.
     Help(&'static str),
     /// This text for help.
     Text(&'static str),
+    /// A migration from a store to itself.
+    SameStores,
     /// A mistake whose text has this part, and ends with a line feed.
     Mistake(&'static str),
 }
@@ -31,7 +35,20 @@ static STORES: [Case; 6] = [
     (&["script", ""], Told::Store("script", "")),
 ];
 
-static HELP: [Case; 7] = [
+static MIGRATIONS: [Case; 7] = [
+    (
+        &["migrate", "a.disk", "b.disk"],
+        Told::Migration("a.disk", "b.disk"),
+    ),
+    (&["migrate", "--", "-a", "-b"], Told::Migration("-a", "-b")),
+    (&["migrate", "a", "--", "-b"], Told::Migration("a", "-b")),
+    (&["migrate", "a", "b", "--"], Told::Migration("a", "b")),
+    (&["migrate", "a", ""], Told::Migration("a", "")),
+    (&["migrate", "a.disk", "a.disk"], Told::SameStores),
+    (&["migrate", "--", "-a", "-a"], Told::SameStores),
+];
+
+static HELP: [Case; 8] = [
     (&["--help"], Told::Help("Usage: night <COMMAND>")),
     (&["-h"], Told::Help("Usage: night <COMMAND>")),
     (&["help"], Told::Help("Usage: night <COMMAND>")),
@@ -45,6 +62,10 @@ static HELP: [Case; 7] = [
         &["inspect", "--help"],
         Told::Help("Example: night inspect jobs.store"),
     ),
+    (
+        &["migrate", "--help"],
+        Told::Help("Usage: night migrate <OLD> <NEW>"),
+    ),
 ];
 
 static VERSION: [Case; 2] = [
@@ -52,7 +73,7 @@ static VERSION: [Case; 2] = [
     (&["-V"], Told::Text("night 0.2.0\n")),
 ];
 
-static MISTAKES: [Case; 13] = [
+static MISTAKES: [Case; 15] = [
     (&[], Told::Mistake("Usage: night <COMMAND>")),
     (&[""], Told::Mistake("unrecognized subcommand ''")),
     (
@@ -80,8 +101,16 @@ static MISTAKES: [Case; 13] = [
         Told::Mistake("unexpected argument '-a' found"),
     ),
     (
-        &["migrate", "a.disk", "b.disk"],
-        Told::Mistake("unrecognized subcommand 'migrate'"),
+        &["migrate", "a.disk"],
+        Told::Mistake("required arguments were not provided"),
+    ),
+    (
+        &["migrate", "--", "a.disk"],
+        Told::Mistake("required arguments were not provided"),
+    ),
+    (
+        &["migrate", "a.disk", "b.disk", "c.disk"],
+        Told::Mistake("unexpected argument 'c.disk' found"),
     ),
     (
         &["--demo"],
@@ -120,6 +149,7 @@ fn is_asked(asked: &Asked, told: &Told) -> bool {
         (Asked::Format(store), Told::Store(word, name)) => *word == "format" && store == name,
         (Asked::Script(store), Told::Store(word, name)) => *word == "script" && store == name,
         (Asked::Inspect(store), Told::Store(word, name)) => *word == "inspect" && store == name,
+        (Asked::Migrate(old, new), Told::Migration(from, to)) => old == from && new == to,
         (Asked::Help(text), Told::Help(part)) => text.contains(*part),
         (Asked::Help(text), Told::Text(whole)) => text.as_str() == *whole,
         _ => false,
@@ -128,6 +158,9 @@ fn is_asked(asked: &Asked, told: &Told) -> bool {
 
 /// Whether the words are the mistake that they should be.
 fn is_mistake(alloc: Global, fault: &WordsFault, told: &Told) -> Result<bool, AllocError> {
+    if matches!(told, Told::SameStores) {
+        return Ok(matches!(fault, WordsFault::SameStores));
+    }
     let Told::Mistake(part) = told else {
         return Ok(false);
     };
@@ -165,6 +198,13 @@ fn demo_is_asked_for(rt: HostRuntime) -> Result<(), Fail> {
 #[test]
 fn a_store_is_named(rt: HostRuntime) -> Result<(), Fail> {
     let untold = first_untold(rt.alloc(), &STORES)?;
+    assert!(rt; untold.is_none(), "row {untold:?}");
+    Ok(())
+}
+
+#[test]
+fn two_stores_are_named(rt: HostRuntime) -> Result<(), Fail> {
+    let untold = first_untold(rt.alloc(), &MIGRATIONS)?;
     assert!(rt; untold.is_none(), "row {untold:?}");
     Ok(())
 }
