@@ -100,15 +100,15 @@ fn assert_nights<R: Threads + Wait + Sync + Abort>(
 
 #[test]
 fn a_failure_at_an_early_call_loses_nothing_acknowledged(rt: HostRuntime) -> Result<(), Fail> {
-    assert_nights(&rt, rt.alloc(), 11, 60)
+    assert_nights(&rt, rt.alloc(), 11, 40)
 }
 
 #[test]
 fn a_failure_at_a_middle_call_loses_nothing_acknowledged(rt: HostRuntime) -> Result<(), Fail> {
-    assert_nights(&rt, rt.alloc(), 61, 110)
+    assert_nights(&rt, rt.alloc(), 41, 70)
 }
 
 #[test]
 fn a_failure_at_a_late_call_loses_nothing_acknowledged(rt: HostRuntime) -> Result<(), Fail> {
-    assert_nights(&rt, rt.alloc(), 111, 208)
+    assert_nights(&rt, rt.alloc(), 71, 208)
 }
