@@ -265,7 +265,7 @@ more_words x y z rest none = first (first_word x
         let m = third_word x y z (subst (λ w. turn_fault pair [] w z ≡ []) at
         (third (one x) y here)) in
         let end = subst (λ t. Last (two x y) t) m
-                (subst (λ w. Last w z) at (last (one x) y here)) in
+        (subst (λ w. Last w z) at (last (one x) y here)) in
         let none_left = nothing_follows (then (two x y) mark) (third_behind_two x y) rest end in
         subst BehindBoth (sym (ap₂ (λ t r. x ∷ y ∷ t ∷ r) m none_left))
         (before_mark x y (ap (λ w. then w y) is ∙ at))

@@ -46,6 +46,10 @@ returns-clause-told g c =
     c.args.gathered.now.items c.loop-number.gathered.items
     (g.W.Write.contents c.args.output.now) (g.W.Write.contents c.loop-number.output) in
     let same : c.loop-number.number ≡ n =
-    omega (arith, c.loop-number-test.false, c.loop-number.auto.number-end,
-    c.count-number-end.ensures.few) in
+    omega (
+      arith,
+      c.loop-number-test.false,
+      c.loop-number.auto.number-end,
+      c.count-number-end.ensures.few,
+    ) in
     subst P same c.loop-number.invariant
