@@ -6,6 +6,7 @@
  *   HURT_ROOM   so many bytes can be written; the write that goes past them is short, and each one
  *               behind it fails with ENOSPC
  *   HURT_FAIL   the number of a call, from 1: it and each one behind it fail with EIO
+ *   HURT_TRIM   the number of a call, from 1: before it the file is cut short to HURT_TO bytes
  *   HURT_CUT    the number of a call, from 1: the power is cut there
  *   HURT_KEEP   what then becomes of the bytes that were written since the last sync: none is
  *               there, all is, or some (a write whole, not at all, or torn)
@@ -45,7 +46,7 @@ struct unsynced {
 
 static const char *path, *keep, *wrong;
 static int file = -1, told = -1, is_short, is_full;
-static long calls, cut, failing;
+static long calls, cut, failing, trim;
 static unsigned long long room;
 static uint64_t dice, short_dice;
 static struct unsynced *row;
@@ -69,6 +70,7 @@ __attribute__((constructor)) static void begin(void)
     wrong = getenv("HURT_WRONG") ? getenv("HURT_WRONG") : "";
     cut = number_of("HURT_CUT");
     failing = number_of("HURT_FAIL");
+    trim = number_of("HURT_TRIM");
     is_short = getenv("HURT_SHORT") != NULL;
     is_full = getenv("HURT_ROOM") != NULL;
     room = (unsigned long long)number_of("HURT_ROOM");
@@ -182,6 +184,8 @@ static int counted(const char *what, off_t at, size_t count)
 {
     calls++;
     tell(what, at, count);
+    if (calls == trim && syscall(SYS_ftruncate, file, number_of("HURT_TO")))
+        give_up("it can't be cut short");
     if (failing && calls >= failing) {
         errno = EIO;
         return 1;

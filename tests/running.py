@@ -150,11 +150,33 @@ def bytes_of(path):
         return file.read()
 
 
-def played(store, lines):
-    """A night by hand: the replies, and for each line the calls; the opening's come first and the
-    last flush's last."""
-    rows = [("", store.opened())] + [store.line(it) for it in lines] + [store.line("flush")]
-    return "".join(f"{reply}\n" for reply, _ in rows[1:]), [calls for _, calls in rows]
+class Step:
+    """A step of a night by hand: what is typed, none at the opening and at the end; the reply, the
+    calls that are made, and the states that are acknowledged before and behind it."""
+
+    def __init__(self, typed, reply, calls, before, behind):
+        self.typed, self.reply, self.calls = typed, reply, calls
+        self.before, self.behind = before, behind
+
+
+def steps(store, lines):
+    """A night by hand. The opening is its first step, the flush at the end of the input its last."""
+    before = store.acked
+    made = [Step(None, "", store.opened(), before, store.acked)]
+    for line in lines + ["flush"]:
+        before = store.acked
+        reply, calls = store.line(line)
+        made.append(Step(line, f"{reply}\n", calls, before, store.acked))
+    made[-1].typed = None
+    return made
+
+
+def replies(made):
+    return "".join(it.reply for it in made)
+
+
+def calls_of(made):
+    return [call for it in made for call in it.calls]
 
 
 def stores():
@@ -166,5 +188,5 @@ def stores():
         yield f"a fresh {size} store", fresh, FIRST
         used = Store(is_large)
         used.made()
-        played(used, FIRST)
+        steps(used, FIRST)
         yield f"a used {size} store", used, SECOND
