@@ -220,7 +220,8 @@ static void remember(int fd, const void *bytes, size_t count, off_t at, int plac
         row = realloc(row, space * sizeof *row);
     }
     struct unsynced *it = &row[rows++];
-    *it = (struct unsynced){at, count, length_of(fd), placed, calloc(1, count + 1), malloc(count + 1)};
+    *it = (struct unsynced){at, count, length_of(fd), placed, calloc(1, count + 1),
+                            malloc(count + 1)};
     memcpy(it->new, bytes, count);
     if (syscall(SYS_pread64, fd, it->old, count, at) < 0)
         give_up("the old bytes can't be read");

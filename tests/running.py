@@ -160,7 +160,7 @@ class Step:
 
 
 def steps(store, lines):
-    """A night by hand. The opening is its first step, the flush at the end of the input its last."""
+    """A night by hand: the opening is its first step, the flush at the end its last."""
     before = store.acked
     made = [Step(None, "", store.opened(), before, store.acked)]
     for line in lines + ["flush"]:
