@@ -189,4 +189,9 @@ def stores():
         used = Store(is_large)
         used.made()
         steps(used, FIRST)
+        if not is_large:
+            old = Store(is_large)
+            old.state = used.acked.copy()
+            old.made(version=1)
+            yield "a store of version 1", old, SECOND
         yield f"a used {size} store", used, SECOND
