@@ -64,8 +64,7 @@ class Tries:
                      " makes it")
         self.words = words[1:]
         self.wrong = next((it[8:] for it in sys.argv[1:] if it.startswith("--wrong=")), "")
-        room = "/dev/shm" if os.access("/dev/shm", os.W_OK) else None
-        self.made = tempfile.TemporaryDirectory(prefix="night-", dir=room)
+        self.made = tempfile.TemporaryDirectory(prefix="night-", dir=fast_room())
         self.folder = self.made.name
         os.chmod(self.folder, 0o755)
         # (a copy, so that another user can run it)
@@ -143,6 +142,17 @@ class Tries:
             print(f"skipped: {it}")
         print(f"{self.about}: {sum(self.ran.values())} tries, {len(self.bad)} failed")
         sys.exit(1 if self.bad or not self.ran else 0)
+
+
+def fast_room():
+    """A folder in memory with room for the files, and where programs can run, or none."""
+    try:
+        found = os.statvfs("/dev/shm")
+    except OSError:
+        return None
+    is_roomy = found.f_bavail * found.f_frsize > 500_000_000
+    is_open = os.access("/dev/shm", os.W_OK) and not found.f_flag & os.ST_NOEXEC
+    return "/dev/shm" if is_roomy and is_open else None
 
 
 def bytes_of(path):
