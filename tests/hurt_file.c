@@ -121,8 +121,8 @@ static void put_back(const unsigned char *bytes, size_t count, off_t at)
     }
 }
 
-/* Makes of the old bytes what a power cut leaves of the write. */
-static void tear(struct unsynced *it)
+/* Puts back a part of a write. */
+static void tear(const struct unsynced *it)
 {
     uint64_t way = thrown(&dice, it->placed ? 7 : 3);
     size_t part = thrown(&dice, it->count + 1);
@@ -130,25 +130,20 @@ static void tear(struct unsynced *it)
     case 0: /* nothing of it */
         break;
     case 1: /* all of it */
-        memcpy(it->old, it->new, it->count);
+        put_back(it->new, it->count, it->at);
         break;
     case 2: /* its front */
-        memcpy(it->old, it->new, part);
+        put_back(it->new, part, it->at);
         break;
     case 3: /* its end */
-        memcpy(it->old + part, it->new + part, it->count - part);
+        put_back(it->new + part, it->count - part, it->at + (off_t)part);
         break;
-    case 4: /* some of its bytes */
-        for (size_t i = 0; i < it->count; i++)
-            if (thrown(&dice, 2))
-                it->old[i] = it->new[i];
-        break;
-    case 5: /* any bytes */
-        for (size_t i = 0; i < it->count; i++)
-            it->old[i] = (unsigned char)thrown(&dice, 256);
-        break;
-    default: /* the byte of an open gate */
-        memset(it->old, 0xA7, it->count);
+    default: /* some of its bytes, any bytes, or those of open gates */
+        for (size_t i = 0; i < it->count; i++) {
+            unsigned char any = way == 5 ? (unsigned char)thrown(&dice, 256) : 0xA7;
+            if (way > 4 || thrown(&dice, 2))
+                put_back(way > 4 ? &any : it->new + i, 1, it->at + (off_t)i);
+        }
     }
 }
 
@@ -164,16 +159,8 @@ static void cut_power(void)
                 give_up("the length can't be put back");
         }
     if (!strcmp(keep, "some"))
-        for (now = 0; now < rows; now++) {
-            struct unsynced *it = &row[now];
-            /* (a write that isn't there at all doesn't make the file longer either) */
-            unsigned char *old = malloc(it->count);
-            memcpy(old, it->old, it->count);
-            tear(it);
-            if (memcmp(old, it->old, it->count) || thrown(&dice, 2))
-                put_back(it->old, it->count, it->at);
-            free(old);
-        }
+        for (now = 0; now < rows; now++)
+            tear(&row[now]);
     tell("cut", 0, rows);
     kill(getpid(), SIGKILL);
     give_up("it wasn't killed");
