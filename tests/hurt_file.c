@@ -1,0 +1,382 @@
+/* Stands between a program and one of its files (LD_PRELOAD), and hurts that file.
+ *
+ *   HURT_FILE   the file, by the name that it is opened by; no other is touched
+ *   HURT_LOG    each call on it is told there, in a line
+ *   HURT_SHORT  a seed: each read and write moves a random part of its bytes, one at least
+ *   HURT_ROOM   so many bytes can be written; the write that goes past them is short, and each one
+ *               behind it fails with ENOSPC
+ *   HURT_FAIL   the number of a call, from 1: it and each one behind it fail with EIO
+ *   HURT_TRIM   the number of a call, from 1: before it the file is cut short to HURT_TO bytes
+ *   HURT_CUT    the number of a call, from 1: the power is cut there
+ *   HURT_KEEP   what then becomes of the bytes that were written since the last sync: none is
+ *               there, all is, or some (a write whole, not at all, or torn)
+ *   HURT_SEED   which part that is
+ *   HURT_WRONG  makes the program one whose disk is wrong: its sync makes no call (sync), it takes
+ *               a short write as whole (short), it reads from another place (place), or nothing is
+ *               wrong (none)
+ *
+ * Reads, writes, syncs, changes of the length and the close are counted, by the number of the call.
+ * A cut at a write comes while it is made, one at any other call before it. A positioned write that
+ * is torn may leave bytes that nobody wrote, in its range. That a file is emptied as it is opened
+ * isn't undone.
+ */
+#define _GNU_SOURCE
+#include <errno.h>
+#include <fcntl.h>
+#include <signal.h>
+#include <stdarg.h>
+#include <stdint.h>
+#include <stdio.h>
+#include <stdlib.h>
+#include <string.h>
+#include <sys/stat.h>
+#include <sys/syscall.h>
+#include <unistd.h>
+
+/* A write since the last sync: the bytes of its range before and behind it, and the file's length
+ * before it. */
+struct unsynced {
+    off_t at;
+    size_t count;
+    off_t length;
+    int placed;
+    unsigned char *old;
+    unsigned char *new;
+};
+
+static const char *path, *keep, *wrong;
+static int file = -1, told = -1, is_short, is_full;
+static long calls, cut, failing, trim;
+static unsigned long long room;
+static uint64_t dice, short_dice;
+static struct unsynced *row;
+static size_t rows, space;
+
+static long number_of(const char *name)
+{
+    const char *text = getenv(name);
+    return text ? atol(text) : 0;
+}
+
+static uint64_t seed_of(const char *name)
+{
+    return (uint64_t)number_of(name) * 0x9E3779B97F4A7C15u + 0x2545F4914F6CDD1Du;
+}
+
+__attribute__((constructor)) static void begin(void)
+{
+    path = getenv("HURT_FILE");
+    keep = getenv("HURT_KEEP") ? getenv("HURT_KEEP") : "none";
+    wrong = getenv("HURT_WRONG") ? getenv("HURT_WRONG") : "";
+    cut = number_of("HURT_CUT");
+    failing = number_of("HURT_FAIL");
+    trim = number_of("HURT_TRIM");
+    is_short = getenv("HURT_SHORT") != NULL;
+    is_full = getenv("HURT_ROOM") != NULL;
+    room = (unsigned long long)number_of("HURT_ROOM");
+    dice = seed_of("HURT_SEED");
+    short_dice = seed_of("HURT_SHORT");
+    if (getenv("HURT_LOG"))
+        told = (int)syscall(SYS_openat, AT_FDCWD, getenv("HURT_LOG"),
+                            O_WRONLY | O_CREAT | O_APPEND | O_CLOEXEC, 0644);
+}
+
+static uint64_t thrown(uint64_t *state, uint64_t below)
+{
+    *state ^= *state >> 12;
+    *state ^= *state << 25;
+    *state ^= *state >> 27;
+    return (*state * 0x2545F4914F6CDD1Du >> 16) % below;
+}
+
+static void give_up(const char *why)
+{
+    dprintf(2, "hurt_file: %s\n", why);
+    _exit(99);
+}
+
+static void tell(const char *what, off_t at, size_t count)
+{
+    if (told >= 0)
+        dprintf(told, "%s %lld %zu\n", what, (long long)at, count);
+}
+
+static off_t length_of(int fd)
+{
+    struct stat found;
+    if (fstat(fd, &found))
+        give_up("the file has no length");
+    return found.st_size;
+}
+
+static void put_back(const unsigned char *bytes, size_t count, off_t at)
+{
+    while (count) {
+        ssize_t done = syscall(SYS_pwrite64, file, bytes, count, at);
+        if (done <= 0)
+            give_up("a byte can't be put back");
+        bytes += done;
+        count -= (size_t)done;
+        at += done;
+    }
+}
+
+/* Puts back a part of a write. */
+static void tear(const struct unsynced *it)
+{
+    uint64_t way = thrown(&dice, it->placed ? 7 : 3);
+    size_t part = thrown(&dice, it->count + 1);
+    switch (way) {
+    case 0: /* nothing of it */
+        break;
+    case 1: /* all of it */
+        put_back(it->new, it->count, it->at);
+        break;
+    case 2: /* its front */
+        put_back(it->new, part, it->at);
+        break;
+    case 3: /* its end */
+        put_back(it->new + part, it->count - part, it->at + (off_t)part);
+        break;
+    default: /* some of its bytes, any bytes, or those of open gates */
+        for (size_t i = 0; i < it->count; i++) {
+            unsigned char any = way == 5 ? (unsigned char)thrown(&dice, 256) : 0xA7;
+            if (way > 4 || thrown(&dice, 2))
+                put_back(way > 4 ? &any : it->new + i, 1, it->at + (off_t)i);
+        }
+    }
+}
+
+static void cut_power(void)
+{
+    size_t now = rows;
+    if (strcmp(keep, "all"))
+        while (now--) {
+            struct unsynced *it = &row[now];
+            size_t there = it->at >= it->length ? 0 : (size_t)(it->length - it->at);
+            put_back(it->old, there < it->count ? there : it->count, it->at);
+            if (length_of(file) > it->length && syscall(SYS_ftruncate, file, it->length))
+                give_up("the length can't be put back");
+        }
+    if (!strcmp(keep, "some"))
+        for (now = 0; now < rows; now++)
+            tear(&row[now]);
+    tell("cut", 0, rows);
+    kill(getpid(), SIGKILL);
+    give_up("it wasn't killed");
+}
+
+/* Counts a call, and says whether it fails. */
+static int counted(const char *what, off_t at, size_t count)
+{
+    calls++;
+    tell(what, at, count);
+    if (calls == trim && syscall(SYS_ftruncate, file, number_of("HURT_TO")))
+        give_up("it can't be cut short");
+    if (failing && calls >= failing) {
+        errno = EIO;
+        return 1;
+    }
+    return 0;
+}
+
+/* Where a read or a write without a place begins, where that is asked for. */
+static off_t place_of(int fd)
+{
+    return cut || told >= 0 ? lseek(fd, 0, SEEK_CUR) : 0;
+}
+
+static ssize_t get(int fd, void *bytes, size_t count, off_t at, int placed)
+{
+    if (count && is_short)
+        count = 1 + thrown(&short_dice, count);
+    if (counted("read", at, count))
+        return -1;
+    if (calls == cut)
+        cut_power();
+    if (!placed)
+        return syscall(SYS_read, fd, bytes, count);
+    return syscall(SYS_pread64, fd, bytes, count, strcmp(wrong, "place") ? at : at + 1);
+}
+
+/* Makes a write, and keeps what it takes to undo it. */
+static void remember(int fd, const void *bytes, size_t count, off_t at, int placed)
+{
+    if (rows == space) {
+        space = space ? 2 * space : 64;
+        row = realloc(row, space * sizeof *row);
+    }
+    struct unsynced *it = &row[rows++];
+    *it = (struct unsynced){at, count, length_of(fd), placed, calloc(1, count + 1),
+                            malloc(count + 1)};
+    memcpy(it->new, bytes, count);
+    if (syscall(SYS_pread64, fd, it->old, count, at) < 0)
+        give_up("the old bytes can't be read");
+    put_back(bytes, count, at);
+    if (!placed)
+        lseek(fd, at + (off_t)count, SEEK_SET);
+}
+
+static ssize_t put(int fd, const void *bytes, size_t whole, off_t at, int placed)
+{
+    size_t count = whole;
+    if (count && is_short)
+        count = 1 + thrown(&short_dice, count);
+    if (is_full && count > room)
+        count = (size_t)room;
+    if (counted("write", at, count))
+        return -1;
+    if (is_full && whole && !count) {
+        errno = ENOSPC;
+        return -1;
+    }
+    room -= is_full ? count : 0;
+    if (!cut) {
+        ssize_t done = placed ? syscall(SYS_pwrite64, fd, bytes, count, at)
+                              : syscall(SYS_write, fd, bytes, count);
+        return placed && done >= 0 && !strcmp(wrong, "short") ? (ssize_t)whole : done;
+    }
+    remember(fd, bytes, count, at, placed);
+    if (calls == cut)
+        cut_power();
+    return (ssize_t)(placed && !strcmp(wrong, "short") ? whole : count);
+}
+
+static int synced(int fd, int number)
+{
+    if (!strcmp(wrong, "sync"))
+        return 0;
+    if (counted("sync", 0, 0))
+        return -1;
+    if (calls == cut)
+        cut_power();
+    if (syscall(number, fd))
+        return -1;
+    while (rows) {
+        rows--;
+        free(row[rows].old);
+        free(row[rows].new);
+    }
+    return 0;
+}
+
+static int opened(int folder, const char *name, int flags, mode_t mode)
+{
+    int fd = (int)syscall(SYS_openat, folder, name, flags, mode);
+    if (fd >= 0 && path && !strcmp(name, path)) {
+        if (file >= 0)
+            give_up("the file is open twice");
+        file = fd;
+        tell(flags & O_TRUNC ? "empty" : "open", flags & O_ACCMODE, 0);
+    }
+    return fd;
+}
+
+#define MODE(flags, mode)                          \
+    mode_t mode = 0;                               \
+    if ((flags) & (O_CREAT | __O_TMPFILE)) {       \
+        va_list words;                             \
+        va_start(words, flags);                    \
+        mode = va_arg(words, mode_t);              \
+        va_end(words);                             \
+    }
+
+int open(const char *name, int flags, ...)
+{
+    MODE(flags, mode)
+    return opened(AT_FDCWD, name, flags, mode);
+}
+
+int open64(const char *name, int flags, ...)
+{
+    MODE(flags, mode)
+    return opened(AT_FDCWD, name, flags, mode);
+}
+
+int openat(int folder, const char *name, int flags, ...)
+{
+    MODE(flags, mode)
+    return opened(folder, name, flags, mode);
+}
+
+int openat64(int folder, const char *name, int flags, ...)
+{
+    MODE(flags, mode)
+    return opened(folder, name, flags, mode);
+}
+
+int close(int fd)
+{
+    if (fd == file && fd >= 0) {
+        counted("close", 0, 0);
+        if (calls == cut)
+            cut_power();
+        file = -1;
+    }
+    return (int)syscall(SYS_close, fd);
+}
+
+ssize_t read(int fd, void *bytes, size_t count)
+{
+    if (fd != file)
+        return syscall(SYS_read, fd, bytes, count);
+    return get(fd, bytes, count, place_of(fd), 0);
+}
+
+ssize_t write(int fd, const void *bytes, size_t count)
+{
+    if (fd != file)
+        return syscall(SYS_write, fd, bytes, count);
+    return put(fd, bytes, count, place_of(fd), 0);
+}
+
+ssize_t __write(int fd, const void *bytes, size_t count)
+{
+    return write(fd, bytes, count);
+}
+
+ssize_t pread64(int fd, void *bytes, size_t count, off64_t at)
+{
+    if (fd != file)
+        return syscall(SYS_pread64, fd, bytes, count, at);
+    return get(fd, bytes, count, at, 1);
+}
+
+ssize_t pread(int fd, void *bytes, size_t count, off_t at)
+{
+    return pread64(fd, bytes, count, at);
+}
+
+ssize_t pwrite64(int fd, const void *bytes, size_t count, off64_t at)
+{
+    if (fd != file)
+        return syscall(SYS_pwrite64, fd, bytes, count, at);
+    return put(fd, bytes, count, at, 1);
+}
+
+ssize_t pwrite(int fd, const void *bytes, size_t count, off_t at)
+{
+    return pwrite64(fd, bytes, count, at);
+}
+
+int fdatasync(int fd)
+{
+    return fd == file ? synced(fd, SYS_fdatasync) : (int)syscall(SYS_fdatasync, fd);
+}
+
+int fsync(int fd)
+{
+    return fd == file ? synced(fd, SYS_fsync) : (int)syscall(SYS_fsync, fd);
+}
+
+int ftruncate64(int fd, off64_t length)
+{
+    if (fd == file)
+        give_up("the file's length is changed");
+    return (int)syscall(SYS_ftruncate, fd, length);
+}
+
+int ftruncate(int fd, off_t length)
+{
+    return ftruncate64(fd, length);
+}

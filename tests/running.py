@@ -1,0 +1,207 @@
+"""What the scripts over real files share: the program's runs, the library that hurts a file, two
+nights, and the count of what was tried."""
+
+import os
+import shutil
+import subprocess
+import sys
+import tempfile
+
+from by_hand import Store
+
+HERE = os.path.dirname(os.path.abspath(__file__))
+FAULT = "night: fault 2 DiskFailed\n"
+
+# Two nights, the second behind a restart of what the first one left. Each save comes in both slots,
+# and over a slot whose gate is closed and one whose gate is open.
+FIRST = ["derive a root cause", "derive b a cancel", "cancel a disk", "flush",
+         "derive v root value region eu west", "group g root", "limit g 1", "go g copy a", "flush",
+         "go g copy b", "checkpoint", "start", "flush", "finish 0 ok", "start"]
+SECOND = ["retry 1", "bare h root", "try h spin 3", "flush", "derive d root deadline 100 late",
+          "derive e d detached", "checkpoint", "advance 200", "start", "flush",
+          "finish 2 error no room", "wait g", "checkpoint", "start"]
+
+
+def environment(wrong="", **hurts):
+    """The library's variables, by their names without HURT_."""
+    made = {f"HURT_{name.upper()}": str(value) for name, value in hurts.items()}
+    if wrong:
+        made["HURT_WRONG"] = wrong
+    return made
+
+
+class Ended:
+    """How a run of the program ended."""
+
+    def __init__(self, status, output, errors):
+        self.status, self.output, self.errors = status, output, errors
+
+    def __eq__(self, other):
+        return vars(self) == vars(other)
+
+    def __repr__(self):
+        return f"status {self.status}, printed {self.output!r}, told {self.errors!r}"
+
+
+def failed(output=""):
+    """A run that a failed call of a file ended."""
+    return Ended(3, output, FAULT)
+
+
+def fault(text):
+    return Ended(3, "", f"night: fault {text}\n")
+
+
+class Tries:
+    """What a script tries: so many tries of each kind, those that failed, and what it skipped."""
+
+    def __init__(self, about):
+        self.about, self.ran, self.bad, self.skipped = about, {}, [], []
+        words = [it for it in sys.argv[1:] if not it.startswith("--")]
+        program = words[0] if words else f"{HERE}/../crates/night/out/night"
+        if not os.path.isfile(program):
+            sys.exit(f"{about}: no program {os.path.normpath(program)}; `rt run` in crates/night"
+                     " makes it")
+        self.words = words[1:]
+        self.wrong = next((it[8:] for it in sys.argv[1:] if it.startswith("--wrong=")), "")
+        self.made = tempfile.TemporaryDirectory(prefix="night-", dir=fast_room())
+        self.folder = self.made.name
+        os.chmod(self.folder, 0o755)
+        # (a copy, so that another user can run it)
+        self.program = shutil.copy(program, f"{self.folder}/night")
+        os.chmod(self.program, 0o755)
+        self.library = self.built()
+        if self.wrong and not self.library:
+            sys.exit(f"{about}: a wrong disk is made by the library, which wants `cc`")
+
+    def built(self):
+        """The library that hurts a file, or none where there is no compiler."""
+        library = f"{self.folder}/hurt_file.so"
+        if not shutil.which("cc"):
+            return None
+        words = ["cc", "-shared", "-fPIC", "-O1", "-o", library, f"{HERE}/hurt_file.c"]
+        built = subprocess.run(words, capture_output=True, text=True)
+        if built.returncode:
+            sys.exit(f"{self.about}: cc can't build hurt_file.c:\n{built.stderr}")
+        return library
+
+    def file(self, name, content=None):
+        """A file of the script's own folder."""
+        path = f"{self.folder}/{name}"
+        if content is not None:
+            with open(path, "wb") as file:
+                file.write(content)
+        return path
+
+    def given(self, hurt):
+        """The environment of a run: with the library, where a file is hurt or the disk is wrong."""
+        if not hurt and not self.wrong:
+            return {}
+        return {"LD_PRELOAD": self.library, **environment(self.wrong), **(hurt or {})}
+
+    def run(self, *words, lines=(), hurt=None, before=(), **how):
+        """Runs the program; a file that is hurt is named by `hurt`."""
+        text = "".join(f"{it}\n" for it in lines)
+        done = subprocess.run([*before, self.program, *words], input=text, text=True, timeout=60,
+                              stdout=how.pop("stdout", subprocess.PIPE), stderr=subprocess.PIPE,
+                              env=self.given(hurt), **how)
+        return Ended(done.returncode, done.stdout, done.stderr)
+
+    def shown(self, store):
+        """An inspection of the store."""
+        return self.run("inspect", store, hurt=environment(file=store))
+
+    def holds(self, kind, what, is_so, found=""):
+        """Counts a try of this kind."""
+        self.ran[kind] = self.ran.get(kind, 0) + 1
+        if not is_so:
+            self.bad.append(what)
+            if len(self.bad) <= 10:
+                print(f"FAILED {kind}: {what}: {found}", flush=True)
+
+    def is_same(self, kind, what, found, wanted):
+        self.holds(kind, what, found == wanted, f"{found!r}, and not {wanted!r}")
+
+    def is_file(self, kind, what, path, wanted):
+        found = bytes_of(path)
+        told = ""
+        if found != wanted:
+            pairs = enumerate(zip(found, wanted))
+            place = next((it for it, (one, other) in pairs if one != other), len(found))
+            told = f"it has {len(found)} bytes, and the first other one is at {place}"
+        self.holds(kind, what, found == wanted, told)
+
+    def skip(self, kind, why):
+        self.skipped.append(f"{kind} ({why})")
+
+    def end(self):
+        """Says what was tried and what was skipped; the exit status."""
+        for kind, count in self.ran.items():
+            print(f"ran: {kind}: {count}")
+        for it in self.skipped:
+            print(f"skipped: {it}")
+        print(f"{self.about}: {sum(self.ran.values())} tries, {len(self.bad)} failed")
+        sys.exit(1 if self.bad or not self.ran else 0)
+
+
+def fast_room():
+    """A folder in memory with room for the files, and where programs can run, or none."""
+    try:
+        found = os.statvfs("/dev/shm")
+    except OSError:
+        return None
+    is_roomy = found.f_bavail * found.f_frsize > 500_000_000
+    is_open = os.access("/dev/shm", os.W_OK) and not found.f_flag & os.ST_NOEXEC
+    return "/dev/shm" if is_roomy and is_open else None
+
+
+def bytes_of(path):
+    with open(path, "rb") as file:
+        return file.read()
+
+
+class Step:
+    """A step of a night by hand: what is typed, none at the opening and at the end; the reply, the
+    calls that are made, and the states that are acknowledged before and behind it."""
+
+    def __init__(self, typed, reply, calls, before, behind):
+        self.typed, self.reply, self.calls = typed, reply, calls
+        self.before, self.behind = before, behind
+
+
+def steps(store, lines):
+    """A night by hand: the opening is its first step, the flush at the end its last."""
+    before = store.acked
+    made = [Step(None, "", store.opened(), before, store.acked)]
+    for line in lines + ["flush"]:
+        before = store.acked
+        reply, calls = store.line(line)
+        made.append(Step(line, f"{reply}\n", calls, before, store.acked))
+    made[-1].typed = None
+    return made
+
+
+def replies(made):
+    return "".join(it.reply for it in made)
+
+
+def calls_of(made):
+    return [call for it in made for call in it.calls]
+
+
+def stores():
+    """Stores to begin from, each with its name, itself by hand, and the lines of its next night."""
+    for is_large in (False, True):
+        size = "large" if is_large else "small"
+        fresh = Store(is_large)
+        fresh.made()
+        yield f"a fresh {size} store", fresh, FIRST
+        used = Store(is_large)
+        used.made()
+        steps(used, FIRST)
+        if not is_large:
+            old = Store(is_large)
+            old.state = used.acked.copy()
+            old.made(version=1)
+            yield "a store of version 1", old, SECOND
+        yield f"a used {size} store", used, SECOND
