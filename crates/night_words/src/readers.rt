@@ -80,7 +80,10 @@ fn asked_of<'a>(matches: &ArgMatches<'a>) -> Result<Asked<'a>, WordsFault>
     }
     let crews = command == "crew";
     if crews {
-        return crew(inner.get_str("STORE").unwrap_or(""), inner.get_str("workers"));
+        return crew(
+            inner.get_str("STORE").unwrap_or(""),
+            inner.get_str("workers"),
+        );
     }
     let Some(store) = inner.get_str("STORE") else {
         unreachable!();
