@@ -27,8 +27,8 @@ Prints text (Err why) w0 w1 = (why ≡ Output) × WritesPart w0 w1 text
 
 -- ---- format
 
--- The disk was formatted, and is at rest where an honest one was; and `formatted` was printed. Or it
--- was not formatted, and nothing was printed: the fault tells why.
+-- The disk was formatted, and is at rest where an honest one was; and `formatted` was printed. Or
+-- it was not formatted, and nothing was printed: the fault tells why.
 abbrev pub FormatEnds : {T D : Type 0} → (D → DiskState) → (given : D)
     → Result T RunFault → (left : D) → (w0 w1 : Option (List ℕ)) → Type 0
 FormatEnds state given answer left w0 w1 =

@@ -1,5 +1,6 @@
 -- A night of worker threads over a store: what it leaves, and what is told of it.
-use Rattle.std.specs.Prelude.{◌≡◌, ◌⊎◌, ◌≤◌, ◌+◌, ◌++◌, ℕ, List, length, Bool, Option, Result, Ok, Err}
+use Rattle.std.specs.Prelude.{◌≡◌, ◌⊎◌, ◌≤◌, ◌+◌, ◌++◌, ℕ, List, length, Bool, Option, Result, Ok}
+use Rattle.std.specs.Prelude.{Err}
 use Rattle.std.specs.Prelude.{⊤, [], codes, is_ok, IfOk, MatchResult, OnOk}
 use Rattle.std.specs.Fmt.{decimal}
 use Rattle.std.specs.Io.KnownBytes.{Appends}
@@ -68,25 +69,25 @@ IsTold audited starts finishes flushed answer w0 w1 =
 pub record IsWorked {D : Type 0} (state : D → DiskState) (workers : ℕ)
     (audited : Result ⊤ Strayed) (starts finishes : ℕ) (flushed : Result ℕ Trouble) : Type 0
   where
-  -- the book as the threads left it, and the desk behind its flush
-  pub book : BookView D
-  pub desk : DeskView D
-  pub lists : List (List Note)
-  pub flushes : Flushes state (holding book) flushed (holding desk.book)
-  pub session : desk.book.session ≡ book.session
-  pub acked : IfOk flushed (λ count. (count ≡ desk.book.session.state.count)
-      × (desk.book.durable ≡ count))
-  pub replays : Replays desk.book.session
-  pub durable : IsDurable state (holding desk.book)
-  pub audit : MatchResult audited (λ _. IsComplete desk lists)
-      (λ strayed. HasStrayed desk lists strayed)
-  pub exactly : OnOk audited (IsPermutation (made_at desk) (all_notes lists))
-  pub started : starts ≡ starts_of (history_of desk.book)
-  pub finished : finishes ≡ finishes_of (history_of desk.book)
-  pub each_has_a_list : length lists ≡ workers
-  pub each_is_noted : finishes ≡ noted lists
-  pub each_was_started : finishes ≤ starts
-  pub one_more_at_most : starts ≤ finishes + workers
+    -- the book as the threads left it, and the desk behind its flush
+    pub book : BookView D
+    pub desk : DeskView D
+    pub lists : List (List Note)
+    pub flushes : Flushes state (holding book) flushed (holding desk.book)
+    pub session : desk.book.session ≡ book.session
+    pub acked : IfOk flushed (λ count. (count ≡ desk.book.session.state.count)
+        × (desk.book.durable ≡ count))
+    pub replays : Replays desk.book.session
+    pub durable : IsDurable state (holding desk.book)
+    pub audit : MatchResult audited (λ _. IsComplete desk lists)
+        (λ strayed. HasStrayed desk lists strayed)
+    pub exactly : OnOk audited (IsPermutation (made_at desk) (all_notes lists))
+    pub started : starts ≡ starts_of (history_of desk.book)
+    pub finished : finishes ≡ finishes_of (history_of desk.book)
+    pub each_has_a_list : length lists ≡ workers
+    pub each_is_noted : finishes ≡ noted lists
+    pub each_was_started : finishes ≤ starts
+    pub one_more_at_most : starts ≤ finishes + workers
 
 -- A night over a disk: no book was opened, the fault tells why, and nothing was told. Or a book was
 -- opened; and memory or a thread was wanting then, and nothing was told, or the workers worked, and

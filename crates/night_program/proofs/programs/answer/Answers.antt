@@ -32,7 +32,8 @@ returns-in-Help g c =
 
 pub returns-in-Format : goal.returns-in-Format
 returns-in-Format g c =
-    rw c.in-Format.is (c.format_file.result, c.well-in-Format.ensures, (c.format_file.ensures, refl))
+    rw c.in-Format.is
+    (c.format_file.result, c.well-in-Format.ensures, (c.format_file.ensures, refl))
 
 pub returns-in-Script : goal.returns-in-Script
 returns-in-Script g c =
