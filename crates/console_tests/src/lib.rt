@@ -7,6 +7,8 @@ mod asserts;
 #[cfg(test)]
 mod books;
 #[cfg(test)]
+mod crews;
+#[cfg(test)]
 mod groups;
 #[cfg(test)]
 mod inspects;

@@ -58,12 +58,12 @@ pub fn run_new<A: Allocator + Copy, R: Read, W: Write>(
 }
 
 /// Runs an input to its end over a disk that holds a store. Gives what is printed, and the disk.
-pub fn night_on(
+pub fn night_on<D: RunDisk + Drop>(
     rt: &impl Abort,
     alloc: Global,
-    disk: MemoryDisk,
+    disk: D,
     mut typed: &[u8],
-) -> (Vec<u8>, MemoryDisk) {
+) -> (Vec<u8>, D) {
     let mut book = opened(rt, alloc, disk);
     let mut printed = Vec::new(alloc);
     let result = ran(alloc, &mut typed, &mut printed, &mut book);

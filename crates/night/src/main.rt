@@ -12,19 +12,46 @@
 mod system;
 
 use crate::system::SystemFiles;
-use night_program::night;
+use night_program::{CopyJob, FailJob, SpinJob, night};
 use night_words::own_words;
+use run_crew::Job;
 use std::process::ExitCode;
 
+/// The most workers that the words can ask for.
+const MOST_WORKERS: usize = 8;
+
 fn main(rt: HostRuntime) -> ExitCode {
+    let alloc = rt.alloc();
     let words = own_words(&rt);
+    // A list for each worker, as far as there is memory: a crew of more is told that it is wanting.
+    let mut jobs: Vec<Vec<Box<dyn Job + Send>>> = Vec::new(alloc);
+    for _ in 0..MOST_WORKERS {
+        let Ok(spin) = Box::new(alloc, SpinJob) else {
+            break;
+        };
+        let Ok(fail) = Box::new(alloc, FailJob) else {
+            break;
+        };
+        let Ok(copy) = Box::new(alloc, CopyJob) else {
+            break;
+        };
+        let mut list: Vec<Box<dyn Job + Send>> = Vec::new(alloc);
+        if list.push(spin).is_err() || list.push(fail).is_err() || list.push(copy).is_err() {
+            break;
+        }
+        if jobs.push(list).is_err() {
+            break;
+        }
+    }
     let mut files = SystemFiles::new(&rt);
     let mut input = rt.stdin();
     let mut output = rt.stdout();
     let mut errors = rt.stderr();
     let ended = night(
-        rt.alloc(),
+        &rt,
+        alloc,
         words,
+        jobs,
         &mut files,
         &mut input,
         &mut output,

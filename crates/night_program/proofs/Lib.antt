@@ -1,2 +1,3 @@
 mod Begins
 mod EndLemmas
+mod NameTexts

@@ -1,6 +1,6 @@
 -- How the program ends: its exit status, and what standard error is told.
 use Rattle.std.specs.Prelude.{◌≡◌, ◌∷◌, ◌++◌, [], ℕ, Bool, true, List, Option, Result, Ok, Err}
-use Rattle.std.specs.Prelude.{codes}
+use Rattle.std.specs.Prelude.{codes, if◌then◌else◌}
 use Rattle.std.specs.Io.KnownBytes.{Appends}
 use Rattle.console_lines.specs.declared.faults.RunFault.{RunFault}
 use Rattle.console_lines.specs.declared.faults.RunFault.TheVariants as fault
@@ -28,9 +28,14 @@ fault_line why = codes "night: " ++ stop_text why ++ 10 ∷ []
 abbrev pub Tells : Bool → List ℕ → (e0 e1 : Option (List ℕ)) → Type 0
 Tells told text e0 e1 = told ≡ true → Appends e0 e1 text
 
+-- The exit status where no fault did: a strayed audit is told from all else.
+abbrev pub audit_status : Bool → ℕ
+audit_status well = if well then 0 else 3
+
 -- What the words asked for was done, and nothing is told; or a fault ended it, and is told.
-abbrev pub EndsBy : {T : Type 0} → Result T RunFault → Ended → (e0 e1 : Option (List ℕ)) → Type 0
-EndsBy (Ok done) ended e0 e1 = (ended.status ≡ 0) × (ended.told ≡ true) × (e1 ≡ e0)
+abbrev pub EndsBy : Result Bool RunFault → Ended → (e0 e1 : Option (List ℕ)) → Type 0
+EndsBy (Ok well) ended e0 e1 =
+    (ended.status ≡ audit_status well) × (ended.told ≡ true) × (e1 ≡ e0)
 EndsBy (Err why) ended e0 e1 =
     (ended.status ≡ fault_status why) × Tells ended.told (fault_line why) e0 e1
 

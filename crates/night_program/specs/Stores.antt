@@ -3,10 +3,8 @@ use Rattle.std.specs.Prelude.{◌≡◌, ◌⊎◌, ◌++◌, ℕ, List, Option,
 use Rattle.std.specs.Fmt.{decimal}
 use Rattle.std.specs.Io.KnownBytes.{Appends}
 use Rattle.run_model.specs.declared.faults.Fault.{Fault}
-use Rattle.run_model.specs.declared.faults.Fault.TheVariants as of_store
-use Rattle.run_model.specs.declared.faults.Trouble.TheVariants.{Faulty}
 use Rattle.run_model.specs.State.{State}
-use Rattle.run_disk.specs.Disk.{DiskState}
+use Rattle.run_disk.specs.Disk.{DiskState, IsAtRest}
 use Rattle.book_model.specs.Holdings.{CarriesOn}
 use Rattle.book_model.specs.Openings.{FormatsNot, HasFormatted, HasOpened, HasRecovered, OpensNot}
 use Rattle.book_model.specs.Openings.{RecoversNone}
@@ -16,16 +14,11 @@ use Rattle.book_model.specs.Migrations.{Migrates}
 use Rattle.run_session.specs.Logged.{begun_at}
 use Rattle.run_book.specs.Views.{BookView, holding}
 use Rattle.console_lines.specs.declared.faults.RunFault.{RunFault}
-use Rattle.console_lines.specs.declared.faults.RunFault.TheVariants.{Memory, Output, Store}
+use Rattle.console_lines.specs.declared.faults.RunFault.TheVariants.{Memory, Output}
 use Rattle.console_lines.specs.Inspected.{inspected}
 use Rattle.console_lines.specs.Progress.{WritesPart}
 use Rattle.run_console.specs.Progress.{BeginsScript, Lasts, RunStops, RunsAll}
-use Rattle.run_console.specs.Troubles.{Accounts}
-
--- What a fault of a store is to the program: want of memory is told from all else.
-abbrev pub stopped : Fault → RunFault
-stopped of_store.Memory = Memory
-stopped why = Store (Faulty why)
+use Rattle.run_console.specs.Troubles.{Accounts, stopped}
 
 -- A text was printed whole, or as much of it as the output took.
 abbrev pub Prints : {T : Type 0} → List ℕ → Result T RunFault → (w0 w1 : Option (List ℕ)) → Type 0
@@ -34,12 +27,14 @@ Prints text (Err why) w0 w1 = (why ≡ Output) × WritesPart w0 w1 text
 
 -- ---- format
 
--- The disk was formatted, and `formatted` was printed. Or it was not formatted, and nothing was
--- printed: the fault tells why.
+-- The disk was formatted, and is at rest where an honest one was; and `formatted` was printed. Or
+-- it was not formatted, and nothing was printed: the fault tells why.
 abbrev pub FormatEnds : {T D : Type 0} → (D → DiskState) → (given : D)
     → Result T RunFault → (left : D) → (w0 w1 : Option (List ℕ)) → Type 0
 FormatEnds state given answer left w0 w1 =
-    (HasFormatted (state given) (state left) × Prints (codes "formatted\n") answer w0 w1)
+    (HasFormatted (state given) (state left)
+    × ((state given).honest → IsAtRest (state given) → IsAtRest (state left))
+    × Prints (codes "formatted\n") answer w0 w1)
     ⊎ ((why : Fault) × (answer ≡ Err (stopped why)) × FormatsNot state given why left
     × (w1 ≡ w0))
 

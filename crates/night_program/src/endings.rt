@@ -12,19 +12,20 @@ use std::io::Write;
 #[derive(Clone, Copy, Debug, PartialEq, Eq)]
 pub struct Ended {
     /// The exit status: 0 where it did what its words ask for, 2 for words that ask for nothing, 3
-    /// where the store, the input or the output failed, 4 for want of memory.
+    /// where the store, the input or the output failed, or an audit strayed, 4 for want of memory.
     pub status: u8,
     /// Whether all that there was to tell was written on standard error.
     pub told: bool,
 }
 
-/// Ends what the words asked for. A fault is told in one line, as in `night: fault 3 NotAStore`.
-pub fn end<E: Write>(answer: Result<(), RunFault>, errors: &mut E) -> Ended
+/// Ends what the words asked for, where an audit may have strayed. A fault is told in one line, as
+/// in `night: fault 3 NotAStore`; what strays is told by the audit's own.
+pub fn end<E: Write>(answer: Result<bool, RunFault>, errors: &mut E) -> Ended
     ensures { EndsBy answer result (E.contents errors.old) (E.contents errors.new) }
 {
     match answer {
-        Ok(()) => Ended {
-            status: 0,
+        Ok(well) => Ended {
+            status: if well { 0 } else { 3 },
             told: true,
         },
         Err(fault) => Ended {

@@ -10,7 +10,7 @@ use run_disk::{DiskFailed, RunDisk};
 /// The program opens the system's files; a test may hand in its own, in memory.
 pub trait Files {
     /// A file that is open.
-    type Disk: RunDisk + Drop;
+    type Disk: RunDisk + Drop + Send;
 
     /// What contracts see of them: of which disks the file of a name is one.
     ghost holds: { Self → List ℕ → Self.Disk → Type 0 };

@@ -2,12 +2,15 @@
 //!
 //! [`night`] reads the words and does what they ask for. Each word over a store is a function of
 //! its own over a disk: [`format`], [`script`] and [`inspect`], and over two [`migrate`]; [`demo`]
-//! runs over a disk in memory.
+//! runs over a disk in memory. A crew's night is `run_console`'s; its jobs are [`SpinJob`],
+//! [`FailJob`] and [`CopyJob`], which the caller boxes.
 #![tactic(auto)]
 
+mod crews;
 mod demos;
 mod endings;
 mod files;
+mod jobs;
 mod migrations;
 mod programs;
 mod stores;
@@ -15,6 +18,7 @@ mod stores;
 pub use demos::demo;
 pub use endings::Ended;
 pub use files::Files;
+pub use jobs::{CopyJob, FailJob, SpinJob};
 pub use migrations::migrate;
 pub use programs::night;
 pub use stores::{format, inspect, script};

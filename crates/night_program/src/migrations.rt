@@ -7,12 +7,11 @@ ghost use Rattle.run_model.specs.State.{State};
 ghost use Rattle.night_program.specs.Stores.{MigrateEnds, Prints, Shows, counted, migrated_line};
 ghost use Rattle.night_program.specs.Stores.{unmigrated};
 
-use crate::stores::stopped;
 use arrayvec::ArrayVec;
 use console_lines::RunFault;
 use itoa::Buffer;
 use run_book::MigrateFault;
-use run_console::{Book, write_whole};
+use run_console::{Book, stopped, write_whole};
 use run_disk::RunDisk;
 use std::alloc::Global;
 use std::io::Write;

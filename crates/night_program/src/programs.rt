@@ -1,10 +1,11 @@
 //! The program: it reads its words, and does what they ask for.
 
-ghost use Rattle.std.specs.Prelude.{◌≡◌, map, IfErr, IfOk};
+ghost use Rattle.std.specs.Prelude.{◌≡◌, map, vec_len, IfErr, IfOk};
 ghost use Rattle.std.specs.String.{string_bytes};
 ghost use Rattle.night_program.specs.Programs.{Does, DoesFormat, DoesInspect, DoesMigrate};
-ghost use Rattle.night_program.specs.Programs.{DoesScript, IsRefused, RunsWords};
+ghost use Rattle.night_program.specs.Programs.{DoesScript, IsRefused, RunsWords, well};
 
+use crate::crews::crew_file;
 use crate::demos::demo;
 use crate::endings::{Ended, end, refuse};
 use crate::files::Files;
@@ -13,23 +14,29 @@ use crate::stores::{format, inspect, script};
 use console_lines::RunFault;
 use night_words::{Asked, WordsFault, read_words};
 use run_console::write_whole;
+use run_crew::Job;
 use run_disk::DiskFailed;
 use run_model::{Fault, Layout, Trouble};
 use std::alloc::Global;
 use std::io::{Read, Write};
+use std::sync::Wait;
+use std::thread::Threads;
 
 /// Does what the words ask for, the program's own name first. They come as the system gave them, or
 /// as why it gave none.
 ///
 /// `demo` runs the input over a book in memory; `format STORE` makes a large store of the file;
 /// `script STORE` runs the input over the store; `inspect STORE` prints what it holds and writes
-/// nothing to it; `migrate OLD NEW` opens OLD, and only then makes of NEW a large store with the
-/// state of OLD's small one. Help and the version go to the output. Why words ask for nothing, and
-/// a fault that ended the rest, go to `errors`: any call of a file that fails is told as `fault 2
-/// DiskFailed`.
-pub fn night<F: Files, I: Read, O: Write, E: Write>(
+/// nothing to it; `crew STORE` works off its ready tasks by threads, one for each of the first of
+/// these lists of jobs; `migrate OLD NEW` opens OLD, and only then makes of NEW a large store with
+/// the state of OLD's small one. Help and the version go to the output. Why words ask for nothing,
+/// and a fault that ended the rest, go to `errors`: any call of a file that fails is told as `fault
+/// 2 DiskFailed`. A crew with fewer lists than it has workers is want of memory.
+pub fn night<F: Files, I: Read, O: Write, E: Write, R: Threads + Wait + Sync>(
+    rt: &R,
     alloc: Global,
     words: Result<Vec<String>, WordsFault>,
+    jobs: Vec<Vec<Box<dyn Job + Send>>>,
     files: &mut F,
     input: &mut I,
     output: &mut O,
@@ -40,7 +47,7 @@ pub fn night<F: Files, I: Read, O: Write, E: Write>(
         (O.contents output.old) (O.contents output.new)
         (E.contents errors.old) (E.contents errors.new)) }
     ensures runs { IfOk words (λ words. RunsWords F.Disk.state F.holds
-        (map string_bytes words.items) result files.old files.new
+        (map string_bytes words.items) (vec_len jobs) result files.old files.new
         (I.remaining input.old) (I.remaining input.new)
         (O.contents output.old) (O.contents output.new)
         (E.contents errors.old) (E.contents errors.new)) }
@@ -50,30 +57,46 @@ pub fn night<F: Files, I: Read, O: Write, E: Write>(
         Err(fault) => return refuse(fault, errors),
     };
     match read_words(alloc, words.as_slice()) {
-        Ok(asked) => end(answer(alloc, &asked, files, input, output), errors),
+        Ok(asked) => end(
+            answer(rt, alloc, &asked, jobs, files, input, output),
+            errors,
+        ),
         Err(fault) => refuse(fault, errors),
     }
 }
 
-/// Does what was asked for.
-fn answer<F: Files, I: Read, O: Write>(
+/// Does what was asked for. The answer is whether nothing strayed in an audit.
+fn answer<F: Files, I: Read, O: Write, R: Threads + Wait + Sync>(
+    rt: &R,
     alloc: Global,
     asked: &Asked,
+    jobs: Vec<Vec<Box<dyn Job + Send>>>,
     files: &mut F,
     input: &mut I,
     output: &mut O,
-) -> Result<(), RunFault>
-    ensures { Does F.Disk.state F.holds asked.now result files.old files.new
+) -> Result<bool, RunFault>
+    ensures { Does F.Disk.state F.holds asked.now (vec_len jobs) result files.old files.new
         (I.remaining input.old) (I.remaining input.new)
         (O.contents output.old) (O.contents output.new) }
 {
     match asked {
-        Asked::Demo => demo(alloc, input, output),
-        Asked::Format(store) => format_file(store, files, output),
-        Asked::Script(store) => script_file(alloc, store, files, input, output),
-        Asked::Inspect(store) => inspect_file(alloc, store, files, output),
-        Asked::Migrate(old, new) => migrate_file(alloc, old, new, files, output),
-        Asked::Help(text) => write_whole(output, text.as_bytes()),
+        Asked::Demo => well(demo(alloc, input, output)),
+        Asked::Format(store) => well(format_file(store, files, output)),
+        Asked::Script(store) => well(script_file(alloc, store, files, input, output)),
+        Asked::Inspect(store) => well(inspect_file(alloc, store, files, output)),
+        Asked::Crew(store, workers) => crew_file(rt, alloc, store, *workers, jobs, files, output),
+        Asked::Migrate(old, new) => well(migrate_file(alloc, old, new, files, output)),
+        Asked::Help(text) => well(write_whole(output, text.as_bytes())),
+    }
+}
+
+/// What was done without an audit: nothing strayed in it.
+fn well(done: Result<(), RunFault>) -> Result<bool, RunFault>
+    ensures { result ≡ well done }
+{
+    match done {
+        Ok(()) => Ok(true),
+        Err(fault) => Err(fault),
     }
 }
 
@@ -149,7 +172,7 @@ fn migrate_file<F: Files, O: Write>(
 }
 
 /// What a file that isn't had is to the program.
-fn no_file(_failed: DiskFailed) -> RunFault
+pub fn no_file(_failed: DiskFailed) -> RunFault
     ensures { result ≡ RunFault.Store (Trouble.Faulty Fault.DiskFailed) }
 {
     RunFault::Store(Trouble::Faulty(Fault::DiskFailed))

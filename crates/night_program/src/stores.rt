@@ -1,12 +1,10 @@
 //! What the words do to a store, over the disk that holds it.
 
-ghost use Rattle.std.specs.Prelude.{◌≡◌};
-ghost use Rattle.night_program.specs.Stores.{FormatEnds, InspectEnds, ScriptEnds, stopped};
+ghost use Rattle.night_program.specs.Stores.{FormatEnds, InspectEnds, ScriptEnds};
 
 use console_lines::RunFault;
-use run_console::{Book, run, write_whole};
+use run_console::{Book, run, stopped, write_whole};
 use run_disk::RunDisk;
-use run_model::{Fault, Trouble};
 use std::alloc::Global;
 use std::io::{Read, Write};
 
@@ -55,15 +53,5 @@ pub fn inspect<D: RunDisk, W: Write>(
     match Book::recover(alloc, disk) {
         Ok(state) => run_console::inspect(&state, output),
         Err(fault) => Err(stopped(fault)),
-    }
-}
-
-/// What a fault of a store is to the program.
-pub fn stopped(fault: Fault) -> RunFault
-    ensures { result ≡ stopped fault }
-{
-    match fault {
-        Fault::Memory => RunFault::Memory,
-        _ => RunFault::Store(Trouble::Faulty(fault)),
     }
 }

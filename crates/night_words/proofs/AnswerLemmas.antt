@@ -14,10 +14,10 @@ use Rattle.night_words.specs.Commands.{IsShown, faults_of, named_by, named_in, n
 use Rattle.night_words.proofs.TakenLemmas.{IsTaken, taken, taken_asks, taken_fails, taken_is_named}
 use Rattle.night_words.specs.declared.asked.Asked.{Asked}
 use Rattle.night_words.specs.declared.asked.Asked.TheVariants.{Demo, Format, Script, Inspect, Help}
-use Rattle.night_words.specs.declared.asked.Asked.TheVariants.{Migrate}
+use Rattle.night_words.specs.declared.asked.Asked.TheVariants.{Crew, Migrate}
 use Rattle.night_words.specs.declared.asked.WordsFault.{WordsFault}
 use Rattle.night_words.specs.declared.asked.WordsFault.TheVariants.{Mistake, NotText, Memory}
-use Rattle.night_words.specs.declared.asked.WordsFault.TheVariants.{SameStores}
+use Rattle.night_words.specs.declared.asked.WordsFault.TheVariants.{SameStores, Workers}
 
 -- the parser's statements on simple commands are about `night`
 night_is_simple : is_simple_and_free night ≡ true
@@ -40,12 +40,14 @@ shown_is_answer kind kinds (Ok Demo) found shown = absurd shown
 shown_is_answer kind kinds (Ok (Format store)) found shown = absurd shown
 shown_is_answer kind kinds (Ok (Script store)) found shown = absurd shown
 shown_is_answer kind kinds (Ok (Inspect store)) found shown = absurd shown
+shown_is_answer kind kinds (Ok (Crew store workers)) found shown = absurd shown
 shown_is_answer kind kinds (Ok (Migrate old new)) found shown = absurd shown
 shown_is_answer kind kinds (Ok (Help text)) (inl e) shown = absurd (no_help kind e shown)
 shown_is_answer kind kinds (Ok (Help text)) (inr among) shown = (kind, among, shown)
 shown_is_answer kind kinds (Err (Mistake text)) (inl e) shown = absurd (shown.2 e)
 shown_is_answer kind kinds (Err (Mistake text)) (inr among) shown = (kind, among, shown)
 shown_is_answer kind kinds (Err SameStores) found shown = absurd shown
+shown_is_answer kind kinds (Err Workers) found shown = absurd shown
 shown_is_answer kind kinds (Err NotText) found shown = absurd shown
 shown_is_answer kind kinds (Err Memory) found shown = tt
 
@@ -65,6 +67,7 @@ error_asks_nothing kind words (Ok Demo) shown = absurd shown
 error_asks_nothing kind words (Ok (Format store)) shown = absurd shown
 error_asks_nothing kind words (Ok (Script store)) shown = absurd shown
 error_asks_nothing kind words (Ok (Inspect store)) shown = absurd shown
+error_asks_nothing kind words (Ok (Crew store workers)) shown = absurd shown
 error_asks_nothing kind words (Ok (Migrate old new)) shown = absurd shown
 error_asks_nothing kind words (Ok (Help text)) shown = tt
 error_asks_nothing kind words (Err fault) shown = tt
@@ -75,6 +78,7 @@ pub error_is_no_clash : (kind : ErrorKind) (words : List Text) (r : Result Asked
 error_is_no_clash kind words (Ok asked) shown = tt
 error_is_no_clash kind words (Err (Mistake text)) shown = tt
 error_is_no_clash kind words (Err SameStores) shown = absurd shown
+error_is_no_clash kind words (Err Workers) shown = absurd shown
 error_is_no_clash kind words (Err NotText) shown = absurd shown
 error_is_no_clash kind words (Err Memory) shown = tt
 
@@ -102,29 +106,34 @@ module _ (a : App) (words : List Text) (m : ArgMatches) (is_night : a ≡ night)
   command_is_named = taken_is_named words (named_by m) (new_by m) matches_taken
 
   -- and what is asked for of it, the words ask for
-  pub command_is_asked : (r : Result Asked WordsFault) → Asks (named_by m) (new_by m) r
+  pub command_is_asked : (r : Result Asked WordsFault)
+      → Asks (named_by m) (new_by m) (subcommand_rows_of m) r
       → IfOk r (λ asked. AsksFor asked words)
-  command_is_asked (Ok asked) asks =
-      taken_asks words (named_by m) (new_by m) asked matches_taken asks
+  command_is_asked (Ok asked) asks = taken_asks words (named_by m) (new_by m)
+      (subcommand_rows_of m) asked names_alike matches_taken asks
   command_is_asked (Err why) asks = tt
 
-  -- or they name one store twice
-  pub command_is_cause : (r : Result Asked WordsFault) → Asks (named_by m) (new_by m) r
+  -- or they name one store twice, or a wrong number of workers
+  pub command_is_cause : (r : Result Asked WordsFault)
+      → Asks (named_by m) (new_by m) (subcommand_rows_of m) r
       → IfErr r (λ why. IsCausedBy why words)
   command_is_cause (Ok asked) asks = tt
-  command_is_cause (Err why) asks =
-      taken_fails words (named_by m) (new_by m) why matches_taken asks
+  command_is_cause (Err why) asks = taken_fails words (named_by m) (new_by m)
+      (subcommand_rows_of m) why names_alike matches_taken asks
 
   -- which is an answer
-  pub command_is_answer : (r : Result Asked WordsFault) → Asks (named_by m) (new_by m) r
+  pub command_is_answer : (r : Result Asked WordsFault)
+      → Asks (named_by m) (new_by m) (subcommand_rows_of m) r
       → IsAnswer (faults_of words) r
   command_is_answer (Ok Demo) asks = finds_nothing
   command_is_answer (Ok (Format store)) asks = finds_nothing
   command_is_answer (Ok (Script store)) asks = finds_nothing
   command_is_answer (Ok (Inspect store)) asks = finds_nothing
+  command_is_answer (Ok (Crew store workers)) asks = finds_nothing
   command_is_answer (Ok (Migrate old new)) asks = finds_nothing
   command_is_answer (Ok (Help text)) asks = absurd asks
   command_is_answer (Err SameStores) asks = finds_nothing
+  command_is_answer (Err Workers) asks = finds_nothing
   command_is_answer (Err (Mistake text)) asks = absurd asks
   command_is_answer (Err NotText) asks = absurd asks
   command_is_answer (Err Memory) asks = absurd asks

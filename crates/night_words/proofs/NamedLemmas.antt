@@ -1,7 +1,7 @@
 -- What the parser's matches name, as their caller reads it.
 use Rattle.std.proofs.Common.{◌≡◌, ◌∙◌, Bool, List, Option, Some, None, [], ap, ap₂, false, inl}
 use Rattle.std.proofs.Common.{inr, refl, sym, true}
-use Rattle.std.specs.Prelude.{Box, codes, option_and_then, option_map}
+use Rattle.std.specs.Prelude.{Box, codes, option_and_then, option_map, unwrap_or}
 use Rattle.std.specs.Prelude.{Result, Ok, Err}
 use Rattle.std.specs.Borrow.{Bor}
 use Rattle.std.specs.Box.{box_value}
@@ -15,17 +15,16 @@ use Rattle.clap.specs.Walk.{Row, Text, first_of, rows_of}
 use Rattle.clap.specs.declared.parser.matches.ArgMatches.{ArgMatches}
 use Rattle.clap.specs.declared.parser.matches.ArgMatches.TheViews.{out-ArgMatches, out-SubCommand}
 use Rattle.clap.specs.declared.parser.matches.SubCommand.{SubCommand}
-use Rattle.night_words.specs.Commands.{Asks, IsMigration, IsNamed, Named}
-use Rattle.night_words.specs.Commands.{named_by, named_in, new_by}
-use Rattle.night_words.specs.Commands.{new_in}
+use Rattle.night_words.specs.Commands.{Asks, IsCrew, IsMigration, IsNamed, Named, NamesCrew}
+use Rattle.night_words.specs.Commands.{command_in, named_by, named_in, new_by, word_in, workers_of}
 use Rattle.night_words.specs.declared.asked.Asked.{Asked}
 use Rattle.night_words.specs.declared.asked.Asked.TheVariants.{Demo, Format, Script, Inspect, Help}
-use Rattle.night_words.specs.declared.asked.Asked.TheVariants.{Migrate}
+use Rattle.night_words.specs.declared.asked.Asked.TheVariants.{Crew, Migrate}
 use Rattle.night_words.specs.declared.asked.WordsFault.{WordsFault}
 use Rattle.night_words.specs.declared.asked.WordsFault.TheVariants.{Memory, Mistake, NotText}
-use Rattle.night_words.specs.declared.asked.WordsFault.TheVariants.{SameStores}
+use Rattle.night_words.specs.declared.asked.WordsFault.TheVariants.{SameStores, Workers}
 use Rattle.night_words.proofs.PairLemmas.{migrate}
-use Rattle.night_words.proofs.TakenLemmas.{clash, demo, format, inspect, script}
+use Rattle.night_words.proofs.TakenLemmas.{clash, crew, demo, format, inspect, script}
 
 -- what is read of a subcommand and of its matches
 abbrev pub Read : Type 0
@@ -51,18 +50,25 @@ module _ {Z : Type 0} where
       let both : Text → List Row → Named = λ t rs. Some (t, first_of (codes "STORE") rs) in
       ap₂ both (sym (ap text name)) (sym (ap list rows))
 
-  -- and the new store of a migration is read with them
-  pub read_is_new : (r : Read) (x : Option (Box SubCommand Z))
+  -- and each word of it is read with them
+  pub read_is_word : (id : Text) (r : Read) (x : Option (Box SubCommand Z))
       → option_map (λ p. rows_of (found_of p.1.now)) r
       ≡ option_map (λ p. p.1) (subcommand_rows x)
-      → new_in (subcommand_rows x)
-      ≡ option_and_then (λ p. first_of (codes "NEW") (rows_of (found_of p.1.now))) r
-  read_is_new None None rows = refl
-  read_is_new None (Some b) rows = cc
-  read_is_new (Some p) None rows = cc
-  read_is_new (Some p) (Some b) rows =
+      → word_in id (subcommand_rows x)
+      ≡ option_and_then (λ p. first_of id (rows_of (found_of p.1.now))) r
+  read_is_word id None None rows = refl
+  read_is_word id None (Some b) rows = cc
+  read_is_word id (Some p) None rows = cc
+  read_is_word id (Some p) (Some b) rows =
       let list : Option (List Row) → List Row = λ o. option_map_or (λ (t : List Row). t) o [] in
-      ap (λ rs. first_of (codes "NEW") rs) (sym (ap list rows))
+      ap (λ rs. first_of id rs) (sym (ap list rows))
+
+  -- the command that was entered
+  pub entered_is : (x : Option (Box SubCommand Z))
+      → command_in (subcommand_rows x)
+      ≡ option_map (λ b. (out-SubCommand (box_value b)).name.now) x
+  entered_is None = refl
+  entered_is (Some b) = refl
 
 -- the command and the store of the parser's matches, as their caller reads them
 pub named_here : (m : ArgMatches) (command : Bor Text) (inner : Bor ArgMatches)
@@ -73,13 +79,61 @@ named_here m command inner name rows =
     read_is_named (Some (command, inner)) (out-ArgMatches m).subcommand name rows
     ∙ ap (λ o. Some (command.now, o)) (sym (first_value-rows (found_of inner.now) (codes "STORE")))
 
--- and the new store
+-- and each word of it
+pub word_here : (id : Text) (m : ArgMatches) (command : Bor Text) (inner : Bor ArgMatches)
+    → Some (rows_of (found_of inner.now)) ≡ option_map (λ p. p.1) (subcommand_rows_of m)
+    → word_in id (subcommand_rows_of m) ≡ first_value (found_of inner.now) id
+word_here id m command inner rows =
+    read_is_word id (Some (command, inner)) (out-ArgMatches m).subcommand rows
+    ∙ sym (first_value-rows (found_of inner.now) id)
+
+-- the new store
 pub new_here : (m : ArgMatches) (command : Bor Text) (inner : Bor ArgMatches)
     → Some (rows_of (found_of inner.now)) ≡ option_map (λ p. p.1) (subcommand_rows_of m)
     → new_by m ≡ first_value (found_of inner.now) (codes "NEW")
-new_here m command inner rows =
-    read_is_new (Some (command, inner)) (out-ArgMatches m).subcommand rows
-    ∙ sym (first_value-rows (found_of inner.now) (codes "NEW"))
+new_here m command inner rows = word_here (codes "NEW") m command inner rows
+
+-- a word that was read, or the one in its place
+pub unwrapped : (o : Option (Bor Text)) (d : Bor Text)
+    → (unwrap_or o d).now ≡ unwrap_or (option_map (λ s. s.now) o) d.now
+unwrapped None d = refl
+unwrapped (Some s) d = refl
+
+-- where the command is `crew`, what was read of its words is what the parser entered
+pub crew_here : (m : ArgMatches) (command : Bor Text) (inner : Bor ArgMatches)
+    (store : Text) (count workers : Option Text) (r : Result Asked WordsFault)
+    → Some command.now ≡ subcommand_name_of m
+    → Some (rows_of (found_of inner.now)) ≡ option_map (λ p. p.1) (subcommand_rows_of m)
+    → command.now ≡ crew → count ≡ first_value (found_of inner.now) (codes "STORE")
+    → store ≡ unwrap_or count [] → workers ≡ first_value (found_of inner.now) (codes "workers")
+    → IsCrew store workers r → Asks (named_by m) (new_by m) (subcommand_rows_of m) r
+crew_here m command inner store count workers r name rows is read whole given made = go r made
+  where
+    which : command_in (subcommand_rows_of m) ≡ Some crew
+    which = entered_is (out-ArgMatches m).subcommand ∙ sym name ∙ ap (λ t. Some t) is
+
+    stored : unwrap_or (word_in (codes "STORE") (subcommand_rows_of m)) [] ≡ store
+    stored = ap (λ o. unwrap_or o []) (word_here (codes "STORE") m command inner rows ∙ sym read)
+        ∙ sym whole
+
+    working : word_in (codes "workers") (subcommand_rows_of m) ≡ workers
+    working = word_here (codes "workers") m command inner rows ∙ sym given
+
+    go : (r : Result Asked WordsFault) → IsCrew store workers r
+        → Asks (named_by m) (new_by m) (subcommand_rows_of m) r
+    go (Ok Demo) made = absurd made
+    go (Ok (Format s)) made = absurd made
+    go (Ok (Script s)) made = absurd made
+    go (Ok (Inspect s)) made = absurd made
+    go (Ok (Crew s n)) made =
+        (which, stored ∙ sym made.0, ap (λ o. workers_of o) working ∙ made.1)
+    go (Ok (Migrate o n)) made = absurd made
+    go (Ok (Help text)) made = absurd made
+    go (Err (Mistake text)) made = absurd made
+    go (Err SameStores) made = absurd made
+    go (Err Workers) made = (store, (which, stored, ap (λ o. workers_of o) working ∙ made))
+    go (Err NotText) made = absurd made
+    go (Err Memory) made = absurd made
 
 -- the same of a command and a store that are known
 pub named_as : (named : Named) (name command store : Text) (first : Option Text)
@@ -115,45 +169,56 @@ store_clash named name command store none some =
 
 -- a command without a store is `demo`
 pub no_store : (named : Named) (new : Option Text) (name : Text) → IsNamed named new
-    → named ≡ Some (name, None) → name ≡ demo
-no_store named new name (inl e) is = ap name_in (sym is ∙ e)
-no_store named new name (inr (store, inl e)) is =
+    → named ≡ Some (name, None) → (name ≡ crew → ⊥) → name ≡ demo
+no_store named new name (inl e) is no_crew = ap name_in (sym is ∙ e)
+no_store named new name (inr (inl (first, e))) is no_crew =
+    absurd (no_crew (ap name_in (sym is ∙ e)))
+no_store named new name (inr (inr (store, inl e))) is no_crew =
     absurd (store_clash named name format store is e)
-no_store named new name (inr (store, inr (inl e))) is =
+no_store named new name (inr (inr (store, inr (inl e)))) is no_crew =
     absurd (store_clash named name script store is e)
-no_store named new name (inr (store, inr (inr (inl e)))) is =
+no_store named new name (inr (inr (store, inr (inr (inl e))))) is no_crew =
     absurd (store_clash named name inspect store is e)
-no_store named new name (inr (store, inr (inr (inr (given, e, n))))) is =
+no_store named new name (inr (inr (store, inr (inr (inr (given, e, n)))))) is no_crew =
     absurd (store_clash named name migrate store is e)
 
 -- `demo` has no store
 pub demo_alone : (named : Named) (new store : Option Text) → IsNamed named new
     → named ≡ Some (demo, store) → named ≡ Some (demo, None)
 demo_alone named new store (inl e) is = e
-demo_alone named new store (inr (s, inl e)) is =
+demo_alone named new store (inr (inl (first, e))) is =
+    absurd (clash demo crew store first named refl is e)
+demo_alone named new store (inr (inr (s, inl e))) is =
     absurd (clash demo format store (Some s) named refl is e)
-demo_alone named new store (inr (s, inr (inl e))) is =
+demo_alone named new store (inr (inr (s, inr (inl e)))) is =
     absurd (clash demo script store (Some s) named refl is e)
-demo_alone named new store (inr (s, inr (inr (inl e)))) is =
+demo_alone named new store (inr (inr (s, inr (inr (inl e))))) is =
     absurd (clash demo inspect store (Some s) named refl is e)
-demo_alone named new store (inr (s, inr (inr (inr (given, e, n))))) is =
+demo_alone named new store (inr (inr (s, inr (inr (inr (given, e, n)))))) is =
     absurd (clash demo migrate store (Some s) named refl is e)
 
--- a command over a store that is neither `format` nor `script` nor `inspect` is `migrate`
+-- a command over a store that is neither `format` nor `script` nor `inspect` nor `crew` is
+-- `migrate`
 pub migrate_left : (named : Named) (new : Option Text) (name store : Text) → IsNamed named new
-    → named ≡ Some (name, Some store) → (name ≡ format → ⊥) → (name ≡ script → ⊥)
-    → (name ≡ inspect → ⊥)
+    → named ≡ Some (name, Some store) → (name ≡ crew → ⊥) → (name ≡ format → ⊥)
+    → (name ≡ script → ⊥) → (name ≡ inspect → ⊥)
     → (named ≡ Some (migrate, Some store)) × ((given : Text) × (new ≡ Some given))
-migrate_left named new name store (inl e) is no_format no_script no_inspect =
+migrate_left named new name store (inl e) is no_crew no_format no_script no_inspect =
     absurd (store_clash named demo name store e is)
-migrate_left named new name store (inr (s, inl e)) is no_format no_script no_inspect =
-    absurd (no_format (ap name_in (sym is ∙ e)))
-migrate_left named new name store (inr (s, inr (inl e))) is no_format no_script no_inspect =
-    absurd (no_script (ap name_in (sym is ∙ e)))
-migrate_left named new name store (inr (s, inr (inr (inl e)))) is no_format no_script no_inspect =
-    absurd (no_inspect (ap name_in (sym is ∙ e)))
-migrate_left named new name store (inr (s, inr (inr (inr (given, e, n))))) is no_format no_script
+migrate_left named new name store (inr (inl (first, e))) is no_crew no_format no_script
     no_inspect =
+    absurd (no_crew (ap name_in (sym is ∙ e)))
+migrate_left named new name store (inr (inr (s, inl e))) is no_crew no_format no_script
+    no_inspect =
+    absurd (no_format (ap name_in (sym is ∙ e)))
+migrate_left named new name store (inr (inr (s, inr (inl e)))) is no_crew no_format no_script
+    no_inspect =
+    absurd (no_script (ap name_in (sym is ∙ e)))
+migrate_left named new name store (inr (inr (s, inr (inr (inl e))))) is no_crew no_format
+    no_script no_inspect =
+    absurd (no_inspect (ap name_in (sym is ∙ e)))
+migrate_left named new name store (inr (inr (s, inr (inr (inr (given, e, n)))))) is no_crew
+    no_format no_script no_inspect =
     (is ∙ ap (λ m. Some (m, Some store)) (ap name_in (sym is ∙ e)), (given, n))
 
 -- a new store is there
@@ -164,20 +229,23 @@ new_is_there new given some none =
 
 -- a migration is what is named
 pub migration_asks : (named : Named) (new : Option Text) (store given : Text)
-    (r : Result Asked WordsFault) → named ≡ Some (migrate, Some store) → new ≡ Some given
-    → IsMigration store given r → Asks named new r
-migration_asks named new store given (Ok Demo) is fresh made = absurd made
-migration_asks named new store given (Ok (Format s)) is fresh made = absurd made
-migration_asks named new store given (Ok (Script s)) is fresh made = absurd made
-migration_asks named new store given (Ok (Inspect s)) is fresh made = absurd made
-migration_asks named new store given (Ok (Help text)) is fresh made = absurd made
-migration_asks named new store given (Ok (Migrate o n)) is fresh made = (
+    (entered : Option (Text × List Row)) (r : Result Asked WordsFault)
+    → named ≡ Some (migrate, Some store) → new ≡ Some given
+    → IsMigration store given r → Asks named new entered r
+migration_asks named new store given entered (Ok Demo) is fresh made = absurd made
+migration_asks named new store given entered (Ok (Format s)) is fresh made = absurd made
+migration_asks named new store given entered (Ok (Script s)) is fresh made = absurd made
+migration_asks named new store given entered (Ok (Inspect s)) is fresh made = absurd made
+migration_asks named new store given entered (Ok (Crew s n)) is fresh made = absurd made
+migration_asks named new store given entered (Ok (Help text)) is fresh made = absurd made
+migration_asks named new store given entered (Ok (Migrate o n)) is fresh made = (
   is ∙ ap (λ t. Some (migrate, Some t)) (sym made.0),
   fresh ∙ ap Some (sym made.1),
   λ same. made.2 (sym made.0 ∙ (same ∙ made.1)),
 )
-migration_asks named new store given (Err SameStores) is fresh made =
+migration_asks named new store given entered (Err SameStores) is fresh made =
     (store, is, fresh ∙ ap Some (sym made))
-migration_asks named new store given (Err (Mistake text)) is fresh made = absurd made
-migration_asks named new store given (Err NotText) is fresh made = absurd made
-migration_asks named new store given (Err Memory) is fresh made = absurd made
+migration_asks named new store given entered (Err Workers) is fresh made = absurd made
+migration_asks named new store given entered (Err (Mistake text)) is fresh made = absurd made
+migration_asks named new store given entered (Err NotText) is fresh made = absurd made
+migration_asks named new store given entered (Err Memory) is fresh made = absurd made

@@ -12,18 +12,20 @@ use Rattle.clap.specs.Kinds.{Kinds, or_else}
 use Rattle.clap.specs.Simple.{Shape, built, entered, names_of, rows_at, subcommand_of}
 use Rattle.clap.specs.Faults.{built_fault, entered_fault, level_fault, other_fault}
 use Rattle.clap.specs.Faults.{step_fault, turn_fault, walk_fault}
-use Rattle.clap.specs.Walk.{Held, Names, Step, Text, Walk, after_step, finished, first_of, idle}
+use Rattle.clap.specs.Walk.{Held, Names, Row, Step, Text, Walk, after_step, finished, first_of}
+use Rattle.clap.specs.Walk.{idle}
 use Rattle.clap.specs.Walk.{nothing_held, subcommand_or_other, value, walk, walked}
 use Rattle.clap.specs.Walk.{walked_from}
 use Rattle.clap.proofs.OnLiterals.{clap_on_literals}
 use Rattle.night_words.specs.Commands.{night, Asks, AsksFor, AsksForDemo, AsksOver, AsksToMigrate}
-use Rattle.night_words.specs.Commands.{IsCausedBy, IsNamed, Named, faults_of, named_in, new_in}
+use Rattle.night_words.specs.Commands.{IsCausedBy, IsNamed, Named, NamesCrew, faults_of, named_in}
+use Rattle.night_words.specs.Commands.{new_in}
 use Rattle.night_words.specs.declared.asked.Asked.{Asked}
 use Rattle.night_words.specs.declared.asked.Asked.TheVariants.{Demo, Format, Script, Inspect, Help}
-use Rattle.night_words.specs.declared.asked.Asked.TheVariants.{Migrate}
+use Rattle.night_words.specs.declared.asked.Asked.TheVariants.{Crew, Migrate}
 use Rattle.night_words.specs.declared.asked.WordsFault.{WordsFault}
 use Rattle.night_words.specs.declared.asked.WordsFault.TheVariants.{Memory, Mistake, NotText}
-use Rattle.night_words.specs.declared.asked.WordsFault.TheVariants.{SameStores}
+use Rattle.night_words.specs.declared.asked.WordsFault.TheVariants.{SameStores, Workers}
 use Rattle.night_words.proofs.LevelLemmas.{first_passes, lower_passes, rest_passes, start}
 use Rattle.night_words.proofs.LevelLemmas.{words_pass}
 use Rattle.night_words.proofs.PairLemmas.{behind_both, migrate}
@@ -46,6 +48,9 @@ script = codes "script"
 
 abbrev pub inspect : Text
 inspect = codes "inspect"
+
+abbrev pub crew : Text
+crew = codes "crew"
 
 -- ---- what a word comes to
 
@@ -73,43 +78,49 @@ only_the_mark s word fails (inr is) none = absurd (stray s _ nothing_held is fai
 abbrev IsFirst : Text → Type 0
 IsFirst word = (word ≡ demo)
     ⊎ ((word ≡ format) ⊎ ((word ≡ script) ⊎ ((word ≡ inspect) ⊎ ((word ≡ migrate)
-    ⊎ (word ≡ mark)))))
+    ⊎ ((word ≡ crew) ⊎ (word ≡ mark))))))
 
 first_word : (word : Text) → turn_fault above names start word ≡ [] → IsFirst word
 first_word word none =
     go (bytes_eq demo word) (bytes_eq format word) (bytes_eq script word) (bytes_eq inspect word)
-    (bytes_eq migrate word) (bytes_eq (codes "help") word) refl refl refl refl refl none
+    (bytes_eq migrate word) (bytes_eq crew word) (bytes_eq (codes "help") word)
+    refl refl refl refl refl refl none
   where
-    met : (d f s i m h : Bool) → Option Text
-    met d f s i m h = option_map (λ (c : Text × List Text). c.0)
+    met : (d f s i m c h : Bool) → Option Text
+    met d f s i m c h = option_map (λ (n : Text × List Text). n.0)
         (cond (d || false) (Some (demo, []))
         (cond (f || false) (Some (format, []))
         (cond (s || false) (Some (script, []))
         (cond (i || false) (Some (inspect, []))
         (cond (m || false) (Some (migrate, []))
-        (cond (h || false) (Some (codes "help", [])) None))))))
+        (cond (c || false) (Some (crew, []))
+        (cond (h || false) (Some (codes "help", [])) None)))))))
 
     is : (command : Text) → bytes_eq command word ≡ true → word ≡ command
     is command same = sym ((bytes_eq-Decides command word).0 same)
 
-    go : (d f s i m h : Bool) → bytes_eq demo word ≡ d → bytes_eq format word ≡ f
+    go : (d f s i m c h : Bool) → bytes_eq demo word ≡ d → bytes_eq format word ≡ f
         → bytes_eq script word ≡ s → bytes_eq inspect word ≡ i → bytes_eq migrate word ≡ m
-        → or_else (other_fault above (met d f s i m h) word nothing_held)
+        → bytes_eq crew word ≡ c
+        → or_else (other_fault above (met d f s i m c h) word nothing_held)
         (stepped above
-        (subcommand_or_other above.rules (met d f s i m h) idle 1 word nothing_held))
+        (subcommand_or_other above.rules (met d f s i m c h) idle 1 word nothing_held))
         ≡ [] → IsFirst word
-    go true f s i m h same e1 e2 e3 e4 none = inl (is demo same)
-    go false true s i m h e0 same e2 e3 e4 none = inr (inl (is format same))
-    go false false true i m h e0 e1 same e3 e4 none = inr (inr (inl (is script same)))
-    go false false false true m h e0 e1 e2 same e4 none = inr (inr (inr (inl (is inspect same))))
-    go false false false false true h e0 e1 e2 e3 same none =
+    go true f s i m c h same e1 e2 e3 e4 e5 none = inl (is demo same)
+    go false true s i m c h e0 same e2 e3 e4 e5 none = inr (inl (is format same))
+    go false false true i m c h e0 e1 same e3 e4 e5 none = inr (inr (inl (is script same)))
+    go false false false true m c h e0 e1 e2 same e4 e5 none =
+        inr (inr (inr (inl (is inspect same))))
+    go false false false false true c h e0 e1 e2 e3 same e5 none =
         inr (inr (inr (inr (inl (is migrate same)))))
-    go false false false false false true e0 e1 e2 e3 e4 none = cc
-    go false false false false false false e0 e1 e2 e3 e4 none =
+    go false false false false false true h e0 e1 e2 e3 e4 same none =
+        inr (inr (inr (inr (inr (inl (is crew same))))))
+    go false false false false false false true e0 e1 e2 e3 e4 e5 none = cc
+    go false false false false false false false e0 e1 e2 e3 e4 e5 none =
         let fails : step_fault above 1 nothing_held value ≡ [] → ⊥ = λ bad. cc in
-        inr (inr (inr (inr (inr (only_the_mark above word fails
+        inr (inr (inr (inr (inr (inr (only_the_mark above word fails
         (mark_or_value above above_is_strict 1 word [] None (first_none _ _ none))
-        (second_none _ _ none))))))
+        (second_none _ _ none)))))))
 
 -- ---- the words behind a command
 
@@ -345,6 +356,7 @@ pub data IsTaken (words : List Text) (named : Named) (new : Option Text) : Type 
       → named ≡ Some (inspect, Some store) → IsTaken words named new
   takes_migrate : (store given : Text) → AsksToMigrate store given words
       → named ≡ Some (migrate, Some store) → new ≡ Some given → IsTaken words named new
+  takes_crew : (first : Option Text) → named ≡ Some (crew, first) → IsTaken words named new
 
 abbrev named_of : List Text → Named
 named_of words = named_in (subcommand_of night words)
@@ -443,6 +455,13 @@ migrate_taken name rest none =
     (named_at name migrate rest met ∙ ap (λ s. Some (migrate, s)) b.read.0)
     (new_at name migrate rest met ∙ b.read.1)
 
+-- behind `crew` the parser may have read a store
+crew_taken : (name : Text) (rest : List Text) → Taken (name ∷ crew ∷ rest)
+unfolding walked
+crew_taken name rest =
+    let met = keeps_words crew [] rest (walked above.rules names start crew) refl in
+    takes_crew _ (named_at name crew rest met)
+
 -- the mark alone asks for nothing, and neither do no words
 mark_alone : Finds (mark ∷ []) → ⊥
 unfolding clap_on_literals
@@ -486,7 +505,8 @@ taken (name ∷ word ∷ rest) none = go (first_word word (first_passes above na
     go (inr (inr (inl is))) = at script is (script_taken name rest)
     go (inr (inr (inr (inl is)))) = at inspect is (inspect_taken name rest)
     go (inr (inr (inr (inr (inl is))))) = at migrate is (migrate_taken name rest)
-    go (inr (inr (inr (inr (inr is))))) =
+    go (inr (inr (inr (inr (inr (inl is)))))) = at crew is (λ finds. crew_taken name rest)
+    go (inr (inr (inr (inr (inr (inr is)))))) =
         absurd (with_mark rest (subst (λ w. Finds (w ∷ rest)) is none))
 
 -- ---- what the parser names
@@ -495,11 +515,12 @@ taken (name ∷ word ∷ rest) none = go (first_word word (first_passes above na
 pub taken_is_named : (words : List Text) (named : Named) (new : Option Text)
     → IsTaken words named new → IsNamed named new
 taken_is_named words named new (takes_demo a e) = inl e
-taken_is_named words named new (takes_format store a e) = inr (store, inl e)
-taken_is_named words named new (takes_script store a e) = inr (store, inr (inl e))
-taken_is_named words named new (takes_inspect store a e) = inr (store, inr (inr (inl e)))
+taken_is_named words named new (takes_format store a e) = inr (inr (store, inl e))
+taken_is_named words named new (takes_script store a e) = inr (inr (store, inr (inl e)))
+taken_is_named words named new (takes_inspect store a e) = inr (inr (store, inr (inr (inl e))))
 taken_is_named words named new (takes_migrate store given a e n) =
-    inr (store, inr (inr (inr (given, e, n))))
+    inr (inr (store, inr (inr (inr (given, e, n)))))
+taken_is_named words named new (takes_crew first e) = inr (inl (first, e))
 
 -- two commands that differ
 pub clash : (c d : Text) (x y : Option Text) (named : Named) → bytes_eq c d ≡ false
@@ -536,61 +557,77 @@ migrates words named new old given (takes_script s a e) is fresh =
     absurd (clash script migrate _ _ named refl e is)
 migrates words named new old given (takes_inspect s a e) is fresh =
     absurd (clash inspect migrate _ _ named refl e is)
+migrates words named new old given (takes_crew first e) is fresh =
+    absurd (clash crew migrate _ _ named refl e is)
 migrates words named new old given (takes_migrate s t a e n) is fresh =
     subst (λ (u : Text). AsksToMigrate u given words) (store_is migrate s old named e is)
     (subst (λ (u : Text). AsksToMigrate s u words) (text_is t given new n fresh) a)
 
 -- and what asks for it is asked for
-pub taken_asks : (words : List Text) (named : Named) (new : Option Text) (asked : Asked)
-    → IsTaken words named new → Asks named new (Ok asked) → AsksFor asked words
-taken_asks words named new Demo (takes_demo a e) is = a
-taken_asks words named new Demo (takes_format s a e) is =
+pub taken_asks : (words : List Text) (named : Named) (new : Option Text)
+    (entered : Option (Text × List Row)) (asked : Asked) → entered ≡ subcommand_of night words
+    → IsTaken words named new → Asks named new entered (Ok asked) → AsksFor asked words
+taken_asks words named new entered Demo same (takes_demo a e) is = a
+taken_asks words named new entered Demo same (takes_format s a e) is =
     absurd (clash format demo _ _ named refl e is)
-taken_asks words named new Demo (takes_script s a e) is =
+taken_asks words named new entered Demo same (takes_script s a e) is =
     absurd (clash script demo _ _ named refl e is)
-taken_asks words named new Demo (takes_inspect s a e) is =
+taken_asks words named new entered Demo same (takes_inspect s a e) is =
     absurd (clash inspect demo _ _ named refl e is)
-taken_asks words named new Demo (takes_migrate s g a e n) is =
+taken_asks words named new entered Demo same (takes_migrate s g a e n) is =
     absurd (clash migrate demo _ _ named refl e is)
-taken_asks words named new (Format t) (takes_demo a e) is =
+taken_asks words named new entered Demo same (takes_crew first e) is =
+    absurd (clash crew demo _ _ named refl e is)
+taken_asks words named new entered (Format t) same (takes_demo a e) is =
     absurd (clash demo format _ _ named refl e is)
-taken_asks words named new (Format t) (takes_format s a e) is =
+taken_asks words named new entered (Format t) same (takes_format s a e) is =
     subst (λ (u : Text). AsksOver format u words) (store_is format s t.now named e is) a
-taken_asks words named new (Format t) (takes_script s a e) is =
+taken_asks words named new entered (Format t) same (takes_script s a e) is =
     absurd (clash script format _ _ named refl e is)
-taken_asks words named new (Format t) (takes_inspect s a e) is =
+taken_asks words named new entered (Format t) same (takes_inspect s a e) is =
     absurd (clash inspect format _ _ named refl e is)
-taken_asks words named new (Format t) (takes_migrate s g a e n) is =
+taken_asks words named new entered (Format t) same (takes_migrate s g a e n) is =
     absurd (clash migrate format _ _ named refl e is)
-taken_asks words named new (Script t) (takes_demo a e) is =
+taken_asks words named new entered (Format t) same (takes_crew first e) is =
+    absurd (clash crew format _ _ named refl e is)
+taken_asks words named new entered (Script t) same (takes_demo a e) is =
     absurd (clash demo script _ _ named refl e is)
-taken_asks words named new (Script t) (takes_format s a e) is =
+taken_asks words named new entered (Script t) same (takes_format s a e) is =
     absurd (clash format script _ _ named refl e is)
-taken_asks words named new (Script t) (takes_script s a e) is =
+taken_asks words named new entered (Script t) same (takes_script s a e) is =
     subst (λ (u : Text). AsksOver script u words) (store_is script s t.now named e is) a
-taken_asks words named new (Script t) (takes_inspect s a e) is =
+taken_asks words named new entered (Script t) same (takes_inspect s a e) is =
     absurd (clash inspect script _ _ named refl e is)
-taken_asks words named new (Script t) (takes_migrate s g a e n) is =
+taken_asks words named new entered (Script t) same (takes_migrate s g a e n) is =
     absurd (clash migrate script _ _ named refl e is)
-taken_asks words named new (Inspect t) (takes_demo a e) is =
+taken_asks words named new entered (Script t) same (takes_crew first e) is =
+    absurd (clash crew script _ _ named refl e is)
+taken_asks words named new entered (Inspect t) same (takes_demo a e) is =
     absurd (clash demo inspect _ _ named refl e is)
-taken_asks words named new (Inspect t) (takes_format s a e) is =
+taken_asks words named new entered (Inspect t) same (takes_format s a e) is =
     absurd (clash format inspect _ _ named refl e is)
-taken_asks words named new (Inspect t) (takes_script s a e) is =
+taken_asks words named new entered (Inspect t) same (takes_script s a e) is =
     absurd (clash script inspect _ _ named refl e is)
-taken_asks words named new (Inspect t) (takes_inspect s a e) is =
+taken_asks words named new entered (Inspect t) same (takes_inspect s a e) is =
     subst (λ (u : Text). AsksOver inspect u words) (store_is inspect s t.now named e is) a
-taken_asks words named new (Inspect t) (takes_migrate s g a e n) is =
+taken_asks words named new entered (Inspect t) same (takes_migrate s g a e n) is =
     absurd (clash migrate inspect _ _ named refl e is)
-taken_asks words named new (Migrate o g) t is =
+taken_asks words named new entered (Inspect t) same (takes_crew first e) is =
+    absurd (clash crew inspect _ _ named refl e is)
+taken_asks words named new entered (Crew store n) same t is =
+    subst (λ e. NamesCrew store.now (Some n) e) same is
+taken_asks words named new entered (Migrate o g) same t is =
     (migrates words named new o.now g.now t is.0 is.1, is.2)
-taken_asks words named new (Help text) t is = absurd is
+taken_asks words named new entered (Help text) same t is = absurd is
 
--- and two equal names are those of the words
-pub taken_fails : (words : List Text) (named : Named) (new : Option Text) (why : WordsFault)
-    → IsTaken words named new → Asks named new (Err why) → IsCausedBy why words
-taken_fails words named new SameStores t is =
+-- and two equal names are those of the words, and so is a wrong number of workers
+pub taken_fails : (words : List Text) (named : Named) (new : Option Text)
+    (entered : Option (Text × List Row)) (why : WordsFault) → entered ≡ subcommand_of night words
+    → IsTaken words named new → Asks named new entered (Err why) → IsCausedBy why words
+taken_fails words named new entered SameStores same t is =
     (is.0, migrates words named new is.0 is.0 t is.1 is.2)
-taken_fails words named new (Mistake text) t is = absurd is
-taken_fails words named new NotText t is = absurd is
-taken_fails words named new Memory t is = absurd is
+taken_fails words named new entered Workers same t is =
+    (is.0, subst (λ e. NamesCrew is.0 None e) same is.1)
+taken_fails words named new entered (Mistake text) same t is = absurd is
+taken_fails words named new entered NotText same t is = absurd is
+taken_fails words named new entered Memory same t is = absurd is

@@ -1,9 +1,11 @@
 -- Which words the command line takes.
 use Rattle.std.specs.Prelude.{◌≡◌, ◌≢◌, ◌⊎◌, ◌∷◌, [], ℕ, List, Option, Some, None, Result, Ok, Err}
-use Rattle.std.specs.Prelude.{codes, option_and_then, option_map, true}
+use Rattle.std.specs.Prelude.{◌&&◌, ◌-◌, codes, if◌then◌else◌, nat_le, option_and_then, option_map}
+use Rattle.std.specs.Prelude.{true, unwrap_or}
 use Rattle.std.specs.String.{string_bytes}
 use Rattle.clap.specs.Words.{App, IsAmong, Kinds, Row, Rule, Shape, Text, fault_of, first_of}
-use Rattle.clap.specs.Words.{new_app, new_rule, subcommand_rows_of, with_rule, with_subcommand}
+use Rattle.clap.specs.Words.{new_app, new_rule, subcommand_of, subcommand_rows_of, with_rule}
+use Rattle.clap.specs.Words.{with_subcommand}
 use Rattle.clap.specs.declared.builder.action.ArgAction.TheVariants.{Set}
 use Rattle.clap.specs.declared.error.kind.ErrorKind.{ErrorKind}
 use Rattle.clap.specs.declared.error.kind.ErrorKind.TheVariants.{DisplayHelp, DisplayVersion}
@@ -11,10 +13,10 @@ use Rattle.clap.specs.declared.error.kind.ErrorKind.TheVariants.{OutOfMemory}
 use Rattle.clap.specs.declared.parser.matches.ArgMatches.{ArgMatches}
 use Rattle.night_words.specs.declared.asked.Asked.{Asked}
 use Rattle.night_words.specs.declared.asked.Asked.TheVariants.{Demo, Format, Script, Inspect, Help}
-use Rattle.night_words.specs.declared.asked.Asked.TheVariants.{Migrate}
+use Rattle.night_words.specs.declared.asked.Asked.TheVariants.{Crew, Migrate}
 use Rattle.night_words.specs.declared.asked.WordsFault.{WordsFault}
 use Rattle.night_words.specs.declared.asked.WordsFault.TheVariants.{Mistake, NotText, Memory}
-use Rattle.night_words.specs.declared.asked.WordsFault.TheVariants.{SameStores}
+use Rattle.night_words.specs.declared.asked.WordsFault.TheVariants.{SameStores, Workers}
 
 -- ---- the command line
 
@@ -42,11 +44,24 @@ store_line name = with_rule (new_app name) (wanted (codes "STORE"))
 abbrev pub migrate_line : App
 migrate_line = with_rule (store_line (codes "migrate")) (wanted (codes "NEW"))
 
+-- an option that takes a number of workers
+abbrev pub workers_option : Rule
+workers_option = record (new_rule (codes "workers")) {
+  long = Some (codes "workers");
+  action = Some Set;
+  value_names = 1;
+}
+
+-- a command that takes the name of a store, and may be told how many workers there are
+abbrev pub crew_line : App
+crew_line = with_rule (store_line (codes "crew")) workers_option
+
 -- the command line of `night`: the commands are `demo`, over a store `format`, `script` and
--- `inspect`, and over two `migrate`
+-- `inspect`, over two `migrate`, and over a store and with an option `crew`
 abbrev pub night : App
 night =
     with_subcommand
+    (with_subcommand
     (with_subcommand
     (with_subcommand
     (with_subcommand
@@ -54,7 +69,8 @@ night =
     (store_line (codes "format")).top)
     (store_line (codes "script")).top)
     (store_line (codes "inspect")).top)
-    migrate_line.top
+    migrate_line.top)
+    crew_line.top
 
 -- what the parser finds in these words, the program's own name first: nothing where they ask for a
 -- command; help and the version are found like mistakes
@@ -84,20 +100,50 @@ AsksToMigrate old new words = (name : Text)
     ⊎ ((words ≡ name ∷ codes "migrate" ∷ old ∷ codes "--" ∷ new ∷ [])
     ⊎ (words ≡ name ∷ codes "migrate" ∷ old ∷ new ∷ codes "--" ∷ []))))
 
+-- the command that the parser entered
+abbrev pub command_in : Option (Text × List Row) → Option Text
+command_in entered = option_map (λ s. s.0) entered
+
+-- the word that it found for an argument there
+abbrev pub word_in : Text → Option (Text × List Row) → Option Text
+word_in id entered = option_and_then (λ s. first_of id s.1) entered
+
+-- so many workers: one digit from 1 to 8, or 4 where there is no word
+abbrev pub workers_of : Option Text → Option ℕ
+workers_of None = Some 4
+workers_of (Some (digit ∷ [])) =
+    if nat_le 49 digit && nat_le digit 56 then Some (digit - 48) else None
+workers_of (Some text) = None
+
+-- the parser entered `crew` with this store, and with this number of workers
+abbrev pub NamesCrew : Text → Option ℕ → Option (Text × List Row) → Type 0
+NamesCrew store workers entered = (command_in entered ≡ Some (codes "crew"))
+    × (unwrap_or (word_in (codes "STORE") entered) [] ≡ store)
+    × (workers_of (word_in (codes "workers") entered) ≡ workers)
+
+-- the words ask for a crew of so many workers over this store, as the parser reads them: the store
+-- stands behind the program's own name and `crew`, and `--workers N` or `--workers=N` may stand
+-- before or behind it
+abbrev pub AsksForCrew : Text → ℕ → List Text → Type 0
+AsksForCrew store workers words = NamesCrew store (Some workers) (subcommand_of night words)
+
 -- the words ask for this; of a text that is shown nothing is said here
 abbrev pub AsksFor : Asked → List Text → Type 0
 AsksFor Demo words = AsksForDemo words
 AsksFor (Format store) words = AsksOver (codes "format") store.now words
 AsksFor (Script store) words = AsksOver (codes "script") store.now words
 AsksFor (Inspect store) words = AsksOver (codes "inspect") store.now words
+AsksFor (Crew store workers) words = AsksForCrew store.now workers words
 AsksFor (Migrate old new) words =
     AsksToMigrate old.now new.now words × (old.now ≢ new.now)
 AsksFor (Help text) words = Unit {0}
 
 -- the words lead to this fault: to that of equal names where a migration is asked for from a store
--- to itself; of the others `IsAnswer` tells
+-- to itself, and to that of the workers where a crew of none, of more than 8 or of no number is; of
+-- the others `IsAnswer` tells
 abbrev pub IsCausedBy : WordsFault → List Text → Type 0
 IsCausedBy SameStores words = (store : Text) × AsksToMigrate store store words
+IsCausedBy Workers words = (store : Text) × NamesCrew store None (subcommand_of night words)
 IsCausedBy why words = Unit {0}
 
 -- ---- what is answered
@@ -111,12 +157,13 @@ abbrev pub IsMistake : ErrorKind → Type 0
 IsMistake kind = (kind ≢ DisplayHelp) × (kind ≢ DisplayVersion) × (kind ≢ OutOfMemory)
 
 -- what is answered where the parser may find these: a command exactly where it finds nothing, but
--- for equal names
+-- for equal names and a wrong number of workers
 abbrev pub IsAnswer : Kinds → Result Asked WordsFault → Type 0
 IsAnswer kinds (Ok (Help text)) = (kind : ErrorKind) × IsAmong kind kinds × IsHelp kind
 IsAnswer kinds (Ok command) = kinds ≡ []
 IsAnswer kinds (Err (Mistake text)) = (kind : ErrorKind) × IsAmong kind kinds × IsMistake kind
 IsAnswer kinds (Err SameStores) = kinds ≡ []
+IsAnswer kinds (Err Workers) = kinds ≡ []
 IsAnswer kinds (Err NotText) = ⊥
 IsAnswer kinds (Err Memory) = Unit {0}
 
@@ -124,6 +171,7 @@ IsAnswer kinds (Err Memory) = Unit {0}
 abbrev pub IsOfSystem : WordsFault → Type 0
 IsOfSystem (Mistake text) = ⊥
 IsOfSystem SameStores = ⊥
+IsOfSystem Workers = ⊥
 IsOfSystem NotText = Unit {0}
 IsOfSystem Memory = Unit {0}
 
@@ -131,6 +179,7 @@ IsOfSystem Memory = Unit {0}
 abbrev pub fault_text : WordsFault → List ℕ
 fault_text (Mistake text) = string_bytes text
 fault_text SameStores = codes "error: OLD and NEW name the same file\n"
+fault_text Workers = codes "error: --workers takes a number from 1 to 8\n"
 fault_text NotText = codes "error: a word is no text in UTF-8\n"
 fault_text Memory = codes "night: fault 1 Memory\n"
 
@@ -142,6 +191,7 @@ IsShown kind (Ok (Help text)) = IsHelp kind
 IsShown kind (Ok command) = ⊥
 IsShown kind (Err (Mistake text)) = IsMistake kind
 IsShown kind (Err SameStores) = ⊥
+IsShown kind (Err Workers) = ⊥
 IsShown kind (Err NotText) = ⊥
 IsShown kind (Err Memory) = Unit {0}
 
@@ -158,31 +208,44 @@ named_by matches = named_in (subcommand_rows_of matches)
 
 -- the new store of a migration
 abbrev pub new_in : Option (Text × List Row) → Option Text
-new_in entered = option_and_then (λ s. first_of (codes "NEW") s.1) entered
+new_in entered = word_in (codes "NEW") entered
 
 abbrev pub new_by : ArgMatches → Option Text
 new_by matches = new_in (subcommand_rows_of matches)
 
--- what is named is asked for, or the two stores of a migration are one
-abbrev pub Asks : Named → Option Text → Result Asked WordsFault → Type 0
-Asks named new (Ok Demo) = named ≡ Some (codes "demo", None)
-Asks named new (Ok (Format store)) = named ≡ Some (codes "format", Some store.now)
-Asks named new (Ok (Script store)) = named ≡ Some (codes "script", Some store.now)
-Asks named new (Ok (Inspect store)) = named ≡ Some (codes "inspect", Some store.now)
-Asks named new (Ok (Migrate old given)) = (named ≡ Some (codes "migrate", Some old.now))
-    × (new ≡ Some given.now) × (old.now ≢ given.now)
-Asks named new (Ok (Help text)) = ⊥
-Asks named new (Err SameStores) = (store : Text)
+-- what is named is asked for, or the two stores of a migration are one; of a crew it is said what
+-- the parser entered
+abbrev pub Asks : Named → Option Text → Option (Text × List Row) → Result Asked WordsFault → Type 0
+Asks named new entered (Ok Demo) = named ≡ Some (codes "demo", None)
+Asks named new entered (Ok (Format store)) = named ≡ Some (codes "format", Some store.now)
+Asks named new entered (Ok (Script store)) = named ≡ Some (codes "script", Some store.now)
+Asks named new entered (Ok (Inspect store)) = named ≡ Some (codes "inspect", Some store.now)
+Asks named new entered (Ok (Crew store workers)) = NamesCrew store.now (Some workers) entered
+Asks named new entered (Ok (Migrate old given)) =
+    (named ≡ Some (codes "migrate", Some old.now)) × (new ≡ Some given.now)
+    × (old.now ≢ given.now)
+Asks named new entered (Ok (Help text)) = ⊥
+Asks named new entered (Err SameStores) = (store : Text)
     × (named ≡ Some (codes "migrate", Some store)) × (new ≡ Some store)
-Asks named new (Err why) = ⊥
+Asks named new entered (Err Workers) = (store : Text) × NamesCrew store None entered
+Asks named new entered (Err why) = ⊥
 
 -- a command is named, and the stores that it wants
 abbrev pub IsNamed : Named → Option Text → Type 0
 IsNamed named new = (named ≡ Some (codes "demo", None))
+    ⊎ (((first : Option Text) × (named ≡ Some (codes "crew", first)))
     ⊎ ((store : Text) × ((named ≡ Some (codes "format", Some store))
     ⊎ ((named ≡ Some (codes "script", Some store))
     ⊎ ((named ≡ Some (codes "inspect", Some store))
-    ⊎ ((given : Text) × (named ≡ Some (codes "migrate", Some store)) × (new ≡ Some given))))))
+    ⊎ ((given : Text) × (named ≡ Some (codes "migrate", Some store))
+    × (new ≡ Some given)))))))
+
+-- a crew over this store, of as many workers as this word says, or the fault of a wrong number
+abbrev pub IsCrew : Text → Option Text → Result Asked WordsFault → Type 0
+IsCrew store workers (Ok (Crew s n)) = (s.now ≡ store) × (workers_of workers ≡ Some n)
+IsCrew store workers (Ok asked) = ⊥
+IsCrew store workers (Err Workers) = workers_of workers ≡ None
+IsCrew store workers (Err why) = ⊥
 
 -- a migration between two names that differ, or the fault of equal ones
 abbrev pub IsMigration : Text → Text → Result Asked WordsFault → Type 0

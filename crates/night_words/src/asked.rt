@@ -16,6 +16,8 @@ pub enum Asked<'a> {
     Script(&'a str),
     /// `inspect STORE`: what the store holds is printed.
     Inspect(&'a str),
+    /// `crew STORE --workers N`: so many threads, 1 to 8, work off the ready tasks of the store.
+    Crew(&'a str, u8),
     /// `migrate OLD NEW`: the file NEW becomes a large store with the state of the small store OLD.
     /// The two names differ.
     Migrate(&'a str, &'a str),
@@ -32,6 +34,8 @@ pub enum WordsFault {
     Mistake(String),
     /// A migration is asked for, but OLD and NEW are one name.
     SameStores,
+    /// A crew is asked for, but of another number of workers than 1 to 8.
+    Workers,
     /// A word is no text in UTF-8.
     NotText,
     /// There was no memory to read the words.
@@ -45,6 +49,7 @@ impl fmt::Display for WordsFault {
         match self {
             WordsFault::Mistake(text) => f.write_str(text.as_str()),
             WordsFault::SameStores => f.write_str("error: OLD and NEW name the same file\n"),
+            WordsFault::Workers => f.write_str("error: --workers takes a number from 1 to 8\n"),
             WordsFault::NotText => f.write_str("error: a word is no text in UTF-8\n"),
             WordsFault::Memory => f.write_str("night: fault 1 Memory\n"),
         }

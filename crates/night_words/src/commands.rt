@@ -2,7 +2,8 @@
 
 ghost use Rattle.std.specs.Prelude.{◌≡◌, false, IfOk};
 ghost use Rattle.clap.specs.Words.{app_of, rule_of};
-ghost use Rattle.night_words.specs.Commands.{demo_line, migrate_line, night, store_line, wanted};
+ghost use Rattle.night_words.specs.Commands.{crew_line, demo_line, migrate_line, night, store_line};
+ghost use Rattle.night_words.specs.Commands.{wanted, workers_option};
 
 use clap::{Arg, ArgAction, Command};
 use std::alloc::{AllocError, Global};
@@ -33,6 +34,7 @@ pub fn night_command<'a>(alloc: Global) -> Result<Command<'a>, AllocError>
         "Example: night inspect jobs.store",
     )?;
     let migrate = migrate_command(alloc)?;
+    let crew = crew_command(alloc)?;
     Command::new(alloc, "night")
         .about("A durable job runner with cancellation scopes")
         .version(VERSION)
@@ -42,7 +44,8 @@ pub fn night_command<'a>(alloc: Global) -> Result<Command<'a>, AllocError>
         .subcommand(format)?
         .subcommand(script)?
         .subcommand(inspect)?
-        .subcommand(migrate)
+        .subcommand(migrate)?
+        .subcommand(crew)
 }
 
 fn demo_command<'a>(alloc: Global) -> Command<'a>
@@ -82,6 +85,29 @@ fn migrate_command<'a>(alloc: Global) -> Result<Command<'a>, AllocError>
             "NEW",
             "The new file; one that is there is emptied",
         ))
+}
+
+/// The command that works off the tasks of a store.
+fn crew_command<'a>(alloc: Global) -> Result<Command<'a>, AllocError>
+    ensures { IfOk result (λ command. app_of command ≡ crew_line) }
+{
+    Command::new(alloc, "crew")
+        .about("Runs the ready tasks of a store, and prints how many were started and finished")
+        .after_help("Example: night crew jobs.store --workers 2")
+        .arg(store_word(alloc, "STORE", "STORE", "The file of the store"))?
+        .arg(workers_word(alloc))
+}
+
+/// The option that says how many workers there are. Its value is read by `readers`.
+fn workers_word<'a>(alloc: Global) -> Arg<'a>
+    ensures rule { rule_of result ≡ workers_option }
+    ensures local { result.global ≡ false }
+{
+    Arg::new(alloc, "workers")
+        .long("workers")
+        .value_name("N")
+        .action(ArgAction::Set)
+        .help("How many threads run tasks, 1 to 8; 4 where it is left out")
 }
 
 /// A word that names a store, which its command wants, and what help calls it.

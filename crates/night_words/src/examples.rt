@@ -4,7 +4,8 @@
 
 ghost use Rattle.std.specs.Prelude.{◌≡◌, ◌∷◌, ℕ, List, [], codes};
 ghost use Rattle.clap.specs.declared.error.kind.ErrorKind.TheVariants as kind;
-ghost use Rattle.night_words.specs.Commands.{faults_of};
+ghost use Rattle.night_words.specs.Commands.{AsksForCrew, IsCausedBy, faults_of};
+ghost use Rattle.night_words.specs.declared.asked.WordsFault.TheVariants.{Workers};
 
 /// `demo` is a command, and the mark behind which no flag stands is no word of it.
 pub fn demo_is_a_command()
@@ -58,6 +59,34 @@ pub fn two_stores_are_wanted()
         ≡ kind.UnknownArgument ∷ [] }
 {}
 
+/// `crew` is a command over a store, of 4 workers where it isn't told of another number.
+pub fn a_crew_is_named()
+    ensures alone { (name : List ℕ)
+        → AsksForCrew (codes "a") 4 (name ∷ codes "crew" ∷ codes "a" ∷ []) }
+    ensures before { (name : List ℕ) → AsksForCrew (codes "a") 1
+        (name ∷ codes "crew" ∷ codes "--workers" ∷ codes "1" ∷ codes "a" ∷ []) }
+    ensures behind { (name : List ℕ) → AsksForCrew (codes "a") 8
+        (name ∷ codes "crew" ∷ codes "a" ∷ codes "--workers=8" ∷ []) }
+    ensures taken { (name : List ℕ)
+        → faults_of (name ∷ codes "crew" ∷ codes "a" ∷ codes "--workers" ∷ codes "1" ∷ []) ≡ [] }
+{}
+
+/// A crew has 1 to 8 workers, told once, and a store.
+pub fn other_crews_are_mistakes()
+    ensures none { (name : List ℕ) → IsCausedBy Workers
+        (name ∷ codes "crew" ∷ codes "a" ∷ codes "--workers=0" ∷ []) }
+    ensures nine { (name : List ℕ) → IsCausedBy Workers
+        (name ∷ codes "crew" ∷ codes "a" ∷ codes "--workers" ∷ codes "9" ∷ []) }
+    ensures zeros { (name : List ℕ) → IsCausedBy Workers
+        (name ∷ codes "crew" ∷ codes "a" ∷ codes "--workers=04" ∷ []) }
+    ensures store { (name : List ℕ)
+        → faults_of (name ∷ codes "crew" ∷ codes "--workers" ∷ codes "4" ∷ [])
+        ≡ kind.MissingRequiredArgument ∷ [] }
+    ensures twice { (name : List ℕ) → faults_of
+        (name ∷ codes "crew" ∷ codes "a" ∷ codes "--workers=1" ∷ codes "--workers=2" ∷ [])
+        ≡ kind.ArgumentConflict ∷ [] }
+{}
+
 /// No words ask for nothing.
 pub fn no_words_are_a_mistake()
     ensures name { (name : List ℕ) → faults_of (name ∷ [])
@@ -67,7 +96,7 @@ pub fn no_words_are_a_mistake()
 
 /// A word that names no command is a mistake, and so is one that is left over.
 pub fn other_words_are_mistakes()
-    ensures unknown { (name : List ℕ) → faults_of (name ∷ codes "crew" ∷ [])
+    ensures unknown { (name : List ℕ) → faults_of (name ∷ codes "work" ∷ [])
         ≡ kind.UnknownArgument ∷ kind.InvalidSubcommand ∷ [] }
     ensures begun { (name : List ℕ) → faults_of (name ∷ codes "dem" ∷ [])
         ≡ kind.UnknownArgument ∷ kind.InvalidSubcommand ∷ [] }

@@ -1,14 +1,14 @@
 //! Reads the words of the command line.
 
 ghost use Rattle.std.specs.Iterator.{Drains};
-ghost use Rattle.std.specs.Prelude.{◌≡◌, ◌↔◌, IfErr, IfOk, map};
+ghost use Rattle.std.specs.Prelude.{◌≡◌, ◌↔◌, IfErr, IfOk, map, option_map};
 ghost use Rattle.std.specs.String.{string_bytes};
 ghost use Rattle.std.specs.Vec.Iter.{into_iter_steps};
 ghost use Rattle.std.specs.declared.io.ErrorKind.TheVariants as system;
-ghost use Rattle.clap.specs.Words.{kind_of};
-ghost use Rattle.night_words.specs.Commands.{Asks, AsksFor, IsAnswer, IsCausedBy, IsMigration};
-ghost use Rattle.night_words.specs.Commands.{IsNamed, IsOfSystem, IsShown, faults_of, named_by};
-ghost use Rattle.night_words.specs.Commands.{new_by};
+ghost use Rattle.clap.specs.Words.{kind_of, subcommand_rows_of};
+ghost use Rattle.night_words.specs.Commands.{Asks, AsksFor, IsAnswer, IsCausedBy, IsCrew};
+ghost use Rattle.night_words.specs.Commands.{IsMigration, IsNamed, IsOfSystem, IsShown, faults_of};
+ghost use Rattle.night_words.specs.Commands.{named_by, new_by, workers_of};
 
 use crate::asked::{Asked, WordsFault};
 use crate::commands::night_command;
@@ -69,13 +69,21 @@ pub fn read_words<'a>(alloc: Global, words: &'a [String]) -> Result<Asked<'a>, W
 /// What the parser's matches ask for: the command that was used, and its stores.
 fn asked_of<'a>(matches: &ArgMatches<'a>) -> Result<Asked<'a>, WordsFault>
     requires { IsNamed (named_by matches.now) (new_by matches.now) }
-    ensures { Asks (named_by matches.now) (new_by matches.now) result }
+    ensures { Asks (named_by matches.now) (new_by matches.now)
+        (subcommand_rows_of matches.now) result }
 {
     let Some((command, inner)) = matches.subcommand() else {
         unreachable!();
     };
     if command == "demo" {
         return Ok(Asked::Demo);
+    }
+    let crews = command == "crew";
+    if crews {
+        return crew(
+            inner.get_str("STORE").unwrap_or(""),
+            inner.get_str("workers"),
+        );
     }
     let Some(store) = inner.get_str("STORE") else {
         unreachable!();
@@ -96,6 +104,29 @@ fn asked_of<'a>(matches: &ArgMatches<'a>) -> Result<Asked<'a>, WordsFault>
         unreachable!();
     };
     migration(store, new)
+}
+
+/// A crew over a store. Another number of workers than 1 to 8 is a mistake.
+fn crew<'a>(store: &'a str, workers: Option<&'a str>) -> Result<Asked<'a>, WordsFault>
+    ensures { IsCrew store.now (option_map (λ word. word.now) workers.entry) result }
+{
+    match workers_of(workers) {
+        Some(workers) => Ok(Asked::Crew(store, workers)),
+        None => Err(WordsFault::Workers),
+    }
+}
+
+/// How many workers a word asks for: one digit from 1 to 8. They are 4 where there is none.
+fn workers_of(text: Option<&str>) -> Option<u8>
+    ensures { result ≡ workers_of (option_map (λ word. word.now) text.entry) }
+{
+    let Some(text) = text else {
+        return Some(4);
+    };
+    match text.as_bytes() {
+        [digit @ b'1'..=b'8'] => Some(*digit - b'0'),
+        _ => None,
+    }
 }
 
 /// A migration between two stores. Two equal names are a mistake.

@@ -6,6 +6,8 @@ mod closed;
 #[cfg(test)]
 mod faults;
 #[cfg(test)]
+mod jobs;
+#[cfg(test)]
 mod nights;
 #[cfg(test)]
 mod runs;

@@ -63,18 +63,24 @@ fn stopped(alloc: Global) -> Result<Shelf, Fail> {
 #[test]
 fn a_stopped_night_is_inspected(rt: HostRuntime) -> Result<(), Fail> {
     let mut shelf = stopped(rt.alloc())?;
-    let printed = run_words(rt.alloc(), &["inspect", "jobs.store"], &mut shelf, "")?;
-    assert_eq!(rt; printed.output.as_str(), INSPECTED);
-    assert_eq!(rt; printed.ended.status, 0);
+    let printed = run_words(&rt, rt.alloc(), &["inspect", "jobs.store"], &mut shelf, "")?;
+    assert_eq!(&rt; printed.output.as_str(), INSPECTED);
+    assert_eq!(&rt; printed.ended.status, 0);
     Ok(())
 }
 
 #[test]
 fn a_stopped_night_is_opened_again(rt: HostRuntime) -> Result<(), Fail> {
     let mut shelf = stopped(rt.alloc())?;
-    let printed = run_words(rt.alloc(), &["script", "jobs.store"], &mut shelf, AGAIN.0)?;
-    assert_eq!(rt; printed.output.as_str(), AGAIN.1);
-    assert_eq!(rt; printed.ended.status, 0);
+    let printed = run_words(
+        &rt,
+        rt.alloc(),
+        &["script", "jobs.store"],
+        &mut shelf,
+        AGAIN.0,
+    )?;
+    assert_eq!(&rt; printed.output.as_str(), AGAIN.1);
+    assert_eq!(&rt; printed.ended.status, 0);
     Ok(())
 }
 
@@ -99,13 +105,13 @@ fn migrated(alloc: Global, small: &Shelf) -> Result<(Shelf, Vec<u8>, Vec<u8>), F
 fn a_stopped_night_is_migrated(rt: HostRuntime) -> Result<(), Fail> {
     let small = stopped(rt.alloc())?;
     let (mut large, printed, old) = migrated(rt.alloc(), &small)?;
-    assert!(rt; printed.as_slice() == b"migrated; events 6\n".as_slice());
-    assert!(rt; old.as_slice() == small.bytes.as_slice(), "the old store");
+    assert!(&rt; printed.as_slice() == b"migrated; events 6\n".as_slice());
+    assert!(&rt; old.as_slice() == small.bytes.as_slice(), "the old store");
     let runs = [("inspect", "", INSPECTED), ("script", AGAIN.0, AGAIN.1)];
     for (word, input, wanted) in runs {
-        let shown = run_words(rt.alloc(), &[word, "new.store"], &mut large, input)?;
-        assert!(rt; shown.output.as_str() == wanted, "{word} {shown:?}");
-        assert!(rt; shown.ended.status == 0, "{word} {shown:?}");
+        let shown = run_words(&rt, rt.alloc(), &[word, "new.store"], &mut large, input)?;
+        assert!(&rt; shown.output.as_str() == wanted, "{word} {shown:?}");
+        assert!(&rt; shown.ended.status == 0, "{word} {shown:?}");
     }
     Ok(())
 }
@@ -125,10 +131,10 @@ fn what_is_no_small_store_is_not_migrated(rt: HostRuntime) -> Result<(), Fail> {
             name: "a",
             bytes: vec![in rt.alloc(); 0u8; size]?,
         };
-        let printed = run_words(rt.alloc(), &["migrate", "a", "b"], &mut shelf, "")?;
-        assert!(rt; printed.ended.status == 3, "{size} {printed:?}");
-        assert!(rt; printed.errors.as_str() == told, "{size} {printed:?}");
-        assert!(rt; printed.output.is_empty(), "{size} {printed:?}");
+        let printed = run_words(&rt, rt.alloc(), &["migrate", "a", "b"], &mut shelf, "")?;
+        assert!(&rt; printed.ended.status == 3, "{size} {printed:?}");
+        assert!(&rt; printed.errors.as_str() == told, "{size} {printed:?}");
+        assert!(&rt; printed.output.is_empty(), "{size} {printed:?}");
     }
     Ok(())
 }
@@ -137,11 +143,45 @@ fn what_is_no_small_store_is_not_migrated(rt: HostRuntime) -> Result<(), Fail> {
 fn a_migration_goes_by_its_words(rt: HostRuntime) -> Result<(), Fail> {
     let mut shelf = stopped(rt.alloc())?;
     let words = ["migrate", "jobs.store", "new.store"];
-    let printed = run_words(rt.alloc(), &words, &mut shelf, "")?;
-    assert!(rt;
+    let printed = run_words(&rt, rt.alloc(), &words, &mut shelf, "")?;
+    assert!(&rt;
         printed.output.as_str() == "migrated; events 6\n",
         "{printed:?}"
     );
-    assert!(rt; printed.ended.status == 0, "{printed:?}");
+    assert!(&rt; printed.ended.status == 0, "{printed:?}");
+    Ok(())
+}
+
+/// A crew over the stopped night: how many workers there are, what is printed, the exit status, and
+/// what is told.
+type Crew = (&'static str, &'static str, u8, &'static str);
+
+/// The opening interrupts task 0 and lets task 1 be ready. There are two lists of jobs.
+static CREWS: [Crew; 3] = [
+    (
+        "--workers=1",
+        "audit ok; starts 1; finishes 1\nacked 9\n",
+        0,
+        "",
+    ),
+    (
+        "--workers=2",
+        "audit ok; starts 1; finishes 1\nacked 9\n",
+        0,
+        "",
+    ),
+    ("--workers=3", "", 4, "night: fault 1 Memory\n"),
+];
+
+#[test]
+fn a_crew_works_off_a_stopped_night(rt: HostRuntime) -> Result<(), Fail> {
+    for (workers, output, status, told) in CREWS {
+        let mut shelf = stopped(rt.alloc())?;
+        let words = ["crew", "jobs.store", workers];
+        let printed = run_words(&rt, rt.alloc(), &words, &mut shelf, "")?;
+        assert!(&rt; printed.output.as_str() == output, "{printed:?}");
+        assert!(&rt; printed.errors.as_str() == told, "{printed:?}");
+        assert!(&rt; printed.ended.status == status, "{printed:?}");
+    }
     Ok(())
 }

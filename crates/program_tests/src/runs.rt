@@ -1,9 +1,15 @@
 //! Runs of the program, and what each printed.
 
 use crate::shelves::Shelf;
-use night_program::{Ended, night};
+use night_program::{CopyJob, Ended, FailJob, SpinJob, night};
 use night_words::WordsFault;
+use run_crew::Job;
 use std::alloc::{AllocError, Global};
+use std::sync::Wait;
+use std::thread::Threads;
+
+/// How many lists of jobs each run has.
+const LISTS: usize = 2;
 
 /// What a run of the program printed, and how it ended.
 #[derive(Debug, Drop)]
@@ -24,18 +30,20 @@ pub fn words_of(alloc: Global, words: &[&str]) -> Result<Vec<String>, AllocError
 }
 
 /// Runs the program with these words over one file.
-pub fn run_words(
+pub fn run_words<R: Threads + Wait + Sync>(
+    rt: &R,
     alloc: Global,
     words: &[&str],
     shelf: &mut Shelf,
     input: &str,
 ) -> Result<Printed, AllocError> {
     let words = words_of(alloc, words)?;
-    run_given(alloc, Ok(words), shelf, input)
+    run_given(rt, alloc, Ok(words), shelf, input)
 }
 
 /// Runs the program with what the system gave for its words.
-pub fn run_given(
+pub fn run_given<R: Threads + Wait + Sync>(
+    rt: &R,
     alloc: Global,
     words: Result<Vec<String>, WordsFault>,
     shelf: &mut Shelf,
@@ -44,7 +52,24 @@ pub fn run_given(
     let mut output = Vec::new(alloc);
     let mut errors = Vec::new(alloc);
     let mut lines = input.as_bytes();
-    let ended = night(alloc, words, shelf, &mut lines, &mut output, &mut errors);
+    let mut jobs: Vec<Vec<Box<dyn Job + Send>>> = Vec::new(alloc);
+    for _ in 0..LISTS {
+        let mut list: Vec<Box<dyn Job + Send>> = Vec::new(alloc);
+        list.push(Box::new(alloc, SpinJob)?)?;
+        list.push(Box::new(alloc, FailJob)?)?;
+        list.push(Box::new(alloc, CopyJob)?)?;
+        jobs.push(list)?;
+    }
+    let ended = night(
+        rt,
+        alloc,
+        words,
+        jobs,
+        shelf,
+        &mut lines,
+        &mut output,
+        &mut errors,
+    );
     Ok(Printed {
         ended,
         output: String::from_utf8_lossy(alloc, output.as_slice())?,

@@ -11,10 +11,35 @@ use std::test::Fail;
 /// Words, the exit status, and a part of what goes to the output and to the errors.
 type Case = (&'static [&'static str], u8, &'static str, &'static str);
 
-static CASES: [Case; 28] = [
+static CASES: [Case; 33] = [
     (&[], 2, "", "Usage: night <COMMAND>"),
     (&[""], 2, "", "unrecognized subcommand ''"),
-    (&["crew", "a"], 2, "", "unrecognized subcommand 'crew'"),
+    (&["work", "a"], 2, "", "unrecognized subcommand 'work'"),
+    (&["crew"], 2, "", "required arguments were not provided"),
+    (
+        &["crew", "a", "--workers", "9"],
+        2,
+        "",
+        "error: --workers takes a number from 1 to 8\n",
+    ),
+    (
+        &["crew", "--help"],
+        0,
+        "Example: night crew jobs.store --workers 2",
+        "",
+    ),
+    (
+        &["crew", "none", "--workers=2"],
+        3,
+        "",
+        "night: fault 2 DiskFailed\n",
+    ),
+    (
+        &["crew", "a", "--workers=1"],
+        3,
+        "",
+        "night: fault 4 WrongSize\n",
+    ),
     (&["format"], 2, "", "required arguments were not provided"),
     (
         &["script", "a", "b"],
@@ -105,14 +130,14 @@ fn empty_file(alloc: Global) -> Shelf {
 fn each_word_has_its_status_and_its_text(rt: HostRuntime) -> Result<(), Fail> {
     for (words, status, output, errors) in CASES {
         let mut shelf = empty_file(rt.alloc());
-        let printed = run_words(rt.alloc(), words, &mut shelf, "derive a root cause\n")?;
+        let printed = run_words(&rt, rt.alloc(), words, &mut shelf, "derive a root cause\n")?;
         let wanted = Ended { status, told: true };
-        assert_eq!(rt; printed.ended, wanted, "{words:?} {printed:?}");
-        assert!(rt;
+        assert_eq!(&rt; printed.ended, wanted, "{words:?} {printed:?}");
+        assert!(&rt;
             is_shown(output, printed.output.as_str()),
             "{words:?} {printed:?}"
         );
-        assert!(rt;
+        assert!(&rt;
             is_shown(errors, printed.errors.as_str()),
             "{words:?} {printed:?}"
         );
@@ -137,10 +162,10 @@ fn words_that_the_system_did_not_give_are_told(rt: HostRuntime) -> Result<(), Fa
     ];
     for (fault, status, line) in cases {
         let mut shelf = empty_file(rt.alloc());
-        let printed = run_given(rt.alloc(), Err(fault), &mut shelf, "")?;
-        assert_eq!(rt; printed.ended, Ended { status, told: true });
-        assert_eq!(rt; printed.errors.as_str(), line);
-        assert!(rt; printed.output.is_empty(), "{line}");
+        let printed = run_given(&rt, rt.alloc(), Err(fault), &mut shelf, "")?;
+        assert_eq!(&rt; printed.ended, Ended { status, told: true });
+        assert_eq!(&rt; printed.errors.as_str(), line);
+        assert!(&rt; printed.output.is_empty(), "{line}");
     }
     Ok(())
 }
@@ -156,8 +181,10 @@ fn an_output_that_takes_nothing_is_told(rt: HostRuntime) -> Result<(), Fail> {
         let mut shelf = empty_file(rt.alloc());
         let mut input: &[u8] = b"scope root\n";
         let ended = night(
+            &rt,
             rt.alloc(),
             given,
+            Vec::new(rt.alloc()),
             &mut shelf,
             &mut input,
             &mut Closed,
@@ -167,8 +194,8 @@ fn an_output_that_takes_nothing_is_told(rt: HostRuntime) -> Result<(), Fail> {
             status: 3,
             told: true,
         };
-        assert_eq!(rt; ended, told, "{words:?}");
-        assert_eq!(rt;
+        assert_eq!(&rt; ended, told, "{words:?}");
+        assert_eq!(&rt;
             errors.as_slice(),
             b"night: output\n".as_slice(),
             "{words:?}"
@@ -184,16 +211,18 @@ fn an_input_that_fails_is_told(rt: HostRuntime) -> Result<(), Fail> {
     let given = Ok(words_of(rt.alloc(), &["demo"])?);
     let mut shelf = empty_file(rt.alloc());
     let ended = night(
+        &rt,
         rt.alloc(),
         given,
+        Vec::new(rt.alloc()),
         &mut shelf,
         &mut Closed,
         &mut output,
         &mut errors,
     );
-    assert_eq!(rt; ended.status, 3);
-    assert_eq!(rt; errors.as_slice(), b"night: input\n".as_slice());
-    assert!(rt; output.is_empty());
+    assert_eq!(&rt; ended.status, 3);
+    assert_eq!(&rt; errors.as_slice(), b"night: input\n".as_slice());
+    assert!(&rt; output.is_empty());
     Ok(())
 }
 
@@ -208,8 +237,10 @@ fn what_could_not_be_told_is_said(rt: HostRuntime) -> Result<(), Fail> {
         let mut shelf = empty_file(rt.alloc());
         let mut input: &[u8] = b"";
         let ended = night(
+            &rt,
             rt.alloc(),
             given,
+            Vec::new(rt.alloc()),
             &mut shelf,
             &mut input,
             &mut output,
@@ -219,7 +250,7 @@ fn what_could_not_be_told_is_said(rt: HostRuntime) -> Result<(), Fail> {
             status,
             told: false,
         };
-        assert_eq!(rt; ended, untold, "{words:?}");
+        assert_eq!(&rt; ended, untold, "{words:?}");
     }
     Ok(())
 }

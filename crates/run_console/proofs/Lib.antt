@@ -10,3 +10,4 @@ pub mod Saving
 pub mod Sizes
 pub mod Troubles
 pub mod Wholes
+pub mod Working

@@ -1,3 +1,4 @@
+pub mod Crews
 pub mod Inspecting
 pub mod Progress
 pub mod SessionLines

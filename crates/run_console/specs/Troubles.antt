@@ -1,5 +1,7 @@
 -- Why the store stopped a run.
 use Rattle.std.specs.Prelude.{◌≡◌, ◌⊎◌, ◌<◌, ◌-◌, ◌^◌, true, false}
+use Rattle.run_model.specs.declared.faults.Fault.{Fault}
+use Rattle.run_model.specs.declared.faults.Fault.TheVariants as of_store
 use Rattle.run_model.specs.declared.faults.Fault.TheVariants.{DiskFailed, NumbersSpent}
 use Rattle.run_model.specs.declared.faults.Trouble.{Trouble}
 use Rattle.run_model.specs.declared.faults.Trouble.TheVariants.{Faulty}
@@ -7,6 +9,11 @@ use Rattle.run_disk.specs.Disk.{DiskState, last_moment}
 use Rattle.book_model.specs.Holdings.{Holding}
 use Rattle.console_lines.specs.declared.faults.RunFault.{RunFault}
 use Rattle.console_lines.specs.declared.faults.RunFault.TheVariants as fault
+
+-- What a fault of a store is to a run: want of memory is told from all else.
+abbrev pub stopped : Fault → RunFault
+stopped of_store.Memory = fault.Memory
+stopped why = fault.Store (Faulty why)
 
 -- A device call failed since, or the disk is spent.
 abbrev pub DeviceFails : {D : Type 0} → (D → DiskState) → Holding D → Holding D → Type 0

@@ -1,11 +1,14 @@
 //! The console: it reads lines, runs each over a book, and writes its reply.
 //!
 //! [`run`] runs a whole input, and [`line`] one line. What is written for a whole input is its
-//! script, as `console_lines` defines it.
+//! script, as `console_lines` defines it. [`crew`] works off the tasks of a store, and tells how
+//! that ended.
 #![tactic(auto)]
 
 mod answers;
 mod consoles;
+mod crews;
+mod faults;
 mod inputs;
 mod inspects;
 mod tallies;
@@ -13,6 +16,8 @@ mod writings;
 
 pub use console_lines::RunFault;
 pub use consoles::{line, run};
+pub use crews::crew;
+pub use faults::stopped;
 pub use inspects::inspect;
 pub use run_book::Book;
 pub use writings::write_whole;

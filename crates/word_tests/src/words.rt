@@ -15,8 +15,12 @@ enum Told {
     Help(&'static str),
     /// This text for help.
     Text(&'static str),
+    /// They ask for a crew of so many workers over this store.
+    Crew(&'static str, u8),
     /// A migration from a store to itself.
     SameStores,
+    /// Another number of workers than a crew may have.
+    Workers,
     /// A mistake whose text has this part, and ends with a line feed.
     Mistake(&'static str),
 }
@@ -48,7 +52,29 @@ static MIGRATIONS: [Case; 7] = [
     (&["migrate", "--", "-a", "-a"], Told::SameStores),
 ];
 
-static HELP: [Case; 8] = [
+static CREWS: [Case; 13] = [
+    (&["crew", "a.disk"], Told::Crew("a.disk", 4)),
+    (
+        &["crew", "a.disk", "--workers", "1"],
+        Told::Crew("a.disk", 1),
+    ),
+    (
+        &["crew", "--workers", "8", "a.disk"],
+        Told::Crew("a.disk", 8),
+    ),
+    (&["crew", "--workers=2", "a.disk"], Told::Crew("a.disk", 2)),
+    (&["crew", "a", "--workers=3"], Told::Crew("a", 3)),
+    (&["crew", "--workers=3", "--", "-a"], Told::Crew("-a", 3)),
+    (&["crew", "a", "--workers", "5", "--"], Told::Crew("a", 5)),
+    (&["crew", "a", "--workers", "0"], Told::Workers),
+    (&["crew", "a", "--workers", "9"], Told::Workers),
+    (&["crew", "a", "--workers", "04"], Told::Workers),
+    (&["crew", "a", "--workers", "+4"], Told::Workers),
+    (&["crew", "a", "--workers="], Told::Workers),
+    (&["crew", "a", "--workers", "two"], Told::Workers),
+];
+
+static HELP: [Case; 9] = [
     (&["--help"], Told::Help("Usage: night <COMMAND>")),
     (&["-h"], Told::Help("Usage: night <COMMAND>")),
     (&["help"], Told::Help("Usage: night <COMMAND>")),
@@ -66,6 +92,10 @@ static HELP: [Case; 8] = [
         &["migrate", "--help"],
         Told::Help("Usage: night migrate <OLD> <NEW>"),
     ),
+    (
+        &["crew", "--help"],
+        Told::Help("Example: night crew jobs.store --workers 2"),
+    ),
 ];
 
 static VERSION: [Case; 2] = [
@@ -73,7 +103,7 @@ static VERSION: [Case; 2] = [
     (&["-V"], Told::Text("night 0.2.0\n")),
 ];
 
-static MISTAKES: [Case; 15] = [
+static MISTAKES: [Case; 19] = [
     (&[], Told::Mistake("Usage: night <COMMAND>")),
     (&[""], Told::Mistake("unrecognized subcommand ''")),
     (
@@ -93,8 +123,24 @@ static MISTAKES: [Case; 15] = [
         Told::Mistake("unexpected argument 'b.disk' found"),
     ),
     (
-        &["crew", "a.disk"],
-        Told::Mistake("unrecognized subcommand 'crew'"),
+        &["work", "a.disk"],
+        Told::Mistake("unrecognized subcommand 'work'"),
+    ),
+    (
+        &["crew"],
+        Told::Mistake("required arguments were not provided"),
+    ),
+    (
+        &["crew", "--workers", "2"],
+        Told::Mistake("required arguments were not provided"),
+    ),
+    (
+        &["crew", "a.disk", "--workers"],
+        Told::Mistake("a value is required for '--workers <N>'"),
+    ),
+    (
+        &["crew", "a", "--workers=1", "--workers=2"],
+        Told::Mistake("cannot be used multiple times"),
     ),
     (
         &["inspect", "-a"],
@@ -149,6 +195,9 @@ fn is_asked(asked: &Asked, told: &Told) -> bool {
         (Asked::Format(store), Told::Store(word, name)) => *word == "format" && store == name,
         (Asked::Script(store), Told::Store(word, name)) => *word == "script" && store == name,
         (Asked::Inspect(store), Told::Store(word, name)) => *word == "inspect" && store == name,
+        (Asked::Crew(store, workers), Told::Crew(name, number)) => {
+            store == name && workers == number
+        }
         (Asked::Migrate(old, new), Told::Migration(from, to)) => old == from && new == to,
         (Asked::Help(text), Told::Help(part)) => text.contains(*part),
         (Asked::Help(text), Told::Text(whole)) => text.as_str() == *whole,
@@ -160,6 +209,9 @@ fn is_asked(asked: &Asked, told: &Told) -> bool {
 fn is_mistake(alloc: Global, fault: &WordsFault, told: &Told) -> Result<bool, AllocError> {
     if matches!(told, Told::SameStores) {
         return Ok(matches!(fault, WordsFault::SameStores));
+    }
+    if matches!(told, Told::Workers) {
+        return Ok(matches!(fault, WordsFault::Workers));
     }
     let Told::Mistake(part) = told else {
         return Ok(false);
@@ -205,6 +257,13 @@ fn a_store_is_named(rt: HostRuntime) -> Result<(), Fail> {
 #[test]
 fn two_stores_are_named(rt: HostRuntime) -> Result<(), Fail> {
     let untold = first_untold(rt.alloc(), &MIGRATIONS)?;
+    assert!(rt; untold.is_none(), "row {untold:?}");
+    Ok(())
+}
+
+#[test]
+fn a_crew_is_named(rt: HostRuntime) -> Result<(), Fail> {
+    let untold = first_untold(rt.alloc(), &CREWS)?;
     assert!(rt; untold.is_none(), "row {untold:?}");
     Ok(())
 }

@@ -7,6 +7,7 @@ pub returns-in-Ok : goal.returns-in-Ok
 returns-in-Ok g c =
     inl (
       c.in-Ok.ensures.formats,
+      c.in-Ok.ensures.rest,
       printed c.write_whole.result (codes "formatted\n") _ _
           c.write_whole.ensures.whole c.write_whole.ensures.cut c.write_whole.ensures.fault,
     )

@@ -23,6 +23,9 @@ returns c =
     let four = c.in_ok-subcommand-4.ensures.shape
     (third_is_false _ _ _ _ (ap plain c.in_ok-inspect.ensures))
     ∙ ap₂ with_subcommand three (ap top c.in_ok-inspect.ensures) in
-    IfOk-weaker c.subcommand-5.result _ _ (λ command added.
-    added.shape (third_is_false _ _ _ _ (ap plain c.in_ok-migrate.ensures))
-    ∙ ap₂ with_subcommand four (ap top c.in_ok-migrate.ensures)) c.subcommand-5.ensures
+    let five = c.in_ok-subcommand-5.ensures.shape
+    (third_is_false _ _ _ _ (ap plain c.in_ok-migrate.ensures))
+    ∙ ap₂ with_subcommand four (ap top c.in_ok-migrate.ensures) in
+    IfOk-weaker c.subcommand-6.result _ _ (λ command added.
+    added.shape (third_is_false _ _ _ _ (ap plain c.in_ok-crew.ensures))
+    ∙ ap₂ with_subcommand five (ap top c.in_ok-crew.ensures)) c.subcommand-6.ensures

@@ -1,7 +1,13 @@
-use Rattle.std.proofs.Common.{◌∙◌, Some, ap, sym}
-use Rattle.night_words.proofs.TakenLemmas.{demo, format, inspect, script}
-use Rattle.night_words.proofs.NamedLemmas.{differ, migrate_left, migration_asks, named_as}
+use Rattle.std.proofs.Common.{◌∙◌, Option, Some, ap, sym}
+use Rattle.std.specs.Prelude.{option_map}
+use Rattle.std.specs.Borrow.{Bor}
+use Rattle.clap.specs.Walk.{Text}
+use Rattle.night_words.proofs.TakenLemmas.{crew, demo, format, inspect, script}
+use Rattle.night_words.proofs.NamedLemmas.{crew_here, differ, migrate_left, migration_asks}
+use Rattle.night_words.proofs.NamedLemmas.{named_as}
 use Rattle.night_words.proofs.NamedLemmas.{named_here, new_here, new_is_there, no_store, same}
+use Rattle.night_words.proofs.NamedLemmas.{unwrapped}
+use Rattle.clap.specs.Words.{subcommand_rows_of}
 use Rattle.night_words.specs.Commands.{named_by, new_by}
 use Rattle.night_words.proofs.readers.asked_of.Goals as goal
 
@@ -12,7 +18,20 @@ unreachable-requires-in_default-get_str c =
     c.in-Some.ensures.name c.in-Some.ensures.rows in
     differ command demo c.eq.result c.eq.ensures c.if-eq.false
     (no_store (named_by c.args.matches.now) (new_by c.args.matches.now) command c.requires
-    (at ∙ ap (λ s. Some (command, s)) (sym c.in_default-get_str.ensures)))
+    (at ∙ ap (λ s. Some (command, s)) (sym c.in_default-get_str.ensures))
+    (differ command crew c.eq-crews.result c.eq-crews.ensures c.if-crews.false))
+
+pub returns-then-crews : goal.returns-then-crews
+returns-then-crews c =
+    let now : Option (Bor Text) → Option Text = option_map (λ s. s.now) in
+    crew_here c.args.matches.now c.in-Some.command c.in-Some.inner
+    c.unwrap_or.result.now (now c.get_str.result) (now c.get_str-then-crews.result)
+    c.crew.result
+    c.in-Some.ensures.name c.in-Some.ensures.rows
+    (same c.in-Some.command.now crew c.eq-crews.result c.eq-crews.ensures c.if-crews.true)
+    c.get_str.ensures
+    (ap (λ (s : Bor Text). s.now) c.unwrap_or.ensures ∙ unwrapped c.get_str.result _)
+    c.get_str-then-crews.ensures c.crew.ensures
 
 pub returns-then-formats : goal.returns-then-formats
 returns-then-formats c =
@@ -49,6 +68,7 @@ unreachable-requires-in_default-get_str-2 c =
     let left = migrate_left (named_by c.args.matches.now) (new_by c.args.matches.now) command
     c.in-Some-get_str.store.now c.requires
     (at ∙ ap (λ s. Some (command, s)) (sym c.in-Some-get_str.ensures))
+    (differ command crew c.eq-crews.result c.eq-crews.ensures c.if-crews.false)
     (differ command format c.eq-formats.result c.eq-formats.ensures c.if-formats.false)
     (differ command script c.eq-scripts.result c.eq-scripts.ensures c.if-scripts.false)
     (differ command inspect c.eq-inspects.result c.eq-inspects.ensures c.if-inspects.false) in
@@ -64,11 +84,13 @@ returns c =
     let left = migrate_left (named_by c.args.matches.now) (new_by c.args.matches.now) command
     c.in-Some-get_str.store.now c.requires
     (at ∙ ap (λ s. Some (command, s)) (sym c.in-Some-get_str.ensures))
+    (differ command crew c.eq-crews.result c.eq-crews.ensures c.if-crews.false)
     (differ command format c.eq-formats.result c.eq-formats.ensures c.if-formats.false)
     (differ command script c.eq-scripts.result c.eq-scripts.ensures c.if-scripts.false)
     (differ command inspect c.eq-inspects.result c.eq-inspects.ensures c.if-inspects.false) in
     migration_asks (named_by c.args.matches.now) (new_by c.args.matches.now)
-    c.in-Some-get_str.store.now c.in-Some-get_str-2.new.now c.migration.result left.0
+    c.in-Some-get_str.store.now c.in-Some-get_str-2.new.now
+    (subcommand_rows_of c.args.matches.now) c.migration.result left.0
     (new_here c.args.matches.now c.in-Some.command c.in-Some.inner c.in-Some.ensures.rows
     ∙ sym c.in-Some-get_str-2.ensures)
     c.migration.ensures

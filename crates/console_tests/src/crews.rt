@@ -1,0 +1,267 @@
+//! Nights of workers over stores: what is printed of each, and what is left.
+
+use crate::asserts::{done, holds};
+use crate::books::{formatted, left, opened, said};
+use crate::runs::night_on;
+use crate::writers::{End, EndingWriter};
+use run_book::Book;
+use run_console::{RunFault, crew};
+use run_crew::{Gate, Job, Turn};
+use run_disk::{FailOnce, FileDisk, MemoryDisk, RunDisk, Torn};
+use run_model::{Fault, Layout, Name, TaskInfo, Text, Trouble};
+use std::alloc::{AllocError, Global};
+use std::fs;
+use std::fs::File;
+use std::io::Write;
+use std::process::Abort;
+use std::sync::Wait;
+use std::thread::Threads;
+
+/// Ends each task: `fail` by its argument, and every other in its third turn, or as `canceled` once
+/// its scope is done.
+#[derive(Drop)]
+struct Plain;
+
+impl Job for Plain {
+    fn handles(&self, _job: &Name) -> bool {
+        true
+    }
+
+    fn turn(&mut self, info: &TaskInfo, turn: u32, done: bool) -> Turn {
+        let is_fail = info.job.as_bytes() == b"fail".as_slice();
+        if !is_fail && !done && turn < 2 {
+            return Turn::More;
+        }
+        let error = if is_fail {
+            info.argument.as_bytes()
+        } else {
+            b"canceled"
+        };
+        match Text::read(error) {
+            Some(error) if is_fail || done => Turn::Failed(error),
+            _ => Turn::Finished,
+        }
+    }
+}
+
+/// Lets each turn pass.
+#[derive(Drop)]
+struct Open;
+
+impl Gate for Open {
+    fn before(&self, _task: u16, _turn: u32) -> bool {
+        true
+    }
+
+    fn finished(&self, _task: u16) {}
+}
+
+/// What a night of so many workers over a disk answers.
+fn worked<D: RunDisk + Drop + Send, W: Write, R: Threads + Wait + Sync>(
+    rt: &R,
+    alloc: Global,
+    disk: D,
+    workers: usize,
+    output: &mut W,
+) -> Result<Result<bool, RunFault>, AllocError> {
+    let mut jobs: Vec<Vec<Box<dyn Job + Send>>> = Vec::new(alloc);
+    for _ in 0..workers {
+        let mut list: Vec<Box<dyn Job + Send>> = Vec::new(alloc);
+        list.push(Box::new(alloc, Plain)?)?;
+        jobs.push(list)?;
+    }
+    Ok(crew(rt, alloc, disk, jobs, &Open, output))
+}
+
+/// The bytes of a small store over which these lines were run.
+fn stored(rt: &impl Abort, alloc: Global, lines: &'static [u8]) -> Vec<u8> {
+    let disk = formatted(rt, alloc, Layout::Small);
+    let (_, disk) = night_on(rt, alloc, disk, lines);
+    left(rt, alloc, &disk, disk.calls(), Torn::Take)
+}
+
+/// Lines of a night, how many workers come then, what they print and what is answered; and lines
+/// behind them, with their replies.
+struct Row {
+    lines: &'static [u8],
+    workers: usize,
+    printed: &'static [u8],
+    answer: Result<bool, RunFault>,
+    asked: &'static [u8],
+    replied: &'static [u8],
+}
+
+static ROWS: [Row; 5] = [
+    // The first error cancels the group's scope.
+    Row {
+        lines: b"group g root\nlimit g 1\ngo g fail x\ngo g spin 3\n",
+        workers: 1,
+        printed: b"audit ok; starts 2; finishes 2\nacked 10\n",
+        answer: Ok(true),
+        asked: b"task 0\ntask 1\nresult g\n",
+        replied: b"task 0 error x\n\
+                   task 1 error canceled\n\
+                   unfinished 0; limit 1; waited no; error x\n\
+                   acked 11\n",
+    },
+    Row {
+        lines: b"bare g root\ngo g spin 3\ngo g spin 3\ngo g spin 3\n",
+        workers: 8,
+        printed: b"audit ok; starts 3; finishes 3\nacked 12\n",
+        answer: Ok(true),
+        asked: b"task 0\ntask 1\ntask 2\n",
+        replied: b"task 0 success\ntask 1 success\ntask 2 success\nacked 13\n",
+    },
+    Row {
+        lines: b"",
+        workers: 2,
+        printed: b"audit ok; starts 0; finishes 0\nacked 2\n",
+        answer: Ok(true),
+        asked: b"",
+        replied: b"acked 3\n",
+    },
+    // A task that nobody could start isn't left, and one that nobody started is.
+    Row {
+        lines: b"bare g root\nlimit g 0\ngo g spin 3\n",
+        workers: 1,
+        printed: b"audit ok; starts 0; finishes 0\nacked 5\n",
+        answer: Ok(true),
+        asked: b"task 0\n",
+        replied: b"task 0 held\nacked 6\n",
+    },
+    Row {
+        lines: b"bare g root\ngo g spin 3\n",
+        workers: 0,
+        printed: b"audit strayed; worker 0; note 1\nacked 4\n",
+        answer: Ok(false),
+        asked: b"task 0\n",
+        replied: b"task 0 ready\nacked 5\n",
+    },
+];
+
+/// The disk over the file of this path.
+fn file_disk<S: fs::Files<File = File>>(rt: &S, path: &str) -> Option<FileDisk> {
+    let file = File::options().read(true).write(true).open(rt, path).ok()?;
+    FileDisk::new(file).ok()
+}
+
+/// Says whether the night of a row, over a file, prints and leaves what it should.
+fn is_worked<R: fs::Files<File = File> + Threads + Wait + Sync + Abort>(
+    rt: &R,
+    alloc: Global,
+    row: &Row,
+) -> Option<bool> {
+    let path = "crew.store";
+    let bytes = stored(rt, alloc, row.lines);
+    fs::write(rt, path, bytes.as_slice()).ok()?;
+    let mut output = Vec::new(alloc);
+    let disk = file_disk(rt, path)?;
+    let answer = worked(rt, alloc, disk, row.workers, &mut output).ok()?;
+    let (replied, _) = night_on(rt, alloc, file_disk(rt, path)?, row.asked);
+    let is_told = output.as_slice() == row.printed && answer == row.answer;
+    Some(is_told && replied.as_slice() == row.replied)
+}
+
+#[test]
+fn a_crew_works_off_a_file(rt: HostRuntime) {
+    for (n, row) in ROWS.iter().enumerate() {
+        let worked = is_worked(&rt, rt.alloc(), row);
+        holds(&rt, worked == Some(true), "night", n);
+    }
+}
+
+/// A store with 64 tasks, behind 66 events.
+fn store_of_64(rt: &impl Abort, alloc: Global) -> MemoryDisk {
+    let mut book = opened(rt, alloc, formatted(rt, alloc, Layout::Small));
+    let mut output = Vec::new(alloc);
+    done(
+        rt,
+        said(alloc, b"group g root", &mut output, &mut book),
+        "group",
+    );
+    for _ in 0..64 {
+        done(
+            rt,
+            said(alloc, b"go g spin 3", &mut output, &mut book),
+            "task",
+        );
+    }
+    done(rt, said(alloc, b"flush", &mut output, &mut book), "flush");
+    book.into_disk()
+}
+
+#[test]
+fn four_workers_work_off_64_tasks(rt: HostRuntime) {
+    let mut output = Vec::new(rt.alloc());
+    let disk = store_of_64(&rt, rt.alloc());
+    let answer = done(&rt, worked(&rt, rt.alloc(), disk, 4, &mut output), "jobs");
+    holds(&rt, answer == Ok(true), "answer", 0);
+    let printed = b"audit ok; starts 64; finishes 64\nacked 195\n";
+    holds(&rt, output.as_slice() == printed.as_slice(), "text", 0);
+}
+
+/// The call of a device that fails, behind the ten of an opening, under one worker with one task;
+/// and what is printed then. A flush makes six calls, and the last one is refused by a book that
+/// broke before.
+static FAILED: [(u64, &[u8]); 4] = [
+    (11, b"audit strayed; worker 1; note 1\n"),
+    (16, b"audit strayed; worker 1; note 1\n"),
+    (17, b"audit ok; starts 1; finishes 1\n"),
+    (22, b"audit ok; starts 1; finishes 1\n"),
+];
+
+/// The store's fault of a device.
+const DEVICE: RunFault = RunFault::Store(Trouble::Faulty(Fault::DiskFailed));
+
+#[test]
+fn a_night_whose_device_fails_acknowledges_nothing(rt: HostRuntime) {
+    for (call, printed) in FAILED {
+        let bytes = stored(&rt, rt.alloc(), b"bare g root\ngo g spin 3\n");
+        let disk = done(&rt, MemoryDisk::from_bytes(rt.alloc(), bytes), "disk");
+        let mut output = Vec::new(rt.alloc());
+        let disk = FailOnce::new(disk, call);
+        let answer = done(&rt, worked(&rt, rt.alloc(), disk, 1, &mut output), "jobs");
+        holds(&rt, answer == Err(DEVICE), "fault at call", call as usize);
+        let is_told = output.as_slice() == printed;
+        holds(&rt, is_told, "text at call", call as usize);
+    }
+}
+
+/// How many bytes of zeros there are, and why they are no store.
+static UNOPENED: [(usize, Fault); 2] = [(1_572_864, Fault::NotAStore), (100, Fault::WrongSize)];
+
+#[test]
+fn what_is_no_store_has_no_night(rt: HostRuntime) {
+    for (size, fault) in UNOPENED {
+        let disk = done(&rt, MemoryDisk::new(rt.alloc(), size), "disk");
+        let mut output = Vec::new(rt.alloc());
+        let answer = done(&rt, worked(&rt, rt.alloc(), disk, 1, &mut output), "jobs");
+        let told = Err(RunFault::Store(Trouble::Faulty(fault)));
+        holds(&rt, answer == told, "fault at size", size);
+        holds(&rt, output.is_empty(), "nothing at size", size);
+    }
+}
+
+/// How many writes of 10 bytes are taken, what the next one does, and what was written.
+static CUT: [(usize, End, &[u8]); 3] = [
+    (0, End::Fails, b""),
+    (2, End::TakesNothing, b"audit ok; starts 1; "),
+    (4, End::Fails, b"audit ok; starts 1; finishes 1\nacked 6\n"),
+];
+
+#[test]
+fn a_night_that_can_not_be_told_has_a_front_out(rt: HostRuntime) {
+    for (n, (left, end, printed)) in CUT.iter().enumerate() {
+        let bytes = stored(&rt, rt.alloc(), b"bare g root\ngo g spin 3\n");
+        let disk = done(&rt, MemoryDisk::from_bytes(rt.alloc(), bytes), "disk");
+        let mut output = EndingWriter::new(Vec::new(rt.alloc()), 10, *left, *end);
+        let answer = done(&rt, worked(&rt, rt.alloc(), disk, 1, &mut output), "jobs");
+        let wanted = if *left == 4 {
+            Ok(true)
+        } else {
+            Err(RunFault::Output)
+        };
+        holds(&rt, answer == wanted, "answer", n);
+        holds(&rt, output.into_written().as_slice() == *printed, "text", n);
+    }
+}

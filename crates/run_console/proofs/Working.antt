@@ -1,0 +1,48 @@
+-- What a night of workers leaves.
+use Rattle.std.proofs.Common.{◌∙◌, arith, ap, inl, inr, refl, subst, sym}
+use Rattle.std.specs.Prelude.{◌≡◌, ◌≤◌, ◌+◌, ◌++◌, ℕ, [], List, Option, Result, Ok, Err, ⊤, IfOk}
+use Rattle.std.specs.Prelude.{length}
+use Rattle.run_model.specs.declared.faults.Trouble.{Trouble}
+use Rattle.record_view.specs.Records.{events_in}
+use Rattle.record_view.proofs.Walks.{events_in_records, no_records}
+use Rattle.run_disk.specs.Disk.{DiskState}
+use Rattle.run_session.specs.Logged.{Logged, Replays, begun_at}
+use Rattle.run_session.proofs.Replaying.{count_is}
+use Rattle.book_model.specs.Holdings.{Saves}
+use Rattle.run_book.specs.Views.{BookView, holding}
+use Rattle.run_crew.specs.declared.audits.Strayed.{Strayed}
+use Rattle.run_crew.specs.Desks.{finishes_of, history_of, starts_of}
+
+-- A book that was just opened has no history.
+no_history : {D : Type 0} (b : BookView D) → b.session ≡ begun_at b.session.start
+    → history_of b ≡ []
+no_history b begun =
+    ap (λ (s : Logged). events_in s.log) begun ∙ events_in_records [] [] no_records
+
+pub no_starts : {D : Type 0} (b : BookView D) → b.session ≡ begun_at b.session.start
+    → starts_of (history_of b) ≡ 0
+no_starts b begun = ap starts_of (no_history b begun)
+
+pub no_finishes : {D : Type 0} (b : BookView D) → b.session ≡ begun_at b.session.start
+    → finishes_of (history_of b) ≡ 0
+no_finishes b begun = ap finishes_of (no_history b begun)
+
+-- A flush acknowledges all events.
+pub acknowledged : {D : Type 0} (state : D → DiskState) (b d : BookView D) (r : Result ℕ Trouble)
+    → Replays d.session → d.session ≡ b.session → Saves state (holding b) r (holding d)
+    → IfOk r (λ count. (count ≡ d.session.state.count) × (d.durable ≡ count))
+acknowledged state b d (Err why) replays same saves = tt
+acknowledged state b d (Ok n) replays same saves = (
+  saves.answer.counted
+      ∙ ap (λ (s : Logged). s.start.count + length (events_in s.log)) (sym same)
+      ∙ sym (count_is d.session replays),
+  saves.answer.durable,
+)
+
+-- What the shares count, by what they had and by the notes.
+pub shares_count : (s0 f0 s1 f1 starts finishes given notes workers : ℕ)
+    → s0 ≡ 0 → f0 ≡ 0 → f1 ≡ f0 + given → s0 + given ≤ s1 → s1 ≤ s0 + given + workers
+    → starts ≡ s1 → finishes ≡ f1 → notes ≡ given
+    → (finishes ≡ notes) × (finishes ≤ starts) × (starts ≤ finishes + workers)
+shares_count s0 f0 s1 f1 starts finishes given notes workers a b c d e f g h =
+    (omega (arith, b, c, g, h), omega (arith, a, b, c, d, f, g), omega (arith, a, b, c, e, f, g))

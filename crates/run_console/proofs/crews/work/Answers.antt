@@ -1,0 +1,35 @@
+use Rattle.std.proofs.Common.{◌∙◌, ap}
+use Rattle.run_crew.specs.Notes.{noted}
+use Rattle.run_crew.specs.Seats.{SeatView}
+use Rattle.run_console.proofs.Working.{acknowledged, no_finishes, no_starts, shares_count}
+use Rattle.run_console.proofs.crews.work.Goals as goal
+
+pub returns-clause-worked : goal.returns-clause-worked
+returns-clause-worked g c =
+    let begun = c.requires.begun in
+    let counts = shares_count _ _ _ _ _ _ _ _ _
+    (ap (λ (s : SeatView). s.starts) c.new-desk.ensures.seat ∙ no_starts c.args.book begun)
+    (ap (λ (s : SeatView). s.finishes) c.new-desk.ensures.seat ∙ no_finishes c.args.book begun)
+    c.in_ok-lists.ensures.finishes c.in_ok-lists.ensures.starts c.in_ok-lists.ensures.one_more
+    c.settle-starts.ensures.counted.0 c.settle-starts.ensures.counted.1
+    (ap noted c.as_slice.ensures.value) in
+    record {
+      book = c.into_inner-desk.result.book;
+      desk = c.flush-flushed.new.self;
+      lists = c.as_slice.result.now;
+      flushes = c.flush-flushed.ensures.flushes;
+      session = c.flush-flushed.ensures.session;
+      acked = acknowledged g.D.RunDisk.state c.into_inner-desk.result.book
+          c.flush-flushed.new.self.book c.flush-flushed.result c.book-book.ensures.replays
+          c.flush-flushed.ensures.session c.flush-flushed.ensures.flushes.saves;
+      replays = c.book-book.ensures.replays;
+      durable = c.book-book.ensures.images;
+      audit = c.audit-audited.ensures.answer;
+      exactly = c.audit-audited.ensures.exactly;
+      started = c.settle-starts.ensures.history.0;
+      finished = c.settle-starts.ensures.history.1;
+      each_has_a_list = c.as_slice.ensures.len ∙ c.in_ok-lists.ensures.workers;
+      each_is_noted = counts.0;
+      each_was_started = counts.1;
+      one_more_at_most = counts.2;
+    }

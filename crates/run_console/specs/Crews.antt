@@ -1,0 +1,105 @@
+-- A night of worker threads over a store: what it leaves, and what is told of it.
+use Rattle.std.specs.Prelude.{◌≡◌, ◌⊎◌, ◌≤◌, ◌+◌, ◌++◌, ℕ, List, length, Bool, Option, Result, Ok}
+use Rattle.std.specs.Prelude.{Err}
+use Rattle.std.specs.Prelude.{⊤, [], codes, is_ok, IfOk, MatchResult, OnOk}
+use Rattle.std.specs.Fmt.{decimal}
+use Rattle.std.specs.Io.KnownBytes.{Appends}
+use Rattle.std.specs.List.Sorted.{IsPermutation}
+use Rattle.run_model.specs.declared.faults.Fault.{Fault}
+use Rattle.run_model.specs.declared.faults.Fault.TheVariants.{DiskFailed}
+use Rattle.run_model.specs.declared.faults.Trouble.{Trouble}
+use Rattle.run_model.specs.declared.faults.Trouble.TheVariants.{Refused, Faulty}
+use Rattle.run_disk.specs.Disk.{DiskState}
+use Rattle.run_session.specs.Logged.{Replays, begun_at}
+use Rattle.book_model.specs.Holdings.{Flushes, IsDurable}
+use Rattle.book_model.specs.Openings.{HasOpened, OpensNot}
+use Rattle.run_book.specs.Views.{BookView, holding}
+use Rattle.run_crew.specs.declared.audits.Strayed.{Strayed}
+use Rattle.run_crew.specs.declared.notes.Note.{Note}
+use Rattle.run_crew.specs.Audits.{HasStrayed, IsComplete, made_at}
+use Rattle.run_crew.specs.Desks.{DeskView, finishes_of, history_of, starts_of}
+use Rattle.run_crew.specs.Notes.{all_notes, noted}
+use Rattle.console_lines.specs.declared.faults.RunFault.{RunFault}
+use Rattle.console_lines.specs.declared.faults.RunFault.TheVariants.{Memory, Output, Store}
+use Rattle.console_lines.specs.declared.replies.Reply.TheVariants as said
+use Rattle.console_lines.specs.Progress.{WritesPart}
+use Rattle.console_lines.specs.Replies.{reply_line}
+use Rattle.run_console.specs.Troubles.{stopped}
+
+-- ---- what is told
+
+-- A line of two numbers, each behind its words.
+abbrev pub numbers_line : List ℕ → ℕ → List ℕ → ℕ → List ℕ
+numbers_line before one between other =
+    before ++ decimal one ++ between ++ decimal other ++ codes "\n"
+
+-- What is told of an audit: how many starts and finishes the history has, or what strays first.
+abbrev pub audit_line : Result ⊤ Strayed → (starts finishes : ℕ) → List ℕ
+audit_line (Ok done) starts finishes =
+    numbers_line (codes "audit ok; starts ") starts (codes "; finishes ") finishes
+audit_line (Err strayed) starts finishes =
+    numbers_line (codes "audit strayed; worker ") strayed.worker (codes "; note ") strayed.note
+
+-- What is told behind it: how many events are durable, where the last flush was done.
+abbrev pub flush_line : Result ℕ Trouble → List ℕ
+flush_line (Ok count) = reply_line (said.Acked count)
+flush_line (Err why) = []
+
+-- A flush is refused only by a book that a failed device call broke before.
+abbrev pub of_device : Trouble → Trouble
+of_device (Refused why) = Faulty DiskFailed
+of_device (Faulty why) = Faulty why
+
+-- What is answered where all was told: whether the audit is Ok, or the fault of the last flush.
+abbrev pub told_of : Result ⊤ Strayed → Result ℕ Trouble → Result Bool RunFault
+told_of audited (Ok count) = Ok (is_ok audited)
+told_of audited (Err why) = Err (Store (of_device why))
+
+-- The audit and the last flush were told whole; or the writer failed, and a part was told.
+abbrev pub IsTold : Result ⊤ Strayed → (starts finishes : ℕ) → Result ℕ Trouble
+    → Result Bool RunFault → (w0 w1 : Option (List ℕ)) → Type 0
+IsTold audited starts finishes flushed answer w0 w1 =
+    let text = audit_line audited starts finishes ++ flush_line flushed in
+    ((answer ≡ told_of audited flushed) × Appends w0 w1 text)
+    ⊎ ((answer ≡ Err Output) × WritesPart w0 w1 text)
+
+-- ---- what the night leaves
+
+-- So many workers left a desk, whose book was flushed then, and a list of notes each.
+pub record IsWorked {D : Type 0} (state : D → DiskState) (workers : ℕ)
+    (audited : Result ⊤ Strayed) (starts finishes : ℕ) (flushed : Result ℕ Trouble) : Type 0
+  where
+    -- the book as the threads left it, and the desk behind its flush
+    pub book : BookView D
+    pub desk : DeskView D
+    pub lists : List (List Note)
+    pub flushes : Flushes state (holding book) flushed (holding desk.book)
+    pub session : desk.book.session ≡ book.session
+    pub acked : IfOk flushed (λ count. (count ≡ desk.book.session.state.count)
+        × (desk.book.durable ≡ count))
+    pub replays : Replays desk.book.session
+    pub durable : IsDurable state (holding desk.book)
+    pub audit : MatchResult audited (λ _. IsComplete desk lists)
+        (λ strayed. HasStrayed desk lists strayed)
+    pub exactly : OnOk audited (IsPermutation (made_at desk) (all_notes lists))
+    pub started : starts ≡ starts_of (history_of desk.book)
+    pub finished : finishes ≡ finishes_of (history_of desk.book)
+    pub each_has_a_list : length lists ≡ workers
+    pub each_is_noted : finishes ≡ noted lists
+    pub each_was_started : finishes ≤ starts
+    pub one_more_at_most : starts ≤ finishes + workers
+
+-- A night over a disk: no book was opened, the fault tells why, and nothing was told. Or a book was
+-- opened; and memory or a thread was wanting then, and nothing was told, or the workers worked, and
+-- it was told what they left.
+abbrev pub CrewEnds : {D : Type 0} → (D → DiskState) → (given : D) → (workers : ℕ)
+    → Result Bool RunFault → (w0 w1 : Option (List ℕ)) → Type 0
+CrewEnds {D = D} state given workers answer w0 w1 =
+    ((why : Fault) × (left : D) × (answer ≡ Err (stopped why)) × OpensNot state given why left
+    × (w1 ≡ w0))
+    ⊎ ((b : BookView D) × HasOpened state given (holding b)
+    × (b.session ≡ begun_at b.session.start)
+    × (((answer ≡ Err Memory) × (w1 ≡ w0))
+    ⊎ ((audited : Result ⊤ Strayed) × (starts : ℕ) × (finishes : ℕ) × (flushed : Result ℕ Trouble)
+    × IsWorked state workers audited starts finishes flushed
+    × IsTold audited starts finishes flushed answer w0 w1)))

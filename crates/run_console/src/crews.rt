@@ -1,0 +1,212 @@
+//! A night of worker threads over a store, and what is told of it.
+
+ghost use Rattle.std.specs.Prelude.{◌≡◌, ◌+◌, ◌++◌, ◌<◌, ◌≤◌, codes, length, vec_len};
+ghost use Rattle.std.specs.Prelude.{IfErr, IfOk};
+ghost use Rattle.std.specs.Fmt.{decimal};
+ghost use Rattle.arrayvec.specs.ArrayVec.{array_vec_len};
+ghost use Rattle.run_model.specs.declared.faults.Fault.TheVariants.{Memory};
+ghost use Rattle.run_session.specs.Logged.{begun_at};
+ghost use Rattle.console_lines.specs.Gathers.{Gathers};
+ghost use Rattle.run_console.specs.Crews.{CrewEnds, IsTold, IsWorked, audit_line, flush_line};
+ghost use Rattle.run_console.specs.Crews.{numbers_line, told_of};
+
+use crate::faults::{of_device, stopped};
+use crate::writings::{Gathered, write_gathered};
+use console_lines::{Reply, RunFault};
+use itoa::Buffer;
+use run_book::Book;
+use run_crew::{Desk, Gate, Job, Strayed, audit, run_night};
+use run_disk::RunDisk;
+use run_model::{Fault, Trouble};
+use std::alloc::Global;
+use std::io::Write;
+use std::marker::Brand;
+use std::sync::ledger::{Blank, Ledger};
+use std::sync::{Mutex, Wait};
+use std::thread::Threads;
+
+/// Opens the store on a disk, works off its ready tasks by one thread for each list of jobs, as
+/// [`run_night`] does, and prints what an audit says of the night: `audit ok; starts S; finishes F`
+/// with the starts and the finishes since the opening, or `audit strayed; worker W; note K`. Behind
+/// it `acked N`, with the number of all events, which are durable then. The answer is whether the
+/// audit is Ok.
+///
+/// `Memory` where a growth or the start of a thread was refused; and a fault of the opening is
+/// `Store`. Nothing is printed then. Where the last flush isn't done, the audit's line alone is
+/// printed, and the fault is `Store`, too: that of a device for a book that broke before. `Output`
+/// where not all could be printed.
+pub fn crew<D: RunDisk + Drop + Send, G: Gate + Sync, R: Threads + Wait + Sync, W: Write>(
+    rt: &R,
+    alloc: Global,
+    disk: D,
+    jobs: Vec<Vec<Box<dyn Job + Send>>>,
+    gate: &G,
+    output: &mut W,
+) -> Result<bool, RunFault>
+    ensures { CrewEnds D.state disk (vec_len jobs) result
+        (W.contents output.old) (W.contents output.new) }
+{
+    let book = match Book::open(alloc, disk) {
+        Ok(book) => book,
+        Err((fault, _)) => return Err(stopped(fault)),
+    };
+    let parts = jobs.len() as u64 + 1;
+    let starts = Blank::new(parts);
+    let finishes = Blank::new(parts);
+    match work::<D, Brand, Brand, G, R>(rt, alloc, book, jobs, gate, starts, finishes) {
+        Ok(night) => tell(&night, output),
+        Err(fault) => Err(stopped(fault)),
+    }
+}
+
+/// What is told of a night.
+#[derive(Clone, Copy)]
+struct Night {
+    audited: Result<(), Strayed>,
+    starts: u64,
+    finishes: u64,
+    flushed: Result<u64, Trouble>,
+}
+
+/// A night over a book that was just opened, for any two ledgers.
+fn work<
+    D: RunDisk + Drop + Send,
+    S: Ledger + Send + Sync,
+    F: Ledger + Send + Sync,
+    G: Gate + Sync,
+    R: Threads + Wait + Sync,
+>(
+    rt: &R,
+    alloc: Global,
+    book: Book<D>,
+    jobs: Vec<Vec<Box<dyn Job + Send>>>,
+    gate: &G,
+    starts: Blank,
+    finishes: Blank,
+) -> Result<Night, Fault>
+    requires starts { (starts.name ≡ S.name) × (starts.parts ≡ S.parts)
+        × (vec_len jobs < S.parts) }
+    requires finishes { (finishes.name ≡ F.name) × (finishes.parts ≡ F.parts)
+        × (vec_len jobs < F.parts) }
+    requires begun { book.session ≡ begun_at book.session.start }
+    ensures worked { IfOk result (λ night. IsWorked D.state (vec_len jobs)
+        night.audited night.starts night.finishes night.flushed) }
+    ensures fault { IfErr result (λ fault. fault ≡ Memory) }
+{
+    let (desk, mut seat) = Desk::<D, S, F>::new(book, starts, finishes);
+    let shared = Mutex::new(desk);
+    let (lists, _) = run_night(rt, alloc, &shared, &mut seat, jobs, gate)?;
+    let mut desk = shared.into_inner();
+    // What the night's own last flush answers, no clause can tie to this desk. Behind one that was
+    // done this one finds nothing to do.
+    let flushed = desk.flush();
+    let _book = desk.book();
+    let audited = audit(&desk, lists.as_slice());
+    let (starts, finishes) = desk.settle(&mut seat);
+    Ok(Night {
+        audited,
+        starts,
+        finishes,
+        flushed,
+    })
+}
+
+/// Prints what is told of a night. It takes no memory.
+fn tell<W: Write>(night: &Night, output: &mut W) -> Result<bool, RunFault>
+    ensures { IsTold night.now.audited night.now.starts night.now.finishes night.now.flushed
+        result (W.contents output.old) (W.contents output.new) }
+{
+    let mut gathered = Gathered::new();
+    gather_night(night, &mut gathered);
+    write_gathered(&mut gathered, output)?;
+    told(night)
+}
+
+/// What is answered where all was told.
+fn told(night: &Night) -> Result<bool, RunFault>
+    ensures { result ≡ told_of night.now.audited night.now.flushed }
+{
+    match night.flushed {
+        Ok(_) => Ok(night.audited.is_ok()),
+        Err(trouble) => Err(RunFault::Store(of_device(trouble))),
+    }
+}
+
+/// Gathers the line of the audit and, where the last flush was done, that of what is durable.
+fn gather_night(night: &Night, gathered: &mut Gathered)
+    requires { array_vec_len gathered.old + 1024 ≤ 8192 }
+    ensures { gathered.new.items ≡ gathered.old.items ++ (audit_line night.now.audited
+        night.now.starts night.now.finishes ++ flush_line night.now.flushed) }
+{
+    gather_audit(night, gathered);
+    if let Ok(count) = night.flushed {
+        Reply::Acked(count).gather(gathered);
+    }
+}
+
+/// Gathers the line of an audit.
+fn gather_audit(night: &Night, gathered: &mut Gathered)
+    requires { array_vec_len gathered.old + 128 ≤ 8192 }
+    ensures { Gathers gathered.old.items gathered.new.items
+        (audit_line night.now.audited night.now.starts night.now.finishes) 128 }
+{
+    match night.audited {
+        Ok(()) => push_numbers(
+            gathered,
+            b"audit ok; starts ",
+            night.starts,
+            b"; finishes ",
+            night.finishes,
+        ),
+        Err(strayed) => push_numbers(
+            gathered,
+            b"audit strayed; worker ",
+            strayed.worker as u64,
+            b"; note ",
+            strayed.note as u64,
+        ),
+    }
+}
+
+/// A line of two numbers, each behind its words.
+fn push_numbers(gathered: &mut Gathered, before: &[u8], one: u64, between: &[u8], other: u64)
+    requires room { array_vec_len gathered.old + 128 ≤ 8192 }
+    requires few { length before.now + length between.now ≤ 40 }
+    ensures { Gathers gathered.old.items gathered.new.items
+        (numbers_line before.now one between.now other) 128 }
+{
+    push(gathered, before);
+    push_number(gathered, one);
+    push_last(gathered, between, other);
+}
+
+/// The second of the numbers, behind its words, and the line's end.
+fn push_last(gathered: &mut Gathered, between: &[u8], other: u64)
+    requires { array_vec_len gathered.old + length between.now + 21 ≤ 8192 }
+    ensures { Gathers gathered.old.items gathered.new.items
+        (between.now ++ decimal other ++ codes "\n") (length between.now + 21) }
+{
+    push(gathered, between);
+    push_number(gathered, other);
+    push(gathered, b"\n");
+}
+
+/// A number has at most 20 digits.
+fn push_number(gathered: &mut Gathered, number: u64)
+    requires { array_vec_len gathered.old + 20 ≤ 8192 }
+    ensures { Gathers gathered.old.items gathered.new.items (decimal number) 20 }
+{
+    let mut digits = Buffer::new();
+    push(gathered, digits.format(number).as_bytes());
+}
+
+/// All of these bytes.
+fn push(gathered: &mut Gathered, bytes: &[u8])
+    requires { array_vec_len gathered.old + length bytes.now ≤ 8192 }
+    ensures { Gathers gathered.old.items gathered.new.items bytes.now (length bytes.now) }
+{
+    match gathered.try_extend_from_slice(bytes) {
+        Ok(()) => (),
+        Err(_) => unreachable!(),
+    }
+}
