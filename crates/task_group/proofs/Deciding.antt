@@ -1,6 +1,6 @@
 -- What the answer of a test decides: whether the event that it is asked for is allowed.
 use Rattle.std.specs.Prelude.{nat_le}
-use Rattle.std.proofs.Common.{◌≡◌, ◌<◌, ℕ, Bool, true, false, not, ◌&&◌, [], ◌∷◌, length, Option}
+use Rattle.std.proofs.Common.{◌≡◌, ℕ, Bool, true, false, not, ◌&&◌, [], ◌∷◌, length, Option}
 use Rattle.std.proofs.Common.{Some, None, List, Result, Ok, is_ok, slice_get, get_or, refl, sym}
 use Rattle.std.proofs.Common.{ap, subst, ◌∙◌}
 use Rattle.std.proofs.Math.Dec.{ltb}

@@ -30,7 +30,8 @@ returns-then-not-is_cancellable-clause-refusal g c =
     (cancel_asked c.args.self.now c.args.s (option_copied c.args.cause) c.in-Some.row.now false _ _
     found (sym c.is_cancellable.ensures ∙ c.if-not-is_cancellable.true) refl refl)
 
-pub returns-then-not-is_cancellable-clause-decides : goal.returns-then-not-is_cancellable-clause-decides
+pub returns-then-not-is_cancellable-clause-decides :
+    goal.returns-then-not-is_cancellable-clause-decides
 returns-then-not-is_cancellable-clause-decides g c =
     cancel_decided c.args.self.now c.args.s (option_copied c.args.cause) _
     (returns-then-not-is_cancellable-clause-refusal g c)
