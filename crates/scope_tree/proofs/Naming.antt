@@ -179,6 +179,14 @@ name_ticked e now row = by_due (hit_due e now row.kind)
     by_due None = refl
     by_due (Some hit) = refl
 
+pub parent_ticked : (e now : ℕ) (row : Scope) → (tick e now row).parent ≡ row.parent
+parent_ticked e now row = by_due (hit_due e now row.kind)
+  where
+    by_due : (due : Option Hit) → (option_map_or (λ hit. with_hit hit row) due row).parent
+        ≡ row.parent
+    by_due None = refl
+    by_due (Some hit) = refl
+
 pub names_ticked : (e now : ℕ) (rows : List Scope)
     → names_of (map (tick e now) rows) ≡ names_of rows
 names_ticked e now [] = refl

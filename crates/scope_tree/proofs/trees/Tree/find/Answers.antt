@@ -1,0 +1,11 @@
+use Rattle.std.proofs.Common.{◌≡◌, ap, subst, ◌∙◌}
+use Rattle.std.specs.List.{position}
+use Rattle.std.specs.Str.{bytes_eq}
+use Rattle.run_model.specs.State.{TreeState}
+use Rattle.scope_tree.proofs.trees.Tree.find.Goals as goal
+
+pub returns : goal.returns
+returns g c =
+    subst (λ rows. c.place_of.result ≡ position (λ row. bytes_eq c.args.name.now row.name) rows)
+    (c.deref.ensures.value ∙ ap (λ (t : TreeState). t.scopes) c.self.view_is)
+    c.place_of.ensures
