@@ -11,10 +11,12 @@ mod crowds;
 #[cfg(test)]
 mod images;
 #[cfg(test)]
+mod names;
+#[cfg(test)]
 mod plain;
 #[cfg(test)]
 mod randoms;
 #[cfg(test)]
-mod runners;
+mod steps;
 #[cfg(test)]
 mod tests;
