@@ -1,6 +1,6 @@
 //! Calls that change groups, each made only where its own test allows it.
 
-use crate::names::{limit, name, text};
+use crate::values::{limit, name, text};
 use run_model::{Limit, Name, Refusal, Text};
 use std::alloc::Allocator;
 use std::process::Abort;

@@ -3,9 +3,9 @@
 use crate::asserts::{done, holds};
 use crate::calls::Call::{Go, Limit as Most, Lose, Make, Retry, Start, Succeed, Try, Wait};
 use crate::calls::{make, set_limit};
-use crate::names::{FIRST, SECOND, limit, name};
 use crate::steps::Step::{self, Is, Look, Names, Phase, Restart, Room, Running};
 use crate::steps::{At, begun, is_so, play};
+use crate::values::{FIRST, SECOND, limit, name};
 use linked_list_allocator::LocalHeap;
 use run_model::{Fault, Layout, Refusal};
 use std::alloc::{Allocator, Global};

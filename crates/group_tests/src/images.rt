@@ -2,8 +2,8 @@
 //! break one each, each number of rows one too great, and the greatest work.
 
 use crate::asserts::{done, holds};
-use crate::names::{FIRST, SECOND};
 use crate::steps::{At, Step, begun, play};
+use crate::values::{FIRST, SECOND};
 use record_view::{ImageHead, ImageVersion};
 use run_model::{Fault, Layout};
 use std::alloc::Global;

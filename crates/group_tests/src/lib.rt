@@ -11,8 +11,6 @@ mod crowds;
 #[cfg(test)]
 mod images;
 #[cfg(test)]
-mod names;
-#[cfg(test)]
 mod plain;
 #[cfg(test)]
 mod randoms;
@@ -20,3 +18,5 @@ mod randoms;
 mod steps;
 #[cfg(test)]
 mod tests;
+#[cfg(test)]
+mod values;

@@ -2,7 +2,7 @@
 
 use crate::asserts::done;
 use crate::calls::{Call, Reply};
-use crate::names::{limit, name, text};
+use crate::values::{limit, name, text};
 use run_model::{Group, Name, Phase, Refusal, Stage, Task, Text};
 use std::alloc::Global;
 use std::process::Abort;

@@ -61,9 +61,9 @@ fn read<D: RunDisk>(
     disk.read_at(at, out)
 }
 
-/// Whether a read of as many bytes as these, at most 16, gives them.
+/// Whether a read of as many bytes as these, at most 64, gives them.
 fn reads<D: RunDisk>(rt: &impl Abort, disk: &mut D, at: u64, wanted: &[u8]) -> bool {
-    let mut bytes = [9; 16];
+    let mut bytes = [9; 64];
     let Some(out) = bytes.get_mut(..wanted.len()) else {
         return false;
     };
