@@ -1,10 +1,12 @@
 //! The rows of groups and tasks in images, written and read: rows that keep the rules and rows that
 //! break one each, each number of rows one too great, and the greatest work.
 
-use crate::asserts::{done, holds, same};
+use crate::asserts::{done, holds};
+use crate::steps::{At, Step, begun, play};
+use crate::values::{FIRST, SECOND};
 use record_view::{ImageHead, ImageVersion};
-use run_model::{Fault, Layout, Phase};
-use std::alloc::{AllocError, Global};
+use run_model::{Fault, Layout};
+use std::alloc::Global;
 use std::process::Abort;
 use task_group::Groups;
 
@@ -35,18 +37,21 @@ fn read<'a>(
 }
 
 /// How many groups and tasks are read, and how many bytes are behind them.
+type Counts = Result<(usize, usize, usize), Fault>;
+
 fn counts(
     rt: &impl Abort,
     alloc: Global,
     layout: Layout,
     head: &ImageHead,
     bytes: &[u8],
-) -> Result<(usize, usize, usize), Fault> {
+) -> Counts {
     let (groups, rest) = read(rt, alloc, layout, head, bytes)?;
     Ok((groups.group_count(), groups.task_count(), rest.len()))
 }
 
-/// What the rows are written as, over bytes of 0xEE, and where they end.
+/// What the rows are written as, over bytes of 0xEE with one more than they can have, and where
+/// they end.
 fn written(rt: &impl Abort, alloc: Global, groups: &Groups) -> (Vec<u8>, usize) {
     let room = 103 * groups.group_count() + 136 * groups.task_count();
     let Ok(mut out) = Vec::from_elem(alloc, 0xEE, room) else {
@@ -56,71 +61,56 @@ fn written(rt: &impl Abort, alloc: Global, groups: &Groups) -> (Vec<u8>, usize) 
     (out, end)
 }
 
+/// Whether groups are written as these bytes, and no other byte is.
+fn is_written(rt: &impl Abort, alloc: Global, groups: &Groups, bytes: &[u8]) -> bool {
+    let (out, end) = written(rt, alloc, groups);
+    end == bytes.len() && out.starts_with(bytes) && out.get(end).unwrap_or(&0xEE) == &0xEE
+}
+
+/// The groups of these rows in version 2, behind which nothing is left.
+fn restored(
+    rt: &impl Abort,
+    alloc: Global,
+    layout: Layout,
+    head: &ImageHead,
+    rows: &[u8],
+) -> Groups {
+    let (groups, rest) = done(rt, read(rt, alloc, layout, head, rows), "image");
+    holds(
+        rt,
+        rest.is_empty(),
+        "the rest behind tasks",
+        head.tasks as usize,
+    );
+    groups
+}
+
 /// A bare group with an error, its interrupted task, and a retry of that.
 const RETRIED: &[u8; 43] = b"\x01g\x00\x00\x01\xff\x00\x0binterrupted\
     \x00\x00\x04copy\x01a\x04\xff\xff\x00\x00\x04copy\x01a\x00\x00\x00";
 
-/// Asserts that there are the group and the tasks of `RETRIED`.
-fn assert_retried(rt: &impl Abort, groups: &Groups) {
-    same(rt, &groups.group_count(), &1, "groups", 0);
-    same(rt, &groups.task_count(), &2, "tasks", 0);
-    same(rt, &groups.phase(0), &Some(Phase::Interrupted), "task", 0);
-    same(rt, &groups.phase(1), &Some(Phase::Ready), "task", 1);
-    same(rt, &groups.next_ready(), &Some(1), "the ready task", 0);
-}
+/// What the group and the tasks of `RETRIED` show.
+static SHOWN: [Step; 4] = [
+    Step::Groups(Layout::Small, 1, 0),
+    Step::Phases(&[At::Interrupted, At::Ready]),
+    Step::Next(Some(1)),
+    Step::Again(1, b"a", 0),
+];
 
 #[test]
 fn rows_of_a_retry(rt: HostRuntime) {
-    let read = read(
-        &rt,
-        rt.alloc(),
-        Layout::Small,
-        &head(ImageVersion::Two, 1, 2),
-        RETRIED,
-    );
-    let (groups, rest) = done(&rt, read, "image");
-    holds(&rt, rest.is_empty(), "the rest", 0);
-    assert_retried(&rt, &groups);
-    let (out, end) = written(&rt, rt.alloc(), &groups);
-    same(&rt, &end, &43, "the end", 0);
-    holds(&rt, out.starts_with(RETRIED), "the rows", 0);
-    same(&rt, &out.get(43), &Some(&0xEE), "behind the rows", 0);
+    let head = head(ImageVersion::Two, 1, 2);
+    let mut groups = restored(&rt, rt.alloc(), Layout::Small, &head, RETRIED);
+    play(&rt, &mut groups, "rows of a retry", &SHOWN);
+    let again = is_written(&rt, rt.alloc(), &groups, RETRIED);
+    holds(&rt, again, "the rows of a retry", 43);
 }
 
 /// Rows of a table: what they are, how many groups and tasks they are, their bytes.
 type Rows = (&'static str, (u16, u16), &'static [u8]);
 
-/// Asserts that all groups and tasks of each row are read, with nothing behind them.
-fn assert_read(rt: &impl Abort, alloc: Global, version: ImageVersion, table: &[Rows]) {
-    for (row, (what, many, bytes)) in table.iter().enumerate() {
-        let read = counts(
-            rt,
-            alloc,
-            Layout::Small,
-            &head(version, many.0, many.1),
-            bytes,
-        );
-        let all = (many.0 as usize, many.1 as usize, 0);
-        same(rt, &read, &Ok(all), what, row);
-    }
-}
-
-/// Asserts that the groups and tasks of each row are refused.
-fn assert_refused(rt: &impl Abort, alloc: Global, version: ImageVersion, table: &[Rows]) {
-    for (row, (what, many, bytes)) in table.iter().enumerate() {
-        let read = counts(
-            rt,
-            alloc,
-            Layout::Small,
-            &head(version, many.0, many.1),
-            bytes,
-        );
-        same(rt, &read, &Err(Fault::BadImage), what, row);
-    }
-}
-
 /// Rows that keep the rules.
-static KEPT: [Rows; 6] = [
+const KEPT: &[Rows] = &[
     ("no row", (0, 0), b""),
     (
         "a group of its own scope, of limit 64",
@@ -152,20 +142,14 @@ static KEPT: [Rows; 6] = [
 ];
 
 /// A group and two tasks without links, as version 1 has them.
-static UNLINKED: [Rows; 1] = [(
+const UNLINKED: &[Rows] = &[(
     "two tasks without links",
     (1, 2),
     b"\x01h\x00\x00\x01\xff\x00\x00\x00\x00\x01j\x01a\x00\x00\x00\x01j\x01a\x00",
 )];
 
-#[test]
-fn rows_that_keep_the_rules_are_read(rt: HostRuntime) {
-    assert_read(&rt, rt.alloc(), ImageVersion::Two, &KEPT);
-    assert_read(&rt, rt.alloc(), ImageVersion::One, &UNLINKED);
-}
-
 /// Groups that break a rule.
-static BAD_GROUPS: [Rows; 10] = [
+const BAD_GROUPS: &[Rows] = &[
     ("a row too few", (1, 0), b""),
     ("a byte too few", (1, 0), b"\x01g\x00\x00\x01\xff\x00"),
     (
@@ -190,13 +174,8 @@ static BAD_GROUPS: [Rows; 10] = [
     ),
 ];
 
-#[test]
-fn groups_that_break_a_rule_are_refused(rt: HostRuntime) {
-    assert_refused(&rt, rt.alloc(), ImageVersion::Two, &BAD_GROUPS);
-}
-
 /// Tasks that break a rule, behind a bare group without limit.
-static BAD_TASKS: [Rows; 11] = [
+const BAD_TASKS: &[Rows] = &[
     ("a row too few", (1, 1), b"\x01g\x00\x00\x01\xff\x00\x00"),
     (
         "a byte too few",
@@ -252,13 +231,8 @@ static BAD_TASKS: [Rows; 11] = [
     ),
 ];
 
-#[test]
-fn tasks_that_break_a_rule_are_refused(rt: HostRuntime) {
-    assert_refused(&rt, rt.alloc(), ImageVersion::Two, &BAD_TASKS);
-}
-
 /// Groups and tasks that break a rule together.
-static BAD_WORK: [Rows; 10] = [
+const BAD_WORK: &[Rows] = &[
     (
         "a running task of limit 0",
         (1, 1),
@@ -318,50 +292,90 @@ static BAD_WORK: [Rows; 10] = [
 ];
 
 /// Two tasks, of which the first has a link, as version 1 has none.
-static LINKED: [Rows; 1] = [(
+const LINKED: &[Rows] = &[(
     "a link in version 1",
     (1, 2),
     b"\x01h\x00\x00\x01\xff\x00\x00\x00\x00\x01j\x01a\x00\xff\xff\x00\x00\x01j\x01a\x00",
 )];
 
+/// A version, whether rows are read, and the rows.
+static TABLES: [(ImageVersion, bool, &[Rows]); 6] = [
+    (ImageVersion::Two, true, KEPT),
+    (ImageVersion::One, true, UNLINKED),
+    (ImageVersion::Two, false, BAD_GROUPS),
+    (ImageVersion::Two, false, BAD_TASKS),
+    (ImageVersion::Two, false, BAD_WORK),
+    (ImageVersion::One, false, LINKED),
+];
+
+/// Asserts that all groups and tasks of each row are read, with nothing behind them, or that each
+/// row is refused.
+fn assert_rows(rt: &impl Abort, alloc: Global, version: ImageVersion, kept: bool, table: &[Rows]) {
+    for (row, (what, (groups, tasks), bytes)) in table.iter().enumerate() {
+        let head = head(version, *groups, *tasks);
+        let told = counts(rt, alloc, Layout::Small, &head, bytes);
+        let all = Ok((*groups as usize, *tasks as usize, 0));
+        let wanted = if kept { all } else { Err(Fault::BadImage) };
+        holds(rt, told == wanted, what, row);
+    }
+}
+
 #[test]
-fn work_that_breaks_a_rule_is_refused(rt: HostRuntime) {
-    assert_refused(&rt, rt.alloc(), ImageVersion::Two, &BAD_WORK);
-    assert_refused(&rt, rt.alloc(), ImageVersion::One, &LINKED);
+fn rows_that_keep_the_rules_alone_are_read(rt: HostRuntime) {
+    for (version, kept, table) in TABLES.iter() {
+        assert_rows(&rt, rt.alloc(), *version, *kept, table);
+    }
 }
 
-/// Appends the row of group `n`, below 1,000, of 103 bytes: bare, and with an error.
-fn push_greatest_group(rows: &mut Vec<u8>, n: u16) -> Result<(), AllocError> {
-    let digit = |d: u16| b'0' + (d % 10) as u8;
-    rows.push(32)?;
-    rows.extend_from_slice(&[digit(n / 100), digit(n / 10), digit(n)])?;
-    rows.extend_from_slice(&[b'x'; 29])?;
-    rows.extend_from_slice(b"\x00\x00\x01\xff\x00\x40")?;
-    rows.extend_from_slice(&[b'x'; 64])
+/// Appends pieces, one behind the other.
+fn push_all(rt: &impl Abort, rows: &mut Vec<u8>, pieces: &[&[u8]]) {
+    for piece in pieces.iter() {
+        done(rt, rows.extend_from_slice(piece), "memory");
+    }
 }
 
-/// Appends the row of a task of group `n % 128`, of 134 bytes and its link: it failed.
-fn push_greatest_task(rows: &mut Vec<u8>, n: u16, link: &[u8]) -> Result<(), AllocError> {
-    rows.extend_from_slice(&[0, (n % 128) as u8, 32])?;
-    rows.extend_from_slice(&[b'x'; 32])?;
-    rows.push(32)?;
-    rows.extend_from_slice(&[b'x'; 32])?;
-    rows.extend_from_slice(&[3, 64])?;
-    rows.extend_from_slice(&[b'x'; 64])?;
-    rows.extend_from_slice(link)
+/// Appends the rows of 128 groups, each of a name that begins so and ends so, with these fields.
+fn push_groups(rt: &impl Abort, rows: &mut Vec<u8>, begin: &[u8], end: &[u8], fields: &[&[u8]]) {
+    for first in FIRST.iter() {
+        for second in SECOND.iter() {
+            push_all(rt, rows, &[begin, &[*first, *second], end]);
+            push_all(rt, rows, fields);
+        }
+    }
 }
 
-/// The rows of 128 groups and so many tasks, each as long as it can be.
-fn greatest_rows(alloc: Global, tasks: u16, link: &[u8]) -> Result<Vec<u8>, AllocError> {
+/// As many bytes as a text can have, and as the rest of a name.
+const TEXT: &[u8] = &[b'x'; 64];
+
+const REST: &[u8] = &[b'x'; 30];
+
+/// A job, an argument and an error, each as long as it can be, of a task that failed.
+const FAILURE: &[&[u8]] = &[
+    b"\x20xxxxxxxxxxxxxxxxxxxxxxxxxxxxxxxx",
+    b"\x20xxxxxxxxxxxxxxxxxxxxxxxxxxxxxxxx",
+    b"\x03\x40",
+    TEXT,
+];
+
+/// What stands behind the name in a row of a bare group with an error.
+const ERROR: &[&[u8]] = &[b"\x00\x00\x01\xff\x00\x40", TEXT];
+
+/// The rows of 128 bare groups with an error, of 103 bytes each, and of so many tasks of them in
+/// turn, of 134 bytes each and the link.
+fn greatest_rows(rt: &impl Abort, alloc: Global, tasks: u16, link: &[u8]) -> Vec<u8> {
     let mut rows = Vec::new(alloc);
-    for n in 0..128 {
-        push_greatest_group(&mut rows, n)?;
-    }
+    push_groups(rt, &mut rows, b"\x20", REST, ERROR);
     for n in 0..tasks {
-        push_greatest_task(&mut rows, n, link)?;
+        push_all(rt, &mut rows, &[&(n % 128).to_be_bytes()]);
+        push_all(rt, &mut rows, FAILURE);
+        push_all(rt, &mut rows, &[link]);
     }
-    Ok(rows)
+    rows
 }
+
+/// A layout and a version, the most tasks, the bytes of a link, and the length of the greatest
+/// rows.
+type Greatest = (Layout, ImageVersion, u16, &'static [u8], usize);
 
 static GREATEST: [Greatest; 3] = [
     (Layout::Small, ImageVersion::One, 2_048, b"", 287_616),
@@ -381,22 +395,15 @@ static GREATEST: [Greatest; 3] = [
     ),
 ];
 
-/// A layout and a version, the most tasks, the bytes of a link, and the length of the greatest
-/// rows.
-type Greatest = (Layout, ImageVersion, u16, &'static [u8], usize);
-
-/// Asserts that the greatest rows are read whole, and in version 2 written again as they are.
+/// Asserts that the greatest rows are read whole, and written in version 2.
 fn assert_greatest(rt: &impl Abort, alloc: Global, kind: Greatest) {
     let (layout, version, tasks, link, len) = kind;
-    let rows = done(rt, greatest_rows(alloc, tasks, link), "memory");
-    same(rt, &rows.len(), &len, "tasks", tasks as usize);
-    let read = read(rt, alloc, layout, &head(version, 128, tasks), &rows);
-    let (groups, rest) = done(rt, read, "image");
-    holds(rt, rest.is_empty(), "tasks", tasks as usize);
-    let (again, end) = written(rt, alloc, &groups);
-    same(rt, &end, &again.len(), "tasks", tasks as usize);
-    let is_older = version == ImageVersion::One;
-    holds(rt, is_older || rows == again, "tasks", tasks as usize);
+    let rows = greatest_rows(rt, alloc, tasks, link);
+    holds(rt, rows.len() == len, "tasks", tasks as usize);
+    let groups = restored(rt, alloc, layout, &head(version, 128, tasks), &rows);
+    let again = greatest_rows(rt, alloc, tasks, b"\xff\xff");
+    let is_written = is_written(rt, alloc, &groups, &again);
+    holds(rt, is_written, "tasks", tasks as usize);
 }
 
 #[test]
@@ -406,71 +413,68 @@ fn greatest_work(rt: HostRuntime) {
     }
 }
 
-/// The rows of a bare group, and of one task more than so many.
-fn rows_of_tasks(alloc: Global, tasks: u16) -> Result<Vec<u8>, AllocError> {
+/// The rows of a bare group and of one task more than so many.
+fn rows_of_tasks(rt: &impl Abort, alloc: Global, tasks: u16) -> Vec<u8> {
     let mut rows = Vec::new(alloc);
-    rows.extend_from_slice(b"\x01g\x00\x00\x01\xff\x00\x00")?;
+    push_all(rt, &mut rows, &[b"\x01g\x00\x00\x01\xff\x00\x00"]);
     for _ in 0..=tasks {
-        rows.extend_from_slice(b"\x00\x00\x01j\x01a\x00\xff\xff")?;
+        push_all(rt, &mut rows, &[b"\x00\x00\x01j\x01a\x00\xff\xff"]);
     }
-    Ok(rows)
+    rows
 }
 
-/// Asserts that so many tasks are read, and one more is refused.
-fn assert_most_tasks(rt: &impl Abort, alloc: Global, layout: Layout, tasks: u16) {
-    let rows = done(rt, rows_of_tasks(alloc, tasks), "memory");
-    let most = head(ImageVersion::Two, 1, tasks);
-    let read = counts(rt, alloc, layout, &most, &rows);
-    same(
-        rt,
-        &read,
-        &Ok((1, tasks as usize, 9)),
-        "tasks",
-        tasks as usize,
-    );
-    let more = head(ImageVersion::Two, 1, tasks.saturating_add(1));
-    let read = counts(rt, alloc, layout, &more, &rows);
-    same(
-        rt,
-        &read,
-        &Err(Fault::BadImage),
-        "a task beyond",
-        tasks as usize,
-    );
-}
+/// What stands behind the name in a row of a bare group.
+const BARE: &[&[u8]] = &[b"\x00\x00\x01\xff\x00\x00"];
 
-#[test]
-fn a_task_too_many_is_refused(rt: HostRuntime) {
-    assert_most_tasks(&rt, rt.alloc(), Layout::Small, 2_048);
-    assert_most_tasks(&rt, rt.alloc(), Layout::Large, 8_192);
-}
-
-/// The rows of this many bare groups, below 256, each of a name of its own.
-fn bare_groups(alloc: Global, count: u16) -> Result<Vec<u8>, AllocError> {
+/// The rows of 128 bare groups, and of one more.
+fn rows_of_groups(rt: &impl Abort, alloc: Global) -> Vec<u8> {
     let mut rows = Vec::new(alloc);
-    for n in 0..count {
-        let name = [2, b'a' + (n / 16 % 16) as u8, b'a' + (n % 16) as u8];
-        rows.extend_from_slice(&name)?;
-        rows.extend_from_slice(b"\x00\x00\x01\xff\x00\x00")?;
-    }
-    Ok(rows)
+    push_groups(rt, &mut rows, b"\x02", b"", BARE);
+    push_all(rt, &mut rows, &[b"\x02zz\x00\x00\x01\xff\x00\x00"]);
+    rows
 }
 
-/// Asserts what is read as so many groups.
-fn assert_groups(
-    rt: &impl Abort,
-    alloc: Global,
-    count: u16,
-    want: Result<(usize, usize, usize), Fault>,
-) {
-    let rows = done(rt, bare_groups(alloc, count), "memory");
-    let head = head(ImageVersion::Two, count, 0);
-    let read = counts(rt, alloc, Layout::Small, &head, &rows);
-    same(rt, &read, &want, "groups", count as usize);
+/// Asserts that so many groups and tasks are read in front of one row more, and one more isn't.
+fn assert_most(rt: &impl Abort, alloc: Global, layout: Layout, rows: &[u8], most: (u16, u16)) {
+    let (groups, tasks) = most;
+    let told = counts(
+        rt,
+        alloc,
+        layout,
+        &head(ImageVersion::Two, groups, tasks),
+        rows,
+    );
+    let all = (groups as usize, tasks as usize, 9);
+    holds(rt, told == Ok(all), "tasks", tasks as usize);
+    let more = if tasks == 0 {
+        (129, 0)
+    } else {
+        (groups, tasks.saturating_add(1))
+    };
+    let told = counts(
+        rt,
+        alloc,
+        layout,
+        &head(ImageVersion::Two, more.0, more.1),
+        rows,
+    );
+    holds(
+        rt,
+        told == Err(Fault::BadImage),
+        "a row beyond tasks",
+        tasks as usize,
+    );
 }
+
+/// A layout, and the most tasks.
+static MOST: [(Layout, u16); 2] = [(Layout::Small, 2_048), (Layout::Large, 8_192)];
 
 #[test]
-fn a_group_too_many_is_refused(rt: HostRuntime) {
-    assert_groups(&rt, rt.alloc(), 128, Ok((128, 0, 0)));
-    assert_groups(&rt, rt.alloc(), 129, Err(Fault::BadImage));
+fn a_row_too_many_is_refused(rt: HostRuntime) {
+    for (layout, tasks) in MOST {
+        let rows = rows_of_tasks(&rt, rt.alloc(), tasks);
+        assert_most(&rt, rt.alloc(), layout, &rows, (1, tasks));
+    }
+    let rows = rows_of_groups(&rt, rt.alloc());
+    assert_most(&rt, rt.alloc(), Layout::Small, &rows, (128, 0));
 }

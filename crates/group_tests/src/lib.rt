@@ -15,6 +15,8 @@ mod plain;
 #[cfg(test)]
 mod randoms;
 #[cfg(test)]
-mod runners;
+mod steps;
 #[cfg(test)]
 mod tests;
+#[cfg(test)]
+mod values;

@@ -1,62 +1,55 @@
 //! A plain program for what groups answer: rows, and a count over them each time.
 
 use crate::asserts::done;
-use crate::runners::Reply;
-use run_model::{Group, Limit, Name, Outcome, Phase, Refusal, Stage, Task, Text};
+use crate::calls::{Call, Reply};
+use crate::values::{limit, name, text};
+use run_model::{Group, Name, Phase, Refusal, Stage, Task, Text};
 use std::alloc::Global;
 use std::process::Abort;
 
 /// The rows of groups and tasks, with nothing beside them.
 #[derive(Drop)]
 pub struct Plain {
-    groups: Vec<Group>,
-    tasks: Vec<Task>,
+    pub groups: Vec<Group>,
+    pub tasks: Vec<Task>,
 }
 
 impl Plain {
-    /// Without a group.
-    pub fn new(alloc: Global) -> Plain {
-        Plain {
-            groups: Vec::new(alloc),
-            tasks: Vec::new(alloc),
-        }
-    }
-
-    /// The rows of the groups.
-    pub fn groups(&self) -> &[Group] {
-        &self.groups
-    }
-
-    /// The rows of the tasks.
-    pub fn tasks(&self) -> &[Task] {
-        &self.tasks
-    }
-
     /// How many unfinished tasks of a group have lesser numbers than this.
     pub fn before(&self, group: u16, n: usize) -> usize {
-        self.tasks
-            .iter()
-            .take(n)
-            .filter(|task| task.group == group && is_unfinished(&task.stage))
-            .count()
+        let mut count = 0usize;
+        for (m, task) in self.tasks.iter().enumerate() {
+            if m < n && task.group == group && is_unfinished(&task.stage) {
+                count = count.saturating_add(1);
+            }
+        }
+        count
+    }
+
+    /// How many tasks of a group are unfinished.
+    pub fn unfinished(&self, group: u16) -> usize {
+        self.before(group, self.tasks.len())
     }
 
     /// How many tasks are running.
     pub fn running(&self) -> usize {
-        self.tasks
-            .iter()
-            .filter(|task| matches!(&task.stage, Stage::Running))
-            .count()
+        let mut count = 0usize;
+        for task in self.tasks.iter() {
+            if let Stage::Running = task.stage {
+                count = count.saturating_add(1);
+            }
+        }
+        count
     }
 
     /// Says whether a group's limit admits one more beside so many.
     pub fn admits(&self, group: u16, count: usize) -> bool {
-        match self.groups.get(group as usize) {
-            Some(row) => match row.limit.get() {
-                Some(most) => count < most as usize,
-                None => true,
-            },
-            None => false,
+        let Some(row) = self.groups.get(group as usize) else {
+            return false;
+        };
+        match row.limit.get() {
+            Some(most) => count < most as usize,
+            None => true,
         }
     }
 
@@ -79,187 +72,172 @@ impl Plain {
     }
 
     /// The least ready task.
-    pub fn first_ready(&self) -> Option<usize> {
-        (0..self.tasks.len()).find(|n| self.phase(*n) == Some(Phase::Ready))
+    pub fn first_ready(&self) -> Option<u16> {
+        for n in 0..self.tasks.len() {
+            if self.phase(n) == Some(Phase::Ready) {
+                return Some(number(n));
+            }
+        }
+        None
     }
 
-    /// Makes a group.
-    pub fn make(&mut self, rt: &impl Abort, name: &Name, scope: u16, bare: bool) -> Reply {
-        if self.groups.iter().any(|row| &row.name == name) {
-            return Err(Refusal::NameTaken);
+    /// Makes a call.
+    pub fn answer(&mut self, rt: &impl Abort, call: Call) -> Reply {
+        match call {
+            Call::Make(called, scope, bare) => self.make(rt, name(rt, called), scope, bare),
+            Call::Limit(group, most) => self.set_limit(rt, group, most),
+            Call::Go(group, job, argument) => {
+                let task = Task::new(group, name(rt, job), name(rt, argument), None);
+                self.submit(rt, task, false)
+            }
+            Call::Try(group, job, argument) => {
+                let task = Task::new(group, name(rt, job), name(rt, argument), None);
+                self.submit(rt, task, true)
+            }
+            Call::Retry(task) => self.retry(rt, task),
+            Call::Start => self.start(),
+            Call::Succeed(task) => match self.end(task, Stage::Success) {
+                Ok(_) => Ok(None),
+                Err(refusal) => Err(refusal),
+            },
+            Call::Lose(task, error) => self.lose(task, &text(rt, error)),
+            Call::Wait(group) => self.wait(group),
         }
-        if self.groups.len() >= 128 {
-            return Err(Refusal::TooManyGroups);
+    }
+
+    fn make(&mut self, rt: &impl Abort, called: Name, scope: u16, bare: bool) -> Reply {
+        for row in self.groups.iter() {
+            if row.name == called {
+                return Err(Refusal::NameTaken);
+            }
         }
         let made = number(self.groups.len());
-        let group = Group::new(name.copy(), scope, bare);
-        done(rt, self.groups.push(group), "memory");
+        done(
+            rt,
+            self.groups.push(Group::new(called, scope, bare)),
+            "memory",
+        );
         Ok(Some(made))
     }
 
-    /// Sets a limit.
-    pub fn set_limit(&mut self, group: u16, limit: Limit) -> Reply {
-        let active = self.before(group, self.tasks.len());
-        let row = self
-            .groups
-            .get_mut(group as usize)
-            .ok_or(Refusal::NoSuchGroup)?;
+    fn set_limit(&mut self, rt: &impl Abort, group: u16, most: Option<u8>) -> Reply {
+        let active = self.unfinished(group);
+        let Some(row) = self.groups.get_mut(group as usize) else {
+            return Err(Refusal::NoSuchGroup);
+        };
         if row.waited {
             return Err(Refusal::Waited);
         }
         if active != 0 {
             return Err(Refusal::LimitWhileActive);
         }
-        row.limit = limit;
+        row.limit = limit(rt, most);
         Ok(None)
     }
 
-    /// Says why a task can't be submitted, which may have to be ready at once.
-    fn refuses(&self, group: u16, at_once: bool) -> Option<Refusal> {
-        let count = self.tasks.len();
-        let Some(row) = self.groups.get(group as usize) else {
-            return Some(Refusal::NoSuchGroup);
+    /// Submits a task, which may have to be ready at once.
+    fn submit(&mut self, rt: &impl Abort, task: Task, at_once: bool) -> Reply {
+        let Some(row) = self.groups.get(task.group as usize) else {
+            return Err(Refusal::NoSuchGroup);
         };
         if row.waited {
-            return Some(Refusal::Waited);
+            return Err(Refusal::Waited);
         }
-        if count >= 2_048 {
-            return Some(Refusal::TooManyTasks);
+        if at_once && !self.admits(task.group, self.unfinished(task.group)) {
+            return Err(Refusal::AtLimit);
         }
-        if at_once && !self.admits(group, self.before(group, count)) {
-            return Some(Refusal::AtLimit);
-        }
-        None
-    }
-
-    /// Appends a task, and gives its number.
-    fn append(&mut self, rt: &impl Abort, task: Task) -> Reply {
         let made = number(self.tasks.len());
         done(rt, self.tasks.push(task), "memory");
         Ok(Some(made))
     }
 
-    /// Submits a task, which may have to be ready at once.
-    pub fn submit(
-        &mut self,
-        rt: &impl Abort,
-        group: u16,
-        job: &Name,
-        argument: &Name,
-        at_once: bool,
-    ) -> Reply {
-        if let Some(refusal) = self.refuses(group, at_once) {
-            return Err(refusal);
+    fn was_retried(&self, n: u16) -> bool {
+        for task in self.tasks.iter() {
+            if task.retry_of == Some(n) {
+                return true;
+            }
         }
-        self.append(rt, Task::new(group, job.copy(), argument.copy(), None))
+        false
     }
 
-    /// Says whether a group was waited for.
-    fn was_waited(&self, group: u16) -> bool {
-        match self.groups.get(group as usize) {
-            Some(row) => row.waited,
-            None => false,
-        }
-    }
-
-    /// Submits a task anew.
-    pub fn retry(&mut self, rt: &impl Abort, n: u16) -> Reply {
+    fn retry(&mut self, rt: &impl Abort, n: u16) -> Reply {
         let Some(task) = self.tasks.get(n as usize) else {
             return Err(Refusal::NoSuchTask);
         };
         if task.stage != Stage::Interrupted {
             return Err(Refusal::NotInterrupted);
         }
-        if self.tasks.iter().any(|other| other.retry_of == Some(n)) {
+        if self.was_retried(n) {
             return Err(Refusal::AlreadyRetried);
         }
-        if self.was_waited(task.group) {
-            return Err(Refusal::Waited);
-        }
-        if self.tasks.len() >= 2_048 {
-            return Err(Refusal::TooManyTasks);
-        }
         let again = Task::new(task.group, task.job.copy(), task.argument.copy(), Some(n));
-        self.append(rt, again)
+        self.submit(rt, again, false)
     }
 
-    /// Starts the least ready task.
-    pub fn start(&mut self) -> Reply {
-        let n = self.first_ready().ok_or(Refusal::NothingReady)?;
-        if let Some(task) = self.tasks.get_mut(n) {
+    fn start(&mut self) -> Reply {
+        let Some(n) = self.first_ready() else {
+            return Err(Refusal::NothingReady);
+        };
+        if let Some(task) = self.tasks.get_mut(n as usize) {
             task.stage = Stage::Running;
         }
-        Ok(Some(number(n)))
+        Ok(Some(n))
     }
 
-    /// Ends a task, and gives the scope that is told.
-    pub fn finish(&mut self, n: u16, outcome: &Outcome) -> Reply {
-        let task = self.tasks.get_mut(n as usize).ok_or(Refusal::NoSuchTask)?;
+    /// Ends a task that is running in this stage, and gives its group.
+    fn end(&mut self, n: u16, stage: Stage) -> Result<u16, Refusal> {
+        let Some(task) = self.tasks.get_mut(n as usize) else {
+            return Err(Refusal::NoSuchTask);
+        };
         if task.stage != Stage::Running {
             return Err(Refusal::NotRunning);
         }
-        let group = task.group;
-        match outcome {
-            Outcome::Success => {
-                task.stage = Stage::Success;
-                Ok(None)
-            }
-            Outcome::Failure(text) => {
-                task.stage = Stage::Failure(text.copy());
-                Ok(self.fail(group, text))
-            }
-        }
+        task.stage = stage;
+        Ok(task.group)
     }
 
-    /// Gives a group its first error, and the scope that is told.
-    fn fail(&mut self, group: u16, text: &Text) -> Option<u16> {
+    /// Ends a task with an error, and gives the scope that is told.
+    fn lose(&mut self, n: u16, error: &Text) -> Reply {
+        let group = self.end(n, Stage::Failure(error.copy()))?;
+        Ok(self.fail(group, error))
+    }
+
+    /// Gives a group its first error, and gives the scope that is told.
+    fn fail(&mut self, group: u16, error: &Text) -> Option<u16> {
         let row = self.groups.get_mut(group as usize)?;
         if row.error.is_some() {
             return None;
         }
-        row.error = Some(text.copy());
+        row.error = Some(error.copy());
         if row.bare { None } else { Some(row.scope) }
     }
 
     /// Waits for a group, and gives the scope that is told.
-    pub fn wait(&mut self, group: u16) -> Reply {
-        let unfinished = self.before(group, self.tasks.len());
-        let row = self
-            .groups
-            .get_mut(group as usize)
-            .ok_or(Refusal::NoSuchGroup)?;
+    fn wait(&mut self, group: u16) -> Reply {
+        let unfinished = self.unfinished(group);
+        let Some(row) = self.groups.get_mut(group as usize) else {
+            return Err(Refusal::NoSuchGroup);
+        };
         if unfinished != 0 {
             return Err(Refusal::Unfinished(number(unfinished)));
         }
-        if row.waited {
-            return Ok(None);
-        }
+        let tells = !row.bare && !row.waited;
         row.waited = true;
-        Ok(if row.bare { None } else { Some(row.scope) })
+        Ok(if tells { Some(row.scope) } else { None })
     }
 
     /// Interrupts the running tasks, and gives the scopes that are told.
-    pub fn restart(&mut self, rt: &impl Abort, alloc: Global, text: &Text) -> Vec<u16> {
+    pub fn restart(&mut self, rt: &impl Abort, alloc: Global) -> Vec<u16> {
+        let error = text(rt, b"interrupted");
         let mut told = Vec::new(alloc);
         for n in 0..self.tasks.len() {
-            let Some(group) = self.interrupt(n) else {
-                continue;
-            };
-            if let Some(scope) = self.fail(group, text) {
-                done(rt, told.push(scope), "memory");
+            if let Ok(group) = self.end(number(n), Stage::Interrupted) {
+                if let Some(scope) = self.fail(group, &error) {
+                    done(rt, told.push(scope), "memory");
+                }
             }
         }
         told
-    }
-
-    /// Interrupts a task that is running, and gives its group.
-    fn interrupt(&mut self, n: usize) -> Option<u16> {
-        let task = self.tasks.get_mut(n)?;
-        if task.stage != Stage::Running {
-            return None;
-        }
-        task.stage = Stage::Interrupted;
-        Some(task.group)
     }
 }
 
@@ -270,5 +248,5 @@ fn is_unfinished(stage: &Stage) -> bool {
 
 /// The number of a row; those of a test are small.
 pub fn number(n: usize) -> u16 {
-    n.min(65_535) as u16
+    u16::try_from(n).unwrap_or(u16::MAX)
 }

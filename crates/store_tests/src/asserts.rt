@@ -1,24 +1,10 @@
 //! What a test holds: one call each, so that its branch and its message are proved once.
 
-use std::fmt::Debug;
 use std::process::Abort;
-
-/// Asserts that two values are the same. The message names the row.
-pub fn same<T: PartialEq + Debug>(rt: &impl Abort, one: &T, other: &T, what: &str, row: usize) {
-    assert_eq!(rt; one, other, "{what} {row}");
-}
 
 /// Asserts that something holds. The message names the row.
 pub fn holds(rt: &impl Abort, it: bool, what: &str, row: usize) {
     assert!(rt; it, "{what} {row}");
-}
-
-/// What is there, and must be.
-pub fn given<T>(rt: &impl Abort, it: Option<T>, what: &str) -> T {
-    match it {
-        Some(it) => it,
-        None => panic!(rt; "no {what}"),
-    }
 }
 
 /// What was made, and must have been.

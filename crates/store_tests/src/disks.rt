@@ -1,255 +1,306 @@
-//! Disks in memory and in files: what a crash leaves, and what a failed call leaves.
+//! Disks in memory: what a crash leaves, and what a failed call leaves.
 
-use crate::asserts::{done, given, same};
-use crate::calls::{blank, left, read, write};
+use crate::asserts::{done, holds};
+use crate::bytes::{blank, left};
 use linked_list_allocator::LocalHeap;
-use run_disk::{DiskFailed, FailOnce, FileDisk, Fuse, MemoryDisk, RunDisk, Torn, write_durably};
+use run_disk::{DiskFailed, FailOnce, Fuse, MemoryDisk, RunDisk, Torn, write_durably};
 use run_model::Fault;
 use std::alloc::Global;
-use std::fs;
-use std::fs::File;
 use std::process::Abort;
+
+/// A call of a disk, and what it gives.
+#[derive(Clone, Copy)]
+pub enum Call {
+    /// A write from a place on, and whether it is made.
+    Write(u64, &'static [u8], bool),
+    /// A write and a sync, which are made.
+    Last(u64, &'static [u8]),
+    /// What was written is made last, or the call fails.
+    Sync(bool),
+    /// A read from a place on, which gives these bytes.
+    Read(u64, &'static [u8]),
+    /// A read of so many bytes from a place on, which fails.
+    NoRead(u64, usize),
+    /// The size, which takes no call.
+    Size(u64),
+}
+
+/// A write inside a disk.
+fn write<D: RunDisk>(
+    rt: &impl Abort,
+    disk: &mut D,
+    at: u64,
+    bytes: &[u8],
+) -> Result<(), DiskFailed> {
+    let size = disk.size();
+    assert!(rt; at <= size && bytes.len() as u64 <= size - at);
+    disk.write_at(at, bytes)
+}
+
+/// A write inside a disk that lasts.
+fn write_last<D: RunDisk>(
+    rt: &impl Abort,
+    disk: &mut D,
+    at: u64,
+    bytes: &[u8],
+) -> Result<(), DiskFailed> {
+    let size = disk.size();
+    assert!(rt; at <= size && bytes.len() as u64 <= size - at);
+    write_durably(disk, at, bytes)
+}
+
+/// A read inside a disk.
+fn read<D: RunDisk>(
+    rt: &impl Abort,
+    disk: &mut D,
+    at: u64,
+    out: &mut [u8],
+) -> Result<(), DiskFailed> {
+    let size = disk.size();
+    assert!(rt; at <= size && out.len() as u64 <= size - at);
+    disk.read_at(at, out)
+}
+
+/// Whether a read of as many bytes as these, at most 64, gives them.
+fn reads<D: RunDisk>(rt: &impl Abort, disk: &mut D, at: u64, wanted: &[u8]) -> bool {
+    let mut bytes = [9; 64];
+    let Some(out) = bytes.get_mut(..wanted.len()) else {
+        return false;
+    };
+    read(rt, disk, at, out).is_ok() && bytes.starts_with(wanted)
+}
+
+/// Whether a read of so many bytes, at most 16, fails.
+fn reads_none<D: RunDisk>(rt: &impl Abort, disk: &mut D, at: u64, count: usize) -> bool {
+    let mut bytes = [9; 16];
+    match bytes.get_mut(..count) {
+        Some(out) => read(rt, disk, at, out).is_err(),
+        None => false,
+    }
+}
+
+/// Makes a call, and says whether it gives what it says.
+fn is_so<D: RunDisk>(rt: &impl Abort, disk: &mut D, call: Call) -> bool {
+    match call {
+        Call::Write(at, bytes, made) => write(rt, disk, at, bytes).is_ok() == made,
+        Call::Last(at, bytes) => write_last(rt, disk, at, bytes).is_ok(),
+        Call::Sync(made) => disk.sync().is_ok() == made,
+        Call::Read(at, wanted) => reads(rt, disk, at, wanted),
+        Call::NoRead(at, count) => reads_none(rt, disk, at, count),
+        Call::Size(size) => disk.size() == size,
+    }
+}
+
+/// Makes the calls of a table. The message names it, and the call.
+pub fn play<D: RunDisk>(rt: &impl Abort, disk: &mut D, what: &str, calls: &[Call]) {
+    for (row, call) in calls.iter().enumerate() {
+        holds(rt, is_so(rt, disk, *call), what, row);
+    }
+}
 
 /// After how many calls a crash comes, how it tears, and what it leaves.
 type Row = (u64, Torn, &'static [u8]);
 
-/// Asserts what a crash leaves.
-fn assert_row(rt: &impl Abort, alloc: Global, disk: &MemoryDisk, row: Row, number: usize) {
-    let (calls, torn, want) = row;
-    let bytes = done(rt, left(rt, alloc, disk, calls, torn), "memory");
-    same(rt, &bytes.as_slice(), &want, "row", number);
-}
+/// Calls of a disk, how many it has counted behind them, and what crashes leave then.
+type Stage = (&'static [Call], u64, &'static [Row]);
+
+/// A write of three bytes at 10, and its sync.
+static ONE_WRITE: [Stage; 2] = [
+    (
+        &[Call::Write(10, &[1, 2, 3], true)],
+        1,
+        &[
+            (1, Torn::Keep, b"\0\0\0\0\0\0\0\0\0\0\0\0\0\0\0\0"),
+            (1, Torn::Take, b"\0\0\0\0\0\0\0\0\0\0\x01\x02\x03\0\0\0"),
+            (
+                1,
+                Torn::Fill(0xA7),
+                b"\0\0\0\0\0\0\0\0\0\0\xA7\xA7\xA7\0\0\0",
+            ),
+            (1, Torn::Front(2), b"\0\0\0\0\0\0\0\0\0\0\x01\x02\0\0\0\0"),
+        ],
+    ),
+    (
+        &[Call::Sync(true)],
+        2,
+        &[
+            (2, Torn::Keep, b"\0\0\0\0\0\0\0\0\0\0\x01\x02\x03\0\0\0"),
+            (2, Torn::Take, b"\0\0\0\0\0\0\0\0\0\0\x01\x02\x03\0\0\0"),
+            (
+                2,
+                Torn::Fill(0xA7),
+                b"\0\0\0\0\0\0\0\0\0\0\x01\x02\x03\0\0\0",
+            ),
+            (2, Torn::Front(2), b"\0\0\0\0\0\0\0\0\0\0\x01\x02\x03\0\0\0"),
+        ],
+    ),
+];
+
+/// Behind a synced write of four bytes at 0: a write of four at 2, and one of a byte at 4.
+static NEWEST: [Stage; 2] = [
+    (
+        &[
+            Call::Write(0, &[1, 1, 1, 1], true),
+            Call::Sync(true),
+            Call::Write(2, &[2, 2, 2, 2], true),
+            Call::Write(4, &[3], true),
+        ],
+        4,
+        &[
+            (0, Torn::Take, &[0, 0, 0, 0, 0, 0, 0, 0]),
+            (1, Torn::Keep, &[0, 0, 0, 0, 0, 0, 0, 0]),
+            (1, Torn::Fill(9), &[9, 9, 9, 9, 0, 0, 0, 0]),
+            (2, Torn::Fill(9), &[1, 1, 1, 1, 0, 0, 0, 0]),
+            (3, Torn::Take, &[1, 1, 2, 2, 2, 2, 0, 0]),
+            (4, Torn::Keep, &[1, 1, 1, 1, 0, 0, 0, 0]),
+            (4, Torn::Take, &[1, 1, 2, 2, 3, 2, 0, 0]),
+            (4, Torn::Fill(9), &[1, 1, 9, 9, 9, 9, 0, 0]),
+            (4, Torn::Front(0), &[1, 1, 1, 1, 0, 0, 0, 0]),
+            (4, Torn::Front(1), &[1, 1, 2, 1, 3, 0, 0, 0]),
+            (4, Torn::Front(9), &[1, 1, 2, 2, 3, 2, 0, 0]),
+        ],
+    ),
+    (&[Call::Read(0, &[1, 1, 2, 2, 3, 2, 0, 0])], 5, &[]),
+];
 
 /// Asserts what crashes leave.
 fn assert_left(rt: &impl Abort, alloc: Global, disk: &MemoryDisk, rows: &[Row]) {
-    for (number, row) in rows.iter().enumerate() {
-        assert_row(rt, alloc, disk, *row, number);
+    for (row, (calls, torn, wanted)) in rows.iter().enumerate() {
+        let bytes = left(rt, alloc, disk, *calls, *torn);
+        holds(rt, bytes.as_slice() == *wanted, "what crash leaves", row);
     }
 }
 
-/// Asserts what reads from a place on give.
-fn assert_reads<D: RunDisk>(rt: &impl Abort, disk: &mut D, at: u64, want: [u8; 3]) {
-    let mut bytes = [9; 3];
-    same(
-        rt,
-        &read(rt, disk, at, &mut bytes),
-        &Ok(()),
-        "a read at",
-        at as usize,
-    );
-    same(rt, &bytes, &want, "bytes at", at as usize);
+/// Asserts what a disk of so many bytes gives and leaves.
+fn assert_stages(rt: &impl Abort, alloc: Global, size: usize, stages: &[Stage]) {
+    let mut disk = blank(rt, alloc, size);
+    for (calls, counted, rows) in stages.iter() {
+        play(rt, &mut disk, "call", calls);
+        holds(rt, disk.calls() == *counted, "calls", *counted as usize);
+        assert_left(rt, alloc, &disk, rows);
+    }
 }
-
-/// Makes what was written last.
-fn sync<D: RunDisk>(disk: &mut D) -> Result<(), DiskFailed> {
-    disk.sync()
-}
-
-static TORN: [Row; 4] = [
-    (1, Torn::Keep, b"\0\0\0\0\0\0\0\0\0\0\0\0\0\0\0\0"),
-    (1, Torn::Take, b"\0\0\0\0\0\0\0\0\0\0\x01\x02\x03\0\0\0"),
-    (
-        1,
-        Torn::Fill(0xA7),
-        b"\0\0\0\0\0\0\0\0\0\0\xA7\xA7\xA7\0\0\0",
-    ),
-    (1, Torn::Front(2), b"\0\0\0\0\0\0\0\0\0\0\x01\x02\0\0\0\0"),
-];
-
-static SYNCED: [Row; 4] = [
-    (2, Torn::Keep, b"\0\0\0\0\0\0\0\0\0\0\x01\x02\x03\0\0\0"),
-    (2, Torn::Take, b"\0\0\0\0\0\0\0\0\0\0\x01\x02\x03\0\0\0"),
-    (
-        2,
-        Torn::Fill(0xA7),
-        b"\0\0\0\0\0\0\0\0\0\0\x01\x02\x03\0\0\0",
-    ),
-    (2, Torn::Front(2), b"\0\0\0\0\0\0\0\0\0\0\x01\x02\x03\0\0\0"),
-];
 
 #[test]
-fn tears_an_unsynced_write(rt: HostRuntime) {
-    let mut disk = blank(&rt, rt.alloc(), 16);
-    same(
-        &rt,
-        &write(&rt, &mut disk, 10, &[1, 2, 3]),
-        &Ok(()),
-        "a write at",
-        10,
-    );
-    assert_left(&rt, rt.alloc(), &disk, &TORN);
-    same(&rt, &sync(&mut disk), &Ok(()), "a sync", 2);
-    same(&rt, &disk.calls(), &2, "calls", 2);
-    assert_left(&rt, rt.alloc(), &disk, &SYNCED);
-}
-
-/// Behind a synced write of four bytes at 0: a write of four at 2, and one of a byte at 4.
-static NEWEST: [Row; 11] = [
-    (0, Torn::Take, &[0, 0, 0, 0, 0, 0, 0, 0]),
-    (1, Torn::Keep, &[0, 0, 0, 0, 0, 0, 0, 0]),
-    (1, Torn::Fill(9), &[9, 9, 9, 9, 0, 0, 0, 0]),
-    (2, Torn::Fill(9), &[1, 1, 1, 1, 0, 0, 0, 0]),
-    (3, Torn::Take, &[1, 1, 2, 2, 2, 2, 0, 0]),
-    (4, Torn::Keep, &[1, 1, 1, 1, 0, 0, 0, 0]),
-    (4, Torn::Take, &[1, 1, 2, 2, 3, 2, 0, 0]),
-    (4, Torn::Fill(9), &[1, 1, 9, 9, 9, 9, 0, 0]),
-    (4, Torn::Front(0), &[1, 1, 1, 1, 0, 0, 0, 0]),
-    (4, Torn::Front(1), &[1, 1, 2, 1, 3, 0, 0, 0]),
-    (4, Torn::Front(9), &[1, 1, 2, 2, 3, 2, 0, 0]),
-];
-
-#[test]
-fn the_newest_write_wins(rt: HostRuntime) {
-    let mut disk = blank(&rt, rt.alloc(), 8);
-    same(
-        &rt,
-        &write(&rt, &mut disk, 0, &[1, 1, 1, 1]),
-        &Ok(()),
-        "a write at",
-        0,
-    );
-    same(&rt, &sync(&mut disk), &Ok(()), "a sync", 2);
-    same(
-        &rt,
-        &write(&rt, &mut disk, 2, &[2, 2, 2, 2]),
-        &Ok(()),
-        "a write at",
-        2,
-    );
-    same(
-        &rt,
-        &write(&rt, &mut disk, 4, &[3]),
-        &Ok(()),
-        "a write at",
-        4,
-    );
-    assert_left(&rt, rt.alloc(), &disk, &NEWEST);
-    let mut bytes = [0; 8];
-    same(
-        &rt,
-        &read(&rt, &mut disk, 0, &mut bytes),
-        &Ok(()),
-        "a read at",
-        0,
-    );
-    same(&rt, &bytes, &[1, 1, 2, 2, 3, 2, 0, 0], "bytes at", 0);
+fn a_crash_tears_what_was_not_synced(rt: HostRuntime) {
+    assert_stages(&rt, rt.alloc(), 16, &ONE_WRITE);
+    assert_stages(&rt, rt.alloc(), 8, &NEWEST);
 }
 
 /// Two writes, a sync and a read, at the place of this turn.
-fn four_calls(rt: &impl Abort, disk: &mut MemoryDisk, turn: u8) -> Result<(), DiskFailed> {
-    let place = 150_000 * turn as u64;
-    write(rt, disk, place, &[turn.saturating_add(1); 1000])?;
-    write(rt, disk, place.saturating_add(500), &[0xEE])?;
-    disk.sync()?;
-    read(rt, disk, place, &mut [0; 16])
+fn four_calls(rt: &impl Abort, disk: &mut MemoryDisk, place: u64, byte: u8) -> bool {
+    write(rt, disk, place, &[byte; 1000]).is_ok()
+        && write(rt, disk, place.saturating_add(500), &[0xEE]).is_ok()
+        && disk.sync().is_ok()
+        && read(rt, disk, place, &mut [0; 16]).is_ok()
 }
+
+/// Where each turn writes, and which byte.
+static TURNS: [(u64, u8); 10] = [
+    (0, 1),
+    (150_000, 2),
+    (300_000, 3),
+    (450_000, 4),
+    (600_000, 5),
+    (750_000, 6),
+    (900_000, 7),
+    (1_050_000, 8),
+    (1_200_000, 9),
+    (1_350_000, 10),
+];
 
 /// Ten times two writes, a sync and a read, each time at another place.
 fn forty_calls(rt: &impl Abort, alloc: Global) -> MemoryDisk {
     let mut disk = blank(rt, alloc, 1_572_864);
-    for turn in 0..10u8 {
-        same(
-            rt,
-            &four_calls(rt, &mut disk, turn),
-            &Ok(()),
-            "turn",
-            turn as usize,
-        );
+    for (turn, (place, byte)) in TURNS.iter().enumerate() {
+        holds(rt, four_calls(rt, &mut disk, *place, *byte), "turn", turn);
     }
-    same(rt, &disk.calls(), &40, "calls", 40);
+    holds(rt, disk.calls() == 40, "calls", 40);
     disk
 }
 
-/// What the first byte of this turn is behind so many calls, torn in this way.
-fn first_of(turn: u8, calls: u64, torn: Torn) -> u8 {
-    let written = turn.saturating_add(1);
-    let torn_first = match torn {
+/// How a crash tears what isn't synced, and what a written byte is then.
+fn torn_byte(torn: Torn, written: u8) -> u8 {
+    match torn {
         Torn::Keep | Torn::Front(0) => 0,
         Torn::Take | Torn::Front(_) => written,
         Torn::Fill(value) => value,
-    };
-    match calls.saturating_sub(4 * turn as u64) {
-        0 => 0,
-        1 | 2 => torn_first,
-        _ => written,
     }
 }
 
-/// Asserts what a crash leaves of the first byte of each turn.
+/// Asserts what the first byte of each turn is behind so many calls, torn in this way. The call of
+/// a turn's first write, and the two behind it, come behind four for each turn before.
 fn assert_firsts(rt: &impl Abort, alloc: Global, disk: &MemoryDisk, calls: u64, torn: Torn) {
-    let bytes = done(rt, left(rt, alloc, disk, calls, torn), "memory");
-    same(
-        rt,
-        &bytes.len(),
-        &1_572_864,
-        "bytes behind call",
-        calls as usize,
-    );
-    for turn in 0..10u8 {
-        let first = bytes.get(150_000 * turn as usize);
-        let wanted = first_of(turn, calls, torn);
-        same(rt, &first, &Some(&wanted), "call", calls as usize);
+    let bytes = left(rt, alloc, disk, calls, torn);
+    let mut before = 0u64;
+    for (place, byte) in TURNS.iter() {
+        let wanted = match calls.saturating_sub(before) {
+            0 => 0,
+            1 | 2 => torn_byte(torn, *byte),
+            _ => *byte,
+        };
+        let found = bytes.get(*place as usize);
+        holds(rt, found == Some(&wanted), "behind call", calls as usize);
+        before = before.saturating_add(4);
     }
 }
+
+static TEARS: [Torn; 6] = [
+    Torn::Keep,
+    Torn::Take,
+    Torn::Fill(0),
+    Torn::Fill(0xA7),
+    Torn::Front(0),
+    Torn::Front(1),
+];
 
 #[test]
 fn shows_each_stop_of_forty_calls(rt: HostRuntime) {
     let disk = forty_calls(&rt, rt.alloc());
-    let tears = [
-        Torn::Keep,
-        Torn::Take,
-        Torn::Fill(0),
-        Torn::Fill(0xA7),
-        Torn::Front(0),
-        Torn::Front(1),
-    ];
     for calls in 0..41u64 {
-        for torn in tears {
-            assert_firsts(&rt, rt.alloc(), &disk, calls, torn);
+        for torn in TEARS.iter() {
+            assert_firsts(&rt, rt.alloc(), &disk, calls, *torn);
         }
     }
 }
 
-/// Says for which there was no room: a disk, a write, a sync, what a crash leaves. Asserts what the
-/// disk has.
-fn lacks_of(rt: &impl Abort, heap: &LocalHeap) -> [bool; 4] {
-    let mut disk = match MemoryDisk::new(heap, 8) {
-        Ok(disk) => disk,
-        Err(fault) => {
-            same(rt, &fault, &Fault::Memory, "a disk", 0);
-            return [true, false, false, false];
-        }
-    };
-    let wrote = write(rt, &mut disk, 2, &[5, 6, 7]).is_ok();
-    assert_reads(rt, &mut disk, 2, if wrote { [5, 6, 7] } else { [0, 0, 0] });
-    let synced = sync(&mut disk).is_ok();
-    same(rt, &disk.calls(), &3, "calls", 3);
-    let shown = leaves(rt, heap, &disk, wrote && synced);
-    [false, !wrote, !synced, !shown]
-}
-
-/// Says whether there is room for what a crash leaves, which is asserted.
+/// Whether there is room for what a crash leaves now, which is right.
 fn leaves<'h>(
     rt: &impl Abort,
     heap: &'h LocalHeap,
     disk: &MemoryDisk<&'h LocalHeap>,
     whole: bool,
 ) -> bool {
-    let want = if whole {
-        [0, 0, 5, 6, 7, 0, 0, 0]
+    let wanted: &[u8] = if whole {
+        &[0, 0, 5, 6, 7, 0, 0, 0]
     } else {
-        [0; 8]
+        &[0; 8]
     };
-    match left(rt, heap, disk, 3, Torn::Keep) {
-        Ok(image) => {
-            same(rt, &image.as_slice(), &want.as_slice(), "image", 0);
-            true
-        }
+    let (made, right) = match disk.image(heap, disk.calls(), Torn::Keep) {
+        Ok(image) => (true, image.as_slice() == wanted),
+        Err(fault) => (false, fault == Fault::Memory),
+    };
+    holds(rt, right, "image", made as usize);
+    made
+}
+
+/// Says for which there was no room: a disk over this heap, a write, a sync, what a crash leaves.
+/// Asserts what the disk has.
+fn lacks_of(rt: &impl Abort, heap: &LocalHeap) -> [bool; 4] {
+    let mut disk = match MemoryDisk::new(heap, 8) {
+        Ok(disk) => disk,
         Err(fault) => {
-            same(rt, &fault, &Fault::Memory, "image", 0);
-            false
+            holds(rt, fault == Fault::Memory, "a disk", 0);
+            return [true, false, false, false];
         }
-    }
+    };
+    let wrote = write(rt, &mut disk, 2, &[5, 6, 7]).is_ok();
+    let wanted: &[u8] = if wrote { &[5, 6, 7] } else { &[0; 3] };
+    holds(rt, reads(rt, &mut disk, 2, wanted), "read", wrote as usize);
+    let synced = disk.sync().is_ok();
+    holds(rt, disk.calls() == 3, "calls", 3);
+    let shown = leaves(rt, heap, &disk, wrote && synced);
+    [false, !wrote, !synced, !shown]
 }
 
 /// Says for which of these so many bytes have no room.
@@ -267,206 +318,47 @@ fn a_refused_growth_is_a_failed_call(rt: HostRuntime) {
             *all |= *lack;
         }
     }
-    same(&rt, &seen, &[true; 4], "each lack", 0);
+    for (row, seen) in seen.iter().enumerate() {
+        holds(&rt, *seen, "lack", row);
+    }
 }
 
-/// Writes 1 at place 0.
-fn first_write<D: RunDisk>(rt: &impl Abort, disk: &mut D) {
-    same(rt, &write(rt, disk, 0, &[1]), &Ok(()), "a write at", 0);
-}
+/// Fails from the third call on.
+static FUSED: [Call; 5] = [
+    Call::Write(0, &[1], true),
+    Call::Sync(true),
+    Call::Write(1, &[2], false),
+    Call::Sync(false),
+    Call::NoRead(0, 4),
+];
 
-/// Asserts that these four bytes were left by so many calls.
-fn assert_rest(rt: &impl Abort, mut disk: MemoryDisk, calls: u64, want: [u8; 4]) {
-    same(rt, &disk.calls(), &calls, "calls", calls as usize);
-    let mut bytes = [9; 4];
-    same(
-        rt,
-        &read(rt, &mut disk, 0, &mut bytes),
-        &Ok(()),
-        "a read at",
-        0,
-    );
-    same(rt, &bytes, &want, "bytes at", 0);
-}
+/// What is left by two calls.
+static BEHIND_FUSE: [Call; 1] = [Call::Read(0, &[1, 0, 0, 0])];
 
 #[test]
 fn a_fuse_fails_for_good(rt: HostRuntime) {
     let mut fuse = Fuse::new(blank(&rt, rt.alloc(), 4), 2);
-    first_write(&rt, &mut fuse);
-    same(&rt, &sync(&mut fuse), &Ok(()), "a sync", 2);
-    same(
-        &rt,
-        &write(&rt, &mut fuse, 1, &[2]),
-        &Err(DiskFailed),
-        "a write",
-        3,
-    );
-    same(&rt, &sync(&mut fuse), &Err(DiskFailed), "a sync", 4);
-    let mut out = [0; 4];
-    same(
-        &rt,
-        &read(&rt, &mut fuse, 0, &mut out),
-        &Err(DiskFailed),
-        "a read",
-        5,
-    );
-    assert_rest(&rt, fuse.into_inner(), 2, [1, 0, 0, 0]);
+    play(&rt, &mut fuse, "call", &FUSED);
+    let mut disk = fuse.into_inner();
+    holds(&rt, disk.calls() == 2, "calls", 2);
+    play(&rt, &mut disk, "behind", &BEHIND_FUSE);
 }
 
-/// A write that lasts, inside a disk.
-fn lasting<D: RunDisk>(rt: &impl Abort, disk: &mut D, at: u64, byte: u8) -> Result<(), DiskFailed> {
-    assert!(rt; at < disk.size());
-    write_durably(disk, at, &[byte])
-}
+/// Fails the second call alone.
+static FAILED_ONCE: [Call; 3] = [
+    Call::Write(0, &[1], true),
+    Call::Write(1, &[2], false),
+    Call::Last(2, &[3]),
+];
+
+/// What is left by three calls.
+static BEHIND_FAILURE: [Call; 1] = [Call::Read(0, &[1, 0, 3, 0])];
 
 #[test]
 fn one_call_fails_once(rt: HostRuntime) {
-    let mut disk = FailOnce::new(blank(&rt, rt.alloc(), 4), 2);
-    first_write(&rt, &mut disk);
-    same(
-        &rt,
-        &write(&rt, &mut disk, 1, &[2]),
-        &Err(DiskFailed),
-        "a write",
-        2,
-    );
-    same(
-        &rt,
-        &lasting(&rt, &mut disk, 2, 3),
-        &Ok(()),
-        "a lasting write",
-        3,
-    );
-    assert_rest(&rt, disk.into_inner(), 3, [1, 0, 3, 0]);
-}
-
-/// The disk over the file of this path, which is read and written.
-fn open(rt: &HostRuntime, path: &str) -> Option<FileDisk> {
-    let file = File::options().read(true).write(true).open(rt, path).ok()?;
-    FileDisk::new(file).ok()
-}
-
-/// The disk over the file of this path, which is read alone.
-fn open_to_read(rt: &HostRuntime, path: &str) -> Option<FileDisk> {
-    FileDisk::new(File::open(rt, path).ok()?).ok()
-}
-
-/// Writes a file of these bytes.
-fn write_file(rt: &HostRuntime, path: &str, bytes: &[u8]) -> Option<()> {
-    fs::write(rt, path, bytes).ok()
-}
-
-/// The length of the file of this path.
-fn length_of(rt: &HostRuntime, path: &str) -> Option<u64> {
-    Some(fs::metadata(rt, path).ok()?.len())
-}
-
-/// Writes at the front of a disk of 4,096 bytes, in its midst and at its end, and makes that last.
-fn write_synced(rt: &impl Abort, disk: &mut FileDisk) -> Result<(), DiskFailed> {
-    write(rt, disk, 0, &[1, 2])?;
-    write(rt, disk, 2047, &[3, 4, 5])?;
-    write(rt, disk, 4095, &[6])?;
-    disk.sync()
-}
-
-#[test]
-fn a_file_keeps_what_was_synced(rt: HostRuntime) {
-    let path = "synced.disk";
-    same(
-        &rt,
-        &write_file(&rt, path, &[0; 4096]),
-        &Some(()),
-        "the file",
-        0,
-    );
-    let mut disk = given(&rt, open(&rt, path), "disk");
-    same(&rt, &disk.size(), &4096, "size", 0);
-    same(&rt, &write_synced(&rt, &mut disk), &Ok(()), "the writes", 0);
-    drop(disk);
-    let mut disk = given(&rt, open(&rt, path), "disk");
-    same(&rt, &disk.size(), &4096, "size", 1);
-    assert_reads(&rt, &mut disk, 0, [1, 2, 0]);
-    assert_reads(&rt, &mut disk, 2047, [3, 4, 5]);
-    assert_reads(&rt, &mut disk, 4093, [0, 0, 6]);
-    same(
-        &rt,
-        &length_of(&rt, path),
-        &Some(4096),
-        "the file's length",
-        0,
-    );
-}
-
-/// Cuts the file of this path short.
-fn cut(rt: &HostRuntime, path: &str, length: u64) -> Option<()> {
-    let file = File::options().write(true).open(rt, path).ok()?;
-    file.set_len(length).ok()
-}
-
-#[test]
-fn a_file_cut_short_fails_reads(rt: HostRuntime) {
-    let path = "cut.disk";
-    same(
-        &rt,
-        &write_file(&rt, path, &[7; 64]),
-        &Some(()),
-        "the file",
-        0,
-    );
-    let mut disk = given(&rt, open(&rt, path), "disk");
-    same(&rt, &disk.size(), &64, "size", 0);
-    same(&rt, &cut(&rt, path, 40), &Some(()), "the cut at", 40);
-    let mut bytes = [0; 16];
-    same(
-        &rt,
-        &read(&rt, &mut disk, 16, &mut bytes),
-        &Ok(()),
-        "a read at",
-        16,
-    );
-    same(&rt, &bytes, &[7; 16], "bytes at", 16);
-    same(
-        &rt,
-        &read(&rt, &mut disk, 32, &mut bytes),
-        &Err(DiskFailed),
-        "a read at",
-        32,
-    );
-    same(
-        &rt,
-        &read(&rt, &mut disk, 48, &mut bytes),
-        &Err(DiskFailed),
-        "a read at",
-        48,
-    );
-}
-
-#[test]
-fn a_file_open_for_reading_alone_fails_writes(rt: HostRuntime) {
-    let path = "read.disk";
-    same(
-        &rt,
-        &write_file(&rt, path, &[7; 8]),
-        &Some(()),
-        "the file",
-        0,
-    );
-    let mut disk = given(&rt, open_to_read(&rt, path), "disk");
-    same(&rt, &disk.size(), &8, "size", 0);
-    same(
-        &rt,
-        &write(&rt, &mut disk, 2, &[1]),
-        &Err(DiskFailed),
-        "a write at",
-        2,
-    );
-    let mut bytes = [0; 8];
-    same(
-        &rt,
-        &read(&rt, &mut disk, 0, &mut bytes),
-        &Ok(()),
-        "a read at",
-        0,
-    );
-    same(&rt, &bytes, &[7; 8], "bytes at", 0);
+    let mut once = FailOnce::new(blank(&rt, rt.alloc(), 4), 2);
+    play(&rt, &mut once, "call", &FAILED_ONCE);
+    let mut disk = once.into_inner();
+    holds(&rt, disk.calls() == 3, "calls", 3);
+    play(&rt, &mut disk, "behind", &BEHIND_FAILURE);
 }

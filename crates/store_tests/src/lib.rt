@@ -5,9 +5,11 @@
 #[cfg(test)]
 mod asserts;
 #[cfg(test)]
-mod calls;
+mod bytes;
 #[cfg(test)]
 mod disks;
+#[cfg(test)]
+mod files;
 #[cfg(test)]
 mod journals;
 #[cfg(test)]

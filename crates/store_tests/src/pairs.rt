@@ -1,10 +1,11 @@
-//! What a store holds, a [`Pair`], and the stores that the tests of journals begin with.
+//! What a store holds, a [`Pair`], and the journals that the tests of stores make it by.
 
-use crate::asserts::{done, same};
-use crate::calls::{adopted, blank, body_of, checkpoint, disk_of, flush, format, now, put};
-use run_disk::{MemoryDisk, RunDisk, Torn};
+use crate::asserts::{done, holds};
+use crate::bytes::{disk_of, filled};
+use run_disk::{MemoryDisk, RunDisk};
 use run_journal::{Journal, Stored};
-use run_model::Fault;
+use run_model::Fault::DiskFailed;
+use run_model::{Fault, Layout};
 use std::alloc::Global;
 use std::process::Abort;
 
@@ -46,59 +47,17 @@ pub const ONE_BATCH: Pair = Pair {
     batches: &[&FIRST],
 };
 
-/// How many bytes a small store has.
-pub const SMALL: usize = 1_572_864;
-
-/// A disk that holds a formatted store.
-pub fn formatted(rt: &impl Abort, alloc: Global) -> MemoryDisk {
-    let mut disk = blank(rt, alloc, SMALL);
-    same(
-        rt,
-        &format(rt, &mut disk, FORMATTED),
-        &Ok(()),
-        "the format",
-        0,
-    );
-    disk
-}
-
-/// The journal of a store that is opened.
-pub fn opened<D: RunDisk>(rt: &impl Abort, alloc: Global, disk: D) -> Journal<D> {
-    let mut journal = adopted(rt, alloc, disk);
-    let mut body = body_of(OPENED);
-    same(
-        rt,
-        &checkpoint(rt, &mut journal, &mut body),
-        &Ok(()),
-        "the opening",
-        0,
-    );
-    journal
-}
-
-/// Asserts that a batch is flushed.
-pub fn assert_flushed<D: RunDisk>(rt: &impl Abort, journal: &mut Journal<D>, pending: &[u8]) {
-    same(
-        rt,
-        &flush(rt, journal, pending),
-        &Ok(()),
-        "a flush",
-        pending.len(),
-    );
-}
-
-/// The same store after its opening and a flush of the first batch.
-pub fn flushed(rt: &impl Abort, alloc: Global) -> Journal<MemoryDisk> {
-    let mut journal = opened(rt, alloc, formatted(rt, alloc));
-    assert_flushed(rt, &mut journal, &FIRST);
-    journal
-}
-
-/// The same after a flush of the second batch too.
-pub fn flushed_twice(rt: &impl Abort, alloc: Global) -> MemoryDisk {
-    let mut journal = flushed(rt, alloc);
-    assert_flushed(rt, &mut journal, &SECOND);
-    journal.into_disk()
+/// Whether a store holds this pair.
+pub fn is_pair(stored: &Stored, pair: &Pair) -> bool {
+    let mut lent = stored.batches();
+    for batch in pair.batches.iter() {
+        if lent.next() != Some(*batch) {
+            return false;
+        }
+    }
+    lent.next().is_none()
+        && (stored.generation(), stored.tail()) == pair.numbers
+        && stored.image() == pair.image
 }
 
 /// What a recovery of a disk gives, or its fault.
@@ -106,40 +65,153 @@ pub fn recovered<D: RunDisk>(alloc: Global, disk: &mut D) -> Result<Stored, Faul
     Journal::recover(alloc, disk)
 }
 
-/// Asserts what a recovery gave.
-pub fn assert_stored(rt: &impl Abort, stored: &Stored, pair: &Pair) {
-    let numbers = (stored.generation(), stored.tail());
-    same(rt, &numbers, &pair.numbers, "the numbers", 0);
-    same(rt, &stored.image(), &pair.image, "the image", 0);
-    let mut lent = stored.batches();
-    for (row, batch) in pair.batches.iter().enumerate() {
-        same(rt, &lent.next(), &Some(*batch), "batch", row);
+/// The fault of a recovery, if it has one.
+pub fn fault_of<D: RunDisk>(alloc: Global, disk: &mut D) -> Option<Fault> {
+    recovered(alloc, disk).err()
+}
+
+/// Whether a recovery of a disk gives this pair.
+pub fn gives_pair(alloc: Global, disk: &mut MemoryDisk, pair: &Pair) -> bool {
+    match recovered(alloc, disk) {
+        Ok(stored) => is_pair(&stored, pair),
+        Err(_) => false,
     }
-    same(rt, &lent.next(), &None, "batch", pair.batches.len());
 }
 
-/// Asserts that a recovery of a disk gives this pair.
-pub fn assert_recovered(rt: &impl Abort, alloc: Global, disk: &mut MemoryDisk, pair: &Pair) {
-    let stored = done(rt, recovered(alloc, disk), "store");
-    assert_stored(rt, &stored, pair);
-}
-
-/// Asserts that a recovery of these bytes gives this pair.
-pub fn holds_pair(rt: &impl Abort, alloc: Global, bytes: Vec<u8>, pair: &Pair) {
+/// Whether a recovery of these bytes gives this pair, by three reads.
+pub fn holds_pair(rt: &impl Abort, alloc: Global, bytes: Vec<u8>, pair: &Pair) -> bool {
     let mut disk = disk_of(rt, alloc, bytes);
-    assert_recovered(rt, alloc, &mut disk, pair);
-    same(rt, &disk.calls(), &3, "calls", 3);
+    gives_pair(alloc, &mut disk, pair) && disk.calls() == 3
 }
 
-/// What a disk has, but for some bytes from a place on.
-pub fn damaged(
+/// A call of a journal.
+#[derive(Clone, Copy)]
+pub enum Call {
+    /// A checkpoint of this image.
+    Checkpoint(&'static [u8; 23]),
+    /// A flush of this batch.
+    Flush(&'static [u8]),
+    /// A flush of a batch of so many bytes, all 0xA7, which are all the room that there is.
+    Fill(usize),
+}
+
+/// A body with this image from place 12 on.
+fn body_of(image: &[u8; 23]) -> [u8; 35] {
+    let mut body = [0xEE; 35];
+    body[12..].copy_from_slice(image);
+    body
+}
+
+/// A checkpoint of this image, which leaves the body as it was where no number is left.
+fn checkpoint<D: RunDisk>(
+    rt: &impl Abort,
+    journal: &mut Journal<D>,
+    image: &[u8; 23],
+) -> Result<(), Fault> {
+    let mut body = body_of(image);
+    assert!(rt; !journal.is_broken());
+    let told = journal.checkpoint(&mut body);
+    let is_kept = told != Err(Fault::NumbersSpent) || body == body_of(image);
+    holds(rt, is_kept, "the body of image", image.len());
+    told
+}
+
+/// A flush of a batch that fits.
+pub fn flush<D: RunDisk>(
+    rt: &impl Abort,
+    journal: &mut Journal<D>,
+    pending: &[u8],
+) -> Result<(), Fault> {
+    assert!(rt; !journal.is_broken() && !pending.is_empty());
+    assert!(rt; pending.len() as u64 <= journal.room());
+    journal.flush(pending)
+}
+
+/// A flush of so many bytes, which are all the room that there is.
+fn fill<D: RunDisk>(
     rt: &impl Abort,
     alloc: Global,
-    disk: &MemoryDisk,
-    place: usize,
-    bytes: &[u8],
-) -> Vec<u8> {
-    let mut whole = now(rt, alloc, disk, Torn::Keep);
-    put(rt, &mut whole, place, bytes);
-    whole
+    journal: &mut Journal<D>,
+    count: usize,
+) -> Result<(), Fault> {
+    holds(rt, journal.room() == count as u64, "room", count);
+    let told = flush(rt, journal, &filled(rt, alloc, 0xA7, count));
+    holds(rt, journal.room() == 0, "room behind", count);
+    told
+}
+
+/// Makes a call.
+pub fn called<D: RunDisk>(
+    rt: &impl Abort,
+    alloc: Global,
+    journal: &mut Journal<D>,
+    call: Call,
+) -> Result<(), Fault> {
+    match call {
+        Call::Checkpoint(image) => checkpoint(rt, journal, image),
+        Call::Flush(pending) => flush(rt, journal, pending),
+        Call::Fill(count) => fill(rt, alloc, journal, count),
+    }
+}
+
+/// The journal of a store that can be read.
+pub fn adopted<D: RunDisk>(rt: &impl Abort, alloc: Global, mut disk: D) -> Journal<D> {
+    match Journal::recover(alloc, &mut disk) {
+        Ok(stored) => Journal::adopt(disk, &stored),
+        Err(_) => panic!(rt; "no store"),
+    }
+}
+
+/// Calls of a journal, and what each is answered.
+pub type Calls = &'static [(Call, Result<(), Fault>)];
+
+/// The disk of a store behind these calls.
+pub fn behind<D: RunDisk>(rt: &impl Abort, alloc: Global, disk: D, calls: Calls) -> D {
+    let mut journal = adopted(rt, alloc, disk);
+    call_all(rt, alloc, &mut journal, calls);
+    journal.into_disk()
+}
+
+/// Makes the calls, each of which is answered so, and breaks the journal where its disk fails.
+pub fn call_all<D: RunDisk>(
+    rt: &impl Abort,
+    alloc: Global,
+    journal: &mut Journal<D>,
+    calls: Calls,
+) {
+    for (row, (call, wanted)) in calls.iter().enumerate() {
+        let told = called(rt, alloc, journal, *call);
+        holds(rt, told == *wanted, "call", row);
+        let fails = told == Err(DiskFailed);
+        holds(rt, journal.is_broken() == fails, "broken, call", row);
+    }
+}
+
+/// A disk that holds a store of this layout, formatted over bytes of this value.
+pub fn formatted(rt: &impl Abort, alloc: Global, layout: Layout, value: u8) -> MemoryDisk {
+    let bytes = filled(rt, alloc, value, layout.store_len() as usize);
+    let mut disk = disk_of(rt, alloc, bytes);
+    assert!(rt; disk.size() == 1_572_864 || disk.size() == 6_291_456);
+    let told = Journal::format(&mut disk, &mut body_of(&FORMATTED));
+    holds(rt, told == Ok(()), "format over", value as usize);
+    disk
+}
+
+/// The opening of a store, and flushes of the first batch and of the second.
+pub const OPEN: Calls = &[(Call::Checkpoint(&OPENED), Ok(()))];
+
+pub const FLUSH: Calls = &[
+    (Call::Checkpoint(&OPENED), Ok(())),
+    (Call::Flush(&FIRST), Ok(())),
+];
+
+pub const FLUSH_TWICE: Calls = &[
+    (Call::Checkpoint(&OPENED), Ok(())),
+    (Call::Flush(&FIRST), Ok(())),
+    (Call::Flush(&SECOND), Ok(())),
+];
+
+/// The disk of a small store, formatted over zeros, behind these calls.
+pub fn small_behind(rt: &impl Abort, alloc: Global, calls: Calls) -> MemoryDisk {
+    behind(rt, alloc, formatted(rt, alloc, Layout::Small, 0), calls)
 }

@@ -1,50 +1,36 @@
 //! Stops of a flush, a checkpoint and a format, behind each call and torn in each way.
 
-use crate::asserts::{done, holds, same};
-use crate::calls::{body_of, checkpoint, disk_of, left};
+use crate::asserts::holds;
+use crate::bytes::{disk_of, left};
 use crate::pairs::{
-    AS_FORMATTED, AS_OPENED, FIRST, FORMATTED, ONE_BATCH, OPENED, Pair, SECOND, flushed,
-    flushed_twice, formatted, holds_pair, opened, recovered,
+    AS_FORMATTED, AS_OPENED, Call, Calls, FIRST, FLUSH_TWICE, FORMATTED, ONE_BATCH, OPEN, OPENED,
+    Pair, SECOND, behind, formatted, holds_pair, recovered, small_behind,
 };
 use run_disk::{MemoryDisk, Torn};
 use run_journal::Stored;
-use run_model::Fault;
+use run_model::{Fault, Layout};
 use std::alloc::Global;
 use std::process::Abort;
 
-/// How a crash may tear what was not synced.
-const TEARS: [Torn; 6] = [
-    Torn::Keep,
-    Torn::Take,
-    Torn::Fill(0),
-    Torn::Fill(0xA7),
-    Torn::Front(0),
-    Torn::Front(1),
+/// How a crash may tear what was not synced, and whether that opens a gate that was written last.
+static TEARS: [(Torn, bool); 6] = [
+    (Torn::Keep, false),
+    (Torn::Take, true),
+    (Torn::Fill(0), false),
+    (Torn::Fill(0xA7), true),
+    (Torn::Front(0), false),
+    (Torn::Front(1), true),
 ];
 
-/// Says whether a crash behind so many calls may have opened the gate of the last write.
-fn may_be_open(calls: u64, last: u64, torn: Torn) -> bool {
-    match torn {
-        Torn::Take | Torn::Fill(0xA7) | Torn::Front(1) => calls >= last.saturating_sub(1),
-        _ => calls == last,
-    }
-}
-
-/// A stop behind each call from this one on, torn in each way, leaves the pair from before, or once
-/// the last write may have opened its gate the pair from after.
-fn walk(rt: &impl Abort, alloc: Global, disk: &MemoryDisk, from: u64, before: &Pair, after: &Pair) {
-    let last = disk.calls();
-    for calls in from..=last {
-        for torn in TEARS {
-            let bytes = done(rt, left(rt, alloc, disk, calls, torn), "memory");
-            if may_be_open(calls, last, torn) {
-                holds_pair(rt, alloc, bytes, after);
-            } else {
-                holds_pair(rt, alloc, bytes, before);
-            }
-        }
-    }
-}
+/// Calls, how many of the disk there are behind them, from which one on it is stopped, and what it
+/// holds before the last one of them and after it.
+type Stop = (
+    Calls,
+    u64,
+    u64,
+    &'static Pair<'static>,
+    &'static Pair<'static>,
+);
 
 const BOTH_BATCHES: Pair = Pair {
     numbers: (1, 52),
@@ -52,93 +38,93 @@ const BOTH_BATCHES: Pair = Pair {
     batches: &[&FIRST, &SECOND],
 };
 
-#[test]
-fn a_stop_of_a_flush_leaves_the_batch_or_not(rt: HostRuntime) {
-    let disk = flushed_twice(&rt, rt.alloc());
-    same(&rt, &disk.calls(), &30, "calls", 30);
-    walk(&rt, rt.alloc(), &disk, 24, &ONE_BATCH, &BOTH_BATCHES);
-}
-
-#[test]
-fn a_stop_of_the_first_checkpoint_leaves_the_old_pair_or_the_new(rt: HostRuntime) {
-    let disk = opened(&rt, rt.alloc(), formatted(&rt, rt.alloc())).into_disk();
-    same(&rt, &disk.calls(), &18, "calls", 18);
-    walk(&rt, rt.alloc(), &disk, 11, &AS_FORMATTED, &AS_OPENED);
-}
-
 const CHECKPOINTED: Pair = Pair {
     numbers: (2, 0),
     image: &FORMATTED,
     batches: &[],
 };
 
-#[test]
-fn a_stop_of_a_later_checkpoint_leaves_the_old_pair_or_the_new(rt: HostRuntime) {
-    let mut journal = flushed(&rt, rt.alloc());
-    let mut body = body_of(FORMATTED);
-    same(
-        &rt,
-        &checkpoint(&rt, &mut journal, &mut body),
-        &Ok(()),
-        "a checkpoint",
-        2,
-    );
-    let disk = journal.into_disk();
-    same(&rt, &disk.calls(), &31, "calls", 31);
-    walk(&rt, rt.alloc(), &disk, 24, &ONE_BATCH, &CHECKPOINTED);
-}
+/// A later checkpoint.
+const CHECKPOINT: Calls = &[
+    (Call::Checkpoint(&OPENED), Ok(())),
+    (Call::Flush(&FIRST), Ok(())),
+    (Call::Checkpoint(&FORMATTED), Ok(())),
+];
 
-/// Asserts that the first checkpoint can be made again once a crash has stopped it.
-fn assert_again(rt: &impl Abort, alloc: Global, first: &MemoryDisk, calls: u64, torn: Torn) {
-    let bytes = done(rt, left(rt, alloc, first, calls, torn), "memory");
-    let again = opened(rt, alloc, disk_of(rt, alloc, bytes)).into_disk();
-    same(rt, &again.calls(), &10, "calls", 10);
-    walk(rt, alloc, &again, 3, &AS_FORMATTED, &AS_OPENED);
-}
+/// Of a flush, of the first checkpoint, and of a later one.
+static STOPS: [Stop; 3] = [
+    (FLUSH_TWICE, 30, 24, &ONE_BATCH, &BOTH_BATCHES),
+    (OPEN, 18, 11, &AS_FORMATTED, &AS_OPENED),
+    (CHECKPOINT, 31, 24, &ONE_BATCH, &CHECKPOINTED),
+];
 
-#[test]
-fn a_checkpoint_that_was_stopped_can_be_made_again(rt: HostRuntime) {
-    let first = opened(&rt, rt.alloc(), formatted(&rt, rt.alloc())).into_disk();
-    same(&rt, &first.calls(), &18, "calls", 18);
-    // A torn body, and a whole one, behind a gate that is closed.
-    assert_again(&rt, rt.alloc(), &first, 14, Torn::Front(9));
-    assert_again(&rt, rt.alloc(), &first, 16, Torn::Take);
-}
-
-/// Asserts that a crash behind so many of a format's 8 calls leaves no pair that was not asked for.
-fn assert_no_other(rt: &impl Abort, alloc: Global, disk: &MemoryDisk, calls: u64, torn: Torn) {
-    let bytes = done(rt, left(rt, alloc, disk, calls, torn), "memory");
-    match recovered(alloc, &mut disk_of(rt, alloc, bytes)) {
-        Err(fault) => {
-            let told = matches!(fault, Fault::NotAStore | Fault::BadSlot);
-            holds(rt, told && calls < 8, "a fault, call", calls as usize);
+/// A stop behind each call from this one on, torn in each way, leaves the pair from before, or once
+/// the last write may have opened its gate the pair from after.
+fn walk(rt: &impl Abort, alloc: Global, disk: &MemoryDisk, from: u64, before: &Pair, after: &Pair) {
+    let last = disk.calls();
+    for calls in from..=last {
+        for (torn, opens) in TEARS.iter() {
+            let bytes = left(rt, alloc, disk, calls, *torn);
+            let right = if calls == last || (*opens && calls.saturating_add(1) == last) {
+                holds_pair(rt, alloc, bytes, after)
+            } else {
+                holds_pair(rt, alloc, bytes, before)
+            };
+            holds(rt, right, "behind call", calls as usize);
         }
-        Ok(stored) => assert_asked_for(rt, &stored, calls),
     }
 }
 
-/// Asserts that this pair was asked for by a format that made so many of its 8 calls.
-fn assert_asked_for(rt: &impl Abort, stored: &Stored, calls: u64) {
+#[test]
+fn a_stop_leaves_the_old_pair_or_the_new(rt: HostRuntime) {
+    for (calls, last, from, before, after) in STOPS.iter() {
+        let disk = small_behind(&rt, rt.alloc(), calls);
+        holds(&rt, disk.calls() == *last, "calls", *last as usize);
+        walk(&rt, rt.alloc(), &disk, *from, before, after);
+    }
+}
+
+/// Stops of the first checkpoint: a torn body, and a whole one, behind a gate that is closed.
+static AGAIN: [(u64, Torn); 2] = [(14, Torn::Front(9)), (16, Torn::Take)];
+
+#[test]
+fn a_checkpoint_that_was_stopped_can_be_made_again(rt: HostRuntime) {
+    let first = small_behind(&rt, rt.alloc(), OPEN);
+    holds(&rt, first.calls() == 18, "calls", 18);
+    for (calls, torn) in AGAIN.iter() {
+        let bytes = left(&rt, rt.alloc(), &first, *calls, *torn);
+        let again = behind(&rt, rt.alloc(), disk_of(&rt, rt.alloc(), bytes), OPEN);
+        holds(&rt, again.calls() == 10, "calls behind", *calls as usize);
+        walk(&rt, rt.alloc(), &again, 3, &AS_FORMATTED, &AS_OPENED);
+    }
+}
+
+/// Whether a format that made so many of its 8 calls was asked for this pair, or left zeros.
+fn is_asked_for(stored: &Stored, calls: u64) -> bool {
     let image = stored.image();
-    let is_asked = image == FORMATTED.as_slice();
     let is_zeros = image.is_empty() && calls < 8;
-    holds(rt, is_asked || is_zeros, "an image, call", calls as usize);
-    same(
-        rt,
-        &stored.batches().next(),
-        &None,
-        "a batch, call",
-        calls as usize,
-    );
+    stored.batches().next().is_none() && (is_zeros || image == FORMATTED.as_slice())
+}
+
+/// Whether a crash behind so many of a format's 8 calls leaves no pair that was not asked for.
+fn leaves_no_other(alloc: Global, disk: &mut MemoryDisk, calls: u64) -> bool {
+    match recovered(alloc, disk) {
+        Err(Fault::NotAStore | Fault::BadSlot) => calls < 8,
+        Err(_) => false,
+        Ok(stored) => is_asked_for(&stored, calls),
+    }
 }
 
 #[test]
 fn a_stop_of_a_format_leaves_no_pair_that_was_not_asked_for(rt: HostRuntime) {
-    let disk = formatted(&rt, rt.alloc());
-    same(&rt, &disk.calls(), &8, "calls", 8);
+    let disk = formatted(&rt, rt.alloc(), Layout::Small, 0);
+    holds(&rt, disk.calls() == 8, "calls", 8);
     for calls in 0..9u64 {
-        for torn in TEARS {
-            assert_no_other(&rt, rt.alloc(), &disk, calls, torn);
+        for (torn, _) in TEARS.iter() {
+            let bytes = left(&rt, rt.alloc(), &disk, calls, *torn);
+            let mut found = disk_of(&rt, rt.alloc(), bytes);
+            let right = leaves_no_other(rt.alloc(), &mut found, calls);
+            holds(&rt, right, "behind call", calls as usize);
         }
     }
 }

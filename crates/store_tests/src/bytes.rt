@@ -1,0 +1,71 @@
+//! Bytes at places, disks of bytes, and what a crash leaves.
+
+use crate::asserts::done;
+use run_disk::{MemoryDisk, Torn};
+use std::alloc::Global;
+use std::process::Abort;
+
+/// Bytes, each from a place on.
+pub type Puts<'a> = &'a [(usize, &'a [u8])];
+
+/// So many bytes of one value.
+pub fn filled(rt: &impl Abort, alloc: Global, value: u8, count: usize) -> Vec<u8> {
+    done(rt, Vec::from_elem(alloc, value, count), "memory")
+}
+
+/// Puts bytes from a place on, as far as they are inside.
+pub fn put(bytes: &mut [u8], from: usize, new: &[u8]) {
+    if let Some(rest) = bytes.get_mut(from..) {
+        for (old, byte) in rest.iter_mut().zip(new.iter()) {
+            *old = *byte;
+        }
+    }
+}
+
+/// Whether these bytes stand from a place on.
+pub fn is_at(bytes: &[u8], from: usize, wanted: &[u8]) -> bool {
+    match bytes.get(from..) {
+        Some(rest) => rest.starts_with(wanted),
+        None => false,
+    }
+}
+
+/// Whether all of these bytes stand at their places.
+pub fn are_at(bytes: &[u8], wanted: Puts) -> bool {
+    for (from, wanted) in wanted.iter() {
+        if !is_at(bytes, *from, wanted) {
+            return false;
+        }
+    }
+    true
+}
+
+/// A disk of these bytes.
+pub fn disk_of(rt: &impl Abort, alloc: Global, bytes: Vec<u8>) -> MemoryDisk {
+    done(rt, MemoryDisk::from_bytes(alloc, bytes), "memory")
+}
+
+/// A disk of so many bytes, all 0.
+pub fn blank(rt: &impl Abort, alloc: Global, size: usize) -> MemoryDisk {
+    done(rt, MemoryDisk::new(alloc, size), "memory")
+}
+
+/// What a crash behind so many calls leaves, torn in this way.
+pub fn left(rt: &impl Abort, alloc: Global, disk: &MemoryDisk, calls: u64, torn: Torn) -> Vec<u8> {
+    assert!(rt; calls <= disk.calls());
+    done(rt, disk.image(alloc, calls, torn), "memory")
+}
+
+/// What a crash now leaves, torn in this way.
+pub fn now(rt: &impl Abort, alloc: Global, disk: &MemoryDisk, torn: Torn) -> Vec<u8> {
+    left(rt, alloc, disk, disk.calls(), torn)
+}
+
+/// What a disk has, but for some bytes.
+pub fn damaged(rt: &impl Abort, alloc: Global, disk: &MemoryDisk, puts: Puts) -> Vec<u8> {
+    let mut bytes = now(rt, alloc, disk, Torn::Keep);
+    for (from, new) in puts.iter() {
+        put(&mut bytes, *from, new);
+    }
+    bytes
+}
