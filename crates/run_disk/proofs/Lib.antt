@@ -3,6 +3,7 @@ pub mod EarlierImages
 pub mod MemoryLemmas
 pub mod MomentLemmas
 pub mod NewestLemmas
+pub mod OverLemmas
 pub mod PlaceLemmas
 pub mod RunLemmas
 pub mod StandingLemmas

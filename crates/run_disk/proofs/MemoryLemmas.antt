@@ -1,19 +1,19 @@
 -- What each call does to a disk in memory.
 use Rattle.std.proofs.Common.{◌≡◌, ◌⊎◌, ◌<◌, ◌≤◌, ◌+◌, ◌-◌, ℕ, false, List, [], ◌∷◌, ◌++◌, Ok}
 use Rattle.std.proofs.Common.{Err, length, get_or, take, drop, refl, sym, ◌∙◌, ap, subst, inl}
-use Rattle.std.proofs.Common.{inr, arith, nat_le, unwrap_or}
+use Rattle.std.proofs.Common.{inr, arith, nat_le, unwrap_or, ◌^◌}
 use Rattle.std.specs.List.{All}
 use Rattle.std.proofs.lemmas.Bool.{cases_lt, le-ltb, lt-leb}
 use Rattle.std.proofs.lemmas.List.{get_or_past, length-take-le, length-drop, get_or-take}
-use Rattle.std.proofs.lemmas.List.{get_or-drop}
+use Rattle.std.proofs.lemmas.List.{ext_get_or, get_or-drop}
 use Rattle.std.proofs.lemmas.List.Folds.{list_any-append}
-use Rattle.std.proofs.lemmas.List.Elements.{All-weaker, All-push}
+use Rattle.std.proofs.lemmas.List.Elements.{All-nil, All-weaker, All-push}
 use borrow.Rule.Slice.PartMut.{put_mid}
 use Rattle.run_disk.specs.declared.tears.Torn.TheVariants.{Take}
 use Rattle.run_disk.specs.Contents.{SameOutside, Puts, Within, Follows}
-use Rattle.run_disk.specs.Disk.{last_moment}
+use Rattle.run_disk.specs.Disk.{Begins, last_moment}
 use Rattle.run_disk.specs.Calls.{Calls, Reads, Writes, Syncs}
-use Rattle.run_disk.specs.Writes.{Write, History, and_write, and_sync}
+use Rattle.run_disk.specs.Writes.{Write, History, and_write, and_sync, beginning}
 use Rattle.run_disk.specs.History.{IsImage, IsLeftSince, byte_put, byte_after, is_unsynced, covers}
 use Rattle.run_disk.specs.Memory.{IsKept, memory_state}
 use Rattle.run_disk.proofs.ContentsLemmas.{same_all}
@@ -23,6 +23,31 @@ use Rattle.run_disk.proofs.MomentLemmas.{and_false, byte_whole, tears, byte_afte
 use Rattle.run_disk.proofs.MomentLemmas.{is_unsynced-quiet, byte_after-later_write}
 use Rattle.run_disk.proofs.MomentLemmas.{is_unsynced-later_write, byte_after-later_sync}
 use Rattle.run_disk.proofs.MomentLemmas.{is_unsynced-later_sync, is_unsynced-synced}
+
+-- A disk before its first call.
+pub begun_kept : (bytes : List ℕ) → length bytes < 2 ^ 64 → IsKept (beginning bytes) bytes 0 0
+begun_kept bytes fits = record {
+  now = record { size = refl; bytes = λ i below. refl };
+  inside = All-nil (λ w. w.at + length w.bytes ≤ length bytes);
+  made = All-nil (λ w. w.moment < 0);
+  synced = All-nil (λ sync. sync < 0);
+  failures_fit = omega arith;
+  clock_fits = omega arith;
+  size_fits = fits;
+}
+
+pub begun : (bytes : List ℕ) → Begins bytes (memory_state (beginning bytes) bytes 0 0)
+begun bytes = record {
+  honest = tt;
+  rest = record {
+    only = λ x is. ext_get_or 0 x bytes is.size (λ i below. is.bytes i below refl);
+    sure = λ i waits. absurd waits;
+  };
+  now = refl;
+  size = refl;
+  clock = refl;
+  failures = refl;
+}
 
 module _ (h : History) (bytes : List ℕ) (clock failures : ℕ)
     (kept : IsKept h bytes clock failures) where

@@ -1,24 +1,35 @@
 -- A disk that fails once, as contracts see it.
-use Rattle.std.specs.Prelude.{◌≡◌, ◌+◌, ◌<◌, ℕ}
+use Rattle.std.specs.Prelude.{ℕ}
 use Rattle.run_disk.specs.declared.disks.RunDisk.{Ghosts}
 use Rattle.run_disk.specs.declared.fail_onces.FailOnce.{FailOnce}
-use Rattle.run_disk.specs.Disk.{DiskState, last_moment}
-use Rattle.run_disk.specs.Over.{over, all_but}
+use Rattle.run_disk.specs.Devices as device
+use Rattle.run_disk.specs.Disk.{DiskState}
+use Rattle.run_disk.specs.Over.{Gap}
 
 -- Its state, in which its calls and their failures are its own.
 abbrev pub state_of : {D : Type 0} {g : Ghosts D} → FailOnce D g → DiskState
-state_of {g = g} f =
-    over (all_but f.call) (g.state f.made.value).clock (g.state f.disk)
-    f.tally.calls f.tally.failures
+state_of f = device.state_of f.device
 
 -- The disk below.
 abbrev pub below : {D : Type 0} {g : Ghosts D} → FailOnce D g → D
-below f = f.disk
+below f = device.below f.device
 
--- The number of the call that fails, counted from 1.
-abbrev pub call_of : {D : Type 0} {g : Ghosts D} → FailOnce D g → ℕ
-call_of f = f.call
+-- The calls that it fails by itself.
+abbrev pub calls_cut : {D : Type 0} {g : Ghosts D} → FailOnce D g → Gap
+calls_cut f = device.gap_of f.device
 
--- It passes the next call on: it isn't spent, and the next call isn't the one that fails.
+-- It passes the next call on.
 abbrev pub PassesNext : {D : Type 0} {g : Ghosts D} → FailOnce D g → Type 0
-PassesNext f = (f.tally.calls < last_moment) × (f.tally.calls + 1 ≡ f.call → ⊥)
+PassesNext f = device.PassesNext f.device
+
+-- The clock that the disk below had when this one was made over it.
+abbrev pub clock_below : {D : Type 0} {g : Ghosts D} → FailOnce D g → ℕ
+clock_below f = device.clock_below f.device
+
+-- The moment of the disk below that a moment of its own is.
+abbrev pub moment_below : {D : Type 0} {g : Ghosts D} → FailOnce D g → ℕ → ℕ
+moment_below f t = device.below_at f.device t
+
+-- It fails the same calls, and its moments are the same ones of the disk below.
+abbrev pub IsSetAs : {D : Type 0} {g : Ghosts D} → FailOnce D g → FailOnce D g → Type 0
+IsSetAs old new = device.IsSetAs old.device new.device

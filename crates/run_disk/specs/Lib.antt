@@ -1,5 +1,6 @@
 pub mod Calls
 pub mod Contents
+pub mod Devices
 pub mod Disk
 pub mod FailOnces
 pub mod Files

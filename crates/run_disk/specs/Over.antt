@@ -1,6 +1,5 @@
 -- A disk over another, which passes some of its calls on to it and fails the others by itself.
-use Rattle.std.specs.Prelude.{◌≡◌, ◌≤◌, ◌<◌, ◌^◌, ◌+◌, ◌-◌, ℕ, List, Result, IsErr, min, nat_lt}
-use Rattle.std.specs.Prelude.{if◌then◌else◌}
+use Rattle.std.specs.Prelude.{◌≡◌, ◌⊎◌, ◌≤◌, ◌<◌, ◌^◌, ◌+◌, ◌-◌, ◌↔◌, ℕ, List, Result, IsErr, min}
 use Rattle.std.proofs.Common.{arith, subst, sym}
 use Rattle.run_disk.specs.Disk.{DiskState, IsDisk, last_moment}
 use Rattle.run_disk.specs.Calls.{Calls}
@@ -11,6 +10,11 @@ pub record Relays {D T E : Type 0}
     (state : D → DiskState) (passes : Type 0) (old new : D) (result : Result T E) : Type 0 where
   pub passed_on : passes → Calls (state old) (state new) result
   pub cut_off : (passes → ⊥) → IsErr result × (new ≡ old)
+
+-- What a crash at some moment from t on may have left of the one disk, one from the moment that
+-- answers to t may have left of the other, and the other way round.
+abbrev pub LeftSame : (ℕ → ℕ) → DiskState → DiskState → Type 0
+LeftSame moment one other = (t : ℕ) (x : List ℕ) → one.since t x ↔ other.since (moment t) x
 
 -- Both disks have the same size, reads give the same bytes of them, a crash now may leave the same,
 -- and one is honest exactly where the other is.
@@ -24,26 +28,32 @@ pub record ShowsSame (one other : DiskState) : Type 0 where
   pub honest : one.honest → other.honest
   pub honest_back : other.honest → one.honest
 
--- Of its first n calls a fuse passes on those up to its limit.
-abbrev pub up_to : ℕ → ℕ → ℕ
-up_to limit n = min limit n
+-- The calls that such a disk fails by itself: from the first up to the one before `behind`. The
+-- first call of all has number 0.
+pub record Gap : Type 0 where
+  pub first : ℕ
+  pub behind : ℕ
 
--- Of its first n calls such a disk passes on all but the one of this number, counted from 1.
-abbrev pub all_but : ℕ → ℕ → ℕ
-all_but call n = if nat_lt n call then n else n - min call 1
+-- It passes this call on: it isn't spent then, and the call is none that it fails.
+abbrev pub Passes : Gap → ℕ → Type 0
+Passes gap n = (n < last_moment) × ((n < gap.first) ⊎ (gap.behind ≤ n))
 
--- The moment of the disk below, when so many calls were passed on since it had this clock.
-abbrev pub moment_below : ℕ → ℕ → ℕ
-moment_below first passed = min last_moment (first + passed)
+-- Of its first n calls it passes on so many.
+abbrev pub passed : Gap → ℕ → ℕ
+passed gap n = min gap.first n + (n - gap.behind)
 
--- The state over a disk in the state `below`, which had the clock `first` when the upper one was
--- made: of its own n calls the upper one passed on `passed n`.
-abbrev pub over : (ℕ → ℕ) → ℕ → DiskState → ℕ → ℕ → DiskState
-over passed first below calls failed = record {
+-- The moment of the disk below that its own moment n is, where the disk below had the clock `first`
+-- when this one was made over it.
+abbrev pub moment_of : Gap → ℕ → ℕ → ℕ
+moment_of gap first n = min last_moment (first + passed gap n)
+
+-- Its state over a disk in the state `below`.
+abbrev pub over : Gap → ℕ → DiskState → ℕ → ℕ → DiskState
+over gap first below calls failed = record {
   size = below.size;
   now = below.now;
   images = below.images;
-  since = λ t. below.since (moment_below first (passed t));
+  since = λ t. below.since (moment_of gap first t);
   clock = calls;
   failures = failed;
   honest = below.honest;
@@ -51,35 +61,28 @@ over passed first below calls failed = record {
 }
 
 -- What such a disk keeps: the disk below made the calls that were passed on, and no others.
-pub record IsOver (passed : ℕ → ℕ) (first : ℕ) (below : DiskState) (calls failed : ℕ) : Type 0 where
-  pub made_below : below.clock ≡ moment_below first (passed calls)
+pub record IsOver (gap : Gap) (first : ℕ) (below : DiskState) (calls failed : ℕ) : Type 0 where
+  pub in_order : gap.first ≤ gap.behind
+  pub made_below : below.clock ≡ moment_of gap first calls
   pub failed_fit : failed ≤ calls
   pub calls_fit : calls < 2 ^ 64
 
--- Of more calls no fewer are passed on.
-pub all_but-grows : (call a b : ℕ) → a ≤ b → all_but call a ≤ all_but call b
-all_but-grows call a b le = grind arith
-
 -- Such a state is a disk's.
-pub over_is_disk : (passed : ℕ → ℕ) (first : ℕ) (below : DiskState) (calls failed : ℕ)
-    → ((a b : ℕ) → a ≤ b → passed a ≤ passed b)
-    → IsDisk below → IsOver passed first below calls failed
-    → IsDisk (over passed first below calls failed)
-over_is_disk passed first below calls failed grows disk kept = record {
+pub over_is_disk : (gap : Gap) (first : ℕ) (below : DiskState) (calls failed : ℕ)
+    → IsDisk below → IsOver gap first below calls failed
+    → IsDisk (over gap first below calls failed)
+over_is_disk gap first below calls failed disk kept = record {
   size_fits = disk.size_fits;
   clock_fits = kept.calls_fit;
   failures_fit = kept.failed_fit;
   size_now = disk.size_now;
   size_image = disk.size_image;
   now_is_image = disk.now_is_image;
-  size_since = λ honest t x left.
-      disk.size_since honest (moment_below first (passed t)) x left;
+  size_since = λ honest t x left. disk.size_since honest (moment_of gap first t) x left;
   counts_now = λ t x early is.
-      disk.counts_now (moment_below first (passed t)) x
-      (omega (arith, kept.made_below, grows t calls early)) is;
+      disk.counts_now (moment_of gap first t) x (omega (arith, kept.made_below)) is;
   only_now = λ x left. disk.only_now x (subst (λ m. below.since m x) (sym kept.made_below) left);
   earlier = λ t u x before within left.
-      disk.earlier (moment_below first (passed t)) (moment_below first (passed u)) x
-      (omega (arith, grows t u before))
-      (omega (arith, kept.made_below, grows u calls within)) left;
+      disk.earlier (moment_of gap first t) (moment_of gap first u) x
+      (omega arith) (omega (arith, kept.made_below)) left;
 }

@@ -4,7 +4,7 @@
 //! size, its counts and its safety are claimed. A program that rests on it takes as its premise
 //! that nobody else writes the file and that the file behaves as a disk does.
 
-ghost use Rattle.std.specs.Prelude.{◌≡◌, ⊤, IfOk};
+ghost use Rattle.std.specs.Prelude.{◌≡◌, ⊤, IfOk, is_ok};
 ghost use Rattle.run_disk.specs.Files.{IsFileDisk, file_state, is_file_disk};
 
 use crate::disks::{DiskFailed, RunDisk};
@@ -52,7 +52,7 @@ impl RunDisk for FileDisk {
         if self.tally.is_spent() {
             return Err(DiskFailed);
         }
-        let done = self.file.read_exact_at(out, at);
+        let done = or_failed(self.file.read_exact_at(out, at));
         self.tally.count(done)
     }
 
@@ -60,7 +60,7 @@ impl RunDisk for FileDisk {
         if self.tally.is_spent() {
             return Err(DiskFailed);
         }
-        let done = self.file.write_all_at(bytes, at);
+        let done = or_failed(self.file.write_all_at(bytes, at));
         self.tally.count(done)
     }
 
@@ -68,7 +68,17 @@ impl RunDisk for FileDisk {
         if self.tally.is_spent() {
             return Err(DiskFailed);
         }
-        let done = self.file.sync_data();
+        let done = or_failed(self.file.sync_data());
         self.tally.count(done)
+    }
+}
+
+/// What a call of the file comes to: whatever its error, the device failed.
+fn or_failed<E: Drop>(done: Result<(), E>) -> Result<(), DiskFailed>
+    ensures { is_ok result ≡ is_ok done }
+{
+    match done {
+        Ok(()) => Ok(()),
+        Err(_) => Err(DiskFailed),
     }
 }

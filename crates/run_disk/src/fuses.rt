@@ -1,44 +1,35 @@
 //! A [`Fuse`] is a disk that fails for good behind so many calls.
 
-ghost use Rattle.std.specs.Prelude.{◌≡◌, ◌≤◌, ◌<◌, ◌+◌, length, OnOk, slice_range};
-ghost use Rattle.std.proofs.Common.{arith};
-ghost use Rattle.std.specs.Bool.{OnFalse, OnTrue};
+ghost use Rattle.std.specs.Prelude.{◌≡◌, ◌≤◌, ◌+◌, [], length, OnOk, slice_range};
+ghost use Rattle.run_disk.specs.Contents.{Within};
 ghost use Rattle.run_disk.specs.Calls.{Calls, Reads, Writes, Syncs};
-ghost use Rattle.run_disk.specs.Over.{IsOver, Relays, ShowsSame, over_is_disk, up_to};
+ghost use Rattle.run_disk.specs.Disk.{last_moment};
+ghost use Rattle.run_disk.specs.Over.{LeftSame, Relays, ShowsSame, over_is_disk};
 
+use crate::devices::Device;
 use crate::disks::{DiskFailed, RunDisk};
-use crate::tallies::Tally;
-use std::snapshot::Snapshot;
 
 /// Passes its first calls on to the disk below, and fails each call behind them. A call that it
 /// fails doesn't reach the disk below.
 #[derive(Drop)]
 pub struct Fuse<D: RunDisk> {
-    disk: D,
-    // the disk below as it was when this one was made
-    made: Snapshot<D>,
-    limit: u64,
-    tally: Tally,
-    ghost kept: { IsOver (up_to limit) (D.state made.value).clock (D.state disk)
-        tally.calls tally.failures },
+    device: Device<D>,
 }
 
 impl<D: RunDisk> Fuse<D> {
-    ghost use Rattle.run_disk.specs.Fuses.{below, limit_of, PassesNext};
+    ghost use Rattle.run_disk.specs.Fuses.{below, calls_cut, moment_below, clock_below};
 
     /// A fuse over this disk, which passes so many calls on.
     pub fn new(disk: D, limit: u64) -> Fuse<D>
-        ensures limit { limit_of result ≡ limit }
+        ensures limit { calls_cut result ≡ record { first = limit; behind = last_moment } }
         ensures below { below result ≡ disk }
+        ensures clock_below { clock_below result ≡ (D.state disk).clock }
         ensures calls { (⟦<Fuse<D> as RunDisk>⟧.state result).clock ≡ 0 }
         ensures failures { (⟦<Fuse<D> as RunDisk>⟧.state result).failures ≡ 0 }
         ensures same { ShowsSame (D.state disk) (⟦<Fuse<D> as RunDisk>⟧.state result) }
     {
         Fuse {
-            made: Snapshot::of(&disk),
-            disk,
-            limit,
-            tally: Tally::new(),
+            device: Device::new(disk, limit, u64::MAX),
         }
     }
 
@@ -46,30 +37,24 @@ impl<D: RunDisk> Fuse<D> {
     pub fn into_inner(self) -> D
         ensures below { result ≡ below self }
         ensures same { ShowsSame (⟦<Fuse<D> as RunDisk>⟧.state self) (D.state result) }
+        ensures since { LeftSame (moment_below self)
+            (⟦<Fuse<D> as RunDisk>⟧.state self) (D.state result) }
     {
-        self.disk
-    }
-
-    /// Says whether it passes the next call on.
-    fn passes_next(&self) -> bool
-        ensures passes { OnTrue result (PassesNext self.now) }
-        ensures fails { OnFalse result (PassesNext self.now → ⊥) }
-    {
-        self.tally.calls < self.limit
+        self.device.into_disk()
     }
 }
 
 impl<D: RunDisk> RunDisk for Fuse<D> {
-    ghost use Rattle.run_disk.specs.Fuses.{state_of, below, limit_of, PassesNext};
+    ghost use Rattle.run_disk.specs.Fuses.{state_of, below, calls_cut, clock_below, PassesNext};
+    ghost use Rattle.run_disk.specs.Fuses.{IsSetAs};
 
     ghost state = { λ f. state_of f };
 
-    ghost is_disk = { λ f. over_is_disk (up_to f.limit) (D.state f.made.value).clock
-        (D.state f.disk) f.tally.calls f.tally.failures (λ a b early. omega arith)
-        (D.is_disk f.disk) f.kept };
+    ghost is_disk = { λ f. over_is_disk (calls_cut f) (clock_below f) (D.state f.device.disk)
+        f.device.tally.calls f.device.tally.failures (D.is_disk f.device.disk) f.device.kept };
 
     fn size(&self) -> u64 {
-        self.disk.size()
+        self.device.size()
     }
 
     fn read_at(&mut self, at: u64, out: &mut [u8]) -> Result<(), DiskFailed>
@@ -80,16 +65,9 @@ impl<D: RunDisk> RunDisk for Fuse<D> {
             → OnOk result (out.new ≡ slice_range (state_of self.old).now at (at + length out.old)) }
         ensures relays { Relays D.state (PassesNext self.old)
             (below self.old) (below self.new) result }
-        ensures same_limit { limit_of self.new ≡ limit_of self.old }
+        ensures same { IsSetAs self.old self.new }
     {
-        if self.tally.is_spent() {
-            return Err(DiskFailed);
-        }
-        if !self.passes_next() {
-            return Err(self.tally.fail());
-        }
-        let done = self.disk.read_at(at, out);
-        self.tally.count(done)
+        self.device.read_at(at, out)
     }
 
     fn write_at(&mut self, at: u64, bytes: &[u8]) -> Result<(), DiskFailed>
@@ -99,16 +77,11 @@ impl<D: RunDisk> RunDisk for Fuse<D> {
             → Writes at bytes.now (state_of self.old) (state_of self.new) result }
         ensures relays { Relays D.state (PassesNext self.old)
             (below self.old) (below self.new) result }
-        ensures same_limit { limit_of self.new ≡ limit_of self.old }
+        ensures same { IsSetAs self.old self.new }
+        ensures nothing { (state_of self.old).honest → bytes.now ≡ []
+            → Within (state_of self.new).images (state_of self.old).images }
     {
-        if self.tally.is_spent() {
-            return Err(DiskFailed);
-        }
-        if !self.passes_next() {
-            return Err(self.tally.fail());
-        }
-        let done = self.disk.write_at(at, bytes);
-        self.tally.count(done)
+        self.device.write_at(at, bytes)
     }
 
     fn sync(&mut self) -> Result<(), DiskFailed>
@@ -117,15 +90,8 @@ impl<D: RunDisk> RunDisk for Fuse<D> {
             → Syncs (state_of self.old) (state_of self.new) result }
         ensures relays { Relays D.state (PassesNext self.old)
             (below self.old) (below self.new) result }
-        ensures same_limit { limit_of self.new ≡ limit_of self.old }
+        ensures same { IsSetAs self.old self.new }
     {
-        if self.tally.is_spent() {
-            return Err(DiskFailed);
-        }
-        if !self.passes_next() {
-            return Err(self.tally.fail());
-        }
-        let done = self.disk.sync();
-        self.tally.count(done)
+        self.device.sync()
     }
 }

@@ -4,6 +4,7 @@
 //! since an earlier moment may have left.
 #![tactic(auto)]
 
+mod devices;
 mod disks;
 mod durable;
 mod fail_onces;

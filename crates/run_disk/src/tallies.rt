@@ -1,6 +1,6 @@
 //! A [`Tally`] counts the calls of a disk, and those that failed.
 
-ghost use Rattle.std.specs.Prelude.{◌≡◌, ◌<◌, ◌≤◌, ◌+◌, ◌-◌, ◌^◌, is_ok, OnOk, OnErr};
+ghost use Rattle.std.specs.Prelude.{◌≡◌, ◌<◌, ◌≤◌, ◌+◌, ◌-◌, ◌^◌, OnOk, OnErr};
 ghost use Rattle.std.specs.Bool.{OnFalse, OnTrue};
 ghost use Rattle.run_disk.specs.Disk.{last_moment};
 
@@ -54,14 +54,29 @@ impl Tally {
         DiskFailed
     }
 
-    /// Counts a call that had this result.
-    pub fn count<E: Drop>(&mut self, done: Result<(), E>) -> Result<(), DiskFailed>
+    /// Counts a call that failed, unless no call more can be counted.
+    pub fn refuse(&mut self) -> DiskFailed
+        requires fit { self.old.failures ≤ self.old.calls }
+        ensures counts { self.old.calls < last_moment → self.new ≡ record {
+          calls = self.old.calls + 1;
+          failures = self.old.failures + 1;
+        } }
+        ensures spent { self.old.calls ≡ last_moment → self.new ≡ self.old }
+    {
+        if self.is_spent() {
+            return DiskFailed;
+        }
+        self.fail()
+    }
+
+    /// Counts a call that had this result, which it passes on.
+    pub fn count(&mut self, done: Result<(), DiskFailed>) -> Result<(), DiskFailed>
         requires early { self.old.calls < last_moment }
         requires fit { self.old.failures ≤ self.old.calls }
         ensures calls { self.new.calls ≡ self.old.calls + 1 }
         ensures fine { OnOk result (self.new.failures ≡ self.old.failures) }
         ensures fails { OnErr result (self.new.failures ≡ self.old.failures + 1) }
-        ensures same { is_ok result ≡ is_ok done }
+        ensures same { result ≡ done }
     {
         match done {
             Ok(()) => {

@@ -1,0 +1,107 @@
+//! Stores on disks in memory, books over them, and runs over these, without their contracts.
+
+use crate::asserts::done;
+use run_book::{Book, MigrateFault, State, migrate};
+use run_console::{RunFault, line, run};
+use run_disk::{MemoryDisk, RunDisk, Torn};
+use run_model::Fault;
+use std::alloc::{Allocator, Global};
+use std::io::{Read, Write};
+use std::process::Abort;
+
+/// How many bytes a small store has.
+pub const SMALL: usize = 1_572_864;
+
+/// And a large one.
+pub const LARGE: usize = 6_291_456;
+
+/// How a crash may tear what was not synced.
+pub const TEARS: [Torn; 6] = [
+    Torn::Keep,
+    Torn::Take,
+    Torn::Fill(0),
+    Torn::Fill(0xA7),
+    Torn::Front(0),
+    Torn::Front(1),
+];
+
+/// A disk of so many zeros.
+pub fn zeros(rt: &impl Abort, alloc: Global, size: usize) -> MemoryDisk {
+    done(rt, MemoryDisk::new(alloc, size), "memory")
+}
+
+/// A disk at rest with these bytes.
+pub fn disk_of(rt: &impl Abort, alloc: Global, bytes: Vec<u8>) -> MemoryDisk {
+    done(rt, MemoryDisk::from_bytes(alloc, bytes), "memory")
+}
+
+/// Why a disk isn't formatted, if it isn't, and the disk.
+pub fn format<D: RunDisk + Drop>(disk: D) -> (Option<Fault>, D) {
+    match Book::format(disk) {
+        Ok(disk) => (None, disk),
+        Err((fault, disk)) => (Some(fault), disk),
+    }
+}
+
+/// A disk of so many bytes with a new store, formatted by eight calls.
+pub fn formatted(rt: &impl Abort, alloc: Global, size: usize) -> MemoryDisk {
+    let (fault, disk) = format(zeros(rt, alloc, size));
+    assert!(rt; fault.is_none());
+    disk
+}
+
+/// A book over a disk, or why there is none, and the disk.
+pub fn open<D: RunDisk + Drop, A: Allocator + Copy>(
+    alloc: A,
+    disk: D,
+) -> Result<Book<D, A>, (Fault, D)> {
+    Book::open(alloc, disk)
+}
+
+/// What a disk stores.
+pub fn recover<D: RunDisk, A: Allocator + Copy>(alloc: A, disk: &mut D) -> Result<State<A>, Fault> {
+    Book::recover(alloc, disk)
+}
+
+/// Why a store isn't taken over by a new disk, if it isn't, and the new disk.
+pub fn migrated<D: RunDisk, E: RunDisk, A: Allocator + Copy>(
+    alloc: A,
+    old: &mut D,
+    new: E,
+) -> (Option<MigrateFault>, E) {
+    match migrate(alloc, old, new) {
+        Ok(new) => (None, new),
+        Err((fault, new)) => (Some(fault), new),
+    }
+}
+
+/// Runs an input over a book.
+pub fn ran<A: Allocator + Copy, R: Read, W: Write, D: RunDisk, B: Allocator>(
+    alloc: A,
+    input: &mut R,
+    output: &mut W,
+    book: &mut Book<D, B>,
+) -> Result<(), RunFault> {
+    run(alloc, input, output, book)
+}
+
+/// Runs a line over a book.
+pub fn said<A: Allocator + Copy, W: Write, D: RunDisk, B: Allocator>(
+    alloc: A,
+    typed: &[u8],
+    output: &mut W,
+    book: &mut Book<D, B>,
+) -> Result<(), RunFault> {
+    line(alloc, typed, output, book)
+}
+
+/// What a crash behind so many calls leaves, torn in this way.
+pub fn left(rt: &impl Abort, alloc: Global, disk: &MemoryDisk, calls: u64, torn: Torn) -> Vec<u8> {
+    assert!(rt; calls <= disk.calls());
+    done(rt, disk.image(alloc, calls, torn), "memory")
+}
+
+/// What a crash leaves now, torn in this way.
+pub fn left_now(rt: &impl Abort, alloc: Global, disk: &MemoryDisk, torn: Torn) -> Vec<u8> {
+    left(rt, alloc, disk, disk.calls(), torn)
+}
