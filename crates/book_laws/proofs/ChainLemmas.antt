@@ -1,11 +1,14 @@
 -- A chain of calls, by what each of them leaves.
-use Rattle.std.proofs.Common.{◌≡◌, ◌⊎◌, inl, inr, ◌∷◌, ℕ, Bool, true, false, List, []}
-use Rattle.std.proofs.Common.{length, None, Ok, Some, append-nil, refl, sym, ap, ◌∙◌, subst, arith}
-use Rattle.std.specs.List.{flat_map}
+use Rattle.std.proofs.Common.{◌≡◌, ◌⊎◌, ◌≤◌, inl, inr, ◌∷◌, ◌||◌, ℕ, Bool, true, false, List, []}
+use Rattle.std.proofs.Common.{length, None, Ok, Err, Some, append-nil, refl, sym, ap, ◌∙◌, subst}
+use Rattle.std.proofs.Common.{arith, IfErr, Result}
+use Rattle.std.specs.List.{flat_map, list_any}
 use Rattle.run_model.specs.declared.answers.Reply.{Reply}
 use Rattle.run_model.specs.declared.commands.Step.{Step}
 use Rattle.run_model.specs.declared.faults.Fault.{Fault}
 use Rattle.run_model.specs.declared.faults.Fault.TheVariants.{DiskFailed, WrongSize}
+use Rattle.run_model.specs.declared.faults.Trouble.{Trouble}
+use Rattle.run_model.specs.declared.faults.Trouble.TheVariants.{Faulty}
 use Rattle.run_model.specs.declared.layouts.Layout.{Layout}
 use Rattle.run_model.specs.declared.layouts.Layout.TheVariants.{Large, Small}
 use Rattle.run_model.specs.Allowed.{run}
@@ -21,22 +24,24 @@ use Rattle.run_journal.specs.Pairs.{AreZeros}
 use Rattle.run_store.proofs.LayoutLemmas.{one_layout}
 use Rattle.run_session.specs.Logged.{Replays, begun_at}
 use Rattle.state_laws.proofs.Interrupts.{restarted as interrupted}
-use Rattle.book_model.specs.Holdings.{CarriesOn, Holding, IsOpened, IsSession, acked}
+use Rattle.book_model.specs.Holdings.{CarriesOn, Holding, IsOpened, IsSession, IsUnsaved, acked}
 use Rattle.book_model.specs.Nights.{opened_from}
-use Rattle.book_model.specs.Openings.{FormatsNot, HasFormatted, Opens, StopsFormat}
-use Rattle.book_model.specs.Plays.{Playing, Plays, is_device_failure, sound, taken}
+use Rattle.book_model.specs.Openings.{Formats, FormatsNot, HasFormatted, Opens, StopsFormat}
+use Rattle.book_model.specs.Plays.{Playing, Plays, is_device_failure, session_behind, sound}
+use Rattle.book_model.specs.Plays.{taken}
 use Rattle.book_model.specs.Steps.{PlaysInto, playing_in}
 use Rattle.book_model.specs.Stores.{Stores, StoresFront, StoresNothingOr, StoresOpened}
 use Rattle.book_model.specs.Stores.{restarted}
 use Rattle.book_model.proofs.FrontLemmas.{front_here, front_kept}
 use Rattle.book_model.proofs.HoldingLemmas.{carries_after, stores_fewer}
 use Rattle.book_model.proofs.NightLemmas.{is_night, opened_safe}
+use Rattle.book_model.proofs.OpeningLemmas.{formats_cause, opens_again, opens_cause}
 use Rattle.book_model.proofs.Playing.{accepted_run, not_refused, stuck_refuses, taken_keep}
-use Rattle.book_model.proofs.Stepping.{steps_play}
+use Rattle.book_model.proofs.Stepping.{steps_left, steps_play}
 use Rattle.book_model.proofs.Storing.{stores_one}
 use Rattle.run_book.specs.Views.{BookView, holding}
-use Rattle.book_laws.specs.Chains.{HasLasted, HasStayed, HasStayedNew, HoldsOne, HoldsOneOrNothing}
-use Rattle.book_laws.specs.Chains.{IsPlayed}
+use Rattle.book_laws.specs.Chains.{DeviceFails, HasLasted, HasStayed, HasStayedNew, HoldsOne}
+use Rattle.book_laws.specs.Chains.{HoldsOneOrNothing, IsPlayed, StopsFor}
 
 -- ---- steps
 
@@ -55,6 +60,59 @@ taken_all false s end (x ∷ steps) (r ∷ answers) p fine =
     taken_keep x r steps answers (not_refused s x r p.0)
     ∙ ap (λ l. x ∷ l)
     (taken_all (is_device_failure r) (with_event s (event_of_step s x)) end steps answers p.1 fine)
+
+or_assoc : (a b c : Bool) → (a || b) || c ≡ a || (b || c)
+or_assoc true b c = refl
+or_assoc false b c = refl
+
+or_none : (a : Bool) → a ≡ true → a || false ≡ true
+or_none true is = refl
+or_none false is = is
+
+-- A book that is broken behind the steps was so before, or met a failure of the device.
+broken_by : (k : Bool) (s : Session) (end : Playing) (steps : List Step) (answers : List Reply)
+    → Plays (record { session = s; broken = k }) steps answers end → end.broken ≡ true
+    → k || list_any is_device_failure answers ≡ true
+broken_by k s end [] [] p broken = or_none k (sym (ap (λ (b : Playing). b.broken) p) ∙ broken)
+broken_by k s end [] (r ∷ answers) p broken = absurd p
+broken_by k s end (x ∷ steps) [] p broken = absurd p
+broken_by k s end (x ∷ steps) (r ∷ answers) p broken =
+    sym (or_assoc k (is_device_failure r) (list_any is_device_failure answers))
+    ∙ broken_by (k || is_device_failure r) (session_behind k s x) end steps answers p.1 broken
+
+-- ---- why it stops
+
+fails_later : (old mid new : DiskState) → old.failures ≤ mid.failures → DeviceFails mid new
+    → DeviceFails old new
+fails_later old mid new later (inl rose) = inl (omega (arith, later, rose))
+fails_later old mid new later (inr spent) = inr spent
+
+-- What stops later calls stops the whole row.
+pub stops_later : (old mid new : DiskState) (why : Trouble) → old.failures ≤ mid.failures
+    → StopsFor mid new why → StopsFor old new why
+stops_later old mid new why later (inl memory) = inl memory
+stops_later old mid new why later (inr (inl spent)) = inr (inl spent)
+stops_later old mid new why later (inr (inr (told, fails))) =
+    inr (inr (told, fails_later old mid new later fails))
+
+pub stopped_later : {D X : Type 0} (state : D → DiskState) (old mid : DiskState)
+    (result : Result X (Trouble × D)) → old.failures ≤ mid.failures
+    → IfErr result (λ e. StopsFor mid (state e.1) e.0)
+    → IfErr result (λ e. StopsFor old (state e.1) e.0)
+stopped_later state old mid (Ok x) later is = is
+stopped_later state old mid (Err e) later is = stops_later old mid (state e.1) e.0 later is
+
+-- No book was opened, where a state is stored.
+pub unopened_why : {D : Type 0} (state : D → DiskState) (given : D) (e : Fault × D) (p : State)
+    → IsDisk (state given) → (state given).honest → Opens state given (Err e)
+    → Stores (state given).now p → StopsFor (state given) (state e.1) (Faulty e.0)
+unopened_why state given e p disk honest is stores =
+    elim (opens_again state given (Err e) p disk honest is stores) [
+      | inl memory ↦ inl (ap Faulty memory)
+      | inr (inl failed) ↦
+          inr (inr (inl (ap Faulty failed), opens_cause state given (Err e) is failed))
+      | inr (inr spent) ↦ inr (inl (ap Faulty spent))
+    ]
 
 -- ---- what a stop leaves
 
@@ -201,6 +259,44 @@ module _ {D : Type 0} (state : D → DiskState) (given : D) (p : State) (steps :
         (λ x left. reopened_holds p b.session.state events x (reached replays) left);
   }
 
+  -- A call failed since the opening, where the book is broken.
+  broken_why : b.journal.broken ≡ true → DeviceFails (state given) (state b.journal.disk)
+  broken_why broken =
+      let left = steps_left state is.first (holding b) steps is.plays.answers is.plays.played in
+      fails_later (state given) (state is.first.journal.disk) (state b.journal.disk)
+      is.opened.passed.failures_later
+      (left.failed
+      (broken_by false (opened_from p) (playing_in (holding b) last_session) steps
+      is.plays.answers plays broken)).0
+
+  pub later_since : (new : Holding D) → CarriesOn state (holding b) new
+      → (state given).failures ≤ (state new.journal.disk).failures
+  later_since new on =
+      omega (
+        arith,
+        is.opened.passed.failures_later,
+        is.on.passed.failures_later,
+        on.passed.failures_later,
+      )
+
+  -- What the steps led to isn't saved.
+  pub unsaved_why : (why : Trouble) (new : Holding D) → IsUnsaved state (holding b) why new
+      → StopsFor (state given) (state new.journal.disk) why
+  unsaved_why why new (inl refused) =
+      inr (inr (
+        inr refused.told,
+        subst (λ (h : Holding D). DeviceFails (state given) (state h.journal.disk))
+            (sym refused.same) (broken_why refused.was),
+      ))
+  unsaved_why why new (inr (inl spent)) = inr (inl spent.told)
+  unsaved_why why new (inr (inr failed)) =
+      inr (inr (
+        inl failed.told,
+        fails_later (state given) (state b.journal.disk) (state new.journal.disk)
+            (omega (arith, is.opened.passed.failures_later, is.on.passed.failures_later))
+            failed.cause,
+      ))
+
   pub over_honest : (new : BookView D) (over : D) → (state given).honest
       → CarriesOn state (holding b) (holding new) → over ≡ new.journal.disk → (state over).honest
   over_honest new over honest on is_over =
@@ -308,3 +404,11 @@ module _ {D : Type 0} (state : D → DiskState) (given : D) (layout : Layout)
         held = only_weaker (StoresNothingOr p) (HoldsOneOrNothing p events) (state given)
             (state new) (λ x is. inl is) left;
       }
+
+  pub format_why : (e : Fault × D) → Formats state given (Err e)
+      → (e.0 ≡ WrongSize) ⊎ (e.0 ≡ DiskFailed) → StopsFor (state given) (state e.1) (Faulty e.0)
+  format_why e is (inl wrong) =
+      let not = subst (λ w. FormatsNot state given w e.1) wrong is in
+      absurd (no_size layout (state given).size whole not.0)
+  format_why e is (inr failed) =
+      inr (inr (inl (ap Faulty failed), formats_cause state given (Err e) is failed))

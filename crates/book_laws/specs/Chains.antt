@@ -1,12 +1,16 @@
 -- What is left of a store that is opened, played over, saved and opened again.
-use Rattle.std.specs.Prelude.{◌≡◌, ◌⊎◌, ◌++◌, ℕ, List, [], Result, Ok, Err, Some, false}
+use Rattle.std.specs.Prelude.{◌≡◌, ◌⊎◌, ◌<◌, ◌++◌, ℕ, List, [], Result, Ok, Err, Some, false}
 use Rattle.run_model.specs.declared.answers.Reply.{Reply}
 use Rattle.run_model.specs.declared.commands.Step.{Step}
+use Rattle.run_model.specs.declared.faults.Fault.TheVariants.{DiskFailed, Memory, NumbersSpent}
+use Rattle.run_model.specs.declared.faults.Trouble.{Trouble}
+use Rattle.run_model.specs.declared.faults.Trouble.TheVariants.{Faulty, Refused}
+use Rattle.run_model.specs.declared.refusals.Refusal.TheVariants.{Broken}
 use Rattle.run_model.specs.Allowed.{run}
 use Rattle.run_model.specs.Event.{Event}
 use Rattle.run_model.specs.Session.{accepted}
 use Rattle.run_model.specs.State.{State}
-use Rattle.run_disk.specs.Disk.{DiskState}
+use Rattle.run_disk.specs.Disk.{DiskState, last_moment}
 use Rattle.run_disk.specs.Runs.{LeavesOnly}
 use Rattle.run_session.specs.Logged.{Logged, begun_at}
 use Rattle.state_laws.specs.Restarts.{IsRestart}
@@ -76,6 +80,20 @@ pub record HasStayedNew (p : State) (steps : List Step) (before replies : List R
   pub appended : replies ≡ before ++ answers
   pub held : LeavesOnly (HoldsOneOrNothing p (accepted (opened_from p) (taken steps answers))) old
       new
+
+-- ---- where it stops
+
+-- A device call failed between two moments, or the disk is spent.
+abbrev pub DeviceFails : DiskState → DiskState → Type 0
+DeviceFails old new = (old.failures < new.failures) ⊎ (new.clock ≡ last_moment)
+
+-- Why such a row of calls stops: memory was refused; the store's numbers are used up; or a device
+-- call failed in it, which the fault tells, or, where a step before met it, that the book is broken.
+abbrev pub StopsFor : DiskState → DiskState → Trouble → Type 0
+StopsFor old new why =
+    (why ≡ Faulty Memory)
+    ⊎ (why ≡ Faulty NumbersSpent)
+    ⊎ (((why ≡ Faulty DiskFailed) ⊎ (why ≡ Refused Broken)) × DeviceFails old new)
 
 -- ---- on the way
 

@@ -3,6 +3,7 @@
 
 ghost use Rattle.std.specs.Prelude.{◌≡◌, ◌+◌, ◌≤◌, length, vec_capacity, vec_len};
 ghost use Rattle.std.specs.Prelude.{IfOk, IfErr, OnErr};
+ghost use Rattle.run_model.specs.declared.faults.Trouble.TheVariants.{Faulty};
 ghost use Rattle.run_model.specs.declared.layouts.Layout.{Layout};
 ghost use Rattle.run_model.specs.Layouts.{store_len};
 ghost use Rattle.run_model.specs.State.{State, formatted};
@@ -12,12 +13,102 @@ ghost use Rattle.run_journal.specs.Pairs.{AreZeros};
 ghost use Rattle.run_session.specs.Logged.{Replays};
 ghost use Rattle.book_model.specs.Stores.{Stores, StoresOpened};
 ghost use Rattle.book_laws.specs.Chains.{HasLasted, HasStayed, HasStayedNew};
-ghost use Rattle.book_laws.specs.Chains.{IsPlayed, disk_in};
+ghost use Rattle.book_laws.specs.Chains.{IsPlayed, StopsFor, disk_in};
 
 use run_book::Book;
-use run_disk::RunDisk;
-use run_model::{Fault, Reply, Step, Trouble};
+use run_disk::{MemoryDisk, RunDisk};
+use run_model::{Fault, Layout, Reply, Step, Trouble};
 use std::alloc::Allocator;
+
+/// A store of state p is opened, steps are played over it, what they led to is flushed, and it is
+/// opened again from the book's disk.
+///
+/// Where it is done, the book begins behind a restart of the state that all accepted events led to:
+/// none is lost, whatever the steps were. And whenever the disk is stopped since the start, inside
+/// a call too, it holds state p, or what a restart of p and perhaps some first of these events led
+/// to, or, once it has them all, what the second restart left.
+///
+/// It stops for want of memory, where the store's numbers are used up, or where a device call
+/// failed: as that fault, or as `Broken` where a step met it.
+pub fn use_store<D: RunDisk, A: Allocator + Copy, B: Allocator>(
+    alloc: A,
+    disk: D,
+    steps: &[Step],
+    replies: &mut Vec<Reply, B>,
+) -> Result<Book<D, A>, (Trouble, D)>
+    requires room { vec_len replies.old + length steps.now ≤ vec_capacity replies.old }
+    ensures lasts { (D.state disk).honest → IsAtRest (D.state disk) → (p : State)
+        → Stores (D.state disk).now p
+        → IfOk result (λ b. HasLasted p steps.now replies.old.items replies.new.items b.session) }
+    ensures any_moment { (D.state disk).honest → IsAtRest (D.state disk) → (p : State)
+        → Stores (D.state disk).now p → HasStayed p steps.now replies.old.items replies.new.items
+        (D.state disk) (D.state (disk_in result)) }
+    ensures why { (D.state disk).honest → IsAtRest (D.state disk) → (p : State)
+        → Stores (D.state disk).now p
+        → IfErr result (λ e. StopsFor (D.state disk) (D.state e.1) e.0) }
+{
+    let mut book = match open_and_play(alloc, disk, steps, replies) {
+        Ok(book) => book,
+        Err(stopped) => return Err((Trouble::Faulty(stopped.0), stopped.1)),
+    };
+    if let Err(trouble) = book.flush() {
+        return Err((trouble, book.into_disk()));
+    }
+    match Book::open(alloc, book.into_disk()) {
+        Ok(book) => Ok(book),
+        Err(stopped) => Err((Trouble::Faulty(stopped.0), stopped.1)),
+    }
+}
+
+/// The same over a disk that is formatted first. Where it held zeros, it stores nothing or root
+/// alone until the format is done. It stops for the same reasons, where the disk has a store's
+/// size.
+pub fn use_new_store<D: RunDisk, A: Allocator + Copy, B: Allocator>(
+    alloc: A,
+    disk: D,
+    steps: &[Step],
+    replies: &mut Vec<Reply, B>,
+) -> Result<Book<D, A>, (Trouble, D)>
+    requires room { vec_len replies.old + length steps.now ≤ vec_capacity replies.old }
+    ensures lasts { (D.state disk).honest → IsAtRest (D.state disk) → (layout : Layout)
+        → (D.state disk).size ≡ store_len layout
+        → IfOk result (λ b. HasLasted (formatted layout) steps.now replies.old.items
+        replies.new.items b.session) }
+    ensures any_moment { (D.state disk).honest → IsAtRest (D.state disk)
+        → AreZeros (D.state disk).now → (layout : Layout)
+        → (D.state disk).size ≡ store_len layout
+        → HasStayedNew (formatted layout) steps.now replies.old.items replies.new.items
+        (D.state disk) (D.state (disk_in result)) }
+    ensures why { (D.state disk).honest → IsAtRest (D.state disk) → (layout : Layout)
+        → (D.state disk).size ≡ store_len layout
+        → IfErr result (λ e. StopsFor (D.state disk) (D.state e.1) e.0) }
+{
+    match Book::format(disk) {
+        Ok(disk) => use_store(alloc, disk, steps, replies),
+        Err(stopped) => Err((Trouble::Faulty(stopped.0), stopped.1)),
+    }
+}
+
+/// So a new store of either layout in memory: the premises of these laws are met.
+pub fn use_new_store_in_memory<A: Allocator + Copy, B: Allocator>(
+    alloc: A,
+    layout: Layout,
+    steps: &[Step],
+    replies: &mut Vec<Reply, B>,
+) -> Result<Book<MemoryDisk<A>, A>, Trouble>
+    requires room { vec_len replies.old + length steps.now ≤ vec_capacity replies.old }
+    ensures lasts { IfOk result (λ b. HasLasted (formatted layout) steps.now replies.old.items
+        replies.new.items b.session) }
+{
+    let disk = match MemoryDisk::new(alloc, layout.store_len() as usize) {
+        Ok(disk) => disk,
+        Err(fault) => return Err(Trouble::Faulty(fault)),
+    };
+    match use_new_store(alloc, disk, steps, replies) {
+        Ok(book) => Ok(book),
+        Err((trouble, _)) => Err(trouble),
+    }
+}
 
 /// A store is opened, and steps are played over it.
 fn open_and_play<D: RunDisk, A: Allocator + Copy, B: Allocator>(
@@ -36,6 +127,8 @@ fn open_and_play<D: RunDisk, A: Allocator + Copy, B: Allocator>(
     ensures stopped { (D.state disk).honest → IsAtRest (D.state disk) → (p : State)
         → Stores (D.state disk).now p
         → IfErr result (λ e. LeavesOnly (StoresOpened p) (D.state disk) (D.state e.1)) }
+    ensures why { (D.state disk).honest → (p : State) → Stores (D.state disk).now p
+        → IfErr result (λ e. StopsFor (D.state disk) (D.state e.1) (Faulty e.0)) }
 {
     let mut book = match Book::open(alloc, disk) {
         Ok(book) => book,
@@ -44,63 +137,4 @@ fn open_and_play<D: RunDisk, A: Allocator + Copy, B: Allocator>(
     book.play(steps, replies);
     let _state = book.state();
     Ok(book)
-}
-
-/// A store of state p is opened, steps are played over it, what they led to is flushed, and it is
-/// opened again from the book's disk.
-///
-/// Where it is done, the book begins behind a restart of the state that all accepted events led to:
-/// none is lost, whatever the steps were. And whenever the disk is stopped since the start, inside
-/// a call too, it holds state p, or what a restart of p and perhaps some first of these events led
-/// to, or, once it has them all, what the second restart left.
-pub fn use_store<D: RunDisk, A: Allocator + Copy, B: Allocator>(
-    alloc: A,
-    disk: D,
-    steps: &[Step],
-    replies: &mut Vec<Reply, B>,
-) -> Result<Book<D, A>, (Trouble, D)>
-    requires room { vec_len replies.old + length steps.now ≤ vec_capacity replies.old }
-    ensures lasts { (D.state disk).honest → IsAtRest (D.state disk) → (p : State)
-        → Stores (D.state disk).now p
-        → IfOk result (λ b. HasLasted p steps.now replies.old.items replies.new.items b.session) }
-    ensures any_moment { (D.state disk).honest → IsAtRest (D.state disk) → (p : State)
-        → Stores (D.state disk).now p → HasStayed p steps.now replies.old.items replies.new.items
-        (D.state disk) (D.state (disk_in result)) }
-{
-    let mut book = match open_and_play(alloc, disk, steps, replies) {
-        Ok(book) => book,
-        Err(stopped) => return Err((Trouble::Faulty(stopped.0), stopped.1)),
-    };
-    if let Err(trouble) = book.flush() {
-        return Err((trouble, book.into_disk()));
-    }
-    match Book::open(alloc, book.into_disk()) {
-        Ok(book) => Ok(book),
-        Err(stopped) => Err((Trouble::Faulty(stopped.0), stopped.1)),
-    }
-}
-
-/// The same over a disk that is formatted first. Where it held zeros, it stores nothing or root
-/// alone until the format is done.
-pub fn use_new_store<D: RunDisk, A: Allocator + Copy, B: Allocator>(
-    alloc: A,
-    disk: D,
-    steps: &[Step],
-    replies: &mut Vec<Reply, B>,
-) -> Result<Book<D, A>, (Trouble, D)>
-    requires room { vec_len replies.old + length steps.now ≤ vec_capacity replies.old }
-    ensures lasts { (D.state disk).honest → IsAtRest (D.state disk) → (layout : Layout)
-        → (D.state disk).size ≡ store_len layout
-        → IfOk result (λ b. HasLasted (formatted layout) steps.now replies.old.items
-        replies.new.items b.session) }
-    ensures any_moment { (D.state disk).honest → IsAtRest (D.state disk)
-        → AreZeros (D.state disk).now → (layout : Layout)
-        → (D.state disk).size ≡ store_len layout
-        → HasStayedNew (formatted layout) steps.now replies.old.items replies.new.items
-        (D.state disk) (D.state (disk_in result)) }
-{
-    match Book::format(disk) {
-        Ok(disk) => use_store(alloc, disk, steps, replies),
-        Err(stopped) => Err((Trouble::Faulty(stopped.0), stopped.1)),
-    }
 }

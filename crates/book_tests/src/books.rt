@@ -1,14 +1,19 @@
 //! Each call of a book, in both layouts, and a book that is opened again.
+//!
+//! This rests on `AnswersStep` (what each step is answered), `Flushes`, `Checkpoints`, `Opens`,
+//! `Recovers` and `Formats`, which count the device calls, and on the clauses of `history`.
 
-use crate::asserts::{done, given};
+use crate::asserts::{done, holds};
 use crate::calls::Call::{
     Cancel, Cause, Checkpoint, Flush, Go, Group, Plain, Start, Succeed, Wait,
 };
 use crate::calls::{Call, Said, assert_said};
-use crate::disks::{counted_on, formatted, fresh, opened, played, unformatted, unopened};
-use crate::looks::{Seen, assert_group, assert_scopes, assert_tasks};
-use record_view::EventView;
-use run_book::Book;
+use crate::disks::{
+    book_of, counted_on, formatted, found_on, fresh, played, shown_by, told_by_opening,
+};
+use crate::looks::{Seen, assert_group, assert_scopes, assert_tasks, listed};
+use record_view::{EventView, Events};
+use run_book::{Book, State};
 use run_disk::MemoryDisk;
 use run_model::{Fault, Layout, Phase, Refusal};
 use std::alloc::Global;
@@ -34,42 +39,38 @@ const ROWS: [(Call, Said<'static>); 16] = [
     (Flush, Said::Acked(9)),
 ];
 
-/// Asserts that a book is as those steps leave it, or as it is opened behind them.
-fn assert_left(rt: &impl Abort, book: &Book<MemoryDisk>, count: u64) {
-    let state = book.state();
-    assert!(rt; (state.count(), book.durable()) == (count, count));
-    assert!(rt; !book.is_broken());
+/// Asserts the rows that those steps leave.
+fn assert_rows_left(rt: &impl Abort, alloc: Global, state: &State) {
+    let listing = listed(rt, alloc, state);
     let scopes = [
         (b"a".as_slice(), Seen::Canceled(b"disk")),
         (b"b", Seen::Canceled(b"disk")),
         (b"g", Seen::Canceled(b"context canceled")),
     ];
-    assert_scopes(rt, state, &scopes);
-    assert_group(rt, state, b"g", (3, 0, None, true, None));
-    assert_tasks(rt, state, &[(b"a", Phase::Success, None)]);
+    assert_scopes(rt, &listing, &scopes);
+    assert_group(rt, &listing, b"g", (3, 0, None, true, None));
+    assert_tasks(rt, &listing, &[(b"a", Phase::Success, None)]);
 }
 
-/// Asserts that a book was just opened, and takes those steps.
-fn assert_answers(rt: &impl Abort, book: &mut Book<MemoryDisk>, layout: Layout) {
-    assert!(rt; book.state().layout() == layout);
-    assert!(rt; (book.state().count(), book.durable()) == (1, 1));
-    assert!(rt; book.history().next().is_none());
-    assert_said(rt, book, &ROWS);
-    assert_left(rt, book, 9);
-}
-
-/// The disk of a new book behind those steps.
+/// The disk of a new book behind those steps. Their records have 8, 8, 10, 7, 12, 5, 6 and 5
+/// bytes.
 fn answered(rt: &impl Abort, alloc: Global, layout: Layout) -> MemoryDisk {
     let mut book = fresh(rt, alloc, layout);
-    assert_answers(rt, &mut book, layout);
+    let is_new = shown_by(&book) == (layout, 1, 1, false, 1, 0);
+    holds(rt, is_new, "a new book of bytes", layout.store_len());
+    assert_said(rt, &mut book, &ROWS);
+    let is_left = shown_by(&book) == (layout, 9, 9, false, 4, 61);
+    holds(rt, is_left, "a used book of bytes", layout.store_len());
+    assert_rows_left(rt, alloc, book.state());
     book.into_disk()
 }
 
 /// The same disk, opened again.
-fn opened_again(rt: &impl Abort, alloc: Global, disk: MemoryDisk) -> MemoryDisk {
-    let book = done(rt, opened(alloc, disk), "book");
-    assert_left(rt, &book, 10);
-    assert!(rt; book.history().next().is_none());
+fn opened_again(rt: &impl Abort, alloc: Global, layout: Layout, disk: MemoryDisk) -> MemoryDisk {
+    let book = book_of(rt, alloc, disk);
+    let is_begun = shown_by(&book) == (layout, 10, 10, false, 4, 0);
+    holds(rt, is_begun, "a second book of bytes", layout.store_len());
+    assert_rows_left(rt, alloc, book.state());
     book.into_disk()
 }
 
@@ -77,9 +78,9 @@ fn opened_again(rt: &impl Abort, alloc: Global, disk: MemoryDisk) -> MemoryDisk 
 /// format and an opening; the flush without an event makes none.
 fn assert_calls(rt: &impl Abort, alloc: Global, layout: Layout) {
     let disk = answered(rt, alloc, layout);
-    assert!(rt; disk.calls() == 37, "in {layout:?}");
-    let disk = opened_again(rt, alloc, disk);
-    assert!(rt; disk.calls() == 47, "in {layout:?}");
+    holds(rt, disk.calls() == 37, "calls of bytes", layout.store_len());
+    let disk = opened_again(rt, alloc, layout, disk);
+    holds(rt, disk.calls() == 47, "calls of bytes", layout.store_len());
 }
 
 #[test]
@@ -91,7 +92,7 @@ fn each_step_is_answered(rt: HostRuntime) {
 /// Asserts the device calls of a list of those steps.
 fn assert_list(rt: &impl Abort, alloc: Global, layout: Layout) {
     let disk = played(rt, alloc, layout, &[&ROWS]);
-    assert!(rt; disk.calls() == 37, "in {layout:?}");
+    holds(rt, disk.calls() == 37, "calls of bytes", layout.store_len());
 }
 
 #[test]
@@ -128,44 +129,36 @@ static EVENTS: [EventView<'static>; 3] = [
     EventView::Start { task: 0 },
 ];
 
-fn assert_history(rt: &impl Abort, book: &Book<MemoryDisk>) {
-    let mut events = book.history();
+/// The first of those events that a history doesn't give at its place; or how many there are, if it
+/// gives more.
+fn first_unlike(events: Events<'_>) -> Option<usize> {
+    let mut events = events;
     for (n, event) in EVENTS.iter().enumerate() {
-        assert!(rt; events.next() == Some(*event), "event {n}");
+        if events.next() != Some(*event) {
+            return Some(n);
+        }
     }
-    assert!(rt; events.next().is_none());
+    events.next().is_some().then_some(EVENTS.len())
 }
 
 #[test]
 fn history_gives_the_events_since_the_opening(rt: HostRuntime) {
     let disk = played(&rt, rt.alloc(), Layout::Small, &[&BEFORE]);
-    let mut book = done(&rt, opened(rt.alloc(), disk), "book");
+    let mut book = book_of(&rt, rt.alloc(), disk);
     assert_said(&rt, &mut book, &SINCE);
-    assert_history(&rt, &book);
+    let unlike = first_unlike(book.history());
+    assert!(rt; unlike.is_none(), "event {unlike:?}");
 }
 
-/// Asserts that a recovery of a new store reads alone, by three calls.
-fn assert_recovers(
-    rt: &impl Abort,
-    alloc: Global,
-    disk: &mut MemoryDisk,
-    layout: Layout,
-    calls: u64,
-) {
-    let state = done(rt, Book::recover(alloc, disk), "store");
-    assert!(rt; state.layout() == layout);
-    assert!(rt;
-        (state.count(), disk.calls()) == (0, calls),
-        "in {layout:?}"
-    );
-    assert_scopes(rt, &state, &[]);
-}
-
-/// Asserts that so do two recoveries of a new store.
+/// Asserts that two recoveries of a new store read alone, by three calls each: root is there.
 fn assert_recovers_twice(rt: &impl Abort, alloc: Global, layout: Layout) {
     let mut disk = formatted(rt, alloc, layout);
-    assert_recovers(rt, alloc, &mut disk, layout, 11);
-    assert_recovers(rt, alloc, &mut disk, layout, 14);
+    for calls in [11, 14] {
+        let found = done(rt, found_on(rt, alloc, &mut disk), "store");
+        let numbers = (found.layout, found.count, found.scopes.len());
+        let is_read = numbers == (layout, 0, 1) && disk.calls() == calls;
+        holds(rt, is_read, "recovery of bytes", layout.store_len());
+    }
 }
 
 #[test]
@@ -174,16 +167,32 @@ fn recovery_reads_alone(rt: HostRuntime) {
     assert_recovers_twice(&rt, rt.alloc(), Layout::Large);
 }
 
-/// Asserts that a disk of this size is no store, and that no call is made to it.
-fn assert_wrong(rt: &impl Abort, alloc: Global, size: usize) {
-    let disk = done(rt, MemoryDisk::new(alloc, size), "memory");
-    let (fault, mut disk) = given(rt, unformatted(disk), "fault");
-    assert!(rt; fault == Fault::WrongSize, "format of {size} bytes");
-    let found = counted_on(alloc, &mut disk);
-    assert!(rt; found == Err(Fault::WrongSize), "recovery of {size} bytes");
-    let (fault, disk) = given(rt, unopened(alloc, disk), "fault");
-    assert!(rt; fault == Fault::WrongSize, "opening of {size} bytes");
-    assert!(rt; disk.calls() == 0);
+/// What each call tells of a disk: its fault, if there is one, and how many calls the disk counts.
+type Told = (Option<Fault>, u64);
+
+fn told_by_format(disk: MemoryDisk) -> Told {
+    match Book::format(disk) {
+        Ok(disk) => (None, disk.calls()),
+        Err((fault, disk)) => (Some(fault), disk.calls()),
+    }
+}
+
+fn told_by_recovery(alloc: Global, mut disk: MemoryDisk) -> Told {
+    (counted_on(alloc, &mut disk).err(), disk.calls())
+}
+
+/// A disk of so many zeros.
+fn zeros(rt: &impl Abort, alloc: Global, size: usize) -> MemoryDisk {
+    done(rt, MemoryDisk::new(alloc, size), "memory")
+}
+
+/// What a format, a recovery and an opening tell of a disk of this size.
+fn told_of(rt: &impl Abort, alloc: Global, size: usize) -> [Told; 3] {
+    [
+        told_by_format(zeros(rt, alloc, size)),
+        told_by_recovery(alloc, zeros(rt, alloc, size)),
+        told_by_opening(alloc, zeros(rt, alloc, size)),
+    ]
 }
 
 /// Sizes of no store: prefixes of a small one among them.
@@ -192,6 +201,8 @@ static SIZES: [usize; 7] = [0, 1, 1_048_576, 1_572_863, 1_572_865, 6_291_455, 6_
 #[test]
 fn another_size_is_no_store(rt: HostRuntime) {
     for size in SIZES.iter() {
-        assert_wrong(&rt, rt.alloc(), *size);
+        let told = told_of(&rt, rt.alloc(), *size);
+        let wanted = [(Some(Fault::WrongSize), 0); 3];
+        holds(&rt, told == wanted, "of bytes", *size as u64);
     }
 }

@@ -1,6 +1,10 @@
 //! The bytes of a small store: as it is formatted, as it is opened once, behind two flushes, and
 //! behind a checkpoint.
+//!
+//! This rests on `Formats`, `Opens`, `Flushes` and `Checkpoints` (what is stored, by how many
+//! calls); the bytes are those of docs/formats.
 
+use crate::asserts::holds;
 use crate::calls::Call::{Checkpoint, Flush};
 use crate::calls::{Call, Said};
 use crate::disks::{At, assert_bytes, formatted, now, played};
@@ -25,9 +29,9 @@ const CANCELED: &[u8; 70] = b"\xa7\0\0\0\0\0\0\0\x02\0\0\0\x39\x02\0\0\0\0\0\0\0
 
 /// Asserts how many calls a disk has counted, and bytes of what reads of it give.
 fn assert_disk(rt: &impl Abort, alloc: Global, disk: &MemoryDisk, calls: u64, rows: &[At]) {
-    assert!(rt; disk.calls() == calls);
+    holds(rt, disk.calls() == calls, "calls", calls);
     let now = now(rt, alloc, disk);
-    assert!(rt; now.len() == 1_572_864);
+    holds(rt, now.len() == 1_572_864, "bytes", now.len() as u64);
     assert_bytes(rt, &now, rows);
 }
 

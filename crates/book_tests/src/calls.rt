@@ -1,6 +1,6 @@
 //! Steps as tables write them, by bytes and numbers, and what each is answered.
 
-use crate::asserts::done;
+use crate::asserts::{done, holds};
 use run_book::Book;
 use run_disk::RunDisk;
 use run_model::{
@@ -218,7 +218,8 @@ fn meaning_of_answer(answer: &Answer) -> Said<'_> {
         Answer::Group(group, scope) => Said::Group(*group, *scope),
         Answer::Done => Said::Done,
         Answer::Task(task, phase) => submitted(*task, phase),
-        Answer::Waited(error) => Said::Waited(error.as_ref().map(|text| text.as_bytes())),
+        Answer::Waited(Some(error)) => Said::Waited(Some(error.as_bytes())),
+        Answer::Waited(None) => Said::Waited(None),
     }
 }
 
@@ -269,7 +270,7 @@ pub fn assert_replies(rt: &impl Abort, replies: &[Reply], lists: &[&[(Call, Said
         assert_rows(rt, front, rows);
         rest = back;
     }
-    assert!(rt; rest.is_empty());
+    holds(rt, rest.is_empty(), "replies too many", rest.len() as u64);
 }
 
 /// Asserts that the last replies are those of this table.
@@ -281,7 +282,7 @@ pub fn assert_last(rt: &impl Abort, replies: &[Reply], rows: &[(Call, Said<'stat
 
 fn assert_rows(rt: &impl Abort, replies: &[Reply], rows: &[(Call, Said<'static>)]) {
     for (n, (reply, row)) in replies.iter().zip(rows.iter()).enumerate() {
-        assert!(rt; meaning(reply) == row.1, "row {n}");
+        holds(rt, meaning(reply) == row.1, "row", n as u64);
     }
 }
 
@@ -293,6 +294,6 @@ pub fn assert_said<D: RunDisk, A: Allocator>(
 ) {
     for (n, row) in rows.iter().enumerate() {
         let reply = take(book, &step(rt, row.0));
-        assert!(rt; meaning(&reply) == row.1, "row {n}");
+        holds(rt, meaning(&reply) == row.1, "row", n as u64);
     }
 }

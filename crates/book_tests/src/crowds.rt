@@ -1,17 +1,24 @@
 //! As many tasks as a small store takes, in as many groups, over a heap without a byte to spare.
+//!
+//! This rests on `AnswersStep` of a book whose allocator may refuse everything: no step takes
+//! memory.
 
-use crate::asserts::given;
+use crate::asserts::{given, holds};
 use crate::calls::Call::{Checkpoint, Flush, Start};
 use crate::calls::{Call, Said, add, add_steps, meaning, name};
 use crate::disks::{formatted, now, play_without_memory, recovered};
-use run_book::State;
+use crate::looks::Listing;
 use run_model::{Command, Layout, Limit, Name, Outcome, Phase, Refusal, Reply, Step};
 use std::alloc::Global;
 use std::process::Abort;
 
+/// The last digit of a number.
+fn digit(n: u16) -> u8 {
+    b'0' + (n % 10) as u8
+}
+
 /// The name of group `n`, below 1,000: a letter and three digits.
 fn numbered(rt: &impl Abort, n: u16) -> Name {
-    let digit = |d: u16| b'0' + (d % 10) as u8;
     name(rt, &[b'g', digit(n / 100), digit(n / 10), digit(n)])
 }
 
@@ -89,19 +96,20 @@ fn wanted(n: u16) -> Said<'static> {
 }
 
 fn assert_crowd(rt: &impl Abort, replies: &[Reply]) {
-    assert!(rt; replies.len() == 6_404);
+    holds(rt, replies.len() == 6_404, "replies", replies.len() as u64);
     for (n, reply) in replies.iter().enumerate() {
         let number = n.min(65_535) as u16;
-        assert!(rt; meaning(reply) == wanted(number), "step {n}");
+        holds(rt, meaning(reply) == wanted(number), "step", n as u64);
     }
 }
 
 /// Asserts that all tasks are done.
-fn assert_worked(rt: &impl Abort, state: &State) {
-    let counts = (state.count(), state.task_count(), state.group_count());
-    assert!(rt; counts == (6_401, 2_048, 128));
-    for n in 0..2_048 {
-        assert!(rt; state.phase(n) == Some(Phase::Success), "task {n}");
+fn assert_worked(rt: &impl Abort, listing: &Listing) {
+    let counts = (listing.count, listing.tasks.len(), listing.groups.len());
+    let is_there = counts == (6_401, 2_048, 128) && listing.is_found;
+    holds(rt, is_there, "events", counts.0);
+    for (n, look) in listing.tasks.iter().enumerate() {
+        holds(rt, look.phase == Phase::Success, "task", n as u64);
     }
 }
 

@@ -2,9 +2,11 @@
 
 ghost use Rattle.std.specs.Prelude.{◌≡◌, ◌≤◌, [], length, vec_capacity};
 
-use crate::asserts::done;
+use crate::asserts::{done, holds};
 use crate::calls::{Call, Said, assert_replies, steps_of};
+use crate::looks::{Listing, listed};
 use linked_list_allocator::LocalHeap;
+use record_view::Events;
 use run_book::{Book, State};
 use run_disk::{MemoryDisk, RunDisk, Torn};
 use run_model::{Fault, Layout, Reply, Step};
@@ -39,24 +41,16 @@ pub fn formatted(rt: &impl Abort, alloc: Global, layout: Layout) -> MemoryDisk {
     }
 }
 
-/// A book over a disk.
-pub fn opened<D: RunDisk + Drop, A: Allocator + Copy>(
-    alloc: A,
-    disk: D,
-) -> Result<Book<D, A>, Fault> {
-    match Book::open(alloc, disk) {
-        Ok(book) => Ok(book),
-        Err((fault, _)) => Err(fault),
-    }
-}
-
 /// A book over a disk that holds a store.
-fn book_of<D: RunDisk + Drop, A: Allocator + Copy>(
+pub fn book_of<D: RunDisk + Drop, A: Allocator + Copy>(
     rt: &impl Abort,
     alloc: A,
     disk: D,
 ) -> Book<D, A> {
-    done(rt, opened(alloc, disk), "book")
+    match Book::open(alloc, disk) {
+        Ok(book) => book,
+        Err(_) => panic!(rt; "no book"),
+    }
 }
 
 /// A book over a formatted disk, opened by ten calls.
@@ -112,6 +106,44 @@ pub fn played(
     played_on(rt, alloc, formatted(rt, alloc, layout), lists)
 }
 
+/// What a disk with these bytes holds behind an opening and lists of steps, each with its answer,
+/// and how many calls it counts.
+pub fn played_over(
+    rt: &impl Abort,
+    alloc: Global,
+    bytes: Vec<u8>,
+    lists: &[&[(Call, Said<'static>)]],
+) -> (Vec<u8>, u64) {
+    let disk = played_on(rt, alloc, disk_of(rt, alloc, bytes), lists);
+    (now(rt, alloc, &disk), disk.calls())
+}
+
+/// What a book shows beside its rows: its layout, how many events there were and are durable,
+/// whether it is broken, how many scopes it has, and how many bytes its history.
+pub type Shown = (Layout, u64, u64, bool, usize, usize);
+
+/// What a book shows beside its rows.
+pub fn shown_by<D: RunDisk>(book: &Book<D>) -> Shown {
+    let (durable, broken) = (book.durable(), book.is_broken());
+    let bytes = bytes_of(book.history());
+    let (layout, count, scopes) = numbers_of(book.state());
+    (layout, count, durable, broken, scopes, bytes)
+}
+
+fn bytes_of(events: Events<'_>) -> usize {
+    events.rest().len()
+}
+
+fn numbers_of(state: &State) -> (Layout, u64, usize) {
+    (state.layout(), state.count(), state.scope_count())
+}
+
+/// All that a book over a disk with these bytes shows, as it is opened.
+pub fn opened_over(rt: &impl Abort, alloc: Global, bytes: Vec<u8>) -> (Shown, Listing) {
+    let book = book_of(rt, alloc, disk_of(rt, alloc, bytes));
+    (shown_by(&book), listed(rt, alloc, book.state()))
+}
+
 /// A heap of so many bytes.
 pub fn heap(rt: &impl Abort, alloc: Global, bytes: usize) -> LocalHeap {
     done(rt, LocalHeap::new(alloc, bytes), "memory")
@@ -141,7 +173,7 @@ fn play_within(
     let mut replies = room(rt, alloc, steps);
     let mut book = book_of(rt, heap, disk);
     let _rest = rest_of(rt, heap);
-    assert!(rt; heap.free() == 0);
+    holds(rt, heap.free() == 0, "bytes left", 0);
     book.play(steps, &mut replies);
     (book.into_disk(), replies)
 }
@@ -160,14 +192,24 @@ pub fn play_without_memory(
 
 /// How many events there are in what a disk stores.
 pub fn counted_on<D: RunDisk>(alloc: Global, disk: &mut D) -> Result<u64, Fault> {
-    let state = Book::recover(alloc, disk)?;
-    Ok(state.count())
+    match Book::recover(alloc, disk) {
+        Ok(state) => Ok(state.count()),
+        Err(fault) => Err(fault),
+    }
 }
 
-/// What a disk with these bytes stores.
-pub fn recovered(rt: &impl Abort, alloc: Global, bytes: Vec<u8>) -> State {
+/// All that a disk stores.
+pub fn found_on(rt: &impl Abort, alloc: Global, disk: &mut MemoryDisk) -> Result<Listing, Fault> {
+    match Book::recover(alloc, disk) {
+        Ok(state) => Ok(listed(rt, alloc, &state)),
+        Err(fault) => Err(fault),
+    }
+}
+
+/// All that a disk with these bytes stores.
+pub fn recovered(rt: &impl Abort, alloc: Global, bytes: Vec<u8>) -> Listing {
     let mut disk = disk_of(rt, alloc, bytes);
-    done(rt, Book::recover(alloc, &mut disk), "store")
+    done(rt, found_on(rt, alloc, &mut disk), "store")
 }
 
 /// How many events there are in what a disk with these bytes stores.
@@ -197,30 +239,17 @@ pub fn small_disk(rt: &impl Abort, alloc: Global, rows: &[(usize, &[u8])]) -> Ve
     bytes
 }
 
-/// Why a disk isn't formatted, and the disk as it is handed back.
-pub fn unformatted(disk: MemoryDisk) -> Option<(Fault, MemoryDisk)> {
-    match Book::format(disk) {
-        Ok(_) => None,
-        Err(both) => Some(both),
-    }
-}
-
-/// Why a disk isn't opened, and the disk as it is handed back.
-pub fn unopened<A: Allocator + Copy>(alloc: A, disk: MemoryDisk) -> Option<(Fault, MemoryDisk)> {
+/// Why a disk isn't opened, if it isn't, and how many calls it counts.
+pub fn told_by_opening(alloc: Global, disk: MemoryDisk) -> (Option<Fault>, u64) {
     match Book::open(alloc, disk) {
-        Ok(_) => None,
-        Err(both) => Some(both),
+        Ok(book) => (None, book.into_disk().calls()),
+        Err((fault, disk)) => (Some(fault), disk.calls()),
     }
 }
 
 /// What reads of a disk give.
-pub fn reads(alloc: Global, disk: &MemoryDisk) -> Result<Vec<u8>, Fault> {
-    disk.image(alloc, disk.calls(), Torn::Keep)
-}
-
-/// What reads of a disk give, where they must.
 pub fn now(rt: &impl Abort, alloc: Global, disk: &MemoryDisk) -> Vec<u8> {
-    done(rt, reads(alloc, disk), "memory")
+    done(rt, disk.image(alloc, disk.calls(), Torn::Keep), "memory")
 }
 
 /// Puts bytes in place of those from a place on.
@@ -233,10 +262,16 @@ pub fn put(rt: &impl Abort, bytes: &mut [u8], place: usize, with: &[u8]) {
 /// What stands at a place, where it begins, and its bytes.
 pub type At = (&'static str, usize, &'static [u8]);
 
+fn stands_at(bytes: &[u8], place: usize, wanted: &[u8]) -> bool {
+    match bytes.get(place..) {
+        Some(rest) => rest.starts_with(wanted),
+        None => false,
+    }
+}
+
 /// Asserts the bytes at their places.
 pub fn assert_bytes(rt: &impl Abort, bytes: &[u8], rows: &[At]) {
     for row in rows.iter() {
-        let found = bytes.get(row.1..).and_then(|rest| rest.get(..row.2.len()));
-        assert!(rt; found == Some(row.2), "{}", row.0);
+        holds(rt, stands_at(bytes, row.1, row.2), row.0, row.1 as u64);
     }
 }

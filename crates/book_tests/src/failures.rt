@@ -1,13 +1,20 @@
-//! Devices that fail in one call, or from one call on: what each step is answered then, and what is
-//! left.
+//! Devices that fail in one call, or from one call on: what each step is answered then, and what
+//! is left.
+//!
+//! This rests on `Flushes` and `Checkpoints` (where a call failed, DiskFailed is told and the
+//! book is broken), on `AnswersStep` (a broken book refuses each step), on `Opens`, `Recovers`
+//! and `Formats` (the disk is handed back), and on `FailOnce` and `Fuse`, whose failed calls
+//! change nothing. What is left rests on `CarriesOn`: whatever failed, no acknowledged event is
+//! lost.
 
-use crate::asserts::done;
+use crate::asserts::{holds, holds_behind};
 use crate::calls::Call::{
     Cancel, Cause, Checkpoint, Flush, Go, Group, Retry, Start, Succeed, Wait,
 };
 use crate::calls::{Call, Said, assert_replies, meaning, steps_of};
 use crate::disks::{
-    TEARS, counted, counted_on, disk_of, formatted, opened, played_on, room, small_disk, torn_image,
+    Shown, TEARS, book_of, counted, counted_on, disk_of, formatted, played_on, room, shown_by,
+    small_disk, torn_image,
 };
 use crate::nights::{NIGHT, left};
 use crate::six_events::{FIRST, SECOND};
@@ -80,22 +87,39 @@ fn step_of(call: u64) -> Option<usize> {
     step
 }
 
-/// Asserts that the step at this place failed, and that all behind it are refused.
-fn assert_broken(rt: &impl Abort, replies: &[Reply], failing: usize, call: u64) {
-    assert!(rt; replies.len() == NIGHT.len());
-    for (n, (reply, row)) in replies.iter().zip(NIGHT.iter()).enumerate() {
-        let wanted = if n < failing {
-            row.1
-        } else if n == failing {
-            FAILED
-        } else {
-            BROKEN
-        };
-        assert!(rt;
-            meaning(reply) == wanted,
-            "step {n}, where call {call} fails"
-        );
+/// What step `n` of the night is answered where the step at a place fails: all behind it are
+/// refused.
+fn wanted(n: usize, failing: usize) -> Said<'static> {
+    if n == failing {
+        return FAILED;
     }
+    match NIGHT.get(n) {
+        Some(row) if n < failing => row.1,
+        _ => BROKEN,
+    }
+}
+
+/// The first step of the night that is answered otherwise, where the step at a place fails; or how
+/// many there are, if there are not as many replies.
+fn first_unlike(replies: &[Reply], failing: usize) -> Option<usize> {
+    for (n, reply) in replies.iter().enumerate() {
+        if meaning(reply) != wanted(n, failing) {
+            return Some(n);
+        }
+    }
+    (replies.len() != NIGHT.len()).then_some(NIGHT.len())
+}
+
+/// Asserts what the steps of the night are answered where this call fails.
+fn assert_broken(rt: &impl Abort, replies: &[Reply], call: u64) {
+    let unlike = match step_of(call) {
+        Some(failing) => first_unlike(replies, failing),
+        None => (!replies.is_empty()).then_some(0),
+    };
+    assert!(rt;
+        unlike.is_none(),
+        "step {unlike:?}, where call {call} fails"
+    );
 }
 
 /// Asserts what a disk that was handed back stores, torn in each way: the call that failed changed
@@ -105,30 +129,17 @@ fn assert_kept(rt: &impl Abort, alloc: Global, disk: &MemoryDisk, call: u64) {
     for torn in TEARS {
         let calls = before.saturating_add(8);
         let found = counted(rt, alloc, torn_image(rt, alloc, disk, calls, torn));
-        assert!(rt;
-            found == Ok(left(before, torn)),
-            "where call {call} fails, {torn:?}"
-        );
+        holds_behind(rt, found == Ok(left(before, torn)), before, torn);
     }
 }
 
 /// Asserts what the night is answered where this call fails, and what is left then.
 fn assert_fails(rt: &impl Abort, alloc: Global, back: &Back<MemoryDisk>, call: u64) {
-    match step_of(call) {
-        Some(step) => assert_broken(rt, &back.2, step, call),
-        None => assert!(rt; back.2.is_empty()),
-    }
-    let fault = if call <= 10 {
-        Some(Fault::DiskFailed)
-    } else {
-        None
-    };
+    assert_broken(rt, &back.2, call);
+    let fault = (call <= 10).then_some(Fault::DiskFailed);
     // A format's eight calls, and those before the one that failed: no call comes behind it.
     let wanted = (fault, call.saturating_add(7));
-    assert!(rt;
-        (back.1, back.0.calls()) == wanted,
-        "where call {call} fails"
-    );
+    holds(rt, (back.1, back.0.calls()) == wanted, "failing call", call);
     assert_kept(rt, alloc, &back.0, call);
 }
 
@@ -168,33 +179,17 @@ const REFUSED: [(Call, Said<'static>); 14] = [
     (Checkpoint, BROKEN),
 ];
 
-/// What a book answers behind steps: whether it is broken, how many events it has and how many of
-/// them are durable, its scopes, and the bytes of its history.
-type Answers = (bool, u64, u64, usize, usize);
-
 /// Plays steps over a disk, and asks the book.
 fn asked(
     rt: &impl Abort,
     alloc: Global,
     disk: FailOnce<MemoryDisk>,
     steps: &[Step],
-) -> (Answers, Vec<Reply>) {
+) -> (Shown, Vec<Reply>) {
     let mut replies = room(rt, alloc, steps);
-    let mut book = done(rt, opened(alloc, disk), "book");
+    let mut book = book_of(rt, alloc, disk);
     book.play(steps, &mut replies);
-    (answers(&book), replies)
-}
-
-fn answers(book: &Book<FailOnce<MemoryDisk>>) -> Answers {
-    let state = book.state();
-    let bytes = book.history().rest().len();
-    (
-        book.is_broken(),
-        state.count(),
-        book.durable(),
-        state.scope_count(),
-        bytes,
-    )
+    (shown_by(&book), replies)
 }
 
 /// Asserts what steps are answered where this call fails, and then the questions.
@@ -203,20 +198,26 @@ fn assert_asked(
     alloc: Global,
     lists: &[&[(Call, Said<'static>)]],
     call: u64,
-    wanted: Answers,
+    wanted: Shown,
 ) {
     let steps = steps_of(rt, alloc, lists);
     let disk = FailOnce::new(formatted(rt, alloc, Layout::Small), call);
-    let (answers, replies) = asked(rt, alloc, disk, &steps);
+    let (shown, replies) = asked(rt, alloc, disk, &steps);
     assert_replies(rt, &replies, lists);
-    assert!(rt; answers == wanted);
+    holds(rt, shown == wanted, "failing call", call);
 }
 
 #[test]
 fn a_broken_book_answers_questions_alone(rt: HostRuntime) {
     let lists = [FIRST.as_slice(), &SECOND, &REFUSED];
     // Records of 26 bytes, of 16 and of 8.
-    assert_asked(&rt, rt.alloc(), &lists, 20, (true, 7, 4, 6, 50));
+    assert_asked(
+        &rt,
+        rt.alloc(),
+        &lists,
+        20,
+        (Layout::Small, 7, 4, true, 6, 50),
+    );
 }
 
 /// Why a disk isn't formatted whose calls fail behind so many, and the calls that it made.
@@ -235,13 +236,9 @@ fn disk_of_zeros(rt: &impl Abort, alloc: Global) -> MemoryDisk {
 #[test]
 fn a_format_that_fails_hands_the_disk_back(rt: HostRuntime) {
     for calls in 0..9 {
-        let fault = if calls < 8 {
-            Some(Fault::DiskFailed)
-        } else {
-            None
-        };
+        let fault = (calls < 8).then_some(Fault::DiskFailed);
         let found = unformatted(&rt, rt.alloc(), calls);
-        assert!(rt; found == (fault, calls), "behind call {calls}");
+        holds(&rt, found == (fault, calls), "behind call", calls);
     }
 }
 
@@ -260,10 +257,8 @@ fn recovered_twice(
 fn a_recovery_that_fails_tells_so(rt: HostRuntime) {
     for call in 1..4 {
         let found = recovered_twice(&rt, rt.alloc(), call);
-        assert!(rt;
-            found == (Err(Fault::DiskFailed), Ok(0)),
-            "where call {call} fails"
-        );
+        let wanted = (Err(Fault::DiskFailed), Ok(0));
+        holds(&rt, found == wanted, "failing call", call);
     }
 }
 

@@ -11,6 +11,8 @@ mod bytes;
 #[cfg(test)]
 mod calls;
 #[cfg(test)]
+mod chains;
+#[cfg(test)]
 mod crowds;
 #[cfg(test)]
 mod damages;
@@ -24,8 +26,6 @@ mod looks;
 mod migrations;
 #[cfg(test)]
 mod nights;
-#[cfg(test)]
-mod numbers;
 #[cfg(test)]
 mod restarts;
 #[cfg(test)]

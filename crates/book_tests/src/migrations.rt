@@ -1,15 +1,16 @@
 //! A migration: a small store becomes a large one. One that is done, and one that is stopped.
+//!
+//! This rests on `Migrates`, the contract of `migrate`: the old disk is only read, and behind
+//! each call the new one stores nothing, or the old store's state in the large layout.
 
 mod faults;
 mod rooms;
 mod stores;
 
-use crate::disks::{counted_on, opened};
-use crate::looks::{Seen, assert_group, assert_scopes, assert_tasks};
-use crate::migrations::stores::{
-    LARGE, LARGE_LEN, SMALL, SMALL_LEN, assert_holds, migrated, small,
-};
-use run_book::{Book, State};
+use crate::asserts::{holds, holds_behind};
+use crate::disks::{counted, now, opened_over, recovered, torn_image};
+use crate::looks::{Listing, Seen, assert_group, assert_scopes, assert_tasks};
+use crate::migrations::stores::{LARGE, LARGE_LEN, SMALL, SMALL_LEN, has, migrated, small, zeros};
 use run_disk::{MemoryDisk, Torn};
 use run_model::{Fault, Layout, Phase};
 use std::alloc::Global;
@@ -17,66 +18,64 @@ use std::process::Abort;
 
 /// The disk that the small store was migrated to, by eight calls; three were made of the old disk,
 /// which has the bytes that it had.
-fn taken_over(rt: &impl Abort, alloc: Global) -> Result<MemoryDisk, Fault> {
-    let mut old = small(rt, alloc, &[])?;
-    let (fault, new) = migrated(alloc, &mut old, MemoryDisk::new(alloc, LARGE_LEN)?);
-    assert_eq!(rt; fault, None);
-    assert_eq!(rt; (old.calls(), new.calls()), (3, 8));
-    assert_holds(rt, alloc, &old, SMALL_LEN, &SMALL)?;
-    Ok(new)
+fn taken_over(rt: &impl Abort, alloc: Global) -> MemoryDisk {
+    let mut old = small(rt, alloc, &[]);
+    let (fault, new) = migrated(alloc, &mut old, zeros(rt, alloc, LARGE_LEN));
+    let told = (fault, old.calls(), new.calls());
+    holds(rt, told == (None, 3, 8), "calls", 11);
+    let is_same = has(rt, alloc, &old, SMALL_LEN, &SMALL);
+    holds(rt, is_same, "the old disk's bytes", SMALL_LEN as u64);
+    new
 }
 
 #[test]
-fn a_small_store_becomes_a_large_one(rt: HostRuntime) -> Result<(), Fault> {
-    let new = taken_over(&rt, rt.alloc())?;
-    assert_holds(&rt, rt.alloc(), &new, LARGE_LEN, &LARGE)
+fn a_small_store_becomes_a_large_one(rt: HostRuntime) {
+    let new = taken_over(&rt, rt.alloc());
+    let is_large = has(&rt, rt.alloc(), &new, LARGE_LEN, &LARGE);
+    holds(&rt, is_large, "the new disk's bytes", LARGE_LEN as u64);
 }
 
-/// Asserts that the night is as it was: task 0 is running, and task 1 held.
-fn assert_night(rt: &impl Abort, state: &State) {
-    assert!(rt; state.layout() == Layout::Large);
-    assert_eq!(rt; state.count(), 6);
-    assert_scopes(rt, state, &[(b"g", Seen::Live)]);
-    assert_group(rt, state, b"g", (1, 2, Some(1), false, None));
-    let tasks = [
-        (b"a".as_slice(), Phase::Running, None),
-        (b"b", Phase::Held, None),
-    ];
-    assert_tasks(rt, state, &tasks);
+/// Asserts the layout and the event count, and how the tasks `a` and `b` and their group are.
+fn assert_night(
+    rt: &impl Abort,
+    found: &Listing,
+    count: u64,
+    seen: Seen<'static>,
+    phases: (Phase, Phase),
+) {
+    let numbers = (found.layout, found.count);
+    holds(rt, numbers == (Layout::Large, count), "events", count);
+    assert_scopes(rt, found, &[(b"g", seen)]);
+    let tasks = [(b"a".as_slice(), phases.0, None), (b"b", phases.1, None)];
+    assert_tasks(rt, found, &tasks);
 }
 
 #[test]
-fn its_running_task_is_still_running(rt: HostRuntime) -> Result<(), Fault> {
-    let mut new = taken_over(&rt, rt.alloc())?;
-    let state = Book::recover(rt.alloc(), &mut new)?;
-    assert_night(&rt, &state);
-    Ok(())
+fn its_running_task_is_still_running(rt: HostRuntime) {
+    let new = taken_over(&rt, rt.alloc());
+    let found = recovered(&rt, rt.alloc(), now(&rt, rt.alloc(), &new));
+    let phases = (Phase::Running, Phase::Held);
+    assert_night(&rt, &found, 6, Seen::Live, phases);
+    assert_group(&rt, &found, b"g", (1, 2, Some(1), false, None));
 }
 
 /// Asserts that the night goes on behind a restart: task 0 was interrupted, and task 1 is ready.
-fn assert_restarted(rt: &impl Abort, book: &Book<MemoryDisk>) {
-    let state = book.state();
-    assert!(rt; state.layout() == Layout::Large);
-    assert_eq!(rt; (state.count(), book.durable()), (7, 7));
-    assert_scopes(rt, state, &[(b"g", Seen::Canceled(b"interrupted"))]);
-    assert_group(
-        rt,
-        state,
-        b"g",
-        (1, 1, Some(1), false, Some(b"interrupted")),
-    );
-    let tasks = [
-        (b"a".as_slice(), Phase::Interrupted, None),
-        (b"b", Phase::Ready, None),
-    ];
-    assert_tasks(rt, state, &tasks);
+fn assert_restarted(rt: &impl Abort, found: &Listing) {
+    let interrupted = Seen::Canceled(b"interrupted");
+    let phases = (Phase::Interrupted, Phase::Ready);
+    assert_night(rt, found, 7, interrupted, phases);
+    let seen = (1, 1, Some(1), false, Some(b"interrupted".as_slice()));
+    assert_group(rt, found, b"g", seen);
 }
 
 #[test]
-fn its_running_task_is_interrupted_where_it_is_opened(rt: HostRuntime) -> Result<(), Fault> {
-    let book = opened(rt.alloc(), taken_over(&rt, rt.alloc())?)?;
-    assert_restarted(&rt, &book);
-    Ok(())
+fn its_running_task_is_interrupted_where_it_is_opened(rt: HostRuntime) {
+    let new = taken_over(&rt, rt.alloc());
+    let bytes = now(&rt, rt.alloc(), &new);
+    let (shown, found) = opened_over(&rt, rt.alloc(), bytes);
+    let is_begun = shown == (Layout::Large, 7, 7, false, 2, 0);
+    holds(&rt, is_begun, "events", 7);
+    assert_restarted(&rt, &found);
 }
 
 /// Behind how many calls a stop comes, how it tears what was not synced, and what is told of the
@@ -114,25 +113,12 @@ const STOPS: [(u64, Torn, Result<u64, Fault>); 27] = [
     (8, Torn::Take, Ok(6)),
 ];
 
-/// How many events there are in what a crash behind so many calls leaves, torn in this way.
-fn left(
-    rt: &impl Abort,
-    alloc: Global,
-    new: &MemoryDisk,
-    calls: u64,
-    torn: Torn,
-) -> Result<u64, Fault> {
-    assert!(rt; calls <= new.calls());
-    let mut disk = MemoryDisk::from_bytes(alloc, new.image(alloc, calls, torn)?)?;
-    counted_on(alloc, &mut disk)
-}
-
 #[test]
-fn a_stop_leaves_no_store_or_the_large_one(rt: HostRuntime) -> Result<(), Fault> {
-    let new = taken_over(&rt, rt.alloc())?;
+fn a_stop_leaves_no_store_or_the_large_one(rt: HostRuntime) {
+    let new = taken_over(&rt, rt.alloc());
     for (calls, torn, told) in STOPS {
-        let found = left(&rt, rt.alloc(), &new, calls, torn);
-        assert_eq!(rt; found, told, "behind call {calls}, {torn:?}");
+        let bytes = torn_image(&rt, rt.alloc(), &new, calls, torn);
+        let found = counted(&rt, rt.alloc(), bytes);
+        holds_behind(&rt, found == told, calls, torn);
     }
-    Ok(())
 }

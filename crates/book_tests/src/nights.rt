@@ -1,11 +1,16 @@
 //! A night of twelve steps over a new store, and what a stop behind each of its device calls
 //! leaves, torn in each way.
+//!
+//! This rests on `Opens`, `Flushes` and `Checkpoints` (what a crash at any moment of the call
+//! leaves), on `CarriesOn` (each acknowledged event is among it), on `Recovers`, and on
+//! `IsTornImage` of the disk in memory. Further stops of openings are in `hostile_tests`.
 
+use crate::asserts::{holds, holds_behind};
 use crate::calls::Call::{Cancel, Cause, Checkpoint, Flush, Go, Group, Plain, Start};
 use crate::calls::{Call, Said};
-use crate::disks::{TEARS, counted, disk_of, played, played_on, recovered, small_disk, torn_image};
+use crate::disks::{TEARS, counted, disk_of, played, played_on, small_disk, torn_image};
 use run_disk::{MemoryDisk, Torn};
-use run_model::{Layout, Phase};
+use run_model::Layout;
 use std::alloc::Global;
 use std::process::Abort;
 
@@ -60,15 +65,17 @@ pub fn opens(torn: Torn) -> bool {
 
 /// Asserts what each stop of the night leaves of a disk that had made so many calls before.
 fn assert_stops(rt: &impl Abort, alloc: Global, disk: &MemoryDisk, before: u64) {
-    assert!(rt; disk.calls() == before.saturating_add(35));
+    holds(
+        rt,
+        disk.calls() == before.saturating_add(35),
+        "calls behind",
+        before,
+    );
     for calls in 0..36 {
         for torn in TEARS {
             let bytes = torn_image(rt, alloc, disk, before.saturating_add(calls), torn);
             let found = counted(rt, alloc, bytes);
-            assert!(rt;
-                found == Ok(left(calls, torn)),
-                "behind call {calls}, {torn:?}"
-            );
+            holds_behind(rt, found == Ok(left(calls, torn)), calls, torn);
         }
     }
 }
@@ -88,54 +95,4 @@ fn a_store_of_version_1_keeps_as_much(rt: HostRuntime) {
     let disk = disk_of(&rt, rt.alloc(), bytes);
     let disk = played_on(&rt, rt.alloc(), disk, &[&NIGHT]);
     assert_stops(&rt, rt.alloc(), &disk, 0);
-}
-
-/// How many events bytes of a disk store, and how far task 0 is in them.
-fn task_in(rt: &impl Abort, alloc: Global, bytes: Vec<u8>) -> (u64, Option<Phase>) {
-    let state = recovered(rt, alloc, bytes);
-    (state.count(), state.phase(0))
-}
-
-/// Asserts what stops of an opening leave, torn in each way: what was there, with task 0 in this
-/// phase, or the restart, with the task interrupted.
-fn assert_restarts(rt: &impl Abort, alloc: Global, disk: &MemoryDisk, was: &(u64, Option<Phase>)) {
-    assert!(rt; disk.calls() == 10);
-    let restarted = (was.0.saturating_add(1), Some(Phase::Interrupted));
-    for calls in 0..11 {
-        for torn in TEARS {
-            let found = task_in(rt, alloc, torn_image(rt, alloc, disk, calls, torn));
-            let there = calls == 10 || (calls == 9 && opens(torn));
-            let wanted = if there { &restarted } else { was };
-            assert!(rt; found == *wanted, "behind call {calls}, {torn:?}");
-        }
-    }
-}
-
-/// What a stop behind so many calls leaves of a disk, opened again.
-fn opened_behind(
-    rt: &impl Abort,
-    alloc: Global,
-    disk: &MemoryDisk,
-    calls: u64,
-    torn: Torn,
-) -> MemoryDisk {
-    let left = disk_of(rt, alloc, torn_image(rt, alloc, disk, calls, torn));
-    played_on(rt, alloc, left, &[])
-}
-
-/// Asserts what stops of an opening leave behind the night, and what those of a second one leave,
-/// which starts from either.
-fn assert_openings(rt: &impl Abort, alloc: Global, night: &MemoryDisk) {
-    let disk = opened_behind(rt, alloc, night, 43, Torn::Keep);
-    assert_restarts(rt, alloc, &disk, &(9, Some(Phase::Running)));
-    let again = opened_behind(rt, alloc, &disk, 9, Torn::Keep);
-    assert_restarts(rt, alloc, &again, &(9, Some(Phase::Running)));
-    let again = opened_behind(rt, alloc, &disk, 9, Torn::Take);
-    assert_restarts(rt, alloc, &again, &(10, Some(Phase::Interrupted)));
-}
-
-#[test]
-fn stops_of_openings_leave_the_store_or_its_restart(rt: HostRuntime) {
-    let disk = played(&rt, rt.alloc(), Layout::Small, &[&NIGHT]);
-    assert_openings(&rt, rt.alloc(), &disk);
 }

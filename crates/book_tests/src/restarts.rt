@@ -1,10 +1,12 @@
 //! Tasks that run at a stop: an opening interrupts them, and keeps what was acknowledged.
+//!
+//! This rests on `Opens`: a book begins behind the restart of what is stored.
 
+use crate::asserts::holds;
 use crate::calls::Call::{Bare, Checkpoint, Flush, Go, Group, Limit, Start, Succeed};
 use crate::calls::{Call, Said};
-use crate::disks::{disk_of, now, played, played_on, recovered};
-use crate::looks::{Seen, assert_group, assert_scopes};
-use run_book::State;
+use crate::disks::{now, played, played_over, recovered};
+use crate::looks::{Listing, Seen, assert_group, assert_scopes, phase_of};
 use run_disk::MemoryDisk;
 use run_model::{Layout, Phase};
 use std::alloc::Global;
@@ -22,7 +24,7 @@ const SUBMITTED: [(Call, Said<'static>); 5] = [
 const STARTED: (Call, Said<'static>) = (Start, Said::Started(6, 0, b"copy", b"a", false));
 
 /// The event count, and how far tasks 0 and 1 are.
-type Tasks = (u64, Option<Phase>, Option<Phase>);
+type Tasks = (u64, Phase, Phase);
 
 /// What is done with the first task before the stop, by which steps, and what an opening makes of
 /// both.
@@ -33,25 +35,21 @@ type Stopped = (
 );
 
 const STOPPED: [Stopped; 6] = [
-    (
-        "no start",
-        &[&SUBMITTED],
-        (6, Some(Phase::Ready), Some(Phase::Held)),
-    ),
+    ("no start", &[&SUBMITTED], (6, Phase::Ready, Phase::Held)),
     (
         "a start",
         &[&SUBMITTED, &[STARTED]],
-        (6, Some(Phase::Ready), Some(Phase::Held)),
+        (6, Phase::Ready, Phase::Held),
     ),
     (
         "a start, flushed",
         &[&SUBMITTED, &[STARTED, (Flush, Said::Acked(6))]],
-        (7, Some(Phase::Interrupted), Some(Phase::Ready)),
+        (7, Phase::Interrupted, Phase::Ready),
     ),
     (
         "a start, in a checkpoint",
         &[&SUBMITTED, &[STARTED, (Checkpoint, Said::Acked(6))]],
-        (7, Some(Phase::Interrupted), Some(Phase::Ready)),
+        (7, Phase::Interrupted, Phase::Ready),
     ),
     (
         "a finish behind it",
@@ -60,7 +58,7 @@ const STOPPED: [Stopped; 6] = [
             &[STARTED, (Flush, Said::Acked(6))],
             &[(Succeed(0), Said::Finished(7))],
         ],
-        (7, Some(Phase::Interrupted), Some(Phase::Ready)),
+        (7, Phase::Interrupted, Phase::Ready),
     ),
     (
         "a finish, flushed",
@@ -69,27 +67,28 @@ const STOPPED: [Stopped; 6] = [
             &[STARTED, (Succeed(0), Said::Finished(7))],
             &[(Flush, Said::Acked(7))],
         ],
-        (8, Some(Phase::Success), Some(Phase::Ready)),
+        (8, Phase::Success, Phase::Ready),
     ),
 ];
 
-/// What bytes of a disk store of the tasks.
-fn tasks_in(rt: &impl Abort, alloc: Global, bytes: Vec<u8>) -> Tasks {
-    let state = recovered(rt, alloc, bytes);
-    (state.count(), state.phase(0), state.phase(1))
+/// Says whether so many events are stored, and both tasks are so far.
+fn are_tasks(found: &Listing, wanted: &Tasks) -> bool {
+    let is_first = phase_of(found, 0) == Some(&wanted.1);
+    let is_second = phase_of(found, 1) == Some(&wanted.2);
+    found.count == wanted.0 && is_first && is_second
 }
 
 /// What a disk holds behind a stop, opened again.
 fn opened_again(rt: &impl Abort, alloc: Global, disk: &MemoryDisk) -> Vec<u8> {
-    let left = disk_of(rt, alloc, now(rt, alloc, disk));
-    now(rt, alloc, &played_on(rt, alloc, left, &[]))
+    let (bytes, _) = played_over(rt, alloc, now(rt, alloc, disk), &[]);
+    bytes
 }
 
 /// Asserts what an opening makes of a store behind these steps and a stop.
 fn assert_stopped(rt: &impl Abort, alloc: Global, row: &Stopped) {
     let disk = played(rt, alloc, Layout::Small, row.1);
-    let found = tasks_in(rt, alloc, opened_again(rt, alloc, &disk));
-    assert!(rt; found == row.2, "{}", row.0);
+    let found = recovered(rt, alloc, opened_again(rt, alloc, &disk));
+    holds(rt, are_tasks(&found, &row.2), row.0, row.2.0);
 }
 
 #[test]
@@ -117,8 +116,8 @@ fn a_bare_group_keeps_its_scope(rt: HostRuntime) {
 }
 
 /// Asserts that the scope lives, since the group whose task was interrupted is the bare one.
-fn assert_bare(rt: &impl Abort, state: &State) {
-    assert_scopes(rt, state, &[(b"g", Seen::Live)]);
-    assert_group(rt, state, b"g", (1, 1, None, false, None));
-    assert_group(rt, state, b"h", (1, 0, None, false, Some(b"interrupted")));
+fn assert_bare(rt: &impl Abort, found: &Listing) {
+    assert_scopes(rt, found, &[(b"g", Seen::Live)]);
+    assert_group(rt, found, b"g", (1, 1, None, false, None));
+    assert_group(rt, found, b"h", (1, 0, None, false, Some(b"interrupted")));
 }

@@ -1,9 +1,13 @@
 //! Want of memory: all of it is taken before the first device call, and none later.
+//!
+//! This rests on `Opens` (at Memory the disk is as it was given), and on `AnswersStep` of a book
+//! whose allocator may refuse everything.
 
-use crate::asserts::{done, given};
+use crate::asserts::{done, given, holds};
 use crate::calls::Call::{Cancel, Cause, Checkpoint, Flush, Go, Group, Limit, Retry, Start, Wait};
 use crate::calls::{Call, Said, assert_replies, steps_of};
-use crate::disks::{AMPLE, formatted, heap, play_without_memory, unopened};
+use crate::disks::{AMPLE, formatted, heap, play_without_memory};
+use linked_list_allocator::LocalHeap;
 use run_book::Book;
 use run_disk::MemoryDisk;
 use run_model::{Fault, Layout, Refusal};
@@ -31,13 +35,23 @@ static BEHIND_STATE: [(Layout, [usize; 5]); 2] = [
     ),
 ];
 
+/// Why a disk isn't opened over a heap, if it isn't, and the disk as it is handed back.
+fn unopened(heap: &LocalHeap, disk: MemoryDisk) -> Option<(Fault, MemoryDisk)> {
+    Book::open(heap, disk).err()
+}
+
 /// Asserts that an opening with so many bytes of memory is refused before any device call, and
 /// gives the disk back.
 fn refused(rt: &impl Abort, alloc: Global, disk: MemoryDisk, bytes: usize) -> MemoryDisk {
     let heap = heap(rt, alloc, bytes);
     let (fault, disk) = given(rt, unopened(&heap, disk), "fault");
-    assert!(rt; fault == Fault::Memory, "with {bytes} bytes");
-    assert!(rt; (disk.calls(), heap.used()) == (8, 0), "with {bytes} bytes");
+    let told = (fault, disk.calls(), heap.used());
+    holds(
+        rt,
+        told == (Fault::Memory, 8, 0),
+        "with bytes",
+        bytes as u64,
+    );
     disk
 }
 
@@ -76,7 +90,12 @@ fn assert_growths(rt: &impl Abort, alloc: Global, layout: Layout, growths: &[usi
     let disk = refused_within(rt, alloc, formatted(rt, alloc, layout), state);
     let (disk, sum) = refused_behind(rt, alloc, disk, state, growths);
     let heap = heap(rt, alloc, sum);
-    assert!(rt; unopened(&heap, disk).is_none(), "in {layout:?}");
+    holds(
+        rt,
+        unopened(&heap, disk).is_none(),
+        "with bytes",
+        sum as u64,
+    );
 }
 
 #[test]
@@ -110,7 +129,7 @@ fn assert_steps(rt: &impl Abort, alloc: Global, layout: Layout) {
     let steps = steps_of(rt, alloc, &[&ROWS]);
     let (disk, replies) = play_without_memory(rt, alloc, formatted(rt, alloc, layout), &steps);
     assert_replies(rt, &replies, &[&ROWS]);
-    assert!(rt; disk.calls() == 37, "in {layout:?}");
+    holds(rt, disk.calls() == 37, "calls of bytes", layout.store_len());
 }
 
 #[test]

@@ -1,5 +1,9 @@
 //! Flushes that fill a segment to its last byte or want a byte more, and a full log.
+//!
+//! This rests on `Flushes` (one batch where there is room for it, else a checkpoint), and on the
+//! rules of SessionFull, which `AnswersStep` takes up.
 
+use crate::asserts::holds;
 use crate::calls::Call::{Advance, Bare, Checkpoint, Flush, Go, Group, Limit, Start, Wait};
 use crate::calls::{Call, Said, add_steps, assert_last};
 use crate::disks::{At, assert_bytes, counted_on, formatted, now, play, played_on};
@@ -67,11 +71,14 @@ fn assert_flushed(rt: &impl Abort, alloc: Global, row: Flushed) {
     let steps = pending(rt, alloc, limits, advances);
     let rows = [(Flush, Said::Acked(acked))];
     let mut disk = played_behind(rt, alloc, layout, steps, &rows);
-    assert!(rt; disk.calls() == calls, "behind {advances} advances");
-    assert!(rt;
-        counted_on(alloc, &mut disk) == Ok(acked),
-        "behind {advances} advances"
+    holds(
+        rt,
+        disk.calls() == calls,
+        "calls, behind advances",
+        advances,
     );
+    let found = counted_on(alloc, &mut disk);
+    holds(rt, found == Ok(acked), "events, behind advances", advances);
 }
 
 #[test]
@@ -129,9 +136,10 @@ static OTHER_SEGMENT: [At; 2] = [
 fn a_flush_behind_a_full_segment_is_a_checkpoint(rt: HostRuntime) {
     let steps = filling(&rt, rt.alloc());
     let mut disk = played_behind(&rt, rt.alloc(), Layout::Small, steps, &BEHIND);
-    assert!(rt; disk.calls() == 37);
+    holds(&rt, disk.calls() == 37, "calls", 37);
     assert_bytes(&rt, &now(&rt, rt.alloc(), &disk), &OTHER_SEGMENT);
-    assert!(rt; counted_on(rt.alloc(), &mut disk) == Ok(23_835));
+    let found = counted_on(rt.alloc(), &mut disk);
+    holds(&rt, found == Ok(23_835), "events", 23_835);
 }
 
 /// The longest error.

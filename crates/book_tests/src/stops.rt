@@ -1,6 +1,12 @@
 //! Stops: what a crash leaves behind each call of a flush, a checkpoint, an opening and a format,
 //! with each kind of tearing.
+//!
+//! This rests on `Flushes`, `Checkpoints`, `Opens` and `Formats`, which say what a crash at any
+//! moment of the call leaves: of a save the events acknowledged before or all, and none between;
+//! of an opening what was stored or its restart; of a format over zeros nothing, or a new store.
+//! What a crash may make of the bytes rests on `IsTornImage` of the disk in memory.
 
+use crate::asserts::{holds, holds_behind};
 use crate::calls::Call::{Cause, Checkpoint, Flush};
 use crate::calls::{Call, Said};
 use crate::disks::{TEARS, counted, disk_of, formatted, played, played_on, recovered, torn_image};
@@ -42,15 +48,15 @@ fn assert_left(
     torn: Torn,
     stored: Stored,
 ) {
-    let state = recovered(rt, alloc, torn_image(rt, alloc, disk, calls, torn));
-    assert!(rt; state.count() == stored.0, "behind call {calls}, {torn:?}");
-    assert_scopes(rt, &state, stored.1);
+    let found = recovered(rt, alloc, torn_image(rt, alloc, disk, calls, torn));
+    holds_behind(rt, found.count == stored.0, calls, torn);
+    assert_scopes(rt, &found, stored.1);
 }
 
 /// Asserts what stops from call 24 to the last one leave, torn in each way. The last call syncs
 /// the gate that the one before wrote: where it is open, all is there.
 fn assert_stops(rt: &impl Abort, alloc: Global, disk: &MemoryDisk, last: u64, after: Stored) {
-    assert!(rt; disk.calls() == last);
+    holds(rt, disk.calls() == last, "calls", last);
     for calls in 24..=last {
         for torn in TEARS {
             let is_there = calls == last || (last.saturating_sub(calls) == 1 && opens(torn));
@@ -141,7 +147,7 @@ fn told(calls: u64, torn: Torn) -> Result<u64, Fault> {
 fn assert_told(rt: &impl Abort, alloc: Global, disk: &MemoryDisk, calls: u64) {
     for torn in TEARS {
         let found = counted(rt, alloc, torn_image(rt, alloc, disk, calls, torn));
-        assert!(rt; found == told(calls, torn), "behind call {calls}, {torn:?}");
+        holds_behind(rt, found == told(calls, torn), calls, torn);
     }
 }
 

@@ -1,13 +1,15 @@
 //! Stores of version 1, kept as bytes: each is read, and its opening takes it over.
+//!
+//! This rests on `Recovers` and `Opens`, whose `Stores` takes images of either version.
 
-use crate::asserts::given;
+use crate::asserts::{holds, holds_behind};
 use crate::calls::Call::{Flush, Retry};
 use crate::calls::Said;
 use crate::disks::{
-    At, assert_bytes, counted, disk_of, now, played_on, recovered, small_disk, torn_image, unopened,
+    At, assert_bytes, counted, disk_of, now, played_on, recovered, small_disk, told_by_opening,
+    torn_image,
 };
-use crate::looks::{Seen, assert_group, assert_scopes, assert_tasks};
-use run_book::State;
+use crate::looks::{Listing, Seen, assert_group, assert_scopes, assert_tasks};
 use run_disk::{MemoryDisk, Torn};
 use run_model::{Fault, Phase};
 use std::alloc::Global;
@@ -44,8 +46,8 @@ const CANCELED: &[u8; 70] = b"\xa7\0\0\0\0\0\0\0\0\0\0\0\x39\x01\0\0\0\0\0\0\0\0
 /// A batch of scope `c` below root.
 const DERIVED: &[u8; 13] = b"\xa7\0\0\0\x08\x01\0\x05\x01c\0\0\x01";
 
-/// The state that a small store with these bytes has.
-fn stored(rt: &impl Abort, alloc: Global, rows: &[(usize, &[u8])]) -> State {
+/// All that a small store with these bytes has.
+fn stored(rt: &impl Abort, alloc: Global, rows: &[(usize, &[u8])]) -> Listing {
     recovered(rt, alloc, small_disk(rt, alloc, rows))
 }
 
@@ -55,24 +57,24 @@ fn disk_with(rt: &impl Abort, alloc: Global, rows: &[(usize, &[u8])]) -> MemoryD
 }
 
 /// Asserts that task 0 runs, and task 1 is held.
-fn assert_running(rt: &impl Abort, state: &State) {
-    assert!(rt; (state.count(), state.clock().get()) == (6, 0));
-    assert_scopes(rt, state, &[(b"g", Seen::Live)]);
-    assert_group(rt, state, b"g", (1, 2, Some(1), false, None));
+fn assert_running(rt: &impl Abort, found: &Listing) {
+    holds(rt, (found.count, found.clock) == (6, 0), "events", 6);
+    assert_scopes(rt, found, &[(b"g", Seen::Live)]);
+    assert_group(rt, found, b"g", (1, 2, Some(1), false, None));
     let tasks = [
         (b"a".as_slice(), Phase::Running, None),
         (b"b", Phase::Held, None),
     ];
-    assert_tasks(rt, state, &tasks);
+    assert_tasks(rt, found, &tasks);
 }
 
 /// Asserts that task 0 is interrupted, task 1 ready, and besides all as it was.
-fn assert_interrupted(rt: &impl Abort, state: &State) {
-    assert!(rt; (state.count(), state.clock().get()) == (7, 0));
-    assert_scopes(rt, state, &[(b"g", Seen::Canceled(b"interrupted"))]);
+fn assert_interrupted(rt: &impl Abort, found: &Listing) {
+    holds(rt, (found.count, found.clock) == (7, 0), "events", 7);
+    assert_scopes(rt, found, &[(b"g", Seen::Canceled(b"interrupted"))]);
     assert_group(
         rt,
-        state,
+        found,
         b"g",
         (1, 1, Some(1), false, Some(b"interrupted")),
     );
@@ -80,18 +82,18 @@ fn assert_interrupted(rt: &impl Abort, state: &State) {
         (b"a".as_slice(), Phase::Interrupted, None),
         (b"b", Phase::Ready, None),
     ];
-    assert_tasks(rt, state, &tasks);
+    assert_tasks(rt, found, &tasks);
 }
 
 /// Asserts that task 2 retries task 0.
-fn assert_retried(rt: &impl Abort, state: &State) {
-    assert!(rt; state.count() == 8);
+fn assert_retried(rt: &impl Abort, found: &Listing) {
+    holds(rt, found.count == 8, "events", 8);
     let tasks = [
         (b"a".as_slice(), Phase::Interrupted, None),
         (b"b", Phase::Ready, None),
         (b"a", Phase::Held, Some(0)),
     ];
-    assert_tasks(rt, state, &tasks);
+    assert_tasks(rt, found, &tasks);
 }
 
 #[test]
@@ -122,7 +124,7 @@ static LEFT: [(u64, Torn, u64); 5] = [
 fn assert_left(rt: &impl Abort, alloc: Global, disk: &MemoryDisk) {
     for row in LEFT.iter() {
         let found = counted(rt, alloc, torn_image(rt, alloc, disk, row.0, row.1));
-        assert!(rt; found == Ok(row.2), "behind call {}", row.0);
+        holds_behind(rt, found == Ok(row.2), row.0, row.1);
     }
 }
 
@@ -137,13 +139,13 @@ static TAKEN_OVER: [At; 4] = [
 #[test]
 fn an_opening_takes_a_store_of_version_1_over(rt: HostRuntime) {
     let disk = taken_over(&rt, rt.alloc());
-    assert!(rt; disk.calls() == 16);
+    holds(&rt, disk.calls() == 16, "calls", 16);
     assert_bytes(&rt, &now(&rt, rt.alloc(), &disk), &TAKEN_OVER);
     assert_left(&rt, rt.alloc(), &disk);
 }
 
 /// What a stop behind so many calls leaves of a disk.
-fn stopped(rt: &impl Abort, alloc: Global, disk: &MemoryDisk, calls: u64) -> State {
+fn stopped(rt: &impl Abort, alloc: Global, disk: &MemoryDisk, calls: u64) -> Listing {
     recovered(rt, alloc, torn_image(rt, alloc, disk, calls, Torn::Keep))
 }
 
@@ -155,14 +157,14 @@ fn an_opening_restarts_a_store_of_version_1(rt: HostRuntime) {
 }
 
 /// Asserts that two scopes are cancelled, and a third is not.
-fn assert_three(rt: &impl Abort, state: &State, count: u64) {
+fn assert_three(rt: &impl Abort, found: &Listing, count: u64) {
     let scopes = [
         (b"a".as_slice(), Seen::Canceled(b"disk")),
         (b"b", Seen::Canceled(b"disk")),
         (b"c", Seen::Live),
     ];
-    assert!(rt; state.count() == count);
-    assert_scopes(rt, state, &scopes);
+    holds(rt, found.count == count, "events", count);
+    assert_scopes(rt, found, &scopes);
 }
 
 /// A store of version 1 with a record behind its image.
@@ -182,6 +184,6 @@ static RETRIED_BEFORE: [(usize, &'static [u8]); 2] = [(0, RESTARTED_BEFORE), (1_
 #[test]
 fn a_retry_behind_version_1_is_no_event(rt: HostRuntime) {
     let disk = disk_with(&rt, rt.alloc(), &RETRIED_BEFORE);
-    let (fault, disk) = given(&rt, unopened(rt.alloc(), disk), "fault");
-    assert!(rt; (fault, disk.calls()) == (Fault::BadEvent, 3));
+    let told = told_by_opening(rt.alloc(), disk);
+    holds(&rt, told == (Some(Fault::BadEvent), 3), "calls", 3);
 }

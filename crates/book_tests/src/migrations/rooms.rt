@@ -1,36 +1,38 @@
 //! Want of memory: a migration takes its room before the first device call.
+//!
+//! This rests on `Migrates`, the contract of `migrate`: at Memory both disks are as they were
+//! given.
 
-use crate::migrations::stores::{LARGE_LEN, migrated, small};
-use linked_list_allocator::LocalHeap;
+use crate::asserts::holds;
+use crate::disks::heap;
+use crate::migrations::stores::{LARGE_LEN, Told, small, told, zeros};
 use run_book::MigrateFault;
-use run_disk::MemoryDisk;
-use run_model::Fault;
 use std::alloc::Global;
 use std::process::Abort;
-use std::test::Fail;
 
-/// Asserts what a migration tells whose room is taken of so many bytes. At `Memory` neither disk
-/// was called.
-fn assert_told(
-    rt: &impl Abort,
-    alloc: Global,
-    bytes: usize,
-    want: Option<MigrateFault>,
-) -> Result<(), Fail> {
-    let heap = LocalHeap::new(alloc, bytes)?;
-    let mut old = small(rt, alloc, &[])?;
-    let (fault, new) = migrated(&heap, &mut old, MemoryDisk::new(alloc, LARGE_LEN)?);
-    assert_eq!(rt; fault, want, "of {bytes} bytes");
-    let calls = if want.is_none() { (3, 8) } else { (0, 0) };
-    assert_eq!(rt; (old.calls(), new.calls()), calls, "of {bytes} bytes");
-    assert!(rt; heap.used() == 0, "{bytes} bytes are given back");
-    Ok(())
+/// What a migration tells whose room is taken of so many bytes, which are then given back.
+fn told_within(rt: &impl Abort, alloc: Global, bytes: usize) -> Told {
+    let heap = heap(rt, alloc, bytes);
+    let mut old = small(rt, alloc, &[]);
+    let told = told(&heap, &mut old, zeros(rt, alloc, LARGE_LEN));
+    holds(rt, heap.used() == 0, "given back of bytes", bytes as u64);
+    told
 }
 
+/// How many bytes, what is told, and how many calls were made of both disks.
+static ROOMS: [(usize, Told); 6] = [
+    (1_000, (Some(MigrateFault::Memory), 0, 0)),
+    (400_000, (Some(MigrateFault::Memory), 0, 0)),
+    (800_000, (Some(MigrateFault::Memory), 0, 0)),
+    (1_200_000, (Some(MigrateFault::Memory), 0, 0)),
+    (1_700_000, (Some(MigrateFault::Memory), 0, 0)),
+    (8_000_000, (None, 3, 8)),
+];
+
 #[test]
-fn each_growth_can_be_refused(rt: HostRuntime) -> Result<(), Fail> {
-    for bytes in [1_000, 400_000, 800_000, 1_200_000, 1_700_000] {
-        assert_told(&rt, rt.alloc(), bytes, Some(MigrateFault::Memory))?;
+fn each_growth_can_be_refused(rt: HostRuntime) {
+    for row in ROOMS.iter() {
+        let told = told_within(&rt, rt.alloc(), row.0);
+        holds(&rt, told == row.1, "of bytes", row.0 as u64);
     }
-    assert_told(&rt, rt.alloc(), 8_000_000, None)
 }

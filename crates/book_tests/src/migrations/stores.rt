@@ -4,11 +4,11 @@
 //! The night: `group g root`, `limit g 1`, `go g copy a`, `go g copy b`, `start`, behind one
 //! opening, and a flush. So task 0 is running, task 1 is held, and there were six events.
 
+use crate::asserts::done;
 use crate::bytes::{FORMATTED, OPENED};
-use crate::disks::{At, put, reads};
+use crate::disks::{At, disk_of, now, put};
 use run_book::{MigrateFault, migrate};
 use run_disk::{MemoryDisk, RunDisk};
-use run_model::Fault;
 use std::alloc::{Allocator, Global};
 use std::process::Abort;
 
@@ -45,24 +45,30 @@ const IMAGE: &[u8; 74] = b"\xa7\0\0\0\0\0\0\0\0\0\0\0\x3d\
 /// The large store, which has zeros in all other places.
 pub static LARGE: [At; 1] = [("slot 0", 0, IMAGE)];
 
-/// So many zeros, but for these bytes at their places.
-fn laid(rt: &impl Abort, alloc: Global, len: usize, rows: &[At]) -> Result<Vec<u8>, Fault> {
-    let Ok(mut bytes) = vec![in alloc; 0u8; len] else {
-        return Err(Fault::Memory);
-    };
+/// Puts bytes in place of those at their places.
+fn put_all(rt: &impl Abort, bytes: &mut [u8], rows: &[At]) {
     for row in rows.iter() {
-        put(rt, &mut bytes, row.1, row.2);
+        put(rt, bytes, row.1, row.2);
     }
-    Ok(bytes)
+}
+
+/// So many zeros, but for these bytes at their places.
+fn laid(rt: &impl Abort, alloc: Global, len: usize, rows: &[At]) -> Vec<u8> {
+    let mut bytes = done(rt, vec![in alloc; 0u8; len], "memory");
+    put_all(rt, &mut bytes, rows);
+    bytes
 }
 
 /// The small store, with these bytes in place of its own.
-pub fn small(rt: &impl Abort, alloc: Global, rows: &[At]) -> Result<MemoryDisk, Fault> {
-    let mut bytes = laid(rt, alloc, SMALL_LEN, &SMALL)?;
-    for row in rows.iter() {
-        put(rt, &mut bytes, row.1, row.2);
-    }
-    MemoryDisk::from_bytes(alloc, bytes)
+pub fn small(rt: &impl Abort, alloc: Global, rows: &[At]) -> MemoryDisk {
+    let mut bytes = laid(rt, alloc, SMALL_LEN, &SMALL);
+    put_all(rt, &mut bytes, rows);
+    disk_of(rt, alloc, bytes)
+}
+
+/// A disk of so many zeros.
+pub fn zeros(rt: &impl Abort, alloc: Global, len: usize) -> MemoryDisk {
+    done(rt, MemoryDisk::new(alloc, len), "memory")
 }
 
 /// Why a migration made no large store, if it made none, and the new disk.
@@ -77,18 +83,16 @@ pub fn migrated<D: RunDisk, E: RunDisk, A: Allocator + Copy>(
     }
 }
 
-/// Asserts what reads of a disk give: zeros, but for these bytes at their places.
-pub fn assert_holds(
-    rt: &impl Abort,
-    alloc: Global,
-    disk: &MemoryDisk,
-    len: usize,
-    rows: &[At],
-) -> Result<(), Fault> {
-    let now = reads(alloc, disk)?;
-    assert!(rt;
-        now == laid(rt, alloc, len, rows)?,
-        "other bytes in a disk of {len}"
-    );
-    Ok(())
+/// What a migration tells: its fault, if it has one, and how many calls both disks count.
+pub type Told = (Option<MigrateFault>, u64, u64);
+
+/// What a migration of these disks tells.
+pub fn told<A: Allocator + Copy>(alloc: A, old: &mut MemoryDisk, new: MemoryDisk) -> Told {
+    let (fault, new) = migrated(alloc, old, new);
+    (fault, old.calls(), new.calls())
+}
+
+/// Says whether reads of a disk give zeros, but for these bytes at their places.
+pub fn has(rt: &impl Abort, alloc: Global, disk: &MemoryDisk, len: usize, rows: &[At]) -> bool {
+    now(rt, alloc, disk) == laid(rt, alloc, len, rows)
 }

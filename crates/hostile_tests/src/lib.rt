@@ -1,0 +1,36 @@
+//! Tests of a book over what nobody wrote for it: stores that were cut or changed, random bytes,
+//! openings that are stopped again and again, and numbers and sessions at their ends.
+#![tactic(auto)]
+
+#[cfg(test)]
+mod answers;
+#[cfg(test)]
+mod asserts;
+#[cfg(test)]
+mod calls;
+#[cfg(test)]
+mod changes;
+#[cfg(test)]
+mod cuts;
+#[cfg(test)]
+mod dice;
+#[cfg(test)]
+mod disks;
+#[cfg(test)]
+mod fulls;
+#[cfg(test)]
+mod heads;
+#[cfg(test)]
+mod looks;
+#[cfg(test)]
+mod nights;
+#[cfg(test)]
+mod numbers;
+#[cfg(test)]
+mod openings;
+#[cfg(test)]
+mod randoms;
+#[cfg(test)]
+mod stores;
+#[cfg(test)]
+mod trials;
