@@ -2,10 +2,10 @@
 
 ghost use Rattle.std.specs.Prelude.{◌≡◌, ◌<◌};
 
-use crate::stores::{Task, opened, stored};
-use run_crew::{Desk, Note, Strayed, WorkerNotes, audit};
-use run_disk::MemoryDisk;
-use run_model::{Fault, Outcome, Text};
+use crate::seated::{Do, Seated, Told};
+use crate::stores::{Task, opened, outcome, stored};
+use run_crew::{Note, WorkerNotes};
+use run_model::Fault;
 use std::alloc::Global;
 use std::marker::Brand;
 use std::process::Abort;
@@ -96,13 +96,6 @@ static ROWS: [Row; 12] = [
     (2, 2, [&[(10, 0, b"")], &[(11, 1, b"x")]], Some((2, 3))),
 ];
 
-fn outcome(rt: &impl Abort, error: &[u8]) -> Outcome {
-    if error.is_empty() {
-        return Outcome::Success;
-    }
-    Outcome::Failure(Text::read(error).expect(rt, "a text"))
-}
-
 fn listed(rt: &impl Abort, alloc: Global, rows: &[Noted]) -> Result<WorkerNotes, Fault> {
     let mut notes = WorkerNotes::with_room(alloc)?;
     for row in rows.iter() {
@@ -114,45 +107,47 @@ fn listed(rt: &impl Abort, alloc: Global, rows: &[Noted]) -> Result<WorkerNotes,
             });
         }
     }
-    assert_eq!(rt; notes.as_slice().len(), rows.len());
+    assert!(rt; notes.as_slice().len() == rows.len());
     Ok(notes)
 }
 
-/// What an audit says of a row.
+/// What an audit names in a row, if anything.
 fn audited<S: Ledger, F: Ledger>(
     rt: &impl Abort,
     alloc: Global,
     row: &Row,
     starts: Blank,
     finishes: Blank,
-) -> Result<Result<(), Strayed>, Fault>
+) -> Result<Option<(usize, usize)>, Fault>
     requires starts { (starts.name ≡ S.name) × (starts.parts ≡ S.parts) × (0 < S.parts) }
     requires finishes { (finishes.name ≡ F.name) × (finishes.parts ≡ F.parts)
         × (0 < F.parts) }
 {
     let book = opened(alloc, stored(rt, alloc, None, &TASKS)?)?;
-    let (mut desk, mut seat) = Desk::<MemoryDisk, S, F>::new(book, starts, finishes);
+    let mut desk = Seated::<S, F>::new(book, starts, finishes);
     for _ in 0..row.0 {
-        let Ok(_) = desk.start_as(&mut seat) else {
-            return Err(Fault::BadEvent);
-        };
+        let started = desk.take(rt, Do::Start);
+        assert!(rt; matches!(started, Told::Started(..)));
     }
     for task in 0..row.1 {
         let error: &[u8] = if task % 2 == 0 { b"" } else { b"x" };
-        let Ok(_) = desk.finish_as(&mut seat, task, &outcome(rt, error)) else {
-            return Err(Fault::BadEvent);
-        };
+        let finished = desk.take(rt, Do::Finish(task, error));
+        assert!(rt; matches!(finished, Told::Event(_)));
     }
-    let first = listed(rt, alloc, row.2[0])?;
-    let second = listed(rt, alloc, row.2[1])?;
-    Ok(audit(&desk, &[first, second]))
+    let mut lists = Vec::new(alloc);
+    for notes in row.2.iter() {
+        let list = listed(rt, alloc, notes)?;
+        if lists.push(list).is_err() {
+            return Err(Fault::Memory);
+        }
+    }
+    Ok(desk.audited(lists.as_slice()))
 }
 
 #[test]
 fn an_audit_names_what_strays_first(rt: HostRuntime) -> Result<(), Fault> {
     for (n, row) in ROWS.iter().enumerate() {
-        let found = audited::<Brand, Brand>(&rt, rt.alloc(), row, Blank::new(1), Blank::new(1))?;
-        let named = found.err().map(|strayed| (strayed.worker, strayed.note));
+        let named = audited::<Brand, Brand>(&rt, rt.alloc(), row, Blank::new(1), Blank::new(1))?;
         assert!(&rt; named == row.3, "row {n}");
     }
     Ok(())

@@ -3,6 +3,7 @@
 use crate::crews::{Fixed, NightEnd, plain_night};
 use crate::stores::{Task, opened, stored};
 use run_book::{Book, State};
+use run_crew::Note;
 use run_disk::{FailOnce, MemoryDisk, Torn};
 use run_model::{Fault, Outcome, Phase};
 use std::alloc::Global;
@@ -28,6 +29,28 @@ fn is_ended(state: &State, task: u16, outcome: &Outcome) -> bool {
     }
 }
 
+/// Asserts that all tasks of a state are done.
+fn assert_done(rt: &impl Abort, state: &State, call: u64) {
+    for task in 0..16 {
+        let done = is_ended(state, task, &Outcome::Success);
+        assert!(rt; done, "task {task} at call {call}");
+    }
+}
+
+/// Asserts that the finishes up to this event are in a state.
+fn assert_has(rt: &impl Abort, state: &State, durable: u64, notes: &[Note], call: u64) {
+    for note in notes.iter() {
+        let kept = durable < note.event || is_ended(state, note.task, &note.outcome);
+        assert!(rt; kept, "event {} at call {call}", note.event);
+    }
+}
+
+/// What the disk of a book stores, once it doesn't fail.
+fn recovered(alloc: Global, book: Book<FailOnce<MemoryDisk>>) -> Result<State, Fault> {
+    let mut disk = book.into_disk().into_inner();
+    Book::recover(alloc, &mut disk)
+}
+
 /// Asserts that an audit that is Ok left no task that isn't ended, and that a finish that was
 /// acknowledged is in what the disk stores.
 fn assert_kept(
@@ -45,30 +68,15 @@ fn assert_kept(
     } = night;
     if audited.is_ok() {
         assert!(rt; settled == (16, 16), "counts at call {call}");
-        for task in 0..16 {
-            assert!(rt;
-                is_ended(book.state(), task, &Outcome::Success),
-                "task {task}"
-            );
-        }
+        assert_done(rt, book.state(), call);
     }
+    let (durable, broken) = (book.durable(), book.is_broken());
     assert!(rt; last.is_err() || audited.is_ok(), "audit at call {call}");
-    assert!(rt;
-        last.is_ok() == !book.is_broken(),
-        "last flush at call {call}"
-    );
-    let durable = book.durable();
-    let mut disk = book.into_disk().into_inner();
-    let state = Book::recover(alloc, &mut disk)?;
+    assert!(rt; last.is_err() == broken, "last flush at call {call}");
+    let state = recovered(alloc, book)?;
     assert!(rt; durable <= state.count(), "count at call {call}");
     for notes in lists.iter() {
-        for note in notes.as_slice().iter() {
-            assert!(rt;
-                durable < note.event || is_ended(&state, note.task, &note.outcome),
-                "event {} at call {call}",
-                note.event
-            );
-        }
+        assert_has(rt, &state, durable, notes.as_slice(), call);
     }
     Ok(())
 }

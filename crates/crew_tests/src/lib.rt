@@ -13,6 +13,10 @@ mod failures;
 #[cfg(test)]
 mod gates;
 #[cfg(test)]
+mod locks;
+#[cfg(test)]
 mod nights;
+#[cfg(test)]
+mod seated;
 #[cfg(test)]
 mod stores;

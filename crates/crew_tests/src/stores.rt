@@ -2,7 +2,7 @@
 
 use run_book::{Book, State};
 use run_disk::{MemoryDisk, RunDisk};
-use run_model::{Command, Fault, Limit, Name, Phase};
+use run_model::{Command, Fault, Limit, Name, Outcome, Phase, Text};
 use std::alloc::Global;
 use std::process::Abort;
 
@@ -20,11 +20,16 @@ fn limit(rt: &impl Abort, most: Option<u8>) -> Limit {
     }
 }
 
-pub fn opened<D: RunDisk + Drop>(alloc: Global, disk: D) -> Result<Book<D>, Fault> {
-    match Book::open(alloc, disk) {
-        Ok(book) => Ok(book),
-        Err((fault, _)) => Err(fault),
+/// How a task ended: with this error, or without one where it has no bytes.
+pub fn outcome(rt: &impl Abort, error: &[u8]) -> Outcome {
+    if error.is_empty() {
+        return Outcome::Success;
     }
+    Outcome::Failure(Text::read(error).expect(rt, "a text"))
+}
+
+pub fn opened<D: RunDisk + Drop>(alloc: Global, disk: D) -> Result<Book<D>, Fault> {
+    Book::open(alloc, disk).map_err(|refused| refused.0)
 }
 
 fn fresh(alloc: Global) -> Result<Book<MemoryDisk>, Fault> {
@@ -32,6 +37,16 @@ fn fresh(alloc: Global) -> Result<Book<MemoryDisk>, Fault> {
         Ok(disk) => opened(alloc, disk),
         Err((fault, _)) => Err(fault),
     }
+}
+
+fn obey(rt: &impl Abort, book: &mut Book<MemoryDisk>, call: &Command) {
+    let done = book.command(call).is_ok();
+    assert!(rt; done);
+}
+
+fn flush(rt: &impl Abort, book: &mut Book<MemoryDisk>) {
+    let done = book.flush().is_ok();
+    assert!(rt; done);
 }
 
 /// A small store with group `g` under root, of this limit, and its tasks: events 1, the group, the
@@ -47,13 +62,13 @@ pub fn stored(
         name: name(rt, b"g"),
         parent: name(rt, b"root"),
     };
-    assert!(rt; book.command(&group).is_ok());
+    obey(rt, &mut book, &group);
     if most.is_some() {
         let change = Command::SetLimit {
             group: name(rt, b"g"),
             limit: limit(rt, most),
         };
-        assert!(rt; book.command(&change).is_ok());
+        obey(rt, &mut book, &change);
     }
     for task in tasks.iter() {
         let go = Command::Go {
@@ -61,9 +76,9 @@ pub fn stored(
             job: name(rt, task.0),
             argument: name(rt, task.1),
         };
-        assert!(rt; book.command(&go).is_ok());
+        obey(rt, &mut book, &go);
     }
-    assert!(rt; book.flush().is_ok());
+    flush(rt, &mut book);
     Ok(book.into_disk())
 }
 
@@ -94,7 +109,7 @@ fn shown(phase: &Option<Phase>) -> Now<'_> {
 
 /// Asserts how the tasks of a state are, by ascending number, and that there are no more.
 pub fn assert_tasks(rt: &impl Abort, state: &State, rows: &[Now<'static>]) {
-    assert_eq!(rt; state.task_count(), rows.len());
+    assert!(rt; state.task_count() == rows.len());
     for (n, row) in rows.iter().enumerate() {
         let phase = state.phase(n.min(65_535) as u16);
         assert!(rt; shown(&phase) == *row, "task {n}");

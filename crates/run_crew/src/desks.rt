@@ -117,6 +117,8 @@ impl<D: RunDisk, S: Ledger, F: Ledger> Desk<D, S, F> {
         ensures since { self.new.since ≡ self.old.since }
         ensures seat { MatchResult result (λ _. seat.new ≡ one_start seat.old)
             (λ _. seat.new ≡ seat.old) }
+        ensures parts { (seat.new.start_parts ≡ seat.old.start_parts)
+            × (seat.new.finish_parts ≡ seat.old.finish_parts) }
     {
         let started = self.book.start()?;
         self.starts.add(&mut seat.starts, 1);
@@ -148,6 +150,8 @@ impl<D: RunDisk, S: Ledger, F: Ledger> Desk<D, S, F> {
         ensures since { self.new.since ≡ self.old.since }
         ensures seat { MatchResult result (λ _. seat.new ≡ one_finish seat.old)
             (λ _. seat.new ≡ seat.old) }
+        ensures parts { (seat.new.start_parts ≡ seat.old.start_parts)
+            × (seat.new.finish_parts ≡ seat.old.finish_parts) }
     {
         let number = self.book.finish(task, outcome)?;
         self.finishes.add(&mut seat.finishes, 1);

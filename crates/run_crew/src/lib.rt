@@ -20,7 +20,7 @@ mod workers;
 
 pub use audits::{Strayed, audit};
 pub use desks::Desk;
-pub use jobs::{Gate, Job, Turn};
+pub use jobs::{Gate, Job, OpenGate, Turn};
 pub use nights::run_night;
 pub use notes::{Note, WorkerNotes};
 pub use seats::Seat;

@@ -1,0 +1,184 @@
+//! Gates that take the lock, and so see what is durable while the workers run.
+
+ghost use Rattle.std.specs.Prelude.{◌≡◌, ◌<◌};
+
+use crate::crews::Plain;
+use crate::gates::is_set_in_time;
+use crate::stores::{opened, stored};
+use run_book::Book;
+use run_crew::{Desk, Gate, Job, run_night};
+use run_disk::{MemoryDisk, RunDisk};
+use std::alloc::Global;
+use std::marker::Brand;
+use std::sync::atomic::{AtomicBool, AtomicU32, Ordering};
+use std::sync::ledger::{Blank, Ledger};
+use std::sync::{Mutex, Wait};
+use std::test::Fail;
+use std::thread;
+use std::thread::Threads;
+use std::time::{Clock, Duration};
+
+/// What tells how many events are durable.
+trait Acknowledges {
+    fn durable(&self) -> u64;
+}
+
+impl<D: RunDisk, S: Ledger, F: Ledger> Acknowledges for Desk<D, S, F> {
+    fn durable(&self) -> u64 {
+        self.book().durable()
+    }
+}
+
+/// Takes the lock before the first turn of a task, and counts the tasks whose start it finds
+/// durable: of the tasks of one worker, task n is started by event 2 * n behind the first start.
+#[derive(Drop)]
+struct Durable<'a, T: Acknowledges, R: Wait> {
+    rt: &'a R,
+    shared: &'a Mutex<T>,
+    first: u64,
+    found: AtomicU32,
+}
+
+impl<'a, T: Acknowledges, R: Wait> Gate for Durable<'a, T, R> {
+    fn before(&self, task: u16, turn: u32) -> bool {
+        let start = self.first.saturating_add(2 * u64::from(task));
+        if turn == 0 && start <= self.shared.lock(self.rt).durable() {
+            self.found.fetch_add(1, Ordering::SeqCst);
+        }
+        true
+    }
+
+    fn finished(&self, _task: u16) {}
+}
+
+/// The jobs of one worker.
+fn plain(alloc: Global) -> Result<Vec<Box<dyn Job + Send>>, Fail> {
+    let mut list: Vec<Box<dyn Job + Send>> = Vec::new(alloc);
+    list.push(Box::new(alloc, Plain)?)?;
+    Ok(list)
+}
+
+/// How many starts of a book are durable before their first turns, under one worker.
+fn durable_starts<
+    D: RunDisk + Drop + Send,
+    S: Ledger + Send + Sync,
+    F: Ledger + Send + Sync,
+    R: Threads + Wait + Sync,
+>(rt: &R, alloc: Global, book: Book<D>, starts: Blank, finishes: Blank) -> Result<u32, Fail>
+    requires starts { (starts.name ≡ S.name) × (starts.parts ≡ S.parts) × (1 < S.parts) }
+    requires finishes { (finishes.name ≡ F.name) × (finishes.parts ≡ F.parts)
+        × (1 < F.parts) }
+{
+    let first = book.durable().saturating_add(1);
+    let (desk, mut seat) = Desk::<D, S, F>::new(book, starts, finishes);
+    let shared = Mutex::new(desk);
+    let gate = Durable {
+        rt,
+        shared: &shared,
+        first,
+        found: AtomicU32::new(0),
+    };
+    let mut jobs: Vec<Vec<Box<dyn Job + Send>>> = Vec::new(alloc);
+    jobs.push(plain(alloc)?)?;
+    let _ = run_night(rt, alloc, &shared, &mut seat, jobs, &gate)?;
+    Ok(gate.found.load(Ordering::SeqCst))
+}
+
+#[test]
+fn each_start_is_durable_before_its_first_turn(rt: HostRuntime) -> Result<(), Fail> {
+    let tasks = [(b"spin".as_slice(), b"2".as_slice()); 3];
+    let book = opened(rt.alloc(), stored(&rt, rt.alloc(), None, &tasks)?)?;
+    let found = durable_starts::<MemoryDisk, Brand, Brand, HostRuntime>(
+        &rt,
+        rt.alloc(),
+        book,
+        Blank::new(2),
+        Blank::new(2),
+    )?;
+    assert!(&rt; found == 3);
+    Ok(())
+}
+
+/// Lets task 0 begin once task 1 has begun, and task 1 go on once the finish of task 0 is durable.
+/// Nobody else flushes in between, so a flush has to be asked for when a task is finished.
+#[derive(Drop)]
+struct Flushed<'a, T: Acknowledges, R: Wait + Clock> {
+    rt: &'a R,
+    shared: &'a Mutex<T>,
+    finish: u64,
+    begun: AtomicBool,
+    seen: AtomicBool,
+}
+
+impl<'a, T: Acknowledges, R: Wait + Clock> Flushed<'a, T, R> {
+    fn is_durable_in_time(&self) -> bool {
+        for _ in 0..10_000 {
+            if self.finish <= self.shared.lock(self.rt).durable() {
+                self.seen.store(true, Ordering::SeqCst);
+                return true;
+            }
+            thread::sleep(self.rt, Duration::from_millis(1));
+        }
+        false
+    }
+}
+
+impl<'a, T: Acknowledges, R: Wait + Clock> Gate for Flushed<'a, T, R> {
+    fn before(&self, task: u16, turn: u32) -> bool {
+        match (task, turn) {
+            (0, 0) => is_set_in_time(self.rt, &self.begun),
+            (1, 0) => {
+                self.begun.store(true, Ordering::SeqCst);
+                true
+            }
+            (1, 1) => self.is_durable_in_time(),
+            _ => true,
+        }
+    }
+
+    fn finished(&self, _task: u16) {}
+}
+
+/// Says whether a night of two workers under that gate saw it durable.
+fn flushed_night<
+    D: RunDisk + Drop + Send,
+    S: Ledger + Send + Sync,
+    F: Ledger + Send + Sync,
+    R: Threads + Wait + Clock + Sync,
+>(rt: &R, alloc: Global, book: Book<D>, starts: Blank, finishes: Blank) -> Result<bool, Fail>
+    requires starts { (starts.name ≡ S.name) × (starts.parts ≡ S.parts) × (2 < S.parts) }
+    requires finishes { (finishes.name ≡ F.name) × (finishes.parts ≡ F.parts)
+        × (2 < F.parts) }
+{
+    // Behind two starts.
+    let finish = book.durable().saturating_add(3);
+    let (desk, mut seat) = Desk::<D, S, F>::new(book, starts, finishes);
+    let shared = Mutex::new(desk);
+    let gate = Flushed {
+        rt,
+        shared: &shared,
+        finish,
+        begun: AtomicBool::new(false),
+        seen: AtomicBool::new(false),
+    };
+    let mut jobs: Vec<Vec<Box<dyn Job + Send>>> = Vec::new(alloc);
+    jobs.push(plain(alloc)?)?;
+    jobs.push(plain(alloc)?)?;
+    let _ = run_night(rt, alloc, &shared, &mut seat, jobs, &gate)?;
+    Ok(gate.seen.load(Ordering::SeqCst))
+}
+
+#[test]
+fn a_finish_is_flushed_while_another_task_runs(rt: HostRuntime) -> Result<(), Fail> {
+    let tasks = [(b"copy".as_slice(), b"a".as_slice()), (b"spin", b"1")];
+    let book = opened(rt.alloc(), stored(&rt, rt.alloc(), None, &tasks)?)?;
+    let seen = flushed_night::<MemoryDisk, Brand, Brand, HostRuntime>(
+        &rt,
+        rt.alloc(),
+        book,
+        Blank::new(3),
+        Blank::new(3),
+    )?;
+    assert!(&rt; seen);
+    Ok(())
+}
