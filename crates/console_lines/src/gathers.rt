@@ -58,6 +58,91 @@ impl Reply {
     }
 }
 
+/// How far a task is.
+pub(crate) fn push_phase<const N: usize>(out: &mut ArrayVec<u8, N>, phase: &Phase)
+    requires { array_vec_len out.old + 70 ≤ N }
+    ensures { Gathers out.old.items out.new.items (phase_text phase.now) 70 }
+{
+    match phase {
+        Phase::Held => push(out, b"held"),
+        Phase::Ready => push(out, b"ready"),
+        Phase::Running => push(out, b"running"),
+        Phase::Success => push(out, b"success"),
+        Phase::Failure(error) => {
+            push(out, b"error ");
+            push_text(out, error);
+        }
+        Phase::Interrupted => push(out, b"interrupted"),
+    }
+}
+
+/// How a scope is.
+pub(crate) fn push_look<const N: usize>(out: &mut ArrayVec<u8, N>, look: &Look)
+    requires { array_vec_len out.old + 130 ≤ N }
+    ensures { Gathers out.old.items out.new.items (scope_text look.now.done look.now.deadline) 130 }
+{
+    match &look.done {
+        None => {
+            push(out, b"live; deadline ");
+            push_deadline(out, look.deadline);
+        }
+        Some(ending) => {
+            push(out, b"done; deadline ");
+            push_deadline(out, look.deadline);
+            push_ending(out, ending);
+        }
+    }
+}
+
+/// How a group is.
+pub(crate) fn push_group<const N: usize>(out: &mut ArrayVec<u8, N>, look: &GroupLook)
+    requires { array_vec_len out.old + 116 ≤ N }
+    ensures { Gathers out.old.items out.new.items (group_text look.now) 116 }
+{
+    push(out, b"unfinished ");
+    push_count(out, look.unfinished);
+    push_limited(out, look);
+}
+
+/// A moment has at most 12 digits.
+#[tactic(auto, using(crate::proofs::Digits::moment_digits))]
+pub(crate) fn push_moment<const N: usize>(out: &mut ArrayVec<u8, N>, seconds: u64)
+    requires range { seconds < 10 ^ 12 }
+    requires room { array_vec_len out.old + 12 ≤ N }
+    ensures { Gathers out.old.items out.new.items (decimal seconds) 12 }
+{
+    let mut digits = Buffer::new();
+    push(out, digits.format(seconds).as_bytes());
+}
+
+/// A number has at most 20 digits.
+pub(crate) fn push_number<const N: usize>(out: &mut ArrayVec<u8, N>, number: u64)
+    requires { array_vec_len out.old + 20 ≤ N }
+    ensures { Gathers out.old.items out.new.items (decimal number) 20 }
+{
+    let mut digits = Buffer::new();
+    push(out, digits.format(number).as_bytes());
+}
+
+/// A name.
+pub(crate) fn push_name<const N: usize>(out: &mut ArrayVec<u8, N>, name: &Name)
+    requires { array_vec_len out.old + 32 ≤ N }
+    ensures { Gathers out.old.items out.new.items name.now 32 }
+{
+    push(out, name.as_bytes());
+}
+
+/// All of these bytes.
+pub(crate) fn push<const N: usize>(out: &mut ArrayVec<u8, N>, bytes: &[u8])
+    requires { array_vec_len out.old + length bytes.now ≤ N }
+    ensures { Gathers out.old.items out.new.items bytes.now (length bytes.now) }
+{
+    match out.try_extend_from_slice(bytes) {
+        Ok(()) => (),
+        Err(_) => unreachable!(),
+    }
+}
+
 /// A refusal. The unfinished tasks are counted behind the name.
 fn push_refusal<const N: usize>(out: &mut ArrayVec<u8, N>, refusal: Refusal)
     requires { array_vec_len out.old + 70 ≤ N }
@@ -149,24 +234,6 @@ fn push_task<const N: usize>(out: &mut ArrayVec<u8, N>, task: u16, phase: &Phase
     push_phase(out, phase);
 }
 
-/// How far a task is.
-pub(crate) fn push_phase<const N: usize>(out: &mut ArrayVec<u8, N>, phase: &Phase)
-    requires { array_vec_len out.old + 70 ≤ N }
-    ensures { Gathers out.old.items out.new.items (phase_text phase.now) 70 }
-{
-    match phase {
-        Phase::Held => push(out, b"held"),
-        Phase::Ready => push(out, b"ready"),
-        Phase::Running => push(out, b"running"),
-        Phase::Success => push(out, b"success"),
-        Phase::Failure(error) => {
-            push(out, b"error ");
-            push_text(out, error);
-        }
-        Phase::Interrupted => push(out, b"interrupted"),
-    }
-}
-
 /// A task that was started: its number, its job and its argument.
 fn push_start<const N: usize>(out: &mut ArrayVec<u8, N>, info: &TaskInfo)
     requires { array_vec_len out.old + 100 ≤ N }
@@ -187,24 +254,6 @@ fn push_work<const N: usize>(out: &mut ArrayVec<u8, N>, job: &Name, argument: &N
     push_name(out, job);
     push(out, b" ");
     push_name(out, argument);
-}
-
-/// How a scope is.
-pub(crate) fn push_look<const N: usize>(out: &mut ArrayVec<u8, N>, look: &Look)
-    requires { array_vec_len out.old + 130 ≤ N }
-    ensures { Gathers out.old.items out.new.items (scope_text look.now.done look.now.deadline) 130 }
-{
-    match &look.done {
-        None => {
-            push(out, b"live; deadline ");
-            push_deadline(out, look.deadline);
-        }
-        Some(ending) => {
-            push(out, b"done; deadline ");
-            push_deadline(out, look.deadline);
-            push_ending(out, ending);
-        }
-    }
 }
 
 /// Why a scope is done, and with which cause.
@@ -235,16 +284,6 @@ fn push_deadline<const N: usize>(out: &mut ArrayVec<u8, N>, deadline: Option<Mom
         Some(moment) => push_moment(out, moment.get()),
         None => push(out, b"none"),
     }
-}
-
-/// How a group is.
-pub(crate) fn push_group<const N: usize>(out: &mut ArrayVec<u8, N>, look: &GroupLook)
-    requires { array_vec_len out.old + 116 ≤ N }
-    ensures { Gathers out.old.items out.new.items (group_text look.now) 116 }
-{
-    push(out, b"unfinished ");
-    push_count(out, look.unfinished);
-    push_limited(out, look);
 }
 
 /// A group from its limit on.
@@ -279,7 +318,7 @@ fn push_limit<const N: usize>(out: &mut ArrayVec<u8, N>, limit: Limit)
     }
 }
 
-/// Whether something was done.
+/// Says whether something was done.
 fn push_yes_or_no<const N: usize>(out: &mut ArrayVec<u8, N>, done: bool)
     requires { array_vec_len out.old + 3 ≤ N }
     ensures { Gathers out.old.items out.new.items (yes_or_no done) 3 }
@@ -344,17 +383,6 @@ fn push_failed<const N: usize>(out: &mut ArrayVec<u8, N>, counts: Counts)
     push_count(out, counts.interrupted);
 }
 
-/// A moment has at most 12 digits.
-#[tactic(auto, using(crate::proofs::Digits::moment_digits))]
-pub(crate) fn push_moment<const N: usize>(out: &mut ArrayVec<u8, N>, seconds: u64)
-    requires range { seconds < 10 ^ 12 }
-    requires room { array_vec_len out.old + 12 ≤ N }
-    ensures { Gathers out.old.items out.new.items (decimal seconds) 12 }
-{
-    let mut digits = Buffer::new();
-    push(out, digits.format(seconds).as_bytes());
-}
-
 /// A count has at most 5 digits.
 #[tactic(auto, using(crate::proofs::Digits::count_digits))]
 fn push_count<const N: usize>(out: &mut ArrayVec<u8, N>, count: u16)
@@ -365,38 +393,10 @@ fn push_count<const N: usize>(out: &mut ArrayVec<u8, N>, count: u16)
     push(out, digits.format(count).as_bytes());
 }
 
-/// A number has at most 20 digits.
-pub(crate) fn push_number<const N: usize>(out: &mut ArrayVec<u8, N>, number: u64)
-    requires { array_vec_len out.old + 20 ≤ N }
-    ensures { Gathers out.old.items out.new.items (decimal number) 20 }
-{
-    let mut digits = Buffer::new();
-    push(out, digits.format(number).as_bytes());
-}
-
 /// A text.
 fn push_text<const N: usize>(out: &mut ArrayVec<u8, N>, text: &Text)
     requires { array_vec_len out.old + 64 ≤ N }
     ensures { Gathers out.old.items out.new.items text.now 64 }
 {
     push(out, text.as_bytes());
-}
-
-/// A name.
-pub(crate) fn push_name<const N: usize>(out: &mut ArrayVec<u8, N>, name: &Name)
-    requires { array_vec_len out.old + 32 ≤ N }
-    ensures { Gathers out.old.items out.new.items name.now 32 }
-{
-    push(out, name.as_bytes());
-}
-
-/// All of these bytes.
-pub(crate) fn push<const N: usize>(out: &mut ArrayVec<u8, N>, bytes: &[u8])
-    requires { array_vec_len out.old + length bytes.now ≤ N }
-    ensures { Gathers out.old.items out.new.items bytes.now (length bytes.now) }
-{
-    match out.try_extend_from_slice(bytes) {
-        Ok(()) => (),
-        Err(_) => unreachable!(),
-    }
 }

@@ -231,7 +231,7 @@ impl fmt::Display for ShownLimit {
     }
 }
 
-/// Whether something was done, as it is printed.
+/// Says whether something was done, as it is printed.
 fn yes_or_no(done: bool) -> &'static str
     ensures { result.now ≡ yes_or_no done }
 {

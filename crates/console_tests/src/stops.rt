@@ -50,7 +50,7 @@ fn behind(given: usize) -> (usize, &'static [u8]) {
     found
 }
 
-/// Whether a text is the first so many bytes of another.
+/// Says whether a text is the first so many bytes of another.
 fn is_front(text: &[u8], whole: &[u8], count: usize) -> bool {
     text.len() == count && whole.starts_with(text)
 }

@@ -61,7 +61,7 @@ fn written(rt: &impl Abort, alloc: Global, groups: &Groups) -> (Vec<u8>, usize) 
     (out, end)
 }
 
-/// Whether groups are written as these bytes, and no other byte is.
+/// Says whether groups are written as these bytes, and no other byte is.
 fn is_written(rt: &impl Abort, alloc: Global, groups: &Groups, bytes: &[u8]) -> bool {
     let (out, end) = written(rt, alloc, groups);
     end == bytes.len() && out.starts_with(bytes) && out.get(end).unwrap_or(&0xEE) == &0xEE

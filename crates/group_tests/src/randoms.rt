@@ -110,15 +110,15 @@ fn event(rt: &impl Abort, alloc: Global, groups: &mut Groups, plain: &mut Plain,
     }
 }
 
-/// Whether both count alike: running tasks, tasks, and the least ready one.
+/// Says whether both count alike: running tasks, tasks, and the least ready one.
 fn are_counts_alike(groups: &Groups, plain: &Plain) -> bool {
     groups.running() == plain.running()
         && groups.task_count() == plain.tasks.len()
         && groups.next_ready() == plain.first_ready()
 }
 
-/// Whether both answer alike of a group: its row, its unfinished tasks, and whether it would let
-/// one more in.
+/// Says whether both answer alike of a group: its row, its unfinished tasks, and whether it would
+/// let one more in.
 fn is_group_alike(groups: &Groups, plain: &Plain, g: u16) -> bool {
     let unfinished = plain.unfinished(g);
     let count = number(unfinished);
@@ -127,7 +127,7 @@ fn is_group_alike(groups: &Groups, plain: &Plain, g: u16) -> bool {
         && looks_so(groups, g, count)
 }
 
-/// Whether a look at a group shows so many unfinished tasks.
+/// Says whether a look at a group shows so many unfinished tasks.
 fn looks_so(groups: &Groups, g: u16, unfinished: u16) -> bool {
     match groups.result(g) {
         Some(look) => look.unfinished == unfinished,
@@ -135,7 +135,7 @@ fn looks_so(groups: &Groups, g: u16, unfinished: u16) -> bool {
     }
 }
 
-/// Whether both answer alike of a task: its row, and how far it is.
+/// Says whether both answer alike of a task: its row, and how far it is.
 fn is_task_alike(groups: &Groups, plain: &Plain, n: u16) -> bool {
     groups.task_row(n) == plain.tasks.get(n as usize) && groups.phase(n) == plain.phase(n as usize)
 }

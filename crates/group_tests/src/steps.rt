@@ -75,7 +75,7 @@ fn phase(at: At) -> Phase {
     }
 }
 
-/// Whether a task is so far, or not there.
+/// Says whether a task is so far, or not there.
 fn is_at<A: Allocator>(groups: &Groups<A>, task: u16, at: Option<At>) -> bool {
     match at {
         Some(at) => groups.phase(task) == Some(phase(at)),
@@ -83,7 +83,7 @@ fn is_at<A: Allocator>(groups: &Groups<A>, task: u16, at: Option<At>) -> bool {
     }
 }
 
-/// Whether the tasks are so far, by ascending number.
+/// Says whether the tasks are so far, by ascending number.
 fn are_at<A: Allocator>(groups: &Groups<A>, phases: &[At]) -> bool {
     for (n, at) in phases.iter().enumerate() {
         if !is_at(groups, number(n), Some(*at)) {
@@ -93,7 +93,7 @@ fn are_at<A: Allocator>(groups: &Groups<A>, phases: &[At]) -> bool {
     groups.task_count() == phases.len()
 }
 
-/// Whether a look shows this.
+/// Says whether a look shows this.
 fn shows(look: &GroupLook, seen: Seen) -> bool {
     let error = match &look.error {
         Some(text) => Some(text.as_bytes()),
@@ -102,7 +102,7 @@ fn shows(look: &GroupLook, seen: Seen) -> bool {
     (look.unfinished, look.limit.get(), look.waited, error) == seen
 }
 
-/// Whether this is seen of a group.
+/// Says whether this is seen of a group.
 fn is_seen<A: Allocator>(groups: &Groups<A>, group: u16, seen: Seen) -> bool {
     match groups.result(group) {
         Some(look) => shows(&look, seen),
@@ -118,7 +118,7 @@ pub fn seats<A: Allocator>(groups: &Groups<A>, group: u16) -> Option<(u16, bool)
     Some((groups.unfinished(group), groups.has_seat(group)))
 }
 
-/// Whether a task is of this argument, and retries this task.
+/// Says whether a task is of this argument, and retries this task.
 fn is_again<A: Allocator>(groups: &Groups<A>, task: u16, argument: &[u8], of: u16) -> bool {
     match groups.task_row(task) {
         Some(row) => row.argument.as_bytes() == argument && row.retry_of == Some(of),
@@ -126,7 +126,7 @@ fn is_again<A: Allocator>(groups: &Groups<A>, task: u16, argument: &[u8], of: u1
     }
 }
 
-/// Whether each name has its number and its answers.
+/// Says whether each name has its number and its answers.
 fn are_named<A: Allocator>(groups: &Groups<A>, names: &[Named]) -> bool {
     for (called, number, free, made) in names.iter() {
         let is_so = groups.find(called) == *number
@@ -139,7 +139,7 @@ fn are_named<A: Allocator>(groups: &Groups<A>, names: &[Named]) -> bool {
     true
 }
 
-/// Whether there are so many groups of this layout, the first one in this scope.
+/// Says whether there are so many groups of this layout, the first one in this scope.
 fn are_groups<A: Allocator>(groups: &Groups<A>, layout: Layout, count: usize, scope: u16) -> bool {
     match groups.group_row(0) {
         Some(row) => {
@@ -149,7 +149,7 @@ fn are_groups<A: Allocator>(groups: &Groups<A>, layout: Layout, count: usize, sc
     }
 }
 
-/// Whether neither this group is there, nor this task.
+/// Says whether neither this group is there, nor this task.
 fn are_absent<A: Allocator>(groups: &Groups<A>, group: u16, task: u16) -> bool {
     groups.group_row(group).is_none()
         && groups.result(group).is_none()
@@ -159,7 +159,7 @@ fn are_absent<A: Allocator>(groups: &Groups<A>, group: u16, task: u16) -> bool {
         && !groups.is_running(task)
 }
 
-/// Whether groups show what a step says.
+/// Says whether groups show what a step says.
 fn is_shown<A: Allocator>(groups: &Groups<A>, step: Step) -> bool {
     match step {
         Step::Phase(task, at) => is_at(groups, task, at),

@@ -18,13 +18,13 @@ fn text(rt: &impl Abort, bytes: &[u8]) -> Text {
     Text::read(bytes).expect(rt, "a text")
 }
 
-/// Whether this is what a reply prints, and with an LF behind it what is gathered.
+/// Says whether this is what a reply prints, and with an LF behind it what is gathered.
 fn prints(alloc: Global, reply: &Reply, wanted: &str) -> Result<bool, AllocError> {
     let printed = format!(in alloc; "{reply}")?;
     Ok(printed.as_str() == wanted && is_gathered(reply, wanted))
 }
 
-/// Whether a reply is gathered as this text and an LF.
+/// Says whether a reply is gathered as this text and an LF.
 fn is_gathered(reply: &Reply, wanted: &str) -> bool {
     let mut gathered = ArrayVec::<u8, LONGEST_REPLY>::new();
     if gathered.remaining_capacity() < LONGEST_REPLY {
@@ -320,7 +320,7 @@ static STORE_FAULTS: [(Fault, &str); 10] = [
     (Fault::NumbersSpent, "fault 10 NumbersSpent"),
 ];
 
-/// Whether this is what a fault prints.
+/// Says whether this is what a fault prints.
 fn shows(alloc: Global, fault: RunFault, wanted: &str) -> Result<bool, AllocError> {
     let printed = format!(in alloc; "{fault}")?;
     Ok(printed.as_str() == wanted)

@@ -22,16 +22,6 @@ pub fn is_before(s: u16, a: &Hit, t: u16, b: &Hit) -> bool
         .is_lt()
 }
 
-/// The cause that was given, else the reason's text.
-fn cause_or_reason(cause: Option<Text>, reason: Reason) -> Text
-    ensures { result ≡ unwrap_or cause (reason_text reason) }
-{
-    match cause {
-        Some(text) => text,
-        None => text_copy(reason.text().as_bytes()),
-    }
-}
-
 /// The hit of a cancellation.
 pub fn cancelled(event: u64, clock: Moment, cause: Option<Text>) -> Hit
     ensures { result ≡ cancellation event clock cause }
@@ -41,18 +31,6 @@ pub fn cancelled(event: u64, clock: Moment, cause: Option<Text>) -> Hit
         moment: clock,
         reason: Reason::Canceled,
         cause: cause_or_reason(cause, Reason::Canceled),
-    }
-}
-
-/// The hit of a deadline that passed.
-fn expired(event: u64, deadline: Moment, cause: Option<Text>) -> Hit
-    ensures { result ≡ expiry event deadline cause }
-{
-    Hit {
-        event,
-        moment: deadline,
-        reason: Reason::DeadlineExceeded,
-        cause: cause_or_reason(cause, Reason::DeadlineExceeded),
     }
 }
 
@@ -81,6 +59,36 @@ pub fn expire(row: &mut Scope, event: u64, clock: Moment)
     }
 }
 
+/// Ends the row of scope `s`, if nothing has ended it.
+pub fn end_row(scopes: &mut [Scope], s: u16, hit: Hit)
+    requires { s < length scopes.old }
+    ensures { scopes.new ≡ at_row (with_hit hit) s scopes.old }
+{
+    end(&mut scopes[s as usize], hit);
+}
+
+/// The cause that was given, else the reason's text.
+fn cause_or_reason(cause: Option<Text>, reason: Reason) -> Text
+    ensures { result ≡ unwrap_or cause (reason_text reason) }
+{
+    match cause {
+        Some(text) => text,
+        None => text_copy(reason.text().as_bytes()),
+    }
+}
+
+/// The hit of a deadline that passed.
+fn expired(event: u64, deadline: Moment, cause: Option<Text>) -> Hit
+    ensures { result ≡ expiry event deadline cause }
+{
+    Hit {
+        event,
+        moment: deadline,
+        reason: Reason::DeadlineExceeded,
+        cause: cause_or_reason(cause, Reason::DeadlineExceeded),
+    }
+}
+
 /// Ends a row that nothing has ended.
 fn end(row: &mut Scope, hit: Hit)
     ensures { row.new ≡ with_hit hit row.old }
@@ -88,12 +96,4 @@ fn end(row: &mut Scope, hit: Hit)
     if row.hit.is_none() {
         row.hit = Some(hit);
     }
-}
-
-/// Ends the row of scope `s`, if nothing has ended it.
-pub fn end_row(scopes: &mut [Scope], s: u16, hit: Hit)
-    requires { s < length scopes.old }
-    ensures { scopes.new ≡ at_row (with_hit hit) s scopes.old }
-{
-    end(&mut scopes[s as usize], hit);
 }

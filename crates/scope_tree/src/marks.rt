@@ -49,6 +49,35 @@ pub fn mark_rest<A: Allocator>(scopes: &[Scope], marks: &mut Vec<Option<u16>, A>
     }
 }
 
+/// The mark of a new scope of number `n`, whose parent's mark is `up`.
+pub fn new_mark(row: &Scope, n: u16, up: Option<u16>) -> Option<u16>
+    ensures { result ≡ new_mark row.now n up }
+{
+    if is_detached(&row.kind) {
+        None
+    } else if up.is_none() && row.hit.is_some() {
+        Some(n)
+    } else {
+        up
+    }
+}
+
+/// Marks scope `at`, and those that end with it and have no mark.
+pub fn mark_below<A: Allocator>(links: &Chains<A>, marks: &mut [Option<u16>], at: u16)
+    requires same { length marks.old ≡ length links.now.keys }
+    requires few { length links.now.keys ≤ MOST_SCOPES }
+    requires known { at < length links.now.keys }
+    requires free { mark_of marks.old at ≡ None }
+    ensures { IsSpread links.now.keys marks.old marks.new at }
+{
+    let mut work: ArrayVec<u16, MOST_SCOPES> = ArrayVec::new();
+    marks[at as usize] = Some(at);
+    work.push(at);
+    while let Some(s) = work.pop() {
+        mark_children(links, marks, &mut work, s, at);
+    }
+}
+
 /// The mark of scope `s`, from those of the scopes of lesser numbers.
 fn first_mark(scopes: &[Scope], marks: &[Option<u16>], s: u16) -> Option<u16>
     requires ordered { AreOrdered scopes.now }
@@ -98,19 +127,6 @@ fn comes_first(scopes: &[Scope], s: u16, own: &Hit, mark: Option<u16>) -> bool
     }
 }
 
-/// The mark of a new scope of number `n`, whose parent's mark is `up`.
-pub fn new_mark(row: &Scope, n: u16, up: Option<u16>) -> Option<u16>
-    ensures { result ≡ new_mark row.now n up }
-{
-    if is_detached(&row.kind) {
-        None
-    } else if up.is_none() && row.hit.is_some() {
-        Some(n)
-    } else {
-        up
-    }
-}
-
 /// Marks the scopes that end with `s` and have no mark, and lists those that it marks.
 fn mark_children<A: Allocator>(
     links: &Chains<A>,
@@ -138,21 +154,5 @@ fn mark_children<A: Allocator>(
             work.push(t);
         }
         child = links.before(t);
-    }
-}
-
-/// Marks scope `at`, and those that end with it and have no mark.
-pub fn mark_below<A: Allocator>(links: &Chains<A>, marks: &mut [Option<u16>], at: u16)
-    requires same { length marks.old ≡ length links.now.keys }
-    requires few { length links.now.keys ≤ MOST_SCOPES }
-    requires known { at < length links.now.keys }
-    requires free { mark_of marks.old at ≡ None }
-    ensures { IsSpread links.now.keys marks.old marks.new at }
-{
-    let mut work: ArrayVec<u16, MOST_SCOPES> = ArrayVec::new();
-    marks[at as usize] = Some(at);
-    work.push(at);
-    while let Some(s) = work.pop() {
-        mark_children(links, marks, &mut work, s, at);
     }
 }

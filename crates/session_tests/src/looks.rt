@@ -101,7 +101,7 @@ fn is_task(look: &TaskLook, row: &TaskRow) -> bool {
     look.job.as_bytes() == row.1 && look.argument.as_bytes() == row.2 && look.retry_of == row.3
 }
 
-/// Whether there is this task.
+/// Says whether there is this task.
 pub fn has_task<A: Allocator>(state: &State<A>, row: &TaskRow) -> bool {
     match state.task(row.0) {
         Some(look) => is_task(&look, row),
@@ -121,7 +121,7 @@ fn is_group(look: &GroupLook, called: &[u8], seen: &GroupSeen) -> bool {
         && error == seen.4
 }
 
-/// Whether there is a group of this name, of which this is seen.
+/// Says whether there is a group of this name, of which this is seen.
 pub fn has_group<A: Allocator>(
     rt: &impl Abort,
     state: &State<A>,
@@ -137,7 +137,7 @@ pub fn has_group<A: Allocator>(
     }
 }
 
-/// Whether this is the value of a key at a scope.
+/// Says whether this is the value of a key at a scope.
 pub fn has_value<A: Allocator>(
     rt: &impl Abort,
     state: &State<A>,

@@ -82,7 +82,7 @@ static ALL_CALLS: [Step; 4] = [
     Tasks(&[Going::Failure(b"x"), Going::Ready, Going::Ready]),
 ];
 
-/// Whether a heap has no byte left.
+/// Says whether a heap has no byte left.
 fn is_full(heap: &LocalHeap) -> bool {
     Vec::<u8, _>::with_capacity(heap, 1).is_err()
 }
@@ -95,7 +95,7 @@ fn assert_full(rt: &impl Abort, heap: &LocalHeap, layout: Layout, row: usize) {
     holds(rt, has_first_rows(&session), "group and event", row);
 }
 
-/// Whether a session shows a group and an event.
+/// Says whether a session shows a group and an event.
 fn has_first_rows(session: &Session<&LocalHeap>) -> bool {
     session.state().group(0).is_some() && session.history().next().is_some()
 }

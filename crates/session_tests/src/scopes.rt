@@ -61,7 +61,7 @@ fn found(state: &State, called: &Name) -> (Option<u16>, Option<u16>) {
     (state.find_scope(called), state.find_group(called))
 }
 
-/// Whether a scope is there, and has this name.
+/// Says whether a scope is there, and has this name.
 fn is_named(state: &State, scope: u16, called: &Name) -> bool {
     match state.look(scope) {
         Some(look) => look.name == *called,
@@ -69,7 +69,7 @@ fn is_named(state: &State, scope: u16, called: &Name) -> bool {
     }
 }
 
-/// Whether there are a group, a task and a task's phase of number 0.
+/// Says whether there are a group, a task and a task's phase of number 0.
 fn firsts(state: &State) -> (bool, bool, bool) {
     (
         state.group(0).is_some(),

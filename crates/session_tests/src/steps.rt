@@ -65,7 +65,7 @@ fn first_wrong<A: Allocator>(
     }
 }
 
-/// Whether a step of one row is as the session shows it.
+/// Says whether a step of one row is as the session shows it.
 fn shows<A: Allocator>(rt: &impl Abort, session: &Session<A>, step: &Step) -> bool {
     match step {
         Step::Task(row) => has_task(session.state(), row),

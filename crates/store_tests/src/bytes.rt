@@ -22,7 +22,7 @@ pub fn put(bytes: &mut [u8], from: usize, new: &[u8]) {
     }
 }
 
-/// Whether these bytes stand from a place on.
+/// Says whether these bytes stand from a place on.
 pub fn is_at(bytes: &[u8], from: usize, wanted: &[u8]) -> bool {
     match bytes.get(from..) {
         Some(rest) => rest.starts_with(wanted),
@@ -30,7 +30,7 @@ pub fn is_at(bytes: &[u8], from: usize, wanted: &[u8]) -> bool {
     }
 }
 
-/// Whether all of these bytes stand at their places.
+/// Says whether all of these bytes stand at their places.
 pub fn are_at(bytes: &[u8], wanted: Puts) -> bool {
     for (from, wanted) in wanted.iter() {
         if !is_at(bytes, *from, wanted) {

@@ -61,7 +61,7 @@ fn read<D: RunDisk>(
     disk.read_at(at, out)
 }
 
-/// Whether a read of as many bytes as these, at most 64, gives them.
+/// Says whether a read of as many bytes as these, at most 64, gives them.
 fn reads<D: RunDisk>(rt: &impl Abort, disk: &mut D, at: u64, wanted: &[u8]) -> bool {
     let mut bytes = [9; 64];
     let Some(out) = bytes.get_mut(..wanted.len()) else {
@@ -70,7 +70,7 @@ fn reads<D: RunDisk>(rt: &impl Abort, disk: &mut D, at: u64, wanted: &[u8]) -> b
     read(rt, disk, at, out).is_ok() && bytes.starts_with(wanted)
 }
 
-/// Whether a read of so many bytes, at most 16, fails.
+/// Says whether a read of so many bytes, at most 16, fails.
 fn reads_none<D: RunDisk>(rt: &impl Abort, disk: &mut D, at: u64, count: usize) -> bool {
     let mut bytes = [9; 16];
     match bytes.get_mut(..count) {
@@ -264,7 +264,7 @@ fn shows_each_stop_of_forty_calls(rt: HostRuntime) {
     }
 }
 
-/// Whether there is room for what a crash leaves now, which is right.
+/// Says whether there is room for what a crash leaves now, which is right.
 fn leaves<'h>(
     rt: &impl Abort,
     heap: &'h LocalHeap,

@@ -47,7 +47,7 @@ pub const ONE_BATCH: Pair = Pair {
     batches: &[&FIRST],
 };
 
-/// Whether a store holds this pair.
+/// Says whether a store holds this pair.
 pub fn is_pair(stored: &Stored, pair: &Pair) -> bool {
     let mut lent = stored.batches();
     for batch in pair.batches.iter() {
@@ -70,7 +70,7 @@ pub fn fault_of<D: RunDisk>(alloc: Global, disk: &mut D) -> Option<Fault> {
     recovered(alloc, disk).err()
 }
 
-/// Whether a recovery of a disk gives this pair.
+/// Says whether a recovery of a disk gives this pair.
 pub fn gives_pair(alloc: Global, disk: &mut MemoryDisk, pair: &Pair) -> bool {
     match recovered(alloc, disk) {
         Ok(stored) => is_pair(&stored, pair),
@@ -78,7 +78,7 @@ pub fn gives_pair(alloc: Global, disk: &mut MemoryDisk, pair: &Pair) -> bool {
     }
 }
 
-/// Whether a recovery of these bytes gives this pair, by three reads.
+/// Says whether a recovery of these bytes gives this pair, by three reads.
 pub fn holds_pair(rt: &impl Abort, alloc: Global, bytes: Vec<u8>, pair: &Pair) -> bool {
     let mut disk = disk_of(rt, alloc, bytes);
     gives_pair(alloc, &mut disk, pair) && disk.calls() == 3

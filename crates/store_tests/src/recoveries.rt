@@ -82,7 +82,7 @@ static DAMAGE: [Damage; 10] = [
     ),
 ];
 
-/// Whether a recovery of a disk gives this pair, or tells this fault.
+/// Says whether a recovery of a disk gives this pair, or tells this fault.
 fn is_told(
     alloc: Global,
     disk: &mut MemoryDisk,
@@ -133,7 +133,7 @@ static BUDGETS: [(usize, bool); 7] = [
     (1_400_000, true),
 ];
 
-/// Whether a recovery with so many bytes of memory gives the formatted store's image, or it is
+/// Says whether a recovery with so many bytes of memory gives the formatted store's image, or it is
 /// memory that it lacks.
 fn has_memory(rt: &impl Abort, alloc: Global, disk: &mut MemoryDisk, budget: usize) -> bool {
     let heap = done(rt, LocalHeap::new(alloc, budget), "memory");
@@ -204,7 +204,7 @@ fn size_and_memory_are_looked_at_before_any_read(rt: HostRuntime) {
     }
 }
 
-/// Whether a recovery reads the other slot's gate open.
+/// Says whether a recovery reads the other slot's gate open.
 fn is_other_open(rt: &impl Abort, alloc: Global, mut disk: MemoryDisk) -> bool {
     done(rt, recovered(alloc, &mut disk), "store").other_open()
 }

@@ -99,14 +99,14 @@ fn a_checkpoint_that_was_stopped_can_be_made_again(rt: HostRuntime) {
     }
 }
 
-/// Whether a format that made so many of its 8 calls was asked for this pair, or left zeros.
+/// Says whether a format that made so many of its 8 calls was asked for this pair, or left zeros.
 fn is_asked_for(stored: &Stored, calls: u64) -> bool {
     let image = stored.image();
     let is_zeros = image.is_empty() && calls < 8;
     stored.batches().next().is_none() && (is_zeros || image == FORMATTED.as_slice())
 }
 
-/// Whether a crash behind so many of a format's 8 calls leaves no pair that was not asked for.
+/// Says whether a crash behind so many of a format's 8 calls leaves no pair that was not asked for.
 fn leaves_no_other(alloc: Global, disk: &mut MemoryDisk, calls: u64) -> bool {
     match recovered(alloc, disk) {
         Err(Fault::NotAStore | Fault::BadSlot) => calls < 8,

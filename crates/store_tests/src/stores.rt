@@ -15,7 +15,7 @@ static SIZES: [(Layout, u64, u64, (u64, u64)); 2] = [
     (Layout::Large, 2_097_152, 1_048_576, (4_194_304, 5_242_880)),
 ];
 
-/// Whether slots and segments of this layout have these sizes, and the segments these places.
+/// Says whether slots and segments of this layout have these sizes, and the segments these places.
 fn is_laid_out(layout: Layout, slot: u64, segment: u64, places: (u64, u64)) -> bool {
     slot_size(layout) == slot
         && segment_size(layout) == segment

@@ -159,7 +159,7 @@ impl Pair {
         }
     }
 
-    /// Whether both answer alike at a scope.
+    /// Says whether both answer alike at a scope.
     fn is_alike(&self, s: u16) -> bool {
         let found = self.plain.find(s as usize, b"k");
         self.runner.look(s) == Some(found.look())

@@ -107,7 +107,7 @@ pub fn refuse_all<A: Allocator>(
     }
 }
 
-/// Whether a scope answers so.
+/// Says whether a scope answers so.
 fn has_answer<A: Allocator>(runner: &Runner<A>, answer: Answer) -> bool {
     let (s, reason, cause, deadline) = match answer {
         Answer::Live(s, deadline) => (s, None, None, deadline),
@@ -127,7 +127,7 @@ fn has_answer<A: Allocator>(runner: &Runner<A>, answer: Answer) -> bool {
     runner.look(s) == Some(look)
 }
 
-/// Whether a key has this value at a scope; none where it has no bytes.
+/// Says whether a key has this value at a scope; none where it has no bytes.
 fn has_value<A: Allocator>(runner: &Runner<A>, s: u16, key: &[u8], value: &[u8]) -> bool {
     let value = if value.is_empty() { None } else { Some(value) };
     runner.value(s, key) == Some(value)

@@ -15,6 +15,17 @@ pub(crate) fn has_shape(shape: &[u8], word: &[u8]) -> bool
     shape.len() == word.len() && are_like(shape, word)
 }
 
+/// Says whether a part of a word writes a number in this range.
+#[tactic(auto, unfolding(crate::specs::Shapes::is_in))]
+pub(crate) fn is_in(low: u64, high: u64, part: &[u8]) -> bool
+    ensures { result ≡ is_in low high part.now }
+{
+    match read_number(part) {
+        Some(number) => low <= number && number <= high,
+        None => false,
+    }
+}
+
 fn are_like(shape: &[u8], word: &[u8]) -> bool
     ensures { result ≡ list_all (λ pair. is_like pair.0 pair.1) (zip shape.now word.now) }
 {
@@ -29,16 +40,5 @@ fn is_like(shape: u8, byte: u8) -> bool
         byte.is_ascii_digit()
     } else {
         byte == shape
-    }
-}
-
-/// Says whether a part of a word writes a number in this range.
-#[tactic(auto, unfolding(crate::specs::Shapes::is_in))]
-pub(crate) fn is_in(low: u64, high: u64, part: &[u8]) -> bool
-    ensures { result ≡ is_in low high part.now }
-{
-    match read_number(part) {
-        Some(number) => low <= number && number <= high,
-        None => false,
     }
 }
