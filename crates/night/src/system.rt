@@ -6,6 +6,7 @@ use night_program::Files;
 use run_disk::{DiskFailed, FileDisk, RunDisk};
 use std::fs::{File, OpenOptions};
 use std::io::Write;
+use std::path::Path;
 use std::{fs, io};
 
 /// So many zero bytes are written at a time.
@@ -51,6 +52,18 @@ impl<'a, S: fs::Files<File = File>> SystemFiles<'a, S> {
         file.write_all(&part[..(size % PART as u64) as usize])?;
         Ok(file)
     }
+
+    /// Syncs the folder that the file of this name lies in, so that a cut of the power leaves a new
+    /// file its name. Of a link it is the link's own folder.
+    fn sync_folder(&self, name: &str) -> io::Result<()> {
+        let here = Path::new(".");
+        let path = Path::new(name);
+        let folder = match path.parent() {
+            Some(folder) if !folder.as_str().is_empty() => folder,
+            _ => here,
+        };
+        File::open(self.system, folder)?.sync_all()
+    }
 }
 
 impl<S: fs::Files<File = File>> Files for SystemFiles<'_, S> {
@@ -70,6 +83,9 @@ impl<S: fs::Files<File = File>> Files for SystemFiles<'_, S> {
         let Ok(file) = self.zeros(name, size) else {
             return Err(DiskFailed);
         };
+        if self.sync_folder(name).is_err() {
+            return Err(DiskFailed);
+        }
         let disk = FileDisk::new(file)?;
         if disk.size() == size {
             Ok(disk)
@@ -79,7 +95,7 @@ impl<S: fs::Files<File = File>> Files for SystemFiles<'_, S> {
     }
 }
 
-/// Whether a file that failed so may not be written, but perhaps read.
+/// Says whether a file that failed so may not be written, but perhaps read.
 fn is_unwritable(kind: io::ErrorKind) -> bool {
     matches!(
         kind,

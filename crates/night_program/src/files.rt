@@ -19,7 +19,8 @@ pub trait Files {
     fn open(&mut self, name: &str) -> Result<Self::Disk, DiskFailed>
         ensures { IfOk result (λ disk. holds self.old name.now disk) };
 
-    /// Creates the file of this name, or empties it, and gives it so many zero bytes.
+    /// Creates the file of this name, or empties it, and gives it so many zero bytes. At Ok a stop
+    /// leaves it its name, which no clause says.
     fn create(&mut self, name: &str, size: u64) -> Result<Self::Disk, DiskFailed>
         ensures holds { IfOk result (λ disk. holds self.new name.now disk) }
         ensures size { IfOk result (λ disk. (Self.Disk.state disk).size ≡ size) }

@@ -88,7 +88,7 @@ fn number_in(bytes: &[u8]) -> Option<u32>
     Some(number)
 }
 
-/// Whether a digit may stand behind this number: a number of 4 digits ends.
+/// Says whether a digit may stand behind this number: a number of 4 digits ends.
 fn goes_on(number: u32, byte: u8) -> bool
     ensures { result ≡ goes_on number byte }
 {

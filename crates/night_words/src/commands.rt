@@ -1,9 +1,9 @@
 //! The command line, as its parser takes it.
 
-ghost use Rattle.std.specs.Prelude.{◌≡◌, false, IfOk};
-ghost use Rattle.clap.specs.Words.{app_of, rule_of};
+ghost use Rattle.std.specs.Prelude.{◌≡◌, [], false, IfOk};
+ghost use Rattle.clap.specs.Words.{app_of, rule_of, with_subcommand};
 ghost use Rattle.night_words.specs.Commands.{crew_line, demo_line, migrate_line, night, store_line};
-ghost use Rattle.night_words.specs.Commands.{wanted, workers_option};
+ghost use Rattle.night_words.specs.Commands.{night_alone, wanted, workers_option};
 
 use clap::{Arg, ArgAction, Command};
 use std::alloc::{AllocError, Global};
@@ -11,41 +11,89 @@ use std::alloc::{AllocError, Global};
 /// The version that `--version` shows.
 const VERSION: &str = "0.2.0";
 
+/// The end of a command's help: its example, what a line is, and where lines are described.
+macro_rules! ending {
+    ($example:literal) => {
+        concat!(
+            $example,
+            "\n\nA line asks one thing of a book, as `go g copy a`, and is replied to in one\n\
+            line, as `task 0 ready`. `night script --help` lists all lines, and\n\
+            docs/formats/console.md and the manual page night(1) describe them."
+        )
+    };
+}
+
+/// The end of the help of `demo` and of `script`, whose input is lines.
+const LINES: &str = "\
+    A line asks one thing of the book, and is replied to in one line. It is words\n\
+    with one space between them, at most 256 bytes, and a line feed. All lines:\n\n  \
+    derive NAME PARENT cancel|cause|detached    a scope below a scope; `root` is there\n  \
+    derive NAME PARENT deadline MOMENT [CAUSE]  .. that is done at a moment\n  \
+    derive NAME PARENT timeout NUMBER [CAUSE]   .. so many seconds from the clock on\n  \
+    derive NAME PARENT value KEY TEXT           .. that holds a value\n  \
+    cancel SCOPE [CAUSE]                        cancels it, and what is below it\n  \
+    advance MOMENT                              moves the clock\n  \
+    group NAME PARENT                           a group of tasks, with a scope of its own\n  \
+    bare NAME SCOPE                             .. in a scope that is there\n  \
+    limit GROUP NUMBER|none                     how many unfinished tasks are admitted\n  \
+    go GROUP JOB ARG                            submits a task\n  \
+    try GROUP JOB ARG                           .. unless the limit would hold it\n  \
+    start                                       starts the ready task of the least number\n  \
+    finish NUMBER ok|error TEXT                 ends a running task\n  \
+    retry NUMBER                                submits an interrupted task anew\n  \
+    wait GROUP                                  how it ended, once all its tasks have\n  \
+    scope SCOPE                                 whether it is done, and why\n  \
+    value SCOPE KEY                             the nearest value of the key\n  \
+    task NUMBER                                 how far a task is\n  \
+    result GROUP                                how far a group is\n  \
+    tally                                       how many tasks of each job ended, and how\n  \
+    flush                                       makes all events so far durable\n  \
+    checkpoint                                  .. as an image of the whole state\n\n\
+    docs/formats/console.md and the manual page night(1) describe each of them.\n\n\
+    Examples:\n  \
+    printf 'derive a root cause\\ncancel a disk\\nscope a\\n' | night demo\n  \
+    printf 'group g root\\ngo g copy a\\n' | night script jobs.store";
+
 /// The command line of the program, with all of its commands.
 pub fn night_command<'a>(alloc: Global) -> Result<Command<'a>, AllocError>
     ensures { IfOk result (λ command. app_of command ≡ night) }
 {
-    let format = store_command(
+    let demo = night_alone(alloc).subcommand(demo_command(alloc))?;
+    let format = with_store(
         alloc,
+        demo,
         "format",
         "Makes a new store of a file, and prints `formatted`; what the file held is lost",
-        "Example: night format jobs.store",
+        ending!("Example: night format jobs.store"),
     )?;
-    let script = store_command(
+    let script = with_store(
         alloc,
+        format,
         "script",
         "Opens a store, and runs standard input over it",
-        "Example: printf 'group g root\\ngo g copy a\\n' | night script jobs.store",
+        LINES,
     )?;
-    let inspect = store_command(
+    let inspect = with_store(
         alloc,
+        script,
         "inspect",
         "Prints what a store holds, and writes nothing to it",
-        "Example: night inspect jobs.store",
+        ending!("Example: night inspect jobs.store"),
     )?;
-    let migrate = migrate_command(alloc)?;
-    let crew = crew_command(alloc)?;
+    let migrate = with_migrate(alloc, inspect)?;
+    with_crew(alloc, migrate)
+}
+
+/// The command line without its commands.
+fn night_alone<'a>(alloc: Global) -> Command<'a>
+    ensures { app_of result ≡ record { top = night_alone; subs = [] } }
+{
     Command::new(alloc, "night")
         .about("A durable job runner with cancellation scopes")
         .version(VERSION)
+        .after_help(ending!("Example: printf 'derive a root cause\\nscope a\\n' | night demo"))
         .subcommand_required(true)
         .arg_required_else_help(true)
-        .subcommand(demo_command(alloc))?
-        .subcommand(format)?
-        .subcommand(script)?
-        .subcommand(inspect)?
-        .subcommand(migrate)?
-        .subcommand(crew)
 }
 
 fn demo_command<'a>(alloc: Global) -> Command<'a>
@@ -53,7 +101,40 @@ fn demo_command<'a>(alloc: Global) -> Command<'a>
 {
     Command::new(alloc, "demo")
         .about("Runs standard input over a book in memory")
-        .after_help("Example: printf 'derive a root cause\\nscope a\\n' | night demo")
+        .after_help(LINES)
+}
+
+/// The command line with a command over a store.
+fn with_store<'a>(
+    alloc: Global,
+    night: Command<'a>,
+    name: &'a str,
+    about: &'a str,
+    ending: &'a str,
+) -> Result<Command<'a>, AllocError>
+    ensures { IfOk result (λ command. app_of command
+        ≡ with_subcommand (app_of night.entry) (store_line name.now).top) }
+{
+    let store = store_command(alloc, name, about, ending)?;
+    night.subcommand(store)
+}
+
+/// The command line with the command over two stores.
+fn with_migrate<'a>(alloc: Global, night: Command<'a>) -> Result<Command<'a>, AllocError>
+    ensures { IfOk result (λ command. app_of command
+        ≡ with_subcommand (app_of night.entry) migrate_line.top) }
+{
+    let migrate = migrate_command(alloc)?;
+    night.subcommand(migrate)
+}
+
+/// The command line with the command that works off the tasks of a store.
+fn with_crew<'a>(alloc: Global, night: Command<'a>) -> Result<Command<'a>, AllocError>
+    ensures { IfOk result (λ command. app_of command
+        ≡ with_subcommand (app_of night.entry) crew_line.top) }
+{
+    let crew = crew_command(alloc)?;
+    night.subcommand(crew)
 }
 
 /// A command over a store.
@@ -61,13 +142,13 @@ fn store_command<'a>(
     alloc: Global,
     name: &'a str,
     about: &'a str,
-    example: &'a str,
+    ending: &'a str,
 ) -> Result<Command<'a>, AllocError>
     ensures { IfOk result (λ command. app_of command ≡ store_line name.now) }
 {
     Command::new(alloc, name)
         .about(about)
-        .after_help(example)
+        .after_help(ending)
         .arg(store_word(alloc, "STORE", "STORE", "The file of the store"))
 }
 
@@ -77,7 +158,7 @@ fn migrate_command<'a>(alloc: Global) -> Result<Command<'a>, AllocError>
 {
     Command::new(alloc, "migrate")
         .about("Makes a large store NEW of a small store OLD; what NEW held is lost")
-        .after_help("Example: night migrate small.store large.store")
+        .after_help(ending!("Example: night migrate small.store large.store"))
         .arg(store_word(alloc, "STORE", "OLD", "The small store, which is only read"))?
         .arg(store_word(
             alloc,
@@ -93,7 +174,7 @@ fn crew_command<'a>(alloc: Global) -> Result<Command<'a>, AllocError>
 {
     Command::new(alloc, "crew")
         .about("Runs the ready tasks of a store, and prints how many were started and finished")
-        .after_help("Example: night crew jobs.store --workers 2")
+        .after_help(ending!("Example: night crew jobs.store --workers 2"))
         .arg(store_word(alloc, "STORE", "STORE", "The file of the store"))?
         .arg(workers_word(alloc))
 }

@@ -51,7 +51,7 @@ static CASES: [Case; 33] = [
     (&["demo", "a"], 2, "", "unexpected argument 'a' found"),
     (&["--help"], 0, "Usage: night <COMMAND>", ""),
     (&["help"], 0, "Usage: night <COMMAND>", ""),
-    (&["demo", "--help"], 0, "Example: printf", ""),
+    (&["demo", "--help"], 0, "| night demo\n", ""),
     (
         &["format", "--help"],
         0,

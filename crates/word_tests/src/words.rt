@@ -74,8 +74,10 @@ static CREWS: [Case; 13] = [
     (&["crew", "a", "--workers", "two"], Told::Workers),
 ];
 
-static HELP: [Case; 9] = [
+static HELP: [Case; 12] = [
     (&["--help"], Told::Help("Usage: night <COMMAND>")),
+    (&["--help"], Told::Help("A line asks one thing of a book")),
+    (&["--help"], Told::Help("docs/formats/console.md and")),
     (&["-h"], Told::Help("Usage: night <COMMAND>")),
     (&["help"], Told::Help("Usage: night <COMMAND>")),
     (&["demo", "--help"], Told::Help("Usage: night demo")),
@@ -83,7 +85,14 @@ static HELP: [Case; 9] = [
         &["format", "--help"],
         Told::Help("Example: night format jobs.store"),
     ),
-    (&["script", "--help"], Told::Help("Example: printf")),
+    (
+        &["format", "--help"],
+        Told::Help("`night script --help` lists all lines"),
+    ),
+    (
+        &["script", "--help"],
+        Told::Help("| night script jobs.store\n"),
+    ),
     (
         &["inspect", "--help"],
         Told::Help("Example: night inspect jobs.store"),
@@ -96,6 +105,35 @@ static HELP: [Case; 9] = [
         &["crew", "--help"],
         Told::Help("Example: night crew jobs.store --workers 2"),
     ),
+];
+
+/// The words whose input is lines.
+static RUNS: [&str; 2] = ["demo", "script"];
+
+/// The lines that there are, as help has them.
+static LINES: [&str; 22] = [
+    "\n  derive NAME PARENT cancel|cause|detached  ",
+    "\n  derive NAME PARENT deadline MOMENT [CAUSE]  ",
+    "\n  derive NAME PARENT timeout NUMBER [CAUSE]  ",
+    "\n  derive NAME PARENT value KEY TEXT  ",
+    "\n  cancel SCOPE [CAUSE]  ",
+    "\n  advance MOMENT  ",
+    "\n  group NAME PARENT  ",
+    "\n  bare NAME SCOPE  ",
+    "\n  limit GROUP NUMBER|none  ",
+    "\n  go GROUP JOB ARG  ",
+    "\n  try GROUP JOB ARG  ",
+    "\n  start  ",
+    "\n  finish NUMBER ok|error TEXT  ",
+    "\n  retry NUMBER  ",
+    "\n  wait GROUP  ",
+    "\n  scope SCOPE  ",
+    "\n  value SCOPE KEY  ",
+    "\n  task NUMBER  ",
+    "\n  result GROUP  ",
+    "\n  tally  ",
+    "\n  flush  ",
+    "\n  checkpoint  ",
 ];
 
 static VERSION: [Case; 2] = [
@@ -188,7 +226,7 @@ fn texts_of(alloc: Global, words: &[&str]) -> Result<Vec<String>, AllocError> {
     Ok(texts)
 }
 
-/// Whether the words ask for what they should.
+/// Says whether the words ask for what they should.
 fn is_asked(asked: &Asked, told: &Told) -> bool {
     match (asked, told) {
         (Asked::Demo, Told::Demo) => true,
@@ -205,7 +243,7 @@ fn is_asked(asked: &Asked, told: &Told) -> bool {
     }
 }
 
-/// Whether the words are the mistake that they should be.
+/// Says whether the words are the mistake that they should be.
 fn is_mistake(alloc: Global, fault: &WordsFault, told: &Told) -> Result<bool, AllocError> {
     if matches!(told, Told::SameStores) {
         return Ok(matches!(fault, WordsFault::SameStores));
@@ -221,7 +259,7 @@ fn is_mistake(alloc: Global, fault: &WordsFault, told: &Told) -> Result<bool, Al
     Ok(mistake && shown.contains(*part) && shown.ends_with("\n"))
 }
 
-/// Whether the words are answered so.
+/// Says whether the words are answered so.
 fn is_told(alloc: Global, words: &[&str], told: &Told) -> Result<bool, AllocError> {
     let texts = texts_of(alloc, words)?;
     match read_words(alloc, texts.as_slice()) {
@@ -272,6 +310,24 @@ fn a_crew_is_named(rt: HostRuntime) -> Result<(), Fail> {
 fn help_is_shown(rt: HostRuntime) -> Result<(), Fail> {
     let untold = first_untold(rt.alloc(), &HELP)?;
     assert!(rt; untold.is_none(), "row {untold:?}");
+    Ok(())
+}
+
+/// The first line that the help of this word leaves out.
+fn first_unlisted(alloc: Global, word: &str) -> Result<Option<usize>, AllocError> {
+    let texts = texts_of(alloc, &[word, "--help"])?;
+    let Ok(Asked::Help(text)) = read_words(alloc, texts.as_slice()) else {
+        return Ok(Some(LINES.len()));
+    };
+    Ok(LINES.iter().position(|line| !text.contains(*line)))
+}
+
+#[test]
+fn all_lines_are_listed(rt: HostRuntime) -> Result<(), Fail> {
+    for word in RUNS.iter() {
+        let unlisted = first_unlisted(rt.alloc(), word)?;
+        assert!(rt; unlisted.is_none(), "{word}: line {unlisted:?}");
+    }
     Ok(())
 }
 
