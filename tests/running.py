@@ -1,5 +1,5 @@
-"""What the scripts over real files share: the program's runs, the library that hurts a file, two
-nights, and the count of what was tried."""
+"""What the scripts over real files share: the program's runs, the libraries that hurt a file or
+refuse memory, two nights, and the count of what was tried."""
 
 import os
 import shutil
@@ -55,7 +55,7 @@ def fault(text):
 class Tries:
     """What a script tries: so many tries of each kind, those that failed, and what it skipped."""
 
-    def __init__(self, about):
+    def __init__(self, about, source="hurt_file.c"):
         self.about, self.ran, self.bad, self.skipped = about, {}, [], []
         words = [it for it in sys.argv[1:] if not it.startswith("--")]
         program = words[0] if words else f"{HERE}/../crates/night/out/night"
@@ -70,19 +70,20 @@ class Tries:
         # (a copy, so that another user can run it)
         self.program = shutil.copy(program, f"{self.folder}/night")
         os.chmod(self.program, 0o755)
-        self.library = self.built()
+        self.library = self.built(source)
         if self.wrong and not self.library:
             sys.exit(f"{about}: a wrong disk is made by the library, which wants `cc`")
 
-    def built(self):
-        """The library that hurts a file, or none where there is no compiler."""
-        library = f"{self.folder}/hurt_file.so"
+    def built(self, source):
+        """The library that stands between the program and the system, or none where there is no
+        compiler."""
+        library = f"{self.folder}/{source}.so"
         if not shutil.which("cc"):
             return None
-        words = ["cc", "-shared", "-fPIC", "-O1", "-o", library, f"{HERE}/hurt_file.c"]
+        words = ["cc", "-shared", "-fPIC", "-O1", "-o", library, f"{HERE}/{source}"]
         built = subprocess.run(words, capture_output=True, text=True)
         if built.returncode:
-            sys.exit(f"{self.about}: cc can't build hurt_file.c:\n{built.stderr}")
+            sys.exit(f"{self.about}: cc can't build {source}:\n{built.stderr}")
         return library
 
     def file(self, name, content=None):
