@@ -1,6 +1,7 @@
-//! The lines of the console: what each asks for, and what its reply prints.
+//! The lines of the console: what each asks for, and what its reply and a state's rows print.
 //!
-//! A line is read by [`read_line`] into what it [`Asked`]; its [`Reply`] is printed by `{reply}`.
+//! [`read_line`] reads a line, and says what it asks for: an [`Asked`]. A [`Reply`] is printed by
+//! `{reply}`, and a [`Row`] of a state is gathered as its line.
 //! `specs/Script.antt` says what is replied to a whole input.
 #![tactic(auto)]
 

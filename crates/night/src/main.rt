@@ -5,8 +5,8 @@
 //! for and what it is answered.
 //!
 //! The exit status is 0, or 2 for words that ask for nothing, 3 where input, output or the store
-//! failed or the input is too long, 4 for want of memory. What went wrong is printed on standard
-//! error.
+//! failed, the input is too long or an audit strayed, 4 for want of memory. What went wrong is
+//! printed on standard error, and what strayed on standard output.
 #![tactic(auto)]
 
 mod system;

@@ -1,8 +1,8 @@
 //! Jobs of one's own, worked off by four threads over a store in a file: a program to copy.
 //!
-//! Its first start makes the store, runs the lines of standard input, which submit tasks, and is
-//! cut off while a task runs. Its second start shows that the task was interrupted and submits it
-//! anew. Then four workers run what is ready.
+//! One run of it plays three starts. The first makes the store, runs the lines of standard input,
+//! which submit tasks, and gives the store up while a task runs. The second shows that the task was
+//! interrupted and submits it anew. In the third four workers run what is ready.
 #![tactic(auto)]
 
 use anyhow::Result;

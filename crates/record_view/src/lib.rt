@@ -1,4 +1,4 @@
-//! Records: the bytes of the events in the journal's history.
+//! Records: the bytes of the events in the journal's history; and an image's head and rows.
 //!
 //! A record is read as a view, which lends its names and texts from the bytes, written from a view,
 //! and walked in a row with others, each exactly by the grammar. No call takes memory. The grammar

@@ -23,7 +23,8 @@ pub struct FileDisk {
 }
 
 impl FileDisk {
-    /// A disk over this file, which has to be open for reading and writing.
+    /// A disk over this file, which has to be open for what the disk is to do: where it is open for
+    /// reading alone, each write fails.
     pub fn new(file: File) -> Result<FileDisk, DiskFailed>
         ensures calls { IfOk result (λ d. (⟦<FileDisk as RunDisk>⟧.state d).clock ≡ 0) }
         ensures failures { IfOk result (λ d. (⟦<FileDisk as RunDisk>⟧.state d).failures ≡ 0) }
