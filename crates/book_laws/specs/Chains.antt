@@ -88,7 +88,7 @@ abbrev pub DeviceFails : DiskState → DiskState → Type 0
 DeviceFails old new = (old.failures < new.failures) ⊎ (new.clock ≡ last_moment)
 
 -- Why such a row of calls stops: memory was refused; the store's numbers are used up; or a device
--- call failed in it, which the fault tells, or, where a step before met it, that the book is broken.
+-- call failed in it: that fault is told, or, where a step before met it, that the book is broken.
 abbrev pub StopsFor : DiskState → DiskState → Trouble → Type 0
 StopsFor old new why =
     (why ≡ Faulty Memory)

@@ -2,8 +2,9 @@
 //! nothing else is damaged.
 //!
 //! The tables rest on these clauses: of `Book::format` its `formats`, of `Book::open` its `opens`,
-//! of a flush and a checkpoint `saves` and `images`, and of `run` its `stops`; and below them on
-//! `RunDisk`'s `writes`, by which a write that fails leaves its range unknown, and nothing else.
+//! of `flush` its `flushes`, of `checkpoint` its `checkpoints`, and of `run` its `stops`; and below
+//! them on `RunDisk`'s `writes`, by which a write that fails leaves its range unknown, and nothing
+//! else.
 
 use crate::asserts::holds;
 use crate::books::{
