@@ -15,7 +15,7 @@ use std::alloc::{AllocError, Allocator};
 use std::{fmt, str};
 
 /// What a line is answered.
-#[derive(Clone, Debug, Drop, PartialEq, Eq)]
+#[derive(Debug, Drop, PartialEq, Eq)]
 pub enum Reply {
     /// It is no line of the console: `bad line`.
     BadLine,

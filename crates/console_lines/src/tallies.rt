@@ -3,7 +3,7 @@
 use run_model::Name;
 
 /// What is counted of the tasks of one job.
-#[derive(Clone, Debug, Drop, PartialEq, Eq)]
+#[derive(Debug, Drop, PartialEq, Eq)]
 pub struct Tally {
     /// The job.
     pub job: Name,

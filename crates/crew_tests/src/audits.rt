@@ -4,7 +4,9 @@ ghost use Rattle.std.specs.Prelude.{◌≡◌, ◌<◌};
 
 use crate::seated::{Do, Seated, Told};
 use crate::stores::{Task, opened, outcome, stored};
+use run_book::Book;
 use run_crew::{Note, WorkerNotes};
+use run_disk::MemoryDisk;
 use run_model::Fault;
 use std::alloc::Global;
 use std::marker::Brand;
@@ -111,20 +113,29 @@ fn listed(rt: &impl Abort, alloc: Global, rows: &[Noted]) -> Result<WorkerNotes,
     Ok(notes)
 }
 
-/// What an audit names in a row, if anything.
-fn audited<S: Ledger, F: Ledger>(
+/// The lists of a row's notes.
+fn lists_of(
     rt: &impl Abort,
     alloc: Global,
-    row: &Row,
-    starts: Blank,
-    finishes: Blank,
-) -> Result<Option<(usize, usize)>, Fault>
-    requires starts { (starts.name ≡ S.name) × (starts.parts ≡ S.parts) × (0 < S.parts) }
-    requires finishes { (finishes.name ≡ F.name) × (finishes.parts ≡ F.parts)
-        × (0 < F.parts) }
-{
-    let book = opened(alloc, stored(rt, alloc, None, &TASKS)?)?;
-    let mut desk = Seated::<S, F>::new(book, starts, finishes);
+    rows: &[&'static [Noted]],
+) -> Result<Vec<WorkerNotes>, Fault> {
+    let mut lists = Vec::new(alloc);
+    for notes in rows.iter() {
+        let list = listed(rt, alloc, notes)?;
+        if lists.push(list).is_err() {
+            return Err(Fault::Memory);
+        }
+    }
+    Ok(lists)
+}
+
+/// A book with the tasks.
+fn book_of(rt: &impl Abort, alloc: Global) -> Result<Book<MemoryDisk>, Fault> {
+    opened(alloc, stored(rt, alloc, None, &TASKS)?)
+}
+
+/// Starts a row's tasks, and finishes them by turns.
+fn play<S: Ledger, F: Ledger>(rt: &impl Abort, desk: &mut Seated<S, F>, row: &Row) {
     for _ in 0..row.0 {
         let started = desk.take(rt, Do::Start);
         assert!(rt; matches!(started, Told::Started(..)));
@@ -134,21 +145,34 @@ fn audited<S: Ledger, F: Ledger>(
         let finished = desk.take(rt, Do::Finish(task, error));
         assert!(rt; matches!(finished, Told::Event(_)));
     }
-    let mut lists = Vec::new(alloc);
-    for notes in row.2.iter() {
-        let list = listed(rt, alloc, notes)?;
-        if lists.push(list).is_err() {
-            return Err(Fault::Memory);
-        }
-    }
-    Ok(desk.audited(lists.as_slice()))
+}
+
+/// What an audit names in a row, if anything.
+fn audited<S: Ledger, F: Ledger>(
+    rt: &impl Abort,
+    book: Book<MemoryDisk>,
+    lists: &[WorkerNotes],
+    row: &Row,
+    starts: Blank,
+    finishes: Blank,
+) -> Option<(usize, usize)>
+    requires starts { (starts.name ≡ S.name) × (starts.parts ≡ S.parts) × (0 < S.parts) }
+    requires finishes { (finishes.name ≡ F.name) × (finishes.parts ≡ F.parts)
+        × (0 < F.parts) }
+{
+    let mut desk = Seated::<S, F>::new(book, starts, finishes);
+    play(rt, &mut desk, row);
+    desk.audited(lists)
 }
 
 #[test]
 fn an_audit_names_what_strays_first(rt: HostRuntime) -> Result<(), Fault> {
     for (n, row) in ROWS.iter().enumerate() {
-        let named = audited::<Brand, Brand>(&rt, rt.alloc(), row, Blank::new(1), Blank::new(1))?;
-        assert!(&rt; named == row.3, "row {n}");
+        let lists = lists_of(&rt, rt.alloc(), &row.2)?;
+        let book = book_of(&rt, rt.alloc())?;
+        let lists = lists.as_slice();
+        let found = audited::<Brand, Brand>(&rt, book, lists, row, Blank::new(1), Blank::new(1));
+        assert!(&rt; found == row.3, "row {n}");
     }
     Ok(())
 }

@@ -138,14 +138,8 @@ fn failed(error: &[u8]) -> Turn {
     }
 }
 
-/// A night over a book, with so many workers that have a plain job each.
-pub fn plain_night<D: RunDisk + Drop + Send, G: Gate + Sync, R: Threads + Wait + Sync>(
-    rt: &R,
-    alloc: Global,
-    book: Book<D>,
-    workers: usize,
-    gate: &G,
-) -> Result<NightEnd<D>, Fault> {
+/// A list of one plain job for each worker.
+fn plain_jobs(alloc: Global, workers: usize) -> Result<Vec<Vec<Box<dyn Job + Send>>>, Fault> {
     let Ok(jobs) = Vec::with_capacity(alloc, workers) else {
         return Err(Fault::Memory);
     };
@@ -159,5 +153,16 @@ pub fn plain_night<D: RunDisk + Drop + Send, G: Gate + Sync, R: Threads + Wait +
             return Err(Fault::Memory);
         }
     }
-    night(rt, alloc, book, jobs, gate)
+    Ok(jobs)
+}
+
+/// A night over a book, with so many workers that have a plain job each.
+pub fn plain_night<D: RunDisk + Drop + Send, G: Gate + Sync, R: Threads + Wait + Sync>(
+    rt: &R,
+    alloc: Global,
+    book: Book<D>,
+    workers: usize,
+    gate: &G,
+) -> Result<NightEnd<D>, Fault> {
+    night(rt, alloc, book, plain_jobs(alloc, workers)?, gate)
 }

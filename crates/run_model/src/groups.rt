@@ -8,7 +8,7 @@ use crate::names::Name;
 use crate::texts::Text;
 
 /// The row of a group. Its number is its place.
-#[derive(Clone, Debug, Drop, PartialEq, Eq)]
+#[derive(Debug, Drop, PartialEq, Eq)]
 pub struct Group {
     /// What it is called.
     pub name: Name,
