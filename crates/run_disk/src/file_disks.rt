@@ -4,12 +4,13 @@
 //! size, its counts and its safety are claimed. A program that rests on it takes as its premise
 //! that nobody else writes the file and that the file behaves as a disk does.
 
-ghost use Rattle.std.specs.Prelude.{◌≡◌, ⊤, IfOk, is_ok};
+ghost use Rattle.std.specs.Prelude.{◌≡◌, IfOk, is_ok};
 ghost use Rattle.run_disk.specs.Files.{IsFileDisk, file_state, is_file_disk};
 
 use crate::disks::{DiskFailed, RunDisk};
 use crate::tallies::Tally;
 use std::fs::File;
+use std::io;
 use std::os::unix::fs::FileExt;
 
 /// A disk over a file, with the size that the file had when the disk was made. Each failing call of
@@ -19,24 +20,64 @@ pub struct FileDisk {
     file: File,
     size: u64,
     tally: Tally,
+    // what the system said of the first call that failed
+    error: Option<io::Error>,
     ghost kept: { IsFileDisk size tally.calls tally.failures },
 }
 
 impl FileDisk {
     /// A disk over this file, which has to be open for what the disk is to do: where it is open for
-    /// reading alone, each write fails.
+    /// reading alone, each write fails. The file is synced first, which is no counted call: so what
+    /// another program left in the system's memory is on the device before any of it is read.
     pub fn new(file: File) -> Result<FileDisk, DiskFailed>
         ensures calls { IfOk result (λ d. (⟦<FileDisk as RunDisk>⟧.state d).clock ≡ 0) }
         ensures failures { IfOk result (λ d. (⟦<FileDisk as RunDisk>⟧.state d).failures ≡ 0) }
     {
-        let Ok(metadata) = file.metadata() else {
-            return Err(DiskFailed);
-        };
+        match FileDisk::settled(file) {
+            Ok(disk) => Ok(disk),
+            Err(_) => Err(DiskFailed),
+        }
+    }
+
+    /// So does [`FileDisk::new`]; the error is the system's.
+    pub fn settled(file: File) -> io::Result<FileDisk>
+        ensures calls { IfOk result (λ d. (⟦<FileDisk as RunDisk>⟧.state d).clock ≡ 0) }
+        ensures failures { IfOk result (λ d. (⟦<FileDisk as RunDisk>⟧.state d).failures ≡ 0) }
+    {
+        file.sync_data()?;
+        FileDisk::unsettled(file)
+    }
+
+    /// A disk over a file that is only read. It is synced first where its file system syncs such a
+    /// file: on one that is mounted for reading alone, what reads give may be what a cut of the
+    /// power would have lost.
+    pub fn to_read(file: File) -> io::Result<FileDisk>
+        ensures calls { IfOk result (λ d. (⟦<FileDisk as RunDisk>⟧.state d).clock ≡ 0) }
+        ensures failures { IfOk result (λ d. (⟦<FileDisk as RunDisk>⟧.state d).failures ≡ 0) }
+    {
+        match file.sync_data() {
+            Err(error) if !is_unsynced(error.kind()) => Err(error),
+            _ => FileDisk::unsettled(file),
+        }
+    }
+
+    /// A disk over this file as it is.
+    fn unsettled(file: File) -> io::Result<FileDisk>
+        ensures calls { IfOk result (λ d. (⟦<FileDisk as RunDisk>⟧.state d).clock ≡ 0) }
+        ensures failures { IfOk result (λ d. (⟦<FileDisk as RunDisk>⟧.state d).failures ≡ 0) }
+    {
+        let metadata = file.metadata()?;
         Ok(FileDisk {
-            file,
             size: metadata.len(),
+            file,
             tally: Tally::new(),
+            error: None,
         })
+    }
+
+    /// What the system said of the first call that failed, if one did.
+    pub fn error(&self) -> Option<&io::Error> {
+        self.error.as_ref()
     }
 }
 
@@ -53,7 +94,7 @@ impl RunDisk for FileDisk {
         if self.tally.is_spent() {
             return Err(DiskFailed);
         }
-        let done = or_failed(self.file.read_exact_at(out, at));
+        let done = or_failed(self.file.read_exact_at(out, at), &mut self.error);
         self.tally.count(done)
     }
 
@@ -61,7 +102,7 @@ impl RunDisk for FileDisk {
         if self.tally.is_spent() {
             return Err(DiskFailed);
         }
-        let done = or_failed(self.file.write_all_at(bytes, at));
+        let done = or_failed(self.file.write_all_at(bytes, at), &mut self.error);
         self.tally.count(done)
     }
 
@@ -69,17 +110,31 @@ impl RunDisk for FileDisk {
         if self.tally.is_spent() {
             return Err(DiskFailed);
         }
-        let done = or_failed(self.file.sync_data());
+        let done = or_failed(self.file.sync_data(), &mut self.error);
         self.tally.count(done)
     }
 }
 
-/// What a call of the file comes to: whatever its error, the device failed.
-fn or_failed<E: Drop>(done: Result<(), E>) -> Result<(), DiskFailed>
+/// What a call of the file comes to: whatever its error, the device failed. The first is kept.
+fn or_failed(done: io::Result<()>, first: &mut Option<io::Error>) -> Result<(), DiskFailed>
     ensures { is_ok result ≡ is_ok done }
 {
     match done {
         Ok(()) => Ok(()),
-        Err(_) => Err(DiskFailed),
+        Err(error) => {
+            if first.is_none() {
+                *first = Some(error);
+            }
+            Err(DiskFailed)
+        }
     }
+}
+
+/// Says whether a sync that failed so was refused for the file system: it keeps nothing back of a
+/// file that may only be read, or has no sync.
+fn is_unsynced(kind: io::ErrorKind) -> bool {
+    matches!(
+        kind,
+        io::ErrorKind::ReadOnlyFilesystem | io::ErrorKind::InvalidInput | io::ErrorKind::Unsupported
+    )
 }

@@ -13,6 +13,7 @@ mod fuses;
 mod histories;
 pub mod laws;
 mod memory_disks;
+mod settled;
 mod tallies;
 mod tears;
 
@@ -22,4 +23,5 @@ pub use fail_onces::FailOnce;
 pub use file_disks::FileDisk;
 pub use fuses::Fuse;
 pub use memory_disks::MemoryDisk;
+pub use settled::settle;
 pub use tears::Torn;

@@ -1,0 +1,24 @@
+//! A disk that is settled: nothing that was written to it before is left to a crash.
+
+ghost use Rattle.std.specs.Prelude.{ℕ, OnOk};
+ghost use Rattle.run_disk.specs.Disk.{IsAtRest};
+ghost use Rattle.run_disk.specs.Runs.{OnlyReads, Ran, Took};
+
+use crate::disks::{DiskFailed, RunDisk};
+
+/// Syncs a disk before it is opened: one call, which changes no byte. At `Ok` an honest disk on
+/// which no failed write waits is at rest, whatever wrote to it before.
+///
+/// What a killed program wrote is there to be read, and a cut of the power may still lose it. So
+/// whoever opens a disk that isn't known to be at rest settles it first: a disk that a book gave
+/// back whose sync had failed, say, or one that another program wrote.
+pub fn settle<D: RunDisk>(disk: &mut D) -> Result<(), DiskFailed>
+    ensures ran { Ran (D.state disk.old) (D.state disk.new) result }
+    ensures took { Took 1 (D.state disk.old) (D.state disk.new) result }
+    ensures unchanged { (D.state disk.old).honest
+        → OnlyReads (D.state disk.old) (D.state disk.new) }
+    ensures rest { (D.state disk.old).honest
+        → ((i : ℕ) → (D.state disk.old).unsure i → ⊥) → OnOk result (IsAtRest (D.state disk.new)) }
+{
+    disk.sync()
+}
