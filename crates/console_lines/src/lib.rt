@@ -25,6 +25,6 @@ pub use asked::Asked;
 pub use faults::{RunFault, ShownFault};
 pub use gathers::LONGEST_REPLY;
 pub use lines::{LONGEST_INPUT, LONGEST_LINE, read_line};
-pub use replies::{Reply, ShownTrouble};
+pub use replies::{Reply, ShownName, ShownTrouble};
 pub use rows::{LONGEST_ROW, Row};
 pub use tallies::{Counts, Tally};

@@ -308,7 +308,7 @@ impl fmt::Display for ShownText<'_> {
 
 /// A name, as it is printed.
 #[derive(Clone, Copy)]
-struct ShownName<'a>(&'a Name);
+pub struct ShownName<'a>(pub &'a Name);
 
 impl fmt::Display for ShownName<'_> {
     ghost output = { λ shown. Some shown.0.now };
