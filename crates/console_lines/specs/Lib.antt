@@ -10,6 +10,8 @@ pub mod Nights
 pub mod Progress
 pub mod Replies
 pub mod Script
+pub mod Strict
+pub mod StrictNights
 pub mod Tallies
 pub mod TaskLines
 pub mod Words

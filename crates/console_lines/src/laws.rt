@@ -5,7 +5,7 @@
 ghost use Rattle.std.specs.List.{slice_split, list_all};
 ghost use Rattle.std.specs.Option.{option_to_list};
 ghost use Rattle.std.specs.Prelude.{◌≡◌, ◌==◌, ◌++◌, ◌∷◌, [], List, ℕ, true, false, Option};
-ghost use Rattle.std.specs.Prelude.{Some, Ok, codes};
+ghost use Rattle.std.specs.Prelude.{Some, None, Ok, codes};
 ghost use Rattle.run_model.specs.Session.{Session, session_after};
 ghost use Rattle.run_model.specs.Texts.{is_name, is_text};
 ghost use Rattle.written_moment.specs.Moments.{moment_of};
@@ -16,8 +16,10 @@ ghost use Rattle.console_lines.specs.Words.{words_of, rest_of};
 ghost use Rattle.console_lines.specs.Progress.{IsFront, kept};
 ghost use Rattle.console_lines.specs.Script.{after_line, after_lines, replies, reply, script};
 ghost use Rattle.console_lines.specs.Script.{steps_of};
+ghost use Rattle.console_lines.specs.Strict.{stray_in, strict_script};
 
 use crate::asked::Asked;
+use crate::strays::StrayLine;
 use run_model::{Refusal, Wish};
 
 /// An input is split at each LF, as std splits a list.
@@ -75,4 +77,19 @@ pub fn a_long_line_may_be_cut()
     ensures reply { (s : Session) (line : List ℕ) → reply s (kept line) ≡ reply s line }
     ensures session { (s : Session) (line : List ℕ)
         → after_line s (kept line) ≡ after_line s line }
+{}
+
+/// What is behind the first line that strays changes nothing of a strict run.
+pub fn a_strict_run_doesnt_see_what_is_behind_its_stray_line()
+    ensures stray { (s : Session) (front behind : List ℕ) (stray : StrayLine)
+        → stray_in s front ≡ Some stray → stray_in s (front ++ 10 ∷ behind) ≡ Some stray }
+    ensures script { (s : Session) (front behind : List ℕ) (stray : StrayLine)
+        → stray_in s front ≡ Some stray
+        → strict_script s (front ++ 10 ∷ behind) ≡ strict_script s front }
+{}
+
+/// Where no line strays, a strict run prints the script.
+pub fn a_strict_run_without_a_stray_line_is_a_run()
+    ensures { (s : Session) (bytes : List ℕ) → stray_in s bytes ≡ None
+        → strict_script s bytes ≡ script s bytes }
 {}

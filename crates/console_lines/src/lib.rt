@@ -2,7 +2,8 @@
 //!
 //! [`read_line`] reads a line, and says what it asks for: an [`Asked`]. A [`Reply`] is printed by
 //! `{reply}`, and a [`Row`] of a state is gathered as its line.
-//! `specs/Script.antt` says what is replied to a whole input.
+//! `specs/Script.antt` says what is replied to a whole input, and `specs/Strict.antt` which of its
+//! lines a strict run runs.
 #![tactic(auto)]
 
 mod asked;
@@ -16,6 +17,8 @@ mod lines;
 pub mod nights;
 mod replies;
 mod rows;
+mod strays;
+pub mod strict_nights;
 mod tallies;
 mod task_lines;
 mod wishes;
@@ -27,4 +30,5 @@ pub use gathers::LONGEST_REPLY;
 pub use lines::{LONGEST_INPUT, LONGEST_LINE, read_line};
 pub use replies::{Reply, ShownName, ShownTrouble};
 pub use rows::{LONGEST_ROW, Row};
+pub use strays::{Stray, StrayLine};
 pub use tallies::{Counts, Tally};

@@ -1,0 +1,55 @@
+-- The examples of strict runs over a newly opened store. The lines behind the one that strays have
+-- no reply.
+use Prim.Native.String.{String}
+use Rattle.std.specs.Prelude.{◌≡◌, ℕ, List, [], ◌∷◌, ◌++◌, codes, Option, Some, None}
+use Rattle.run_model.specs.declared.layouts.Layout.TheVariants.{Small}
+use Rattle.run_model.specs.Session.{opened}
+use Rattle.console_lines.specs.declared.strays.Stray.{Stray}
+use Rattle.console_lines.specs.declared.strays.StrayLine.{StrayLine}
+use Rattle.console_lines.specs.Nights.{Night, shown, told, typed}
+use Rattle.console_lines.specs.Strict.{stray_in, strict_script}
+
+-- The lines are replied to as expected, this is the closing line, and none of them strays.
+abbrev pub IsWhole : Night → String → Type 0
+IsWhole night last =
+    (strict_script (opened Small) (typed night) ≡ told night ++ shown (codes last))
+    × (stray_in (opened Small) (typed night) ≡ None)
+
+-- They are, and the line of this number strays, for this reason.
+abbrev pub EndsAt : Night → String → ℕ → Stray → Type 0
+EndsAt night last number why =
+    (strict_script (opened Small) (typed night) ≡ told night ++ shown (codes last))
+    × (stray_in (opened Small) (typed night) ≡ Some (record { number = number; why = why }))
+
+-- The third of five lines is refused.
+abbrev pub third_is_refused : Night
+third_is_refused =
+    ("derive a root cancel", "scope 1")
+    ∷ ("cancel a", "ok")
+    ∷ ("cancel a", "refused 12 AlreadyDone")
+    ∷ ("derive b root cause", "")
+    ∷ ("up", "")
+    ∷ []
+
+-- The first line is a bad line.
+abbrev pub first_is_bad : Night
+first_is_bad = ("up", "bad line") ∷ ("derive a root cause", "") ∷ []
+
+-- No line strays.
+abbrev pub none_strays : Night
+none_strays =
+    ("derive a root cause", "scope 1")
+    ∷ ("flush", "acked 2")
+    ∷ ("tally", "")
+    ∷ ("cancel a disk", "ok")
+    ∷ []
+
+-- A question that is refused strays, too. The empty lines before it are counted.
+abbrev pub question_is_refused : Night
+question_is_refused =
+    ("", "")
+    ∷ ("scope root", "live; deadline none")
+    ∷ ("", "")
+    ∷ ("scope a", "refused 1 NoSuchScope")
+    ∷ ("derive a root cause", "")
+    ∷ []
