@@ -3,7 +3,7 @@
 
 use crate::asserts::done;
 use run_book::Book;
-use run_console::{RunFault, line, run};
+use run_console::{RunFault, StrayLine, line, run, run_strict};
 use run_disk::{MemoryDisk, RunDisk, Torn};
 use run_model::Layout;
 use std::alloc::{Allocator, Global};
@@ -43,6 +43,16 @@ pub fn ran<A: Allocator + Copy, R: Read, W: Write, D: RunDisk>(
     book: &mut Book<D>,
 ) -> Result<(), RunFault> {
     run(alloc, input, output, book)
+}
+
+/// Runs an input over a book, up to the first line that strays.
+pub fn ran_strictly<R: Read, W: Write, D: RunDisk>(
+    alloc: Global,
+    input: &mut R,
+    output: &mut W,
+    book: &mut Book<D>,
+) -> Result<Option<StrayLine>, RunFault> {
+    run_strict(alloc, input, output, book)
 }
 
 /// Runs a line over a book.

@@ -31,4 +31,6 @@ mod stops;
 #[cfg(test)]
 mod stores;
 #[cfg(test)]
+mod stricts;
+#[cfg(test)]
 mod writers;

@@ -2,4 +2,5 @@ pub mod Crews
 pub mod Inspecting
 pub mod Progress
 pub mod SessionLines
+pub mod Strict
 pub mod Troubles

@@ -1,12 +1,14 @@
 //! The console over a book: a line is run and replied to, and so is each line of an input.
 
 ghost use Rattle.std.specs.Prelude.{◌≡◌, ◌∷◌, [], Err, List, ℕ, true, false, OnOk, IfErr};
+ghost use Rattle.std.specs.Prelude.{IfOk};
 ghost use Rattle.book_model.specs.Holdings.{CarriesOn};
 ghost use Rattle.run_book.specs.Views.{holding};
 ghost use Rattle.run_model.specs.declared.faults.Trouble.TheVariants.{Refused};
 ghost use Rattle.run_model.specs.declared.refusals.Refusal.TheVariants.{Broken};
 ghost use Rattle.console_lines.specs.Asked.{asked_of};
 ghost use Rattle.console_lines.specs.Script.{closing};
+ghost use Rattle.console_lines.specs.Strict.{stray_at};
 ghost use Rattle.run_console.specs.Progress.{BeginsScript, Cut, EndStops, IsOfLine, Lasts};
 ghost use Rattle.run_console.specs.Progress.{LineRuns, LineStops, Ran, RunStops, RunsAll, Told};
 ghost use Rattle.run_console.specs.SessionLines.{IsSaving, is_tally, plain};
@@ -16,7 +18,7 @@ use crate::answers::{flush, reply_to};
 use crate::inputs::{OpenLine, run_whole_lines};
 use crate::tallies::gather_tally;
 use crate::writings::{Gathered, gather_reply, make_room, stop, write_gathered};
-use console_lines::{Asked, Reply, RunFault, read_line};
+use console_lines::{Asked, Reply, RunFault, Stray, read_line};
 use run_book::Book;
 use run_disk::RunDisk;
 use run_model::{Refusal, Trouble};
@@ -137,7 +139,7 @@ fn run_sound<A: Allocator + Copy, R: Read, W: Write, D: RunDisk, B: Allocator>(
 }
 
 /// Flushes, and writes what was gathered and the closing line.
-fn close<W: Write, D: RunDisk, B: Allocator>(
+pub fn close<W: Write, D: RunDisk, B: Allocator>(
     gathered: &mut Gathered,
     output: &mut W,
     book: &mut Book<D, B>,
@@ -164,15 +166,16 @@ fn close<W: Write, D: RunDisk, B: Allocator>(
     write_gathered(gathered, output)
 }
 
-/// Runs one line over the book, and gathers its reply; an empty line has none. The clauses speak of
-/// each line that asks for the same, since a line that is too long is handed in without its end.
+/// Runs one line over the book, and gathers its reply; an empty line has none. It answers why the
+/// line strays, where it does. The clauses speak of each line that asks for the same, since a line
+/// that is too long is handed in without its end.
 pub fn gather_line<A: Allocator + Copy, W: Write, D: RunDisk, B: Allocator>(
     alloc: A,
     bytes: &[u8],
     gathered: &mut Gathered,
     output: &mut W,
     book: &mut Book<D, B>,
-) -> Result<(), RunFault>
+) -> Result<Option<Stray>, RunFault>
     requires sound { book.old.journal.broken ≡ false }
     ensures ran { (line : List ℕ) → asked_of line ≡ asked_of bytes.now
         → OnOk result (Ran (line ∷ []) book.old.session book.new.session
@@ -181,6 +184,8 @@ pub fn gather_line<A: Allocator + Copy, W: Write, D: RunDisk, B: Allocator>(
     ensures cut { (line : List ℕ) → asked_of line ≡ asked_of bytes.now
         → IfErr result (λ fault. Cut fault (line ∷ []) book.old.session book.new.session
         gathered.old.items (W.contents output.old) (W.contents output.new)) }
+    ensures strays { (line : List ℕ) → asked_of line ≡ asked_of bytes.now
+        → IfOk result (λ why. why ≡ stray_at (plain book.old.session) line) }
     ensures fault { IfErr result IsOfLine }
     ensures sound { OnOk result (book.new.journal.broken ≡ false) }
     ensures accounts { IfErr result (λ fault.
@@ -193,14 +198,18 @@ pub fn gather_line<A: Allocator + Copy, W: Write, D: RunDisk, B: Allocator>(
     let _durable = book.durable();
     let asked = read_line(bytes);
     if is_tally(&asked) {
-        return gather_tally(alloc, book.state(), gathered, output);
+        gather_tally(alloc, book.state(), gathered, output)?;
+        return Ok(None);
     }
     make_room(gathered, output)?;
     match reply_to(&asked, book) {
-        Ok(reply) => gather_reply(reply, gathered),
-        Err(trouble) => return Err(stop(trouble, gathered, output)),
+        Ok(reply) => {
+            let why = reply.as_ref().and_then(Stray::of);
+            gather_reply(reply, gathered);
+            Ok(why)
+        }
+        Err(trouble) => Err(stop(trouble, gathered, output)),
     }
-    Ok(())
 }
 
 /// Says whether a line asks for a tally.

@@ -23,7 +23,7 @@ use std::alloc::Allocator;
 use std::io::{Read, Write};
 
 /// How many bytes are read at most at a time.
-const PART: usize = 4096;
+pub const PART: usize = 4096;
 
 /// How many bytes of a line are kept at most: one more than the longest line has.
 const KEPT: usize = LONGEST_LINE + 1;
@@ -112,7 +112,7 @@ fn run_part<A: Allocator + Copy, W: Write, D: RunDisk, B: Allocator>(
 }
 
 /// Reads some bytes; none where the input is at its end.
-fn read_some<R: Read>(input: &mut R, room: &mut [u8]) -> Result<usize, RunFault>
+pub fn read_some<R: Read>(input: &mut R, room: &mut [u8]) -> Result<usize, RunFault>
     ensures bound { ReadsAtMost result room.new }
     ensures bytes { ReadConsumes (R.remaining input.old) (R.remaining input.new) result room.new }
     ensures fault { IfErr result (λ fault. fault ≡ RunFault.Input) }

@@ -11,13 +11,15 @@ mod crews;
 mod faults;
 mod inputs;
 mod inspects;
+mod stricts;
 mod tallies;
 mod writings;
 
-pub use console_lines::RunFault;
+pub use console_lines::{RunFault, Stray, StrayLine};
 pub use consoles::{line, run};
 pub use crews::crew;
 pub use faults::stopped;
 pub use inspects::inspect;
 pub use run_book::Book;
+pub use stricts::run_strict;
 pub use writings::write_whole;

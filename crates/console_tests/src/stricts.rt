@@ -1,0 +1,274 @@
+//! Strict runs: which line strays, what is printed up to it, and what is left behind it.
+
+use crate::asserts::{done, holds};
+use crate::books::{counts, formatted, fresh, opened, ran_strictly};
+use crate::readers::{Behind, PartReader};
+use crate::writers::{End, EndingWriter};
+use run_console::{RunFault, Stray, StrayLine};
+use run_disk::FailOnce;
+use run_model::{Fault, Layout, Refusal, Trouble};
+use std::alloc::Global;
+use std::process::Abort;
+
+/// What is typed, what is printed, the number of the line that strays and why it does, and how many
+/// events there are then.
+type Row = (&'static [u8], &'static [u8], Option<(u64, Stray)>, u64);
+
+/// The line of this number, where there is one.
+fn line(stray: Option<(u64, Stray)>) -> Option<StrayLine> {
+    match stray {
+        Some((number, why)) => Some(StrayLine { number, why }),
+        None => None,
+    }
+}
+
+static ROWS: [Row; 12] = [
+    (b"", b"acked 1\n", None, 1),
+    (b"\n\n", b"acked 1\n", None, 1),
+    (
+        b"derive a root cause\ntally\nflush\ncancel a disk\nscope a\n",
+        b"scope 1\nacked 2\nok\n\
+          done; deadline none; err context canceled; cause disk\nacked 3\n",
+        None,
+        3,
+    ),
+    (
+        b"up\nderive a root cause\n",
+        b"bad line\nacked 1\n",
+        Some((1, Stray::BadLine)),
+        1,
+    ),
+    (
+        b"derive a root cancel\ncancel a\ncancel a\nderive b root cause\nflush\n",
+        b"scope 1\nok\nrefused 12 AlreadyDone\nacked 3\n",
+        Some((3, Stray::Refused(Refusal::AlreadyDone))),
+        3,
+    ),
+    (
+        b"\nscope root\n\nscope a\nderive a root cause\n",
+        b"live; deadline none\nrefused 1 NoSuchScope\nacked 1\n",
+        Some((4, Stray::Refused(Refusal::NoSuchScope))),
+        1,
+    ),
+    (
+        b"derive a root cause\nderive b a cancel\nup",
+        b"scope 1\nscope 2\nbad line\nacked 3\n",
+        Some((3, Stray::BadLine)),
+        3,
+    ),
+    (
+        b"derive a root cause\nscope A",
+        b"scope 1\nrefused 5 BadName\nacked 2\n",
+        Some((2, Stray::Refused(Refusal::BadName))),
+        2,
+    ),
+    (
+        b"group g root\ngo g copy a\nwait g\ntally\n",
+        b"group 0 scope 1\ntask 0 ready\nrefused 16 Unfinished 1\nacked 3\n",
+        Some((3, Stray::Refused(Refusal::Unfinished(1)))),
+        3,
+    ),
+    (
+        b"group g root\ngo g copy a\ntally\nstart\nstart\nfinish 0 ok\n",
+        b"group 0 scope 1\ntask 0 ready\n\
+          tally copy total 1; success 0; failure 0; interrupted 0\n\
+          start 0 copy a\nrefused 19 NothingReady\nacked 4\n",
+        Some((5, Stray::Refused(Refusal::NothingReady))),
+        4,
+    ),
+    (
+        b"task 0\ngroup g root\n",
+        b"refused 3 NoSuchTask\nacked 1\n",
+        Some((1, Stray::Refused(Refusal::NoSuchTask))),
+        1,
+    ),
+    (
+        b"checkpoint\nresult g\n",
+        b"acked 1\nrefused 2 NoSuchGroup\nacked 1\n",
+        Some((2, Stray::Refused(Refusal::NoSuchGroup))),
+        1,
+    ),
+];
+
+#[test]
+fn a_strict_run_ends_behind_the_first_line_that_strays(rt: HostRuntime) {
+    for part in [1, 7, 4_096] {
+        for (n, (typed, wanted, stray, events)) in ROWS.iter().enumerate() {
+            let mut book = fresh(&rt, rt.alloc());
+            let mut input = PartReader::new(typed, part, Behind::Ends);
+            let mut printed = Vec::new(rt.alloc());
+            let result = ran_strictly(rt.alloc(), &mut input, &mut printed, &mut book);
+            assert!(rt; result == Ok(line(*stray)), "row {n}");
+            assert!(rt; printed.as_slice() == *wanted, "row {n}");
+            assert!(rt; counts(&book) == (*events, *events), "row {n}");
+        }
+    }
+}
+
+/// A run ends behind the line of this number, which is refused.
+fn refused(number: u64, why: Refusal) -> Result<Option<StrayLine>, RunFault> {
+    Ok(line(Some((number, Stray::Refused(why)))))
+}
+
+/// How many questions come before the line that strays. They have 13,200 bytes, so three reads of
+/// 4,096 bytes each don't have them all.
+const MANY: usize = 1_200;
+
+/// So many questions, a line that is refused, and 5,000 bytes behind it.
+fn long_input(rt: &impl Abort, alloc: Global) -> Vec<u8> {
+    let mut bytes = Vec::new(alloc);
+    for _ in 0..MANY {
+        done(rt, bytes.extend_from_slice(b"scope root\n"), "memory");
+    }
+    done(rt, bytes.extend_from_slice(b"cancel root\n"), "memory");
+    for _ in 0..250 {
+        done(
+            rt,
+            bytes.extend_from_slice(b"derive a root cause\n"),
+            "memory",
+        );
+    }
+    bytes
+}
+
+/// What is printed for it.
+fn long_output(rt: &impl Abort, alloc: Global) -> Vec<u8> {
+    let mut bytes = Vec::new(alloc);
+    for _ in 0..MANY {
+        done(
+            rt,
+            bytes.extend_from_slice(b"live; deadline none\n"),
+            "memory",
+        );
+    }
+    let end = b"refused 10 NotCancellable\nacked 1\n";
+    done(rt, bytes.extend_from_slice(end), "memory");
+    bytes
+}
+
+#[test]
+fn no_more_is_read_behind_the_part_of_the_line_that_strays(rt: HostRuntime) {
+    let typed = long_input(&rt, rt.alloc());
+    let mut input = typed.as_slice();
+    let mut printed = Vec::new(rt.alloc());
+    let mut book = fresh(&rt, rt.alloc());
+    let result = ran_strictly(rt.alloc(), &mut input, &mut printed, &mut book);
+    assert!(rt;
+        result == refused(1_201, Refusal::NotCancellable),
+        "the line that strays"
+    );
+    assert!(rt; printed == long_output(&rt, rt.alloc()), "what is printed");
+    assert!(rt; counts(&book) == (1, 1), "the lines behind it");
+    // Of 18,212 bytes four parts were read.
+    assert!(rt; input.len() == 1_828, "what isn't read");
+}
+
+/// Two lines that are accepted, one that strays, and one behind it.
+const TYPED: &[u8] = b"derive a root cancel\ncancel a\ncancel a\nderive b root cause\n";
+
+const PRINTED: &[u8] = b"scope 1\nok\nrefused 12 AlreadyDone\nacked 3\n";
+
+/// What is replied to the lines that end in the first so many bytes, and how many events there are
+/// then.
+fn behind(given: usize) -> (usize, u64) {
+    match given {
+        0..=20 => (0, 1),
+        21..=29 => (8, 2),
+        _ => (11, 3),
+    }
+}
+
+#[test]
+fn a_failed_read_before_the_line_that_strays_is_a_fault(rt: HostRuntime) {
+    for given in 0..=TYPED.len() {
+        let bytes = TYPED.get(..given).unwrap_or(TYPED);
+        let mut book = fresh(&rt, rt.alloc());
+        let mut input = PartReader::new(bytes, 1, Behind::Fails);
+        let mut printed = Vec::new(rt.alloc());
+        let result = ran_strictly(rt.alloc(), &mut input, &mut printed, &mut book);
+        let (replied, events) = behind(given);
+        // The third line ends with the 39th byte. Where that is there, nothing is read behind it.
+        let told = match given {
+            0..=38 => {
+                result == Err(RunFault::Input)
+                    && printed.len() == replied
+                    && PRINTED.starts_with(&printed)
+                    && counts(&book) == (events, 1)
+            }
+            _ => {
+                result == refused(3, Refusal::AlreadyDone)
+                    && printed.as_slice() == PRINTED
+                    && counts(&book) == (3, 3)
+            }
+        };
+        assert!(rt; told, "a read fails behind {given} bytes");
+    }
+}
+
+/// Where so many bytes can be written, how many events there are, and how many of them are durable:
+/// all that is replied is written at the end, behind the flush.
+fn cut_at(written: usize, part: usize) -> (u64, u64) {
+    match (part, written) {
+        (1, 0..=7) => (2, 1),
+        (1, 8..=10) => (3, 1),
+        _ => (3, 3),
+    }
+}
+
+#[test]
+fn a_failed_write_is_a_fault_and_runs_no_line_behind_the_one_that_strays(rt: HostRuntime) {
+    for end in [End::Fails, End::TakesNothing] {
+        for part in [1, 4_096] {
+            for written in 0..PRINTED.len() {
+                let mut book = fresh(&rt, rt.alloc());
+                let mut input = PartReader::new(TYPED, part, Behind::Ends);
+                let mut output = EndingWriter::new(Vec::new(rt.alloc()), 1, written, end);
+                let result = ran_strictly(rt.alloc(), &mut input, &mut output, &mut book);
+                let printed = output.into_written();
+                assert!(rt;
+                    result == Err(RunFault::Output),
+                    "{written} bytes are written"
+                );
+                assert!(rt;
+                    printed.len() == written && PRINTED.starts_with(&printed),
+                    "{written} bytes are written"
+                );
+                assert!(rt;
+                    counts(&book) == cut_at(written, part),
+                    "{written} bytes are written"
+                );
+            }
+        }
+    }
+}
+
+/// A format makes 8 calls, an opening 10, and a flush 6: the disk fails in one of these.
+#[test]
+fn a_failed_flush_acknowledges_nothing(rt: HostRuntime) {
+    let wanted = b"scope 1\nok\nrefused 12 AlreadyDone\nfault 2 DiskFailed\n".as_slice();
+    let failed = Err(RunFault::Store(Trouble::Faulty(Fault::DiskFailed)));
+    for call in 0..6 {
+        let disk = formatted(&rt, rt.alloc(), Layout::Small);
+        let mut book = opened(&rt, rt.alloc(), FailOnce::new(disk, 11 + call));
+        let mut input = TYPED;
+        let mut printed = Vec::new(rt.alloc());
+        let result = ran_strictly(rt.alloc(), &mut input, &mut printed, &mut book);
+        assert!(rt; result == failed, "call {call} fails");
+        assert!(rt; printed.as_slice() == wanted, "call {call} fails");
+        assert!(rt; counts(&book) == (3, 1), "call {call} fails");
+    }
+}
+
+#[test]
+fn a_stray_line_is_told_by_its_number_and_its_reply(rt: HostRuntime) {
+    let bad = StrayLine {
+        number: 7,
+        why: Stray::BadLine,
+    };
+    let refused = StrayLine {
+        number: 16_777_217,
+        why: Stray::Refused(Refusal::Unfinished(2)),
+    };
+    let told = done(&rt, format!(in rt.alloc(); "{bad}, {refused}"), "memory");
+    assert!(rt; told.as_str() == "line 7: bad line, line 16777217: refused 16 Unfinished 2");
+}

@@ -1,0 +1,149 @@
+-- How far a strict run came: its lines are those up to the first that strays.
+use Rattle.std.specs.Prelude.{◌≡◌, ◌≤◌, ◌<◌, ◌+◌, ◌⊎◌, ℕ, List, [], ◌∷◌, ◌++◌, Option, Some, None}
+use Rattle.std.specs.Prelude.{length}
+use Rattle.std.specs.Io.KnownBytes.{Appends, Consumes, IsAtEnd}
+use Rattle.run_model.specs.Session.{Session}
+use Rattle.run_session.specs.Logged.{Logged}
+use Rattle.run_book.specs.Views.{BookView}
+use Rattle.console_lines.specs.declared.lines.TheConstants.{LONGEST_INPUT}
+use Rattle.console_lines.specs.declared.faults.RunFault.{RunFault}
+use Rattle.console_lines.specs.declared.strays.StrayLine.{StrayLine}
+use Rattle.console_lines.specs.Lines.{whole_lines, open_line, lines_of}
+use Rattle.console_lines.specs.Strict.{stray_from, stray_in, strict_lines, strict_lines_of}
+use Rattle.console_lines.specs.Strict.{strict_script}
+use Rattle.run_console.specs.Progress.{Cut, IsReached, IsRunStopped, IsWritten, PartRan, Ran}
+use Rattle.run_console.specs.Progress.{ReadsAll, untried}
+use Rattle.run_console.specs.SessionLines.{plain, logged_after_lines}
+
+-- These lines stand first in what was read, with an LF behind the last of them, and fewer than so
+-- many bytes were read behind it.
+pub record StandsFirst (lines : List (List ℕ)) (bytes : List ℕ) (few : ℕ) : Type 0 where
+  pub front : List ℕ
+  pub behind : List ℕ
+  pub bytes_are : bytes ≡ front ++ 10 ∷ behind
+  pub lines_are : lines_of front ≡ lines
+  pub few_behind : length behind < few
+
+-- What was read for these lines: the whole input, or they stand first in it, and no more than one
+-- read was made for them.
+abbrev pub IsReadFor : List (List ℕ) → List ℕ → Option (List ℕ) → Type 0
+IsReadFor lines bytes r1 = IsAtEnd r1 ⊎ StandsFirst lines bytes 4096
+
+-- A strict run came to its end: of what was read the lines up to the first that strays were run,
+-- and the strict script was written. All events are durable. Where no line strays, the input was
+-- read to its end.
+pub record RunsStrictly {D : Type 0}
+    (stray : Option StrayLine) (old new : BookView D) (r0 r1 w0 w1 : Option (List ℕ))
+    : Type 0 where
+  pub bytes : List ℕ
+  pub read : Consumes r0 r1 bytes
+  pub stray_is : stray ≡ stray_in (plain old.session) bytes
+  pub read_for : IsReadFor (strict_lines_of (plain old.session) bytes) bytes r1
+  pub ended : stray ≡ None → IsAtEnd r1 × (length bytes ≤ LONGEST_INPUT)
+  pub within : length bytes ≤ LONGEST_INPUT + 1
+  pub session : new.session ≡
+      logged_after_lines old.session (strict_lines_of (plain old.session) bytes)
+  pub written : Appends w0 w1 (strict_script (plain old.session) bytes)
+  pub saved : new.durable ≡ new.session.state.count
+
+-- A strict run stopped, as a run does: the first lines up to the first that strays were run, and no
+-- other line was tried.
+pub record StopsStrictly
+    (why : RunFault) (b c : Logged) (r0 r1 w0 w1 : Option (List ℕ))
+    : Type 0 where
+  pub bytes : List ℕ
+  pub read : Consumes r0 r1 bytes
+  pub ran : List (List ℕ)
+  pub left : List (List ℕ)
+  pub lines_are : strict_lines_of (plain b) bytes ≡ ran ++ left
+  pub read_for : untried why left ≡ [] → IsReadFor (ran ++ left) bytes r1
+  pub stopped : IsRunStopped why left
+  pub reached : IsReached why bytes ran
+  pub session : c ≡ logged_after_lines b ran
+  pub written : IsWritten why (plain b) ran left w0 w1
+
+-- ---- for private functions: no public contract cites what follows
+
+-- None of these lines strays, where the first has the number n, and the line behind them has the
+-- number m.
+pub record Clean (n m : ℕ) (s : Session) (lines : List (List ℕ)) : Type 0 where
+  pub none : stray_from n s lines ≡ None
+  pub next : m ≡ n + length lines
+
+-- The last of these lines is the first that strays, where the first has the number n.
+pub record Found (n : ℕ) (s : Session) (lines : List (List ℕ)) (stray : StrayLine) : Type 0 where
+  pub found : stray_from n s lines ≡ Some stray
+  pub all : strict_lines s lines ≡ lines
+
+-- The lines of a part up to some LF: those that end in this front of it, and the one that the LF
+-- ends.
+abbrev pub lines_to : (begun front : List ℕ) → List (List ℕ)
+lines_to begun front = whole_lines begun front ++ open_line begun front ∷ []
+
+-- A part was run up to the line that strays, where its first line has the number n.
+pub record PartStrays
+    (stray : StrayLine) (n : ℕ) (begun part : List ℕ) (b c : Logged)
+    (before gathered : List ℕ) (w0 w1 : Option (List ℕ))
+    : Type 0 where
+  pub front : List ℕ
+  pub behind : List ℕ
+  pub part_is : part ≡ front ++ 10 ∷ behind
+  pub ran : Ran (lines_to begun front) b c before gathered w0 w1
+  pub found : Found n (plain b) (lines_to begun front) stray
+
+-- No line of it strays, and all were run.
+pub record PartClean
+    (n m : ℕ) (begun part : List ℕ) (b c : Logged) (tail before gathered : List ℕ)
+    (w0 w1 : Option (List ℕ))
+    : Type 0 where
+  pub part : PartRan begun part b c tail before gathered w0 w1
+  pub clean : Clean n m (plain b) (whole_lines begun part)
+
+-- One of both.
+abbrev pub PartRuns :
+    Option StrayLine → (n m : ℕ) → (begun part : List ℕ) → (b c : Logged)
+    → (tail before gathered : List ℕ) → (w0 w1 : Option (List ℕ)) → Type 0
+PartRuns None n m begun part b c tail before gathered w0 w1 =
+    PartClean n m begun part b c tail before gathered w0 w1
+PartRuns (Some stray) n m begun part b c tail before gathered w0 w1 =
+    PartStrays stray n begun part b c before gathered w0 w1
+
+-- A line of a part stopped, and none before it strays.
+pub record PartCut
+    (why : RunFault) (n : ℕ) (begun part : List ℕ) (b c : Logged) (before : List ℕ)
+    (w0 w1 : Option (List ℕ))
+    : Type 0 where
+  pub front : List ℕ
+  pub behind : List ℕ
+  pub part_is : part ≡ front ++ 10 ∷ behind
+  pub none : stray_from n (plain b) (whole_lines begun front) ≡ None
+  pub cut : Cut why (lines_to begun front) b c before w0 w1
+
+-- The input was read to its end, and no line that an LF ends strays.
+pub record ReadsClean
+    (m : ℕ) (b c : Logged) (tail : List ℕ) (r0 r1 w0 w1 : Option (List ℕ))
+    : Type 0 where
+  pub reads : ReadsAll b c tail r0 r1 w0 w1
+  pub clean : Clean 1 m (plain b) (whole_lines [] reads.bytes)
+
+-- The lines of a strict run were run, and their replies written or gathered.
+pub record RanStrictly
+    (stray : Option StrayLine) (b c : Logged) (gathered : List ℕ)
+    (r0 r1 w0 w1 : Option (List ℕ))
+    : Type 0 where
+  pub bytes : List ℕ
+  pub read : Consumes r0 r1 bytes
+  pub stray_is : stray ≡ stray_in (plain b) bytes
+  pub read_for : IsReadFor (strict_lines_of (plain b) bytes) bytes r1
+  pub ended : stray ≡ None → IsAtEnd r1 × (length bytes ≤ LONGEST_INPUT)
+  pub within : length bytes ≤ LONGEST_INPUT + 1
+  pub ran : Ran (strict_lines_of (plain b) bytes) b c [] gathered w0 w1
+
+-- They were up to the line that strays; else all but the last of the input were.
+abbrev pub ReadsStrictly :
+    Option StrayLine → (m : ℕ) → (b c : Logged) → (tail gathered : List ℕ)
+    → (r0 r1 w0 w1 : Option (List ℕ)) → Type 0
+ReadsStrictly None m b c tail gathered r0 r1 w0 w1 =
+    ReadsClean m b c tail r0 r1 w0 w1 × (gathered ≡ [])
+ReadsStrictly (Some stray) m b c tail gathered r0 r1 w0 w1 =
+    RanStrictly (Some stray) b c gathered r0 r1 w0 w1
