@@ -61,7 +61,12 @@ fn play_over_failure(
 }
 
 /// Plays steps over a new store, each of whose calls fails from this one on.
-fn play_over_fuse(rt: &impl Abort, alloc: Global, steps: &[Step], call: u64) -> Back<MemoryDisk> {
+pub fn play_over_fuse(
+    rt: &impl Abort,
+    alloc: Global,
+    steps: &[Step],
+    call: u64,
+) -> Back<MemoryDisk> {
     let disk = Fuse::new(formatted(rt, alloc, Layout::Small), call.saturating_sub(1));
     let (disk, fault, replies) = play_or_fail(rt, alloc, disk, steps);
     (disk.into_inner(), fault, replies)

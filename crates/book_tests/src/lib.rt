@@ -21,6 +21,8 @@ mod disks;
 #[cfg(test)]
 mod failures;
 #[cfg(test)]
+mod kills;
+#[cfg(test)]
 mod looks;
 #[cfg(test)]
 mod migrations;

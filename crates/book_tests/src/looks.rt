@@ -111,6 +111,13 @@ fn has_phases<A: Allocator>(state: &State<A>, tasks: &[TaskLook]) -> bool {
     true
 }
 
+/// Says whether two states show the same.
+pub fn are_same(one: &Listing, other: &Listing) -> bool {
+    let numbers = (one.layout, one.count, one.clock) == (other.layout, other.count, other.clock);
+    let work = one.groups == other.groups && one.tasks == other.tasks;
+    numbers && one.scopes == other.scopes && work
+}
+
 /// How far a task is.
 pub fn phase_of(listing: &Listing, task: usize) -> Option<&Phase> {
     match listing.tasks.get(task) {
