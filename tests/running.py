@@ -110,9 +110,9 @@ class Tries:
             return {}
         return {"LD_PRELOAD": self.library, **environment(self.wrong), **(hurt or {})}
 
-    def run(self, *words, lines=(), hurt=None, before=(), **how):
+    def run(self, *words, lines=(), text="", hurt=None, before=(), **how):
         """Runs the program; a file that is hurt is named by `hurt`."""
-        text = "".join(f"{it}\n" for it in lines)
+        text = text or "".join(f"{it}\n" for it in lines)
         done = subprocess.run([*before, self.program, *words], input=text, text=True, timeout=60,
                               stdout=how.pop("stdout", subprocess.PIPE), stderr=subprocess.PIPE,
                               env=self.given(hurt), **how)
