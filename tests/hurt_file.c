@@ -9,16 +9,24 @@
  *   HURT_TRIM   the number of a call, from 1: before it the file is cut short to HURT_TO bytes
  *   HURT_CUT    the number of a call, from 1: the power is cut there
  *   HURT_KEEP   what then becomes of the bytes that were written since the last sync: none is
- *               there, all is, or some (a write whole, not at all, or torn)
+ *               there, all is, or some (a write whole, not at all, or torn); or a row of 0 and 1,
+ *               one for each write, in their order: it is not there, or it is
  *   HURT_SEED   which part that is
+ *   HURT_KILL   the number of a call, from 1: the program is killed before it. What was written
+ *               stays in the system's memory, and isn't on the device
+ *   HURT_LEFT   where that is kept: as the program is killed, the writes since the last sync are
+ *               put there; and those that stand there as the program begins come before its own
+ *   HURT_STOP   the number of a call, from 1: the program stops before it (SIGSTOP); 0: before
+ *               the file is locked
+ *   HURT_LOCK   the number of an error: each lock of the file is answered so
+ *   HURT_NAME   a name: each opening of it fails, with the error of the number HURT_ERROR
  *   HURT_WRONG  makes the program one whose disk is wrong: its sync makes no call (sync), it takes
  *               a short write as whole (short), it reads from another place (place), or nothing is
  *               wrong (none)
  *
- * Reads, writes, syncs, changes of the length and the close are counted, by the number of the call.
- * A cut at a write comes while it is made, one at any other call before it. A positioned write that
- * is torn may leave bytes that nobody wrote, in its range. That a file is emptied as it is opened
- * isn't undone.
+ * Reads, writes, syncs and the close are counted, by the number of the call. A cut at a write comes
+ * while it is made, one at any other call before it. A positioned write that is torn may leave
+ * bytes that nobody wrote, in its range. That a file is emptied is neither counted nor undone.
  */
 #define _GNU_SOURCE
 #include <errno.h>
@@ -29,6 +37,7 @@
 #include <stdio.h>
 #include <stdlib.h>
 #include <string.h>
+#include <sys/file.h>
 #include <sys/stat.h>
 #include <sys/syscall.h>
 #include <unistd.h>
@@ -44,13 +53,13 @@ struct unsynced {
     unsigned char *new;
 };
 
-static const char *path, *keep, *wrong;
+static const char *path, *keep, *wrong, *left, *refused, *stop;
 static int file = -1, told = -1, is_short, is_full;
-static long calls, cut, failing, trim;
+static long calls, cut, failing, trim, killing;
 static unsigned long long room;
 static uint64_t dice, short_dice;
 static struct unsynced *row;
-static size_t rows, space;
+static size_t rows, space, before; /* (those of the program before come first) */
 
 static long number_of(const char *name)
 {
@@ -63,14 +72,64 @@ static uint64_t seed_of(const char *name)
     return (uint64_t)number_of(name) * 0x9E3779B97F4A7C15u + 0x2545F4914F6CDD1Du;
 }
 
+static void give_up(const char *why)
+{
+    dprintf(2, "hurt_file: %s\n", why);
+    _exit(99);
+}
+
+/* Room for one write more. */
+static struct unsynced *next_row(void)
+{
+    if (rows == space) {
+        space = space ? 2 * space : 64;
+        row = realloc(row, space * sizeof *row);
+    }
+    return &row[rows++];
+}
+
+/* Takes over the writes that the program before left in the system's memory. */
+static void take_left(void)
+{
+    struct unsynced it;
+    FILE *from = fopen(left, "rb");
+    while (from && fread(&it, sizeof it, 1, from)) {
+        it.old = malloc(it.count + 1);
+        it.new = malloc(it.count + 1);
+        if (fread(it.old, 1, it.count, from) + fread(it.new, 1, it.count, from) != 2 * it.count)
+            give_up("what was left ends too early");
+        *next_row() = it;
+    }
+    if (from)
+        fclose(from);
+    before = rows;
+}
+
+/* Leaves the writes since the last sync to the next program. */
+static void leave_rest(void)
+{
+    FILE *to = fopen(left, "wb");
+    for (size_t at = 0; to && at < rows; at++) {
+        fwrite(&row[at], sizeof row[at], 1, to);
+        fwrite(row[at].old, 1, row[at].count, to);
+        fwrite(row[at].new, 1, row[at].count, to);
+    }
+    if (!to || fclose(to))
+        give_up("what is left can't be kept");
+}
+
 __attribute__((constructor)) static void begin(void)
 {
     path = getenv("HURT_FILE");
+    left = getenv("HURT_LEFT");
+    refused = getenv("HURT_NAME");
+    stop = getenv("HURT_STOP");
     keep = getenv("HURT_KEEP") ? getenv("HURT_KEEP") : "none";
     wrong = getenv("HURT_WRONG") ? getenv("HURT_WRONG") : "";
     cut = number_of("HURT_CUT");
     failing = number_of("HURT_FAIL");
     trim = number_of("HURT_TRIM");
+    killing = number_of("HURT_KILL");
     is_short = getenv("HURT_SHORT") != NULL;
     is_full = getenv("HURT_ROOM") != NULL;
     room = (unsigned long long)number_of("HURT_ROOM");
@@ -79,6 +138,8 @@ __attribute__((constructor)) static void begin(void)
     if (getenv("HURT_LOG"))
         told = (int)syscall(SYS_openat, AT_FDCWD, getenv("HURT_LOG"),
                             O_WRONLY | O_CREAT | O_APPEND | O_CLOEXEC, 0644);
+    if (left)
+        take_left();
 }
 
 static uint64_t thrown(uint64_t *state, uint64_t below)
@@ -87,12 +148,6 @@ static uint64_t thrown(uint64_t *state, uint64_t below)
     *state ^= *state << 25;
     *state ^= *state >> 27;
     return (*state * 0x2545F4914F6CDD1Du >> 16) % below;
-}
-
-static void give_up(const char *why)
-{
-    dprintf(2, "hurt_file: %s\n", why);
-    _exit(99);
 }
 
 static void tell(const char *what, off_t at, size_t count)
@@ -147,6 +202,12 @@ static void tear(const struct unsynced *it)
     }
 }
 
+static void end_it(void)
+{
+    kill(getpid(), SIGKILL);
+    give_up("it wasn't killed");
+}
+
 static void cut_power(void)
 {
     size_t now = rows;
@@ -158,12 +219,13 @@ static void cut_power(void)
             if (length_of(file) > it->length && syscall(SYS_ftruncate, file, it->length))
                 give_up("the length can't be put back");
         }
-    if (!strcmp(keep, "some"))
-        for (now = 0; now < rows; now++)
+    for (now = 0; now < rows; now++)
+        if (!strcmp(keep, "some"))
             tear(&row[now]);
-    tell("cut", 0, rows);
-    kill(getpid(), SIGKILL);
-    give_up("it wasn't killed");
+        else if (now < strlen(keep) && keep[now] == '1')
+            put_back(row[now].new, row[now].count, row[now].at);
+    tell("cut", (off_t)before, rows);
+    end_it();
 }
 
 /* Counts a call, and says whether it fails. */
@@ -171,6 +233,12 @@ static int counted(const char *what, off_t at, size_t count)
 {
     calls++;
     tell(what, at, count);
+    if (stop && calls == atol(stop))
+        kill(getpid(), SIGSTOP);
+    if (calls == killing) {
+        leave_rest();
+        end_it();
+    }
     if (calls == trim && syscall(SYS_ftruncate, file, number_of("HURT_TO")))
         give_up("it can't be cut short");
     if (failing && calls >= failing) {
@@ -202,11 +270,7 @@ static ssize_t get(int fd, void *bytes, size_t count, off_t at, int placed)
 /* Makes a write, and keeps what it takes to undo it. */
 static void remember(int fd, const void *bytes, size_t count, off_t at, int placed)
 {
-    if (rows == space) {
-        space = space ? 2 * space : 64;
-        row = realloc(row, space * sizeof *row);
-    }
-    struct unsynced *it = &row[rows++];
+    struct unsynced *it = next_row();
     *it = (struct unsynced){at, count, length_of(fd), placed, calloc(1, count + 1),
                             malloc(count + 1)};
     memcpy(it->new, bytes, count);
@@ -231,7 +295,7 @@ static ssize_t put(int fd, const void *bytes, size_t whole, off_t at, int placed
         return -1;
     }
     room -= is_full ? count : 0;
-    if (!cut) {
+    if (!cut && !killing) {
         ssize_t done = placed ? syscall(SYS_pwrite64, fd, bytes, count, at)
                               : syscall(SYS_write, fd, bytes, count);
         return placed && done >= 0 && !strcmp(wrong, "short") ? (ssize_t)whole : done;
@@ -257,11 +321,16 @@ static int synced(int fd, int number)
         free(row[rows].old);
         free(row[rows].new);
     }
+    before = 0;
     return 0;
 }
 
 static int opened(int folder, const char *name, int flags, mode_t mode)
 {
+    if (refused && !strcmp(name, refused)) {
+        errno = (int)number_of("HURT_ERROR");
+        return -1;
+    }
     int fd = (int)syscall(SYS_openat, folder, name, flags, mode);
     if (fd >= 0 && path && !strcmp(name, path)) {
         if (file >= 0)
@@ -371,12 +440,25 @@ int fsync(int fd)
 
 int ftruncate64(int fd, off64_t length)
 {
+    if (fd == file && length)
+        give_up("the file gets another length");
     if (fd == file)
-        give_up("the file's length is changed");
+        tell("empty", 0, 0);
     return (int)syscall(SYS_ftruncate, fd, length);
 }
 
 int ftruncate(int fd, off_t length)
 {
     return ftruncate64(fd, length);
+}
+
+int flock(int fd, int how)
+{
+    if (fd == file && stop && !atol(stop))
+        kill(getpid(), SIGSTOP);
+    if (fd == file && number_of("HURT_LOCK")) {
+        errno = (int)number_of("HURT_LOCK");
+        return -1;
+    }
+    return (int)syscall(SYS_flock, fd, how);
 }

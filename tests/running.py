@@ -1,6 +1,7 @@
 """What the scripts over real files share: the program's runs, the libraries that hurt a file or
 refuse memory, two nights, and the count of what was tried."""
 
+import errno
 import os
 import shutil
 import subprocess
@@ -11,6 +12,15 @@ from by_hand import Store
 
 HERE = os.path.dirname(os.path.abspath(__file__))
 FAULT = "night: fault 2 DiskFailed\n"
+
+# Why a file isn't had, or why a call of it failed: the system's words, and the program's own.
+MISSING, EXISTS, FOLDER, DENIED, READ_ONLY, TOO_LARGE, FULL, FAILED = map(os.strerror, (
+    errno.ENOENT, errno.EEXIST, errno.EISDIR, errno.EACCES, errno.EROFS, errno.EFBIG,
+    errno.ENOSPC, errno.EIO))
+EARLY = "it ended early"
+IN_USE = "in use by another program"
+# An opening syncs the file before it is read, which no page of the formats counts.
+SETTLES = ("sync",)
 
 # Two nights, the second behind a restart of what the first one left. Each save comes in both slots,
 # and over a slot whose gate is closed and one whose gate is open.
@@ -43,9 +53,9 @@ class Ended:
         return f"status {self.status}, printed {self.output!r}, told {self.errors!r}"
 
 
-def failed(output=""):
-    """A run that a failed call of a file ended."""
-    return Ended(3, output, FAULT)
+def failed(name, why, output=""):
+    """A run that a failed call of the file of this name ended."""
+    return Ended(3, output, f"{FAULT}night: {name}: {why}\n")
 
 
 def fault(text):
@@ -56,13 +66,13 @@ class Tries:
     """What a script tries: so many tries of each kind, those that failed, and what it skipped."""
 
     def __init__(self, about, source="hurt_file.c"):
-        self.about, self.ran, self.bad, self.skipped = about, {}, [], []
+        self.about, self.ran, self.bad, self.skipped = about, {}, {}, []
         words = [it for it in sys.argv[1:] if not it.startswith("--")]
         program = words[0] if words else f"{HERE}/../crates/night/out/night"
         if not os.path.isfile(program):
             sys.exit(f"{about}: no program {os.path.normpath(program)}; `rt run` in crates/night"
                      " makes it")
-        self.words = words[1:]
+        self.words, self.is_short = words[1:], "--short" in sys.argv
         self.wrong = next((it[8:] for it in sys.argv[1:] if it.startswith("--wrong=")), "")
         self.made = tempfile.TemporaryDirectory(prefix="night-", dir=fast_room())
         self.folder = self.made.name
@@ -100,9 +110,9 @@ class Tries:
             return {}
         return {"LD_PRELOAD": self.library, **environment(self.wrong), **(hurt or {})}
 
-    def run(self, *words, lines=(), hurt=None, before=(), **how):
+    def run(self, *words, lines=(), text="", hurt=None, before=(), **how):
         """Runs the program; a file that is hurt is named by `hurt`."""
-        text = "".join(f"{it}\n" for it in lines)
+        text = text or "".join(f"{it}\n" for it in lines)
         done = subprocess.run([*before, self.program, *words], input=text, text=True, timeout=60,
                               stdout=how.pop("stdout", subprocess.PIPE), stderr=subprocess.PIPE,
                               env=self.given(hurt), **how)
@@ -116,17 +126,18 @@ class Tries:
         """Counts a try of this kind."""
         self.ran[kind] = self.ran.get(kind, 0) + 1
         if not is_so:
-            self.bad.append(what)
-            if len(self.bad) <= 10:
+            self.bad[kind] = self.bad.get(kind, 0) + 1
+            if sum(self.bad.values()) <= 10:
                 print(f"FAILED {kind}: {what}: {found}", flush=True)
 
     def is_same(self, kind, what, found, wanted):
         self.holds(kind, what, found == wanted, f"{found!r}, and not {wanted!r}")
 
     def is_file(self, kind, what, path, wanted):
-        found = bytes_of(path)
-        told = ""
-        if found != wanted:
+        """Compares a file's bytes with these, or with None where it isn't to be there."""
+        found = bytes_of(path) if os.path.exists(path) else None
+        told = "it is there, or it isn't"
+        if found != wanted and None not in (found, wanted):
             pairs = enumerate(zip(found, wanted))
             place = next((it for it, (one, other) in pairs if one != other), len(found))
             told = f"it has {len(found)} bytes, and the first other one is at {place}"
@@ -138,10 +149,11 @@ class Tries:
     def end(self):
         """Says what was tried and what was skipped; the exit status."""
         for kind, count in self.ran.items():
-            print(f"ran: {kind}: {count}")
+            failed = f", {self.bad[kind]} FAILED" if kind in self.bad else ""
+            print(f"ran: {kind}: {count}{failed}")
         for it in self.skipped:
             print(f"skipped: {it}")
-        print(f"{self.about}: {sum(self.ran.values())} tries, {len(self.bad)} failed")
+        print(f"{self.about}: {sum(self.ran.values())} tries, {sum(self.bad.values())} failed")
         sys.exit(1 if self.bad or not self.ran else 0)
 
 
@@ -154,6 +166,11 @@ def fast_room():
     is_roomy = found.f_bavail * found.f_frsize > 500_000_000
     is_open = os.access("/dev/shm", os.W_OK) and not found.f_flag & os.ST_NOEXEC
     return "/dev/shm" if is_roomy and is_open else None
+
+
+def remove(path):
+    if os.path.exists(path):
+        os.remove(path)
 
 
 def bytes_of(path):
@@ -173,7 +190,7 @@ class Step:
 def steps(store, lines):
     """A night by hand: the opening is its first step, the flush at the end its last."""
     before = store.acked
-    made = [Step(None, "", store.opened(), before, store.acked)]
+    made = [Step(None, "", [SETTLES, *store.opened()], before, store.acked)]
     for line in lines + ["flush"]:
         before = store.acked
         reply, calls = store.line(line)
@@ -184,6 +201,13 @@ def steps(store, lines):
 
 def replies(made):
     return "".join(it.reply for it in made)
+
+
+def steps_over(state, lines):
+    """So are those of a night over this state, with no calls."""
+    store = Store(True)
+    store.acked = state
+    return steps(store, lines)
 
 
 def calls_of(made):
