@@ -36,11 +36,11 @@ no_help kind e (inr h) = cc
 -- what is shown of a kind is an answer where that kind may be found
 shown_is_answer : (kind : ErrorKind) (kinds : Kinds) (r : Result Asked WordsFault)
     → (kind ≡ OutOfMemory) ⊎ IsAmong kind kinds → IsShown kind r → IsAnswer kinds r
-shown_is_answer kind kinds (Ok Demo) found shown = absurd shown
-shown_is_answer kind kinds (Ok (Format store)) found shown = absurd shown
-shown_is_answer kind kinds (Ok (Script store)) found shown = absurd shown
+shown_is_answer kind kinds (Ok (Demo strict)) found shown = absurd shown
+shown_is_answer kind kinds (Ok (Format store is_new)) found shown = absurd shown
+shown_is_answer kind kinds (Ok (Script store strict)) found shown = absurd shown
 shown_is_answer kind kinds (Ok (Inspect store)) found shown = absurd shown
-shown_is_answer kind kinds (Ok (Crew store workers)) found shown = absurd shown
+shown_is_answer kind kinds (Ok (Crew store workers known)) found shown = absurd shown
 shown_is_answer kind kinds (Ok (Migrate old new)) found shown = absurd shown
 shown_is_answer kind kinds (Ok (Help text)) (inl e) shown = absurd (no_help kind e shown)
 shown_is_answer kind kinds (Ok (Help text)) (inr among) shown = (kind, among, shown)
@@ -63,11 +63,11 @@ error_is_answered a words e r is_night found shown =
 -- what is shown of an error is never a command
 pub error_asks_nothing : (kind : ErrorKind) (words : List Text) (r : Result Asked WordsFault)
     → IsShown kind r → IfOk r (λ asked. AsksFor asked words)
-error_asks_nothing kind words (Ok Demo) shown = absurd shown
-error_asks_nothing kind words (Ok (Format store)) shown = absurd shown
-error_asks_nothing kind words (Ok (Script store)) shown = absurd shown
+error_asks_nothing kind words (Ok (Demo strict)) shown = absurd shown
+error_asks_nothing kind words (Ok (Format store is_new)) shown = absurd shown
+error_asks_nothing kind words (Ok (Script store strict)) shown = absurd shown
 error_asks_nothing kind words (Ok (Inspect store)) shown = absurd shown
-error_asks_nothing kind words (Ok (Crew store workers)) shown = absurd shown
+error_asks_nothing kind words (Ok (Crew store workers known)) shown = absurd shown
 error_asks_nothing kind words (Ok (Migrate old new)) shown = absurd shown
 error_asks_nothing kind words (Ok (Help text)) shown = tt
 error_asks_nothing kind words (Err fault) shown = tt
@@ -125,11 +125,11 @@ module _ (a : App) (words : List Text) (m : ArgMatches) (is_night : a ≡ night)
   pub command_is_answer : (r : Result Asked WordsFault)
       → Asks (named_by m) (new_by m) (subcommand_rows_of m) r
       → IsAnswer (faults_of words) r
-  command_is_answer (Ok Demo) asks = finds_nothing
-  command_is_answer (Ok (Format store)) asks = finds_nothing
-  command_is_answer (Ok (Script store)) asks = finds_nothing
+  command_is_answer (Ok (Demo strict)) asks = finds_nothing
+  command_is_answer (Ok (Format store is_new)) asks = finds_nothing
+  command_is_answer (Ok (Script store strict)) asks = finds_nothing
   command_is_answer (Ok (Inspect store)) asks = finds_nothing
-  command_is_answer (Ok (Crew store workers)) asks = finds_nothing
+  command_is_answer (Ok (Crew store workers known)) asks = finds_nothing
   command_is_answer (Ok (Migrate old new)) asks = finds_nothing
   command_is_answer (Ok (Help text)) asks = absurd asks
   command_is_answer (Err SameStores) asks = finds_nothing

@@ -1,7 +1,10 @@
 mod AnswerLemmas
+mod DemoLemmas
+mod FlagLemmas
 mod LevelLemmas
 mod LineLemmas
 mod NamedLemmas
 mod PairLemmas
+mod StoreLemmas
 mod TakenLemmas
 mod TurnLemmas

@@ -15,8 +15,9 @@ use Rattle.clap.specs.Walk.{Row, Text, first_of, rows_of}
 use Rattle.clap.specs.declared.parser.matches.ArgMatches.{ArgMatches}
 use Rattle.clap.specs.declared.parser.matches.ArgMatches.TheViews.{out-ArgMatches, out-SubCommand}
 use Rattle.clap.specs.declared.parser.matches.SubCommand.{SubCommand}
-use Rattle.night_words.specs.Commands.{Asks, IsCrew, IsMigration, IsNamed, Named, NamesCrew}
-use Rattle.night_words.specs.Commands.{command_in, named_by, named_in, new_by, word_in, workers_of}
+use Rattle.night_words.specs.Commands.{Asks, IsCrew, IsMigration, IsNamed, Named}
+use Rattle.night_words.specs.Commands.{NamesDemo, NamesStore, command_in, has_flag, is_true}
+use Rattle.night_words.specs.Commands.{named_by, named_in, new_by, word_in, workers_of}
 use Rattle.night_words.specs.declared.asked.Asked.{Asked}
 use Rattle.night_words.specs.declared.asked.Asked.TheVariants.{Demo, Format, Script, Inspect, Help}
 use Rattle.night_words.specs.declared.asked.Asked.TheVariants.{Crew, Migrate}
@@ -24,7 +25,7 @@ use Rattle.night_words.specs.declared.asked.WordsFault.{WordsFault}
 use Rattle.night_words.specs.declared.asked.WordsFault.TheVariants.{Memory, Mistake, NotText}
 use Rattle.night_words.specs.declared.asked.WordsFault.TheVariants.{SameStores, Workers}
 use Rattle.night_words.proofs.PairLemmas.{migrate}
-use Rattle.night_words.proofs.TakenLemmas.{clash, crew, demo, format, inspect, script}
+use Rattle.night_words.proofs.TakenLemmas.{crew, demo, format, inspect, script}
 
 -- what is read of a subcommand and of its matches
 abbrev pub Read : Type 0
@@ -99,18 +100,60 @@ pub unwrapped : (o : Option (Bor Text)) (d : Bor Text)
 unwrapped None d = refl
 unwrapped (Some s) d = refl
 
--- where the command is `crew`, what was read of its words is what the parser entered
+-- whether the words have a flag
+pub flag_here : (id : Text) (m : ArgMatches) (command : Bor Text) (inner : Bor ArgMatches)
+    (is_set : Bool)
+    → Some (rows_of (found_of inner.now)) ≡ option_map (λ p. p.1) (subcommand_rows_of m)
+    → is_set ≡ is_true (first_value (found_of inner.now) id)
+    → has_flag id (subcommand_rows_of m) ≡ is_set
+flag_here id m command inner is_set rows read =
+    ap is_true (word_here id m command inner rows) ∙ sym read
+
+-- the command
+pub command_here : (m : ArgMatches) (command : Bor Text) (word : Text)
+    → Some command.now ≡ subcommand_name_of m → command.now ≡ word
+    → command_in (subcommand_rows_of m) ≡ Some word
+command_here m command word name is =
+    entered_is (out-ArgMatches m).subcommand ∙ sym name ∙ ap (λ t. Some t) is
+
+-- where the command is `demo`, what was read is what the parser entered
+pub demo_here : (m : ArgMatches) (command : Bor Text) (inner : Bor ArgMatches) (strict : Bool)
+    → Some command.now ≡ subcommand_name_of m
+    → Some (rows_of (found_of inner.now)) ≡ option_map (λ p. p.1) (subcommand_rows_of m)
+    → command.now ≡ demo → strict ≡ is_true (first_value (found_of inner.now) (codes "strict"))
+    → NamesDemo strict (subcommand_rows_of m)
+demo_here m command inner strict name rows is read = (
+  command_here m command demo name is,
+  flag_here (codes "strict") m command inner strict rows read,
+)
+
+-- so it is where the command takes a store and a flag
+pub store_here : (m : ArgMatches) (command : Bor Text) (inner : Bor ArgMatches)
+    (word id store : Text) (is_set : Bool) → Some command.now ≡ subcommand_name_of m
+    → Some (rows_of (found_of inner.now)) ≡ option_map (λ p. p.1) (subcommand_rows_of m)
+    → command.now ≡ word → Some store ≡ first_value (found_of inner.now) (codes "STORE")
+    → is_set ≡ is_true (first_value (found_of inner.now) id)
+    → NamesStore word id store is_set (subcommand_rows_of m)
+store_here m command inner word id store is_set name rows is stored read = (
+  command_here m command word name is,
+  word_here (codes "STORE") m command inner rows ∙ sym stored,
+  flag_here id m command inner is_set rows read,
+)
+
+-- and where it is `crew`
 pub crew_here : (m : ArgMatches) (command : Bor Text) (inner : Bor ArgMatches)
-    (store : Text) (count workers : Option Text) (r : Result Asked WordsFault)
+    (store : Text) (count workers : Option Text) (known : Bool) (r : Result Asked WordsFault)
     → Some command.now ≡ subcommand_name_of m
     → Some (rows_of (found_of inner.now)) ≡ option_map (λ p. p.1) (subcommand_rows_of m)
     → command.now ≡ crew → count ≡ first_value (found_of inner.now) (codes "STORE")
     → store ≡ unwrap_or count [] → workers ≡ first_value (found_of inner.now) (codes "workers")
-    → IsCrew store workers r → Asks (named_by m) (new_by m) (subcommand_rows_of m) r
-crew_here m command inner store count workers r name rows is read whole given made = go r made
+    → known ≡ is_true (first_value (found_of inner.now) (codes "known"))
+    → IsCrew store workers known r → Asks (named_by m) (new_by m) (subcommand_rows_of m) r
+crew_here m command inner store count workers known r name rows is read whole given knows made =
+    go r made
   where
     which : command_in (subcommand_rows_of m) ≡ Some crew
-    which = entered_is (out-ArgMatches m).subcommand ∙ sym name ∙ ap (λ t. Some t) is
+    which = command_here m command crew name is
 
     stored : unwrap_or (word_in (codes "STORE") (subcommand_rows_of m)) [] ≡ store
     stored = ap (λ o. unwrap_or o []) (word_here (codes "STORE") m command inner rows ∙ sym read)
@@ -119,19 +162,27 @@ crew_here m command inner store count workers r name rows is read whole given ma
     working : word_in (codes "workers") (subcommand_rows_of m) ≡ workers
     working = word_here (codes "workers") m command inner rows ∙ sym given
 
-    go : (r : Result Asked WordsFault) → IsCrew store workers r
+    knowing : has_flag (codes "known") (subcommand_rows_of m) ≡ known
+    knowing = flag_here (codes "known") m command inner known rows knows
+
+    go : (r : Result Asked WordsFault) → IsCrew store workers known r
         → Asks (named_by m) (new_by m) (subcommand_rows_of m) r
-    go (Ok Demo) made = absurd made
-    go (Ok (Format s)) made = absurd made
-    go (Ok (Script s)) made = absurd made
+    go (Ok (Demo strict)) made = absurd made
+    go (Ok (Format s n)) made = absurd made
+    go (Ok (Script s strict)) made = absurd made
     go (Ok (Inspect s)) made = absurd made
-    go (Ok (Crew s n)) made =
-        (which, stored ∙ sym made.0, ap (λ o. workers_of o) working ∙ made.1)
+    go (Ok (Crew s n k)) made = (
+      which,
+      stored ∙ sym made.0,
+      ap (λ o. workers_of o) working ∙ made.1,
+      knowing ∙ sym made.2,
+    )
     go (Ok (Migrate o n)) made = absurd made
     go (Ok (Help text)) made = absurd made
     go (Err (Mistake text)) made = absurd made
     go (Err SameStores) made = absurd made
-    go (Err Workers) made = (store, (which, stored, ap (λ o. workers_of o) working ∙ made))
+    go (Err Workers) made =
+        (store, (known, (which, stored, ap (λ o. workers_of o) working ∙ made, knowing)))
     go (Err NotText) made = absurd made
     go (Err Memory) made = absurd made
 
@@ -167,58 +218,44 @@ store_clash named name command store none some =
     let bad : false ≡ true = ap has_store (sym none ∙ some) in
     cc
 
--- a command without a store is `demo`
+-- a command without a store is `demo` or `crew`
 pub no_store : (named : Named) (new : Option Text) (name : Text) → IsNamed named new
-    → named ≡ Some (name, None) → (name ≡ crew → ⊥) → name ≡ demo
-no_store named new name (inl e) is no_crew = ap name_in (sym is ∙ e)
-no_store named new name (inr (inl (first, e))) is no_crew =
-    absurd (no_crew (ap name_in (sym is ∙ e)))
-no_store named new name (inr (inr (store, inl e))) is no_crew =
-    absurd (store_clash named name format store is e)
-no_store named new name (inr (inr (store, inr (inl e)))) is no_crew =
-    absurd (store_clash named name script store is e)
-no_store named new name (inr (inr (store, inr (inr (inl e))))) is no_crew =
-    absurd (store_clash named name inspect store is e)
-no_store named new name (inr (inr (store, inr (inr (inr (given, e, n)))))) is no_crew =
-    absurd (store_clash named name migrate store is e)
+    → named ≡ Some (name, None) → (name ≡ demo → ⊥) → (name ≡ crew → ⊥) → ⊥
+no_store named new name (inl (first, e)) is no_demo no_crew = no_demo (ap name_in (sym is ∙ e))
+no_store named new name (inr (inl (first, e))) is no_demo no_crew =
+    no_crew (ap name_in (sym is ∙ e))
+no_store named new name (inr (inr (store, inl e))) is no_demo no_crew =
+    store_clash named name format store is e
+no_store named new name (inr (inr (store, inr (inl e)))) is no_demo no_crew =
+    store_clash named name script store is e
+no_store named new name (inr (inr (store, inr (inr (inl e))))) is no_demo no_crew =
+    store_clash named name inspect store is e
+no_store named new name (inr (inr (store, inr (inr (inr (given, e, n)))))) is no_demo no_crew =
+    store_clash named name migrate store is e
 
--- `demo` has no store
-pub demo_alone : (named : Named) (new store : Option Text) → IsNamed named new
-    → named ≡ Some (demo, store) → named ≡ Some (demo, None)
-demo_alone named new store (inl e) is = e
-demo_alone named new store (inr (inl (first, e))) is =
-    absurd (clash demo crew store first named refl is e)
-demo_alone named new store (inr (inr (s, inl e))) is =
-    absurd (clash demo format store (Some s) named refl is e)
-demo_alone named new store (inr (inr (s, inr (inl e)))) is =
-    absurd (clash demo script store (Some s) named refl is e)
-demo_alone named new store (inr (inr (s, inr (inr (inl e))))) is =
-    absurd (clash demo inspect store (Some s) named refl is e)
-demo_alone named new store (inr (inr (s, inr (inr (inr (given, e, n)))))) is =
-    absurd (clash demo migrate store (Some s) named refl is e)
-
--- a command over a store that is neither `format` nor `script` nor `inspect` nor `crew` is
--- `migrate`
+-- a command over a store that is neither `demo` nor `crew` nor `format` nor `script` nor `inspect`
+-- is `migrate`
 pub migrate_left : (named : Named) (new : Option Text) (name store : Text) → IsNamed named new
-    → named ≡ Some (name, Some store) → (name ≡ crew → ⊥) → (name ≡ format → ⊥)
-    → (name ≡ script → ⊥) → (name ≡ inspect → ⊥)
+    → named ≡ Some (name, Some store) → (name ≡ demo → ⊥) → (name ≡ crew → ⊥)
+    → (name ≡ format → ⊥) → (name ≡ script → ⊥) → (name ≡ inspect → ⊥)
     → (named ≡ Some (migrate, Some store)) × ((given : Text) × (new ≡ Some given))
-migrate_left named new name store (inl e) is no_crew no_format no_script no_inspect =
-    absurd (store_clash named demo name store e is)
-migrate_left named new name store (inr (inl (first, e))) is no_crew no_format no_script
+migrate_left named new name store (inl (first, e)) is no_demo no_crew no_format no_script
+    no_inspect =
+    absurd (no_demo (ap name_in (sym is ∙ e)))
+migrate_left named new name store (inr (inl (first, e))) is no_demo no_crew no_format no_script
     no_inspect =
     absurd (no_crew (ap name_in (sym is ∙ e)))
-migrate_left named new name store (inr (inr (s, inl e))) is no_crew no_format no_script
+migrate_left named new name store (inr (inr (s, inl e))) is no_demo no_crew no_format no_script
     no_inspect =
     absurd (no_format (ap name_in (sym is ∙ e)))
-migrate_left named new name store (inr (inr (s, inr (inl e)))) is no_crew no_format no_script
-    no_inspect =
+migrate_left named new name store (inr (inr (s, inr (inl e)))) is no_demo no_crew no_format
+    no_script no_inspect =
     absurd (no_script (ap name_in (sym is ∙ e)))
-migrate_left named new name store (inr (inr (s, inr (inr (inl e))))) is no_crew no_format
+migrate_left named new name store (inr (inr (s, inr (inr (inl e))))) is no_demo no_crew no_format
     no_script no_inspect =
     absurd (no_inspect (ap name_in (sym is ∙ e)))
-migrate_left named new name store (inr (inr (s, inr (inr (inr (given, e, n)))))) is no_crew
-    no_format no_script no_inspect =
+migrate_left named new name store (inr (inr (s, inr (inr (inr (given, e, n)))))) is no_demo
+    no_crew no_format no_script no_inspect =
     (is ∙ ap (λ m. Some (m, Some store)) (ap name_in (sym is ∙ e)), (given, n))
 
 -- a new store is there
@@ -232,11 +269,11 @@ pub migration_asks : (named : Named) (new : Option Text) (store given : Text)
     (entered : Option (Text × List Row)) (r : Result Asked WordsFault)
     → named ≡ Some (migrate, Some store) → new ≡ Some given
     → IsMigration store given r → Asks named new entered r
-migration_asks named new store given entered (Ok Demo) is fresh made = absurd made
-migration_asks named new store given entered (Ok (Format s)) is fresh made = absurd made
-migration_asks named new store given entered (Ok (Script s)) is fresh made = absurd made
+migration_asks named new store given entered (Ok (Demo strict)) is fresh made = absurd made
+migration_asks named new store given entered (Ok (Format s b)) is fresh made = absurd made
+migration_asks named new store given entered (Ok (Script s b)) is fresh made = absurd made
 migration_asks named new store given entered (Ok (Inspect s)) is fresh made = absurd made
-migration_asks named new store given entered (Ok (Crew s n)) is fresh made = absurd made
+migration_asks named new store given entered (Ok (Crew s n b)) is fresh made = absurd made
 migration_asks named new store given entered (Ok (Help text)) is fresh made = absurd made
 migration_asks named new store given entered (Ok (Migrate o n)) is fresh made = (
   is ∙ ap (λ t. Some (migrate, Some t)) (sym made.0),

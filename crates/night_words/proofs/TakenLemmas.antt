@@ -17,21 +17,24 @@ use Rattle.clap.specs.Walk.{idle}
 use Rattle.clap.specs.Walk.{nothing_held, subcommand_or_other, value, walk, walked}
 use Rattle.clap.specs.Walk.{walked_from}
 use Rattle.clap.proofs.OnLiterals.{clap_on_literals}
-use Rattle.night_words.specs.Commands.{night, Asks, AsksFor, AsksForDemo, AsksOver, AsksToMigrate}
-use Rattle.night_words.specs.Commands.{IsCausedBy, IsNamed, Named, NamesCrew, faults_of, named_in}
-use Rattle.night_words.specs.Commands.{new_in}
+use Rattle.night_words.specs.Commands.{night, Asks, AsksAlone, AsksFor, AsksForDemo}
+use Rattle.night_words.specs.Commands.{AsksForFormat, AsksForScript, AsksOver, AsksToMigrate}
+use Rattle.night_words.specs.Commands.{IsCausedBy, IsNamed, Named, NamesCrew, NamesDemo, NamesStore}
+use Rattle.night_words.specs.Commands.{command_in, faults_of, has_flag, named_in, new_in, word_in}
 use Rattle.night_words.specs.declared.asked.Asked.{Asked}
 use Rattle.night_words.specs.declared.asked.Asked.TheVariants.{Demo, Format, Script, Inspect, Help}
 use Rattle.night_words.specs.declared.asked.Asked.TheVariants.{Crew, Migrate}
 use Rattle.night_words.specs.declared.asked.WordsFault.{WordsFault}
 use Rattle.night_words.specs.declared.asked.WordsFault.TheVariants.{Memory, Mistake, NotText}
 use Rattle.night_words.specs.declared.asked.WordsFault.TheVariants.{SameStores, Workers}
+use Rattle.night_words.proofs.DemoLemmas.{demo_alone}
 use Rattle.night_words.proofs.LevelLemmas.{first_passes, lower_passes, rest_passes, start}
 use Rattle.night_words.proofs.LevelLemmas.{words_pass}
 use Rattle.night_words.proofs.PairLemmas.{behind_both, migrate}
-use Rattle.night_words.proofs.TurnLemmas.{above, above_is_strict, demo_is_strict, demo_shape}
-use Rattle.night_words.proofs.TurnLemmas.{first_none, held, mark, mark_or_value, second_none}
-use Rattle.night_words.proofs.TurnLemmas.{store_is_strict, store_shape}
+use Rattle.night_words.proofs.StoreLemmas.{NamesAlone, behind_store, formats, names_alone}
+use Rattle.night_words.proofs.StoreLemmas.{scripts}
+use Rattle.night_words.proofs.TurnLemmas.{above, above_is_strict, first_none, held, mark}
+use Rattle.night_words.proofs.TurnLemmas.{mark_or_value, second_none, store_is_strict, store_shape}
 
 -- the names that the parser knows
 abbrev names : Names
@@ -160,37 +163,6 @@ new_at : (name command : Text) (rest : List Text)
     → new_in (subcommand_of night (name ∷ command ∷ rest))
     ≡ new_in (entered (built night) (Some (command, rest)))
 new_at name command rest met = ap (λ o. new_in (entered (built night) o)) met
-
--- ---- behind `demo`
-
--- the first word is the mark
-demo_mark_first : (x : Text) (rest : List Text)
-    → level_fault demo_shape [] nothing_held (x ∷ rest) false [] ≡ [] → x ≡ mark
-demo_mark_first x rest none =
-    let turn = first_passes demo_shape [] start x rest
-    (words_pass demo_shape [] (x ∷ rest) false [] none) in
-    let fails : step_fault demo_shape 1 nothing_held value ≡ [] → ⊥ = λ bad. cc in
-    only_the_mark demo_shape x fails
-    (mark_or_value demo_shape demo_is_strict 1 x [] None (first_none _ _ turn))
-    (second_none _ _ turn)
-
--- behind the mark each word is one that nothing takes
-demo_stray : (word : Text)
-    → turn_fault demo_shape [] (walked demo_shape.rules [] start mark) word ≡ [] → ⊥
-unfolding walked
-demo_stray word none = cc
-
--- there stands nothing, or the mark
-behind_demo : (rest : List Text) → level_fault demo_shape [] nothing_held rest false [] ≡ []
-    → (rest ≡ []) ⊎ (rest ≡ mark ∷ [])
-behind_demo [] none = inl refl
-behind_demo (x ∷ []) none = inr (ap (λ t. t ∷ []) (demo_mark_first x [] none))
-behind_demo (x ∷ y ∷ ys) none =
-    let Walks : Text → Type 0 = λ t. walk_fault demo_shape [] start (t ∷ y ∷ ys) ≡ [] in
-    let walks = subst Walks (demo_mark_first x (y ∷ ys) none)
-    (words_pass demo_shape [] (x ∷ y ∷ ys) false [] none) in
-    absurd (demo_stray y (first_passes demo_shape [] (walked demo_shape.rules [] start mark) y ys
-    (rest_passes demo_shape [] start mark (y ∷ ys) walks)))
 
 -- ---- behind a command over a store
 
@@ -345,13 +317,18 @@ module _ (command : Text) where
 
 -- ---- all of the words
 
+-- the words without their flag ask for this
+abbrev Without : Text → List Text → Type 0 → Type 0
+Without id words asks = has_flag id (subcommand_of night words) ≡ false → asks
+
 -- what words ask for in which nothing is found, and what the parser names then
 pub data IsTaken (words : List Text) (named : Named) (new : Option Text) : Type 0 where
-  takes_demo : AsksForDemo words → named ≡ Some (demo, None) → IsTaken words named new
-  takes_format : (store : Text) → AsksOver format store words
-      → named ≡ Some (format, Some store) → IsTaken words named new
-  takes_script : (store : Text) → AsksOver script store words
-      → named ≡ Some (script, Some store) → IsTaken words named new
+  takes_demo : (first : Option Text) → named ≡ Some (demo, first)
+      → Without (codes "strict") words (AsksAlone demo words) → IsTaken words named new
+  takes_format : (store : Text) → named ≡ Some (format, Some store)
+      → Without (codes "new") words (AsksOver format store words) → IsTaken words named new
+  takes_script : (store : Text) → named ≡ Some (script, Some store)
+      → Without (codes "strict") words (AsksOver script store words) → IsTaken words named new
   takes_inspect : (store : Text) → AsksOver inspect store words
       → named ≡ Some (inspect, Some store) → IsTaken words named new
   takes_migrate : (store given : Text) → AsksToMigrate store given words
@@ -370,20 +347,15 @@ Taken words = IsTaken words (named_of words) (new_of words)
 abbrev Finds : List Text → Type 0
 Finds words = built_fault (built night) nothing_held words ≡ []
 
--- what is named behind `demo`
-names_demo : (rest : List Text) → (rest ≡ []) ⊎ (rest ≡ mark ∷ [])
-    → named_in (entered (built night) (Some (demo, rest))) ≡ Some (demo, None)
-unfolding clap_on_literals
-names_demo rest (inl e) =
-    let named : named_in (entered (built night) (Some (demo, []))) ≡ Some (demo, None) = refl in
-    ap (λ r. named_in (entered (built night) (Some (demo, r)))) e ∙ named
-names_demo rest (inr e) =
-    let named : named_in (entered (built night) (Some (demo, mark ∷ []))) ≡ Some (demo, None)
-    = refl in
-    ap (λ r. named_in (entered (built night) (Some (demo, r)))) e ∙ named
+-- whether the words have a flag where the walk stops there
+flag_at : (id name command : Text) (rest : List Text)
+    → stop (command ∷ rest) ≡ Some (command, rest)
+    → has_flag id (subcommand_of night (name ∷ command ∷ rest))
+    ≡ has_flag id (entered (built night) (Some (command, rest)))
+flag_at id name command rest met = ap (λ o. has_flag id (entered (built night) o)) met
 
 asks_demo : (name : Text) (rest : List Text) → (rest ≡ []) ⊎ (rest ≡ mark ∷ [])
-    → AsksForDemo (name ∷ demo ∷ rest)
+    → AsksAlone demo (name ∷ demo ∷ rest)
 asks_demo name rest (inl e) = (name, inl (ap (λ r. name ∷ demo ∷ r) e))
 asks_demo name rest (inr e) = (name, inr (ap (λ r. name ∷ demo ∷ r) e))
 
@@ -392,8 +364,9 @@ demo_taken : (name : Text) (rest : List Text) → Finds (demo ∷ rest)
 unfolding walked
 demo_taken name rest none =
     let met = keeps_words demo [] rest (walked above.rules names start demo) refl in
-    let which = behind_demo rest (below_passes demo rest met none) in
-    takes_demo (asks_demo name rest which) (named_at name demo rest met ∙ names_demo rest which)
+    takes_demo _ (named_at name demo rest met)
+    (λ unset. asks_demo name rest (demo_alone rest (below_passes demo rest met none)
+    (sym (flag_at (codes "strict") name demo rest met) ∙ unset)))
 
 -- the words behind a command that name a store ask for it
 asks_over : (name command store : Text) (rest : List Text)
@@ -410,18 +383,20 @@ format_taken : (name : Text) (rest : List Text) → Finds (format ∷ rest)
 unfolding walked
 format_taken name rest none =
     let met = keeps_words format [] rest (walked above.rules names start format) refl in
-    let b = behind format rest (below_passes format rest met none) in
-    takes_format b.store (asks_over name format b.store rest b.words)
-    (named_at name format rest met ∙ ap (λ s. Some (format, s)) b.read)
+    let b = behind_store formats rest (below_passes format rest met none) in
+    takes_format b.store (named_at name format rest met ∙ ap (λ s. Some (format, s)) b.read)
+    (λ unset. asks_over name format b.store rest
+    (b.alone (sym (flag_at (codes "new") name format rest met) ∙ unset)))
 
 script_taken : (name : Text) (rest : List Text) → Finds (script ∷ rest)
     → Taken (name ∷ script ∷ rest)
 unfolding walked
 script_taken name rest none =
     let met = keeps_words script [] rest (walked above.rules names start script) refl in
-    let b = behind script rest (below_passes script rest met none) in
-    takes_script b.store (asks_over name script b.store rest b.words)
-    (named_at name script rest met ∙ ap (λ s. Some (script, s)) b.read)
+    let b = behind_store scripts rest (below_passes script rest met none) in
+    takes_script b.store (named_at name script rest met ∙ ap (λ s. Some (script, s)) b.read)
+    (λ unset. asks_over name script b.store rest
+    (b.alone (sym (flag_at (codes "strict") name script rest met) ∙ unset)))
 
 inspect_taken : (name : Text) (rest : List Text) → Finds (inspect ∷ rest)
     → Taken (name ∷ inspect ∷ rest)
@@ -514,9 +489,9 @@ taken (name ∷ word ∷ rest) none = go (first_word word (first_passes above na
 -- a command is named
 pub taken_is_named : (words : List Text) (named : Named) (new : Option Text)
     → IsTaken words named new → IsNamed named new
-taken_is_named words named new (takes_demo a e) = inl e
-taken_is_named words named new (takes_format store a e) = inr (inr (store, inl e))
-taken_is_named words named new (takes_script store a e) = inr (inr (store, inr (inl e)))
+taken_is_named words named new (takes_demo first e a) = inl (first, e)
+taken_is_named words named new (takes_format store e a) = inr (inr (store, inl e))
+taken_is_named words named new (takes_script store e a) = inr (inr (store, inr (inl e)))
 taken_is_named words named new (takes_inspect store a e) = inr (inr (store, inr (inr (inl e))))
 taken_is_named words named new (takes_migrate store given a e n) =
     inr (inr (store, inr (inr (inr (given, e, n)))))
@@ -549,11 +524,11 @@ text_is s t new one other =
 migrates : (words : List Text) (named : Named) (new : Option Text) (old given : Text)
     → IsTaken words named new → named ≡ Some (migrate, Some old) → new ≡ Some given
     → AsksToMigrate old given words
-migrates words named new old given (takes_demo a e) is fresh =
+migrates words named new old given (takes_demo first e a) is fresh =
     absurd (clash demo migrate _ _ named refl e is)
-migrates words named new old given (takes_format s a e) is fresh =
+migrates words named new old given (takes_format s e a) is fresh =
     absurd (clash format migrate _ _ named refl e is)
-migrates words named new old given (takes_script s a e) is fresh =
+migrates words named new old given (takes_script s e a) is fresh =
     absurd (clash script migrate _ _ named refl e is)
 migrates words named new old given (takes_inspect s a e) is fresh =
     absurd (clash inspect migrate _ _ named refl e is)
@@ -563,59 +538,35 @@ migrates words named new old given (takes_migrate s t a e n) is fresh =
     subst (λ (u : Text). AsksToMigrate u given words) (store_is migrate s old named e is)
     (subst (λ (u : Text). AsksToMigrate s u words) (text_is t given new n fresh) a)
 
+-- and so is one that is named behind `inspect`
+inspects : (words : List Text) (named : Named) (new : Option Text) (store : Text)
+    → IsTaken words named new → named ≡ Some (inspect, Some store) → AsksOver inspect store words
+inspects words named new store (takes_demo first e a) is =
+    absurd (clash demo inspect _ _ named refl e is)
+inspects words named new store (takes_format s e a) is =
+    absurd (clash format inspect _ _ named refl e is)
+inspects words named new store (takes_script s e a) is =
+    absurd (clash script inspect _ _ named refl e is)
+inspects words named new store (takes_crew first e) is =
+    absurd (clash crew inspect _ _ named refl e is)
+inspects words named new store (takes_migrate s g a e n) is =
+    absurd (clash migrate inspect _ _ named refl e is)
+inspects words named new store (takes_inspect s a e) is =
+    subst (λ (u : Text). AsksOver inspect u words) (store_is inspect s store named e is) a
+
 -- and what asks for it is asked for
 pub taken_asks : (words : List Text) (named : Named) (new : Option Text)
     (entered : Option (Text × List Row)) (asked : Asked) → entered ≡ subcommand_of night words
     → IsTaken words named new → Asks named new entered (Ok asked) → AsksFor asked words
-taken_asks words named new entered Demo same (takes_demo a e) is = a
-taken_asks words named new entered Demo same (takes_format s a e) is =
-    absurd (clash format demo _ _ named refl e is)
-taken_asks words named new entered Demo same (takes_script s a e) is =
-    absurd (clash script demo _ _ named refl e is)
-taken_asks words named new entered Demo same (takes_inspect s a e) is =
-    absurd (clash inspect demo _ _ named refl e is)
-taken_asks words named new entered Demo same (takes_migrate s g a e n) is =
-    absurd (clash migrate demo _ _ named refl e is)
-taken_asks words named new entered Demo same (takes_crew first e) is =
-    absurd (clash crew demo _ _ named refl e is)
-taken_asks words named new entered (Format t) same (takes_demo a e) is =
-    absurd (clash demo format _ _ named refl e is)
-taken_asks words named new entered (Format t) same (takes_format s a e) is =
-    subst (λ (u : Text). AsksOver format u words) (store_is format s t.now named e is) a
-taken_asks words named new entered (Format t) same (takes_script s a e) is =
-    absurd (clash script format _ _ named refl e is)
-taken_asks words named new entered (Format t) same (takes_inspect s a e) is =
-    absurd (clash inspect format _ _ named refl e is)
-taken_asks words named new entered (Format t) same (takes_migrate s g a e n) is =
-    absurd (clash migrate format _ _ named refl e is)
-taken_asks words named new entered (Format t) same (takes_crew first e) is =
-    absurd (clash crew format _ _ named refl e is)
-taken_asks words named new entered (Script t) same (takes_demo a e) is =
-    absurd (clash demo script _ _ named refl e is)
-taken_asks words named new entered (Script t) same (takes_format s a e) is =
-    absurd (clash format script _ _ named refl e is)
-taken_asks words named new entered (Script t) same (takes_script s a e) is =
-    subst (λ (u : Text). AsksOver script u words) (store_is script s t.now named e is) a
-taken_asks words named new entered (Script t) same (takes_inspect s a e) is =
-    absurd (clash inspect script _ _ named refl e is)
-taken_asks words named new entered (Script t) same (takes_migrate s g a e n) is =
-    absurd (clash migrate script _ _ named refl e is)
-taken_asks words named new entered (Script t) same (takes_crew first e) is =
-    absurd (clash crew script _ _ named refl e is)
-taken_asks words named new entered (Inspect t) same (takes_demo a e) is =
-    absurd (clash demo inspect _ _ named refl e is)
-taken_asks words named new entered (Inspect t) same (takes_format s a e) is =
-    absurd (clash format inspect _ _ named refl e is)
-taken_asks words named new entered (Inspect t) same (takes_script s a e) is =
-    absurd (clash script inspect _ _ named refl e is)
-taken_asks words named new entered (Inspect t) same (takes_inspect s a e) is =
-    subst (λ (u : Text). AsksOver inspect u words) (store_is inspect s t.now named e is) a
-taken_asks words named new entered (Inspect t) same (takes_migrate s g a e n) is =
-    absurd (clash migrate inspect _ _ named refl e is)
-taken_asks words named new entered (Inspect t) same (takes_crew first e) is =
-    absurd (clash crew inspect _ _ named refl e is)
-taken_asks words named new entered (Crew store n) same t is =
-    subst (λ e. NamesCrew store.now (Some n) e) same is
+taken_asks words named new entered (Demo strict) same t is = subst (NamesDemo strict) same is
+taken_asks words named new entered (Format store n) same t is =
+    subst (NamesStore format (codes "new") store.now n) same is
+taken_asks words named new entered (Script store strict) same t is =
+    subst (NamesStore script (codes "strict") store.now strict) same is
+taken_asks words named new entered (Inspect store) same t is =
+    inspects words named new store.now t is
+taken_asks words named new entered (Crew store n known) same t is =
+    subst (NamesCrew store.now (Some n) known) same is
 taken_asks words named new entered (Migrate o g) same t is =
     (migrates words named new o.now g.now t is.0 is.1, is.2)
 taken_asks words named new entered (Help text) same t is = absurd is
@@ -627,7 +578,135 @@ pub taken_fails : (words : List Text) (named : Named) (new : Option Text)
 taken_fails words named new entered SameStores same t is =
     (is.0, migrates words named new is.0 is.0 t is.1 is.2)
 taken_fails words named new entered Workers same t is =
-    (is.0, subst (λ e. NamesCrew is.0 None e) same is.1)
+    (is.0, (is.1.0, subst (NamesCrew is.0 None is.1.0) same is.1.1))
 taken_fails words named new entered (Mistake text) same t is = absurd is
 taken_fails words named new entered NotText same t is = absurd is
 taken_fails words named new entered Memory same t is = absurd is
+
+-- ---- words without a flag
+
+-- the command that the parser entered is the one that is named
+not_named : (e : Option (Text × List Row)) (c d : Text) (first : Option Text)
+    → bytes_eq c d ≡ false → named_in e ≡ Some (c, first) → command_in e ≡ Some d → ⊥
+not_named None c d first differ named entered = cc
+not_named (Some e) c d first differ named entered =
+    let text : Option Text → Text = λ o. option_map_or (λ (t : Text). t) o [] in
+    let name : Named → Option Text = option_map (λ (p : Text × Option Text). p.0) in
+    let is : c ≡ d = ap text (sym (ap name named) ∙ entered) in
+    let bad : true ≡ false = sym ((bytes_eq-Decides c d).1 is) ∙ differ in
+    cc
+
+-- and so is the store
+store_read : (e : Option (Text × List Row)) (c s store : Text) → named_in e ≡ Some (c, Some s)
+    → word_in (codes "STORE") e ≡ Some store → s ≡ store
+store_read None c s store named read = cc
+store_read (Some e) c s store named read =
+    let text : Option Text → Text = λ o. option_map_or (λ (t : Text). t) o [] in
+    let inner : Named → Option Text = λ n.
+    option_map_or (λ (p : Text × Option Text). p.1) n None in
+    ap text (sym (ap inner named) ∙ read)
+
+module _ (words : List Text) where
+  abbrev entry : Option (Text × List Row)
+  entry = subcommand_of night words
+
+  pub demo_without : faults_of words ≡ [] → AsksForDemo false words → AsksAlone demo words
+  demo_without none asks = go (taken words none)
+    where
+      other : (c : Text) (first : Option Text) → bytes_eq c demo ≡ false
+          → named_of words ≡ Some (c, first) → ⊥
+      other c first differ named = not_named entry c demo first differ named asks.0
+
+      go : Taken words → AsksAlone demo words
+      go (takes_demo first e a) = a asks.1
+      go (takes_format s e a) = absurd (other format _ refl e)
+      go (takes_script s e a) = absurd (other script _ refl e)
+      go (takes_inspect s a e) = absurd (other inspect _ refl e)
+      go (takes_migrate s g a e n) = absurd (other migrate _ refl e)
+      go (takes_crew first e) = absurd (other crew _ refl e)
+
+  pub format_without : (store : Text) → faults_of words ≡ [] → AsksForFormat store false words
+      → AsksOver format store words
+  format_without store none asks = go (taken words none)
+    where
+      other : (c : Text) (first : Option Text) → bytes_eq c format ≡ false
+          → named_of words ≡ Some (c, first) → ⊥
+      other c first differ named = not_named entry c format first differ named asks.0
+
+      go : Taken words → AsksOver format store words
+      go (takes_demo first e a) = absurd (other demo _ refl e)
+      go (takes_format s e a) = subst (λ (u : Text). AsksOver format u words)
+          (store_read entry format s store e asks.1) (a asks.2)
+      go (takes_script s e a) = absurd (other script _ refl e)
+      go (takes_inspect s a e) = absurd (other inspect _ refl e)
+      go (takes_migrate s g a e n) = absurd (other migrate _ refl e)
+      go (takes_crew first e) = absurd (other crew _ refl e)
+
+  pub script_without : (store : Text) → faults_of words ≡ [] → AsksForScript store false words
+      → AsksOver script store words
+  script_without store none asks = go (taken words none)
+    where
+      other : (c : Text) (first : Option Text) → bytes_eq c script ≡ false
+          → named_of words ≡ Some (c, first) → ⊥
+      other c first differ named = not_named entry c script first differ named asks.0
+
+      go : Taken words → AsksOver script store words
+      go (takes_demo first e a) = absurd (other demo _ refl e)
+      go (takes_format s e a) = absurd (other format _ refl e)
+      go (takes_script s e a) = subst (λ (u : Text). AsksOver script u words)
+          (store_read entry script s store e asks.1) (a asks.2)
+      go (takes_inspect s a e) = absurd (other inspect _ refl e)
+      go (takes_migrate s g a e n) = absurd (other migrate _ refl e)
+      go (takes_crew first e) = absurd (other crew _ refl e)
+
+-- ---- and back
+
+format_rest : (name store : Text) (rest : List Text) → Finds (format ∷ rest)
+    → NamesAlone store rest → AsksForFormat store false (name ∷ format ∷ rest)
+unfolding walked
+format_rest name store rest none alone =
+    let met = keeps_words format [] rest (walked above.rules names start format) refl in
+    let b = names_alone formats store rest alone (below_passes format rest met none) in (
+      ap (λ o. command_in (entered (built night) o)) met,
+      ap (λ o. word_in (codes "STORE") (entered (built night) o)) met ∙ b.0,
+      flag_at (codes "new") name format rest met ∙ b.1,
+    )
+
+script_rest : (name store : Text) (rest : List Text) → Finds (script ∷ rest)
+    → NamesAlone store rest → AsksForScript store false (name ∷ script ∷ rest)
+unfolding walked
+script_rest name store rest none alone =
+    let met = keeps_words script [] rest (walked above.rules names start script) refl in
+    let b = names_alone scripts store rest alone (below_passes script rest met none) in (
+      ap (λ o. command_in (entered (built night) o)) met,
+      ap (λ o. word_in (codes "STORE") (entered (built night) o)) met ∙ b.0,
+      flag_at (codes "strict") name script rest met ∙ b.1,
+    )
+
+pub format_alone : (store : Text) (words : List Text) → faults_of words ≡ []
+    → AsksOver format store words → AsksForFormat store false words
+format_alone store words none (name, inl e) =
+    subst (AsksForFormat store false) (sym e)
+    (format_rest name store (store ∷ []) (subst (λ w. faults_of w ≡ []) e none) (inl refl))
+format_alone store words none (name, inr (inl e)) =
+    subst (AsksForFormat store false) (sym e)
+    (format_rest name store (mark ∷ store ∷ []) (subst (λ w. faults_of w ≡ []) e none)
+    (inr (inl refl)))
+format_alone store words none (name, inr (inr e)) =
+    subst (AsksForFormat store false) (sym e)
+    (format_rest name store (store ∷ mark ∷ []) (subst (λ w. faults_of w ≡ []) e none)
+    (inr (inr refl)))
+
+pub script_alone : (store : Text) (words : List Text) → faults_of words ≡ []
+    → AsksOver script store words → AsksForScript store false words
+script_alone store words none (name, inl e) =
+    subst (AsksForScript store false) (sym e)
+    (script_rest name store (store ∷ []) (subst (λ w. faults_of w ≡ []) e none) (inl refl))
+script_alone store words none (name, inr (inl e)) =
+    subst (AsksForScript store false) (sym e)
+    (script_rest name store (mark ∷ store ∷ []) (subst (λ w. faults_of w ≡ []) e none)
+    (inr (inl refl)))
+script_alone store words none (name, inr (inr e)) =
+    subst (AsksForScript store false) (sym e)
+    (script_rest name store (store ∷ mark ∷ []) (subst (λ w. faults_of w ≡ []) e none)
+    (inr (inr refl)))

@@ -55,24 +55,28 @@ found_of_one p P a none first = go (p a)
     go true = first
     go false = none
 
+-- each word that looks like short flags is found
+abbrev pub ShortsFail : Shape → Type 0
+ShortsFail s = (x : ℕ) (rest : Text) (h : Held) (next : Held → Kinds)
+    → short_fault s.rules s.args_override_self (arg_by_short s.rules x) rest h next ≡ [] → ⊥
+
 -- a command's flags ask for help or the version, so that each word that looks like one is found
 pub record IsStrict (s : Shape) : Type 0 where
   pub longs : (name : Text) (v : Option Text) (h : Held)
       → long_fault s.rules s.args_override_self (arg_by_long s.rules name) v h ≡ [] → ⊥
-  pub shorts : (x : ℕ) (rest : Text) (h : Held) (next : Held → Kinds)
-      → short_fault s.rules s.args_override_self (arg_by_short s.rules x) rest h next ≡ [] → ⊥
+  pub shorts : ShortsFail s
 
 -- what a bundle of flags comes to
 abbrev flagged : Shape → Text → Held × Outcome → Held × Step
 flagged s word met = after_flag s.rules idle word met.0 met.1
 
 -- a bundle of flags in which nothing is found is a value
-bundle_is_value : (s : Shape) → IsStrict s → (word flags : Text) (h : Held) (k : ℕ)
+bundle_is_value : (s : Shape) → ShortsFail s → (word flags : Text) (h : Held) (k : ℕ)
     → flags_fault s.rules s.args_override_self k flags 0 h ≡ []
     → flagged s word (bundle_met s.rules k flags 0 plain h) ≡ (h, value)
 unfolding flags_fault bundle_met
-bundle_is_value s strict word flags h zero none = refl
-bundle_is_value s strict word flags h (suc k) none = go (slice_get (chars flags) 0) none
+bundle_is_value s shorts word flags h zero none = refl
+bundle_is_value s shorts word flags h (suc k) none = go (slice_get (chars flags) 0) none
   where
     go : (x : Option ℕ)
         → bundle_step_fault s.rules s.args_override_self x flags 0 h
@@ -80,23 +84,24 @@ bundle_is_value s strict word flags h (suc k) none = go (slice_get (chars flags)
         → flagged s word (bundle_step s.rules x flags 0 plain h (bundle_met s.rules k))
         ≡ (h, value)
     go None none = refl
-    go (Some x) none = absurd (strict.shorts x _ h _ none)
+    go (Some x) none = absurd (shorts x _ h _ none)
 
 -- so is a word that begins with one hyphen, or with none
-short_is_value : (s : Shape) → IsStrict s → (word : Text) (flags : Option Text) (r : List Row)
+pub short_is_value : (s : Shape) → ShortsFail s → (word : Text) (flags : Option Text) (r : List Row)
     (p : Option (Text × List Text))
     → option_map_or (λ f. bundle_fault s.rules s.args_override_self f (held r p)) flags [] ≡ []
     → short_or_plain s.rules idle word flags (held r p) ≡ (held r p, value)
-short_is_value s strict word None r p none = refl
-short_is_value s strict word (Some flags) r p none =
-    bundle_is_value s strict word flags (held r p) (length flags) none
+short_is_value s shorts word None r p none = refl
+short_is_value s shorts word (Some flags) r p none =
+    bundle_is_value s shorts word flags (held r p) (length flags) none
 
 -- and one that begins with two hyphens, or with fewer
 long_is_value : (s : Shape) → IsStrict s → (word : Text) (long : Option (Text × Option Text))
     (r : List Row) (p : Option (Text × List Text))
     → flag_word_fault s.rules s.args_override_self long word (held r p) ≡ []
     → long_or_other s.rules idle word long (held r p) ≡ (held r p, value)
-long_is_value s strict word None r p none = short_is_value s strict word (short_of word) r p none
+long_is_value s strict word None r p none =
+    short_is_value s strict.shorts word (short_of word) r p none
 long_is_value s strict word (Some q) r p none = absurd (strict.longs q.0 q.1 (held r p) none)
 
 -- a word in which nothing is found, and which names no command
@@ -114,28 +119,25 @@ mark_or_value s strict position word r p none = go (bytes_eq word mark) refl non
     go true same none = inl ((bytes_eq-Decides word mark).0 same)
     go false other none = inr (long_is_value s strict word (long_of word) r p none)
 
--- `night` above its commands, and each command
+-- `night` above its commands
 abbrev pub above : Shape
 above = (built night).top
 
-abbrev pub demo_shape : Shape
-demo_shape = slice_index_or (built night).subs 0 above
-
--- a command over a store, by its name
+-- a command over a store that takes no flag, by its name
 abbrev pub store_shape : Text → Shape
-store_shape name = record (slice_index_or (built night).subs 1 above) { name = name }
+store_shape name = record (slice_index_or (built night).subs 3 above) { name = name }
 
 -- `migrate`
 abbrev pub migrate_shape : Shape
 migrate_shape = slice_index_or (built night).subs 4 above
 
-abbrev flag_of : Shape → ℕ → Rule
+abbrev pub flag_of : Shape → ℕ → Rule
 flag_of s i = slice_index_or s.rules i help_rule
 
-abbrev has_name : Text → Rule → Bool
+abbrev pub has_name : Text → Rule → Bool
 has_name name a = not (is_some a.index) && has_long a name
 
-abbrev has_letter : ℕ → Rule → Bool
+abbrev pub has_letter : ℕ → Rule → Bool
 has_letter x a = not (is_some a.index) && has_short a x
 
 -- what a long flag, found or not, comes to
@@ -143,12 +145,12 @@ abbrev LongFails : Shape → Option Text → Held → Option Rule → Type 0
 LongFails s v h o = long_fault s.rules s.args_override_self o v h ≡ [] → ⊥
 
 -- what a short flag, found or not, comes to
-abbrev ShortFails : Shape → Text → Held → (Held → Kinds) → Option Rule → Type 0
+abbrev pub ShortFails : Shape → Text → Held → (Held → Kinds) → Option Rule → Type 0
 ShortFails s rest h next o =
     short_fault s.rules s.args_override_self o rest h next ≡ [] → ⊥
 
 -- a flag that asks for help is found, whatever is held
-help_is_found : (a b : Kinds) (k : ErrorKind) → or_else a (k ∷ b) ≡ [] → ⊥
+pub help_is_found : (a b : Kinds) (k : ErrorKind) → or_else a (k ∷ b) ≡ [] → ⊥
 help_is_found a b k none =
     let bad = second_none a (k ∷ b) none in
     cc
@@ -183,29 +185,6 @@ above_shorts x rest h next =
 
 pub above_is_strict : IsStrict above
 above_is_strict = record { longs = above_longs; shorts = above_shorts }
-
-demo_longs : (name : Text) (v : Option Text) (h : Held)
-    → LongFails demo_shape v h (arg_by_long demo_shape.rules name)
-demo_longs name None h =
-    let no : LongFails demo_shape None h None = λ none. cc in
-    let help : LongFails demo_shape None h (Some (flag_of demo_shape 0)) = λ none.
-    help_is_found _ _ _ none in
-    found_of_one (has_name name) (LongFails demo_shape None h) (flag_of demo_shape 0) no help
-demo_longs name (Some v) h =
-    let no : LongFails demo_shape (Some v) h None = λ none. cc in
-    let help : LongFails demo_shape (Some v) h (Some (flag_of demo_shape 0)) = λ none. cc in
-    found_of_one (has_name name) (LongFails demo_shape (Some v) h) (flag_of demo_shape 0) no help
-
-demo_shorts : (x : ℕ) (rest : Text) (h : Held) (next : Held → Kinds)
-    → ShortFails demo_shape rest h next (arg_by_short demo_shape.rules x)
-demo_shorts x rest h next =
-    let no : ShortFails demo_shape rest h next None = λ none. cc in
-    let help : ShortFails demo_shape rest h next (Some (flag_of demo_shape 0)) = λ none.
-    help_is_found _ _ _ (first_none _ _ none) in
-    found_of_one (has_letter x) (ShortFails demo_shape rest h next) (flag_of demo_shape 0) no help
-
-pub demo_is_strict : IsStrict demo_shape
-demo_is_strict = record { longs = demo_longs; shorts = demo_shorts }
 
 module _ (command : Text) where
   -- a command over a store: its word has a place, so no flag is searched there

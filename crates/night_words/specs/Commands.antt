@@ -1,12 +1,14 @@
 -- Which words the command line takes.
 use Rattle.std.specs.Prelude.{◌≡◌, ◌≢◌, ◌⊎◌, ◌∷◌, [], ℕ, List, Option, Some, None, Result, Ok, Err}
 use Rattle.std.specs.Prelude.{◌&&◌, ◌-◌, codes, if◌then◌else◌, nat_le, option_and_then, option_map}
-use Rattle.std.specs.Prelude.{true, unwrap_or}
+use Rattle.std.specs.Prelude.{Bool, false, true, unwrap_or}
+use Rattle.std.specs.Option.{option_map_or}
+use Rattle.std.specs.Str.{bytes_eq}
 use Rattle.std.specs.String.{string_bytes}
 use Rattle.clap.specs.Words.{App, IsAmong, Kinds, Row, Rule, Shape, Text, fault_of, first_of}
 use Rattle.clap.specs.Words.{new_app, new_rule, subcommand_of, subcommand_rows_of, with_rule}
 use Rattle.clap.specs.Words.{with_subcommand}
-use Rattle.clap.specs.declared.builder.action.ArgAction.TheVariants.{Set}
+use Rattle.clap.specs.declared.builder.action.ArgAction.TheVariants.{Set, SetTrue}
 use Rattle.clap.specs.declared.error.kind.ErrorKind.{ErrorKind}
 use Rattle.clap.specs.declared.error.kind.ErrorKind.TheVariants.{DisplayHelp, DisplayVersion}
 use Rattle.clap.specs.declared.error.kind.ErrorKind.TheVariants.{OutOfMemory}
@@ -28,9 +30,13 @@ night_alone = record (new_app (codes "night")).top {
   subcommand_required = true;
 }
 
--- a command that takes no word
+-- a flag, which stands alone
+abbrev pub flag : Text → Rule
+flag id = record (new_rule id) { long = Some id; action = Some SetTrue }
+
+-- a command that takes a flag, and no word
 abbrev pub demo_line : App
-demo_line = new_app (codes "demo")
+demo_line = with_rule (new_app (codes "demo")) (flag (codes "strict"))
 
 -- a word that names a store, which is wanted; help has one name for it
 abbrev pub wanted : Text → Rule
@@ -39,6 +45,13 @@ wanted id = record (new_rule id) { action = Some Set; required = true; value_nam
 -- a command that takes the name of a store
 abbrev pub store_line : Text → App
 store_line name = with_rule (new_app name) (wanted (codes "STORE"))
+
+-- two that take a flag, too
+abbrev pub format_line : App
+format_line = with_rule (store_line (codes "format")) (flag (codes "new"))
+
+abbrev pub script_line : App
+script_line = with_rule (store_line (codes "script")) (flag (codes "strict"))
 
 -- a command that takes the names of two stores, the old one first
 abbrev pub migrate_line : App
@@ -52,12 +65,13 @@ workers_option = record (new_rule (codes "workers")) {
   value_names = 1;
 }
 
--- a command that takes the name of a store, and may be told how many workers there are
+-- a command that takes the name of a store and a flag, and may be told how many workers there are
 abbrev pub crew_line : App
-crew_line = with_rule (store_line (codes "crew")) workers_option
+crew_line = with_rule (with_rule (store_line (codes "crew")) workers_option) (flag (codes "known"))
 
 -- the command line of `night`: the commands are `demo`, over a store `format`, `script` and
--- `inspect`, over two `migrate`, and over a store and with an option `crew`
+-- `inspect`, over two `migrate`, and over a store and with an option `crew`; all but `inspect` and
+-- `migrate` take a flag
 abbrev pub night : App
 night =
     with_subcommand
@@ -66,8 +80,8 @@ night =
     (with_subcommand
     (with_subcommand
     (with_subcommand (record { top = night_alone; subs = [] }) demo_line.top)
-    (store_line (codes "format")).top)
-    (store_line (codes "script")).top)
+    format_line.top)
+    script_line.top)
     (store_line (codes "inspect")).top)
     migrate_line.top)
     crew_line.top
@@ -79,10 +93,11 @@ faults_of words = fault_of night words
 
 -- ---- the commands
 
--- the words ask for `demo`: it stands behind the program's own name, alone or before `--`
-abbrev pub AsksForDemo : List Text → Type 0
-AsksForDemo words = (name : Text) × ((words ≡ name ∷ codes "demo" ∷ [])
-    ⊎ (words ≡ name ∷ codes "demo" ∷ codes "--" ∷ []))
+-- the words ask for this command alone: it stands behind the program's own name, and the mark `--`
+-- may stand behind it
+abbrev pub AsksAlone : Text → List Text → Type 0
+AsksAlone command words = (name : Text) × ((words ≡ name ∷ command ∷ [])
+    ⊎ (words ≡ name ∷ command ∷ codes "--" ∷ []))
 
 -- the words ask for this command over this store: they stand behind the program's own name, and the
 -- mark `--` may stand before or behind the store
@@ -108,6 +123,14 @@ command_in entered = option_map (λ s. s.0) entered
 abbrev pub word_in : Text → Option (Text × List Row) → Option Text
 word_in id entered = option_and_then (λ s. first_of id s.1) entered
 
+-- whether the words have this flag, as the parser tells it: by `true`, and by `false` where it
+-- stands nowhere
+abbrev pub is_true : Option Text → Bool
+is_true word = option_map_or (λ text. bytes_eq text (codes "true")) word false
+
+abbrev pub has_flag : Text → Option (Text × List Row) → Bool
+has_flag id entered = is_true (word_in id entered)
+
 -- so many workers: one digit from 1 to 8, or 4 where there is no word
 abbrev pub workers_of : Option Text → Option ℕ
 workers_of None = Some 4
@@ -115,25 +138,54 @@ workers_of (Some (digit ∷ [])) =
     if nat_le 49 digit && nat_le digit 56 then Some (digit - 48) else None
 workers_of (Some text) = None
 
--- the parser entered `crew` with this store, and with this number of workers
-abbrev pub NamesCrew : Text → Option ℕ → Option (Text × List Row) → Type 0
-NamesCrew store workers entered = (command_in entered ≡ Some (codes "crew"))
+-- the parser entered `demo`, strict or not
+abbrev pub NamesDemo : Bool → Option (Text × List Row) → Type 0
+NamesDemo strict entered = (command_in entered ≡ Some (codes "demo"))
+    × (has_flag (codes "strict") entered ≡ strict)
+
+-- the parser entered this command with this store, with this flag or without it
+abbrev pub NamesStore : Text → Text → Text → Bool → Option (Text × List Row) → Type 0
+NamesStore command id store is_set entered = (command_in entered ≡ Some command)
+    × (word_in (codes "STORE") entered ≡ Some store) × (has_flag id entered ≡ is_set)
+
+-- the parser entered `crew` with this store, with this number of workers, and of known jobs or not
+abbrev pub NamesCrew : Text → Option ℕ → Bool → Option (Text × List Row) → Type 0
+NamesCrew store workers known entered = (command_in entered ≡ Some (codes "crew"))
     × (unwrap_or (word_in (codes "STORE") entered) [] ≡ store)
     × (workers_of (word_in (codes "workers") entered) ≡ workers)
+    × (has_flag (codes "known") entered ≡ known)
+
+-- the words ask for `demo`, as the parser reads them: it stands behind the program's own name, and
+-- `--strict` may stand behind it
+abbrev pub AsksForDemo : Bool → List Text → Type 0
+AsksForDemo strict words = NamesDemo strict (subcommand_of night words)
+
+-- the words ask for a new store in this file, as the parser reads them: it stands behind the
+-- program's own name and `format`, and `--new` may stand before or behind it
+abbrev pub AsksForFormat : Text → Bool → List Text → Type 0
+AsksForFormat store is_new words =
+    NamesStore (codes "format") (codes "new") store is_new (subcommand_of night words)
+
+-- the words ask for a run over this store, as the parser reads them: it stands behind the program's
+-- own name and `script`, and `--strict` may stand before or behind it
+abbrev pub AsksForScript : Text → Bool → List Text → Type 0
+AsksForScript store strict words =
+    NamesStore (codes "script") (codes "strict") store strict (subcommand_of night words)
 
 -- the words ask for a crew of so many workers over this store, as the parser reads them: the store
--- stands behind the program's own name and `crew`, and `--workers N` or `--workers=N` may stand
--- before or behind it
-abbrev pub AsksForCrew : Text → ℕ → List Text → Type 0
-AsksForCrew store workers words = NamesCrew store (Some workers) (subcommand_of night words)
+-- stands behind the program's own name and `crew`, and before or behind it may stand `--workers N`
+-- or `--workers=N`, and `--known`
+abbrev pub AsksForCrew : Text → ℕ → Bool → List Text → Type 0
+AsksForCrew store workers known words =
+    NamesCrew store (Some workers) known (subcommand_of night words)
 
 -- the words ask for this; of a text that is shown nothing is said here
 abbrev pub AsksFor : Asked → List Text → Type 0
-AsksFor Demo words = AsksForDemo words
-AsksFor (Format store) words = AsksOver (codes "format") store.now words
-AsksFor (Script store) words = AsksOver (codes "script") store.now words
+AsksFor (Demo strict) words = AsksForDemo strict words
+AsksFor (Format store is_new) words = AsksForFormat store.now is_new words
+AsksFor (Script store strict) words = AsksForScript store.now strict words
 AsksFor (Inspect store) words = AsksOver (codes "inspect") store.now words
-AsksFor (Crew store workers) words = AsksForCrew store.now workers words
+AsksFor (Crew store workers known) words = AsksForCrew store.now workers known words
 AsksFor (Migrate old new) words =
     AsksToMigrate old.now new.now words × (old.now ≢ new.now)
 AsksFor (Help text) words = Unit {0}
@@ -143,7 +195,8 @@ AsksFor (Help text) words = Unit {0}
 -- the others `IsAnswer` tells
 abbrev pub IsCausedBy : WordsFault → List Text → Type 0
 IsCausedBy SameStores words = (store : Text) × AsksToMigrate store store words
-IsCausedBy Workers words = (store : Text) × NamesCrew store None (subcommand_of night words)
+IsCausedBy Workers words = (store : Text) × ((known : Bool)
+    × NamesCrew store None known (subcommand_of night words))
 IsCausedBy why words = Unit {0}
 
 -- ---- what is answered
@@ -213,26 +266,30 @@ new_in entered = word_in (codes "NEW") entered
 abbrev pub new_by : ArgMatches → Option Text
 new_by matches = new_in (subcommand_rows_of matches)
 
--- what is named is asked for, or the two stores of a migration are one; of a crew it is said what
--- the parser entered
+-- what is named is asked for, or the two stores of a migration are one; of a command that takes a
+-- flag it is said what the parser entered
 abbrev pub Asks : Named → Option Text → Option (Text × List Row) → Result Asked WordsFault → Type 0
-Asks named new entered (Ok Demo) = named ≡ Some (codes "demo", None)
-Asks named new entered (Ok (Format store)) = named ≡ Some (codes "format", Some store.now)
-Asks named new entered (Ok (Script store)) = named ≡ Some (codes "script", Some store.now)
+Asks named new entered (Ok (Demo strict)) = NamesDemo strict entered
+Asks named new entered (Ok (Format store is_new)) =
+    NamesStore (codes "format") (codes "new") store.now is_new entered
+Asks named new entered (Ok (Script store strict)) =
+    NamesStore (codes "script") (codes "strict") store.now strict entered
 Asks named new entered (Ok (Inspect store)) = named ≡ Some (codes "inspect", Some store.now)
-Asks named new entered (Ok (Crew store workers)) = NamesCrew store.now (Some workers) entered
+Asks named new entered (Ok (Crew store workers known)) =
+    NamesCrew store.now (Some workers) known entered
 Asks named new entered (Ok (Migrate old given)) =
     (named ≡ Some (codes "migrate", Some old.now)) × (new ≡ Some given.now)
     × (old.now ≢ given.now)
 Asks named new entered (Ok (Help text)) = ⊥
 Asks named new entered (Err SameStores) = (store : Text)
     × (named ≡ Some (codes "migrate", Some store)) × (new ≡ Some store)
-Asks named new entered (Err Workers) = (store : Text) × NamesCrew store None entered
+Asks named new entered (Err Workers) = (store : Text) × ((known : Bool)
+    × NamesCrew store None known entered)
 Asks named new entered (Err why) = ⊥
 
 -- a command is named, and the stores that it wants
 abbrev pub IsNamed : Named → Option Text → Type 0
-IsNamed named new = (named ≡ Some (codes "demo", None))
+IsNamed named new = ((first : Option Text) × (named ≡ Some (codes "demo", first)))
     ⊎ (((first : Option Text) × (named ≡ Some (codes "crew", first)))
     ⊎ ((store : Text) × ((named ≡ Some (codes "format", Some store))
     ⊎ ((named ≡ Some (codes "script", Some store))
@@ -240,12 +297,14 @@ IsNamed named new = (named ≡ Some (codes "demo", None))
     ⊎ ((given : Text) × (named ≡ Some (codes "migrate", Some store))
     × (new ≡ Some given)))))))
 
--- a crew over this store, of as many workers as this word says, or the fault of a wrong number
-abbrev pub IsCrew : Text → Option Text → Result Asked WordsFault → Type 0
-IsCrew store workers (Ok (Crew s n)) = (s.now ≡ store) × (workers_of workers ≡ Some n)
-IsCrew store workers (Ok asked) = ⊥
-IsCrew store workers (Err Workers) = workers_of workers ≡ None
-IsCrew store workers (Err why) = ⊥
+-- a crew over this store, of as many workers as this word says and of known jobs or not, or the
+-- fault of a wrong number
+abbrev pub IsCrew : Text → Option Text → Bool → Result Asked WordsFault → Type 0
+IsCrew store workers known (Ok (Crew s n k)) =
+    (s.now ≡ store) × (workers_of workers ≡ Some n) × (k ≡ known)
+IsCrew store workers known (Ok asked) = ⊥
+IsCrew store workers known (Err Workers) = workers_of workers ≡ None
+IsCrew store workers known (Err why) = ⊥
 
 -- a migration between two names that differ, or the fault of equal ones
 abbrev pub IsMigration : Text → Text → Result Asked WordsFault → Type 0

@@ -8,16 +8,32 @@ use std::fmt;
 /// What the words ask for. The names of stores are lent from them.
 #[derive(Debug, Drop)]
 pub enum Asked<'a> {
-    /// `demo`: the input runs over a book in memory.
-    Demo,
-    /// `format STORE`: the file becomes a new store.
-    Format(&'a str),
-    /// `script STORE`: the input runs over the store.
-    Script(&'a str),
+    /// `demo`: the input runs over a book in memory; with `--strict` up to the first line that is
+    /// no line or is refused.
+    Demo {
+        strict: bool,
+    },
+    /// `format STORE`: the file becomes a new store; with `--new` only where there is no file of
+    /// that name.
+    Format {
+        store: &'a str,
+        is_new: bool,
+    },
+    /// `script STORE`: the input runs over the store; with `--strict` up to the first line that is
+    /// no line or is refused.
+    Script {
+        store: &'a str,
+        strict: bool,
+    },
     /// `inspect STORE`: what the store holds is printed.
     Inspect(&'a str),
-    /// `crew STORE --workers N`: so many threads, 1 to 8, work off the ready tasks of the store.
-    Crew(&'a str, u8),
+    /// `crew STORE --workers N`: so many threads, 1 to 8, work off the ready tasks of the store;
+    /// with `--known` only where they know the job of each task that isn't ended.
+    Crew {
+        store: &'a str,
+        workers: u8,
+        known: bool,
+    },
     /// `migrate OLD NEW`: the file NEW becomes a large store with the state of the small store OLD.
     /// The two names differ.
     Migrate(&'a str, &'a str),

@@ -1,9 +1,10 @@
 //! The command line, as its parser takes it.
 
-ghost use Rattle.std.specs.Prelude.{◌≡◌, [], false, IfOk};
+ghost use Rattle.std.specs.Prelude.{◌≡◌, [], false, IfOk, codes};
 ghost use Rattle.clap.specs.Words.{app_of, rule_of, with_subcommand};
-ghost use Rattle.night_words.specs.Commands.{crew_line, demo_line, migrate_line, night, store_line};
-ghost use Rattle.night_words.specs.Commands.{night_alone, wanted, workers_option};
+ghost use Rattle.night_words.specs.Commands.{crew_line, demo_line, flag, format_line, migrate_line};
+ghost use Rattle.night_words.specs.Commands.{night, night_alone, script_line, store_line, wanted};
+ghost use Rattle.night_words.specs.Commands.{workers_option};
 
 use clap::{Arg, ArgAction, Command};
 use std::alloc::{AllocError, Global};
@@ -54,32 +55,17 @@ const LINES: &str = "\
     printf 'derive a root cause\\ncancel a disk\\nscope a\\n' | night demo\n  \
     printf 'group g root\\ngo g copy a\\n' | night script jobs.store";
 
+/// What `--strict` does, of `demo` and of `script`.
+const STRICT: &str = "Ends at the first line that is no line or is refused, with status 1";
+
 /// The command line of the program, with all of its commands.
 pub fn night_command<'a>(alloc: Global) -> Result<Command<'a>, AllocError>
     ensures { IfOk result (λ command. app_of command ≡ night) }
 {
-    let demo = night_alone(alloc).subcommand(demo_command(alloc))?;
-    let format = with_store(
-        alloc,
-        demo,
-        "format",
-        "Makes a new store of a file, and prints `formatted`; what the file held is lost",
-        ending!("Example: night format jobs.store"),
-    )?;
-    let script = with_store(
-        alloc,
-        format,
-        "script",
-        "Opens a store, and runs standard input over it",
-        LINES,
-    )?;
-    let inspect = with_store(
-        alloc,
-        script,
-        "inspect",
-        "Prints what a store holds, and writes nothing to it",
-        ending!("Example: night inspect jobs.store"),
-    )?;
+    let demo = with_demo(alloc)?;
+    let format = with_format(alloc, demo)?;
+    let script = with_script(alloc, format)?;
+    let inspect = with_inspect(alloc, script)?;
     let migrate = with_migrate(alloc, inspect)?;
     with_crew(alloc, migrate)
 }
@@ -96,27 +82,40 @@ fn night_alone<'a>(alloc: Global) -> Command<'a>
         .arg_required_else_help(true)
 }
 
-fn demo_command<'a>(alloc: Global) -> Command<'a>
-    ensures { app_of result ≡ demo_line }
+/// The command line with the command over a book in memory.
+fn with_demo<'a>(alloc: Global) -> Result<Command<'a>, AllocError>
+    ensures { IfOk result (λ command. app_of command
+        ≡ with_subcommand (record { top = night_alone; subs = [] }) demo_line.top) }
 {
-    Command::new(alloc, "demo")
-        .about("Runs standard input over a book in memory")
-        .after_help(LINES)
+    let demo = demo_command(alloc)?;
+    night_alone(alloc).subcommand(demo)
 }
 
-/// The command line with a command over a store.
-fn with_store<'a>(
-    alloc: Global,
-    night: Command<'a>,
-    name: &'a str,
-    about: &'a str,
-    ending: &'a str,
-) -> Result<Command<'a>, AllocError>
+/// The command line with the command that makes a store of a file.
+fn with_format<'a>(alloc: Global, night: Command<'a>) -> Result<Command<'a>, AllocError>
     ensures { IfOk result (λ command. app_of command
-        ≡ with_subcommand (app_of night.entry) (store_line name.now).top) }
+        ≡ with_subcommand (app_of night.entry) format_line.top) }
 {
-    let store = store_command(alloc, name, about, ending)?;
-    night.subcommand(store)
+    let format = format_command(alloc)?;
+    night.subcommand(format)
+}
+
+/// The command line with the command that runs the input over a store.
+fn with_script<'a>(alloc: Global, night: Command<'a>) -> Result<Command<'a>, AllocError>
+    ensures { IfOk result (λ command. app_of command
+        ≡ with_subcommand (app_of night.entry) script_line.top) }
+{
+    let script = script_command(alloc)?;
+    night.subcommand(script)
+}
+
+/// The command line with the command that reads a store.
+fn with_inspect<'a>(alloc: Global, night: Command<'a>) -> Result<Command<'a>, AllocError>
+    ensures { IfOk result (λ command. app_of command
+        ≡ with_subcommand (app_of night.entry) (store_line (codes "inspect")).top) }
+{
+    let inspect = inspect_command(alloc)?;
+    night.subcommand(inspect)
 }
 
 /// The command line with the command over two stores.
@@ -135,6 +134,54 @@ fn with_crew<'a>(alloc: Global, night: Command<'a>) -> Result<Command<'a>, Alloc
 {
     let crew = crew_command(alloc)?;
     night.subcommand(crew)
+}
+
+/// The command over a book in memory.
+fn demo_command<'a>(alloc: Global) -> Result<Command<'a>, AllocError>
+    ensures { IfOk result (λ command. app_of command ≡ demo_line) }
+{
+    Command::new(alloc, "demo")
+        .about("Runs standard input over a book in memory")
+        .after_help(LINES)
+        .arg(flag_word(alloc, "strict", STRICT))
+}
+
+/// The command that makes a store of a file.
+fn format_command<'a>(alloc: Global) -> Result<Command<'a>, AllocError>
+    ensures { IfOk result (λ command. app_of command ≡ format_line) }
+{
+    let store = store_command(
+        alloc,
+        "format",
+        "Makes a new store of a file, and prints `formatted`; what the file held is lost",
+        ending!("Example: night format --new jobs.store"),
+    )?;
+    store.arg(flag_word(alloc, "new", "Refuses where there is a file of that name"))
+}
+
+/// The command that runs the input over a store.
+fn script_command<'a>(alloc: Global) -> Result<Command<'a>, AllocError>
+    ensures { IfOk result (λ command. app_of command ≡ script_line) }
+{
+    let store = store_command(
+        alloc,
+        "script",
+        "Opens a store, and runs standard input over it",
+        LINES,
+    )?;
+    store.arg(flag_word(alloc, "strict", STRICT))
+}
+
+/// The command that reads a store.
+fn inspect_command<'a>(alloc: Global) -> Result<Command<'a>, AllocError>
+    ensures { IfOk result (λ command. app_of command ≡ store_line (codes "inspect")) }
+{
+    store_command(
+        alloc,
+        "inspect",
+        "Prints what a store holds, and writes nothing to it",
+        ending!("Example: night inspect jobs.store"),
+    )
 }
 
 /// A command over a store.
@@ -174,9 +221,19 @@ fn crew_command<'a>(alloc: Global) -> Result<Command<'a>, AllocError>
 {
     Command::new(alloc, "crew")
         .about("Runs the ready tasks of a store, and prints how many were started and finished")
-        .after_help(ending!("Example: night crew jobs.store --workers 2"))
+        .after_help(ending!(
+            "The crew knows three jobs: `spin`, `copy` and `fail`. It ends a task of any\n\
+            other job as failed, `no such job`, and that task can't be retried. With\n\
+            `--known` it starts nothing where such a task isn't ended.\n\n\
+            Example: night crew jobs.store --workers 2"
+        ))
         .arg(store_word(alloc, "STORE", "STORE", "The file of the store"))?
-        .arg(workers_word(alloc))
+        .arg(workers_word(alloc))?
+        .arg(flag_word(
+            alloc,
+            "known",
+            "Starts nothing where the crew doesn't know the job of a task that isn't ended",
+        ))
 }
 
 /// The option that says how many workers there are. Its value is read by `readers`.
@@ -189,6 +246,17 @@ fn workers_word<'a>(alloc: Global) -> Arg<'a>
         .value_name("N")
         .action(ArgAction::Set)
         .help("How many threads run tasks, 1 to 8; 4 where it is left out")
+}
+
+/// A flag, which stands alone.
+fn flag_word<'a>(alloc: Global, id: &'a str, help: &'a str) -> Arg<'a>
+    ensures rule { rule_of result ≡ flag id.now }
+    ensures local { result.global ≡ false }
+{
+    Arg::new(alloc, id)
+        .long(id)
+        .action(ArgAction::SetTrue)
+        .help(help)
 }
 
 /// A word that names a store, which its command wants, and what help calls it.

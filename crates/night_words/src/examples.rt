@@ -2,15 +2,29 @@
 //!
 //! In each, `name` is the program's own name, as it was started.
 
-ghost use Rattle.std.specs.Prelude.{◌≡◌, ◌∷◌, ℕ, List, [], codes};
+ghost use Rattle.std.specs.Prelude.{◌≡◌, ◌∷◌, ℕ, List, [], codes, false, true};
 ghost use Rattle.clap.specs.declared.error.kind.ErrorKind.TheVariants as kind;
-ghost use Rattle.night_words.specs.Commands.{AsksForCrew, IsCausedBy, faults_of};
+ghost use Rattle.night_words.specs.Commands.{AsksForCrew, AsksForDemo, AsksForFormat};
+ghost use Rattle.night_words.specs.Commands.{AsksForScript, IsCausedBy, faults_of};
 ghost use Rattle.night_words.specs.declared.asked.WordsFault.TheVariants.{Workers};
 
 /// `demo` is a command, and the mark behind which no flag stands is no word of it.
 pub fn demo_is_a_command()
     ensures alone { (name : List ℕ) → faults_of (name ∷ codes "demo" ∷ []) ≡ [] }
     ensures marked { (name : List ℕ) → faults_of (name ∷ codes "demo" ∷ codes "--" ∷ []) ≡ [] }
+    ensures strict { (name : List ℕ)
+        → faults_of (name ∷ codes "demo" ∷ codes "--strict" ∷ []) ≡ [] }
+{}
+
+/// It is strict where its flag stands there.
+pub fn demo_may_be_strict()
+    ensures alone { (name : List ℕ) → AsksForDemo false (name ∷ codes "demo" ∷ []) }
+    ensures marked { (name : List ℕ)
+        → AsksForDemo false (name ∷ codes "demo" ∷ codes "--" ∷ []) }
+    ensures strict { (name : List ℕ)
+        → AsksForDemo true (name ∷ codes "demo" ∷ codes "--strict" ∷ []) }
+    ensures both { (name : List ℕ)
+        → AsksForDemo true (name ∷ codes "demo" ∷ codes "--strict" ∷ codes "--" ∷ []) }
 {}
 
 /// `format`, `script` and `inspect` are commands over a store. Behind the mark its name may look
@@ -23,6 +37,68 @@ pub fn a_store_is_named()
         → faults_of (name ∷ codes "format" ∷ codes "--" ∷ codes "-a" ∷ []) ≡ [] }
     ensures behind { (name : List ℕ)
         → faults_of (name ∷ codes "format" ∷ codes "a" ∷ codes "--" ∷ []) ≡ [] }
+{}
+
+/// `format` makes a store of the file, with its flag of a new one alone.
+pub fn a_new_store_is_named()
+    ensures alone { (name : List ℕ)
+        → AsksForFormat (codes "a") false (name ∷ codes "format" ∷ codes "a" ∷ []) }
+    ensures before { (name : List ℕ)
+        → AsksForFormat (codes "-a") false (name ∷ codes "format" ∷ codes "--" ∷ codes "-a" ∷ []) }
+    ensures behind { (name : List ℕ)
+        → AsksForFormat (codes "a") false (name ∷ codes "format" ∷ codes "a" ∷ codes "--" ∷ []) }
+    ensures new { (name : List ℕ)
+        → AsksForFormat (codes "a") true (name ∷ codes "format" ∷ codes "--new" ∷ codes "a" ∷ []) }
+    ensures new_behind { (name : List ℕ)
+        → AsksForFormat (codes "a") true (name ∷ codes "format" ∷ codes "a" ∷ codes "--new" ∷ []) }
+    ensures not_new { (name : List ℕ) → AsksForFormat (codes "--new") false
+        (name ∷ codes "format" ∷ codes "--" ∷ codes "--new" ∷ []) }
+{}
+
+/// `script` runs over a store, and is strict where its flag stands there.
+pub fn a_script_may_be_strict()
+    ensures alone { (name : List ℕ)
+        → AsksForScript (codes "a") false (name ∷ codes "script" ∷ codes "a" ∷ []) }
+    ensures before { (name : List ℕ) → AsksForScript (codes "a") true
+        (name ∷ codes "script" ∷ codes "--strict" ∷ codes "a" ∷ []) }
+    ensures behind { (name : List ℕ) → AsksForScript (codes "a") true
+        (name ∷ codes "script" ∷ codes "a" ∷ codes "--strict" ∷ []) }
+{}
+
+/// The words of both are taken.
+pub fn flags_are_taken()
+    ensures new { (name : List ℕ)
+        → faults_of (name ∷ codes "format" ∷ codes "--new" ∷ codes "a" ∷ []) ≡ [] }
+    ensures new_behind { (name : List ℕ)
+        → faults_of (name ∷ codes "format" ∷ codes "a" ∷ codes "--new" ∷ []) ≡ [] }
+    ensures strict { (name : List ℕ)
+        → faults_of (name ∷ codes "script" ∷ codes "--strict" ∷ codes "a" ∷ []) ≡ [] }
+    ensures strict_behind { (name : List ℕ)
+        → faults_of (name ∷ codes "script" ∷ codes "a" ∷ codes "--strict" ∷ []) ≡ [] }
+    ensures known { (name : List ℕ)
+        → faults_of (name ∷ codes "crew" ∷ codes "--known" ∷ codes "a" ∷ []) ≡ [] }
+{}
+
+/// A flag stands once, behind its own command.
+pub fn other_flags_are_mistakes()
+    ensures inspect { (name : List ℕ)
+        → faults_of (name ∷ codes "inspect" ∷ codes "--new" ∷ codes "a" ∷ [])
+        ≡ kind.UnknownArgument ∷ [] }
+    ensures format { (name : List ℕ)
+        → faults_of (name ∷ codes "format" ∷ codes "--strict" ∷ codes "a" ∷ [])
+        ≡ kind.UnknownArgument ∷ [] }
+    ensures migrate { (name : List ℕ)
+        → faults_of (name ∷ codes "migrate" ∷ codes "--new" ∷ codes "a" ∷ codes "b" ∷ [])
+        ≡ kind.UnknownArgument ∷ [] }
+    ensures twice { (name : List ℕ)
+        → faults_of (name ∷ codes "demo" ∷ codes "--strict" ∷ codes "--strict" ∷ [])
+        ≡ kind.ArgumentConflict ∷ [] }
+    ensures twice_new { (name : List ℕ) → faults_of
+        (name ∷ codes "format" ∷ codes "--new" ∷ codes "a" ∷ codes "--new" ∷ [])
+        ≡ kind.ArgumentConflict ∷ [] }
+    ensures attached { (name : List ℕ)
+        → faults_of (name ∷ codes "demo" ∷ codes "--strict=true" ∷ [])
+        ≡ kind.TooManyValues ∷ [] }
 {}
 
 /// One store is wanted.
@@ -62,13 +138,17 @@ pub fn two_stores_are_wanted()
 /// `crew` is a command over a store, of 4 workers where it isn't told of another number.
 pub fn a_crew_is_named()
     ensures alone { (name : List ℕ)
-        → AsksForCrew (codes "a") 4 (name ∷ codes "crew" ∷ codes "a" ∷ []) }
-    ensures before { (name : List ℕ) → AsksForCrew (codes "a") 1
+        → AsksForCrew (codes "a") 4 false (name ∷ codes "crew" ∷ codes "a" ∷ []) }
+    ensures before { (name : List ℕ) → AsksForCrew (codes "a") 1 false
         (name ∷ codes "crew" ∷ codes "--workers" ∷ codes "1" ∷ codes "a" ∷ []) }
-    ensures behind { (name : List ℕ) → AsksForCrew (codes "a") 8
+    ensures behind { (name : List ℕ) → AsksForCrew (codes "a") 8 false
         (name ∷ codes "crew" ∷ codes "a" ∷ codes "--workers=8" ∷ []) }
     ensures taken { (name : List ℕ)
         → faults_of (name ∷ codes "crew" ∷ codes "a" ∷ codes "--workers" ∷ codes "1" ∷ []) ≡ [] }
+    ensures known { (name : List ℕ)
+        → AsksForCrew (codes "a") 4 true (name ∷ codes "crew" ∷ codes "--known" ∷ codes "a" ∷ []) }
+    ensures known_behind { (name : List ℕ) → AsksForCrew (codes "a") 2 true
+        (name ∷ codes "crew" ∷ codes "a" ∷ codes "--known" ∷ codes "--workers" ∷ codes "2" ∷ []) }
 {}
 
 /// A crew has 1 to 8 workers, told once, and a store.

@@ -7,6 +7,7 @@
 mod asked;
 mod commands;
 pub mod examples;
+pub mod laws;
 mod readers;
 
 pub use asked::{Asked, WordsFault};

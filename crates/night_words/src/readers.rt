@@ -5,10 +5,10 @@ ghost use Rattle.std.specs.Prelude.{◌≡◌, ◌↔◌, IfErr, IfOk, map, opti
 ghost use Rattle.std.specs.String.{string_bytes};
 ghost use Rattle.std.specs.Vec.Iter.{into_iter_steps};
 ghost use Rattle.std.specs.declared.io.ErrorKind.TheVariants as system;
-ghost use Rattle.clap.specs.Words.{kind_of, subcommand_rows_of};
+ghost use Rattle.clap.specs.Words.{first_value, found_of, kind_of, subcommand_rows_of};
 ghost use Rattle.night_words.specs.Commands.{Asks, AsksFor, IsAnswer, IsCausedBy, IsCrew};
 ghost use Rattle.night_words.specs.Commands.{IsMigration, IsNamed, IsOfSystem, IsShown, faults_of};
-ghost use Rattle.night_words.specs.Commands.{named_by, new_by, workers_of};
+ghost use Rattle.night_words.specs.Commands.{is_true, named_by, new_by, workers_of};
 
 use crate::asked::{Asked, WordsFault};
 use crate::commands::night_command;
@@ -66,7 +66,7 @@ pub fn read_words<'a>(alloc: Global, words: &'a [String]) -> Result<Asked<'a>, W
     }
 }
 
-/// What the parser's matches ask for: the command that was used, and its stores.
+/// What the parser's matches ask for: the command that was used, its stores and its flag.
 fn asked_of<'a>(matches: &ArgMatches<'a>) -> Result<Asked<'a>, WordsFault>
     requires { IsNamed (named_by matches.now) (new_by matches.now) }
     ensures { Asks (named_by matches.now) (new_by matches.now)
@@ -75,14 +75,17 @@ fn asked_of<'a>(matches: &ArgMatches<'a>) -> Result<Asked<'a>, WordsFault>
     let Some((command, inner)) = matches.subcommand() else {
         unreachable!();
     };
-    if command == "demo" {
-        return Ok(Asked::Demo);
+    let demos = command == "demo";
+    if demos {
+        let strict = is_set(inner, "strict");
+        return Ok(Asked::Demo { strict });
     }
     let crews = command == "crew";
     if crews {
         return crew(
             inner.get_str("STORE").unwrap_or(""),
             inner.get_str("workers"),
+            is_set(inner, "known"),
         );
     }
     let Some(store) = inner.get_str("STORE") else {
@@ -90,11 +93,13 @@ fn asked_of<'a>(matches: &ArgMatches<'a>) -> Result<Asked<'a>, WordsFault>
     };
     let formats = command == "format";
     if formats {
-        return Ok(Asked::Format(store));
+        let is_new = is_set(inner, "new");
+        return Ok(Asked::Format { store, is_new });
     }
     let scripts = command == "script";
     if scripts {
-        return Ok(Asked::Script(store));
+        let strict = is_set(inner, "strict");
+        return Ok(Asked::Script { store, strict });
     }
     let inspects = command == "inspect";
     if inspects {
@@ -106,12 +111,26 @@ fn asked_of<'a>(matches: &ArgMatches<'a>) -> Result<Asked<'a>, WordsFault>
     migration(store, new)
 }
 
+/// Says whether the words have this flag of the command that was used.
+fn is_set(inner: &ArgMatches, id: &str) -> bool
+    ensures { result ≡ is_true (first_value (found_of inner.now) id.now) }
+{
+    match inner.get_str(id) {
+        Some(text) => text == "true",
+        None => false,
+    }
+}
+
 /// A crew over a store. Another number of workers than 1 to 8 is a mistake.
-fn crew<'a>(store: &'a str, workers: Option<&'a str>) -> Result<Asked<'a>, WordsFault>
-    ensures { IsCrew store.now (option_map (λ word. word.now) workers.entry) result }
+fn crew<'a>(store: &'a str, workers: Option<&'a str>, known: bool) -> Result<Asked<'a>, WordsFault>
+    ensures { IsCrew store.now (option_map (λ word. word.now) workers.entry) known result }
 {
     match workers_of(workers) {
-        Some(workers) => Ok(Asked::Crew(store, workers)),
+        Some(workers) => Ok(Asked::Crew {
+            store,
+            workers,
+            known,
+        }),
         None => Err(WordsFault::Workers),
     }
 }

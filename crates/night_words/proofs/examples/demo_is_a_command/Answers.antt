@@ -9,3 +9,7 @@ returns-clause-alone c = λ name. refl
 pub returns-clause-marked : goal.returns-clause-marked
 unfolding clap_on_literals
 returns-clause-marked c = λ name. refl
+
+pub returns-clause-strict : goal.returns-clause-strict
+unfolding clap_on_literals
+returns-clause-strict c = λ name. refl

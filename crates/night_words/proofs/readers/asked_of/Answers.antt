@@ -1,55 +1,58 @@
 use Rattle.std.proofs.Common.{◌∙◌, Option, Some, ap, sym}
-use Rattle.std.specs.Prelude.{option_map}
+use Rattle.std.specs.Prelude.{codes, option_map}
 use Rattle.std.specs.Borrow.{Bor}
 use Rattle.clap.specs.Walk.{Text}
 use Rattle.night_words.proofs.TakenLemmas.{crew, demo, format, inspect, script}
-use Rattle.night_words.proofs.NamedLemmas.{crew_here, differ, migrate_left, migration_asks}
-use Rattle.night_words.proofs.NamedLemmas.{named_as}
-use Rattle.night_words.proofs.NamedLemmas.{named_here, new_here, new_is_there, no_store, same}
-use Rattle.night_words.proofs.NamedLemmas.{unwrapped}
+use Rattle.night_words.proofs.NamedLemmas.{crew_here, demo_here, differ, migrate_left}
+use Rattle.night_words.proofs.NamedLemmas.{migration_asks, named_as, named_here, new_here}
+use Rattle.night_words.proofs.NamedLemmas.{new_is_there, no_store, same, store_here, unwrapped}
 use Rattle.clap.specs.Words.{subcommand_rows_of}
 use Rattle.night_words.specs.Commands.{named_by, new_by}
 use Rattle.night_words.proofs.readers.asked_of.Goals as goal
+
+pub returns-then-demos : goal.returns-then-demos
+returns-then-demos c =
+    demo_here c.args.matches.now c.in-Some.command c.in-Some.inner c.is_set-strict.result
+    c.in-Some.ensures.name c.in-Some.ensures.rows
+    (same c.in-Some.command.now demo c.eq-demos.result c.eq-demos.ensures c.if-demos.true)
+    c.is_set-strict.ensures
 
 pub unreachable-requires-in_default-get_str : goal.unreachable-requires-in_default-get_str
 unreachable-requires-in_default-get_str c =
     let command = c.in-Some.command.now in
     let at = named_here c.args.matches.now c.in-Some.command c.in-Some.inner
     c.in-Some.ensures.name c.in-Some.ensures.rows in
-    differ command demo c.eq.result c.eq.ensures c.if-eq.false
-    (no_store (named_by c.args.matches.now) (new_by c.args.matches.now) command c.requires
+    no_store (named_by c.args.matches.now) (new_by c.args.matches.now) command c.requires
     (at ∙ ap (λ s. Some (command, s)) (sym c.in_default-get_str.ensures))
-    (differ command crew c.eq-crews.result c.eq-crews.ensures c.if-crews.false))
+    (differ command demo c.eq-demos.result c.eq-demos.ensures c.if-demos.false)
+    (differ command crew c.eq-crews.result c.eq-crews.ensures c.if-crews.false)
 
 pub returns-then-crews : goal.returns-then-crews
 returns-then-crews c =
     let now : Option (Bor Text) → Option Text = option_map (λ s. s.now) in
     crew_here c.args.matches.now c.in-Some.command c.in-Some.inner
     c.unwrap_or.result.now (now c.get_str.result) (now c.get_str-then-crews.result)
-    c.crew.result
+    c.is_set.result c.crew.result
     c.in-Some.ensures.name c.in-Some.ensures.rows
     (same c.in-Some.command.now crew c.eq-crews.result c.eq-crews.ensures c.if-crews.true)
     c.get_str.ensures
     (ap (λ (s : Bor Text). s.now) c.unwrap_or.ensures ∙ unwrapped c.get_str.result _)
-    c.get_str-then-crews.ensures c.crew.ensures
+    c.get_str-then-crews.ensures c.is_set.ensures c.crew.ensures
 
 pub returns-then-formats : goal.returns-then-formats
 returns-then-formats c =
-    let command = c.in-Some.command.now in
-    let at = named_here c.args.matches.now c.in-Some.command c.in-Some.inner
-    c.in-Some.ensures.name c.in-Some.ensures.rows in
-    named_as (named_by c.args.matches.now) command format c.in-Some-get_str.store.now _ at
-    (same command format c.eq-formats.result c.eq-formats.ensures c.if-formats.true)
-    c.in-Some-get_str.ensures
+    store_here c.args.matches.now c.in-Some.command c.in-Some.inner format (codes "new")
+    c.in-Some-get_str.store.now c.is_set-is_new.result c.in-Some.ensures.name c.in-Some.ensures.rows
+    (same c.in-Some.command.now format c.eq-formats.result c.eq-formats.ensures c.if-formats.true)
+    c.in-Some-get_str.ensures c.is_set-is_new.ensures
 
 pub returns-then-scripts : goal.returns-then-scripts
 returns-then-scripts c =
-    let command = c.in-Some.command.now in
-    let at = named_here c.args.matches.now c.in-Some.command c.in-Some.inner
-    c.in-Some.ensures.name c.in-Some.ensures.rows in
-    named_as (named_by c.args.matches.now) command script c.in-Some-get_str.store.now _ at
-    (same command script c.eq-scripts.result c.eq-scripts.ensures c.if-scripts.true)
-    c.in-Some-get_str.ensures
+    store_here c.args.matches.now c.in-Some.command c.in-Some.inner script (codes "strict")
+    c.in-Some-get_str.store.now c.is_set-strict-then-scripts.result
+    c.in-Some.ensures.name c.in-Some.ensures.rows
+    (same c.in-Some.command.now script c.eq-scripts.result c.eq-scripts.ensures c.if-scripts.true)
+    c.in-Some-get_str.ensures c.is_set-strict-then-scripts.ensures
 
 pub returns-then-inspects : goal.returns-then-inspects
 returns-then-inspects c =
@@ -68,6 +71,7 @@ unreachable-requires-in_default-get_str-2 c =
     let left = migrate_left (named_by c.args.matches.now) (new_by c.args.matches.now) command
     c.in-Some-get_str.store.now c.requires
     (at ∙ ap (λ s. Some (command, s)) (sym c.in-Some-get_str.ensures))
+    (differ command demo c.eq-demos.result c.eq-demos.ensures c.if-demos.false)
     (differ command crew c.eq-crews.result c.eq-crews.ensures c.if-crews.false)
     (differ command format c.eq-formats.result c.eq-formats.ensures c.if-formats.false)
     (differ command script c.eq-scripts.result c.eq-scripts.ensures c.if-scripts.false)
@@ -84,6 +88,7 @@ returns c =
     let left = migrate_left (named_by c.args.matches.now) (new_by c.args.matches.now) command
     c.in-Some-get_str.store.now c.requires
     (at ∙ ap (λ s. Some (command, s)) (sym c.in-Some-get_str.ensures))
+    (differ command demo c.eq-demos.result c.eq-demos.ensures c.if-demos.false)
     (differ command crew c.eq-crews.result c.eq-crews.ensures c.if-crews.false)
     (differ command format c.eq-formats.result c.eq-formats.ensures c.if-formats.false)
     (differ command script c.eq-scripts.result c.eq-scripts.ensures c.if-scripts.false)

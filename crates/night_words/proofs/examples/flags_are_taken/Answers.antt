@@ -1,0 +1,23 @@
+use Rattle.std.proofs.Common.{refl}
+use Rattle.clap.proofs.OnLiterals.{clap_on_literals}
+use Rattle.night_words.proofs.examples.flags_are_taken.Goals as goal
+
+pub returns-clause-new : goal.returns-clause-new
+unfolding clap_on_literals
+returns-clause-new c = λ name. refl
+
+pub returns-clause-new_behind : goal.returns-clause-new_behind
+unfolding clap_on_literals
+returns-clause-new_behind c = λ name. refl
+
+pub returns-clause-strict : goal.returns-clause-strict
+unfolding clap_on_literals
+returns-clause-strict c = λ name. refl
+
+pub returns-clause-strict_behind : goal.returns-clause-strict_behind
+unfolding clap_on_literals
+returns-clause-strict_behind c = λ name. refl
+
+pub returns-clause-known : goal.returns-clause-known
+unfolding clap_on_literals
+returns-clause-known c = λ name. refl

@@ -1,0 +1,29 @@
+//! What the words of a command that takes a flag are where they don't have it: the parser's reading
+//! of them, told word by word.
+
+ghost use Rattle.std.specs.Prelude.{◌≡◌, ℕ, List, [], codes, false};
+ghost use Rattle.night_words.specs.Commands.{AsksAlone, AsksForDemo, AsksForFormat, AsksForScript};
+ghost use Rattle.night_words.specs.Commands.{AsksOver, faults_of};
+
+/// `demo` that isn't strict stands alone.
+pub fn demo_stands_alone()
+    ensures { (words : List (List ℕ)) → faults_of words ≡ [] → AsksForDemo false words
+        → AsksAlone (codes "demo") words }
+{}
+
+/// A store that needn't be new stands alone behind `format`, and one whose run isn't strict behind
+/// `script`.
+pub fn a_store_stands_alone()
+    ensures format { (store : List ℕ) (words : List (List ℕ)) → faults_of words ≡ []
+        → AsksForFormat store false words → AsksOver (codes "format") store words }
+    ensures script { (store : List ℕ) (words : List (List ℕ)) → faults_of words ≡ []
+        → AsksForScript store false words → AsksOver (codes "script") store words }
+{}
+
+/// And where it stands alone there, it needn't be new, and its run isn't strict.
+pub fn a_store_alone_has_no_flag()
+    ensures format { (store : List ℕ) (words : List (List ℕ)) → faults_of words ≡ []
+        → AsksOver (codes "format") store words → AsksForFormat store false words }
+    ensures script { (store : List ℕ) (words : List (List ℕ)) → faults_of words ≡ []
+        → AsksOver (codes "script") store words → AsksForScript store false words }
+{}
