@@ -97,10 +97,12 @@ class Tries:
         return library
 
     def file(self, name, content=None):
-        """A file of the script's own folder."""
+        """A file of the script's own folder, which gets these bytes."""
         path = f"{self.folder}/{name}"
         if content is not None:
-            with open(path, "wb") as file:
+            # (one that has its length is written over, which is faster than to make it anew)
+            is_there = os.path.isfile(path) and os.path.getsize(path) == len(content)
+            with open(path, "r+b" if is_there else "wb") as file:
                 file.write(content)
         return path
 
