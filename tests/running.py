@@ -122,7 +122,7 @@ class Tries:
 
     def shown(self, store):
         """An inspection of the store."""
-        return self.run("inspect", store, hurt=environment(file=store))
+        return self.run("inspect", store, hurt=environment(file=store) if self.wrong else None)
 
     def holds(self, kind, what, is_so, found=""):
         """Counts a try of this kind."""
@@ -149,14 +149,14 @@ class Tries:
         self.skipped.append(f"{kind} ({why})")
 
     def end(self):
-        """Says what was tried and what was skipped; the exit status."""
+        """Says what was tried and what was skipped; the exit status, 77 where all was skipped."""
         for kind, count in self.ran.items():
             failed = f", {self.bad[kind]} FAILED" if kind in self.bad else ""
             print(f"ran: {kind}: {count}{failed}")
         for it in self.skipped:
             print(f"skipped: {it}")
         print(f"{self.about}: {sum(self.ran.values())} tries, {sum(self.bad.values())} failed")
-        sys.exit(1 if self.bad or not self.ran else 0)
+        sys.exit(1 if self.bad else 0 if self.ran else 77)
 
 
 def fast_room():
