@@ -170,6 +170,12 @@ def fast_room():
     return "/dev/shm" if is_roomy and is_open else None
 
 
+def calls_in(log):
+    """How many calls the library counted that told them to this file."""
+    words = [it.split()[0] for it in bytes_of(log).decode().splitlines()]
+    return sum(it in ("read", "write", "sync", "close") for it in words)
+
+
 def remove(path):
     if os.path.exists(path):
         os.remove(path)
