@@ -239,7 +239,7 @@ static int counted(const char *what, off_t at, size_t count)
         leave_rest();
         end_it();
     }
-    if (calls == trim && syscall(SYS_ftruncate, file, number_of("HURT_TO")))
+    if (calls == trim && syscall(SYS_truncate, path, number_of("HURT_TO")))
         give_up("it can't be cut short");
     if (failing && calls >= failing) {
         errno = EIO;

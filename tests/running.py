@@ -97,10 +97,12 @@ class Tries:
         return library
 
     def file(self, name, content=None):
-        """A file of the script's own folder."""
+        """A file of the script's own folder, which gets these bytes."""
         path = f"{self.folder}/{name}"
         if content is not None:
-            with open(path, "wb") as file:
+            # (one that has its length is written over, which is faster than to make it anew)
+            is_there = os.path.isfile(path) and os.path.getsize(path) == len(content)
+            with open(path, "r+b" if is_there else "wb") as file:
                 file.write(content)
         return path
 
@@ -120,7 +122,7 @@ class Tries:
 
     def shown(self, store):
         """An inspection of the store."""
-        return self.run("inspect", store, hurt=environment(file=store))
+        return self.run("inspect", store, hurt=environment(file=store) if self.wrong else None)
 
     def holds(self, kind, what, is_so, found=""):
         """Counts a try of this kind."""
@@ -147,14 +149,14 @@ class Tries:
         self.skipped.append(f"{kind} ({why})")
 
     def end(self):
-        """Says what was tried and what was skipped; the exit status."""
+        """Says what was tried and what was skipped; the exit status, 77 where all was skipped."""
         for kind, count in self.ran.items():
             failed = f", {self.bad[kind]} FAILED" if kind in self.bad else ""
             print(f"ran: {kind}: {count}{failed}")
         for it in self.skipped:
             print(f"skipped: {it}")
         print(f"{self.about}: {sum(self.ran.values())} tries, {sum(self.bad.values())} failed")
-        sys.exit(1 if self.bad or not self.ran else 0)
+        sys.exit(1 if self.bad else 0 if self.ran else 77)
 
 
 def fast_room():
@@ -166,6 +168,12 @@ def fast_room():
     is_roomy = found.f_bavail * found.f_frsize > 500_000_000
     is_open = os.access("/dev/shm", os.W_OK) and not found.f_flag & os.ST_NOEXEC
     return "/dev/shm" if is_roomy and is_open else None
+
+
+def calls_in(log):
+    """How many calls the library counted that told them to this file."""
+    words = [it.split()[0] for it in bytes_of(log).decode().splitlines()]
+    return sum(it in ("read", "write", "sync", "close") for it in words)
 
 
 def remove(path):
