@@ -101,7 +101,9 @@ fn a_settled_disk_loses_nothing(rt: HostRuntime) {
 /// gate, and so does call 28, each before its sync; call 4 of an opening closes the gate of the
 /// other slot. The cut loses the first write and keeps the second.
 fn loses_all(cut: Cut) -> bool {
-    matches!(cut, (9 | 28, 4, Torn::Fill(0)))
+    let (kill, calls, torn) = cut;
+    let is_behind_a_gate = kill == 9 || kill == 28;
+    is_behind_a_gate && calls == 4 && matches!(torn, Torn::Fill(0))
 }
 
 /// Asserts that a cut leaves what was acknowledged, or no store at all where that is said of it.
