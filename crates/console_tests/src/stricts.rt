@@ -39,9 +39,9 @@ static ROWS: [Row; 12] = [
         1,
     ),
     (
-        b"derive a root cancel\ncancel a\ncancel a\nderive b root cause\nflush\n",
+        b"derive a root cancel\n\ncancel a\ncancel a\nderive b root cause\n",
         b"scope 1\nok\nrefused 12 AlreadyDone\nacked 3\n",
-        Some((3, Stray::Refused(Refusal::AlreadyDone))),
+        Some((4, Stray::Refused(Refusal::AlreadyDone))),
         3,
     ),
     (

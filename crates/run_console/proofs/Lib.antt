@@ -8,6 +8,7 @@ pub mod Lines
 pub mod Parts
 pub mod Saving
 pub mod Sizes
+pub mod StrictLemmas
 pub mod Troubles
 pub mod Wholes
 pub mod Working

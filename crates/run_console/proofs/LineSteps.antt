@@ -1,5 +1,7 @@
 -- One line: from what it asks for to what is written.
 use Rattle.std.specs.Prelude.{◌≡◌, ℕ, true, List, [], ◌∷◌, map, Result, Ok, Err, IfErr, OnErr}
+use Rattle.std.specs.Prelude.{Option, Some, None}
+use Rattle.std.specs.Option.{option_or}
 use Rattle.std.proofs.Common.{ap, sym, subst, refl, arith, ◌∙◌, append-nil}
 use Rattle.run_model.specs.Session.{Session}
 use Rattle.run_session.specs.Logged.{Logged}
@@ -9,6 +11,9 @@ use Rattle.console_lines.specs.declared.replies.Reply.TheVariants as said
 use Rattle.console_lines.specs.Asked.{asked_of}
 use Rattle.console_lines.specs.Replies.{reply_line, reply_lines}
 use Rattle.console_lines.specs.Script.{closing, reply, replies_to}
+use Rattle.console_lines.specs.Strict.{stray_among, stray_at}
+use Rattle.console_lines.specs.declared.strays.Stray.{Stray}
+use Rattle.console_lines.proofs.StrayLemmas.{tallies_stay}
 use Rattle.console_lines.specs.Tallies.{tallies_of}
 use Rattle.console_lines.specs.declared.asked.Asked.TheVariants as asked
 use Rattle.console_lines.specs.Progress.{kept}
@@ -105,6 +110,29 @@ tally_asked line (asked.Task n) read h = absurd (grind (arith, h))
 tally_asked line (asked.Result group) read h = absurd (grind (arith, h))
 tally_asked line asked.Flush read h = absurd (grind (arith, h))
 tally_asked line asked.Checkpoint read h = absurd (grind (arith, h))
+
+-- Why a line strays, by its replies.
+pub line_strays : (s : Session) (line : List ℕ) (a : Asked) (r : List Reply)
+    → a ≡ asked_of line
+    → r ≡ replies_to s a
+    → stray_among r ≡ stray_at s line
+unfolding stray_at
+line_strays s line a r read h = ap stray_among (h ∙ ap (replies_to s) read)
+
+-- A tally doesn't stray.
+pub tally_stays : (s : Session) (line : List ℕ) (a : Asked)
+    → a ≡ asked_of line
+    → is_tally a ≡ true
+    → None ≡ stray_at s line
+tally_stays s line a read tally =
+    sym (tallies_stay (tallies_of s.state.work.tasks))
+    ∙ line_strays s line asked.Tally (map said.Tally (tallies_of s.state.work.tasks))
+    (sym (tally_asked line a read tally)) refl
+
+-- The only reply tells why.
+pub only_stray : (why : Option Stray) → why ≡ option_or why None
+only_stray None = refl
+only_stray (Some why) = refl
 
 -- What is known of an error, where the only fault is known.
 pub fault_known : {T E : Type 0} (r : Result T E) (why : E) (P : Type 0) (R : E → Type 0)

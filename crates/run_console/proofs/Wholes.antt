@@ -11,7 +11,7 @@ use Rattle.console_lines.specs.declared.lines.TheConstants.{LONGEST_INPUT}
 use Rattle.console_lines.specs.declared.faults.RunFault.{RunFault}
 use Rattle.console_lines.specs.declared.faults.RunFault.TheVariants as fault
 use Rattle.console_lines.specs.Lines.{whole_lines, open_line, lines_of}
-use Rattle.console_lines.specs.Script.{after_lines, closing, replies, script}
+use Rattle.console_lines.specs.Script.{after_lines, closing, replies}
 use Rattle.console_lines.specs.Progress.{WritesPart}
 use Rattle.console_lines.proofs.Splits.{whole_lines-append}
 use Rattle.console_lines.proofs.Written.{appends_then, consumes_then}
@@ -65,7 +65,7 @@ reads_all bytes tail b c r0 r1 r2 w0 w1 read none ended within part =
 -- ---- a run that stops
 
 -- A line behind is left.
-left_over : (xs : List (List ℕ)) (y : List ℕ) (X : Type 0) → xs ++ y ∷ [] ≡ [] → X
+pub left_over : (xs : List (List ℕ)) (y : List ℕ) (X : Type 0) → xs ++ y ∷ [] ≡ [] → X
 left_over [] y X e = absurd (omega (arith, ap length e))
 left_over (x ∷ xs) y X e = absurd (omega (arith, ap length e))
 
@@ -116,7 +116,7 @@ written_before fault.Memory s ran left y w0 w1 h = h
 written_before fault.Input s ran left y w0 w1 h = h
 written_before fault.InputTooLong s ran left y w0 w1 h = h
 
-reached_in : (why : RunFault) (bytes : List ℕ) (ran : List (List ℕ))
+pub reached_in : (why : RunFault) (bytes : List ℕ) (ran : List (List ℕ))
     → IsOfLine why
     → length bytes ≤ LONGEST_INPUT + 1
     → IsReached why bytes ran
@@ -193,13 +193,62 @@ all_ran b c d tail g r0 r1 w0 w1 w2 reads last =
     ran_then (whole_lines [] reads.bytes) (open_line [] reads.bytes ∷ []) b c d [] [] g w0 w1 w2
     reads.part.ran last
 
--- The closing line is the script's.
-script_is : (b d : Logged) (bytes : List ℕ)
-    → d ≡ logged_after_lines b (lines_of bytes)
-    → script (plain b) bytes ≡ replies (plain b) (lines_of bytes) ++ closing (plain d)
-script_is b d bytes h =
-    ap (λ s. replies (plain b) (lines_of bytes) ++ closing s)
-    (sym (ap plain h ∙ plain_lines b (lines_of bytes)))
+-- The closing line was told behind these lines.
+pub end_told :
+    (b d : Logged) (lines : List (List ℕ)) (g : List ℕ) (w0 w2 w3 : Option (List ℕ))
+    → Ran lines b d [] g w0 w2
+    → Told (closing (plain d)) g [] w2 w3
+    → Appends w0 w3 (replies (plain b) lines ++ closing (after_lines (plain b) lines))
+end_told b d lines g w0 w2 w3 ran told =
+    let P : List ℕ → Type 0 = λ x. Appends w0 w3 x in
+    let end = closing (plain d) in
+    let text : said_of (plain b) lines [] ≡ ran.out ++ told.out =
+    ap (λ t. replies (plain b) lines ++ closing t) (sym (ap plain ran.session ∙ plain_lines b lines))
+    ∙ ap (λ x. x ++ end) ran.replied
+    ∙ append_assoc ran.out g end
+    ∙ ap (λ x. ran.out ++ x) (told.told ∙ append-nil told.out) in
+    subst P (sym text) (appends_then w0 w2 w3 ran.out told.out ran.written told.written)
+
+-- What stopped in the end.
+pub end_stops : (why : RunFault) (end g : List ℕ) (w2 w3 : Option (List ℕ))
+    → EndStops why end g w2 w3 → IsRunStopped why []
+end_stops (fault.Store why) end g w2 w3 h = tt
+end_stops fault.Output end g w2 w3 h = tt
+end_stops fault.Memory end g w2 w3 h = absurd h
+end_stops fault.Input end g w2 w3 h = tt
+end_stops fault.InputTooLong end g w2 w3 h = tt
+
+pub reached_end : (why : RunFault) (end g : List ℕ) (w2 w3 : Option (List ℕ)) (bytes : List ℕ)
+    (lines : List (List ℕ))
+    → EndStops why end g w2 w3
+    → length bytes ≤ LONGEST_INPUT + 1 → IsReached why bytes lines
+reached_end (fault.Store why) end g w2 w3 bytes lines h few = few
+reached_end fault.Output end g w2 w3 bytes lines h few = few
+reached_end fault.Memory end g w2 w3 bytes lines h few = few
+reached_end fault.Input end g w2 w3 bytes lines h few = absurd h
+reached_end fault.InputTooLong end g w2 w3 bytes lines h few = absurd h
+
+-- What was written up to there.
+pub end_wrote : (why : RunFault) (b d : Logged) (lines : List (List ℕ)) (g : List ℕ)
+    (w0 w2 w3 : Option (List ℕ))
+    → Ran lines b d [] g w0 w2
+    → EndStops why (closing (plain d)) g w2 w3
+    → IsWritten why (plain b) lines [] w0 w3
+end_wrote fault.Output b d lines g w0 w2 w3 ran h =
+    let P : List ℕ → Type 0 = λ x. WritesPart w0 w3 x in
+    let s = plain b in
+    let end = closing (plain d) in
+    let text : said_of s lines [] ≡ ran.out ++ (g ++ end) =
+    ap (λ t. replies s lines ++ closing t) (sym (ap plain ran.session ∙ plain_lines b lines))
+    ∙ ap (λ x. x ++ end) ran.replied
+    ∙ append_assoc ran.out g end in
+    subst P (sym text) (part_behind ran.out (g ++ end) w0 w2 w3 ran.written h)
+end_wrote (fault.Store why) b d lines g w0 w2 w3 ran h =
+    let P : List ℕ → Type 0 = λ x. WritesTrouble why x w0 w3 in
+    subst P (sym ran.replied) (trouble_behind why ran.out g w0 w2 w3 ran.written h)
+end_wrote fault.Memory b d lines g w0 w2 w3 ran h = absurd h
+end_wrote fault.Input b d lines g w0 w2 w3 ran h = absurd h
+end_wrote fault.InputTooLong b d lines g w0 w2 w3 ran h = absurd h
 
 -- The closing line was written behind them.
 pub runs_all :
@@ -210,24 +259,42 @@ pub runs_all :
     → Told (closing (plain d)) g [] w2 w3
     → RunsAll b e r0 r1 w0 w3
 runs_all b c d e tail g r0 r1 w0 w1 w2 w3 reads last same told =
-    let bytes = reads.bytes in
     let ran = all_ran b c d tail g r0 r1 w0 w1 w2 reads last in
-    let end = closing (plain d) in
-    let P : List ℕ → Type 0 = λ x. Appends w0 w3 x in
-    let text : script (plain b) bytes ≡ ran.out ++ told.out =
-    script_is b d bytes ran.session
-    ∙ ap (λ x. x ++ end) ran.replied
-    ∙ append_assoc ran.out g end
-    ∙ ap (λ x. ran.out ++ x) (told.told ∙ append-nil told.out) in
     record {
-      bytes = bytes;
+      bytes = reads.bytes;
       read = reads.read;
       ended = reads.ended;
       within = reads.within;
       session = same ∙ ran.session;
-      written =
-          subst P (sym text) (appends_then w0 w2 w3 ran.out told.out ran.written told.written);
+      written = end_told b d (lines_of reads.bytes) g w0 w2 w3 ran told;
     }
+
+-- A line that stopped stops a run.
+pub stopped_so : (why : RunFault) (left : List (List ℕ)) → IsStopped why left
+    → IsRunStopped why left
+stopped_so (fault.Store why) [] h = tt
+stopped_so (fault.Store why) (line ∷ left) h = h
+stopped_so fault.Memory [] h = h
+stopped_so fault.Memory (line ∷ left) h = h
+stopped_so fault.Input left h = tt
+stopped_so fault.InputTooLong left h = tt
+stopped_so fault.Output left h = tt
+
+-- What was said of these lines, and what else there is to say where none is left.
+more_said : (s : Session) (ran left : List (List ℕ)) (w0 w1 : Option (List ℕ))
+    → WritesPart w0 w1 (replies s ran) → WritesPart w0 w1 (said_of s ran left)
+more_said s ran [] w0 w1 h = part_more (replies s ran) (closing (after_lines s ran)) w0 w1 h
+more_said s ran (line ∷ left) w0 w1 h = h
+
+-- What was written up to a line that stopped.
+pub written_so : (why : RunFault) (s : Session) (ran left : List (List ℕ))
+    (w0 w1 : Option (List ℕ))
+    → Wrote why (replies s ran) w0 w1 → IsWritten why s ran left w0 w1
+written_so fault.Output s ran left w0 w1 h = more_said s ran left w0 w1 h
+written_so (fault.Store why) s ran left w0 w1 h = h
+written_so fault.Memory s ran left w0 w1 h = h
+written_so fault.Input s ran left w0 w1 h = h
+written_so fault.InputTooLong s ran left w0 w1 h = h
 
 -- The last line stopped.
 pub stops_in_the_last :
@@ -253,30 +320,6 @@ stops_in_the_last why b c d tail r0 r1 w0 w1 w2 f reads cut =
       session = whole.session;
       written = written_so why (plain b) whole.ran whole.left w0 w2 whole.written;
     }
-  where
-    stopped_so : (why : RunFault) (left : List (List ℕ)) → IsStopped why left
-        → IsRunStopped why left
-    stopped_so (fault.Store why) [] h = tt
-    stopped_so (fault.Store why) (line ∷ left) h = h
-    stopped_so fault.Memory [] h = h
-    stopped_so fault.Memory (line ∷ left) h = h
-    stopped_so fault.Input left h = tt
-    stopped_so fault.InputTooLong left h = tt
-    stopped_so fault.Output left h = tt
-
-    more_said : (s : Session) (ran left : List (List ℕ)) (w0 w1 : Option (List ℕ))
-        → WritesPart w0 w1 (replies s ran) → WritesPart w0 w1 (said_of s ran left)
-    more_said s ran [] w0 w1 h = part_more (replies s ran) (closing (after_lines s ran)) w0 w1 h
-    more_said s ran (line ∷ left) w0 w1 h = h
-
-    written_so : (why : RunFault) (s : Session) (ran left : List (List ℕ))
-        (w0 w1 : Option (List ℕ))
-        → Wrote why (replies s ran) w0 w1 → IsWritten why s ran left w0 w1
-    written_so fault.Output s ran left w0 w1 h = more_said s ran left w0 w1 h
-    written_so (fault.Store why) s ran left w0 w1 h = h
-    written_so fault.Memory s ran left w0 w1 h = h
-    written_so fault.Input s ran left w0 w1 h = h
-    written_so fault.InputTooLong s ran left w0 w1 h = h
 
 -- The last flush stopped, or the writer failed behind it.
 pub stops_closing :
@@ -297,45 +340,10 @@ stops_closing why b c d e tail g r0 r1 w0 w1 w2 w3 reads last same end =
       left = [];
       lines_are = sym (append-nil lines);
       ended = λ _. reads.ended;
-      stopped = stopped_end why g w2 w3 end;
-      reached = reached_end why g w2 w3 bytes lines end (omega (arith, reads.within));
+      stopped = end_stops why (closing (plain d)) g w2 w3 end;
+      reached =
+          reached_end why (closing (plain d)) g w2 w3 bytes lines end
+          (omega (arith, reads.within));
       session = same ∙ ran.session;
-      written = written_end why lines ran end;
+      written = end_wrote why b d lines g w0 w2 w3 ran end;
     }
-  where
-    stopped_end : (why : RunFault) (g : List ℕ) (w2 w3 : Option (List ℕ))
-        → EndStops why (closing (plain d)) g w2 w3 → IsRunStopped why []
-    stopped_end (fault.Store why) g w2 w3 h = tt
-    stopped_end fault.Output g w2 w3 h = tt
-    stopped_end fault.Memory g w2 w3 h = absurd h
-    stopped_end fault.Input g w2 w3 h = tt
-    stopped_end fault.InputTooLong g w2 w3 h = tt
-
-    reached_end : (why : RunFault) (g : List ℕ) (w2 w3 : Option (List ℕ)) (bytes : List ℕ)
-        (lines : List (List ℕ))
-        → EndStops why (closing (plain d)) g w2 w3
-        → length bytes ≤ LONGEST_INPUT + 1 → IsReached why bytes lines
-    reached_end (fault.Store why) g w2 w3 bytes lines h few = few
-    reached_end fault.Output g w2 w3 bytes lines h few = few
-    reached_end fault.Memory g w2 w3 bytes lines h few = few
-    reached_end fault.Input g w2 w3 bytes lines h few = absurd h
-    reached_end fault.InputTooLong g w2 w3 bytes lines h few = absurd h
-
-    written_end : (why : RunFault) (lines : List (List ℕ)) (ran : Ran lines b d [] g w0 w2)
-        → EndStops why (closing (plain d)) g w2 w3
-        → IsWritten why (plain b) lines [] w0 w3
-    written_end fault.Output lines ran h =
-        let P : List ℕ → Type 0 = λ x. WritesPart w0 w3 x in
-        let s = plain b in
-        let end = closing (plain d) in
-        let text : said_of s lines [] ≡ ran.out ++ (g ++ end) =
-        ap (λ t. replies s lines ++ closing t) (sym (ap plain ran.session ∙ plain_lines b lines))
-        ∙ ap (λ x. x ++ end) ran.replied
-        ∙ append_assoc ran.out g end in
-        subst P (sym text) (part_behind ran.out (g ++ end) w0 w2 w3 ran.written h)
-    written_end (fault.Store why) lines ran h =
-        let P : List ℕ → Type 0 = λ x. WritesTrouble why x w0 w3 in
-        subst P (sym ran.replied) (trouble_behind why ran.out g w0 w2 w3 ran.written h)
-    written_end fault.Memory lines ran h = absurd h
-    written_end fault.Input lines ran h = absurd h
-    written_end fault.InputTooLong lines ran h = absurd h

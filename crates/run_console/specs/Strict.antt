@@ -96,7 +96,7 @@ pub record PartClean
     (n m : ℕ) (begun part : List ℕ) (b c : Logged) (tail before gathered : List ℕ)
     (w0 w1 : Option (List ℕ))
     : Type 0 where
-  pub part : PartRan begun part b c tail before gathered w0 w1
+  pub runs : PartRan begun part b c tail before gathered w0 w1
   pub clean : Clean n m (plain b) (whole_lines begun part)
 
 -- One of both.

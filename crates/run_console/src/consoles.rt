@@ -2,13 +2,14 @@
 
 ghost use Rattle.std.specs.Prelude.{◌≡◌, ◌∷◌, [], Err, List, ℕ, true, false, OnOk, IfErr};
 ghost use Rattle.std.specs.Prelude.{IfOk};
+ghost use Rattle.std.specs.Option.{option_to_list};
 ghost use Rattle.book_model.specs.Holdings.{CarriesOn};
 ghost use Rattle.run_book.specs.Views.{holding};
 ghost use Rattle.run_model.specs.declared.faults.Trouble.TheVariants.{Refused};
 ghost use Rattle.run_model.specs.declared.refusals.Refusal.TheVariants.{Broken};
 ghost use Rattle.console_lines.specs.Asked.{asked_of};
 ghost use Rattle.console_lines.specs.Script.{closing};
-ghost use Rattle.console_lines.specs.Strict.{stray_at};
+ghost use Rattle.console_lines.specs.Strict.{stray_among, stray_at};
 ghost use Rattle.run_console.specs.Progress.{BeginsScript, Cut, EndStops, IsOfLine, Lasts};
 ghost use Rattle.run_console.specs.Progress.{LineRuns, LineStops, Ran, RunStops, RunsAll, Told};
 ghost use Rattle.run_console.specs.SessionLines.{IsSaving, is_tally, plain};
@@ -204,11 +205,21 @@ pub fn gather_line<A: Allocator + Copy, W: Write, D: RunDisk, B: Allocator>(
     make_room(gathered, output)?;
     match reply_to(&asked, book) {
         Ok(reply) => {
-            let why = reply.as_ref().and_then(Stray::of);
+            let why = stray_of(&reply);
             gather_reply(reply, gathered);
             Ok(why)
         }
         Err(trouble) => Err(stop(trouble, gathered, output)),
+    }
+}
+
+/// Why a line of this reply strays, where it does.
+fn stray_of(reply: &Option<Reply>) -> Option<Stray>
+    ensures { result ≡ stray_among (option_to_list reply.now) }
+{
+    match reply {
+        Some(reply) => Stray::of(reply),
+        None => None,
     }
 }
 

@@ -160,9 +160,9 @@ fn run_whole_lines<A: Allocator + Copy, R: Read, W: Write, D: RunDisk, B: Alloca
             return Ok(None);
         }
         total += count;
-        let stray = run_part(alloc, &room[..count], output, book, tail, number, gathered)?;
-        if stray.is_some() {
-            return Ok(stray);
+        let found = run_part(alloc, &room[..count], output, book, tail, number, gathered)?;
+        if found.is_some() {
+            return Ok(found);
         }
         write_gathered(gathered, output)?;
     }
@@ -202,10 +202,8 @@ fn run_part<A: Allocator + Copy, W: Write, D: RunDisk, B: Allocator>(
     for byte in part {
         if *byte == b'\n' {
             if let Some(why) = gather_line(alloc, tail.as_slice(), gathered, output, book)? {
-                return Ok(Some(StrayLine {
-                    number: *number,
-                    why,
-                }));
+                let number = *number;
+                return Ok(Some(StrayLine { number, why }));
             }
             *number += 1;
             tail.clear();

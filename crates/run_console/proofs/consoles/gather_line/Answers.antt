@@ -13,8 +13,8 @@ use Rattle.console_lines.specs.declared.replies.Reply.TheVariants as said
 use Rattle.run_console.specs.Progress.{Cut, IsOfLine, Told, Untold}
 use Rattle.run_console.specs.SessionLines.{IsSaving, is_tally, plain}
 use Rattle.run_console.proofs.Ends.{cut_stopped, of_line, of_tally, told_more}
-use Rattle.run_console.proofs.LineSteps.{fault_then, line_obeyed, line_replies, line_tally}
-use Rattle.run_console.proofs.LineSteps.{saves_no_tally, tally_asked, tally_leaves}
+use Rattle.run_console.proofs.LineSteps.{line_obeyed, line_replies, line_strays, line_tally}
+use Rattle.run_console.proofs.LineSteps.{saves_no_tally, tally_asked, tally_leaves, tally_stays}
 use Rattle.run_console.proofs.Lines.{cut_before, cut_untold, ran_line}
 use Rattle.run_console.proofs.consoles.gather_line.Given.{Over}
 use Rattle.run_console.proofs.consoles.gather_line.Goals as goal
@@ -46,38 +46,42 @@ returns-then-is_tally-clause-ran g c = λ line e.
     let h = c.gather_tally.new.gathered.items in
     let read = c.read_line-asked.ensures ∙ sym e in
     let P : List ℕ → Type 0 = λ t. Told t f h w0 w1 in
-    on_ok_weaker c.gather_tally.result
-    (λ told. ran_line line b b f h w0 w1
+    ran_line line b b f h w0 w1
     (tally_leaves b line c.read_line-asked.result read (is_one g c))
-    (subst P (tallied g c line read) told))
-    c.gather_tally.ensures.told
+    (subst P (tallied g c line read) c.in_ok-gather_tally.ensures.told)
 
-pub returns-then-is_tally-clause-cut : goal.returns-then-is_tally-clause-cut
-returns-then-is_tally-clause-cut g c = λ line e.
+pub returns-then-is_tally-clause-strays : goal.returns-then-is_tally-clause-strays
+returns-then-is_tally-clause-strays g c = λ line e.
+    tally_stays (plain c.args.book.now.session) line c.read_line-asked.result
+    (c.read_line-asked.ensures ∙ sym e) (is_one g c)
+
+pub returns-in_err-gather_tally-clause-cut : goal.returns-in_err-gather_tally-clause-cut
+returns-in_err-gather_tally-clause-cut g c = λ line e.
+    let p = err_from_is_err_and c.from_residual.result c.from_residual.ensures.1 in
     let b = c.args.book.now.session in
     let w0 = g.W.Write.contents c.args.output.now in
     let w1 = g.W.Write.contents c.gather_tally.new.output in
     let f = c.args.gathered.now.items in
-    let text = reply_lines (map said.Tally (tallies_of c.state.result.now.work.tasks)) in
+    let why = c.in_err-gather_tally.field-0.0 in
     let read = c.read_line-asked.ensures ∙ sym e in
-    let Less : RunFault → Type 0 = λ why. Untold why text f w0 w1 in
-    let Stops : RunFault → Type 0 = λ why. Cut why (line ∷ []) b b f w0 w1 in
-    fault_then c.gather_tally.result Less Stops
-    (λ why less. cut_untold why line b b f w0 w1
+    rw (p.1, p.2) (
+    cut_untold why line b b f w0 w1
     (tally_asked line c.read_line-asked.result read (is_one g c)) refl
     (tally_leaves b line c.read_line-asked.result read (is_one g c))
-    (subst (λ t. Untold why t f w0 w1) (tallied g c line read) less))
-    c.gather_tally.ensures.untold
+    (subst (λ t. Untold why t f w0 w1) (tallied g c line read)
+    c.in_err-gather_tally.ensures.untold))
 
-pub returns-then-is_tally-clause-fault : goal.returns-then-is_tally-clause-fault
-returns-then-is_tally-clause-fault g c =
-    let w0 = g.W.Write.contents c.args.output.now in
-    let w1 = g.W.Write.contents c.gather_tally.new.output in
-    let f = c.args.gathered.now.items in
-    let text = reply_lines (map said.Tally (tallies_of c.state.result.now.work.tasks)) in
-    let Less : RunFault → Type 0 = λ why. Untold why text f w0 w1 in
-    fault_then c.gather_tally.result Less IsOfLine (λ why less. of_tally why text f w0 w1 less)
-    c.gather_tally.ensures.untold
+pub returns-in_err-gather_tally-clause-fault : goal.returns-in_err-gather_tally-clause-fault
+returns-in_err-gather_tally-clause-fault g c =
+    let p = err_from_is_err_and c.from_residual.result c.from_residual.ensures.1 in
+    rw (p.1, p.2) (
+    of_tally c.in_err-gather_tally.field-0.0
+    (reply_lines (map said.Tally (tallies_of c.state.result.now.work.tasks)))
+    c.args.gathered.now.items (g.W.Write.contents c.args.output.now)
+    (g.W.Write.contents c.gather_tally.new.output) c.in_err-gather_tally.ensures.untold)
+
+pub returns-in_err-gather_tally-clause-lasts : goal.returns-in_err-gather_tally-clause-lasts
+returns-in_err-gather_tally-clause-lasts g c = stays_same c.args.book.now.session.state
 
 pub returns-then-is_tally-clause-saved : goal.returns-then-is_tally-clause-saved
 returns-then-is_tally-clause-saved g c = λ saving.
@@ -120,8 +124,8 @@ returns-in-Err-clause-fault g c =
 
 -- ---- a reply
 
-pub returns-clause-ran : goal.returns-clause-ran
-returns-clause-ran g c = λ line e.
+pub returns-in-Ok-clause-ran : goal.returns-in-Ok-clause-ran
+returns-in-Ok-clause-ran g c = λ line e.
     let b = c.args.book.now.session in
     let d = c.reply_to.new.book.session in
     let f = c.args.gathered.now.items in
@@ -137,20 +141,23 @@ returns-clause-ran g c = λ line e.
     ∙ ap (λ t. m ++ t)
     (line_replies (plain b) line a (option_to_list c.in-Ok.reply) read c.in-Ok.ensures.reply)))
 
+pub returns-in-Ok-clause-strays : goal.returns-in-Ok-clause-strays
+returns-in-Ok-clause-strays g c = λ line e.
+    c.stray_of.ensures
+    ∙ line_strays (plain c.args.book.now.session) line c.read_line-asked.result
+    (option_to_list c.in-Ok.reply) (c.read_line-asked.ensures ∙ sym e) c.in-Ok.ensures.reply
+
 -- ---- the store
 
-pub returns-then-is_tally-clause-accounts : goal.returns-then-is_tally-clause-accounts
-returns-then-is_tally-clause-accounts g c =
-    let b = holding c.args.book.now in
-    let w0 = g.W.Write.contents c.args.output.now in
-    let w1 = g.W.Write.contents c.gather_tally.new.output in
-    let f = c.args.gathered.now.items in
-    let text = reply_lines (map said.Tally (tallies_of c.state.result.now.work.tasks)) in
-    let Less : RunFault → Type 0 = λ why. Untold why text f w0 w1 in
-    let Says : RunFault → Type 0 = λ why. Accounts g.D.RunDisk.state b why b in
-    fault_then c.gather_tally.result Less Says
-    (λ why less. accounts_untold g.D.RunDisk.state b why text f w0 w1 c.requires.sound less)
-    c.gather_tally.ensures.untold
+pub returns-in_err-gather_tally-clause-accounts : goal.returns-in_err-gather_tally-clause-accounts
+returns-in_err-gather_tally-clause-accounts g c =
+    let p = err_from_is_err_and c.from_residual.result c.from_residual.ensures.1 in
+    rw (p.1, p.2) (
+    accounts_untold g.D.RunDisk.state (holding c.args.book.now) c.in_err-gather_tally.field-0.0
+    (reply_lines (map said.Tally (tallies_of c.state.result.now.work.tasks)))
+    c.args.gathered.now.items (g.W.Write.contents c.args.output.now)
+    (g.W.Write.contents c.gather_tally.new.output) c.requires.sound
+    c.in_err-gather_tally.ensures.untold)
 
 pub returns-in_err-make_room-clause-accounts : goal.returns-in_err-make_room-clause-accounts
 returns-in_err-make_room-clause-accounts g c =
