@@ -5,18 +5,18 @@ use std::test::Fail;
 
 /// What words are answered.
 enum Told {
-    /// They ask for the demo.
-    Demo,
-    /// They ask for this word over this store.
-    Store(&'static str, &'static str),
+    /// They ask for the demo, strict or not.
+    Demo(bool),
+    /// They ask for this word over this store, with its flag or without one.
+    Store(&'static str, &'static str, bool),
     /// They ask for a migration from this store to that one.
     Migration(&'static str, &'static str),
     /// A text for help that has this part.
     Help(&'static str),
     /// This text for help.
     Text(&'static str),
-    /// They ask for a crew of so many workers over this store.
-    Crew(&'static str, u8),
+    /// They ask for a crew of so many workers over this store, of known jobs or not.
+    Crew(&'static str, u8, bool),
     /// A migration from a store to itself.
     SameStores,
     /// Another number of workers than a crew may have.
@@ -28,15 +28,71 @@ enum Told {
 /// The words that follow the program's own name, and what they are answered.
 type Case = (&'static [&'static str], Told);
 
-static DEMO: [Case; 1] = [(&["demo"], Told::Demo)];
+static DEMO: [Case; 4] = [
+    (&["demo"], Told::Demo(false)),
+    (&["demo", "--"], Told::Demo(false)),
+    (&["demo", "--strict"], Told::Demo(true)),
+    (&["demo", "--strict", "--"], Told::Demo(true)),
+];
 
-static STORES: [Case; 6] = [
-    (&["format", "a.disk"], Told::Store("format", "a.disk")),
-    (&["script", "a.disk"], Told::Store("script", "a.disk")),
-    (&["inspect", "a.disk"], Told::Store("inspect", "a.disk")),
-    (&["script", "--", "-a"], Told::Store("script", "-a")),
-    (&["script", "a", "--"], Told::Store("script", "a")),
-    (&["script", ""], Told::Store("script", "")),
+static STORES: [Case; 8] = [
+    (
+        &["format", "a.disk"],
+        Told::Store("format", "a.disk", false),
+    ),
+    (
+        &["script", "a.disk"],
+        Told::Store("script", "a.disk", false),
+    ),
+    (
+        &["inspect", "a.disk"],
+        Told::Store("inspect", "a.disk", false),
+    ),
+    (&["format", "--", "-a"], Told::Store("format", "-a", false)),
+    (&["format", "a", "--"], Told::Store("format", "a", false)),
+    (&["script", "--", "-a"], Told::Store("script", "-a", false)),
+    (&["script", "a", "--"], Told::Store("script", "a", false)),
+    (&["script", ""], Told::Store("script", "", false)),
+];
+
+/// A flag before and behind the store; behind `--` it is the name of a store.
+static FLAGS: [Case; 12] = [
+    (&["format", "--new", "a"], Told::Store("format", "a", true)),
+    (&["format", "a", "--new"], Told::Store("format", "a", true)),
+    (
+        &["format", "--new", "--", "-a"],
+        Told::Store("format", "-a", true),
+    ),
+    (
+        &["format", "a", "--new", "--"],
+        Told::Store("format", "a", true),
+    ),
+    (
+        &["format", "--", "--new"],
+        Told::Store("format", "--new", false),
+    ),
+    (
+        &["script", "--strict", "a"],
+        Told::Store("script", "a", true),
+    ),
+    (
+        &["script", "a", "--strict"],
+        Told::Store("script", "a", true),
+    ),
+    (
+        &["script", "--", "--strict"],
+        Told::Store("script", "--strict", false),
+    ),
+    (&["crew", "--known", "a"], Told::Crew("a", 4, true)),
+    (&["crew", "a", "--known"], Told::Crew("a", 4, true)),
+    (
+        &["crew", "a", "--known", "--workers", "2"],
+        Told::Crew("a", 2, true),
+    ),
+    (
+        &["crew", "--workers=2", "--known", "--", "-a"],
+        Told::Crew("-a", 2, true),
+    ),
 ];
 
 static MIGRATIONS: [Case; 7] = [
@@ -53,19 +109,28 @@ static MIGRATIONS: [Case; 7] = [
 ];
 
 static CREWS: [Case; 13] = [
-    (&["crew", "a.disk"], Told::Crew("a.disk", 4)),
+    (&["crew", "a.disk"], Told::Crew("a.disk", 4, false)),
     (
         &["crew", "a.disk", "--workers", "1"],
-        Told::Crew("a.disk", 1),
+        Told::Crew("a.disk", 1, false),
     ),
     (
         &["crew", "--workers", "8", "a.disk"],
-        Told::Crew("a.disk", 8),
+        Told::Crew("a.disk", 8, false),
     ),
-    (&["crew", "--workers=2", "a.disk"], Told::Crew("a.disk", 2)),
-    (&["crew", "a", "--workers=3"], Told::Crew("a", 3)),
-    (&["crew", "--workers=3", "--", "-a"], Told::Crew("-a", 3)),
-    (&["crew", "a", "--workers", "5", "--"], Told::Crew("a", 5)),
+    (
+        &["crew", "--workers=2", "a.disk"],
+        Told::Crew("a.disk", 2, false),
+    ),
+    (&["crew", "a", "--workers=3"], Told::Crew("a", 3, false)),
+    (
+        &["crew", "--workers=3", "--", "-a"],
+        Told::Crew("-a", 3, false),
+    ),
+    (
+        &["crew", "a", "--workers", "5", "--"],
+        Told::Crew("a", 5, false),
+    ),
     (&["crew", "a", "--workers", "0"], Told::Workers),
     (&["crew", "a", "--workers", "9"], Told::Workers),
     (&["crew", "a", "--workers", "04"], Told::Workers),
@@ -74,7 +139,7 @@ static CREWS: [Case; 13] = [
     (&["crew", "a", "--workers", "two"], Told::Workers),
 ];
 
-static HELP: [Case; 12] = [
+static HELP: [Case; 19] = [
     (&["--help"], Told::Help("Usage: night <COMMAND>")),
     (&["--help"], Told::Help("A line asks one thing of a book")),
     (&["--help"], Told::Help("docs/formats/console.md and")),
@@ -82,8 +147,20 @@ static HELP: [Case; 12] = [
     (&["help"], Told::Help("Usage: night <COMMAND>")),
     (&["demo", "--help"], Told::Help("Usage: night demo")),
     (
+        &["demo", "--help"],
+        Told::Help("Ends at the first line that is no line or is refused, with status 1\n"),
+    ),
+    (
+        &["script", "--help"],
+        Told::Help("Ends at the first line that is no line or is refused, with status 1\n"),
+    ),
+    (
         &["format", "--help"],
-        Told::Help("Example: night format jobs.store"),
+        Told::Help("Example: night format --new jobs.store"),
+    ),
+    (
+        &["format", "--help"],
+        Told::Help("      --new   Refuses where there is a file of that name\n"),
     ),
     (
         &["format", "--help"],
@@ -104,6 +181,22 @@ static HELP: [Case; 12] = [
     (
         &["crew", "--help"],
         Told::Help("Example: night crew jobs.store --workers 2"),
+    ),
+    (
+        &["crew", "--help"],
+        Told::Help("three jobs: `spin`, `copy` and `fail`"),
+    ),
+    (
+        &["crew", "--help"],
+        Told::Help("`no such job`, and that task can't be retried"),
+    ),
+    (
+        &["crew", "--help"],
+        Told::Help("With\n`--known` it starts nothing where such a task isn't ended.\n"),
+    ),
+    (
+        &["crew", "--help"],
+        Told::Help("Starts nothing where the crew doesn't know the job of a task"),
     ),
 ];
 
@@ -211,6 +304,74 @@ static MISTAKES: [Case; 19] = [
     ),
 ];
 
+/// Flags that stand twice, have a value, or stand where their command doesn't take them.
+static STRAY_FLAGS: [Case; 16] = [
+    (
+        &["demo", "--strict", "--strict"],
+        Told::Mistake("'--strict' cannot be used multiple times"),
+    ),
+    (
+        &["format", "--new", "a", "--new"],
+        Told::Mistake("'--new' cannot be used multiple times"),
+    ),
+    (
+        &["script", "--strict", "--strict", "a"],
+        Told::Mistake("'--strict' cannot be used multiple times"),
+    ),
+    (
+        &["crew", "--known", "a", "--known"],
+        Told::Mistake("'--known' cannot be used multiple times"),
+    ),
+    (
+        &["demo", "--strict=true"],
+        Told::Mistake("unexpected value 'true' for '--strict'"),
+    ),
+    (
+        &["format", "--new"],
+        Told::Mistake("required arguments were not provided"),
+    ),
+    (
+        &["demo", "--new"],
+        Told::Mistake("unexpected argument '--new' found"),
+    ),
+    (
+        &["demo", "--known"],
+        Told::Mistake("unexpected argument '--known' found"),
+    ),
+    (
+        &["format", "--strict", "a"],
+        Told::Mistake("unexpected argument '--strict' found"),
+    ),
+    (
+        &["script", "a", "--new"],
+        Told::Mistake("unexpected argument '--new' found"),
+    ),
+    (
+        &["inspect", "--new", "a"],
+        Told::Mistake("unexpected argument '--new' found"),
+    ),
+    (
+        &["inspect", "a", "--strict"],
+        Told::Mistake("unexpected argument '--strict' found"),
+    ),
+    (
+        &["inspect", "--known", "a"],
+        Told::Mistake("unexpected argument '--known' found"),
+    ),
+    (
+        &["crew", "a", "--strict"],
+        Told::Mistake("unexpected argument '--strict' found"),
+    ),
+    (
+        &["migrate", "--new", "a", "b"],
+        Told::Mistake("unexpected argument '--new' found"),
+    ),
+    (
+        &["--strict", "demo"],
+        Told::Mistake("unexpected argument '--strict' found"),
+    ),
+];
+
 fn push_text(alloc: Global, texts: &mut Vec<String>, word: &str) -> Result<(), AllocError> {
     texts.push(word.to_string(alloc)?)?;
     Ok(())
@@ -226,16 +387,29 @@ fn texts_of(alloc: Global, words: &[&str]) -> Result<Vec<String>, AllocError> {
     Ok(texts)
 }
 
+/// Says whether this word over this store is told, with its flag or without one.
+fn is_store(told: &Told, word: &str, store: &str, is_set: bool) -> bool {
+    match told {
+        Told::Store(its, name, flag) => *its == word && *name == store && *flag == is_set,
+        _ => false,
+    }
+}
+
 /// Says whether the words ask for what they should.
 fn is_asked(asked: &Asked, told: &Told) -> bool {
     match (asked, told) {
-        (Asked::Demo, Told::Demo) => true,
-        (Asked::Format(store), Told::Store(word, name)) => *word == "format" && store == name,
-        (Asked::Script(store), Told::Store(word, name)) => *word == "script" && store == name,
-        (Asked::Inspect(store), Told::Store(word, name)) => *word == "inspect" && store == name,
-        (Asked::Crew(store, workers), Told::Crew(name, number)) => {
-            store == name && workers == number
-        }
+        (Asked::Demo { strict }, Told::Demo(flag)) => strict == flag,
+        (Asked::Format { store, is_new }, told) => is_store(told, "format", store, *is_new),
+        (Asked::Script { store, strict }, told) => is_store(told, "script", store, *strict),
+        (Asked::Inspect(store), told) => is_store(told, "inspect", store, false),
+        (
+            Asked::Crew {
+                store,
+                workers,
+                known,
+            },
+            Told::Crew(name, number, flag),
+        ) => { store == name && workers == number && known == flag }
         (Asked::Migrate(old, new), Told::Migration(from, to)) => old == from && new == to,
         (Asked::Help(text), Told::Help(part)) => text.contains(*part),
         (Asked::Help(text), Told::Text(whole)) => text.as_str() == *whole,
@@ -293,6 +467,13 @@ fn a_store_is_named(rt: HostRuntime) -> Result<(), Fail> {
 }
 
 #[test]
+fn a_flag_may_stand_there(rt: HostRuntime) -> Result<(), Fail> {
+    let untold = first_untold(rt.alloc(), &FLAGS)?;
+    assert!(rt; untold.is_none(), "row {untold:?}");
+    Ok(())
+}
+
+#[test]
 fn two_stores_are_named(rt: HostRuntime) -> Result<(), Fail> {
     let untold = first_untold(rt.alloc(), &MIGRATIONS)?;
     assert!(rt; untold.is_none(), "row {untold:?}");
@@ -341,6 +522,13 @@ fn the_version_is_shown(rt: HostRuntime) -> Result<(), Fail> {
 #[test]
 fn mistakes_say_what_is_wrong(rt: HostRuntime) -> Result<(), Fail> {
     let untold = first_untold(rt.alloc(), &MISTAKES)?;
+    assert!(rt; untold.is_none(), "row {untold:?}");
+    Ok(())
+}
+
+#[test]
+fn other_flags_are_mistakes(rt: HostRuntime) -> Result<(), Fail> {
+    let untold = first_untold(rt.alloc(), &STRAY_FLAGS)?;
     assert!(rt; untold.is_none(), "row {untold:?}");
     Ok(())
 }
