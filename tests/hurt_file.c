@@ -18,6 +18,8 @@
  *               put there; and those that stand there as the program begins come before its own
  *   HURT_STOP   the number of a call, from 1: the program stops before it (SIGSTOP); 0: before
  *               the file is locked
+ *   HURT_TOUCH  so many reads: before each of the first ones the file's last byte is changed, as by
+ *               another program
  *   HURT_LOCK   the number of an error: each lock of the file is answered so
  *   HURT_NAME   a name: each opening of it fails, with the error of the number HURT_ERROR
  *   HURT_WRONG  makes the program one whose disk is wrong: its sync makes no call (sync), it takes
@@ -55,7 +57,7 @@ struct unsynced {
 
 static const char *path, *keep, *wrong, *left, *refused, *stop;
 static int file = -1, told = -1, is_short, is_full;
-static long calls, cut, failing, trim, killing;
+static long calls, cut, failing, trim, killing, touches;
 static unsigned long long room;
 static uint64_t dice, short_dice;
 static struct unsynced *row;
@@ -130,6 +132,7 @@ __attribute__((constructor)) static void begin(void)
     failing = number_of("HURT_FAIL");
     trim = number_of("HURT_TRIM");
     killing = number_of("HURT_KILL");
+    touches = number_of("HURT_TOUCH");
     is_short = getenv("HURT_SHORT") != NULL;
     is_full = getenv("HURT_ROOM") != NULL;
     room = (unsigned long long)number_of("HURT_ROOM");
@@ -254,6 +257,18 @@ static off_t place_of(int fd)
     return cut || told >= 0 ? lseek(fd, 0, SEEK_CUR) : 0;
 }
 
+/* Changes the file's last byte, by a descriptor of its own. */
+static void touch(off_t at)
+{
+    unsigned char byte;
+    int fd = (int)syscall(SYS_openat, AT_FDCWD, path, O_RDWR | O_CLOEXEC, 0);
+    if (fd < 0 || syscall(SYS_pread64, fd, &byte, 1, at) != 1)
+        give_up("the file can't be changed");
+    byte++;
+    if (syscall(SYS_pwrite64, fd, &byte, 1, at) != 1 || syscall(SYS_close, fd))
+        give_up("the file can't be changed");
+}
+
 static ssize_t get(int fd, void *bytes, size_t count, off_t at, int placed)
 {
     if (count && is_short)
@@ -262,6 +277,8 @@ static ssize_t get(int fd, void *bytes, size_t count, off_t at, int placed)
         return -1;
     if (calls == cut)
         cut_power();
+    if (touches && touches--)
+        touch(length_of(fd) - 1);
     if (!placed)
         return syscall(SYS_read, fd, bytes, count);
     return syscall(SYS_pread64, fd, bytes, count, strcmp(wrong, "place") ? at : at + 1);
