@@ -1,0 +1,655 @@
+-- Strict runs: the first line that strays, over a part and over a whole input.
+use Rattle.std.specs.Prelude.{◌≡◌, ◌==◌, ◌<◌, ◌≤◌, ◌+◌, ◌⊎◌, true, false, ℕ, List, [], ◌∷◌, ◌++◌, length}
+use Rattle.std.specs.Prelude.{Option, Some, None, is_some, if◌then◌else◌, ◌-◌, min, take}
+use Rattle.std.specs.Option.{option_map}
+use Rattle.std.specs.Io.KnownBytes.{Appends, Consumes, IsAtEnd}
+use Rattle.std.proofs.Common.{arith, inl, inr, refl, sym, ap, ◌∙◌, subst, append_assoc, append-nil}
+use Rattle.std.proofs.Common.{length-append}
+use Rattle.std.proofs.lemmas.List.{length-take, length-take-le, take-append-le}
+use Rattle.run_model.specs.Session.{Session}
+use Rattle.run_session.specs.Logged.{Logged}
+use Rattle.run_book.specs.Views.{BookView}
+use Rattle.console_lines.specs.declared.lines.TheConstants.{LONGEST_INPUT, LONGEST_LINE}
+use Rattle.console_lines.specs.declared.faults.RunFault.{RunFault}
+use Rattle.console_lines.specs.declared.faults.RunFault.TheVariants as fault
+use Rattle.console_lines.specs.declared.strays.Stray.{Stray}
+use Rattle.console_lines.specs.declared.strays.StrayLine.{StrayLine}
+use Rattle.console_lines.specs.Lines.{whole_lines, open_line, lines_of}
+use Rattle.console_lines.specs.Progress.{WritesPart}
+use Rattle.console_lines.specs.Script.{after_line, after_lines, closing, replies}
+use Rattle.console_lines.specs.Strict.{stray_at, stray_from, stray_in, strict_lines}
+use Rattle.console_lines.specs.Strict.{strict_lines_of, strict_script}
+use Rattle.console_lines.proofs.Splits.{line_ends, line_goes_on, whole_lines-append}
+use Rattle.console_lines.proofs.Splits.{open_line-append}
+use Rattle.console_lines.proofs.StrayLemmas.{lines_around, lines_then, none_one, none_then}
+use Rattle.console_lines.proofs.StrayLemmas.{some_more, stray_one, strict_one}
+use Rattle.console_lines.proofs.Written.{appends_then, consumes_then}
+use Rattle.run_console.specs.SessionLines.{plain, logged_after_lines}
+use Rattle.run_console.specs.Progress.{Cut, EndStops, IsOfLine, IsReached, IsRunStopped, IsStopped}
+use Rattle.run_console.specs.Progress.{IsWritten, PartRan, Ran, ReadsAll, Told, Wrote, said_of}
+use Rattle.run_console.specs.Progress.{untried}
+use Rattle.run_console.specs.Strict.{Clean, Found, IsReadFor, PartClean, PartCut, PartStrays}
+use Rattle.run_console.specs.Strict.{PartRuns, RanStrictly, ReadsClean, ReadsStrictly}
+use Rattle.run_console.specs.Strict.{RunsStrictly, StandsFirst}
+use Rattle.run_console.specs.Strict.{StopsStrictly, lines_to}
+use Rattle.run_console.proofs.Lines.{cut_more, cut_then, cut_written, plain_lines, ran_then}
+use Rattle.run_console.proofs.Parts.{part_ends, part_full, part_more}
+use Rattle.run_console.proofs.Wholes.{end_stops, end_told, end_wrote, reached_in, stopped_so}
+use Rattle.run_console.proofs.Wholes.{left_over, reached_end, written_so}
+
+-- ---- lines
+
+-- The session behind these lines, by its plain side.
+plain_after : (b c : Logged) (xs : List (List ℕ)) → c ≡ logged_after_lines b xs
+    → after_lines (plain b) xs ≡ plain c
+plain_after b c xs h = sym (ap plain h ∙ plain_lines b xs)
+
+-- The search goes on from there.
+search_on : (n m : ℕ) (b c : Logged) (xs ys : List (List ℕ))
+    → c ≡ logged_after_lines b xs
+    → Clean n m (plain b) xs
+    → stray_from n (plain b) (xs ++ ys) ≡ stray_from m (plain c) ys
+search_on n m b c xs ys session clean =
+    none_then n (plain b) xs ys clean.none
+    ∙ ap (λ i. stray_from i (after_lines (plain b) xs) ys) (sym clean.next)
+    ∙ ap (λ t. stray_from m t ys) (plain_after b c xs session)
+
+-- And so do the lines that are run.
+run_on : (n m : ℕ) (b c : Logged) (xs ys : List (List ℕ))
+    → c ≡ logged_after_lines b xs
+    → Clean n m (plain b) xs
+    → strict_lines (plain b) (xs ++ ys) ≡ xs ++ strict_lines (plain c) ys
+run_on n m b c xs ys session clean =
+    lines_then n (plain b) xs ys clean.none
+    ∙ ap (λ t. xs ++ strict_lines t ys) (plain_after b c xs session)
+
+-- None of these strays, and none of those.
+pub clean_then : (n m k : ℕ) (b c : Logged) (xs ys : List (List ℕ))
+    → c ≡ logged_after_lines b xs
+    → Clean n m (plain b) xs
+    → Clean m k (plain c) ys
+    → Clean n k (plain b) (xs ++ ys)
+clean_then n m k b c xs ys session one two = record {
+  none = search_on n m b c xs ys session one ∙ two.none;
+  next = omega (arith, one.next, two.next, length-append xs ys);
+}
+
+-- None of these strays, and the last of those does.
+pub found_then : (n m : ℕ) (b c : Logged) (xs ys : List (List ℕ)) (stray : StrayLine)
+    → c ≡ logged_after_lines b xs
+    → Clean n m (plain b) xs
+    → Found m (plain c) ys stray
+    → Found n (plain b) (xs ++ ys) stray
+found_then n m b c xs ys stray session one two = record {
+  found = search_on n m b c xs ys session one ∙ two.found;
+  all = run_on n m b c xs ys session one ∙ ap (λ l. xs ++ l) two.all;
+}
+
+clean_line : (n : ℕ) (s : Session) (line : List ℕ) → stray_at s line ≡ None
+    → Clean n (n + 1) s (line ∷ [])
+clean_line n s line h = record { none = none_one n s line h; next = omega arith }
+
+found_line : (n : ℕ) (s : Session) (line : List ℕ) (why : Stray) → stray_at s line ≡ Some why
+    → Found n s (line ∷ []) (record { number = n; why = why })
+found_line n s line why h =
+    record { found = stray_one n s line why h; all = strict_one s line }
+
+-- ---- one byte after another
+
+-- An LF ends a line that doesn't stray.
+pub clean_ends :
+    (n m : ℕ) (begun part more : List ℕ) (b c d : Logged) (tail f g h : List ℕ)
+    (w0 w1 w2 : Option (List ℕ))
+    → PartClean n m begun part b c tail f g w0 w1
+    → Ran (open_line begun part ∷ []) c d g h w1 w2
+    → stray_at (plain c) (open_line begun part) ≡ None
+    → more ≡ []
+    → PartClean n (m + 1) begun (part ++ 10 ∷ []) b d more f h w0 w2
+clean_ends n m begun part more b c d tail f g h w0 w1 w2 so_far ran stays none =
+    let line = open_line begun part in
+    let P : List (List ℕ) → Type 0 = λ lines. Clean n (m + 1) (plain b) lines in
+    record {
+      runs = part_ends begun part more b c d tail f g h w0 w1 w2 so_far.runs ran none;
+      clean =
+          subst P (sym (line_ends begun part).0)
+          (clean_then n m (m + 1) b c (whole_lines begun part) (line ∷ []) so_far.runs.ran.session
+          so_far.clean (clean_line m (plain c) line stays));
+    }
+
+-- Another byte ends none.
+clean_on :
+    (n m : ℕ) (begun part : List ℕ) (byte : ℕ) (b c : Logged) (more f g : List ℕ)
+    (w0 w1 : Option (List ℕ))
+    → (byte == 10) ≡ false
+    → Clean n m (plain b) (whole_lines begun part)
+    → PartRan begun (part ++ byte ∷ []) b c more f g w0 w1
+    → PartClean n m begun (part ++ byte ∷ []) b c more f g w0 w1
+clean_on n m begun part byte b c more f g w0 w1 other clean ran =
+    let P : List (List ℕ) → Type 0 = λ lines. Clean n m (plain b) lines in
+    record { runs = ran; clean = subst P (sym (line_goes_on begun part byte other).0) clean }
+
+pub clean_more :
+    (n m : ℕ) (begun part tail more f g : List ℕ) (byte : ℕ) (b c : Logged)
+    (w0 w1 : Option (List ℕ))
+    → (byte == 10) ≡ false
+    → PartClean n m begun part b c tail f g w0 w1
+    → length tail < LONGEST_LINE + 1
+    → more ≡ tail ++ byte ∷ []
+    → PartClean n m begun (part ++ byte ∷ []) b c more f g w0 w1
+clean_more n m begun part tail more f g byte b c w0 w1 other so_far room e =
+    clean_on n m begun part byte b c more f g w0 w1 other so_far.clean
+    (part_more begun part tail more f g byte b c w0 w1 other so_far.runs room e)
+
+pub clean_full :
+    (n m : ℕ) (begun part tail f g : List ℕ) (byte : ℕ) (b c : Logged) (w0 w1 : Option (List ℕ))
+    → (byte == 10) ≡ false
+    → PartClean n m begun part b c tail f g w0 w1
+    → LONGEST_LINE + 1 ≤ length tail
+    → PartClean n m begun (part ++ byte ∷ []) b c tail f g w0 w1
+clean_full n m begun part tail f g byte b c w0 w1 other so_far full =
+    clean_on n m begun part byte b c tail f g w0 w1 other so_far.clean
+    (part_full begun part tail f g byte b c w0 w1 other so_far.runs full)
+
+-- An LF ends a line that strays.
+pub part_strays :
+    (n m : ℕ) (begun all part behind : List ℕ) (b c d : Logged) (tail f g h : List ℕ)
+    (w0 w1 w2 : Option (List ℕ)) (why : Stray)
+    → all ≡ part ++ 10 ∷ behind
+    → PartClean n m begun part b c tail f g w0 w1
+    → Ran (open_line begun part ∷ []) c d g h w1 w2
+    → stray_at (plain c) (open_line begun part) ≡ Some why
+    → PartStrays (record { number = m; why = why }) n begun all b d f h w0 w2
+part_strays n m begun all part behind b c d tail f g h w0 w1 w2 why e so_far ran strays =
+    let line = open_line begun part in
+    let lines = whole_lines begun part in
+    record {
+      front = part;
+      behind = behind;
+      part_is = e;
+      ran = ran_then lines (line ∷ []) b c d f g h w0 w1 w2 so_far.runs.ran ran;
+      found =
+          found_then n m b c lines (line ∷ []) (record { number = m; why = why })
+          so_far.runs.ran.session so_far.clean (found_line m (plain c) line why strays);
+    }
+
+-- An LF ends a line that stops.
+pub part_stops :
+    (why : RunFault) (n m : ℕ) (begun all part behind : List ℕ) (b c d : Logged)
+    (tail f g : List ℕ) (w0 w1 w2 : Option (List ℕ))
+    → all ≡ part ++ 10 ∷ behind
+    → PartClean n m begun part b c tail f g w0 w1
+    → Cut why (open_line begun part ∷ []) c d g w1 w2
+    → PartCut why n begun all b d f w0 w2
+part_stops why n m begun all part behind b c d tail f g w0 w1 w2 e so_far cut = record {
+  front = part;
+  behind = behind;
+  part_is = e;
+  none = so_far.clean.none;
+  cut =
+      cut_then why (whole_lines begun part) (open_line begun part ∷ []) b c d f g w0 w1 w2
+      so_far.runs.ran cut;
+}
+
+-- ---- a whole input
+
+-- Every line but the last of an input is ended by a byte of it.
+pub few_lines : (begun bytes : List ℕ) → length (whole_lines begun bytes) ≤ length bytes
+few_lines begun [] = omega arith
+few_lines begun (x ∷ bytes) =
+    grind (arith, few_lines [] bytes, few_lines (begun ++ x ∷ []) bytes)
+
+-- Two parts were run, and all that was gathered is written.
+pub clean_parts :
+    (n m : ℕ) (xs ys tail : List ℕ) (b c : Logged) (w0 w1 : Option (List ℕ))
+    → PartClean 1 n [] xs b c tail [] [] w0 w1
+    → Clean n m (plain c) (whole_lines (open_line [] xs) ys)
+    → Clean 1 m (plain b) (whole_lines [] (xs ++ ys))
+clean_parts n m xs ys tail b c w0 w1 one two =
+    let P : List (List ℕ) → Type 0 = λ lines. Clean 1 m (plain b) lines in
+    subst P (sym (whole_lines-append [] xs ys))
+    (clean_then 1 n m b c (whole_lines [] xs) (whole_lines (open_line [] xs) ys)
+    one.runs.ran.session one.clean two)
+
+-- The lines up to some LF of a part, behind those before it.
+lines_up_to : (xs front : List ℕ)
+    → lines_of (xs ++ front) ≡ whole_lines [] xs ++ lines_to (open_line [] xs) front
+lines_up_to xs front =
+    ap (λ l. l ++ open_line [] (xs ++ front) ∷ []) (whole_lines-append [] xs front)
+    ∙ ap (λ l. (whole_lines [] xs ++ whole_lines (open_line [] xs) front) ++ l ∷ [])
+    (open_line-append [] xs front)
+    ∙ append_assoc (whole_lines [] xs) (whole_lines (open_line [] xs) front)
+    (open_line (open_line [] xs) front ∷ [])
+
+-- An input up to some LF, and what is behind it.
+around : (xs part front behind : List ℕ)
+    → part ≡ front ++ 10 ∷ behind
+    → xs ++ part ≡ (xs ++ front) ++ 10 ∷ behind
+around xs part front behind e =
+    ap (λ t. xs ++ t) e ∙ sym (append_assoc xs front (10 ∷ behind))
+
+-- Of a part that was read at once little is behind an LF.
+few_behind : (part front behind : List ℕ)
+    → part ≡ front ++ 10 ∷ behind → length part ≤ 4096 → length behind < 4096
+few_behind part front behind e h =
+    omega (arith, ap length e, length-append front (10 ∷ behind), h)
+
+-- ---- a line strays
+
+-- The last of the first lines strays, whatever is behind its LF.
+strays_first : (s : Session) (bytes front behind : List ℕ) (stray : StrayLine)
+    → bytes ≡ front ++ 10 ∷ behind
+    → Found 1 s (lines_of front) stray
+    → (stray_in s bytes ≡ Some stray) × (strict_lines_of s bytes ≡ lines_of front)
+strays_first s bytes front behind stray e found =
+    let lines : lines_of bytes ≡ lines_of front ++ lines_of behind =
+    ap lines_of e ∙ lines_around front behind in
+    let more = some_more 1 s (lines_of front) (lines_of behind) stray found.found in
+    (ap (stray_from 1 s) lines ∙ more.0, ap (strict_lines s) lines ∙ more.1 ∙ found.all)
+
+-- A line of a part strays.
+pub ran_to_stray :
+    (n : ℕ) (bytes part tail g : List ℕ) (b c d : Logged) (stray : StrayLine)
+    (r0 r1 r2 w0 w1 w2 : Option (List ℕ))
+    → Consumes r0 r1 bytes
+    → Consumes r1 r2 part
+    → length (bytes ++ part) ≤ LONGEST_INPUT + 1
+    → length part ≤ 4096
+    → PartClean 1 n [] bytes b c tail [] [] w0 w1
+    → PartStrays stray n (open_line [] bytes) part c d [] g w1 w2
+    → RanStrictly (Some stray) b d g r0 r2 w0 w2
+ran_to_stray n bytes part tail g b c d stray r0 r1 r2 w0 w1 w2 read more within few so_far strays =
+    let s = plain b in
+    let all = bytes ++ part in
+    let front = bytes ++ strays.front in
+    let first = whole_lines [] bytes in
+    let next = lines_to (open_line [] bytes) strays.front in
+    let is_first = around bytes part strays.front strays.behind strays.part_is in
+    let P : List (List ℕ) → Type 0 = λ lines. Found 1 s lines stray in
+    let Q : List (List ℕ) → Type 0 = λ lines. Ran lines b d [] g w0 w2 in
+    let session = so_far.runs.ran.session in
+    let lines = lines_up_to bytes strays.front in
+    let both = strays_first s all front strays.behind stray is_first
+    (subst P (sym lines) (found_then 1 n b c first next stray session so_far.clean strays.found))
+    in
+    record {
+      bytes = all;
+      read = consumes_then r0 r1 r2 bytes part read more;
+      stray_is = sym both.0;
+      read_for =
+          inr (record {
+            front = front;
+            behind = strays.behind;
+            bytes_are = is_first;
+            lines_are = sym both.1;
+            few_behind = few_behind part strays.front strays.behind strays.part_is few;
+          });
+      ended = λ e. absurd (grind (arith, e));
+      within = within;
+      ran =
+          subst Q (sym (both.1 ∙ lines))
+          (ran_then first next b c d [] [] g w0 w1 w2 so_far.runs.ran strays.ran);
+    }
+
+-- ---- the last line
+
+-- All lines but the last are clean, and so the last one is run, too.
+last_lines : (m : ℕ) (b c : Logged) (bytes : List ℕ)
+    → c ≡ logged_after_lines b (whole_lines [] bytes)
+    → Clean 1 m (plain b) (whole_lines [] bytes)
+    → strict_lines_of (plain b) bytes ≡ lines_of bytes
+last_lines m b c bytes session clean =
+    run_on 1 m b c (whole_lines [] bytes) (open_line [] bytes ∷ []) session clean
+    ∙ ap (λ l. whole_lines [] bytes ++ l) (strict_one (plain c) (open_line [] bytes))
+
+last_stray : (m : ℕ) (c : Logged) (line : List ℕ) (why : Option Stray)
+    → why ≡ stray_at (plain c) line
+    → (stray : Option StrayLine)
+    → stray ≡ option_map (λ x. record { number = m; why = x }) why
+    → stray ≡ stray_from m (plain c) (line ∷ [])
+last_stray m c line None h stray e = e ∙ sym (none_one m (plain c) line (sym h))
+last_stray m c line (Some x) h stray e = e ∙ sym (stray_one m (plain c) line x (sym h))
+
+-- The last line was run, whether it strays or not.
+pub ran_to_end :
+    (m : ℕ) (b c d : Logged) (tail g : List ℕ) (stray : Option StrayLine) (why : Option Stray)
+    (r0 r1 w0 w1 w2 : Option (List ℕ))
+    → (reads : ReadsClean m b c tail r0 r1 w0 w1)
+    → Ran (open_line [] reads.reads.bytes ∷ []) c d [] g w1 w2
+    → why ≡ stray_at (plain c) (open_line [] reads.reads.bytes)
+    → stray ≡ option_map (λ x. record { number = m; why = x }) why
+    → RanStrictly stray b d g r0 r1 w0 w2
+ran_to_end m b c d tail g stray why r0 r1 w0 w1 w2 reads last is e =
+    let bytes = reads.reads.bytes in
+    let first = whole_lines [] bytes in
+    let line = open_line [] bytes in
+    let session = reads.reads.part.ran.session in
+    let Q : List (List ℕ) → Type 0 = λ lines. Ran lines b d [] g w0 w2 in
+    record {
+      bytes = bytes;
+      read = reads.reads.read;
+      stray_is =
+          last_stray m c line why is stray e
+          ∙ sym (search_on 1 m b c first (line ∷ []) session reads.clean);
+      read_for = inl reads.reads.ended;
+      ended = λ none. (reads.reads.ended, reads.reads.within);
+      within = omega (arith, reads.reads.within);
+      ran =
+          subst Q (sym (last_lines m b c bytes session reads.clean))
+          (ran_then first (line ∷ []) b c d [] [] g w0 w1 w2 reads.reads.part.ran last);
+    }
+
+-- ---- a strict run that stops
+
+-- Lines of which the first were run stopped.
+stops_of :
+    (why : RunFault) (bytes : List ℕ) (lines : List (List ℕ)) (b d : Logged)
+    (r0 r1 w0 w1 : Option (List ℕ))
+    → IsOfLine why
+    → Consumes r0 r1 bytes
+    → length bytes ≤ LONGEST_INPUT + 1
+    → strict_lines_of (plain b) bytes ≡ lines
+    → (cut : Cut why lines b d [] w0 w1)
+    → (untried why cut.left ≡ [] → IsReadFor lines bytes r1)
+    → StopsStrictly why b d r0 r1 w0 w1
+stops_of why bytes lines b d r0 r1 w0 w1 f read few is cut reads =
+    let P : List (List ℕ) → Type 0 = λ l. IsReadFor l bytes r1 in
+    record {
+      bytes = bytes;
+      read = read;
+      ran = cut.ran;
+      left = cut.left;
+      lines_are = is ∙ cut.lines_are;
+      read_for = λ e. subst P cut.lines_are (reads e);
+      stopped = stopped_so why cut.left cut.stopped;
+      reached = reached_in why bytes cut.ran f few;
+      session = cut.session;
+      written = written_so why (plain b) cut.ran cut.left w0 w1 cut.written;
+    }
+
+-- What ends with nothing has nothing at its end.
+no_end : (xs ys : List (List ℕ)) → xs ++ ys ≡ [] → ys ≡ []
+no_end [] ys e = e
+no_end (x ∷ xs) ys e = absurd (omega (arith, ap length e))
+
+-- Where no line is left behind one that stopped, there is none behind.
+none_behind : (why : RunFault) (left more : List (List ℕ))
+    → IsStopped why left → untried why (left ++ more) ≡ [] → more ≡ []
+none_behind (fault.Store why) [] more h e = absurd h
+none_behind (fault.Store why) (line ∷ left) more h e = no_end left more e
+none_behind fault.Memory [] more h e = absurd h
+none_behind fault.Memory (line ∷ left) more h e = no_end left more e
+none_behind fault.Input left more h e = no_end left more e
+none_behind fault.InputTooLong left more h e = no_end left more e
+none_behind fault.Output left more h e = no_end left more e
+
+-- The lines of a strict run begin with those up to some LF, where none before the last strays.
+strict_behind :
+    (s : Session) (before here : List (List ℕ)) (line front behind : List ℕ)
+    → stray_from 1 s (before ++ here) ≡ None
+    → lines_of front ≡ (before ++ here) ++ line ∷ []
+    → (more : List (List ℕ))
+    × (strict_lines_of s (front ++ 10 ∷ behind) ≡ ((before ++ here) ++ line ∷ []) ++ more)
+strict_behind s before here line front behind none lines =
+    let first = before ++ here in
+    let t = after_lines s first in
+    let more = if is_some (stray_at t line) then [] else strict_lines (after_line t line)
+    (lines_of behind) in (
+      more,
+      ap (strict_lines s)
+          (lines_around front behind ∙ ap (λ l. l ++ lines_of behind) lines
+          ∙ append_assoc first (line ∷ []) (lines_of behind))
+          ∙ lines_then 1 s first (line ∷ lines_of behind) none
+          ∙ sym (append_assoc first (line ∷ []) more),
+    )
+
+-- A line of a part stopped.
+pub stops_in_part :
+    (why : RunFault) (n : ℕ) (bytes part tail : List ℕ) (b c d : Logged)
+    (r0 r1 r2 w0 w1 w2 : Option (List ℕ))
+    → IsOfLine why
+    → Consumes r0 r1 bytes
+    → Consumes r1 r2 part
+    → length (bytes ++ part) ≤ LONGEST_INPUT + 1
+    → length part ≤ 4096
+    → PartClean 1 n [] bytes b c tail [] [] w0 w1
+    → PartCut why n (open_line [] bytes) part c d [] w1 w2
+    → StopsStrictly why b d r0 r2 w0 w2
+stops_in_part why n bytes part tail b c d r0 r1 r2 w0 w1 w2 f read more within few so_far cut =
+    let s = plain b in
+    let all = bytes ++ part in
+    let front = bytes ++ cut.front in
+    let before = whole_lines [] bytes in
+    let here = whole_lines (open_line [] bytes) cut.front in
+    let line = open_line (open_line [] bytes) cut.front in
+    let session = so_far.runs.ran.session in
+    let rest = strict_behind s before here line front cut.behind
+    (search_on 1 n b c before here session so_far.clean ∙ cut.none)
+    (lines_up_to bytes cut.front ∙ sym (append_assoc before here (line ∷ []))) in
+    let tried = cut_then why before (here ++ line ∷ []) b c d [] [] w0 w1 w2 so_far.runs.ran
+    cut.cut in
+    let is_first = around bytes part cut.front cut.behind cut.part_is in
+    let whole = cut_more why (before ++ (here ++ line ∷ [])) rest.0 b d [] w0 w2 tried in
+    stops_of why all ((before ++ (here ++ line ∷ [])) ++ rest.0) b d r0 r2 w0 w2 f
+    (consumes_then r0 r1 r2 bytes part read more) within
+    (ap (strict_lines_of s) is_first ∙ rest.1
+    ∙ ap (λ l. l ++ rest.0) (append_assoc before here (line ∷ []))) whole
+    (λ e. inr (record {
+      front = front;
+      behind = cut.behind;
+      bytes_are = is_first;
+      lines_are =
+          lines_up_to bytes cut.front
+          ∙ sym (append-nil (before ++ (here ++ line ∷ [])))
+          ∙ ap (λ m. (before ++ (here ++ line ∷ [])) ++ m)
+          (sym (none_behind why tried.left rest.0 tried.stopped e));
+      few_behind = few_behind part cut.front cut.behind cut.part_is few;
+    }))
+
+-- The lines of a part were run, and what was gathered for them is cut.
+pub stops_behind_part :
+    (n m : ℕ) (bytes part tail more g : List ℕ) (b c d : Logged)
+    (r0 r1 r2 w0 w1 w2 w3 : Option (List ℕ))
+    → Consumes r0 r1 bytes
+    → Consumes r1 r2 part
+    → length (bytes ++ part) ≤ LONGEST_INPUT + 1
+    → PartClean 1 n [] bytes b c tail [] [] w0 w1
+    → PartClean n m (open_line [] bytes) part c d more [] g w1 w2
+    → WritesPart w2 w3 g
+    → StopsStrictly fault.Output b d r0 r2 w0 w3
+stops_behind_part n m bytes part tail more g b c d r0 r1 r2 w0 w1 w2 w3 read next within so_far
+    ran cut =
+    let all = bytes ++ part in
+    let before = whole_lines [] bytes in
+    let here = whole_lines (open_line [] bytes) part in
+    let last = open_line [] all in
+    let both = ran_then before here b c d [] [] g w0 w1 w2 so_far.runs.ran ran.runs.ran in
+    let tried = cut_written (before ++ here) b d [] g w0 w2 w3 both cut in
+    let whole = cut_more fault.Output (before ++ here) (last ∷ []) b d [] w0 w3 tried in
+    let lines = whole_lines-append [] bytes part in
+    let clean = clean_parts n m bytes part tail b c w0 w1 so_far ran.clean in
+    let R : List (List ℕ) → Type 0 = λ l. d ≡ logged_after_lines b l in
+    stops_of fault.Output all ((before ++ here) ++ last ∷ []) b d r0 r2 w0 w3 tt
+    (consumes_then r0 r1 r2 bytes part read next) within
+    (last_lines m b d all (subst R (sym lines) both.session) clean
+    ∙ ap (λ l. l ++ last ∷ []) lines)
+    whole (λ e. left_over tried.left last _ e)
+
+-- A fault of reading, behind all lines that an LF ended.
+pub stops_reading_strictly :
+    (why : RunFault) (n : ℕ) (bytes tail : List ℕ) (b c : Logged) (r0 r1 w0 w1 : Option (List ℕ))
+    → Consumes r0 r1 bytes
+    → PartClean 1 n [] bytes b c tail [] [] w0 w1
+    → IsReached why bytes (whole_lines [] bytes)
+    → ((left : List (List ℕ)) → untried why left ≡ left)
+    → ((left : List (List ℕ)) → IsRunStopped why left)
+    → (Appends w0 w1 (replies (plain b) (whole_lines [] bytes))
+    → IsWritten why (plain b) (whole_lines [] bytes) (open_line [] bytes ∷ []) w0 w1)
+    → StopsStrictly why b c r0 r1 w0 w1
+stops_reading_strictly why n bytes tail b c r0 r1 w0 w1 read clean reached all_left stopped
+    written =
+    let P : List ℕ → Type 0 = λ x. Appends w0 w1 x in
+    let ran = clean.runs.ran in
+    let left = open_line [] bytes ∷ [] in
+    record {
+      bytes = bytes;
+      read = read;
+      ran = whole_lines [] bytes;
+      left = left;
+      lines_are = last_lines n b c bytes ran.session clean.clean;
+      read_for = λ e. left_over [] (open_line [] bytes) _ (sym (all_left left) ∙ e);
+      stopped = stopped left;
+      reached = reached;
+      session = ran.session;
+      written = written (subst P (sym (ran.replied ∙ append-nil ran.out)) ran.written);
+    }
+
+-- The last line stopped.
+pub stops_at_last :
+    (why : RunFault) (m : ℕ) (b c d : Logged) (tail : List ℕ) (r0 r1 w0 w1 w2 : Option (List ℕ))
+    → IsOfLine why
+    → (reads : ReadsClean m b c tail r0 r1 w0 w1)
+    → Cut why (open_line [] reads.reads.bytes ∷ []) c d [] w1 w2
+    → StopsStrictly why b d r0 r1 w0 w2
+stops_at_last why m b c d tail r0 r1 w0 w1 w2 f reads cut =
+    let bytes = reads.reads.bytes in
+    let line = open_line [] bytes in
+    stops_of why bytes (lines_of bytes) b d r0 r1 w0 w2 f reads.reads.read
+    (omega (arith, reads.reads.within))
+    (last_lines m b c bytes reads.reads.part.ran.session reads.clean)
+    (cut_then why (whole_lines [] bytes) (line ∷ []) b c d [] [] w0 w1 w2 reads.reads.part.ran
+    cut)
+    (λ e. inl reads.reads.ended)
+
+-- ---- the end
+
+-- The last flush stopped, or the writer failed behind it.
+pub stops_closing_strictly :
+    (why : RunFault) (b d e : Logged) (g : List ℕ) (stray : Option StrayLine)
+    (r0 r1 w0 w2 w3 : Option (List ℕ))
+    → RanStrictly stray b d g r0 r1 w0 w2
+    → e ≡ d
+    → EndStops why (closing (plain d)) g w2 w3
+    → StopsStrictly why b e r0 r1 w0 w3
+stops_closing_strictly why b d e g stray r0 r1 w0 w2 w3 ran same end =
+    let lines = strict_lines_of (plain b) ran.bytes in
+    let P : List (List ℕ) → Type 0 = λ l. IsReadFor l ran.bytes r1 in
+    record {
+      bytes = ran.bytes;
+      read = ran.read;
+      ran = lines;
+      left = [];
+      lines_are = sym (append-nil lines);
+      read_for = λ _. subst P (sym (append-nil lines)) ran.read_for;
+      stopped = end_stops why (closing (plain d)) g w2 w3 end;
+      reached = reached_end why (closing (plain d)) g w2 w3 ran.bytes lines end ran.within;
+      session = same ∙ ran.ran.session;
+      written = end_wrote why b d lines g w0 w2 w3 ran.ran end;
+    }
+
+-- The closing line was written.
+pub runs_strictly : {D : Type 0}
+    (stray : Option StrayLine) (old new : BookView D) (d : Logged) (g : List ℕ)
+    (r0 r1 w0 w2 w3 : Option (List ℕ))
+    → RanStrictly stray old.session d g r0 r1 w0 w2
+    → new.session ≡ d
+    → Told (closing (plain d)) g [] w2 w3
+    → new.durable ≡ new.session.state.count
+    → RunsStrictly stray old new r0 r1 w0 w3
+runs_strictly stray old new d g r0 r1 w0 w2 w3 ran same told saved =
+    let b = old.session in
+    record {
+      bytes = ran.bytes;
+      read = ran.read;
+      stray_is = ran.stray_is;
+      read_for = ran.read_for;
+      ended = ran.ended;
+      within = ran.within;
+      session = same ∙ ran.ran.session;
+      written = end_told b d (strict_lines_of (plain b) ran.bytes) g w0 w2 w3 ran.ran told;
+      saved = saved;
+    }
+
+-- ---- what a part came to
+
+-- Nothing was read yet.
+pub clean_begins :
+    (n m : ℕ) (begun tail g : List ℕ) (b : Logged) (w : Option (List ℕ))
+    → m ≡ n
+    → PartRan begun [] b b tail g g w w
+    → PartClean n m begun [] b b tail g g w w
+clean_begins n m begun tail g b w e ran = record {
+  runs = ran;
+  clean = record { none = refl; next = omega (arith, e) };
+}
+
+-- No line of it strays.
+pub is_clean :
+    (found : Option StrayLine) (n m : ℕ) (begun part : List ℕ) (b c : Logged)
+    (tail before gathered : List ℕ) (w0 w1 : Option (List ℕ))
+    → is_some found ≡ false
+    → PartRuns found n m begun part b c tail before gathered w0 w1
+    → PartClean n m begun part b c tail before gathered w0 w1
+is_clean None n m begun part b c tail before gathered w0 w1 none runs = runs
+is_clean (Some stray) n m begun part b c tail before gathered w0 w1 none runs =
+    absurd (grind (arith, none))
+
+-- A line of it strays.
+pub reads_stray :
+    (found : Option StrayLine) (n m : ℕ) (bytes part tail more g : List ℕ) (b c d : Logged)
+    (r0 r1 r2 w0 w1 w2 : Option (List ℕ))
+    → is_some found ≡ true
+    → Consumes r0 r1 bytes
+    → Consumes r1 r2 part
+    → length (bytes ++ part) ≤ LONGEST_INPUT + 1
+    → length part ≤ 4096
+    → PartClean 1 n [] bytes b c tail [] [] w0 w1
+    → PartRuns found n m (open_line [] bytes) part c d more [] g w1 w2
+    → ReadsStrictly found m b d more g r0 r2 w0 w2
+reads_stray None n m bytes part tail more g b c d r0 r1 r2 w0 w1 w2 some =
+    absurd (grind (arith, some))
+reads_stray (Some stray) n m bytes part tail more g b c d r0 r1 r2 w0 w1 w2 some read next within
+    few so_far runs =
+    ran_to_stray n bytes part tail g b c d stray r0 r1 r2 w0 w1 w2 read next within few so_far runs
+
+-- The bytes that were read, where nothing was gathered before them.
+pub part_here : (P : List ℕ → List ℕ → Type 0) (n : ℕ) (room rest gathered : List ℕ)
+    → n ≤ length room
+    → gathered ≡ []
+    → P gathered (take n (room ++ rest))
+    → P [] (take n room)
+part_here P n room rest gathered few none h =
+    subst (λ x. P [] x) (take-append-le n room rest few)
+    (subst (λ x. P x (take n (room ++ rest))) none h)
+
+-- They are no more than there was room for.
+pub part_few : (room old : List ℕ) (n most total part : ℕ)
+    → n ≤ length room
+    → length room ≡ length (take most old)
+    → most ≡ min (LONGEST_INPUT + 1 - total) part
+    → length (take n room) ≤ part
+part_few room old n most total part few long is =
+    let size : length (take n room) ≡ n = length-take-le n room few in
+    let cut = length-take most old in
+    omega arith
+
+-- ---- what the lines that an LF ends came to
+
+-- One strays, and that ends the run.
+pub ran_with_stray :
+    (found : Option StrayLine) (m : ℕ) (b c : Logged) (tail g : List ℕ)
+    (r0 r1 w0 w1 : Option (List ℕ))
+    → is_some found ≡ true
+    → ReadsStrictly found m b c tail g r0 r1 w0 w1
+    → RanStrictly found b c g r0 r1 w0 w1
+ran_with_stray None m b c tail g r0 r1 w0 w1 some reads = absurd (grind (arith, some))
+ran_with_stray (Some stray) m b c tail g r0 r1 w0 w1 some reads = reads
+
+-- None does, and the last line is left.
+pub reads_clean :
+    (found : Option StrayLine) (m : ℕ) (b c : Logged) (tail g : List ℕ)
+    (r0 r1 w0 w1 : Option (List ℕ))
+    → is_some found ≡ false
+    → ReadsStrictly found m b c tail g r0 r1 w0 w1
+    → ReadsClean m b c tail r0 r1 w0 w1 × (g ≡ [])
+reads_clean None m b c tail g r0 r1 w0 w1 none reads = reads
+reads_clean (Some stray) m b c tail g r0 r1 w0 w1 none reads = absurd (grind (arith, none))

@@ -1,0 +1,6 @@
+use Rattle.std.proofs.Common.{◌∙◌}
+use Rattle.run_console.proofs.LineSteps.{only_stray}
+use Rattle.run_console.proofs.consoles.stray_of.Goals as goal
+
+pub returns-in-Some : goal.returns-in-Some
+returns-in-Some c = c.of.ensures ∙ only_stray _

@@ -1,0 +1,64 @@
+use Rattle.std.proofs.lemmas.Result.{err_from_is_err_and}
+use Rattle.run_book.specs.Views.{holding}
+use Rattle.run_console.proofs.Going.{Lives, lives_then}
+use Rattle.run_console.proofs.StrictLemmas.{runs_strictly, stops_closing_strictly}
+use Rattle.run_console.proofs.Troubles.{accounts_earlier}
+use Rattle.run_console.proofs.stricts.run_sound.Given.{Over}
+use Rattle.run_console.proofs.stricts.run_sound.Goals as goal
+use Rattle.run_console.proofs.stricts.run_sound.Goals.{After-close}
+
+pub returns-clause-runs : goal.returns-clause-runs
+returns-clause-runs g c =
+    runs_strictly c.in_ok-stray.stray c.args.book.now c.close.new.book
+    c.run_lines.new.book.session c.run_lines.new.gathered.items
+    (g.R.Read.remaining c.args.input.now) (g.R.Read.remaining c.run_lines.new.input)
+    (g.W.Write.contents c.args.output.now) (g.W.Write.contents c.run_lines.new.output)
+    (g.W.Write.contents c.close.new.output)
+    c.in_ok-stray.ensures.ran c.close.ensures.session c.in_ok-close.ensures.whole
+    c.in_ok-close.ensures.saved
+
+pub returns-in_err-close-clause-stops : goal.returns-in_err-close-clause-stops
+returns-in_err-close-clause-stops g c =
+    let p = err_from_is_err_and c.from_residual-in_err-close.result
+    c.from_residual-in_err-close.ensures.1 in
+    rw (p.1, p.2) (
+    stops_closing_strictly c.in_err-close.field-0.0 c.args.book.now.session
+    c.run_lines.new.book.session c.close.new.book.session c.run_lines.new.gathered.items
+    c.in_ok-stray.stray
+    (g.R.Read.remaining c.args.input.now) (g.R.Read.remaining c.run_lines.new.input)
+    (g.W.Write.contents c.args.output.now) (g.W.Write.contents c.run_lines.new.output)
+    (g.W.Write.contents c.close.new.output)
+    c.in_ok-stray.ensures.ran c.close.ensures.session c.in_err-close.ensures.stops)
+
+pub returns-in_err-close-clause-accounts : goal.returns-in_err-close-clause-accounts
+returns-in_err-close-clause-accounts g c =
+    let p = err_from_is_err_and c.from_residual-in_err-close.result
+    c.from_residual-in_err-close.ensures.1 in
+    rw (p.1, p.2) (
+    accounts_earlier g.D.RunDisk.state (holding c.args.book.now) (holding c.run_lines.new.book)
+    (holding c.close.new.book) c.in_err-close.field-0.0
+    c.run_lines.ensures.carries_on.passed c.in_err-close.ensures.accounts)
+
+-- ---- the book
+
+lives : (g : Over) (c : After-close g)
+    → Lives g.D.RunDisk.state c.args.book.now c.close.new.book
+lives g c =
+    lives_then g.D.RunDisk.state c.args.book.now c.run_lines.new.book c.close.new.book
+    (record {
+      lasts = c.run_lines.ensures.lasts;
+      carries_on = c.run_lines.ensures.carries_on;
+    })
+    c.close.ensures.lasts c.close.ensures.carries_on
+
+pub returns-in_err-close-clause-lasts : goal.returns-in_err-close-clause-lasts
+returns-in_err-close-clause-lasts g c = (lives g c).lasts
+
+pub returns-in_err-close-clause-carries_on : goal.returns-in_err-close-clause-carries_on
+returns-in_err-close-clause-carries_on g c = (lives g c).carries_on
+
+pub returns-clause-lasts : goal.returns-clause-lasts
+returns-clause-lasts g c = (lives g c).lasts
+
+pub returns-clause-carries_on : goal.returns-clause-carries_on
+returns-clause-carries_on g c = (lives g c).carries_on

@@ -1,0 +1,297 @@
+use Rattle.std.proofs.Common.{ℕ, List, [], ◌++◌, take, drop, refl, sym, subst, ◌∙◌, arith}
+use Rattle.std.proofs.Common.{append-nil}
+use Rattle.std.proofs.lemmas.List.{length-take, length-take-le, take-append-le}
+use Rattle.std.proofs.lemmas.Result.{err_from_is_err_and}
+use Rattle.std.specs.Io.KnownBytes.{Consumes}
+use Rattle.console_lines.specs.declared.faults.RunFault.TheVariants as fault
+use Rattle.console_lines.specs.Lines.{open_line, whole_lines}
+use Rattle.console_lines.proofs.Written.{consumes_kept, consumes_nothing, consumes_then}
+use Rattle.run_console.specs.Strict.{PartCut, PartRuns}
+use Rattle.run_console.proofs.Going.{goes_none, lives_then}
+use Rattle.run_console.proofs.Parts.{part_begins, part_then}
+use Rattle.run_console.proofs.StrictLemmas.{clean_begins, clean_parts, few_lines, is_clean}
+use Rattle.run_console.proofs.StrictLemmas.{part_few, part_here}
+use Rattle.run_console.proofs.StrictLemmas.{reads_stray, stops_behind_part, stops_in_part}
+use Rattle.run_console.proofs.StrictLemmas.{stops_reading_strictly}
+use Rattle.run_console.proofs.Wholes.{part_read, reads_all}
+use Rattle.run_console.proofs.stricts.run_whole_lines.Goals as goal
+use Rattle.run_book.specs.Views.{holding}
+use Rattle.run_console.proofs.Troubles.{accounts_earlier, accounts_sound}
+
+pub loop-total-init : goal.loop-total-init
+loop-total-init g c = (
+  [],
+  consumes_nothing _,
+  refl,
+  omega arith,
+  clean_begins 1 _ [] _ [] c.args.book.now.session _ c.requires.number
+      (part_begins [] _ [] c.args.book.now.session _ c.requires.tail),
+  c.requires.gathered,
+  goes_none g.D.RunDisk.state c.args.book.now c.requires.sound
+      c.durable-durable.ensures.carries_on,
+)
+
+-- ---- the input is read
+
+pub returns-then-count-eq0-clause-read : goal.returns-then-count-eq0-clause-read
+returns-then-count-eq0-clause-read g c =
+    let inv = c.loop-total.invariant in
+    let r1 = g.R.Read.remaining c.loop-total.input in
+    let r2 = g.R.Read.remaining c.read_some.new.input in
+    let P : ℕ → Type 0 = λ n. Consumes r1 r2 (take n c.read_some.new.room) in (
+      record {
+        reads =
+            reads_all inv.0 c.loop-total.tail.items c.args.book.now.session
+            c.loop-total.book.session
+            (g.R.Read.remaining c.args.input.now) r1 r2
+            (g.W.Write.contents c.args.output.now) (g.W.Write.contents c.loop-total.output) inv.1
+            (subst P c.if-count-eq0.true c.in_ok-count.ensures.bytes.0)
+            (c.in_ok-count.ensures.bytes.1 c.if-count-eq0.true
+            (grind (
+              arith,
+              length-take,
+              c.read_some.auto.room,
+              c.min-most.ensures,
+              c.loop-total-test.true,
+            )))
+            (omega (arith, inv.2, c.loop-total-test.true)) inv.4.runs;
+        clean = inv.4.clean;
+      },
+      inv.5,
+    )
+
+pub returns-in_err-count-clause-stops : goal.returns-in_err-count-clause-stops
+returns-in_err-count-clause-stops g c =
+    let p = err_from_is_err_and c.from_residual.result c.from_residual.ensures.1 in
+    let inv = c.loop-total.invariant in
+    let r0 = g.R.Read.remaining c.args.input.now in
+    let r2 = g.R.Read.remaining c.read_some.new.input in
+    let P : List ℕ → Type 0 = λ x. Consumes r0 r2 x in
+    rw (p.1, p.2, c.in_err-count.ensures.fault) (
+    stops_reading_strictly fault.Input c.loop-total.number inv.0 c.loop-total.tail.items
+    c.args.book.now.session c.loop-total.book.session r0 r2
+    (g.W.Write.contents c.args.output.now) (g.W.Write.contents c.loop-total.output)
+    (subst P (append-nil inv.0)
+    (consumes_then r0 _ r2 inv.0 [] inv.1 (consumes_kept _ r2 c.in_err-count.ensures.bytes)))
+    inv.4 (omega (arith, inv.2, c.loop-total-test.true), refl) (λ l. refl) (λ l. tt) (λ h. h))
+
+pub returns-clause-stops : goal.returns-clause-stops
+returns-clause-stops g c =
+    let inv = c.loop-total.invariant in
+    stops_reading_strictly fault.InputTooLong c.loop-total.number inv.0 c.loop-total.tail.items
+    c.args.book.now.session c.loop-total.book.session
+    (g.R.Read.remaining c.args.input.now) (g.R.Read.remaining c.loop-total.input)
+    (g.W.Write.contents c.args.output.now) (g.W.Write.contents c.loop-total.output)
+    inv.1 inv.4 (omega (arith, inv.2, inv.3, c.loop-total-test.false), refl) (λ l. refl) (λ l. tt)
+    (λ h. h)
+
+-- ---- a part is run
+
+pub loop-total-preserved : goal.loop-total-preserved
+loop-total-preserved g c =
+    let inv = c.loop-total.invariant in
+    let n = c.in_ok-count.count in
+    let room = c.read_some.new.room in
+    let few = c.in_ok-count.ensures.bound.0 in
+    let line = open_line [] inv.0 in
+    let from = c.loop-total.number in
+    let to = c.run_part.new.number in
+    let b = c.args.book.now.session in
+    let mid = c.loop-total.book.session in
+    let d = c.run_part.new.book.session in
+    let tail = c.run_part.new.tail.items in
+    let h = c.run_part.new.gathered.items in
+    let w0 = g.W.Write.contents c.args.output.now in
+    let w1 = g.W.Write.contents c.loop-total.output in
+    let w2 = g.W.Write.contents c.run_part.new.output in
+    let w3 = g.W.Write.contents c.write_gathered.new.output in
+    let found = c.in_ok-found.found in
+    let P : List ℕ → List ℕ → Type 0 = λ before x.
+    PartRuns found from to line x mid d tail before h w1 w2 in
+    let runs = is_clean found from to line (take n room) mid d tail [] h w1 w2
+    (sym c.is_some.ensures ∙ c.if-is_some.false)
+    (part_here P n room (drop c.min-most.result c.loop-total.room) c.loop-total.gathered.items few
+    inv.5 (c.in_ok-found.ensures.ran line inv.4.runs.tail_is)) in
+    let size = part_read inv.0 room c.loop-total.room n c.min-most.result c.loop-total.total 4096
+    inv.2 few c.read_some.auto.room c.min-most.ensures c.loop-total-test.true in (
+      inv.0 ++ take n room,
+      consumes_then _ _ _ inv.0 (take n room) inv.1 c.in_ok-count.ensures.bytes.0,
+      omega (arith, size.len, inv.2),
+      omega (arith, size.len, size.within, inv.2),
+      record {
+        runs =
+            part_then [] inv.0 (take n room) c.loop-total.tail.items tail h b mid d w0 w1 w2 w3
+            inv.4.runs runs.runs c.in_ok-write_gathered.ensures.whole;
+        clean =
+            clean_parts from to inv.0 (take n room) c.loop-total.tail.items b mid w0 w1 inv.4
+            runs.clean;
+      },
+      c.in_ok-write_gathered.ensures.none,
+      record {
+        sound = c.in_ok-found.ensures.sound;
+        lives =
+            lives_then g.D.RunDisk.state c.args.book.now c.loop-total.book c.run_part.new.book
+            inv.6.lives c.run_part.ensures.lasts c.run_part.ensures.carries_on;
+      },
+    )
+
+pub returns-then-is_some-clause-read : goal.returns-then-is_some-clause-read
+returns-then-is_some-clause-read g c =
+    let inv = c.loop-total.invariant in
+    let n = c.in_ok-count.count in
+    let room = c.read_some.new.room in
+    let few = c.in_ok-count.ensures.bound.0 in
+    let line = open_line [] inv.0 in
+    let from = c.loop-total.number in
+    let to = c.run_part.new.number in
+    let mid = c.loop-total.book.session in
+    let d = c.run_part.new.book.session in
+    let tail = c.run_part.new.tail.items in
+    let h = c.run_part.new.gathered.items in
+    let w1 = g.W.Write.contents c.loop-total.output in
+    let w2 = g.W.Write.contents c.run_part.new.output in
+    let found = c.in_ok-found.found in
+    let P : List ℕ → List ℕ → Type 0 = λ before x.
+    PartRuns found from to line x mid d tail before h w1 w2 in
+    let size = part_read inv.0 room c.loop-total.room n c.min-most.result c.loop-total.total 4096
+    inv.2 few c.read_some.auto.room c.min-most.ensures c.loop-total-test.true in
+    reads_stray found from to inv.0 (take n room) c.loop-total.tail.items tail h
+    c.args.book.now.session mid d
+    (g.R.Read.remaining c.args.input.now) (g.R.Read.remaining c.loop-total.input)
+    (g.R.Read.remaining c.read_some.new.input)
+    (g.W.Write.contents c.args.output.now) w1 w2
+    (sym c.is_some.ensures ∙ c.if-is_some.true) inv.1 c.in_ok-count.ensures.bytes.0 size.within
+    (part_few room c.loop-total.room n c.min-most.result c.loop-total.total 4096 few
+    c.read_some.auto.room c.min-most.ensures) inv.4
+    (part_here P n room (drop c.min-most.result c.loop-total.room) c.loop-total.gathered.items few
+    inv.5 (c.in_ok-found.ensures.ran line inv.4.runs.tail_is))
+
+-- ---- a part that stops
+
+pub returns-in_err-found-clause-stops : goal.returns-in_err-found-clause-stops
+returns-in_err-found-clause-stops g c =
+    let p = err_from_is_err_and c.from_residual-in_err-found.result
+    c.from_residual-in_err-found.ensures.1 in
+    let inv = c.loop-total.invariant in
+    let n = c.in_ok-count.count in
+    let room = c.read_some.new.room in
+    let few = c.in_ok-count.ensures.bound.0 in
+    let line = open_line [] inv.0 in
+    let from = c.loop-total.number in
+    let why = c.in_err-found.field-0.0 in
+    let mid = c.loop-total.book.session in
+    let d = c.run_part.new.book.session in
+    let w1 = g.W.Write.contents c.loop-total.output in
+    let w2 = g.W.Write.contents c.run_part.new.output in
+    let P : List ℕ → List ℕ → Type 0 = λ before x. PartCut why from line x mid d before w1 w2 in
+    let size = part_read inv.0 room c.loop-total.room n c.min-most.result c.loop-total.total 4096
+    inv.2 few c.read_some.auto.room c.min-most.ensures c.loop-total-test.true in
+    rw (p.1, p.2) (
+    stops_in_part why from inv.0 (take n room) c.loop-total.tail.items
+    c.args.book.now.session mid d
+    (g.R.Read.remaining c.args.input.now) (g.R.Read.remaining c.loop-total.input)
+    (g.R.Read.remaining c.read_some.new.input)
+    (g.W.Write.contents c.args.output.now) w1 w2
+    c.in_err-found.ensures.fault inv.1 c.in_ok-count.ensures.bytes.0 size.within
+    (part_few room c.loop-total.room n c.min-most.result c.loop-total.total 4096 few
+    c.read_some.auto.room c.min-most.ensures) inv.4
+    (part_here P n room (drop c.min-most.result c.loop-total.room) c.loop-total.gathered.items few
+    inv.5 (c.in_err-found.ensures.cut line inv.4.runs.tail_is)))
+
+pub returns-in_err-write_gathered-clause-stops : goal.returns-in_err-write_gathered-clause-stops
+returns-in_err-write_gathered-clause-stops g c =
+    let p = err_from_is_err_and c.from_residual-in_err-write_gathered.result
+    c.from_residual-in_err-write_gathered.ensures.1 in
+    let inv = c.loop-total.invariant in
+    let n = c.in_ok-count.count in
+    let room = c.read_some.new.room in
+    let few = c.in_ok-count.ensures.bound.0 in
+    let line = open_line [] inv.0 in
+    let from = c.loop-total.number in
+    let to = c.run_part.new.number in
+    let mid = c.loop-total.book.session in
+    let d = c.run_part.new.book.session in
+    let tail = c.run_part.new.tail.items in
+    let h = c.run_part.new.gathered.items in
+    let w1 = g.W.Write.contents c.loop-total.output in
+    let w2 = g.W.Write.contents c.run_part.new.output in
+    let w3 = g.W.Write.contents c.write_gathered.new.output in
+    let found = c.in_ok-found.found in
+    let P : List ℕ → List ℕ → Type 0 = λ before x.
+    PartRuns found from to line x mid d tail before h w1 w2 in
+    let runs = is_clean found from to line (take n room) mid d tail [] h w1 w2
+    (sym c.is_some.ensures ∙ c.if-is_some.false)
+    (part_here P n room (drop c.min-most.result c.loop-total.room) c.loop-total.gathered.items few
+    inv.5 (c.in_ok-found.ensures.ran line inv.4.runs.tail_is)) in
+    let size = part_read inv.0 room c.loop-total.room n c.min-most.result c.loop-total.total 4096
+    inv.2 few c.read_some.auto.room c.min-most.ensures c.loop-total-test.true in
+    rw (p.1, p.2, c.in_err-write_gathered.ensures.fault) (
+    stops_behind_part from to inv.0 (take n room) c.loop-total.tail.items tail h
+    c.args.book.now.session mid d
+    (g.R.Read.remaining c.args.input.now) (g.R.Read.remaining c.loop-total.input)
+    (g.R.Read.remaining c.read_some.new.input)
+    (g.W.Write.contents c.args.output.now) w1 w2 w3
+    inv.1 c.in_ok-count.ensures.bytes.0 size.within inv.4 runs
+    c.in_err-write_gathered.ensures.cut)
+
+-- ---- the book
+
+pub returns-then-count-eq0-clause-lasts : goal.returns-then-count-eq0-clause-lasts
+returns-then-count-eq0-clause-lasts g c = c.loop-total.invariant.6.lives.lasts
+
+pub returns-in_err-count-clause-lasts : goal.returns-in_err-count-clause-lasts
+returns-in_err-count-clause-lasts g c = c.loop-total.invariant.6.lives.lasts
+
+pub returns-clause-lasts : goal.returns-clause-lasts
+returns-clause-lasts g c = c.loop-total.invariant.6.lives.lasts
+
+pub returns-in_err-found-clause-lasts : goal.returns-in_err-found-clause-lasts
+returns-in_err-found-clause-lasts g c =
+    (lives_then g.D.RunDisk.state c.args.book.now c.loop-total.book c.run_part.new.book
+    c.loop-total.invariant.6.lives c.run_part.ensures.lasts c.run_part.ensures.carries_on).lasts
+
+pub returns-in_err-found-clause-carries_on : goal.returns-in_err-found-clause-carries_on
+returns-in_err-found-clause-carries_on g c =
+    (lives_then g.D.RunDisk.state c.args.book.now c.loop-total.book c.run_part.new.book
+    c.loop-total.invariant.6.lives c.run_part.ensures.lasts
+    c.run_part.ensures.carries_on).carries_on
+
+pub returns-in_err-write_gathered-clause-lasts : goal.returns-in_err-write_gathered-clause-lasts
+returns-in_err-write_gathered-clause-lasts g c =
+    (lives_then g.D.RunDisk.state c.args.book.now c.loop-total.book c.run_part.new.book
+    c.loop-total.invariant.6.lives c.run_part.ensures.lasts c.run_part.ensures.carries_on).lasts
+
+pub returns-in_err-write_gathered-clause-carries_on :
+    goal.returns-in_err-write_gathered-clause-carries_on
+returns-in_err-write_gathered-clause-carries_on g c =
+    (lives_then g.D.RunDisk.state c.args.book.now c.loop-total.book c.run_part.new.book
+    c.loop-total.invariant.6.lives c.run_part.ensures.lasts
+    c.run_part.ensures.carries_on).carries_on
+
+-- ---- the store
+
+pub returns-in_err-count-clause-accounts : goal.returns-in_err-count-clause-accounts
+returns-in_err-count-clause-accounts g c =
+    let p = err_from_is_err_and c.from_residual.result c.from_residual.ensures.1 in
+    rw (p.1, p.2, c.in_err-count.ensures.fault) c.loop-total.invariant.6.sound
+
+pub returns-clause-accounts : goal.returns-clause-accounts
+returns-clause-accounts g c = c.loop-total.invariant.6.sound
+
+pub returns-in_err-found-clause-accounts : goal.returns-in_err-found-clause-accounts
+returns-in_err-found-clause-accounts g c =
+    let p = err_from_is_err_and c.from_residual-in_err-found.result
+    c.from_residual-in_err-found.ensures.1 in
+    rw (p.1, p.2) (
+    accounts_earlier g.D.RunDisk.state (holding c.args.book.now) (holding c.loop-total.book)
+    (holding c.run_part.new.book) c.in_err-found.field-0.0
+    c.loop-total.invariant.6.lives.carries_on.passed c.in_err-found.ensures.accounts)
+
+pub returns-in_err-write_gathered-clause-accounts :
+    goal.returns-in_err-write_gathered-clause-accounts
+returns-in_err-write_gathered-clause-accounts g c =
+    let p = err_from_is_err_and c.from_residual-in_err-write_gathered.result
+    c.from_residual-in_err-write_gathered.ensures.1 in
+    rw (p.1, p.2, c.in_err-write_gathered.ensures.fault) (
+    accounts_sound g.D.RunDisk.state (holding c.args.book.now) (holding c.run_part.new.book)
+    c.in_ok-found.ensures.sound)

@@ -1,0 +1,21 @@
+use Rattle.std.proofs.Common.{◌≡◌, ◌≤◌, ◌+◌, ◌-◌, ℕ, List, [], length}
+use Rattle.std.specs.Io.KnownBytes.{Consumes}
+use Rattle.console_lines.specs.declared.lines.TheConstants.{LONGEST_INPUT}
+use Rattle.run_console.specs.Strict.{PartClean}
+use Rattle.run_console.proofs.Going.{Goes}
+use Rattle.run_console.proofs.stricts.run_whole_lines.Given as goal
+
+-- Some bytes were read and run, no line strays, and no more was read than may be.
+abbrev pub invariant-loop-total : goal.invariant-loop-total
+invariant-loop-total g l =
+    (bytes : List ℕ)
+    × Consumes (g.R.Read.remaining l.initial.input) (g.R.Read.remaining l.input) bytes
+    × (length bytes ≡ l.total)
+    × (l.total ≤ LONGEST_INPUT + 1)
+    × PartClean 1 l.number [] bytes l.initial.book.session l.book.session l.tail.items [] []
+    (g.W.Write.contents l.initial.output) (g.W.Write.contents l.output)
+    × (l.gathered.items ≡ [])
+    × Goes g.D.RunDisk.state l.initial.book l.book
+
+abbrev pub decreases-loop-total : goal.decreases-loop-total
+decreases-loop-total g l = LONGEST_INPUT + 1 - l.total
