@@ -1,5 +1,5 @@
 -- Strict runs: the first line that strays, over a part and over a whole input.
-use Rattle.std.specs.Prelude.{◌≡◌, ◌==◌, ◌<◌, ◌≤◌, ◌+◌, ◌⊎◌, true, false, ℕ, List, [], ◌∷◌, ◌++◌, length}
+use Rattle.std.specs.Prelude.{◌≡◌, ◌==◌, ◌<◌, ◌≤◌, ◌+◌, true, false, ℕ, List, [], ◌∷◌, ◌++◌, length}
 use Rattle.std.specs.Prelude.{Option, Some, None, is_some, if◌then◌else◌, ◌-◌, min, take}
 use Rattle.std.specs.Option.{option_map}
 use Rattle.std.specs.Io.KnownBytes.{Appends, Consumes, IsAtEnd}
@@ -18,19 +18,19 @@ use Rattle.console_lines.specs.Lines.{whole_lines, open_line, lines_of}
 use Rattle.console_lines.specs.Progress.{WritesPart}
 use Rattle.console_lines.specs.Script.{after_line, after_lines, closing, replies}
 use Rattle.console_lines.specs.Strict.{stray_at, stray_from, stray_in, strict_lines}
-use Rattle.console_lines.specs.Strict.{strict_lines_of, strict_script}
+use Rattle.console_lines.specs.Strict.{strict_lines_of}
 use Rattle.console_lines.proofs.Splits.{line_ends, line_goes_on, whole_lines-append}
 use Rattle.console_lines.proofs.Splits.{open_line-append}
 use Rattle.console_lines.proofs.StrayLemmas.{lines_around, lines_then, none_one, none_then}
 use Rattle.console_lines.proofs.StrayLemmas.{some_more, stray_one, strict_one}
-use Rattle.console_lines.proofs.Written.{appends_then, consumes_then}
+use Rattle.console_lines.proofs.Written.{consumes_then}
 use Rattle.run_console.specs.SessionLines.{plain, logged_after_lines}
 use Rattle.run_console.specs.Progress.{Cut, EndStops, IsOfLine, IsReached, IsRunStopped, IsStopped}
-use Rattle.run_console.specs.Progress.{IsWritten, PartRan, Ran, ReadsAll, Told, Wrote, said_of}
+use Rattle.run_console.specs.Progress.{IsWritten, PartRan, Ran, Told}
 use Rattle.run_console.specs.Progress.{untried}
 use Rattle.run_console.specs.Strict.{Clean, Found, IsReadFor, PartClean, PartCut, PartStrays}
 use Rattle.run_console.specs.Strict.{PartRuns, RanStrictly, ReadsClean, ReadsStrictly}
-use Rattle.run_console.specs.Strict.{RunsStrictly, StandsFirst}
+use Rattle.run_console.specs.Strict.{RunsStrictly}
 use Rattle.run_console.specs.Strict.{StopsStrictly, lines_to}
 use Rattle.run_console.proofs.Lines.{cut_then, cut_written, plain_lines, ran_then}
 use Rattle.run_console.proofs.Lines.{stopped_more}

@@ -1,7 +1,7 @@
 use Rattle.std.specs.Prelude.{◌≡◌, ◌++◌, true, map}
 use Rattle.std.specs.Option.{option_to_list}
-use Rattle.std.proofs.Common.{ℕ, List, ◌∷◌, [], refl, sym, subst, ap, ◌∙◌}
-use Rattle.std.proofs.lemmas.Result.{err_from_is_err_and, on_ok_weaker}
+use Rattle.std.proofs.Common.{ℕ, List, refl, sym, subst, ap, ◌∙◌}
+use Rattle.std.proofs.lemmas.Result.{err_from_is_err_and}
 use Rattle.run_model.specs.State.{State}
 use Rattle.run_model.specs.Session.{Session}
 use Rattle.console_lines.specs.declared.asked.Asked.{Asked}
@@ -10,9 +10,8 @@ use Rattle.console_lines.specs.Asked.{asked_of}
 use Rattle.console_lines.specs.Replies.{reply_lines}
 use Rattle.console_lines.specs.Script.{reply}
 use Rattle.console_lines.specs.Tallies.{tallies_of}
-use Rattle.console_lines.specs.declared.faults.RunFault.{RunFault}
 use Rattle.console_lines.specs.declared.replies.Reply.TheVariants as said
-use Rattle.run_console.specs.Progress.{Cut, IsOfLine, Told, Untold}
+use Rattle.run_console.specs.Progress.{Told, Untold}
 use Rattle.run_console.specs.SessionLines.{IsSaving, is_tally, plain}
 use Rattle.run_console.proofs.Ends.{cut_stopped, of_line, of_tally, told_more}
 use Rattle.run_console.proofs.LineSteps.{line_obeyed, line_replies, line_strays, line_tally}
@@ -21,7 +20,6 @@ use Rattle.run_console.proofs.Lines.{cut_before, cut_untold, ran_line}
 use Rattle.run_console.proofs.consoles.gather_line.Goals as goal
 use Rattle.run_book.specs.Views.{holding}
 use Rattle.run_console.proofs.Troubles.{accounts_sound, accounts_told, accounts_untold}
-use Rattle.run_console.specs.Troubles.{Accounts}
 
 -- ---- a tally
 

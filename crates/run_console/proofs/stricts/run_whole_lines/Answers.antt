@@ -1,10 +1,10 @@
 use Rattle.std.proofs.Common.{ℕ, List, [], ◌++◌, take, drop, refl, sym, subst, ◌∙◌, arith}
 use Rattle.std.proofs.Common.{append-nil}
-use Rattle.std.proofs.lemmas.List.{length-take, length-take-le, take-append-le}
+use Rattle.std.proofs.lemmas.List.{length-take}
 use Rattle.std.proofs.lemmas.Result.{err_from_is_err_and}
 use Rattle.std.specs.Io.KnownBytes.{Consumes}
 use Rattle.console_lines.specs.declared.faults.RunFault.TheVariants as fault
-use Rattle.console_lines.specs.Lines.{open_line, whole_lines}
+use Rattle.console_lines.specs.Lines.{open_line}
 use Rattle.console_lines.proofs.Written.{consumes_kept, consumes_nothing, consumes_then}
 use Rattle.run_console.specs.Strict.{PartCut, PartRuns}
 use Rattle.run_console.proofs.Going.{goes_none, lives_then}
