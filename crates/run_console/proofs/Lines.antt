@@ -268,7 +268,8 @@ cut_then why xs ys b c d f g w0 w1 w2 one two =
       session = logged_then xs two.ran b c d one.session two.session;
     }
 
-stopped_more : (why : RunFault) (left ys : List (List ℕ))
+-- Lines behind one that stopped change nothing of that.
+pub stopped_more : (why : RunFault) (left ys : List (List ℕ))
     → IsStopped why left → IsStopped why (left ++ ys)
 stopped_more (fault.Store why) [] ys h = absurd h
 stopped_more (fault.Store why) (line ∷ left) ys h = h

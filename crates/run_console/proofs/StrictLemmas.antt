@@ -1,5 +1,5 @@
 -- Strict runs: the first line that strays, over a part and over a whole input.
-use Rattle.std.specs.Prelude.{◌≡◌, ◌==◌, ◌<◌, ◌≤◌, ◌+◌, ◌⊎◌, true, false, ℕ, List, [], ◌∷◌, ◌++◌, length}
+use Rattle.std.specs.Prelude.{◌≡◌, ◌==◌, ◌<◌, ◌≤◌, ◌+◌, true, false, ℕ, List, [], ◌∷◌, ◌++◌, length}
 use Rattle.std.specs.Prelude.{Option, Some, None, is_some, if◌then◌else◌, ◌-◌, min, take}
 use Rattle.std.specs.Option.{option_map}
 use Rattle.std.specs.Io.KnownBytes.{Appends, Consumes, IsAtEnd}
@@ -18,21 +18,22 @@ use Rattle.console_lines.specs.Lines.{whole_lines, open_line, lines_of}
 use Rattle.console_lines.specs.Progress.{WritesPart}
 use Rattle.console_lines.specs.Script.{after_line, after_lines, closing, replies}
 use Rattle.console_lines.specs.Strict.{stray_at, stray_from, stray_in, strict_lines}
-use Rattle.console_lines.specs.Strict.{strict_lines_of, strict_script}
+use Rattle.console_lines.specs.Strict.{strict_lines_of}
 use Rattle.console_lines.proofs.Splits.{line_ends, line_goes_on, whole_lines-append}
 use Rattle.console_lines.proofs.Splits.{open_line-append}
 use Rattle.console_lines.proofs.StrayLemmas.{lines_around, lines_then, none_one, none_then}
 use Rattle.console_lines.proofs.StrayLemmas.{some_more, stray_one, strict_one}
-use Rattle.console_lines.proofs.Written.{appends_then, consumes_then}
+use Rattle.console_lines.proofs.Written.{consumes_then}
 use Rattle.run_console.specs.SessionLines.{plain, logged_after_lines}
 use Rattle.run_console.specs.Progress.{Cut, EndStops, IsOfLine, IsReached, IsRunStopped, IsStopped}
-use Rattle.run_console.specs.Progress.{IsWritten, PartRan, Ran, ReadsAll, Told, Wrote, said_of}
+use Rattle.run_console.specs.Progress.{IsWritten, PartRan, Ran, Told}
 use Rattle.run_console.specs.Progress.{untried}
 use Rattle.run_console.specs.Strict.{Clean, Found, IsReadFor, PartClean, PartCut, PartStrays}
 use Rattle.run_console.specs.Strict.{PartRuns, RanStrictly, ReadsClean, ReadsStrictly}
-use Rattle.run_console.specs.Strict.{RunsStrictly, StandsFirst}
+use Rattle.run_console.specs.Strict.{RunsStrictly}
 use Rattle.run_console.specs.Strict.{StopsStrictly, lines_to}
-use Rattle.run_console.proofs.Lines.{cut_more, cut_then, cut_written, plain_lines, ran_then}
+use Rattle.run_console.proofs.Lines.{cut_then, cut_written, plain_lines, ran_then}
+use Rattle.run_console.proofs.Lines.{stopped_more}
 use Rattle.run_console.proofs.Parts.{part_ends, part_full, part_more}
 use Rattle.run_console.proofs.Wholes.{end_stops, end_told, end_wrote, reached_in, stopped_so}
 use Rattle.run_console.proofs.Wholes.{left_over, reached_end, written_so}
@@ -340,32 +341,6 @@ ran_to_end m b c d tail g stray why r0 r1 w0 w1 w2 reads last is e =
 
 -- ---- a strict run that stops
 
--- Lines of which the first were run stopped.
-stops_of :
-    (why : RunFault) (bytes : List ℕ) (lines : List (List ℕ)) (b d : Logged)
-    (r0 r1 w0 w1 : Option (List ℕ))
-    → IsOfLine why
-    → Consumes r0 r1 bytes
-    → length bytes ≤ LONGEST_INPUT + 1
-    → strict_lines_of (plain b) bytes ≡ lines
-    → (cut : Cut why lines b d [] w0 w1)
-    → (untried why cut.left ≡ [] → IsReadFor lines bytes r1)
-    → StopsStrictly why b d r0 r1 w0 w1
-stops_of why bytes lines b d r0 r1 w0 w1 f read few is cut reads =
-    let P : List (List ℕ) → Type 0 = λ l. IsReadFor l bytes r1 in
-    record {
-      bytes = bytes;
-      read = read;
-      ran = cut.ran;
-      left = cut.left;
-      lines_are = is ∙ cut.lines_are;
-      read_for = λ e. subst P cut.lines_are (reads e);
-      stopped = stopped_so why cut.left cut.stopped;
-      reached = reached_in why bytes cut.ran f few;
-      session = cut.session;
-      written = written_so why (plain b) cut.ran cut.left w0 w1 cut.written;
-    }
-
 -- What ends with nothing has nothing at its end.
 no_end : (xs ys : List (List ℕ)) → xs ++ ys ≡ [] → ys ≡ []
 no_end [] ys e = e
@@ -381,6 +356,39 @@ none_behind fault.Memory (line ∷ left) more h e = no_end left more e
 none_behind fault.Input left more h e = no_end left more e
 none_behind fault.InputTooLong left more h e = no_end left more e
 none_behind fault.Output left more h e = no_end left more e
+
+-- Lines of which the first were run stopped, and more are behind them.
+stops_of :
+    (why : RunFault) (bytes : List ℕ) (lines more : List (List ℕ)) (b d : Logged)
+    (r0 r1 w0 w1 : Option (List ℕ))
+    → IsOfLine why
+    → Consumes r0 r1 bytes
+    → length bytes ≤ LONGEST_INPUT + 1
+    → strict_lines_of (plain b) bytes ≡ lines ++ more
+    → Cut why lines b d [] w0 w1
+    → (more ≡ [] → IsReadFor lines bytes r1)
+    → StopsStrictly why b d r0 r1 w0 w1
+stops_of why bytes lines more b d r0 r1 w0 w1 f read few is cut reads =
+    let P : List (List ℕ) → Type 0 = λ l. IsReadFor l bytes r1 in
+    let left = cut.left ++ more in
+    record {
+      bytes = bytes;
+      read = read;
+      ran = cut.ran;
+      left = left;
+      lines_are =
+          is ∙ ap (λ l. l ++ more) cut.lines_are ∙ append_assoc cut.ran cut.left more;
+      read_for = λ e.
+          let none = none_behind why cut.left more cut.stopped e in
+          subst P
+          (cut.lines_are
+          ∙ ap (λ l. cut.ran ++ l) (sym (append-nil cut.left) ∙ ap (λ m. cut.left ++ m) (sym none)))
+          (reads none);
+      stopped = stopped_so why left (stopped_more why cut.left more cut.stopped);
+      reached = reached_in why bytes cut.ran f few;
+      session = cut.session;
+      written = written_so why (plain b) cut.ran left w0 w1 cut.written;
+    }
 
 -- The lines of a strict run begin with those up to some LF, where none before the last strays.
 strict_behind :
@@ -428,20 +436,15 @@ stops_in_part why n bytes part tail b c d r0 r1 r2 w0 w1 w2 f read more within f
     let tried = cut_then why before (here ++ line ∷ []) b c d [] [] w0 w1 w2 so_far.runs.ran
     cut.cut in
     let is_first = around bytes part cut.front cut.behind cut.part_is in
-    let whole = cut_more why (before ++ (here ++ line ∷ [])) rest.0 b d [] w0 w2 tried in
-    stops_of why all ((before ++ (here ++ line ∷ [])) ++ rest.0) b d r0 r2 w0 w2 f
+    stops_of why all (before ++ (here ++ line ∷ [])) rest.0 b d r0 r2 w0 w2 f
     (consumes_then r0 r1 r2 bytes part read more) within
     (ap (strict_lines_of s) is_first ∙ rest.1
-    ∙ ap (λ l. l ++ rest.0) (append_assoc before here (line ∷ []))) whole
-    (λ e. inr (record {
+    ∙ ap (λ l. l ++ rest.0) (append_assoc before here (line ∷ []))) tried
+    (λ _. inr (record {
       front = front;
       behind = cut.behind;
       bytes_are = is_first;
-      lines_are =
-          lines_up_to bytes cut.front
-          ∙ sym (append-nil (before ++ (here ++ line ∷ [])))
-          ∙ ap (λ m. (before ++ (here ++ line ∷ [])) ++ m)
-          (sym (none_behind why tried.left rest.0 tried.stopped e));
+      lines_are = lines_up_to bytes cut.front;
       few_behind = few_behind part cut.front cut.behind cut.part_is few;
     }))
 
@@ -464,15 +467,14 @@ stops_behind_part n m bytes part tail more g b c d r0 r1 r2 w0 w1 w2 w3 read nex
     let last = open_line [] all in
     let both = ran_then before here b c d [] [] g w0 w1 w2 so_far.runs.ran ran.runs.ran in
     let tried = cut_written (before ++ here) b d [] g w0 w2 w3 both cut in
-    let whole = cut_more fault.Output (before ++ here) (last ∷ []) b d [] w0 w3 tried in
     let lines = whole_lines-append [] bytes part in
     let clean = clean_parts n m bytes part tail b c w0 w1 so_far ran.clean in
     let R : List (List ℕ) → Type 0 = λ l. d ≡ logged_after_lines b l in
-    stops_of fault.Output all ((before ++ here) ++ last ∷ []) b d r0 r2 w0 w3 tt
+    stops_of fault.Output all (before ++ here) (last ∷ []) b d r0 r2 w0 w3 tt
     (consumes_then r0 r1 r2 bytes part read next) within
     (last_lines m b d all (subst R (sym lines) both.session) clean
     ∙ ap (λ l. l ++ last ∷ []) lines)
-    whole (λ e. left_over tried.left last _ e)
+    tried (λ e. left_over [] last _ e)
 
 -- A fault of reading, behind all lines that an LF ended.
 pub stops_reading_strictly :
@@ -513,12 +515,13 @@ pub stops_at_last :
 stops_at_last why m b c d tail r0 r1 w0 w1 w2 f reads cut =
     let bytes = reads.reads.bytes in
     let line = open_line [] bytes in
-    stops_of why bytes (lines_of bytes) b d r0 r1 w0 w2 f reads.reads.read
+    stops_of why bytes (lines_of bytes) [] b d r0 r1 w0 w2 f reads.reads.read
     (omega (arith, reads.reads.within))
-    (last_lines m b c bytes reads.reads.part.ran.session reads.clean)
+    (last_lines m b c bytes reads.reads.part.ran.session reads.clean
+    ∙ sym (append-nil (lines_of bytes)))
     (cut_then why (whole_lines [] bytes) (line ∷ []) b c d [] [] w0 w1 w2 reads.reads.part.ran
     cut)
-    (λ e. inl reads.reads.ended)
+    (λ _. inl reads.reads.ended)
 
 -- ---- the end
 
@@ -605,7 +608,8 @@ pub reads_stray :
     → PartClean 1 n [] bytes b c tail [] [] w0 w1
     → PartRuns found n m (open_line [] bytes) part c d more [] g w1 w2
     → ReadsStrictly found m b d more g r0 r2 w0 w2
-reads_stray None n m bytes part tail more g b c d r0 r1 r2 w0 w1 w2 some =
+reads_stray None n m bytes part tail more g b c d r0 r1 r2 w0 w1 w2 some read next within few
+    so_far runs =
     absurd (grind (arith, some))
 reads_stray (Some stray) n m bytes part tail more g b c d r0 r1 r2 w0 w1 w2 some read next within
     few so_far runs =
@@ -653,3 +657,32 @@ pub reads_clean :
     → ReadsClean m b c tail r0 r1 w0 w1 × (g ≡ [])
 reads_clean None m b c tail g r0 r1 w0 w1 none reads = reads
 reads_clean (Some stray) m b c tail g r0 r1 w0 w1 none reads = absurd (grind (arith, none))
+
+-- The input was read to its end.
+pub ends_clean :
+    (m : ℕ) (bytes tail : List ℕ) (b c : Logged) (r0 r1 r2 w0 w1 : Option (List ℕ))
+    → Consumes r0 r1 bytes
+    → Consumes r1 r2 []
+    → IsAtEnd r2
+    → length bytes ≤ LONGEST_INPUT
+    → PartClean 1 m [] bytes b c tail [] [] w0 w1
+    → ReadsClean m b c tail r0 r2 w0 w1
+ends_clean m bytes tail b c r0 r1 r2 w0 w1 read none ended within so_far =
+    let P : List ℕ → Type 0 = λ x. Consumes r0 r2 x in
+    record {
+      reads = record {
+        bytes = bytes;
+        read = subst P (append-nil bytes) (consumes_then r0 r1 r2 bytes [] read none);
+        ended = ended;
+        within = within;
+        part = so_far.runs;
+      };
+      clean = so_far.clean;
+    }
+
+-- The number of the line that was begun.
+pub few_before : (m : ℕ) (bytes tail : List ℕ) (b c : Logged) (w0 w1 : Option (List ℕ))
+    → PartClean 1 m [] bytes b c tail [] [] w0 w1
+    → m ≤ 1 + length bytes
+few_before m bytes tail b c w0 w1 so_far =
+    omega (arith, so_far.clean.next, few_lines [] bytes)

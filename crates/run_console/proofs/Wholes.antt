@@ -15,7 +15,7 @@ use Rattle.console_lines.specs.Script.{after_lines, closing, replies}
 use Rattle.console_lines.specs.Progress.{WritesPart}
 use Rattle.console_lines.proofs.Splits.{whole_lines-append}
 use Rattle.console_lines.proofs.Written.{appends_then, consumes_then}
-use Rattle.run_console.specs.SessionLines.{plain, logged_after_lines}
+use Rattle.run_console.specs.SessionLines.{plain}
 use Rattle.run_console.specs.Progress.{Cut, EndStops, IsOfLine, IsReached, IsRunStopped, IsStopped}
 use Rattle.run_console.specs.Progress.{IsWritten, PartRan, Ran, ReadsAll, RunStops, RunsAll, Told}
 use Rattle.run_console.specs.Progress.{WritesTrouble, Wrote, said_of, untried}

@@ -1,41 +1,37 @@
 use Rattle.std.specs.Prelude.{◌≡◌, ◌++◌, true, map}
 use Rattle.std.specs.Option.{option_to_list}
-use Rattle.std.proofs.Common.{ℕ, List, ◌∷◌, [], refl, sym, subst, ap, ◌∙◌}
-use Rattle.std.proofs.lemmas.Result.{err_from_is_err_and, on_ok_weaker}
+use Rattle.std.proofs.Common.{ℕ, List, refl, sym, subst, ap, ◌∙◌}
+use Rattle.std.proofs.lemmas.Result.{err_from_is_err_and}
 use Rattle.run_model.specs.State.{State}
+use Rattle.run_model.specs.Session.{Session}
+use Rattle.console_lines.specs.declared.asked.Asked.{Asked}
 use Rattle.run_state.proofs.Staying.{stays_same}
 use Rattle.console_lines.specs.Asked.{asked_of}
 use Rattle.console_lines.specs.Replies.{reply_lines}
 use Rattle.console_lines.specs.Script.{reply}
 use Rattle.console_lines.specs.Tallies.{tallies_of}
-use Rattle.console_lines.specs.declared.faults.RunFault.{RunFault}
 use Rattle.console_lines.specs.declared.replies.Reply.TheVariants as said
-use Rattle.run_console.specs.Progress.{Cut, IsOfLine, Told, Untold}
+use Rattle.run_console.specs.Progress.{Told, Untold}
 use Rattle.run_console.specs.SessionLines.{IsSaving, is_tally, plain}
 use Rattle.run_console.proofs.Ends.{cut_stopped, of_line, of_tally, told_more}
 use Rattle.run_console.proofs.LineSteps.{line_obeyed, line_replies, line_strays, line_tally}
 use Rattle.run_console.proofs.LineSteps.{saves_no_tally, tally_asked, tally_leaves, tally_stays}
 use Rattle.run_console.proofs.Lines.{cut_before, cut_untold, ran_line}
-use Rattle.run_console.proofs.consoles.gather_line.Given.{Over}
 use Rattle.run_console.proofs.consoles.gather_line.Goals as goal
-use Rattle.run_console.proofs.consoles.gather_line.Goals.{After-gather_tally}
 use Rattle.run_book.specs.Views.{holding}
 use Rattle.run_console.proofs.Troubles.{accounts_sound, accounts_told, accounts_untold}
-use Rattle.run_console.specs.Troubles.{Accounts}
 
 -- ---- a tally
 
-is_one : (g : Over) (c : After-gather_tally g) → is_tally c.read_line-asked.result ≡ true
-is_one g c = sym c.is_tally.ensures ∙ c.if-is_tally.true
-
-tallied : (g : Over) (c : After-gather_tally g) (line : List ℕ)
-    → c.read_line-asked.result ≡ asked_of line
-    → reply_lines (map said.Tally (tallies_of c.state.result.now.work.tasks))
-    ≡ reply (plain c.args.book.now.session) line
-tallied g c line read =
-    ap (λ (p : State). reply_lines (map said.Tally (tallies_of p.work.tasks)))
-    c.state.ensures.state
-    ∙ line_tally (plain c.args.book.now.session) line c.read_line-asked.result read (is_one g c)
+-- What is printed for a tally.
+tallied : (s : Session) (p : State) (line : List ℕ) (a : Asked)
+    → p ≡ s.state
+    → a ≡ asked_of line
+    → is_tally a ≡ true
+    → reply_lines (map said.Tally (tallies_of p.work.tasks)) ≡ reply s line
+tallied s p line a same read tally =
+    ap (λ (q : State). reply_lines (map said.Tally (tallies_of q.work.tasks))) same
+    ∙ line_tally s line a read tally
 
 pub returns-then-is_tally-clause-ran : goal.returns-then-is_tally-clause-ran
 returns-then-is_tally-clause-ran g c = λ line e.
@@ -47,13 +43,14 @@ returns-then-is_tally-clause-ran g c = λ line e.
     let read = c.read_line-asked.ensures ∙ sym e in
     let P : List ℕ → Type 0 = λ t. Told t f h w0 w1 in
     ran_line line b b f h w0 w1
-    (tally_leaves b line c.read_line-asked.result read (is_one g c))
-    (subst P (tallied g c line read) c.in_ok-gather_tally.ensures.told)
+    (tally_leaves b line c.read_line-asked.result read (sym c.is_tally.ensures ∙ c.if-is_tally.true))
+    (subst P (tallied (plain b) c.state.result.now line c.read_line-asked.result
+    c.state.ensures.state read (sym c.is_tally.ensures ∙ c.if-is_tally.true)) c.in_ok-gather_tally.ensures.told)
 
 pub returns-then-is_tally-clause-strays : goal.returns-then-is_tally-clause-strays
 returns-then-is_tally-clause-strays g c = λ line e.
     tally_stays (plain c.args.book.now.session) line c.read_line-asked.result
-    (c.read_line-asked.ensures ∙ sym e) (is_one g c)
+    (c.read_line-asked.ensures ∙ sym e) (sym c.is_tally.ensures ∙ c.if-is_tally.true)
 
 pub returns-in_err-gather_tally-clause-cut : goal.returns-in_err-gather_tally-clause-cut
 returns-in_err-gather_tally-clause-cut g c = λ line e.
@@ -66,9 +63,10 @@ returns-in_err-gather_tally-clause-cut g c = λ line e.
     let read = c.read_line-asked.ensures ∙ sym e in
     rw (p.1, p.2) (
     cut_untold why line b b f w0 w1
-    (tally_asked line c.read_line-asked.result read (is_one g c)) refl
-    (tally_leaves b line c.read_line-asked.result read (is_one g c))
-    (subst (λ t. Untold why t f w0 w1) (tallied g c line read)
+    (tally_asked line c.read_line-asked.result read (sym c.is_tally.ensures ∙ c.if-is_tally.true)) refl
+    (tally_leaves b line c.read_line-asked.result read (sym c.is_tally.ensures ∙ c.if-is_tally.true))
+    (subst (λ t. Untold why t f w0 w1) (tallied (plain b) c.state.result.now line c.read_line-asked.result
+    c.state.ensures.state read (sym c.is_tally.ensures ∙ c.if-is_tally.true))
     c.in_err-gather_tally.ensures.untold))
 
 pub returns-in_err-gather_tally-clause-fault : goal.returns-in_err-gather_tally-clause-fault
@@ -86,7 +84,7 @@ returns-in_err-gather_tally-clause-lasts g c = stays_same c.args.book.now.sessio
 pub returns-then-is_tally-clause-saved : goal.returns-then-is_tally-clause-saved
 returns-then-is_tally-clause-saved g c = λ saving.
     saves_no_tally c.args.bytes.now c.read_line-asked.result _ c.read_line-asked.ensures
-    (is_one g c) saving
+    (sym c.is_tally.ensures ∙ c.if-is_tally.true) saving
 
 pub returns-then-is_tally-clause-lasts : goal.returns-then-is_tally-clause-lasts
 returns-then-is_tally-clause-lasts g c = stays_same c.args.book.now.session.state
@@ -95,7 +93,8 @@ returns-then-is_tally-clause-lasts g c = stays_same c.args.book.now.session.stat
 
 pub returns-in_err-make_room-clause-cut : goal.returns-in_err-make_room-clause-cut
 returns-in_err-make_room-clause-cut g c = λ line e.
-    let p = err_from_is_err_and c.from_residual.result c.from_residual.ensures.1 in
+    let p = err_from_is_err_and c.from_residual-in_err-make_room.result
+    c.from_residual-in_err-make_room.ensures.1 in
     let b = c.args.book.now.session in
     rw (p.1, p.2, c.in_err-make_room.ensures.fault) (
     cut_before line b b c.args.gathered.now.items (g.W.Write.contents c.args.output.now)
@@ -143,7 +142,7 @@ returns-in-Ok-clause-ran g c = λ line e.
 
 pub returns-in-Ok-clause-strays : goal.returns-in-Ok-clause-strays
 returns-in-Ok-clause-strays g c = λ line e.
-    c.stray_of.ensures
+    c.stray_of-why.ensures
     ∙ line_strays (plain c.args.book.now.session) line c.read_line-asked.result
     (option_to_list c.in-Ok.reply) (c.read_line-asked.ensures ∙ sym e) c.in-Ok.ensures.reply
 
@@ -161,7 +160,8 @@ returns-in_err-gather_tally-clause-accounts g c =
 
 pub returns-in_err-make_room-clause-accounts : goal.returns-in_err-make_room-clause-accounts
 returns-in_err-make_room-clause-accounts g c =
-    let p = err_from_is_err_and c.from_residual.result c.from_residual.ensures.1 in
+    let p = err_from_is_err_and c.from_residual-in_err-make_room.result
+    c.from_residual-in_err-make_room.ensures.1 in
     let b = holding c.args.book.now in
     rw (p.1, p.2, c.in_err-make_room.ensures.fault) (
     accounts_sound g.D.RunDisk.state b b c.requires.sound)

@@ -1,17 +1,14 @@
 use Rattle.std.proofs.Common.{ℕ, List, [], ◌∷◌, ◌∙◌, refl, sym, subst}
-use Rattle.std.specs.Prelude.{Option, Some, None}
+use Rattle.std.specs.Prelude.{Some, None}
 use Rattle.std.proofs.lemmas.Result.{err_from_is_err_and}
 use Rattle.console_lines.specs.Lines.{open_line}
 use Rattle.run_book.specs.Views.{holding}
 use Rattle.run_console.specs.Progress.{Cut, Ran}
-use Rattle.run_console.specs.Strict.{ReadsClean}
-use Rattle.run_console.proofs.Going.{Lives, lives_then}
+use Rattle.run_console.proofs.Going.{lives_then}
 use Rattle.run_console.proofs.LineSteps.{same_asked}
 use Rattle.run_console.proofs.StrictLemmas.{ran_to_end, ran_with_stray, reads_clean, stops_at_last}
 use Rattle.run_console.proofs.Troubles.{accounts_earlier}
-use Rattle.run_console.proofs.stricts.run_lines.Given.{Over}
 use Rattle.run_console.proofs.stricts.run_lines.Goals as goal
-use Rattle.run_console.proofs.stricts.run_lines.Goals.{After-gather_line}
 
 pub returns-then-is_some-clause-ran : goal.returns-then-is_some-clause-ran
 returns-then-is_some-clause-ran g c =
@@ -24,28 +21,151 @@ returns-then-is_some-clause-ran g c =
 
 -- ---- the last line
 
--- All before it were run, and none strays.
-before : (g : Over) (c : After-gather_line g)
-    → ReadsClean c.run_whole_lines.new.number c.args.book.now.session
-    c.run_whole_lines.new.book.session c.run_whole_lines.new.tail.items
-    (g.R.Read.remaining c.args.input.now) (g.R.Read.remaining c.run_whole_lines.new.input)
-    (g.W.Write.contents c.args.output.now) (g.W.Write.contents c.run_whole_lines.new.output)
-    × (c.run_whole_lines.new.gathered.items ≡ [])
-before g c =
-    reads_clean c.in_ok-stray.stray c.run_whole_lines.new.number c.args.book.now.session
+pub returns-in_err-why-clause-stops : goal.returns-in_err-why-clause-stops
+returns-in_err-why-clause-stops g c =
+    let p = err_from_is_err_and c.from_residual-in_err-why.result
+    c.from_residual-in_err-why.ensures.1 in
+    let reads = reads_clean c.in_ok-stray.stray c.run_whole_lines.new.number c.args.book.now.session
     c.run_whole_lines.new.book.session c.run_whole_lines.new.tail.items
     c.run_whole_lines.new.gathered.items
     (g.R.Read.remaining c.args.input.now) (g.R.Read.remaining c.run_whole_lines.new.input)
     (g.W.Write.contents c.args.output.now) (g.W.Write.contents c.run_whole_lines.new.output)
-    (sym c.is_some.ensures ∙ c.if-is_some.false) c.in_ok-stray.ensures.read
+    (sym c.is_some.ensures ∙ c.if-is_some.false) c.in_ok-stray.ensures.read in
+    let why = c.in_err-why.field-0.0 in
+    let mid = c.run_whole_lines.new.book.session in
+    let d = c.gather_line.new.book.session in
+    let last = open_line [] reads.0.reads.bytes in
+    let w1 = g.W.Write.contents c.run_whole_lines.new.output in
+    let w2 = g.W.Write.contents c.gather_line.new.output in
+    let P : List ℕ → Type 0 = λ f. Cut why (last ∷ []) mid d f w1 w2 in
+    rw (p.1, p.2) (
+    stops_at_last why c.run_whole_lines.new.number c.args.book.now.session mid d
+    c.run_whole_lines.new.tail.items
+    (g.R.Read.remaining c.args.input.now) (g.R.Read.remaining c.run_whole_lines.new.input)
+    (g.W.Write.contents c.args.output.now) w1 w2 c.in_err-why.ensures.fault reads.0
+    (subst P reads.1
+    (c.in_err-why.ensures.cut last
+    (same_asked last c.run_whole_lines.new.tail.items c.as_slice.result.now
+    c.as_slice.ensures.value reads.0.reads.part.tail_is))))
 
-lives : (g : Over) (c : After-gather_line g)
-    → Lives g.D.RunDisk.state c.args.book.now c.gather_line.new.book
-lives g c =
-    lives_then g.D.RunDisk.state c.args.book.now c.run_whole_lines.new.book
+pub returns-in-Some-clause-ran : goal.returns-in-Some-clause-ran
+returns-in-Some-clause-ran g c =
+    let reads = reads_clean c.in_ok-stray.stray c.run_whole_lines.new.number c.args.book.now.session
+    c.run_whole_lines.new.book.session c.run_whole_lines.new.tail.items
+    c.run_whole_lines.new.gathered.items
+    (g.R.Read.remaining c.args.input.now) (g.R.Read.remaining c.run_whole_lines.new.input)
+    (g.W.Write.contents c.args.output.now) (g.W.Write.contents c.run_whole_lines.new.output)
+    (sym c.is_some.ensures ∙ c.if-is_some.false) c.in_ok-stray.ensures.read in
+    let mid = c.run_whole_lines.new.book.session in
+    let d = c.gather_line.new.book.session in
+    let last = open_line [] reads.0.reads.bytes in
+    let h = c.gather_line.new.gathered.items in
+    let w1 = g.W.Write.contents c.run_whole_lines.new.output in
+    let w2 = g.W.Write.contents c.gather_line.new.output in
+    let P : List ℕ → Type 0 = λ f. Ran (last ∷ []) mid d f h w1 w2 in
+    let asks = same_asked last c.run_whole_lines.new.tail.items c.as_slice.result.now
+    c.as_slice.ensures.value reads.0.reads.part.tail_is in
+    ran_to_end c.run_whole_lines.new.number c.args.book.now.session mid d
+    c.run_whole_lines.new.tail.items h
+    (Some (record { number = c.run_whole_lines.new.number; why = c.in-Some.why })) (Some c.in-Some.why)
+    (g.R.Read.remaining c.args.input.now) (g.R.Read.remaining c.run_whole_lines.new.input)
+    (g.W.Write.contents c.args.output.now) w1 w2 reads.0
+    (subst P reads.1 (c.in_ok-why.ensures.ran last asks))
+    (sym c.in-Some.is ∙ c.in_ok-why.ensures.strays last asks) refl
+
+pub returns-in-None-clause-ran : goal.returns-in-None-clause-ran
+returns-in-None-clause-ran g c =
+    let reads = reads_clean c.in_ok-stray.stray c.run_whole_lines.new.number c.args.book.now.session
+    c.run_whole_lines.new.book.session c.run_whole_lines.new.tail.items
+    c.run_whole_lines.new.gathered.items
+    (g.R.Read.remaining c.args.input.now) (g.R.Read.remaining c.run_whole_lines.new.input)
+    (g.W.Write.contents c.args.output.now) (g.W.Write.contents c.run_whole_lines.new.output)
+    (sym c.is_some.ensures ∙ c.if-is_some.false) c.in_ok-stray.ensures.read in
+    let mid = c.run_whole_lines.new.book.session in
+    let d = c.gather_line.new.book.session in
+    let last = open_line [] reads.0.reads.bytes in
+    let h = c.gather_line.new.gathered.items in
+    let w1 = g.W.Write.contents c.run_whole_lines.new.output in
+    let w2 = g.W.Write.contents c.gather_line.new.output in
+    let P : List ℕ → Type 0 = λ f. Ran (last ∷ []) mid d f h w1 w2 in
+    let asks = same_asked last c.run_whole_lines.new.tail.items c.as_slice.result.now
+    c.as_slice.ensures.value reads.0.reads.part.tail_is in
+    ran_to_end c.run_whole_lines.new.number c.args.book.now.session mid d
+    c.run_whole_lines.new.tail.items h
+    None None
+    (g.R.Read.remaining c.args.input.now) (g.R.Read.remaining c.run_whole_lines.new.input)
+    (g.W.Write.contents c.args.output.now) w1 w2 reads.0
+    (subst P reads.1 (c.in_ok-why.ensures.ran last asks))
+    (sym c.in-None.is ∙ c.in_ok-why.ensures.strays last asks) refl
+
+-- ---- the book
+
+pub returns-in_err-why-clause-lasts : goal.returns-in_err-why-clause-lasts
+returns-in_err-why-clause-lasts g c =
+    (lives_then g.D.RunDisk.state c.args.book.now c.run_whole_lines.new.book
     c.gather_line.new.book
     (record {
       lasts = c.run_whole_lines.ensures.lasts;
       carries_on = c.run_whole_lines.ensures.carries_on;
     })
-    c.gather_line.ensures.lasts c.gather_line.ensures.carries_on
+    c.gather_line.ensures.lasts c.gather_line.ensures.carries_on).lasts
+
+pub returns-in_err-why-clause-carries_on : goal.returns-in_err-why-clause-carries_on
+returns-in_err-why-clause-carries_on g c =
+    (lives_then g.D.RunDisk.state c.args.book.now c.run_whole_lines.new.book
+    c.gather_line.new.book
+    (record {
+      lasts = c.run_whole_lines.ensures.lasts;
+      carries_on = c.run_whole_lines.ensures.carries_on;
+    })
+    c.gather_line.ensures.lasts c.gather_line.ensures.carries_on).carries_on
+
+pub returns-in-Some-clause-lasts : goal.returns-in-Some-clause-lasts
+returns-in-Some-clause-lasts g c =
+    (lives_then g.D.RunDisk.state c.args.book.now c.run_whole_lines.new.book
+    c.gather_line.new.book
+    (record {
+      lasts = c.run_whole_lines.ensures.lasts;
+      carries_on = c.run_whole_lines.ensures.carries_on;
+    })
+    c.gather_line.ensures.lasts c.gather_line.ensures.carries_on).lasts
+
+pub returns-in-Some-clause-carries_on : goal.returns-in-Some-clause-carries_on
+returns-in-Some-clause-carries_on g c =
+    (lives_then g.D.RunDisk.state c.args.book.now c.run_whole_lines.new.book
+    c.gather_line.new.book
+    (record {
+      lasts = c.run_whole_lines.ensures.lasts;
+      carries_on = c.run_whole_lines.ensures.carries_on;
+    })
+    c.gather_line.ensures.lasts c.gather_line.ensures.carries_on).carries_on
+
+pub returns-in-None-clause-lasts : goal.returns-in-None-clause-lasts
+returns-in-None-clause-lasts g c =
+    (lives_then g.D.RunDisk.state c.args.book.now c.run_whole_lines.new.book
+    c.gather_line.new.book
+    (record {
+      lasts = c.run_whole_lines.ensures.lasts;
+      carries_on = c.run_whole_lines.ensures.carries_on;
+    })
+    c.gather_line.ensures.lasts c.gather_line.ensures.carries_on).lasts
+
+pub returns-in-None-clause-carries_on : goal.returns-in-None-clause-carries_on
+returns-in-None-clause-carries_on g c =
+    (lives_then g.D.RunDisk.state c.args.book.now c.run_whole_lines.new.book
+    c.gather_line.new.book
+    (record {
+      lasts = c.run_whole_lines.ensures.lasts;
+      carries_on = c.run_whole_lines.ensures.carries_on;
+    })
+    c.gather_line.ensures.lasts c.gather_line.ensures.carries_on).carries_on
+
+pub returns-in_err-why-clause-accounts : goal.returns-in_err-why-clause-accounts
+returns-in_err-why-clause-accounts g c =
+    let p = err_from_is_err_and c.from_residual-in_err-why.result
+    c.from_residual-in_err-why.ensures.1 in
+    rw (p.1, p.2) (
+    accounts_earlier g.D.RunDisk.state (holding c.args.book.now)
+    (holding c.run_whole_lines.new.book) (holding c.gather_line.new.book)
+    c.in_err-why.field-0.0 c.run_whole_lines.ensures.carries_on.passed
+    c.in_err-why.ensures.accounts)

@@ -1,11 +1,9 @@
 use Rattle.std.proofs.lemmas.Result.{err_from_is_err_and}
 use Rattle.run_book.specs.Views.{holding}
-use Rattle.run_console.proofs.Going.{Lives, lives_then}
+use Rattle.run_console.proofs.Going.{lives_then}
 use Rattle.run_console.proofs.StrictLemmas.{runs_strictly, stops_closing_strictly}
 use Rattle.run_console.proofs.Troubles.{accounts_earlier}
-use Rattle.run_console.proofs.stricts.run_sound.Given.{Over}
 use Rattle.run_console.proofs.stricts.run_sound.Goals as goal
-use Rattle.run_console.proofs.stricts.run_sound.Goals.{After-close}
 
 pub returns-clause-runs : goal.returns-clause-runs
 returns-clause-runs g c =
@@ -41,24 +39,38 @@ returns-in_err-close-clause-accounts g c =
 
 -- ---- the book
 
-lives : (g : Over) (c : After-close g)
-    → Lives g.D.RunDisk.state c.args.book.now c.close.new.book
-lives g c =
-    lives_then g.D.RunDisk.state c.args.book.now c.run_lines.new.book c.close.new.book
+pub returns-in_err-close-clause-lasts : goal.returns-in_err-close-clause-lasts
+returns-in_err-close-clause-lasts g c =
+    (lives_then g.D.RunDisk.state c.args.book.now c.run_lines.new.book c.close.new.book
     (record {
       lasts = c.run_lines.ensures.lasts;
       carries_on = c.run_lines.ensures.carries_on;
     })
-    c.close.ensures.lasts c.close.ensures.carries_on
-
-pub returns-in_err-close-clause-lasts : goal.returns-in_err-close-clause-lasts
-returns-in_err-close-clause-lasts g c = (lives g c).lasts
+    c.close.ensures.lasts c.close.ensures.carries_on).lasts
 
 pub returns-in_err-close-clause-carries_on : goal.returns-in_err-close-clause-carries_on
-returns-in_err-close-clause-carries_on g c = (lives g c).carries_on
+returns-in_err-close-clause-carries_on g c =
+    (lives_then g.D.RunDisk.state c.args.book.now c.run_lines.new.book c.close.new.book
+    (record {
+      lasts = c.run_lines.ensures.lasts;
+      carries_on = c.run_lines.ensures.carries_on;
+    })
+    c.close.ensures.lasts c.close.ensures.carries_on).carries_on
 
 pub returns-clause-lasts : goal.returns-clause-lasts
-returns-clause-lasts g c = (lives g c).lasts
+returns-clause-lasts g c =
+    (lives_then g.D.RunDisk.state c.args.book.now c.run_lines.new.book c.close.new.book
+    (record {
+      lasts = c.run_lines.ensures.lasts;
+      carries_on = c.run_lines.ensures.carries_on;
+    })
+    c.close.ensures.lasts c.close.ensures.carries_on).lasts
 
 pub returns-clause-carries_on : goal.returns-clause-carries_on
-returns-clause-carries_on g c = (lives g c).carries_on
+returns-clause-carries_on g c =
+    (lives_then g.D.RunDisk.state c.args.book.now c.run_lines.new.book c.close.new.book
+    (record {
+      lasts = c.run_lines.ensures.lasts;
+      carries_on = c.run_lines.ensures.carries_on;
+    })
+    c.close.ensures.lasts c.close.ensures.carries_on).carries_on

@@ -1,19 +1,19 @@
 use Rattle.std.proofs.Common.{ℕ, List, [], ◌++◌, take, drop, refl, sym, subst, ◌∙◌, arith}
 use Rattle.std.proofs.Common.{append-nil}
-use Rattle.std.proofs.lemmas.List.{length-take, length-take-le, take-append-le}
+use Rattle.std.proofs.lemmas.List.{length-take}
 use Rattle.std.proofs.lemmas.Result.{err_from_is_err_and}
 use Rattle.std.specs.Io.KnownBytes.{Consumes}
 use Rattle.console_lines.specs.declared.faults.RunFault.TheVariants as fault
-use Rattle.console_lines.specs.Lines.{open_line, whole_lines}
+use Rattle.console_lines.specs.Lines.{open_line}
 use Rattle.console_lines.proofs.Written.{consumes_kept, consumes_nothing, consumes_then}
 use Rattle.run_console.specs.Strict.{PartCut, PartRuns}
 use Rattle.run_console.proofs.Going.{goes_none, lives_then}
 use Rattle.run_console.proofs.Parts.{part_begins, part_then}
-use Rattle.run_console.proofs.StrictLemmas.{clean_begins, clean_parts, few_lines, is_clean}
-use Rattle.run_console.proofs.StrictLemmas.{part_few, part_here}
+use Rattle.run_console.proofs.StrictLemmas.{clean_begins, clean_parts, ends_clean, few_before}
+use Rattle.run_console.proofs.StrictLemmas.{is_clean, part_few, part_here}
 use Rattle.run_console.proofs.StrictLemmas.{reads_stray, stops_behind_part, stops_in_part}
 use Rattle.run_console.proofs.StrictLemmas.{stops_reading_strictly}
-use Rattle.run_console.proofs.Wholes.{part_read, reads_all}
+use Rattle.run_console.proofs.Wholes.{part_read}
 use Rattle.run_console.proofs.stricts.run_whole_lines.Goals as goal
 use Rattle.run_book.specs.Views.{holding}
 use Rattle.run_console.proofs.Troubles.{accounts_earlier, accounts_sound}
@@ -39,24 +39,20 @@ returns-then-count-eq0-clause-read g c =
     let r1 = g.R.Read.remaining c.loop-total.input in
     let r2 = g.R.Read.remaining c.read_some.new.input in
     let P : ℕ → Type 0 = λ n. Consumes r1 r2 (take n c.read_some.new.room) in (
-      record {
-        reads =
-            reads_all inv.0 c.loop-total.tail.items c.args.book.now.session
-            c.loop-total.book.session
-            (g.R.Read.remaining c.args.input.now) r1 r2
-            (g.W.Write.contents c.args.output.now) (g.W.Write.contents c.loop-total.output) inv.1
-            (subst P c.if-count-eq0.true c.in_ok-count.ensures.bytes.0)
-            (c.in_ok-count.ensures.bytes.1 c.if-count-eq0.true
-            (grind (
-              arith,
-              length-take,
-              c.read_some.auto.room,
-              c.min-most.ensures,
-              c.loop-total-test.true,
-            )))
-            (omega (arith, inv.2, c.loop-total-test.true)) inv.4.runs;
-        clean = inv.4.clean;
-      },
+      ends_clean c.loop-total.number inv.0 c.loop-total.tail.items c.args.book.now.session
+          c.loop-total.book.session
+          (g.R.Read.remaining c.args.input.now) r1 r2
+          (g.W.Write.contents c.args.output.now) (g.W.Write.contents c.loop-total.output) inv.1
+          (subst P c.if-count-eq0.true c.in_ok-count.ensures.bytes.0)
+          (c.in_ok-count.ensures.bytes.1 c.if-count-eq0.true
+          (grind (
+            arith,
+            length-take,
+            c.read_some.auto.room,
+            c.min-most.ensures,
+            c.loop-total-test.true,
+          )))
+          (omega (arith, inv.2, c.loop-total-test.true)) inv.4,
       inv.5,
     )
 
@@ -295,3 +291,25 @@ returns-in_err-write_gathered-clause-accounts g c =
     rw (p.1, p.2, c.in_err-write_gathered.ensures.fault) (
     accounts_sound g.D.RunDisk.state (holding c.args.book.now) (holding c.run_part.new.book)
     c.in_ok-found.ensures.sound)
+
+pub returns-then-is_some-clause-lasts : goal.returns-then-is_some-clause-lasts
+returns-then-is_some-clause-lasts g c =
+    (lives_then g.D.RunDisk.state c.args.book.now c.loop-total.book c.run_part.new.book
+    c.loop-total.invariant.6.lives c.run_part.ensures.lasts c.run_part.ensures.carries_on).lasts
+
+pub returns-then-is_some-clause-carries_on : goal.returns-then-is_some-clause-carries_on
+returns-then-is_some-clause-carries_on g c =
+    (lives_then g.D.RunDisk.state c.args.book.now c.loop-total.book c.run_part.new.book
+    c.loop-total.invariant.6.lives c.run_part.ensures.lasts
+    c.run_part.ensures.carries_on).carries_on
+
+pub run_part-requires-clause-number : goal.run_part-requires-clause-number
+run_part-requires-clause-number g c =
+    let inv = c.loop-total.invariant in
+    let n = c.in_ok-count.count in
+    let room = c.read_some.new.room in
+    let few = few_before c.loop-total.number inv.0 c.loop-total.tail.items
+    c.args.book.now.session c.loop-total.book.session (g.W.Write.contents c.args.output.now)
+    (g.W.Write.contents c.loop-total.output) inv.4 in
+    let size = length-take n (room ++ drop c.min-most.result c.loop-total.room) in
+    omega (arith, few, size, inv.2, inv.3)
