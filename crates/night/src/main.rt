@@ -4,14 +4,17 @@
 //! streams. `night --help` says which words there are, `docs/formats/console.md` what a line asks
 //! for and what it is answered.
 //!
-//! The exit status is 0, or 2 for words that ask for nothing, 3 where input, output or the store
-//! failed, the input is too long or an audit strayed, 4 for want of memory. What went wrong is
-//! printed on standard error, and what strayed on standard output.
+//! The exit status is 0, or 1 where a strict run met a line that was bad or refused, 2 for words
+//! that ask for nothing, 3 where input, output or the store failed, the input is too long, an audit
+//! strayed or a crew doesn't know a job, 4 for want of memory. What went wrong is printed on
+//! standard error, and what strayed on standard output.
 #![tactic(auto)]
 
+mod complaints;
+mod disks;
 mod system;
 
-use crate::system::SystemFiles;
+use crate::system::{Complaints, SystemFiles};
 use night_program::{CopyJob, FailJob, SpinJob, night};
 use night_words::own_words;
 use run_crew::Job;
@@ -43,7 +46,8 @@ fn main(rt: HostRuntime) -> ExitCode {
             break;
         }
     }
-    let mut files = SystemFiles::new(&rt);
+    let complaints = Complaints::new();
+    let mut files = SystemFiles::new(&rt, &complaints);
     let mut input = rt.stdin();
     let mut output = rt.stdout();
     let mut errors = rt.stderr();

@@ -1,56 +1,151 @@
 //! The system's files, as those that hold stores.
 
-ghost use Rattle.std.specs.Prelude.{⊤};
+ghost use Rattle.std.specs.Prelude.{◌≡◌, ⊤, IfOk};
+ghost use Rattle.night_program.specs.Files.{FilesView};
 
-use night_program::Files;
-use run_disk::{DiskFailed, FileDisk, RunDisk};
-use std::fs::{File, OpenOptions};
+use crate::complaints::Complaint;
+use crate::disks::SystemDisk;
+use night_program::{Files, Made, Opened, Reason};
+use run_disk::{FileDisk, RunDisk};
+use std::fs::{File, OpenOptions, TryLockError};
 use std::io::Write;
+use std::os::unix::fs::MetadataExt;
 use std::path::Path;
-use std::{fs, io};
+use std::time::{Clock, Duration};
+use std::{fs, io, thread};
 
 /// So many zero bytes are written at a time.
 const PART: usize = 4096;
 
-/// The files of a system. Each call that fails is a device's failure.
+/// The file that takes everything, and is empty.
+const NULL: &str = "/dev/null";
+
+/// A pause has so many milliseconds.
+const PAUSE: u64 = 10;
+
+/// What the system said of a file that was opened, and of one that was created.
+#[derive(Drop)]
+pub struct Complaints {
+    opened: Complaint,
+    created: Complaint,
+}
+
+impl Complaints {
+    pub fn new() -> Complaints {
+        Complaints {
+            opened: Complaint::new(),
+            created: Complaint::new(),
+        }
+    }
+}
+
+/// The files of a system. No file of a store ever stands where a standard stream does: the three
+/// descriptors are filled before the first is opened, and stay so.
 #[derive(Drop)]
 pub struct SystemFiles<'a, S> {
     system: &'a S,
+    complaints: &'a Complaints,
+    streams: io::Result<[File; 3]>,
 }
 
 impl<'a, S: fs::Files<File = File>> SystemFiles<'a, S> {
-    pub fn new(system: &'a S) -> Self {
-        SystemFiles { system }
+    /// Fills the descriptors of the standard streams that are closed.
+    pub fn new(system: &'a S, complaints: &'a Complaints) -> Self {
+        SystemFiles {
+            system,
+            complaints,
+            streams: filled(system),
+        }
     }
 
-    /// A file that is open: for reading alone, where it may not be written.
-    fn opened(&self, name: &str) -> io::Result<File> {
-        let both = OpenOptions::new()
-            .read(true)
-            .write(true)
-            .open(self.system, name);
-        match both {
-            Err(error) if is_unwritable(error.kind()) => {
-                OpenOptions::new().read(true).open(self.system, name)
+    /// Opens the file of this name, once the standard streams stand.
+    fn with(&self, how: &OpenOptions, name: &str) -> Result<File, Reason> {
+        if let Err(error) = &self.streams {
+            return Err(Reason::of_other(NULL, error));
+        }
+        or_reason(how.open(self.system, name))
+    }
+
+    /// Opens the file of this name for reading alone. What is no file, as a folder or a pipe, is
+    /// opened for both, so that the system says what is wrong, and doesn't wait for a writer.
+    fn with_reading(&self, name: &str) -> Result<File, Reason> {
+        let is_file = fs::metadata(self.system, name).is_ok_and(|it| it.is_file());
+        let mut how = OpenOptions::new();
+        how.read(true).write(!is_file);
+        self.with(&how, name)
+    }
+
+    /// Has a file for this program alone, as long as it is open, where the system has locks for it.
+    /// One that lost its name before it was had is another program's, too.
+    fn lock(&self, file: &File, name: &str) -> Result<(), Reason> {
+        match file.try_lock() {
+            Err(TryLockError::WouldBlock) => Err(Reason::InUse),
+            _ if self.is_named(file, name) => Ok(()),
+            _ => Err(Reason::InUse),
+        }
+    }
+
+    /// Says whether the file of this name is this one.
+    fn is_named(&self, file: &File, name: &str) -> bool {
+        match (file.metadata(), fs::metadata(self.system, name)) {
+            (Ok(own), Ok(named)) => own.dev() == named.dev() && own.ino() == named.ino(),
+            _ => false,
+        }
+    }
+
+    /// A disk over a file that is read alone.
+    fn shown(&self, file: File) -> Result<Opened<SystemDisk<'a>, &'a Complaint>, Reason> {
+        let why = &self.complaints.opened;
+        let disk = or_reason(FileDisk::to_read(file))?;
+        Ok(Opened {
+            disk: SystemDisk::new(disk, why),
+            why,
+        })
+    }
+
+    /// A file that was created, or is emptied, filled with so many zero bytes. It is this program's
+    /// alone before a byte of it is touched, or taken away.
+    fn made(
+        &self,
+        file: File,
+        name: &str,
+        size: u64,
+        is_new: bool,
+    ) -> Result<Made<SystemDisk<'a>, &'a Complaint>, Reason>
+        ensures size { IfOk result (λ made.
+            (⟦<SystemDisk<'a> as RunDisk>⟧.state made.disk).size ≡ size) }
+        ensures new { IfOk result (λ made. made.is_new ≡ is_new) }
+    {
+        self.lock(&file, name)?;
+        let why = &self.complaints.created;
+        match self.zeros(file, name, size) {
+            Ok(disk) => Ok(Made {
+                disk: SystemDisk::new(disk, why),
+                why,
+                is_new,
+            }),
+            Err(reason) => {
+                if is_new {
+                    let _gone = fs::remove_file(self.system, name);
+                }
+                Err(reason)
             }
-            both => both,
         }
     }
 
-    /// A file that was created or emptied, and filled with so many zero bytes.
-    fn zeros(&self, name: &str, size: u64) -> io::Result<File> {
-        let mut file = OpenOptions::new()
-            .read(true)
-            .write(true)
-            .create(true)
-            .truncate(true)
-            .open(self.system, name)?;
-        let part = [0u8; PART];
-        for _ in 0..size / PART as u64 {
-            file.write_all(&part)?;
+    /// A disk over a file that was emptied, and filled with so many zero bytes.
+    fn zeros(&self, file: File, name: &str, size: u64) -> Result<FileDisk, Reason>
+        ensures { IfOk result (λ disk. (⟦<FileDisk as RunDisk>⟧.state disk).size ≡ size) }
+    {
+        let mut file = file;
+        or_reason(fill(&mut file, size))?;
+        or_reason(self.sync_folder(name))?;
+        let disk = or_reason(FileDisk::settled(file))?;
+        if disk.size() == size {
+            Ok(disk)
+        } else {
+            Err(Reason::EndedEarly)
         }
-        file.write_all(&part[..(size % PART as u64) as usize])?;
-        Ok(file)
     }
 
     /// Syncs the folder that the file of this name lies in, so that a cut of the power leaves a new
@@ -66,39 +161,120 @@ impl<'a, S: fs::Files<File = File>> SystemFiles<'a, S> {
     }
 }
 
-impl<S: fs::Files<File = File>> Files for SystemFiles<'_, S> {
-    type Disk = FileDisk;
+impl<'a, S: fs::Files<File = File> + Clock> Files for SystemFiles<'a, S> {
+    type Disk = SystemDisk<'a>;
 
-    // What a file holds isn't known.
-    ghost holds = { λ files name disk. ⊤ };
+    type Why = &'a Complaint;
 
-    fn open(&mut self, name: &str) -> Result<FileDisk, DiskFailed> {
-        match self.opened(name) {
-            Ok(file) => FileDisk::new(file),
-            Err(_) => Err(DiskFailed),
+    // What the system's files hold isn't known.
+    ghost seen = { record {
+      holds = λ files name disk. ⊤;
+      shows = λ files name disk. ⊤;
+      lacks = λ files name. ⊤;
+      removes = λ files name left. ⊤;
+    } };
+
+    fn open(&mut self, name: &str) -> Result<Opened<SystemDisk<'a>, &'a Complaint>, Reason> {
+        let file = self.with(OpenOptions::new().read(true).write(true), name)?;
+        self.lock(&file, name)?;
+        let why = &self.complaints.opened;
+        let disk = or_reason(settled(file))?;
+        Ok(Opened {
+            disk: SystemDisk::new(disk, why),
+            why,
+        })
+    }
+
+    fn open_to_read(
+        &mut self,
+        name: &str,
+    ) -> Result<Opened<SystemDisk<'a>, &'a Complaint>, Reason> {
+        let file = self.with_reading(name)?;
+        lock_shared(&file)?;
+        self.shown(file)
+    }
+
+    fn look(&mut self, name: &str) -> Result<Opened<SystemDisk<'a>, &'a Complaint>, Reason> {
+        let file = self.with_reading(name)?;
+        self.shown(file)
+    }
+
+    fn pause(&self) {
+        thread::sleep(self.system, Duration::from_millis(PAUSE));
+    }
+
+    fn create(
+        &mut self,
+        name: &str,
+        size: u64,
+    ) -> Result<Made<SystemDisk<'a>, &'a Complaint>, Reason> {
+        let mut how = OpenOptions::new();
+        how.read(true).write(true);
+        match self.with(how.create_new(true), name) {
+            Ok(file) => self.made(file, name, size, true),
+            Err(_) => {
+                let file = self.with(how.create_new(false).create(true), name)?;
+                self.made(file, name, size, false)
+            }
         }
     }
 
-    fn create(&mut self, name: &str, size: u64) -> Result<FileDisk, DiskFailed> {
-        let Ok(file) = self.zeros(name, size) else {
-            return Err(DiskFailed);
-        };
-        if self.sync_folder(name).is_err() {
-            return Err(DiskFailed);
-        }
-        let disk = FileDisk::new(file)?;
-        if disk.size() == size {
-            Ok(disk)
-        } else {
-            Err(DiskFailed)
-        }
+    fn create_new(
+        &mut self,
+        name: &str,
+        size: u64,
+    ) -> Result<Made<SystemDisk<'a>, &'a Complaint>, Reason> {
+        let mut how = OpenOptions::new();
+        how.read(true).write(true).create_new(true);
+        let file = self.with(&how, name)?;
+        self.made(file, name, size, true)
+    }
+
+    fn remove(&mut self, name: &str) {
+        let _gone = fs::remove_file(self.system, name);
     }
 }
 
-/// Says whether a file that failed so may not be written, but perhaps read.
-fn is_unwritable(kind: io::ErrorKind) -> bool {
-    matches!(
-        kind,
-        io::ErrorKind::PermissionDenied | io::ErrorKind::ReadOnlyFilesystem
-    )
+/// Fills the descriptors below 3 that are closed: a file takes the least number that is free.
+fn filled<S: fs::Files<File = File>>(system: &S) -> io::Result<[File; 3]> {
+    let null = || OpenOptions::new().read(true).write(true).open(system, NULL);
+    Ok([null()?, null()?, null()?])
+}
+
+/// Empties a file, and fills it with so many zero bytes.
+fn fill(file: &mut File, size: u64) -> io::Result<()> {
+    // (a device has no length)
+    if file.metadata()?.is_file() {
+        file.set_len(0)?;
+    }
+    let part = [0u8; PART];
+    for _ in 0..size / PART as u64 {
+        file.write_all(&part)?;
+    }
+    file.write_all(&part[..(size % PART as u64) as usize])
+}
+
+/// A disk over a file that was synced. What is no file may have no sync; it has no store's size.
+fn settled(file: File) -> io::Result<FileDisk> {
+    if file.metadata()?.is_file() {
+        FileDisk::settled(file)
+    } else {
+        FileDisk::to_read(file)
+    }
+}
+
+/// Has a file for reading, as long as it is open, beside others that read it.
+fn lock_shared(file: &File) -> Result<(), Reason> {
+    match file.try_lock_shared() {
+        Err(TryLockError::WouldBlock) => Err(Reason::InUse),
+        _ => Ok(()),
+    }
+}
+
+/// What a call of the system came to, or why it failed.
+fn or_reason<T>(done: io::Result<T>) -> Result<T, Reason> {
+    match done {
+        Ok(value) => Ok(value),
+        Err(error) => Err(Reason::of(&error)),
+    }
 }

@@ -1,17 +1,24 @@
 -- From what a call wrote, or where it stopped, to how a word ends.
-use Rattle.std.proofs.Common.{◌∙◌, append_assoc, ap, ap₂}
+use Rattle.std.proofs.Common.{◌∙◌, append_assoc, ap, ap₂, inr}
 use Rattle.std.specs.Prelude.{◌≡◌, ◌++◌, [], ℕ, true, List, Option, Result, Ok, Err, IfErr}
-use Rattle.std.specs.Prelude.{OnErr, OnOk, is_ok}
+use Rattle.std.specs.Prelude.{IfOk, OnErr, OnOk, is_ok}
+use Rattle.std.specs.Global.{Global}
 use Rattle.std.specs.Io.KnownBytes.{Appends}
+use Rattle.run_model.specs.declared.layouts.Layout.TheVariants.{Small}
+use Rattle.run_model.specs.Session.{opened}
+use Rattle.run_disk.specs.declared.memory_disks.MemoryDisk.{MemoryDisk}
 use Rattle.run_disk.specs.Disk.{DiskState}
 use Rattle.run_book.specs.Views.{BookView, holding}
 use Rattle.console_lines.specs.declared.faults.RunFault.{RunFault}
 use Rattle.console_lines.specs.declared.faults.RunFault.TheVariants.{Output}
+use Rattle.console_lines.specs.declared.strays.StrayLine.{StrayLine}
 use Rattle.console_lines.specs.Progress.{WritesPart}
 use Rattle.run_console.specs.Progress.{BeginsScript, RunStops, RunsAll}
+use Rattle.run_console.specs.SessionLines.{plain}
+use Rattle.run_console.specs.Strict.{RunsStrictly, StopsStrictly}
 use Rattle.run_console.specs.Troubles.{Accounts}
-use Rattle.night_program.specs.Demos.{DemoEnds, IsRun, IsUnrun}
-use Rattle.night_program.specs.Stores.{Prints, Runs}
+use Rattle.night_program.specs.Demos.{DemoEnds, IsRun, IsUnrun, StrictDemoEnds}
+use Rattle.night_program.specs.Stores.{Prints, Runs, RunsStrict}
 
 -- What was written whole or in part was printed.
 pub printed : {T : Type 0} (r : Result T RunFault) (text : List ℕ) (w0 w1 : Option (List ℕ))
@@ -31,6 +38,27 @@ pub ran : {T D : Type 0} (state : D → DiskState) (r : Result T RunFault)
     → Runs state r r0 r1 w0 w1 b c
 ran state (Ok done) r0 r1 w0 w1 b c all saved stops begins accounts = (all, saved)
 ran state (Err why) r0 r1 w0 w1 b c all saved stops begins accounts = (stops, begins, accounts)
+
+-- So of a strict run.
+pub ran_strict : {D : Type 0} (state : D → DiskState) (r : Result (Option StrayLine) RunFault)
+    (r0 r1 w0 w1 : Option (List ℕ)) (b c : BookView D)
+    → IfOk r (λ stray. RunsStrictly stray b c r0 r1 w0 w1)
+    → IfErr r (λ why. StopsStrictly why b.session c.session r0 r1 w0 w1)
+    → IfErr r (λ why. Accounts state (holding b) why (holding c))
+    → RunsStrict state r r0 r1 w0 w1 b c
+ran_strict state (Ok stray) r0 r1 w0 w1 b c runs stops accounts = runs
+ran_strict state (Err why) r0 r1 w0 w1 b c runs stops accounts = (stops, accounts)
+
+-- So of a strict run over a book in memory that was just opened.
+pub strict_demo_ends : (r : Result (Option StrayLine) RunFault)
+    (r0 r1 w0 w1 : Option (List ℕ)) (b c : BookView (MemoryDisk Global))
+    → plain b.session ≡ opened Small
+    → IfOk r (λ stray. RunsStrictly stray b c r0 r1 w0 w1)
+    → IfErr r (λ why. StopsStrictly why b.session c.session r0 r1 w0 w1)
+    → StrictDemoEnds r r0 r1 w0 w1
+strict_demo_ends (Ok stray) r0 r1 w0 w1 b c begun runs stops = (b, c, begun, runs)
+strict_demo_ends (Err why) r0 r1 w0 w1 b c begun runs stops =
+    inr (b.session, c.session, begun, stops)
 
 -- So of a run over a book in memory.
 pub demo_ends : {T : Type 0} (r : Result T RunFault) (r0 r1 w0 w1 : Option (List ℕ))

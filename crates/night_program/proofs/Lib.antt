@@ -1,3 +1,5 @@
 mod Begins
 mod EndLemmas
+mod KnownTasks
+mod Looking
 mod NameTexts

@@ -1,14 +1,23 @@
 -- How the program ends: its exit status, and what standard error is told.
 use Rattle.std.specs.Prelude.{◌≡◌, ◌∷◌, ◌++◌, [], ℕ, Bool, true, List, Option, Result, Ok, Err}
-use Rattle.std.specs.Prelude.{codes, if◌then◌else◌}
+use Rattle.std.specs.Prelude.{codes}
+use Rattle.std.specs.Fmt.{decimal}
 use Rattle.std.specs.Io.KnownBytes.{Appends}
+use Rattle.std.specs.Option.{option_map_or}
 use Rattle.console_lines.specs.declared.faults.RunFault.{RunFault}
 use Rattle.console_lines.specs.declared.faults.RunFault.TheVariants as fault
 use Rattle.console_lines.specs.Faults.{stop_text}
+use Rattle.console_lines.specs.Strict.{stray_text}
 use Rattle.night_words.specs.declared.asked.WordsFault.{WordsFault}
 use Rattle.night_words.specs.declared.asked.WordsFault.TheVariants as words
 use Rattle.night_words.specs.Commands.{fault_text}
+use Rattle.night_program.specs.declared.endings.Done.{Done}
+use Rattle.night_program.specs.declared.endings.Done.TheVariants.{Stray, Strayed, Unknown, Well}
 use Rattle.night_program.specs.declared.endings.Ended.{Ended}
+use Rattle.night_program.specs.declared.failures.Failure.{Failure}
+use Rattle.night_program.specs.declared.failures.FileFailure.{FileFailure}
+use Rattle.night_program.specs.declared.known.UnknownJob.{UnknownJob}
+use Rattle.night_program.specs.Reasons.{reason_text}
 
 -- The exit status where a fault ended the program: want of memory is told from all else.
 abbrev pub fault_status : RunFault → ℕ
@@ -28,16 +37,46 @@ fault_line why = codes "night: " ++ stop_text why ++ 10 ∷ []
 abbrev pub Tells : Bool → List ℕ → (e0 e1 : Option (List ℕ)) → Type 0
 Tells told text e0 e1 = told ≡ true → Appends e0 e1 text
 
--- The exit status where no fault did: a strayed audit is told from all else.
-abbrev pub audit_status : Bool → ℕ
-audit_status well = if well then 0 else 3
+-- The exit status where no fault ended the program.
+abbrev pub done_status : Done → ℕ
+done_status Well = 0
+done_status Strayed = 3
+done_status (Stray line) = 1
+done_status (Unknown job) = 3
 
--- What the words asked for was done, and nothing is told; or a fault ended it, and is told.
-abbrev pub EndsBy : Result Bool RunFault → Ended → (e0 e1 : Option (List ℕ)) → Type 0
-EndsBy (Ok well) ended e0 e1 =
-    (ended.status ≡ audit_status well) × (ended.told ≡ true) × (e1 ≡ e0)
-EndsBy (Err why) ended e0 e1 =
-    (ended.status ≡ fault_status why) × Tells ended.told (fault_line why) e0 e1
+-- What standard error is told of a job that a crew doesn't know, as in `night: unknown job mail;
+-- tasks 3`.
+abbrev pub unknown_line : UnknownJob → List ℕ
+unknown_line unknown =
+    codes "night: unknown job "
+    ++ (unknown.job ++ (codes "; tasks " ++ (decimal unknown.tasks ++ codes "\n")))
+
+-- What standard error is told where no fault ended the program: nothing, but of a line at which a
+-- strict run ended, as in `night: line 7: bad line`, and of a job that a crew doesn't know. An audit
+-- that strayed tells itself on standard output.
+abbrev pub TellsDone : Done → Bool → (e0 e1 : Option (List ℕ)) → Type 0
+TellsDone (Stray line) told e0 e1 =
+    Tells told (codes "night: " ++ (stray_text line ++ codes "\n")) e0 e1
+TellsDone (Unknown unknown) told e0 e1 = Tells told (unknown_line unknown) e0 e1
+TellsDone _ told e0 e1 = (told ≡ true) × (e1 ≡ e0)
+
+-- What standard error is told of a call of a file, as in `night: jobs.store: Permission denied`.
+abbrev pub file_line : FileFailure → List ℕ
+file_line file =
+    codes "night: " ++ (file.name.now ++ (codes ": " ++ (reason_text file.reason ++ codes "\n")))
+
+-- What standard error is told of a failure: the line of its fault, and behind it that of the call
+-- of a file which failed.
+abbrev pub failure_lines : Failure → List ℕ
+failure_lines failure = fault_line failure.fault ++ option_map_or file_line failure.file []
+
+-- What the words asked for came to this, or a fault ended it; and it is told.
+abbrev pub EndsBy : Result Done Failure → Ended → (e0 e1 : Option (List ℕ)) → Type 0
+EndsBy (Ok done) ended e0 e1 =
+    (ended.status ≡ done_status done) × TellsDone done ended.told e0 e1
+EndsBy (Err failure) ended e0 e1 =
+    (ended.status ≡ fault_status failure.fault)
+    × Tells ended.told (failure_lines failure) e0 e1
 
 -- The words asked for nothing, and it is told why.
 abbrev pub Refuses : WordsFault → Ended → (e0 e1 : Option (List ℕ)) → Type 0

@@ -1,109 +1,228 @@
 -- What the program does by its words.
-use Rattle.std.specs.Prelude.{◌≡◌, ◌⊎◌, ◌<◌, ℕ, Bool, true, List, Option, Result, Ok, Err, ⊤}
+use Rattle.std.specs.Prelude.{◌≡◌, ◌⊎◌, ◌<◌, ℕ, Bool, true, false, List, Option, None, ⊤}
+use Rattle.std.specs.Prelude.{Result, Ok, Err}
 use Rattle.std.specs.Prelude.{IfErr, IfOk}
 use Rattle.std.specs.String.{string_bytes}
-use Rattle.run_model.specs.declared.faults.Fault.TheVariants.{DiskFailed}
-use Rattle.run_model.specs.declared.faults.Trouble.TheVariants.{Faulty}
 use Rattle.run_model.specs.declared.layouts.Layout.TheVariants.{Large}
 use Rattle.run_model.specs.Layouts.{store_len}
 use Rattle.run_disk.specs.Disk.{DiskState}
 use Rattle.run_journal.specs.Pairs.{AreZeros}
 use Rattle.console_lines.specs.declared.faults.RunFault.{RunFault}
-use Rattle.console_lines.specs.declared.faults.RunFault.TheVariants.{Memory, Store}
+use Rattle.console_lines.specs.declared.faults.RunFault.TheVariants.{Memory}
+use Rattle.console_lines.specs.declared.strays.StrayLine.{StrayLine}
 use Rattle.run_console.specs.Crews.{CrewEnds}
 use Rattle.night_words.specs.Commands.{AsksFor, IsAnswer, IsCausedBy, faults_of}
 use Rattle.night_words.specs.declared.asked.Asked.{Asked}
 use Rattle.night_words.specs.declared.asked.Asked.TheVariants.{Demo, Format, Script, Inspect, Help}
 use Rattle.night_words.specs.declared.asked.Asked.TheVariants.{Crew, Migrate}
 use Rattle.night_words.specs.declared.asked.WordsFault.{WordsFault}
+use Rattle.night_program.specs.declared.endings.Done.{Done}
 use Rattle.night_program.specs.declared.endings.Ended.{Ended}
-use Rattle.night_program.specs.Demos.{DemoEnds}
+use Rattle.night_program.specs.declared.failures.Failure.{Failure}
+use Rattle.night_program.specs.Crews.{AnswersCrew, IsLooked, StopsAt}
+use Rattle.night_program.specs.Demos.{DemoEnds, StrictDemoEnds}
 use Rattle.night_program.specs.Endings.{EndsBy, Refuses}
+use Rattle.night_program.specs.Failures.{AnswersAlone, AnswersOver, AnswersStrict, HasNoFile}
+use Rattle.night_program.specs.Failures.{Names, NamesOne}
+use Rattle.night_program.specs.Files.{FilesView, IsSettled}
+use Rattle.night_program.specs.Looks.{LookEnds}
 use Rattle.night_program.specs.Stores.{FormatEnds, InspectEnds, MigrateEnds, Prints, ScriptEnds}
+use Rattle.night_program.specs.Stores.{StrictEnds}
 
--- A file was not had: its call failed.
-abbrev pub HasNoFile : {T : Type 0} → Result T RunFault → Type 0
-HasNoFile answer = answer ≡ Err (Store (Faulty DiskFailed))
+-- What is left of the files behind what a file was made for: where that failed, a file that wasn't
+-- there before is taken away again.
+abbrev pub IsLeft : {F D T : Type 0} → FilesView F D → (is_new : Bool) → Result T RunFault
+    → List ℕ → (f0 f1 : F) → Type 0
+IsLeft seen true (Err why) name f0 f1 = seen.removes f0 name f1
+IsLeft seen _ _ name f0 f1 = f1 ≡ f0
 
--- `holds` says which disks the file of a name is, as the files are.
-module _ {F D : Type 0} (state : D → DiskState) (holds : F → List ℕ → D → Type 0) where
-  -- The file of this name was made anew with the size of a large store. An honest one has zeros.
-  pub record IsMade (f : F) (name : List ℕ) (made : D) : Type 0 where
-    pub held : holds f name made
+module _ {F D : Type 0} (state : D → DiskState) (seen : FilesView F D) where
+  -- The file of this name was made anew with the size of a large store, and is settled. An honest
+  -- one has zeros. It says whether there was none of its name before, and one that is asked for as
+  -- new was not there.
+  pub record Makes (name : List ℕ) (only_new is_new : Bool) (made : D) (f0 f1 : F) : Type 0 where
+    pub held : seen.holds f1 name made
     pub sized : (state made).size ≡ store_len Large
     pub zeros : (state made).honest → (x : List ℕ) → (state made).images x → AreZeros x
+    pub settled : IsSettled (state made)
+    pub only : only_new ≡ true → is_new ≡ true
+    pub new : is_new ≡ true → seen.lacks f0 name
 
-module _ {F D T : Type 0} (state : D → DiskState) (holds : F → List ℕ → D → Type 0) where
+  -- ---- format
+
   -- The file of this name was made anew, and formatted.
-  abbrev pub DoesFormat : List ℕ → Result T RunFault → (f1 : F) → (w0 w1 : Option (List ℕ)) → Type 0
-  DoesFormat store answer f1 w0 w1 =
-      (HasNoFile answer × (w1 ≡ w0))
-      ⊎ ((given : D) × (left : D) × IsMade state holds f1 store given
-      × FormatEnds state given answer left w0 w1)
+  pub record Formats (store : List ℕ) (only_new : Bool) (answer : Result Done Failure)
+      (f0 f1 : F) (w0 w1 : Option (List ℕ)) : Type 0 where
+    pub made : F
+    pub is_new : Bool
+    pub given : D
+    pub left : D
+    pub done : Result ⊤ RunFault
+    pub makes : Makes store only_new is_new given f0 made
+    pub formats : FormatEnds state given done left w0 w1
+    pub answers : AnswersOver (Names store) done answer
+    pub files : IsLeft seen is_new done store made f1
+
+  abbrev pub DoesFormat : List ℕ → Bool → Result Done Failure → (f0 f1 : F)
+      → (w0 w1 : Option (List ℕ)) → Type 0
+  DoesFormat store only_new answer f0 f1 w0 w1 =
+      (HasNoFile store answer × (w1 ≡ w0)) ⊎ Formats store only_new answer f0 f1 w0 w1
+
+  -- ---- script
+
+  -- The input was run over the store on this disk, all of it or, in a strict run, up to the first
+  -- line that strays.
+  abbrev pub RunsStore : (store : List ℕ) → (strict : Bool) → Result Done Failure
+      → (given left : D) → (r0 r1 w0 w1 : Option (List ℕ)) → Type 0
+  RunsStore store false answer given left r0 r1 w0 w1 =
+      (done : Result ⊤ RunFault) × ScriptEnds state given done left r0 r1 w0 w1
+      × AnswersOver (Names store) done answer
+  RunsStore store true answer given left r0 r1 w0 w1 =
+      (done : Result (Option StrayLine) RunFault) × StrictEnds state given done left r0 r1 w0 w1
+      × AnswersStrict (Names store) done answer
 
   -- The file of this name was opened, and the input run over the store in it.
-  abbrev pub DoesScript :
-      List ℕ → Result T RunFault → (f0 : F) → (r0 r1 w0 w1 : Option (List ℕ)) → Type 0
-  DoesScript store answer f0 r0 r1 w0 w1 =
-      (HasNoFile answer × (r1 ≡ r0) × (w1 ≡ w0))
-      ⊎ ((given : D) × (left : D) × holds f0 store given
-      × ScriptEnds state given answer left r0 r1 w0 w1)
+  pub record Scripts (store : List ℕ) (strict : Bool) (answer : Result Done Failure)
+      (f0 : F) (r0 r1 w0 w1 : Option (List ℕ)) : Type 0 where
+    pub given : D
+    pub left : D
+    pub held : seen.holds f0 store given
+    pub settled : IsSettled (state given)
+    pub runs : RunsStore store strict answer given left r0 r1 w0 w1
 
-  -- The file of this name was opened, and the state in it printed.
-  abbrev pub DoesInspect :
-      List ℕ → Result T RunFault → (f0 : F) → (w0 w1 : Option (List ℕ)) → Type 0
-  DoesInspect store answer f0 w0 w1 =
-      (HasNoFile answer × (w1 ≡ w0))
-      ⊎ ((given : D) × (left : D) × holds f0 store given
-      × InspectEnds state given answer left w0 w1)
+  abbrev pub DoesScript : List ℕ → (strict : Bool) → Result Done Failure → (f0 f1 : F)
+      → (r0 r1 w0 w1 : Option (List ℕ)) → Type 0
+  DoesScript store strict answer f0 f1 r0 r1 w0 w1 =
+      (f1 ≡ f0) × ((HasNoFile store answer × (r1 ≡ r0) × (w1 ≡ w0))
+      ⊎ Scripts store strict answer f0 r0 r1 w0 w1)
 
-  -- The file of the old name was opened, then that of the new one made anew, and the store in the
-  -- one migrated to the other.
-  abbrev pub DoesMigrate :
-      (old new : List ℕ) → Result T RunFault → (f0 f1 : F) → (w0 w1 : Option (List ℕ)) → Type 0
+  -- ---- inspect
+
+  -- The file of this name was opened for reading alone, and the state in it printed.
+  pub record Inspects (store : List ℕ) (answer : Result Done Failure)
+      (f0 : F) (w0 w1 : Option (List ℕ)) : Type 0 where
+    pub given : D
+    pub left : D
+    pub done : Result ⊤ RunFault
+    pub shown : seen.shows f0 store given
+    pub settled : IsSettled (state given)
+    pub inspects : InspectEnds state given done left w0 w1
+    pub answers : AnswersOver (Names store) done answer
+
+  -- Another program has it open. It was opened for reading alone, and what two readings of it gave
+  -- was looked at. Or no two in a row agreed, and nothing was printed.
+  pub record Looks (store : List ℕ) (answer : Result Done Failure)
+      (f0 : F) (w0 w1 : Option (List ℕ)) : Type 0 where
+    pub given : D
+    pub left : D
+    pub shown : seen.shows f0 store given
+    pub looks : LookEnds state store given answer left w0 w1
+
+  abbrev pub DoesInspect : List ℕ → Result Done Failure → (f0 f1 : F)
+      → (w0 w1 : Option (List ℕ)) → Type 0
+  DoesInspect store answer f0 f1 w0 w1 =
+      (f1 ≡ f0) × ((HasNoFile store answer × (w1 ≡ w0))
+      ⊎ (Inspects store answer f0 w0 w1 ⊎ Looks store answer f0 w0 w1))
+
+  -- ---- migrate
+
+  -- The file of the old name was opened for reading alone, then that of the new one made anew, and
+  -- the store in the one migrated to the other.
+  pub record MigratesFiles (old new : List ℕ) (answer : Result Done Failure)
+      (f0 f1 : F) (w0 w1 : Option (List ℕ)) : Type 0 where
+    pub source : D
+    pub made : F
+    pub is_new : Bool
+    pub given : D
+    pub read : D
+    pub left : D
+    pub done : Result ⊤ RunFault
+    pub shown : seen.shows f0 old source
+    pub settled : IsSettled (state source)
+    pub makes : Makes new false is_new given f0 made
+    pub migrates : MigrateEnds state state source given done read left w0 w1
+    pub answers : AnswersOver (NamesOne old new) done answer
+    pub files : IsLeft seen is_new done new made f1
+
+  abbrev pub DoesMigrate : (old new : List ℕ) → Result Done Failure → (f0 f1 : F)
+      → (w0 w1 : Option (List ℕ)) → Type 0
   DoesMigrate old new answer f0 f1 w0 w1 =
-      (HasNoFile answer × (w1 ≡ w0))
-      ⊎ ((source : D) × (given : D) × (read : D) × (left : D) × holds f0 old source
-      × IsMade state holds f1 new given
-      × MigrateEnds state state source given answer read left w0 w1)
+      (HasNoFile old answer × (f1 ≡ f0) × (w1 ≡ w0))
+      ⊎ ((HasNoFile new answer × (w1 ≡ w0)) ⊎ MigratesFiles old new answer f0 f1 w0 w1)
 
--- What strays in no audit is well.
-abbrev pub well : Result ⊤ RunFault → Result Bool RunFault
-well (Ok done) = Ok true
-well (Err why) = Err why
+  -- ---- crew
 
--- There was no audit, and this holds of what was answered.
-abbrev pub WithoutAudit : Result Bool RunFault → (Result ⊤ RunFault → Type 0) → Type 0
-WithoutAudit answer Holds = (done : Result ⊤ RunFault) × (answer ≡ well done) × Holds done
+  -- The file of this name was opened, and so many workers worked off its tasks. Where it was to be
+  -- known, the store was read first, and has no task of an unknown job that isn't ended.
+  pub record Works (store : List ℕ) (workers : ℕ) (known : Bool) (answer : Result Done Failure)
+      (f0 : F) (w0 w1 : Option (List ℕ)) : Type 0 where
+    pub given : D
+    pub begun : D
+    pub done : Result Bool RunFault
+    pub held : seen.holds f0 store given
+    pub settled : IsSettled (state given)
+    pub looked : IsLooked state known given begun
+    pub works : CrewEnds state begun workers done w0 w1
+    pub answers : AnswersCrew (Names store) done answer
 
-module _ {F D : Type 0} (state : D → DiskState) (holds : F → List ℕ → D → Type 0) where
-  -- The file of this name was opened, and so many workers worked off its tasks. Where there were
-  -- fewer lists of jobs than workers, nothing was done.
-  abbrev pub DoesCrew : (store : List ℕ) → (workers lists : ℕ) → Result Bool RunFault
-      → (f0 f1 : F) → (w0 w1 : Option (List ℕ)) → Type 0
-  DoesCrew store workers lists answer f0 f1 w0 w1 =
-      ((lists < workers) × (answer ≡ Err Memory) × (f1 ≡ f0) × (w1 ≡ w0))
-      ⊎ ((HasNoFile answer × (w1 ≡ w0))
-      ⊎ ((given : D) × holds f0 store given × CrewEnds state given workers answer w0 w1))
+  -- The file of this name was opened and read alone: it wasn't known what is in it, or it has tasks
+  -- of unknown jobs. Nothing was begun.
+  pub record LooksFirst (store : List ℕ) (answer : Result Done Failure)
+      (f0 : F) (w0 w1 : Option (List ℕ)) : Type 0 where
+    pub given : D
+    pub read : D
+    pub held : seen.holds f0 store given
+    pub settled : IsSettled (state given)
+    pub stops : StopsAt state store given answer read
+    pub output : w1 ≡ w0
+
+  -- Where there were fewer lists of jobs than workers, nothing was done.
+  abbrev pub DoesCrew : (store : List ℕ) → (workers lists : ℕ) → (known : Bool)
+      → Result Done Failure → (f0 f1 : F) → (w0 w1 : Option (List ℕ)) → Type 0
+  DoesCrew store workers lists known answer f0 f1 w0 w1 =
+      (f1 ≡ f0)
+      × (((lists < workers) × AnswersAlone {T = ⊤} (Err Memory) answer × (w1 ≡ w0))
+      ⊎ ((HasNoFile store answer × (w1 ≡ w0))
+      ⊎ (Works store workers known answer f0 w0 w1
+      ⊎ ((known ≡ true) × LooksFirst store answer f0 w0 w1))))
+
+  -- ---- without a store's file
+
+  -- The input was run over a book in memory, all of it or, in a strict run, up to the first line
+  -- that strays.
+  abbrev pub DoesDemo : (strict : Bool) → Result Done Failure
+      → (r0 r1 w0 w1 : Option (List ℕ)) → Type 0
+  DoesDemo false answer r0 r1 w0 w1 =
+      (done : Result ⊤ RunFault) × DemoEnds done r0 r1 w0 w1 × AnswersAlone done answer
+  DoesDemo true answer r0 r1 w0 w1 =
+      (done : Result (Option StrayLine) RunFault) × StrictDemoEnds done r0 r1 w0 w1
+      × AnswersStrict (λ file. file ≡ None) done answer
+
+  -- A text was printed.
+  abbrev pub DoesPrint : List ℕ → Result Done Failure → (w0 w1 : Option (List ℕ)) → Type 0
+  DoesPrint text answer w0 w1 =
+      (done : Result ⊤ RunFault) × Prints text done w0 w1 × AnswersAlone done answer
+
+  -- ---- all words
 
   -- What was asked for was done, with so many lists of jobs. Input and files are untouched where it
   -- needs none.
-  abbrev pub Does : Asked → (lists : ℕ) → Result Bool RunFault → (f0 f1 : F)
+  abbrev pub Does : Asked → (lists : ℕ) → Result Done Failure → (f0 f1 : F)
       → (r0 r1 w0 w1 : Option (List ℕ)) → Type 0
-  Does Demo lists answer f0 f1 r0 r1 w0 w1 =
-      WithoutAudit answer (λ done. DemoEnds done r0 r1 w0 w1 × (f1 ≡ f0))
-  Does (Format store) lists answer f0 f1 r0 r1 w0 w1 = WithoutAudit answer (λ done.
-      DoesFormat state holds store.now done f1 w0 w1 × (r1 ≡ r0))
-  Does (Script store) lists answer f0 f1 r0 r1 w0 w1 = WithoutAudit answer (λ done.
-      DoesScript state holds store.now done f0 r0 r1 w0 w1)
-  Does (Inspect store) lists answer f0 f1 r0 r1 w0 w1 = WithoutAudit answer (λ done.
-      DoesInspect state holds store.now done f0 w0 w1 × (r1 ≡ r0))
-  Does (Crew store workers) lists answer f0 f1 r0 r1 w0 w1 =
-      DoesCrew store.now workers lists answer f0 f1 w0 w1 × (r1 ≡ r0)
-  Does (Migrate old new) lists answer f0 f1 r0 r1 w0 w1 = WithoutAudit answer (λ done.
-      DoesMigrate state holds old.now new.now done f0 f1 w0 w1 × (r1 ≡ r0))
-  Does (Help text) lists answer f0 f1 r0 r1 w0 w1 = WithoutAudit answer (λ done.
-      Prints (string_bytes text) done w0 w1 × (f1 ≡ f0) × (r1 ≡ r0))
+  Does (Demo strict) lists answer f0 f1 r0 r1 w0 w1 =
+      DoesDemo strict answer r0 r1 w0 w1 × (f1 ≡ f0)
+  Does (Format store only_new) lists answer f0 f1 r0 r1 w0 w1 =
+      DoesFormat store.now only_new answer f0 f1 w0 w1 × (r1 ≡ r0)
+  Does (Script store strict) lists answer f0 f1 r0 r1 w0 w1 =
+      DoesScript store.now strict answer f0 f1 r0 r1 w0 w1
+  Does (Inspect store) lists answer f0 f1 r0 r1 w0 w1 =
+      DoesInspect store.now answer f0 f1 w0 w1 × (r1 ≡ r0)
+  Does (Crew store workers known) lists answer f0 f1 r0 r1 w0 w1 =
+      DoesCrew store.now workers lists known answer f0 f1 w0 w1 × (r1 ≡ r0)
+  Does (Migrate old new) lists answer f0 f1 r0 r1 w0 w1 =
+      DoesMigrate old.now new.now answer f0 f1 w0 w1 × (r1 ≡ r0)
+  Does (Help text) lists answer f0 f1 r0 r1 w0 w1 =
+      DoesPrint (string_bytes text) answer w0 w1 × (f1 ≡ f0) × (r1 ≡ r0)
 
 -- Nothing was read, printed or done with a file.
 abbrev pub IsUntouched : {F : Type 0} → (f0 f1 : F) → (r0 r1 w0 w1 : Option (List ℕ)) → Type 0
@@ -115,12 +234,12 @@ abbrev pub IsRefused : {F : Type 0} → WordsFault → Ended → (f0 f1 : F)
 IsRefused why ended f0 f1 r0 r1 w0 w1 e0 e1 =
     Refuses why ended e0 e1 × IsUntouched f0 f1 r0 r1 w0 w1
 
-module _ {F D : Type 0} (state : D → DiskState) (holds : F → List ℕ → D → Type 0) where
+module _ {F D : Type 0} (state : D → DiskState) (seen : FilesView F D) where
   -- What was read of the words was done, with so many lists of jobs, and told where it failed.
   abbrev pub Obeys : Result Asked WordsFault → (lists : ℕ) → Ended → (f0 f1 : F)
       → (r0 r1 w0 w1 e0 e1 : Option (List ℕ)) → Type 0
   Obeys (Ok asked) lists ended f0 f1 r0 r1 w0 w1 e0 e1 =
-      (answer : Result Bool RunFault) × Does state holds asked lists answer f0 f1 r0 r1 w0 w1
+      (answer : Result Done Failure) × Does state seen asked lists answer f0 f1 r0 r1 w0 w1
       × EndsBy answer ended e0 e1
   Obeys (Err why) lists ended f0 f1 r0 r1 w0 w1 e0 e1 =
       IsRefused why ended f0 f1 r0 r1 w0 w1 e0 e1

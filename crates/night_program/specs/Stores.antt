@@ -15,9 +15,11 @@ use Rattle.run_session.specs.Logged.{begun_at}
 use Rattle.run_book.specs.Views.{BookView, holding}
 use Rattle.console_lines.specs.declared.faults.RunFault.{RunFault}
 use Rattle.console_lines.specs.declared.faults.RunFault.TheVariants.{Memory, Output}
+use Rattle.console_lines.specs.declared.strays.StrayLine.{StrayLine}
 use Rattle.console_lines.specs.Inspected.{inspected}
 use Rattle.console_lines.specs.Progress.{WritesPart}
 use Rattle.run_console.specs.Progress.{BeginsScript, Lasts, RunStops, RunsAll}
+use Rattle.run_console.specs.Strict.{RunsStrictly, StopsStrictly}
 use Rattle.run_console.specs.Troubles.{Accounts, stopped}
 
 -- A text was printed whole, or as much of it as the output took.
@@ -51,26 +53,47 @@ Runs state (Err why) r0 r1 w0 w1 b c =
     × BeginsScript why b.session r0 r1 w0 w1
     × Accounts state (holding b) why (holding c)
 
--- A book was opened over the disk, the input was run over it, and the disk is left as it held it.
-pub record RunsOver {T D : Type 0} (state : D → DiskState) (given : D) (answer : Result T RunFault)
-    (left : D) (r0 r1 w0 w1 : Option (List ℕ)) : Type 0 where
+-- The lines up to the first that strays were run, and at the end all events are durable; or a fault
+-- stopped the run.
+abbrev pub RunsStrict : {D : Type 0} → (D → DiskState) → Result (Option StrayLine) RunFault
+    → (r0 r1 w0 w1 : Option (List ℕ)) → BookView D → BookView D → Type 0
+RunsStrict state (Ok stray) r0 r1 w0 w1 b c = RunsStrictly stray b c r0 r1 w0 w1
+RunsStrict state (Err why) r0 r1 w0 w1 b c =
+    StopsStrictly why b.session c.session r0 r1 w0 w1
+    × Accounts state (holding b) why (holding c)
+
+-- A book was opened over the disk, the input was run over it so, and the disk is left as it held
+-- it.
+pub record RunsOver {D : Type 0} (state : D → DiskState) (Ran : BookView D → BookView D → Type 0)
+    (given left : D) : Type 0 where
   pub before : BookView D
   pub after : BookView D
   pub opened : HasOpened state given (holding before)
   pub begun : before.session ≡ begun_at before.session.start
-  pub runs : Runs state answer r0 r1 w0 w1 before after
+  pub runs : Ran before after
   pub lasts : Lasts before.session after.session
   pub carries_on : CarriesOn state (holding before) (holding after)
   pub disk : left ≡ after.journal.disk
 
--- The store was opened, and the input run over it. Or it was not opened, and nothing was read or
+-- The store was opened, and the input run over it so. Or it was not opened, and nothing was read or
 -- printed: the fault tells why.
+abbrev pub EndsOver : {T D : Type 0} → (D → DiskState) → (BookView D → BookView D → Type 0)
+    → (given : D) → Result T RunFault → (left : D) → (r0 r1 w0 w1 : Option (List ℕ)) → Type 0
+EndsOver state Ran given answer left r0 r1 w0 w1 =
+    RunsOver state Ran given left
+    ⊎ ((why : Fault) × (answer ≡ Err (stopped why)) × OpensNot state given why left
+    × (r1 ≡ r0) × (w1 ≡ w0))
+
 abbrev pub ScriptEnds : {T D : Type 0} → (D → DiskState) → (given : D)
     → Result T RunFault → (left : D) → (r0 r1 w0 w1 : Option (List ℕ)) → Type 0
 ScriptEnds state given answer left r0 r1 w0 w1 =
-    RunsOver state given answer left r0 r1 w0 w1
-    ⊎ ((why : Fault) × (answer ≡ Err (stopped why)) × OpensNot state given why left
-    × (r1 ≡ r0) × (w1 ≡ w0))
+    EndsOver state (Runs state answer r0 r1 w0 w1) given answer left r0 r1 w0 w1
+
+-- So it is where the run is strict.
+abbrev pub StrictEnds : {D : Type 0} → (D → DiskState) → (given : D)
+    → Result (Option StrayLine) RunFault → (left : D) → (r0 r1 w0 w1 : Option (List ℕ)) → Type 0
+StrictEnds state given answer left r0 r1 w0 w1 =
+    EndsOver state (RunsStrict state answer r0 r1 w0 w1) given answer left r0 r1 w0 w1
 
 -- ---- inspect
 

@@ -1,13 +1,19 @@
 //! A crew's night over the store in a file.
 
 ghost use Rattle.std.specs.Prelude.{◌≡◌, ◌≤◌, vec_len};
+ghost use Rattle.night_program.specs.Crews.{AnswersCrew, FindsUnknown};
+ghost use Rattle.night_program.specs.Failures.{Names};
 ghost use Rattle.night_program.specs.Programs.{DoesCrew};
 
-use crate::files::Files;
-use crate::programs::no_file;
+use crate::endings::Done;
+use crate::failures::{Failure, done_alone, failed_over, no_file};
+use crate::files::{Files, Opened, Why};
+use crate::known::{UnknownJob, unknown_in};
 use console_lines::RunFault;
-use run_console::crew;
+use run_console::{Book, crew, stopped};
 use run_crew::{Gate, Job};
+use run_disk::RunDisk;
+use run_model::Fault;
 use std::alloc::Global;
 use std::io::Write;
 use std::sync::Wait;
@@ -26,26 +32,61 @@ impl Gate for Open {
 }
 
 /// Opens the store in the file of this name, and works off its ready tasks with so many workers,
-/// who take the first of these lists of jobs. `Memory` where there are fewer lists.
-pub fn crew_file<F: Files, O: Write, R: Threads + Wait + Sync>(
+/// who take the first of these lists of jobs. `Memory` where there are fewer lists. Where the jobs
+/// are to be known, the store is read first, and nothing is begun where a task that isn't ended has
+/// another one.
+pub fn crew_file<'a, F: Files, O: Write, R: Threads + Wait + Sync>(
     rt: &R,
     alloc: Global,
-    store: &str,
+    store: &'a str,
     workers: u8,
+    known: bool,
     jobs: Vec<Vec<Box<dyn Job + Send>>>,
     files: &mut F,
     output: &mut O,
-) -> Result<bool, RunFault>
-    ensures { DoesCrew F.Disk.state F.holds store.now workers (vec_len jobs) result files.old
-        files.new (O.contents output.old) (O.contents output.new) }
+) -> Result<Done, Failure<'a>>
+    ensures { DoesCrew F.Disk.state F.seen store.now workers (vec_len jobs) known result
+        files.old files.new (O.contents output.old) (O.contents output.new) }
 {
     let mut jobs = jobs;
     if jobs.len() < usize::from(workers) {
-        return Err(RunFault::Memory);
+        return done_alone(Err(RunFault::Memory));
     }
     jobs.truncate(usize::from(workers));
-    match files.open(store) {
-        Ok(disk) => crew(rt, alloc, disk, jobs, &Open, output),
-        Err(failed) => Err(no_file(failed)),
+    let Opened { mut disk, why } = match files.open(store) {
+        Ok(opened) => opened,
+        Err(reason) => return Err(no_file(store, reason)),
+    };
+    if known {
+        match unknown_on(alloc, &mut disk) {
+            Ok(None) => (),
+            Ok(Some(unknown)) => return Ok(Done::Unknown(unknown)),
+            Err(fault) => return Err(failed_over(stopped(fault), store, &why)),
+        }
+    }
+    worked(crew(rt, alloc, disk, jobs, &Open, output), store, &why)
+}
+
+/// The tasks of the store on a disk that aren't ended and whose jobs aren't known, if there are
+/// any. The disk is read alone.
+fn unknown_on<D: RunDisk>(alloc: Global, disk: &mut D) -> Result<Option<UnknownJob>, Fault>
+    ensures { FindsUnknown D.state disk.old result disk.new }
+{
+    let state = Book::recover(alloc, disk)?;
+    Ok(unknown_in(&state))
+}
+
+/// What came of a crew's night over the store in the file of this name.
+fn worked<'a, Y: Why>(
+    done: Result<bool, RunFault>,
+    store: &'a str,
+    why: &Y,
+) -> Result<Done, Failure<'a>>
+    ensures { AnswersCrew (Names store.now) done result }
+{
+    match done {
+        Ok(true) => Ok(Done::Well),
+        Ok(false) => Ok(Done::Strayed),
+        Err(fault) => Err(failed_over(fault, store, why)),
     }
 }

@@ -8,10 +8,10 @@ ghost use Rattle.run_session.specs.Logged.{begun_at};
 ghost use Rattle.book_model.specs.Openings.{HasFormatted, HasOpened};
 ghost use Rattle.run_book.specs.Views.{holding};
 ghost use Rattle.run_console.specs.SessionLines.{plain};
-ghost use Rattle.night_program.specs.Demos.{IsRun, IsUnopened, IsUnrun};
+ghost use Rattle.night_program.specs.Demos.{IsRun, IsUnopened, IsUnrun, StrictDemoEnds};
 
-use console_lines::RunFault;
-use run_console::{Book, run};
+use console_lines::{RunFault, StrayLine};
+use run_console::{Book, run, run_strict};
 use run_disk::{MemoryDisk, RunDisk};
 use run_model::{Fault, Trouble};
 use std::alloc::Global;
@@ -34,6 +34,22 @@ pub fn demo<R: Read, W: Write>(alloc: Global, input: &mut R, output: &mut W) -> 
         Err(fault) => return Err(not_opened(fault)),
     };
     run(alloc, input, output, &mut book)
+}
+
+/// So does [`demo`], up to the first line that strays, and answers which it is.
+pub fn demo_strict<R: Read, W: Write>(
+    alloc: Global,
+    input: &mut R,
+    output: &mut W,
+) -> Result<Option<StrayLine>, RunFault>
+    ensures { StrictDemoEnds result (R.remaining input.old) (R.remaining input.new)
+        (W.contents output.old) (W.contents output.new) }
+{
+    let mut book = match small_book(alloc) {
+        Ok(book) => book,
+        Err(fault) => return Err(not_opened(fault)),
+    };
+    run_strict(alloc, input, output, &mut book)
 }
 
 /// What a fault of an opening is to a run.

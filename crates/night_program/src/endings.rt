@@ -1,36 +1,55 @@
 //! How the program ends: its exit status, and what standard error is told.
 
 ghost use Rattle.std.specs.Prelude.{◌≡◌};
-ghost use Rattle.night_program.specs.Endings.{EndsBy, Refuses, Tells, fault_line, fault_status};
-ghost use Rattle.night_program.specs.Endings.{words_status};
+ghost use Rattle.night_program.specs.Endings.{EndsBy, Refuses, Tells, TellsDone, done_status};
+ghost use Rattle.night_program.specs.Endings.{failure_lines, fault_status, file_line};
+ghost use Rattle.night_program.specs.Endings.{unknown_line, words_status};
 
-use console_lines::{RunFault, ShownFault};
+use crate::failures::{Failure, FileFailure};
+use crate::known::UnknownJob;
+use console_lines::{RunFault, ShownFault, ShownName, StrayLine};
 use night_words::WordsFault;
 use std::io::Write;
 
 /// How the program ended.
 #[derive(Clone, Copy, Debug, PartialEq, Eq)]
 pub struct Ended {
-    /// The exit status: 0 where it did what its words ask for, 2 for words that ask for nothing, 3
-    /// where the store, the input or the output failed, or an audit strayed, 4 for want of memory.
+    /// The exit status: 0 where it did what its words ask for, 1 where a strict run met a line that
+    /// was bad or refused, 2 for words that ask for nothing, 3 where the store, the input or the
+    /// output failed, an audit strayed or a crew doesn't know a job, 4 for want of memory.
     pub status: u8,
     /// Whether all that there was to tell was written on standard error.
     pub told: bool,
 }
 
-/// Ends what the words asked for, where an audit may have strayed. A fault is told in one line, as
-/// in `night: fault 3 NotAStore`; what strays is told by the audit's own.
-pub fn end<E: Write>(answer: Result<bool, RunFault>, errors: &mut E) -> Ended
-    ensures { EndsBy answer result (E.contents errors.old) (E.contents errors.new) }
+/// What came of what the words asked for, where no fault ended it.
+#[derive(Debug, Drop)]
+pub enum Done {
+    /// All of it was done.
+    Well,
+    /// A crew's night was done, and its audit strayed, which the audit's own line tells.
+    Strayed,
+    /// A strict run ended at this line.
+    Stray(StrayLine),
+    /// A crew doesn't know the jobs of some tasks, and nothing was begun.
+    Unknown(UnknownJob),
+}
+
+/// Ends what the words asked for. A fault is told in one line, as in `night: fault 3 NotAStore`,
+/// and where a call of a file failed in another, as in `night: jobs.store: No such file or
+/// directory`; so is a line at which a strict run ended, as in `night: line 7: bad line`. What
+/// strays in an audit is told by its own line.
+pub fn end<E: Write>(answer: &Result<Done, Failure<'_>>, errors: &mut E) -> Ended
+    ensures { EndsBy answer.now result (E.contents errors.old) (E.contents errors.new) }
 {
     match answer {
-        Ok(well) => Ended {
-            status: if well { 0 } else { 3 },
-            told: true,
+        Ok(done) => Ended {
+            status: status_of(done),
+            told: tell_done(done, errors),
         },
-        Err(fault) => Ended {
-            status: status_of(fault),
-            told: tell(fault, errors),
+        Err(failure) => Ended {
+            status: fault_status(failure.fault),
+            told: tell(failure, errors),
         },
     }
 }
@@ -45,8 +64,19 @@ pub fn refuse<E: Write>(fault: WordsFault, errors: &mut E) -> Ended
     }
 }
 
+/// The exit status where no fault ended the program.
+fn status_of(done: &Done) -> u8
+    ensures { result ≡ done_status done.now }
+{
+    match done {
+        Done::Well => 0,
+        Done::Stray(_) => 1,
+        Done::Strayed | Done::Unknown(_) => 3,
+    }
+}
+
 /// The exit status of a program that this fault ended.
-fn status_of(fault: RunFault) -> u8
+fn fault_status(fault: RunFault) -> u8
     ensures { result ≡ fault_status fault }
 {
     match fault {
@@ -65,10 +95,49 @@ fn refusal_status(fault: &WordsFault) -> u8
     }
 }
 
-/// Writes the line of a fault, and says whether all of it was written.
-fn tell<E: Write>(fault: RunFault, errors: &mut E) -> bool
-    ensures { Tells result (fault_line fault) (E.contents errors.old) (E.contents errors.new) }
+/// Writes what there is to tell where no fault ended the program, and says whether all of it was
+/// written.
+fn tell_done<E: Write>(done: &Done, errors: &mut E) -> bool
+    ensures { TellsDone done.now result (E.contents errors.old) (E.contents errors.new) }
 {
-    let line = ShownFault(fault);
-    writeln!(errors, "night: {line}").is_ok()
+    match done {
+        Done::Well | Done::Strayed => true,
+        Done::Stray(line) => writeln!(errors, "night: {line}").is_ok(),
+        Done::Unknown(unknown) => tell_unknown(unknown, errors),
+    }
+}
+
+/// Writes which job a crew doesn't know, and of how many tasks.
+fn tell_unknown<E: Write>(unknown: &UnknownJob, errors: &mut E) -> bool
+    ensures { Tells result (unknown_line unknown.now)
+        (E.contents errors.old) (E.contents errors.new) }
+{
+    let job = ShownName(&unknown.job);
+    let tasks = unknown.tasks;
+    writeln!(errors, "night: unknown job {job}; tasks {tasks}").is_ok()
+}
+
+/// Writes the line of a fault, and that of a call of a file behind it, and says whether all was
+/// written.
+fn tell<E: Write>(failure: &Failure<'_>, errors: &mut E) -> bool
+    ensures { Tells result (failure_lines failure.now)
+        (E.contents errors.old) (E.contents errors.new) }
+{
+    let line = ShownFault(failure.fault);
+    if writeln!(errors, "night: {line}").is_err() {
+        return false;
+    }
+    match &failure.file {
+        Some(file) => tell_file(file, errors),
+        None => true,
+    }
+}
+
+/// Writes which file a call failed of, and why.
+fn tell_file<E: Write>(file: &FileFailure<'_>, errors: &mut E) -> bool
+    ensures { Tells result (file_line file.now) (E.contents errors.old) (E.contents errors.new) }
+{
+    let name = file.name;
+    let reason = &file.reason;
+    writeln!(errors, "night: {name}: {reason}").is_ok()
 }

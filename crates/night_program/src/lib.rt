@@ -9,16 +9,21 @@
 mod crews;
 mod demos;
 mod endings;
+mod failures;
 mod files;
 mod jobs;
+mod known;
+mod looks;
 mod migrations;
 mod programs;
+mod reasons;
 mod stores;
 
-pub use demos::demo;
+pub use demos::{demo, demo_strict};
 pub use endings::Ended;
-pub use files::Files;
+pub use files::{Files, Made, Opened, Why};
 pub use jobs::{CopyJob, FailJob, SpinJob};
 pub use migrations::migrate;
 pub use programs::night;
-pub use stores::{format, inspect, script};
+pub use reasons::Reason;
+pub use stores::{format, inspect, script, script_strict};

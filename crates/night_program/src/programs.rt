@@ -3,20 +3,24 @@
 ghost use Rattle.std.specs.Prelude.{◌≡◌, map, vec_len, IfErr, IfOk};
 ghost use Rattle.std.specs.String.{string_bytes};
 ghost use Rattle.night_program.specs.Programs.{Does, DoesFormat, DoesInspect, DoesMigrate};
-ghost use Rattle.night_program.specs.Programs.{DoesScript, IsRefused, RunsWords, well};
+ghost use Rattle.night_program.specs.Programs.{DoesScript, IsLeft, IsRefused, Makes, RunsWords};
 
 use crate::crews::crew_file;
-use crate::demos::demo;
-use crate::endings::{Ended, end, refuse};
-use crate::files::Files;
+use crate::demos::{demo, demo_strict};
+use crate::endings::{Done, Ended, end, refuse};
+use crate::failures::{
+    Failure, done_alone, done_over, done_over_two, no_file, strict_alone, strict_over,
+};
+use crate::files::{Files, Made, Opened};
+use crate::looks::look;
 use crate::migrations::migrate;
-use crate::stores::{format, inspect, script};
+use crate::reasons::Reason;
+use crate::stores::{format, inspect, script, script_strict};
 use console_lines::RunFault;
 use night_words::{Asked, WordsFault, read_words};
 use run_console::write_whole;
 use run_crew::Job;
-use run_disk::DiskFailed;
-use run_model::{Fault, Layout, Trouble};
+use run_model::Layout;
 use std::alloc::Global;
 use std::io::{Read, Write};
 use std::sync::Wait;
@@ -25,13 +29,17 @@ use std::thread::Threads;
 /// Does what the words ask for, the program's own name first. They come as the system gave them, or
 /// as why it gave none.
 ///
-/// `demo` runs the input over a book in memory; `format STORE` makes a large store of the file;
-/// `script STORE` runs the input over the store; `inspect STORE` prints what it holds and writes
-/// nothing to it; `crew STORE` works off its ready tasks by threads, one for each of the first of
-/// these lists of jobs; `migrate OLD NEW` opens OLD, and only then makes of NEW a large store with
-/// the state of OLD's small one. Help and the version go to the output. Why words ask for nothing,
-/// and a fault that ended the rest, go to `errors`: any call of a file that fails is told as `fault
-/// 2 DiskFailed`. A crew with fewer lists than it has workers is want of memory.
+/// `demo` runs the input over a book in memory; `format STORE` makes a large store of the file, and
+/// with `--new` only where there is none; `script STORE` runs the input over the store; `inspect
+/// STORE` prints what it holds, also where another program has it open, and writes nothing to it;
+/// `crew STORE` works off its ready tasks by threads, one for each of the first of these lists of
+/// jobs, and with `--known` only where it knows the jobs of all tasks that aren't ended; `migrate
+/// OLD NEW` opens OLD for reading alone, and only then makes of NEW a large store with the state of
+/// OLD's small one. Help and the version go to the output. Why words ask for nothing, and a fault
+/// that ended the rest, go to `errors`: any call of a file that fails is told as `fault 2
+/// DiskFailed`, and behind it which file it was, and why. A file that was made for a store which
+/// then isn't made is taken away again. A crew with fewer lists than it has workers is want of
+/// memory.
 pub fn night<F: Files, I: Read, O: Write, E: Write, R: Threads + Wait + Sync>(
     rt: &R,
     alloc: Global,
@@ -46,7 +54,7 @@ pub fn night<F: Files, I: Read, O: Write, E: Write, R: Threads + Wait + Sync>(
         (I.remaining input.old) (I.remaining input.new)
         (O.contents output.old) (O.contents output.new)
         (E.contents errors.old) (E.contents errors.new)) }
-    ensures runs { IfOk words (λ words. RunsWords F.Disk.state F.holds
+    ensures runs { IfOk words (λ words. RunsWords F.Disk.state F.seen
         (map string_bytes words.items) (vec_len jobs) result files.old files.new
         (I.remaining input.old) (I.remaining input.new)
         (O.contents output.old) (O.contents output.new)
@@ -57,123 +65,176 @@ pub fn night<F: Files, I: Read, O: Write, E: Write, R: Threads + Wait + Sync>(
         Err(fault) => return refuse(fault, errors),
     };
     match read_words(alloc, words.as_slice()) {
-        Ok(asked) => end(
-            answer(rt, alloc, &asked, jobs, files, input, output),
-            errors,
-        ),
+        Ok(asked) => {
+            let answer = answer(rt, alloc, &asked, jobs, files, input, output);
+            end(&answer, errors)
+        }
         Err(fault) => refuse(fault, errors),
     }
 }
 
-/// Does what was asked for. The answer is whether nothing strayed in an audit.
-fn answer<F: Files, I: Read, O: Write, R: Threads + Wait + Sync>(
+/// Does what was asked for.
+fn answer<'a, F: Files, I: Read, O: Write, R: Threads + Wait + Sync>(
     rt: &R,
     alloc: Global,
-    asked: &Asked,
+    asked: &Asked<'a>,
     jobs: Vec<Vec<Box<dyn Job + Send>>>,
     files: &mut F,
     input: &mut I,
     output: &mut O,
-) -> Result<bool, RunFault>
-    ensures { Does F.Disk.state F.holds asked.now (vec_len jobs) result files.old files.new
+) -> Result<Done, Failure<'a>>
+    ensures { Does F.Disk.state F.seen asked.now (vec_len jobs) result files.old files.new
         (I.remaining input.old) (I.remaining input.new)
         (O.contents output.old) (O.contents output.new) }
 {
     match asked {
-        Asked::Demo => well(demo(alloc, input, output)),
-        Asked::Format(store) => well(format_file(store, files, output)),
-        Asked::Script(store) => well(script_file(alloc, store, files, input, output)),
-        Asked::Inspect(store) => well(inspect_file(alloc, store, files, output)),
-        Asked::Crew(store, workers) => crew_file(rt, alloc, store, *workers, jobs, files, output),
-        Asked::Migrate(old, new) => well(migrate_file(alloc, old, new, files, output)),
-        Asked::Help(text) => well(write_whole(output, text.as_bytes())),
+        Asked::Demo { strict: true } => strict_alone(demo_strict(alloc, input, output)),
+        Asked::Demo { strict: false } => done_alone(demo(alloc, input, output)),
+        Asked::Format { store, is_new } => format_file(store, *is_new, files, output),
+        Asked::Script { store, strict } => {
+            script_file(alloc, store, *strict, files, input, output)
+        }
+        Asked::Inspect(store) => inspect_file(alloc, store, files, output),
+        Asked::Crew {
+            store,
+            workers,
+            known,
+        } => crew_file(rt, alloc, store, *workers, *known, jobs, files, output),
+        Asked::Migrate(old, new) => migrate_file(alloc, old, new, files, output),
+        Asked::Help(text) => done_alone(write_whole(output, text.as_bytes())),
     }
 }
 
-/// What was done without an audit: nothing strayed in it.
-fn well(done: Result<(), RunFault>) -> Result<bool, RunFault>
-    ensures { result ≡ well done }
-{
-    match done {
-        Ok(()) => Ok(true),
-        Err(fault) => Err(fault),
-    }
-}
-
-/// Creates the file of this name or empties it, and makes a large store of it.
-fn format_file<F: Files, O: Write>(
-    store: &str,
+/// Creates the file of this name or empties it, and makes a large store of it. One that has to be
+/// new isn't emptied.
+fn format_file<'a, F: Files, O: Write>(
+    store: &'a str,
+    only_new: bool,
     files: &mut F,
     output: &mut O,
-) -> Result<(), RunFault>
-    ensures { DoesFormat F.Disk.state F.holds store.now result files.new
+) -> Result<Done, Failure<'a>>
+    ensures { DoesFormat F.Disk.state F.seen store.now only_new result files.old files.new
         (O.contents output.old) (O.contents output.new) }
 {
-    match files.create(store, Layout::Large.store_len()) {
-        Ok(disk) => format(disk, output).0,
-        Err(failed) => Err(no_file(failed)),
+    match make(store, only_new, files) {
+        Ok(Made { disk, why, is_new }) => {
+            let (done, _disk) = format(disk, output);
+            leave(files, store, is_new, &done);
+            done_over(done, store, &why)
+        }
+        Err(reason) => Err(no_file(store, reason)),
     }
 }
 
-/// Opens the store in the file of this name, and runs the input over it.
-fn script_file<F: Files, I: Read, O: Write>(
+/// The file of this name, with the size of a large store: created or emptied, or created alone.
+fn make<F: Files>(
+    name: &str,
+    only_new: bool,
+    files: &mut F,
+) -> Result<Made<F::Disk, F::Why>, Reason>
+    ensures { IfOk result (λ made. Makes F.Disk.state F.seen name.now only_new made.is_new
+        made.disk files.old files.new) }
+{
+    let size = Layout::Large.store_len();
+    if only_new {
+        files.create_new(name, size)
+    } else {
+        files.create(name, size)
+    }
+}
+
+/// Takes the file of this name away again where it is new and what it was made for failed.
+fn leave<F: Files>(files: &mut F, name: &str, is_new: bool, done: &Result<(), RunFault>)
+    ensures { IsLeft F.seen is_new done.now name.now files.old files.new }
+{
+    if is_new && done.is_err() {
+        files.remove(name);
+    }
+}
+
+/// Opens the store in the file of this name, and runs the input over it; a strict run ends at the
+/// first line that strays.
+fn script_file<'a, F: Files, I: Read, O: Write>(
     alloc: Global,
-    store: &str,
+    store: &'a str,
+    strict: bool,
     files: &mut F,
     input: &mut I,
     output: &mut O,
-) -> Result<(), RunFault>
-    ensures { DoesScript F.Disk.state F.holds store.now result files.old
+) -> Result<Done, Failure<'a>>
+    ensures { DoesScript F.Disk.state F.seen store.now strict result files.old files.new
         (I.remaining input.old) (I.remaining input.new)
         (O.contents output.old) (O.contents output.new) }
 {
-    match files.open(store) {
-        Ok(disk) => script(alloc, disk, input, output).0,
-        Err(failed) => Err(no_file(failed)),
-    }
-}
-
-/// Prints what the store in the file of this name holds.
-fn inspect_file<F: Files, O: Write>(
-    alloc: Global,
-    store: &str,
-    files: &mut F,
-    output: &mut O,
-) -> Result<(), RunFault>
-    ensures { DoesInspect F.Disk.state F.holds store.now result files.old
-        (O.contents output.old) (O.contents output.new) }
-{
-    match files.open(store) {
-        Ok(mut disk) => inspect(alloc, &mut disk, output),
-        Err(failed) => Err(no_file(failed)),
-    }
-}
-
-/// Opens the small store in the file of the old name, creates that of the new name or empties it,
-/// and makes a large store of it with the state of the old one.
-fn migrate_file<F: Files, O: Write>(
-    alloc: Global,
-    old: &str,
-    new: &str,
-    files: &mut F,
-    output: &mut O,
-) -> Result<(), RunFault>
-    ensures { DoesMigrate F.Disk.state F.holds old.now new.now result files.old files.new
-        (O.contents output.old) (O.contents output.new) }
-{
-    let mut source = match files.open(old) {
-        Ok(disk) => disk,
-        Err(failed) => return Err(no_file(failed)),
+    let Opened { disk, why } = match files.open(store) {
+        Ok(opened) => opened,
+        Err(reason) => return Err(no_file(store, reason)),
     };
-    match files.create(new, Layout::Large.store_len()) {
-        Ok(disk) => migrate(alloc, &mut source, disk, output).0,
-        Err(failed) => Err(no_file(failed)),
+    if strict {
+        strict_over(script_strict(alloc, disk, input, output).0, store, &why)
+    } else {
+        done_over(script(alloc, disk, input, output).0, store, &why)
     }
 }
 
-/// What a file that isn't had is to the program.
-pub fn no_file(_failed: DiskFailed) -> RunFault
-    ensures { result ≡ RunFault.Store (Trouble.Faulty Fault.DiskFailed) }
+/// Prints what the store in the file of this name holds, also where another program has it open.
+fn inspect_file<'a, F: Files, O: Write>(
+    alloc: Global,
+    store: &'a str,
+    files: &mut F,
+    output: &mut O,
+) -> Result<Done, Failure<'a>>
+    ensures { DoesInspect F.Disk.state F.seen store.now result files.old files.new
+        (O.contents output.old) (O.contents output.new) }
 {
-    RunFault::Store(Trouble::Faulty(Fault::DiskFailed))
+    match files.open_to_read(store) {
+        Ok(Opened { mut disk, why }) => {
+            let done = inspect(alloc, &mut disk, output);
+            done_over(done, store, &why)
+        }
+        Err(Reason::InUse) => look_file(alloc, store, files, output),
+        Err(reason) => Err(no_file(store, reason)),
+    }
+}
+
+/// Prints what the store in the file of this name holds, which another program has open.
+fn look_file<'a, F: Files, O: Write>(
+    alloc: Global,
+    store: &'a str,
+    files: &mut F,
+    output: &mut O,
+) -> Result<Done, Failure<'a>>
+    ensures { DoesInspect F.Disk.state F.seen store.now result files.old files.new
+        (O.contents output.old) (O.contents output.new) }
+{
+    match files.look(store) {
+        Ok(opened) => look(alloc, files, opened, store, output).0,
+        Err(reason) => Err(no_file(store, reason)),
+    }
+}
+
+/// Opens the small store in the file of the old name for reading alone, creates that of the new
+/// name or empties it, and makes a large store of it with the state of the old one.
+fn migrate_file<'a, F: Files, O: Write>(
+    alloc: Global,
+    old: &'a str,
+    new: &'a str,
+    files: &mut F,
+    output: &mut O,
+) -> Result<Done, Failure<'a>>
+    ensures { DoesMigrate F.Disk.state F.seen old.now new.now result files.old files.new
+        (O.contents output.old) (O.contents output.new) }
+{
+    let mut source = match files.open_to_read(old) {
+        Ok(opened) => opened,
+        Err(reason) => return Err(no_file(old, reason)),
+    };
+    match make(new, false, files) {
+        Ok(Made { disk, why, is_new }) => {
+            let (done, _disk) = migrate(alloc, &mut source.disk, disk, output);
+            leave(files, new, is_new, &done);
+            done_over_two(done, old, &source.why, new, &why)
+        }
+        Err(reason) => Err(no_file(new, reason)),
+    }
 }

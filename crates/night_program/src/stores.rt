@@ -1,9 +1,9 @@
 //! What the words do to a store, over the disk that holds it.
 
-ghost use Rattle.night_program.specs.Stores.{FormatEnds, InspectEnds, ScriptEnds};
+ghost use Rattle.night_program.specs.Stores.{FormatEnds, InspectEnds, ScriptEnds, StrictEnds};
 
-use console_lines::RunFault;
-use run_console::{Book, run, stopped, write_whole};
+use console_lines::{RunFault, StrayLine};
+use run_console::{Book, run, run_strict, stopped, write_whole};
 use run_disk::RunDisk;
 use std::alloc::Global;
 use std::io::{Read, Write};
@@ -35,6 +35,26 @@ pub fn script<D: RunDisk, R: Read, W: Write>(
     match Book::open(alloc, disk) {
         Ok(mut book) => {
             let answer = run(alloc, input, output, &mut book);
+            (answer, book.into_disk())
+        }
+        Err((fault, disk)) => (Err(stopped(fault)), disk),
+    }
+}
+
+/// So does [`script`], up to the first line that strays, and answers which it is.
+pub fn script_strict<D: RunDisk, R: Read, W: Write>(
+    alloc: Global,
+    disk: D,
+    input: &mut R,
+    output: &mut W,
+) -> (Result<Option<StrayLine>, RunFault>, D)
+    ensures { StrictEnds D.state disk result.0 result.1
+        (R.remaining input.old) (R.remaining input.new)
+        (W.contents output.old) (W.contents output.new) }
+{
+    match Book::open(alloc, disk) {
+        Ok(mut book) => {
+            let answer = run_strict(alloc, input, output, &mut book);
             (answer, book.into_disk())
         }
         Err((fault, disk)) => (Err(stopped(fault)), disk),

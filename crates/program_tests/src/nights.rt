@@ -38,6 +38,16 @@ fn left(alloc: Global, disk: &MemoryDisk) -> Result<Vec<u8>, Fail> {
     Ok(disk.image(alloc, disk.calls(), Torn::Take)?)
 }
 
+/// A small store over which these lines were run.
+fn scripted(alloc: Global, lines: &str) -> Result<Shelf, Fail> {
+    let mut output = Vec::new(alloc);
+    let (made, disk) = format(MemoryDisk::new(alloc, SIZES.0)?, &mut output);
+    made?;
+    let (ran, disk) = script(alloc, disk, &mut lines.as_bytes(), &mut output);
+    ran?;
+    Ok(Shelf::new(alloc, "jobs.store", left(alloc, &disk)?))
+}
+
 /// A small store that a night ran over until it was stopped.
 fn stopped(alloc: Global) -> Result<Shelf, Fail> {
     let mut output = Vec::new(alloc);
@@ -53,11 +63,7 @@ fn stopped(alloc: Global) -> Result<Shelf, Fail> {
     {
         return Err(Fail::from("another night"));
     }
-    Ok(Shelf {
-        alloc,
-        name: "jobs.store",
-        bytes: left(alloc, &disk)?,
-    })
+    Ok(Shelf::new(alloc, "jobs.store", left(alloc, &disk)?))
 }
 
 #[test]
@@ -93,11 +99,7 @@ fn migrated(alloc: Global, small: &Shelf) -> Result<(Shelf, Vec<u8>, Vec<u8>), F
     let new = MemoryDisk::new(alloc, SIZES.1)?;
     let (answer, new) = migrate(alloc, &mut old, new, &mut output);
     answer?;
-    let large = Shelf {
-        alloc,
-        name: "new.store",
-        bytes: left(alloc, &new)?,
-    };
+    let large = Shelf::new(alloc, "new.store", left(alloc, &new)?);
     Ok((large, output, left(alloc, &old)?))
 }
 
@@ -126,11 +128,8 @@ static UNMIGRATED: [(usize, &str); 3] = [
 #[test]
 fn what_is_no_small_store_is_not_migrated(rt: HostRuntime) -> Result<(), Fail> {
     for (size, told) in UNMIGRATED {
-        let mut shelf = Shelf {
-            alloc: rt.alloc(),
-            name: "a",
-            bytes: vec![in rt.alloc(); 0u8; size]?,
-        };
+        let bytes = vec![in rt.alloc(); 0u8; size]?;
+        let mut shelf = Shelf::new(rt.alloc(), "a", bytes);
         let printed = run_words(&rt, rt.alloc(), &["migrate", "a", "b"], &mut shelf, "")?;
         assert!(&rt; printed.ended.status == 3, "{size} {printed:?}");
         assert!(&rt; printed.errors.as_str() == told, "{size} {printed:?}");
@@ -179,6 +178,151 @@ fn a_crew_works_off_a_stopped_night(rt: HostRuntime) -> Result<(), Fail> {
         let mut shelf = stopped(rt.alloc())?;
         let words = ["crew", "jobs.store", workers];
         let printed = run_words(&rt, rt.alloc(), &words, &mut shelf, "")?;
+        assert!(&rt; printed.output.as_str() == output, "{printed:?}");
+        assert!(&rt; printed.errors.as_str() == told, "{printed:?}");
+        assert!(&rt; printed.ended.status == status, "{printed:?}");
+    }
+    Ok(())
+}
+
+/// What is told of a store that another program has open.
+const IN_USE: &str = "night: fault 2 DiskFailed\nnight: jobs.store: in use by another program\n";
+
+/// Words over the stopped night while another program has it open: what is printed, and told.
+static USED: [(&[&str], &str, &str); 4] = [
+    (&["inspect", "jobs.store"], INSPECTED, ""),
+    (&["script", "jobs.store"], "", IN_USE),
+    (&["crew", "jobs.store", "--workers=1"], "", IN_USE),
+    (&["migrate", "jobs.store", "new.store"], "", IN_USE),
+];
+
+#[test]
+fn a_store_in_use_is_shown_and_not_opened(rt: HostRuntime) -> Result<(), Fail> {
+    for (words, output, told) in USED {
+        let mut shelf = stopped(rt.alloc())?;
+        shelf.is_used = true;
+        let printed = run_words(&rt, rt.alloc(), words, &mut shelf, "")?;
+        let status = if told.is_empty() { 0 } else { 3 };
+        assert!(&rt; printed.output.as_str() == output, "{printed:?}");
+        assert!(&rt; printed.errors.as_str() == told, "{printed:?}");
+        assert!(&rt; printed.ended.status == status, "{printed:?}");
+    }
+    Ok(())
+}
+
+/// What is told of a disk that fails, and its file.
+const BROKEN: &str = "night: fault 2 DiskFailed\nnight: b: broken\n";
+
+/// Words that make a file, over a disk that fails behind so many calls: whether there was one of
+/// its name before, and how many files are taken away again.
+static MAKING: [(&[&str], &str, u64, usize); 5] = [
+    (&["format", "b"], "a", 0, 1),
+    (&["format", "b"], "a", 7, 1),
+    (&["format", "--new", "b"], "a", 3, 1),
+    (&["format", "b"], "b", 3, 0),
+    (&["format", "b"], "b", 0, 0),
+];
+
+#[test]
+fn a_new_file_of_no_store_is_taken_away(rt: HostRuntime) -> Result<(), Fail> {
+    for (words, name, passes, removed) in MAKING {
+        let mut shelf = Shelf::new(rt.alloc(), name, Vec::new(rt.alloc()));
+        shelf.passes = passes;
+        let printed = run_words(&rt, rt.alloc(), words, &mut shelf, "")?;
+        assert!(&rt; printed.errors.as_str() == BROKEN, "{printed:?}");
+        assert!(&rt; printed.ended.status == 3, "{printed:?}");
+        assert!(&rt; shelf.removed == removed, "{printed:?}");
+    }
+    Ok(())
+}
+
+/// A group of six tasks of which one ended, one runs and two are held; the crews know `copy` alone
+/// of their jobs.
+const MIXED: &str = "group g root\nlimit g 3\ngo g mail a\ngo g copy b\ngo g mail c\n\
+     go g page d\ngo g copy e\ngo g mail f\nstart\nfinish 0 ok\nstart\nstart\n";
+
+/// Lines, and what a crew that looks first tells and prints.
+static KNOWN: [(&str, &str, &str); 3] = [
+    (MIXED, "night: unknown job mail; tasks 3\n", ""),
+    (
+        "group g root\ngo g mail a\nstart\nfinish 0 ok\ngo g copy b\n",
+        "",
+        "audit ok; starts 1; finishes 1\nacked 9\n",
+    ),
+    (
+        "group g root\ngo g copy a\nlimit g none\ngo g spinn 3\n",
+        "night: unknown job spinn; tasks 1\n",
+        "",
+    ),
+];
+
+#[test]
+fn a_crew_that_looks_first_begins_nothing_unknown(rt: HostRuntime) -> Result<(), Fail> {
+    for (lines, told, output) in KNOWN {
+        let mut shelf = scripted(rt.alloc(), lines)?;
+        let words = ["crew", "--known", "jobs.store", "--workers=1"];
+        let printed = run_words(&rt, rt.alloc(), &words, &mut shelf, "")?;
+        let status = if told.is_empty() { 0 } else { 3 };
+        assert!(&rt; printed.errors.as_str() == told, "{printed:?}");
+        assert!(&rt; printed.output.as_str() == output, "{printed:?}");
+        assert!(&rt; printed.ended.status == status, "{printed:?}");
+    }
+    Ok(())
+}
+
+/// Strict runs: the words, the lines, what is printed, the exit status, and what is told.
+type Strict = (
+    &'static [&'static str],
+    &'static str,
+    &'static str,
+    u8,
+    &'static str,
+);
+
+/// The store was opened once before.
+static STRICT: [Strict; 5] = [
+    (
+        &["script", "--strict", "jobs.store"],
+        "derive a root cancel\ncancel a\ncancel a\nderive b root cancel\n",
+        "scope 1\nok\nrefused 12 AlreadyDone\nacked 4\n",
+        1,
+        "night: line 3: refused 12 AlreadyDone\n",
+    ),
+    (
+        &["script", "jobs.store", "--strict"],
+        "\ngroup g root\nnonsense\ngo g copy a\n",
+        "group 0 scope 1\nbad line\nacked 3\n",
+        1,
+        "night: line 3: bad line\n",
+    ),
+    (
+        &["script", "--strict", "jobs.store"],
+        "derive a root cancel\n",
+        "scope 1\nacked 3\n",
+        0,
+        "",
+    ),
+    (
+        &["demo", "--strict"],
+        "nonsense\nderive a root cancel\n",
+        "bad line\nacked 1\n",
+        1,
+        "night: line 1: bad line\n",
+    ),
+    (
+        &["demo", "--strict"],
+        "derive a root cancel\n",
+        "scope 1\nacked 2\n",
+        0,
+        "",
+    ),
+];
+
+#[test]
+fn a_strict_run_ends_at_the_first_mistake(rt: HostRuntime) -> Result<(), Fail> {
+    for (words, lines, output, status, told) in STRICT {
+        let mut shelf = scripted(rt.alloc(), "")?;
+        let printed = run_words(&rt, rt.alloc(), words, &mut shelf, lines)?;
         assert!(&rt; printed.output.as_str() == output, "{printed:?}");
         assert!(&rt; printed.errors.as_str() == told, "{printed:?}");
         assert!(&rt; printed.ended.status == status, "{printed:?}");

@@ -1,9 +1,11 @@
 //! Files in memory.
 
 ghost use Rattle.std.specs.Prelude.{⊤};
+ghost use Rattle.night_program.specs.Files.{FilesView};
 
-use night_program::Files;
-use run_disk::{DiskFailed, MemoryDisk};
+use arrayvec::ArrayString;
+use night_program::{Files, Made, Opened, Reason, Why};
+use run_disk::{Fuse, MemoryDisk};
 use std::alloc::Global;
 
 /// One file in memory. An opening gives a copy of it, and a file that is made anew isn't kept.
@@ -12,27 +14,124 @@ pub struct Shelf {
     pub alloc: Global,
     pub name: &'static str,
     pub bytes: Vec<u8>,
+    /// Whether another program has it open.
+    pub is_used: bool,
+    /// So many calls of each disk pass, and then each fails.
+    pub passes: u64,
+    /// How many files were taken away.
+    pub removed: usize,
+}
+
+impl Shelf {
+    /// A file that nobody uses, and whose disks are whole.
+    pub fn new(alloc: Global, name: &'static str, bytes: Vec<u8>) -> Shelf {
+        Shelf {
+            alloc,
+            name,
+            bytes,
+            is_used: false,
+            passes: u64::MAX,
+            removed: 0,
+        }
+    }
+
+    fn opened(&self, name: &str) -> Result<Opened<Fuse<MemoryDisk>, Broken>, Reason> {
+        if name != self.name {
+            return Err(said("no such file"));
+        }
+        let Ok(bytes) = Vec::from_slice(self.alloc, self.bytes.as_slice()) else {
+            return Err(said("no memory"));
+        };
+        match MemoryDisk::from_bytes(self.alloc, bytes) {
+            Ok(disk) => Ok(Opened {
+                disk: Fuse::new(disk, self.passes),
+                why: Broken(self.passes),
+            }),
+            Err(_) => Err(said("no memory")),
+        }
+    }
+
+    fn made(&self, size: u64, is_new: bool) -> Result<Made<Fuse<MemoryDisk>, Broken>, Reason> {
+        match MemoryDisk::new(self.alloc, size as usize) {
+            Ok(disk) => Ok(Made {
+                disk: Fuse::new(disk, self.passes),
+                why: Broken(self.passes),
+                is_new,
+            }),
+            Err(_) => Err(said("no memory")),
+        }
+    }
 }
 
 impl Files for Shelf {
-    type Disk = MemoryDisk;
+    type Disk = Fuse<MemoryDisk>;
 
-    ghost holds = { λ shelf name disk. ⊤ };
+    type Why = Broken;
 
-    fn open(&mut self, name: &str) -> Result<MemoryDisk, DiskFailed> {
-        if name != self.name {
-            return Err(DiskFailed);
+    ghost seen = { record {
+      holds = λ shelf name disk. ⊤;
+      shows = λ shelf name disk. ⊤;
+      lacks = λ shelf name. ⊤;
+      removes = λ shelf name left. ⊤;
+    } };
+
+    fn open(&mut self, name: &str) -> Result<Opened<Fuse<MemoryDisk>, Broken>, Reason> {
+        if self.is_used {
+            return Err(Reason::InUse);
         }
-        let Ok(bytes) = Vec::from_slice(self.alloc, self.bytes.as_slice()) else {
-            return Err(DiskFailed);
-        };
-        MemoryDisk::from_bytes(self.alloc, bytes).map_err(|_| DiskFailed)
+        self.opened(name)
     }
 
-    fn create(&mut self, _name: &str, size: u64) -> Result<MemoryDisk, DiskFailed> {
-        match MemoryDisk::new(self.alloc, size as usize) {
-            Ok(disk) => Ok(disk),
-            Err(_) => Err(DiskFailed),
+    fn open_to_read(&mut self, name: &str) -> Result<Opened<Fuse<MemoryDisk>, Broken>, Reason> {
+        if self.is_used {
+            return Err(Reason::InUse);
+        }
+        self.opened(name)
+    }
+
+    fn look(&mut self, name: &str) -> Result<Opened<Fuse<MemoryDisk>, Broken>, Reason> {
+        self.opened(name)
+    }
+
+    fn pause(&self) {}
+
+    fn create(&mut self, name: &str, size: u64) -> Result<Made<Fuse<MemoryDisk>, Broken>, Reason> {
+        self.made(size, name != self.name)
+    }
+
+    fn create_new(
+        &mut self,
+        name: &str,
+        size: u64,
+    ) -> Result<Made<Fuse<MemoryDisk>, Broken>, Reason> {
+        if name == self.name {
+            return Err(said("there is one"));
+        }
+        self.made(size, true)
+    }
+
+    fn remove(&mut self, _name: &str) {
+        self.removed += 1;
+    }
+}
+
+/// Tells why a call of a disk failed that fails behind so many.
+#[derive(Drop)]
+pub struct Broken(u64);
+
+impl Why for Broken {
+    fn reason(&self) -> Option<Reason> {
+        if self.0 < u64::MAX {
+            Some(said("broken"))
+        } else {
+            None
         }
     }
+}
+
+/// What a system says.
+fn said(text: &str) -> Reason {
+    let mut said = ArrayString::new();
+    let _fits = said.try_push_str(text);
+    Reason::Said(said)
 }

@@ -11,7 +11,10 @@ use std::test::Fail;
 /// Words, the exit status, and a part of what goes to the output and to the errors.
 type Case = (&'static [&'static str], u8, &'static str, &'static str);
 
-static CASES: [Case; 33] = [
+/// What is told of a file that isn't there.
+const NO_FILE: &str = "night: fault 2 DiskFailed\nnight: none: no such file\n";
+
+static CASES: [Case; 36] = [
     (&[], 2, "", "Usage: night <COMMAND>"),
     (&[""], 2, "", "unrecognized subcommand ''"),
     (&["work", "a"], 2, "", "unrecognized subcommand 'work'"),
@@ -28,12 +31,7 @@ static CASES: [Case; 33] = [
         "Example: night crew jobs.store --workers 2",
         "",
     ),
-    (
-        &["crew", "none", "--workers=2"],
-        3,
-        "",
-        "night: fault 2 DiskFailed\n",
-    ),
+    (&["crew", "none", "--workers=2"], 3, "", NO_FILE),
     (
         &["crew", "a", "--workers=1"],
         3,
@@ -55,7 +53,7 @@ static CASES: [Case; 33] = [
     (
         &["format", "--help"],
         0,
-        "Example: night format jobs.store",
+        "Example: night format --new jobs.store",
         "",
     ),
     (&["script", "-h"], 0, "night script jobs.store", ""),
@@ -70,8 +68,16 @@ static CASES: [Case; 33] = [
     (&["demo"], 0, "scope 1\nacked 2\n", ""),
     (&["demo", "--"], 0, "scope 1\nacked 2\n", ""),
     (&["format", "new"], 0, "formatted\n", ""),
-    (&["script", "none"], 3, "", "night: fault 2 DiskFailed\n"),
-    (&["inspect", "none"], 3, "", "night: fault 2 DiskFailed\n"),
+    (&["format", "a"], 0, "formatted\n", ""),
+    (&["format", "--new", "new"], 0, "formatted\n", ""),
+    (
+        &["format", "--new", "a"],
+        3,
+        "",
+        "night: fault 2 DiskFailed\nnight: a: there is one\n",
+    ),
+    (&["script", "none"], 3, "", NO_FILE),
+    (&["inspect", "none"], 3, "", NO_FILE),
     (&["script", "a"], 3, "", "night: fault 4 WrongSize\n"),
     (
         &["migrate", "a", "a"],
@@ -91,12 +97,7 @@ static CASES: [Case; 33] = [
         "",
         "unexpected argument 'c' found",
     ),
-    (
-        &["migrate", "none", "new"],
-        3,
-        "",
-        "night: fault 2 DiskFailed\n",
-    ),
+    (&["migrate", "none", "new"], 3, "", NO_FILE),
     (
         &["migrate", "a", "new"],
         3,
@@ -119,11 +120,7 @@ static CASES: [Case; 33] = [
 
 /// A file of no bytes, which is no store.
 fn empty_file(alloc: Global) -> Shelf {
-    Shelf {
-        alloc,
-        name: "a",
-        bytes: Vec::new(alloc),
-    }
+    Shelf::new(alloc, "a", Vec::new(alloc))
 }
 
 #[test]

@@ -1,9 +1,60 @@
-use Rattle.std.proofs.Common.{◌≡◌, ℕ, arith, inr, subst, vec_len}
+use Rattle.std.proofs.Common.{◌≡◌, ◌∙◌, ℕ, arith, inl, inr, refl, subst, vec_len}
+use Rattle.std.specs.Prelude.{None, Some}
 use Rattle.run_console.specs.Crews.{CrewEnds}
+use Rattle.night_program.specs.Crews.{IsLooked}
+use Rattle.night_program.proofs.Looking.{found_is, looked_first, looked_not}
 use Rattle.night_program.proofs.crews.crew_file.Goals as goal
+use Rattle.night_program.proofs.crews.crew_file.Goals.{then-known+in-Ok-None, else-known}
 
-pub returns-in-Ok : goal.returns-in-Ok
-returns-in-Ok g c =
+pub returns-in-Ok-Some : goal.returns-in-Ok-Some
+returns-in-Ok-Some g c = (
+  c.open.ensures.same,
+  inr (inr (inr (
+    c.if-known.true,
+    record {
+      given = c.in-Ok.opened.disk;
+      read = c.unknown_on.new.disk;
+      held = c.in-Ok.ensures.holds;
+      settled = c.in-Ok.ensures.settled;
+      stops = inl (
+        c.in-Ok-Some.unknown,
+        found_is g.F.Disk.RunDisk.state c.in-Ok.opened.disk c.unknown_on.result
+            c.in-Ok-Some.field-0 (Some c.in-Ok-Some.unknown) c.unknown_on.new.disk
+            c.unknown_on.ensures c.in-Ok-Some.is c.in-Ok-Some.field-0-is,
+        refl,
+      );
+      output = refl;
+    },
+  ))),
+)
+
+pub returns-in-Err-unknown_on : goal.returns-in-Err-unknown_on
+returns-in-Err-unknown_on g c = (
+  c.open.ensures.same,
+  inr (inr (inr (
+    c.if-known.true,
+    record {
+      given = c.in-Ok.opened.disk;
+      read = c.unknown_on.new.disk;
+      held = c.in-Ok.ensures.holds;
+      settled = c.in-Ok.ensures.settled;
+      stops = inr (
+        c.in-Err-unknown_on.fault,
+        c.in-Err-unknown_on.ensures,
+        (
+          c.failed_over.result,
+          refl,
+          c.failed_over.ensures.fault ∙ c.stopped.ensures,
+          c.failed_over.ensures.file,
+        ),
+      );
+      output = refl;
+    },
+  ))),
+)
+
+pub returns : goal.returns
+returns g c =
     let count : vec_len c.truncate.new.self ≡ c.args.workers =
     omega (
       arith,
@@ -13,6 +64,30 @@ returns-in-Ok g c =
       c.from.ensures,
       c.from-2.ensures,
     ) in
-    let P : ℕ → Type 0 = λ n. CrewEnds g.F.Disk.RunDisk.state c.in-Ok.disk n c.crew.result
+    let P : ℕ → Type 0 = λ n. CrewEnds g.F.Disk.RunDisk.state c.if-known.disk n c.crew.result
     (g.O.Write.contents c.args.output.now) (g.O.Write.contents c.crew.new.output) in
-    inr (inr (c.in-Ok.disk, c.in-Ok.ensures, subst P count c.crew.ensures))
+    let looked : IsLooked g.F.Disk.RunDisk.state c.args.known c.in-Ok.opened.disk c.if-known.disk =
+    elim c.if-known.branch [
+      | then-known+in-Ok-None w ↦
+          looked_first g.F.Disk.RunDisk.state c.in-Ok.opened.disk c.args.known c.if-known.disk
+          w.unknown_on.new.disk w.if-known.true
+          (found_is g.F.Disk.RunDisk.state c.in-Ok.opened.disk w.unknown_on.result
+          w.in-Ok-None.field-0 None w.unknown_on.new.disk w.unknown_on.ensures
+          w.in-Ok-None.is w.in-Ok-None.field-0-is)
+          w.disk-is
+      | else-known w ↦
+          looked_not g.F.Disk.RunDisk.state c.in-Ok.opened.disk c.args.known c.if-known.disk
+          w.if-known.false w.disk-is
+    ] in (
+      c.open.ensures.same,
+      inr (inr (inl record {
+        given = c.in-Ok.opened.disk;
+        begun = c.if-known.disk;
+        done = c.crew.result;
+        held = c.in-Ok.ensures.holds;
+        settled = c.in-Ok.ensures.settled;
+        looked = looked;
+        works = subst P count c.crew.ensures;
+        answers = c.worked.ensures;
+      })),
+    )

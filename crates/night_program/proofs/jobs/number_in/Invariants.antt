@@ -1,4 +1,4 @@
-use Rattle.std.proofs.Common.{◌≡◌, ◌≤◌, ℕ, length}
+use Rattle.std.proofs.Common.{◌≡◌, ◌≤◌, length}
 use Rattle.night_program.specs.Jobs.{number_from}
 use Rattle.night_program.proofs.jobs.number_in.Given as goal
 

@@ -1,0 +1,46 @@
+-- What a crew's night over a store comes to, and the look before it at the jobs of its tasks.
+use Rattle.std.specs.Prelude.{◌≡◌, ◌⊎◌, ℕ, Bool, true, false, List, Option, Some, None, Result, Ok}
+use Rattle.std.specs.Prelude.{Err}
+use Rattle.run_model.specs.declared.faults.Fault.{Fault}
+use Rattle.run_model.specs.State.{State}
+use Rattle.run_disk.specs.Disk.{DiskState}
+use Rattle.book_model.specs.Openings.{HasRecovered, RecoversNone}
+use Rattle.console_lines.specs.declared.faults.RunFault.{RunFault}
+use Rattle.run_console.specs.Troubles.{stopped}
+use Rattle.night_program.specs.declared.endings.Done.{Done}
+use Rattle.night_program.specs.declared.endings.Done.TheVariants.{Strayed, Unknown, Well}
+use Rattle.night_program.specs.declared.failures.Failure.{Failure}
+use Rattle.night_program.specs.declared.failures.FileFailure.{FileFailure}
+use Rattle.night_program.specs.declared.known.UnknownJob.{UnknownJob}
+use Rattle.night_program.specs.Failures.{FailsBy, Names}
+use Rattle.night_program.specs.Known.{unknown_in}
+
+-- What the program answers behind a night: all is well, the audit strayed, or the same fault ended
+-- it.
+abbrev pub AnswersCrew :
+    (Option FileFailure → Type 0) → Result Bool RunFault → Result Done Failure → Type 0
+AnswersCrew Of (Ok true) answer = answer ≡ Ok Well
+AnswersCrew Of (Ok false) answer = answer ≡ Ok Strayed
+AnswersCrew Of (Err why) answer = FailsBy Of why answer
+
+-- The store on a disk was read alone, and these tasks of unknown jobs were found in its state; or
+-- no state was, and the fault tells why.
+abbrev pub FindsUnknown :
+    {D : Type 0} → (D → DiskState) → D → Result (Option UnknownJob) Fault → D → Type 0
+FindsUnknown state old (Ok found) new =
+    (p : State) × HasRecovered p (state old) (state new) × (unknown_in p.work.tasks ≡ found)
+FindsUnknown state old (Err why) new = RecoversNone state old why new
+
+-- Before the night the disk wasn't looked at; or it was, and no task of an unknown job was found.
+abbrev pub IsLooked : {D : Type 0} → (D → DiskState) → (known : Bool) → (given begun : D) → Type 0
+IsLooked state false given begun = begun ≡ given
+IsLooked state true given begun = FindsUnknown state given (Ok None) begun
+
+-- The look found tasks of an unknown job, or no state.
+abbrev pub StopsAt : {D : Type 0} → (D → DiskState) → (store : List ℕ) → (given : D)
+    → Result Done Failure → (read : D) → Type 0
+StopsAt state store given answer read =
+    ((job : UnknownJob) × FindsUnknown state given (Ok (Some job)) read
+    × (answer ≡ Ok (Unknown job)))
+    ⊎ ((why : Fault) × FindsUnknown state given (Err why) read
+    × FailsBy (Names store) (stopped why) answer)

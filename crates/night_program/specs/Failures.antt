@@ -1,0 +1,51 @@
+-- What ended the program before it did what its words ask for, and of which file a call failed.
+use Rattle.std.specs.Prelude.{◌≡◌, ◌⊎◌, ℕ, List, Option, Some, None, Result, Ok, Err, IfSome}
+use Rattle.run_model.specs.declared.faults.Fault.TheVariants.{DiskFailed}
+use Rattle.run_model.specs.declared.faults.Trouble.TheVariants.{Faulty}
+use Rattle.console_lines.specs.declared.faults.RunFault.{RunFault}
+use Rattle.console_lines.specs.declared.faults.RunFault.TheVariants.{Store}
+use Rattle.console_lines.specs.declared.strays.StrayLine.{StrayLine}
+use Rattle.night_program.specs.declared.endings.Done.{Done}
+use Rattle.night_program.specs.declared.endings.Done.TheVariants.{Stray, Well}
+use Rattle.night_program.specs.declared.failures.Failure.{Failure}
+use Rattle.night_program.specs.declared.failures.FileFailure.{FileFailure}
+
+-- The file of which a call failed, if one did, is the one of this name.
+abbrev pub Names : List ℕ → Option FileFailure → Type 0
+Names name file = IfSome file (λ f. f.name.now ≡ name)
+
+-- It is the one of one of these two names.
+abbrev pub NamesOne : (old new : List ℕ) → Option FileFailure → Type 0
+NamesOne old new file = Names old file ⊎ Names new file
+
+-- The file of this name wasn't had: the device failed, and the file is named.
+abbrev pub IsNoFile : List ℕ → Failure → Type 0
+IsNoFile name failure =
+    (failure.fault ≡ Store (Faulty DiskFailed))
+    × ((file : FileFailure) × (failure.file ≡ Some file) × (file.name.now ≡ name))
+
+-- This fault ended it, and this holds of the file of which a call failed.
+abbrev pub FailsBy : (Option FileFailure → Type 0) → RunFault → Result Done Failure → Type 0
+FailsBy Of why answer =
+    (failure : Failure) × (answer ≡ Err failure) × (failure.fault ≡ why) × Of failure.file
+
+-- What the program answers where this was done: all is well, or the same fault ended it.
+abbrev pub AnswersOver :
+    {T : Type 0} → (Option FileFailure → Type 0) → Result T RunFault → Result Done Failure → Type 0
+AnswersOver Of (Ok done) answer = answer ≡ Ok Well
+AnswersOver Of (Err why) answer = FailsBy Of why answer
+
+-- So it is where a strict run was made, which may have ended at a line that strays.
+abbrev pub AnswersStrict : (Option FileFailure → Type 0) → Result (Option StrayLine) RunFault
+    → Result Done Failure → Type 0
+AnswersStrict Of (Ok None) answer = answer ≡ Ok Well
+AnswersStrict Of (Ok (Some line)) answer = answer ≡ Ok (Stray line)
+AnswersStrict Of (Err why) answer = FailsBy Of why answer
+
+-- So it is without a file.
+abbrev pub AnswersAlone : {T : Type 0} → Result T RunFault → Result Done Failure → Type 0
+AnswersAlone done answer = AnswersOver (λ file. file ≡ None) done answer
+
+-- The file of this name wasn't had, and that is answered.
+abbrev pub HasNoFile : List ℕ → Result Done Failure → Type 0
+HasNoFile name answer = (failure : Failure) × (answer ≡ Err failure) × IsNoFile name failure

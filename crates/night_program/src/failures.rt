@@ -1,0 +1,116 @@
+//! A [`Failure`] is what ended the program before it did what its words ask for.
+
+ghost use Rattle.std.specs.Prelude.{◌≡◌, None};
+ghost use Rattle.night_program.specs.Failures.{AnswersAlone, AnswersOver, AnswersStrict};
+ghost use Rattle.night_program.specs.Failures.{IsNoFile, Names, NamesOne};
+
+use crate::endings::Done;
+use crate::files::Why;
+use crate::reasons::Reason;
+use console_lines::{RunFault, StrayLine};
+use run_model::{Fault, Trouble};
+
+/// The fault that ended what the words asked for, and the call of a file behind it, if one failed.
+#[derive(Debug, Drop)]
+pub struct Failure<'a> {
+    pub fault: RunFault,
+    pub file: Option<FileFailure<'a>>,
+}
+
+/// A call of a file failed: which file, and why.
+#[derive(Debug, Drop)]
+pub struct FileFailure<'a> {
+    pub name: &'a str,
+    pub reason: Reason,
+}
+
+/// What a file that isn't had is to the program.
+pub fn no_file<'a>(name: &'a str, reason: Reason) -> Failure<'a>
+    ensures { IsNoFile name.now result }
+{
+    Failure {
+        fault: RunFault::Store(Trouble::Faulty(Fault::DiskFailed)),
+        file: Some(FileFailure { name, reason }),
+    }
+}
+
+/// A fault of what was done over the file of this name.
+pub fn failed_over<'a, Y: Why>(fault: RunFault, name: &'a str, why: &Y) -> Failure<'a>
+    ensures fault { result.fault ≡ fault }
+    ensures file { Names name.now result.file }
+{
+    let file = why.reason().map(|reason| FileFailure { name, reason });
+    Failure { fault, file }
+}
+
+/// What came of what was done over the file of this name.
+pub fn done_over<'a, Y: Why>(
+    done: Result<(), RunFault>,
+    name: &'a str,
+    why: &Y,
+) -> Result<Done, Failure<'a>>
+    ensures { AnswersOver (Names name.now) done result }
+{
+    match done {
+        Ok(()) => Ok(Done::Well),
+        Err(fault) => Err(failed_over(fault, name, why)),
+    }
+}
+
+/// What came of a strict run over the file of this name.
+pub fn strict_over<'a, Y: Why>(
+    done: Result<Option<StrayLine>, RunFault>,
+    name: &'a str,
+    why: &Y,
+) -> Result<Done, Failure<'a>>
+    ensures { AnswersStrict (Names name.now) done result }
+{
+    match done {
+        Ok(None) => Ok(Done::Well),
+        Ok(Some(line)) => Ok(Done::Stray(line)),
+        Err(fault) => Err(failed_over(fault, name, why)),
+    }
+}
+
+/// What came of a strict run without a file.
+pub fn strict_alone<'a>(done: Result<Option<StrayLine>, RunFault>) -> Result<Done, Failure<'a>>
+    ensures { AnswersStrict (λ file. file ≡ None) done result }
+{
+    match done {
+        Ok(None) => Ok(Done::Well),
+        Ok(Some(line)) => Ok(Done::Stray(line)),
+        Err(fault) => Err(Failure { fault, file: None }),
+    }
+}
+
+/// What came of what was done over two files, each with its name; the first that tells why a call
+/// failed is named.
+pub fn done_over_two<'a, Y: Why>(
+    done: Result<(), RunFault>,
+    old: &'a str,
+    why_old: &Y,
+    new: &'a str,
+    why_new: &Y,
+) -> Result<Done, Failure<'a>>
+    ensures { AnswersOver (NamesOne old.now new.now) done result }
+{
+    let fault = match done {
+        Ok(()) => return Ok(Done::Well),
+        Err(fault) => fault,
+    };
+    let failure = failed_over(fault, old, why_old);
+    if failure.file.is_some() {
+        return Err(failure);
+    }
+    Err(failed_over(fault, new, why_new))
+}
+
+/// What came of what was done without a file.
+pub fn done_alone<'a>(done: Result<(), RunFault>) -> Result<Done, Failure<'a>>
+    ensures { AnswersAlone done result }
+{
+    match done {
+        Ok(()) => Ok(Done::Well),
+        Err(fault) => Err(Failure { fault, file: None }),
+    }
+}
