@@ -1,11 +1,11 @@
 //! Files in memory.
 
-ghost use Rattle.std.specs.Prelude.{⊤};
-ghost use Rattle.night_program.specs.Files.{FilesView};
+ghost use Rattle.std.specs.Prelude.{◌≡◌, ⊤, IfOk};
+ghost use Rattle.night_program.specs.Files.{FilesView, IsSettled};
 
 use arrayvec::ArrayString;
 use night_program::{Files, Made, Opened, Reason, Why};
-use run_disk::{Fuse, MemoryDisk};
+use run_disk::{MemoryDisk, RunDisk};
 use std::alloc::Global;
 
 /// One file in memory. An opening gives a copy of it, and a file that is made anew isn't kept.
@@ -16,26 +16,26 @@ pub struct Shelf {
     pub bytes: Vec<u8>,
     /// Whether another program has it open.
     pub is_used: bool,
-    /// So many calls of each disk pass, and then each fails.
-    pub passes: u64,
-    /// How many files were taken away.
-    pub removed: usize,
+    /// Whether a file was taken away.
+    pub has_removed: bool,
 }
 
 impl Shelf {
-    /// A file that nobody uses, and whose disks are whole.
+    /// A file that nobody uses.
     pub fn new(alloc: Global, name: &'static str, bytes: Vec<u8>) -> Shelf {
         Shelf {
             alloc,
             name,
             bytes,
             is_used: false,
-            passes: u64::MAX,
-            removed: 0,
+            has_removed: false,
         }
     }
 
-    fn opened(&self, name: &str) -> Result<Opened<Fuse<MemoryDisk>, Broken>, Reason> {
+    fn opened(&self, name: &str) -> Result<Opened<MemoryDisk, Quiet>, Reason>
+        ensures { IfOk result (λ opened.
+            IsSettled (⟦<MemoryDisk as RunDisk>⟧.state opened.disk)) }
+    {
         if name != self.name {
             return Err(said("no such file"));
         }
@@ -43,30 +43,16 @@ impl Shelf {
             return Err(said("no memory"));
         };
         match MemoryDisk::from_bytes(self.alloc, bytes) {
-            Ok(disk) => Ok(Opened {
-                disk: Fuse::new(disk, self.passes),
-                why: Broken(self.passes),
-            }),
-            Err(_) => Err(said("no memory")),
-        }
-    }
-
-    fn made(&self, size: u64, is_new: bool) -> Result<Made<Fuse<MemoryDisk>, Broken>, Reason> {
-        match MemoryDisk::new(self.alloc, size as usize) {
-            Ok(disk) => Ok(Made {
-                disk: Fuse::new(disk, self.passes),
-                why: Broken(self.passes),
-                is_new,
-            }),
+            Ok(disk) => Ok(Opened { disk, why: Quiet }),
             Err(_) => Err(said("no memory")),
         }
     }
 }
 
 impl Files for Shelf {
-    type Disk = Fuse<MemoryDisk>;
+    type Disk = MemoryDisk;
 
-    type Why = Broken;
+    type Why = Quiet;
 
     ghost seen = { record {
       holds = λ shelf name disk. ⊤;
@@ -75,57 +61,64 @@ impl Files for Shelf {
       removes = λ shelf name left. ⊤;
     } };
 
-    fn open(&mut self, name: &str) -> Result<Opened<Fuse<MemoryDisk>, Broken>, Reason> {
+    fn open(&mut self, name: &str) -> Result<Opened<MemoryDisk, Quiet>, Reason> {
         if self.is_used {
             return Err(Reason::InUse);
         }
         self.opened(name)
     }
 
-    fn open_to_read(&mut self, name: &str) -> Result<Opened<Fuse<MemoryDisk>, Broken>, Reason> {
+    fn open_to_read(&mut self, name: &str) -> Result<Opened<MemoryDisk, Quiet>, Reason> {
         if self.is_used {
             return Err(Reason::InUse);
         }
         self.opened(name)
     }
 
-    fn look(&mut self, name: &str) -> Result<Opened<Fuse<MemoryDisk>, Broken>, Reason> {
+    fn look(&mut self, name: &str) -> Result<Opened<MemoryDisk, Quiet>, Reason> {
         self.opened(name)
     }
 
     fn pause(&self) {}
 
-    fn create(&mut self, name: &str, size: u64) -> Result<Made<Fuse<MemoryDisk>, Broken>, Reason> {
-        self.made(size, name != self.name)
+    fn create(&mut self, name: &str, size: u64) -> Result<Made<MemoryDisk, Quiet>, Reason> {
+        let is_new = name != self.name;
+        match MemoryDisk::new(self.alloc, size as usize) {
+            Ok(disk) => Ok(Made {
+                disk,
+                why: Quiet,
+                is_new,
+            }),
+            Err(_) => Err(said("no memory")),
+        }
     }
 
-    fn create_new(
-        &mut self,
-        name: &str,
-        size: u64,
-    ) -> Result<Made<Fuse<MemoryDisk>, Broken>, Reason> {
+    fn create_new(&mut self, name: &str, size: u64) -> Result<Made<MemoryDisk, Quiet>, Reason> {
         if name == self.name {
             return Err(said("there is one"));
         }
-        self.made(size, true)
+        match MemoryDisk::new(self.alloc, size as usize) {
+            Ok(disk) => Ok(Made {
+                disk,
+                why: Quiet,
+                is_new: true,
+            }),
+            Err(_) => Err(said("no memory")),
+        }
     }
 
     fn remove(&mut self, _name: &str) {
-        self.removed += 1;
+        self.has_removed = true;
     }
 }
 
-/// Tells why a call of a disk failed that fails behind so many.
+/// Tells of no failed call: none fails.
 #[derive(Drop)]
-pub struct Broken(u64);
+pub struct Quiet;
 
-impl Why for Broken {
+impl Why for Quiet {
     fn reason(&self) -> Option<Reason> {
-        if self.0 < u64::MAX {
-            Some(said("broken"))
-        } else {
-            None
-        }
+        None
     }
 }
 

@@ -167,12 +167,18 @@ fn words_that_the_system_did_not_give_are_told(rt: HostRuntime) -> Result<(), Fa
     Ok(())
 }
 
-/// Words that print something.
-static PRINTING: [&[&str]; 3] = [&["demo"], &["format", "new"], &["--help"]];
+/// Words that print something, and whether a file that they made is taken away again.
+static PRINTING: [(&[&str], bool); 5] = [
+    (&["demo"], false),
+    (&["format", "new"], true),
+    (&["format", "--new", "new"], true),
+    (&["format", "a"], false),
+    (&["--help"], false),
+];
 
 #[test]
 fn an_output_that_takes_nothing_is_told(rt: HostRuntime) -> Result<(), Fail> {
-    for words in PRINTING {
+    for (words, has_removed) in PRINTING {
         let mut errors = Vec::new(rt.alloc());
         let given = Ok(words_of(rt.alloc(), words)?);
         let mut shelf = empty_file(rt.alloc());
@@ -197,6 +203,7 @@ fn an_output_that_takes_nothing_is_told(rt: HostRuntime) -> Result<(), Fail> {
             b"night: output\n".as_slice(),
             "{words:?}"
         );
+        assert!(&rt; shelf.has_removed == has_removed, "{words:?}");
     }
     Ok(())
 }
