@@ -1,6 +1,6 @@
 -- The first line that strays, among lines that are one behind the other.
-use Rattle.std.specs.Prelude.{◌≡◌, ◌≤◌, ◌+◌, ◌==◌, ℕ, Bool, true, false, List, [], ◌∷◌, ◌++◌, length}
-use Rattle.std.specs.Prelude.{map, Option, Some, None, is_some, if◌then◌else◌}
+use Rattle.std.specs.Prelude.{◌≡◌, ◌≤◌, ◌+◌, ◌==◌, ◌∷◌, ◌++◌, ℕ, Bool, true, false, List, []}
+use Rattle.std.specs.Prelude.{length, map, Option, Some, None, is_some, if◌then◌else◌}
 use Rattle.std.specs.Option.{option_map_or}
 use Rattle.std.proofs.Common.{arith, refl, sym, ap, ◌∙◌, append_assoc, append-nil}
 use Rattle.run_model.specs.Session.{Session}
@@ -53,7 +53,8 @@ some_first : (n : ℕ) (x : List ℕ) (first : Option Stray) (stray : StrayLine)
     → (rest ≡ Some stray → (more ≡ Some stray) × (all ≡ lines))
     → (option_map_or (λ why. Some (record { number = n; why = why })) first more ≡ Some stray)
     × (x ∷ (if is_some first then [] else all) ≡ x ∷ (if is_some first then [] else lines))
-some_first n x None stray rest more lines all h behind = ((behind h).0, ap (λ t. x ∷ t) (behind h).1)
+some_first n x None stray rest more lines all h behind =
+    ((behind h).0, ap (λ t. x ∷ t) (behind h).1)
 some_first n x (Some why) stray rest more lines all h behind = (h, refl)
 
 -- What is behind them doesn't matter.

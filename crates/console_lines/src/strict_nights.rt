@@ -1,6 +1,7 @@
 //! Examples of strict runs: what a newly opened store prints, and which line strays.
 //!
-//! Each function has an empty body, and its clauses are the example, as in [`nights`](crate::nights).
+//! Each function has an empty body, and its clauses are the example, as in
+//! [`nights`](crate::nights).
 
 ghost use Rattle.std.specs.Prelude.{◌≡◌, [], codes, Some, None};
 ghost use Rattle.run_model.specs.declared.layouts.Layout.TheVariants.{Small};

@@ -52,8 +52,8 @@ unknown_line unknown =
     ++ (unknown.job ++ (codes "; tasks " ++ (decimal unknown.tasks ++ codes "\n")))
 
 -- What standard error is told where no fault ended the program: nothing, but of a line at which a
--- strict run ended, as in `night: line 7: bad line`, and of a job that a crew doesn't know. An audit
--- that strayed tells itself on standard output.
+-- strict run ended, as in `night: line 7: bad line`, and of a job that a crew doesn't know. An
+-- audit that strayed tells itself on standard output.
 abbrev pub TellsDone : Done → Bool → (e0 e1 : Option (List ℕ)) → Type 0
 TellsDone (Stray line) told e0 e1 =
     Tells told (codes "night: " ++ (stray_text line ++ codes "\n")) e0 e1

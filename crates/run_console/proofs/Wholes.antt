@@ -203,7 +203,8 @@ end_told b d lines g w0 w2 w3 ran told =
     let P : List ℕ → Type 0 = λ x. Appends w0 w3 x in
     let end = closing (plain d) in
     let text : said_of (plain b) lines [] ≡ ran.out ++ told.out =
-    ap (λ t. replies (plain b) lines ++ closing t) (sym (ap plain ran.session ∙ plain_lines b lines))
+    ap (λ t. replies (plain b) lines ++ closing t)
+      (sym (ap plain ran.session ∙ plain_lines b lines))
     ∙ ap (λ x. x ++ end) ran.replied
     ∙ append_assoc ran.out g end
     ∙ ap (λ x. ran.out ++ x) (told.told ∙ append-nil told.out) in
