@@ -1,0 +1,300 @@
+"""The loop. A command is known by its name, a pair of group and key; a task's number is that of one
+try of it. Whenever a run of `night` ends too early, or its log is full, another one is opened: it
+interrupts the tasks that ran, each of them is submitted anew, and the commands, which run on, are
+found by their names as their tasks are started again."""
+
+import os
+import select
+import signal
+import sys
+import time
+
+from . import Fault, cancels
+from .commands import Command, text_of
+from .jobs import OF_ALL
+from .log import Log
+from .night import (CLOCK_NOT_FORWARD, FULL, LIMIT_WHILE_ACTIVE, NOTHING_READY, Night, NightEnded,
+                    SessionFull, refusal)
+from .store import JOB, base_of, cause_of, next_round
+
+# So often in a row `night` may end by a signal with no end of a task recorded between.
+MOST_LOST = 5
+
+
+def tell(text):
+    print(f"night-run: {text}", file=sys.stderr, flush=True)
+
+
+class Driver:
+    def __init__(self, store, jobs, most, grace, runs_failed, held):
+        self.store, self.jobs, self.held = store, jobs, held
+        self.most, self.grace, self.runs_failed = most, grace, runs_failed
+        self.log = Log(f"{store.path}.log")
+        self.commands = {}  # those that were begun and whose end isn't recorded, by name
+        self.names = {}     # of each task's number
+        self.running = {}   # the names of the tasks that run in this session, by number
+        self.ends = {}      # how the last task of each job ended
+        self.limits, self.left_out = {}, []
+        self.asked_to_end = self.lost = 0
+        self.is_shown = sys.stderr.isatty()
+
+    # --- from the first line to the last
+
+    def run(self):
+        self.listen()
+        try:
+            while True:
+                try:
+                    self.open()
+                    self.work()
+                    self.night.end()
+                    return
+                except SessionFull:
+                    self.night.left()
+                except NightEnded as ended:
+                    self.night_ended(ended.status)
+        finally:
+            self.cut_off()
+
+    def night_ended(self, status):
+        self.lost += 1
+        if status >= 0 and not self.is_open or self.lost > MOST_LOST:
+            raise Fault(f"`night script {self.store.path}` ended with status {status}")
+        tell(f"`night` ended with status {status}; another one is begun")
+
+    def open(self):
+        """Opens a session, and brings the store to what the file of commands asks for."""
+        self.is_open = False
+        self.running = {}
+        self.night = Night(self.store.path, self.held)
+        self.night.ask("flush")
+        self.is_open = True
+        self.advance()
+        state = self.store.state()
+        self.note_ends(state)
+        self.make_groups(state)
+        self.night.ask("flush")
+        self.submit(self.store.state())
+
+    def note_ends(self, state):
+        """Notes what the store has as ended: also an end whose reply didn't come."""
+        last = {(it.group, it.key): it for it in state.tasks}
+        for name in [it for it in self.commands if last[it].has_ended()]:
+            self.note(last[name].number, name, last[name].error or "ok", self.commands.pop(name))
+        for it in state.tasks:
+            if it.job != JOB:
+                raise Fault(f"{self.store.path} has a task of another kind: {it.number}, {it.job}")
+            self.names[it.number] = it.group, it.key
+            if it.has_ended() or it.phase == "interrupted":
+                self.note(it.number, (it.group, it.key), it.error or
+                          ("ok" if it.phase == "success" else "interrupted"))
+
+    # --- groups and tasks
+
+    def make_groups(self, state):
+        self.make_scope(state, OF_ALL, "root", OF_ALL)
+        last = state.last()
+        for base in self.jobs.groups():
+            group = state.round_of(base) or base
+            is_done = cause_of(state.scopes.get(group, "")) is not None
+            if self.runs_failed and is_done and any(
+                    it.phase == "error" for (its, _), it in last.items() if its == base):
+                group = next_round(group)
+            if group not in state.limits:
+                self.make_scope(state, group, OF_ALL, base)
+                self.night.ask(f"bare {group} {group}")
+            limit = self.jobs.settings[base].limit
+            if state.limits.get(group) != limit:
+                reply = self.night.ask(f"limit {group} {limit or 'none'}",
+                                       may=[LIMIT_WHILE_ACTIVE])[0]
+                if refusal(reply):
+                    tell(f"{group} keeps its limit while it has tasks that aren't ended")
+
+    def make_scope(self, state, name, parent, base):
+        """A scope that can be cancelled with a cause, below one with the deadline if it has any."""
+        deadline = self.jobs.settings[base].deadline
+        if name in state.scopes:
+            return
+        if deadline:
+            until = f"{name}--until"
+            if until not in state.scopes:
+                moment = deadline.moment(int(time.time()))
+                self.night.ask(f"derive {until} {parent} deadline {moment} {deadline}")
+            parent = until
+        self.night.ask(f"derive {name} {parent} cause")
+
+    def submit(self, state):
+        """Submits what isn't there, what was interrupted and, if asked for, what failed."""
+        self.limits = state.limits
+        last, lines, names = state.last(), [], []
+        for it in last.values():
+            if it.phase == "interrupted":
+                lines.append(f"retry {it.number}")
+                names.append((it.group, it.key))
+        for base, key in self.jobs.commands:
+            there = last.get((base, key))
+            if not there or self.runs_failed and there.phase == "error":
+                group = state.round_of(base)
+                self.ends.pop((base, key), None)
+                lines.append(f"go {group} {JOB} {key}")
+                names.append((group, key))
+        self.left_out = []
+        for name, reply in zip(names, self.night.ask(*lines, "flush", may=FULL)):
+            if refusal(reply):
+                self.left_out.append(name)
+            else:
+                self.names[int(reply.split()[1])] = name
+        self.runs_failed = False
+        if self.left_out:
+            tell(f"{self.store.path} is full: no place for {len(self.left_out)} tasks; make another"
+                 " store for them")
+
+    # --- the loop
+
+    def work(self):
+        ticked = 0.0
+        while True:
+            self.record_ends()
+            if time.monotonic() >= ticked + 1:
+                ticked = time.monotonic()
+                self.tick()
+            self.begin_commands()
+            self.show()
+            if not self.commands and (self.asked_to_end or not self.running):
+                return
+            self.wait(ticked + 1 - time.monotonic())
+
+    def tick(self):
+        """Moves the clock, obeys those who cancel, and stops the commands of scopes that are
+        done."""
+        self.advance()
+        cancels.obey(f"{self.store.path}.cancel", self.night)
+        causes = {group: self.cause(group) for group in {it for it, _ in self.commands}}
+        for (group, _), command in self.commands.items():
+            if self.asked_to_end > 1:
+                command.stop()
+            elif causes[group] is not None:
+                command.stop(text_of(f"canceled: {causes[group]}"))
+            command.press(self.grace)
+
+    def advance(self):
+        """Moves the clock to the time of day; one that stepped back is held where it was."""
+        self.night.ask(f"advance {int(time.time())}", may=[CLOCK_NOT_FORWARD])
+
+    def cause(self, group):
+        return cause_of(self.night.ask(f"scope {group}")[0])
+
+    def record_ends(self):
+        """Makes the ends of commands durable; only then they are forgotten."""
+        ended = [(number, name) for number, name in self.running.items()
+                 if name in self.commands and self.commands[name].has_ended()
+                 and not self.commands[name].is_cut_off()]
+        if ended:
+            self.night.ask(*(finish(number, self.commands[name].end()) for number, name in ended),
+                           "flush")
+            self.lost = 0
+        for number, name in ended:
+            command = self.commands.pop(name)
+            del self.running[number]
+            self.note(number, name, command.end(), command)
+        if self.asked_to_end:
+            self.forget_cut_off()
+
+    def forget_cut_off(self):
+        """Forgets commands that were cut off, and those whose task didn't come again: the next
+        opening interrupts them."""
+        orphans = self.orphans()
+        for name, command in list(self.commands.items()):
+            if command.has_ended() and (command.is_cut_off() or name in orphans):
+                del self.commands[name]
+                tell(f"{name[0]} {name[1]}: interrupted")
+
+    def begin_commands(self):
+        """Begins what has a place: tasks that run and wait for one, then those that are ready.
+        Where commands wait for their tasks to come again, all that is ready is started."""
+        for number, name in list(self.running.items()):
+            self.begin(number, name)
+        while not self.asked_to_end and (self.is_free() or self.orphans()):
+            reply = self.night.ask("start", "flush", may=[NOTHING_READY])[0]
+            if refusal(reply):
+                return
+            number = int(reply.split()[1])
+            self.running[number] = self.names[number]
+            self.begin(number, self.names[number])
+
+    def begin(self, number, name):
+        """Begins the command of a task, which the store has as running."""
+        group, key = name
+        if name in self.commands or not self.has_place(group):
+            return
+        cause, text = self.cause(group), self.jobs.commands.get((base_of(group), key))
+        if cause is not None or text is None:
+            end = text_of(f"canceled: {cause}" if cause is not None else "not in the file of jobs")
+            self.night.ask(finish(number, end), "flush")
+            del self.running[number]
+            self.note(number, name, end)
+        elif not self.asked_to_end:
+            output = self.store.output_of(number, name)
+            self.commands[name] = Command(number, text, output, self.held)
+
+    def is_free(self):
+        return sum(not it.has_ended() for it in self.commands.values()) < self.most
+
+    def has_place(self, group):
+        """The store holds a group's limit, but knows nothing of a command whose task was
+        interrupted as `night` ended."""
+        live = sum(its == group and not it.has_ended() for (its, _), it in self.commands.items())
+        limit = self.limits.get(group)
+        return self.is_free() and (limit is None or live < limit)
+
+    def orphans(self):
+        return self.commands.keys() - set(self.running.values())
+
+    def cut_off(self):
+        """Stops what still runs as the driver ends by a fault."""
+        for command in self.commands.values():
+            command.stop()
+        for name, command in self.commands.items():
+            while not command.has_ended():
+                command.press(self.grace)
+                time.sleep(0.05)
+            tell(f"{name[0]} {name[1]}: interrupted")
+
+    def note(self, number, name, end, command=None):
+        job = base_of(name[0]), name[1]
+        self.ends[job] = end
+        self.log.ended(number, name, end, command, self.jobs.commands.get(job, "-"))
+
+    # --- signals and the terminal
+
+    def listen(self):
+        self.wake, wakes = os.pipe()
+        os.set_blocking(self.wake, False)
+        os.set_blocking(wakes, False)
+        signal.set_wakeup_fd(wakes)
+        signal.signal(signal.SIGCHLD, lambda *_: None)
+        signal.signal(signal.SIGINT, lambda *_: self.end_soon(1))
+        for it in (signal.SIGTERM, signal.SIGHUP):
+            if signal.getsignal(it) != signal.SIG_IGN:
+                signal.signal(it, lambda *_: self.end_soon(2))
+
+    def end_soon(self, steps):
+        self.asked_to_end += steps
+        if self.asked_to_end == 1:
+            tell("no command is begun any more; once more stops those that run")
+
+    def wait(self, seconds):
+        if select.select([self.wake], [], [], max(0.0, min(1.0, seconds)))[0]:
+            os.read(self.wake, 4096)
+
+    def show(self):
+        """A line of progress, on a terminal alone."""
+        if self.is_shown:
+            ends = [self.ends.get(it) for it in self.jobs.commands]
+            failed = sum(it not in (None, "ok", "interrupted") for it in ends)
+            print(f"\r{ends.count('ok') + failed} of {len(ends)} done, {len(self.commands)}"
+                  f" running, {failed} failed\x1b[K", end="", file=sys.stderr, flush=True)
+
+
+def finish(number, end):
+    return f"finish {number} ok" if end == "ok" else f"finish {number} error {end}"
