@@ -3,6 +3,7 @@ try of it. Whenever a run of `night` ends too early, or its log is full, another
 interrupts the tasks that ran, each of them is submitted anew, and the commands, which run on, are
 found by their names as their tasks are started again."""
 
+import contextlib
 import os
 import select
 import signal
@@ -19,6 +20,8 @@ from .store import JOB, base_of, cause_of, next_round
 
 # So often in a row `night` may end by a signal with no end of a task recorded between.
 MOST_LOST = 5
+# So often in a row the store may be in use, a tenth of a second each, as it is opened.
+MOST_BUSY = 50
 
 
 def tell(text):
@@ -35,7 +38,7 @@ class Driver:
         self.running = {}   # the names of the tasks that run in this session, by number
         self.ends = {}      # how the last task of each job ended
         self.limits, self.left_out = {}, []
-        self.asked_to_end = self.lost = 0
+        self.asked_to_end = self.lost = self.busy = 0
         self.is_shown = sys.stderr.isatty()
 
     # --- from the first line to the last
@@ -50,17 +53,25 @@ class Driver:
                     self.night.end()
                     return
                 except SessionFull:
-                    self.night.left()
+                    self.begin_again(None)
                 except NightEnded as ended:
-                    self.night_ended(ended.status)
+                    self.begin_again(ended)
         finally:
             self.cut_off()
 
-    def night_ended(self, status):
-        self.lost += 1
-        if status >= 0 and not self.is_open or self.lost > MOST_LOST:
-            raise Fault(f"`night script {self.store.path}` ended with status {status}")
-        tell(f"`night` ended with status {status}; another one is begun")
+    def begin_again(self, ended):
+        """Decides whether another run of `night` is begun."""
+        if ended is None:
+            with contextlib.suppress(NightEnded):
+                self.night.end()
+        elif ended.is_in_use() and not self.is_open and self.busy < MOST_BUSY:
+            self.busy += 1
+            time.sleep(0.1)
+        elif ended.status >= 0 and not self.is_open or self.lost >= MOST_LOST:
+            raise Fault(str(ended))
+        else:
+            self.lost += 1
+            tell(f"{ended}; another one is begun")
 
     def open(self):
         """Opens a session, and brings the store to what the file of commands asks for."""
@@ -68,7 +79,7 @@ class Driver:
         self.running = {}
         self.night = Night(self.store.path, self.held)
         self.night.ask("flush")
-        self.is_open = True
+        self.is_open, self.busy = True, 0
         self.advance()
         state = self.store.state()
         self.note_ends(state)
@@ -155,6 +166,8 @@ class Driver:
         ticked = 0.0
         while True:
             self.record_ends()
+            if self.asked_to_end > 1:
+                self.stop_all()
             if time.monotonic() >= ticked + 1:
                 ticked = time.monotonic()
                 self.tick()
@@ -171,9 +184,7 @@ class Driver:
         cancels.obey(f"{self.store.path}.cancel", self.night)
         causes = {group: self.cause(group) for group in {it for it, _ in self.commands}}
         for (group, _), command in self.commands.items():
-            if self.asked_to_end > 1:
-                command.stop()
-            elif causes[group] is not None:
+            if causes[group] is not None:
                 command.stop(text_of(f"canceled: {causes[group]}"))
             command.press(self.grace)
 
@@ -250,10 +261,13 @@ class Driver:
     def orphans(self):
         return self.commands.keys() - set(self.running.values())
 
-    def cut_off(self):
-        """Stops what still runs as the driver ends by a fault."""
+    def stop_all(self):
         for command in self.commands.values():
             command.stop()
+
+    def cut_off(self):
+        """Stops what still runs as the driver ends by a fault."""
+        self.stop_all()
         for name, command in self.commands.items():
             while not command.has_ended():
                 command.press(self.grace)

@@ -4,6 +4,7 @@ import os
 import re
 import shutil
 import subprocess
+import tempfile
 
 from . import Fault
 
@@ -15,11 +16,18 @@ LIMIT_WHILE_ACTIVE, FULL = "13", ("7", "8", "9")
 
 
 class NightEnded(Exception):
-    """The run of `night` ended, by a signal where its status is below 0."""
+    """The run of `night` ended, by a signal where its status is below 0, and told this."""
 
-    def __init__(self, status):
+    def __init__(self, status, told=""):
         super().__init__(status)
-        self.status = status
+        self.status, self.told = status, told
+
+    def is_in_use(self):
+        """Whether another program had the store, an `inspect` that reads it for a moment, too."""
+        return "in use by another program" in self.told
+
+    def __str__(self):
+        return f"{self.told}`night` ended with status {self.status}"
 
 
 class SessionFull(Exception):
@@ -56,9 +64,11 @@ class Night:
     """A run of `night script` over a store."""
 
     def __init__(self, store, lock):
+        # (a pipe for what it tells would have to be read, too)
+        self.told = tempfile.TemporaryFile("w+")
         self.it = subprocess.Popen(
             [program(), "script", store], stdin=subprocess.PIPE, stdout=subprocess.PIPE, text=True,
-            pass_fds=[lock], start_new_session=True)
+            stderr=self.told, pass_fds=[lock], start_new_session=True)
 
     def ask(self, *lines, may=()):
         """The replies to these lines. One that is refused is a fault, but for the numbers of may:
@@ -86,22 +96,19 @@ class Night:
         for _ in lines:
             reply = self.it.stdout.readline()
             if not reply.endswith("\n") or reply.startswith("fault "):
-                raise NightEnded(self.left())
+                self.end()
+                raise NightEnded(0)
             found.append(reply[:-1])
         return found
 
-    def left(self):
-        """Ends the input, and waits until the program has ended; its status."""
+    def end(self):
+        """Ends the input, and waits until the program has ended: all events are durable then."""
         try:
             self.it.stdin.close()
         except BrokenPipeError:
             pass
         self.it.stdout.read()
         self.it.stdout.close()
-        return self.it.wait()
-
-    def end(self):
-        """Ends the run: all events are durable behind it."""
-        status = self.left()
-        if status:
-            raise NightEnded(status)
+        if self.it.wait():
+            self.told.seek(0)
+            raise NightEnded(self.it.returncode, self.told.read())

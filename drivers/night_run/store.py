@@ -9,6 +9,7 @@
     STORE.cancel     which groups somebody wants to have cancelled
 """
 
+import contextlib
 import fcntl
 import os
 import re
@@ -103,7 +104,8 @@ class Store:
         os.makedirs(self.out, exist_ok=True)
         held = os.open(self.out, os.O_RDONLY)
         if not try_lock(held):
-            tell("waiting: a command of the last run still runs")
+            found = ", ".join(map(str, processes_with(self.out))) or "unknown"
+            tell(f"waiting: commands of the last run still run; processes {found}")
             fcntl.flock(held, fcntl.LOCK_EX)
         return held
 
@@ -131,6 +133,16 @@ def try_lock(file):
     except OSError as error:
         raise Fault(f"no locks: {error.strerror}") from error
     return True
+
+
+def processes_with(path):
+    """The processes that have this file open, as far as the system shows them."""
+    there = os.path.realpath(path)
+    for it in filter(str.isdigit, os.listdir("/proc") if os.path.isdir("/proc") else ()):
+        with contextlib.suppress(OSError):
+            files = [os.readlink(f"/proc/{it}/fd/{at}") for at in os.listdir(f"/proc/{it}/fd")]
+            if there in files and int(it) != os.getpid():
+                yield int(it)
 
 
 def sync_folder(path):

@@ -70,10 +70,8 @@ def main():
     except Mistake as mistake:
         tell(mistake)
         return 2
-    except Fault as fault:
+    except (Fault, NightEnded) as fault:
         tell(fault)
-    except NightEnded as ended:
-        tell(f"`night` ended with status {ended.status}")
     except OSError as error:
         tell(f"{error.filename or words.store}: {error.strerror}")
     except KeyboardInterrupt:
