@@ -4,13 +4,17 @@
 import contextlib
 import fcntl
 import os
+import re
 import time
 
 from . import Fault, Mistake
-from .night import ALREADY_DONE, Night
+from .night import CLOCK_NOT_FORWARD, Night
 from .store import cause_of
 
 SECONDS = 10
+WANTED = re.compile(r"[a-z0-9_-]{1,32} [ -~]{1,64}")
+# (no such scope, one that can't be cancelled so, and one that is done)
+REFUSED = ("1", "10", "11", "12")
 
 
 @contextlib.contextmanager
@@ -26,8 +30,8 @@ def obey(path, night):
     if not os.path.exists(path) or not os.path.getsize(path):
         return
     with opened(path) as file:
-        lines = file.read().splitlines()
-        night.ask(*(f"cancel {it}" for it in lines), "flush", may=ALREADY_DONE.split())
+        lines = [it for it in file.read().splitlines() if WANTED.fullmatch(it)]
+        night.ask(*(f"cancel {it}" for it in lines), "flush", may=REFUSED)
         file.truncate(0)
 
 
@@ -39,8 +43,8 @@ def cancel(store, group, why, is_ours):
         raise Mistake(f"{store.path} has no group {group}")
     if is_ours:
         night = Night(store.path, store.own)
-        night.ask(f"advance {int(time.time())}", may=["17"])
-        night.ask(f"cancel {scope} {why}", may=[ALREADY_DONE])
+        night.ask(f"advance {int(time.time())}", may=[CLOCK_NOT_FORWARD])
+        night.ask(f"cancel {scope} {why}", may=["12"])
         night.end()
         return store.state().scopes[scope]
     path = f"{store.path}.cancel"

@@ -10,22 +10,18 @@ import signal
 import sys
 import time
 
-from . import Fault, cancels
+from . import CLEAR, Fault, cancels, tell
 from .commands import Command, text_of
-from .jobs import OF_ALL
 from .log import Log
-from .night import (CLOCK_NOT_FORWARD, FULL, LIMIT_WHILE_ACTIVE, NOTHING_READY, Night, NightEnded,
-                    SessionFull, refusal)
-from .store import JOB, base_of, cause_of, next_round
+from .night import (CLOCK_NOT_FORWARD, NOTHING_READY, TOO_MANY_TASKS, Night, NightEnded, SessionFull,
+                    refusal)
+from .plan import make_groups, submissions
+from .store import base_of, cause_of
 
 # So often in a row `night` may end by a signal with no end of a task recorded between.
 MOST_LOST = 5
 # So often in a row the store may be in use, a tenth of a second each, as it is opened.
 MOST_BUSY = 50
-
-
-def tell(text):
-    print(f"night-run: {text}", file=sys.stderr, flush=True)
 
 
 class Driver:
@@ -37,9 +33,8 @@ class Driver:
         self.names = {}     # of each task's number
         self.running = {}   # the names of the tasks that run in this session, by number
         self.ends = {}      # how the last task of each job ended
-        self.limits, self.left_out = {}, []
+        self.limits = {}
         self.asked_to_end = self.lost = self.busy = 0
-        self.is_shown = sys.stderr.isatty()
 
     # --- from the first line to the last
 
@@ -58,6 +53,7 @@ class Driver:
                     self.begin_again(ended)
         finally:
             self.cut_off()
+            print(CLEAR, end="", file=sys.stderr, flush=True)
 
     def begin_again(self, ended):
         """Decides whether another run of `night` is begun."""
@@ -83,7 +79,7 @@ class Driver:
         self.advance()
         state = self.store.state()
         self.note_ends(state)
-        self.make_groups(state)
+        make_groups(self.night, self.jobs, state, self.runs_failed)
         self.night.ask("flush")
         self.submit(self.store.state())
 
@@ -93,72 +89,27 @@ class Driver:
         for name in [it for it in self.commands if last[it].has_ended()]:
             self.note(last[name].number, name, last[name].error or "ok", self.commands.pop(name))
         for it in state.tasks:
-            if it.job != JOB:
-                raise Fault(f"{self.store.path} has a task of another kind: {it.number}, {it.job}")
             self.names[it.number] = it.group, it.key
             if it.has_ended() or it.phase == "interrupted":
                 self.note(it.number, (it.group, it.key), it.error or
                           ("ok" if it.phase == "success" else "interrupted"))
 
-    # --- groups and tasks
-
-    def make_groups(self, state):
-        self.make_scope(state, OF_ALL, "root", OF_ALL)
-        last = state.last()
-        for base in self.jobs.groups():
-            group = state.round_of(base) or base
-            is_done = cause_of(state.scopes.get(group, "")) is not None
-            if self.runs_failed and is_done and any(
-                    it.phase == "error" for (its, _), it in last.items() if its == base):
-                group = next_round(group)
-            if group not in state.limits:
-                self.make_scope(state, group, OF_ALL, base)
-                self.night.ask(f"bare {group} {group}")
-            limit = self.jobs.settings[base].limit
-            if state.limits.get(group) != limit:
-                reply = self.night.ask(f"limit {group} {limit or 'none'}",
-                                       may=[LIMIT_WHILE_ACTIVE])[0]
-                if refusal(reply):
-                    tell(f"{group} keeps its limit while it has tasks that aren't ended")
-
-    def make_scope(self, state, name, parent, base):
-        """A scope that can be cancelled with a cause, below one with the deadline if it has any."""
-        deadline = self.jobs.settings[base].deadline
-        if name in state.scopes:
-            return
-        if deadline:
-            until = f"{name}--until"
-            if until not in state.scopes:
-                moment = deadline.moment(int(time.time()))
-                self.night.ask(f"derive {until} {parent} deadline {moment} {deadline}")
-            parent = until
-        self.night.ask(f"derive {name} {parent} cause")
-
     def submit(self, state):
-        """Submits what isn't there, what was interrupted and, if asked for, what failed."""
+        """Submits what the file asks for and the store doesn't have."""
         self.limits = state.limits
-        last, lines, names = state.last(), [], []
-        for it in last.values():
-            if it.phase == "interrupted":
-                lines.append(f"retry {it.number}")
-                names.append((it.group, it.key))
-        for base, key in self.jobs.commands:
-            there = last.get((base, key))
-            if not there or self.runs_failed and there.phase == "error":
-                group = state.round_of(base)
-                self.ends.pop((base, key), None)
-                lines.append(f"go {group} {JOB} {key}")
-                names.append((group, key))
-        self.left_out = []
-        for name, reply in zip(names, self.night.ask(*lines, "flush", may=FULL)):
+        asked = submissions(self.jobs, state, self.runs_failed)
+        replies = self.night.ask(*(line for line, _ in asked), "flush", may=[TOO_MANY_TASKS])
+        left_out = 0
+        for (_, name), reply in zip(asked, replies):
             if refusal(reply):
-                self.left_out.append(name)
+                left_out += 1
             else:
                 self.names[int(reply.split()[1])] = name
+                self.ends.pop(job_of(name), None)
         self.runs_failed = False
-        if self.left_out:
-            tell(f"{self.store.path} is full: no place for {len(self.left_out)} tasks; make another"
-                 " store for them")
+        if left_out:
+            tell(f"{self.store.path} is full: no place for {left_out} tasks; make another store for"
+                 " them")
 
     # --- the loop
 
@@ -235,10 +186,10 @@ class Driver:
 
     def begin(self, number, name):
         """Begins the command of a task, which the store has as running."""
-        group, key = name
+        group = name[0]
         if name in self.commands or not self.has_place(group):
             return
-        cause, text = self.cause(group), self.jobs.commands.get((base_of(group), key))
+        cause, text = self.cause(group), self.jobs.commands.get(job_of(name))
         if cause is not None or text is None:
             end = text_of(f"canceled: {cause}" if cause is not None else "not in the file of jobs")
             self.night.ask(finish(number, end), "flush")
@@ -275,9 +226,8 @@ class Driver:
             tell(f"{name[0]} {name[1]}: interrupted")
 
     def note(self, number, name, end, command=None):
-        job = base_of(name[0]), name[1]
-        self.ends[job] = end
-        self.log.ended(number, name, end, command, self.jobs.commands.get(job, "-"))
+        self.ends[job_of(name)] = end
+        self.log.ended(number, name, end, command, self.jobs.commands.get(job_of(name), "-"))
 
     # --- signals and the terminal
 
@@ -287,10 +237,9 @@ class Driver:
         os.set_blocking(wakes, False)
         signal.set_wakeup_fd(wakes)
         signal.signal(signal.SIGCHLD, lambda *_: None)
-        signal.signal(signal.SIGINT, lambda *_: self.end_soon(1))
-        for it in (signal.SIGTERM, signal.SIGHUP):
+        for it, steps in ((signal.SIGINT, 1), (signal.SIGTERM, 2), (signal.SIGHUP, 2)):
             if signal.getsignal(it) != signal.SIG_IGN:
-                signal.signal(it, lambda *_: self.end_soon(2))
+                signal.signal(it, lambda *_, steps=steps: self.end_soon(steps))
 
     def end_soon(self, steps):
         self.asked_to_end += steps
@@ -303,11 +252,16 @@ class Driver:
 
     def show(self):
         """A line of progress, on a terminal alone."""
-        if self.is_shown:
+        if CLEAR:
             ends = [self.ends.get(it) for it in self.jobs.commands]
             failed = sum(it not in (None, "ok", "interrupted") for it in ends)
-            print(f"\r{ends.count('ok') + failed} of {len(ends)} done, {len(self.commands)}"
-                  f" running, {failed} failed\x1b[K", end="", file=sys.stderr, flush=True)
+            print(f"{CLEAR}{ends.count('ok') + failed} of {len(ends)} done, {len(self.commands)}"
+                  f" running, {failed} failed", end="", file=sys.stderr, flush=True)
+
+
+def job_of(name):
+    """The command of the file of which this is the name in some round of its group."""
+    return base_of(name[0]), name[1]
 
 
 def finish(number, end):

@@ -11,8 +11,9 @@ from . import Fault
 # So many lines are sent before their replies are read. They have 256 bytes at most, and replies
 # fewer, so that neither fills a pipe, of one page of memory at least, whose other end waits.
 BATCH = 16
-SESSION_FULL, CLOCK_NOT_FORWARD, NOTHING_READY, ALREADY_DONE = "21", "17", "19", "12"
-LIMIT_WHILE_ACTIVE, FULL = "13", ("7", "8", "9")
+# Refusals, by their numbers (docs/formats.md).
+SESSION_FULL, CLOCK_NOT_FORWARD, NOTHING_READY, LIMIT_WHILE_ACTIVE = "21", "17", "19", "13"
+TOO_MANY_TASKS = "9"
 
 
 class NightEnded(Exception):

@@ -87,6 +87,12 @@ class Store:
     def exists(self):
         return os.path.exists(self.path)
 
+    def check(self):
+        """Nothing but this driver's tasks may lie in the store: it would start them, too."""
+        for it in self.state().tasks:
+            if it.job != JOB:
+                raise Fault(f"{self.path} has a task of another kind: {it.number}, {it.job}")
+
     def state(self):
         return State(printed("inspect", self.path))
 

@@ -9,15 +9,15 @@ import collections
 import re
 import sys
 
-from . import Fault, Mistake, cancels
+from . import Fault, Mistake, cancels, tell
 from .commands import text_of
-from .driver import Driver, tell
+from .driver import Driver
 from .jobs import Jobs
 from .night import NightEnded
 from .store import Store
 
-HELP = """Runs the shell commands of the file JOBS as tasks of STORE, which it makes where there is none.
-Run again behind a stop, of whatever kind, it does what is left."""
+HELP = """Runs the shell commands of the file JOBS as tasks of STORE, which it makes where there is
+none. Run again behind a stop, of whatever kind, it does what is left."""
 
 FILE = """A line of JOBS is one of
 
@@ -85,6 +85,7 @@ def run(store, jobs, words):
     held = store.wait_for_commands(tell)
     if not store.exists():
         store.make()
+    store.check()
     driver = Driver(store, jobs, words.most, words.grace, words.failed, held)
     driver.run()
     return summary(store, jobs)
