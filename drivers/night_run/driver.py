@@ -21,7 +21,7 @@ from .store import base_of, cause_of
 # So often in a row `night` may end by a signal with no end of a task recorded between.
 MOST_LOST = 5
 # So often in a row the store may be in use, a tenth of a second each, as it is opened.
-MOST_BUSY = 50
+MOST_BUSY = 100
 
 
 class Driver:
