@@ -13,8 +13,8 @@ import time
 from . import CLEAR, Fault, cancels, tell
 from .commands import Command, text_of
 from .log import Log
-from .night import (CLOCK_NOT_FORWARD, NOTHING_READY, TOO_MANY_TASKS, Night, NightEnded, SessionFull,
-                    refusal)
+from .night import (CLOCK_NOT_FORWARD, NOTHING_READY, TOO_MANY_TASKS, Night, NightEnded,
+                    SessionFull, refusal)
 from .plan import make_groups, submissions
 from .store import base_of, cause_of
 

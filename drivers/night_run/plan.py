@@ -1,4 +1,4 @@
-"""What the file of commands asks of a store: its scopes and groups, and the tasks that are submitted."""
+"""What the file of commands asks of a store: scopes, groups, and tasks that are submitted."""
 
 import time
 
