@@ -1,0 +1,57 @@
+# Completion of `night` for bash: source this file, or put it into
+# /usr/share/bash-completion/completions/night.
+
+_night() {
+    local current=${COMP_WORDS[COMP_CWORD]} before=${COMP_WORDS[COMP_CWORD - 1]} flags=""
+    local words="demo format script inspect crew migrate help"
+    COMPREPLY=()
+    if ((COMP_CWORD == 1)); then
+        mapfile -t COMPREPLY < <(compgen -W "$words --help --version" -- "$current")
+        return
+    fi
+    case ${COMP_WORDS[1]} in
+        demo) flags="--strict --help" ;;
+        format) flags="--new --help" ;;
+        script) flags="--strict --help" ;;
+        crew) flags="--workers --known --help" ;;
+        inspect | migrate) flags="--help" ;;
+        help) mapfile -t COMPREPLY < <(compgen -W "$words" -- "$current") && return ;;
+        *) return ;;
+    esac
+    if [[ $before == --workers ]]; then
+        mapfile -t COMPREPLY < <(compgen -W "1 2 3 4 5 6 7 8" -- "$current")
+    elif [[ $current == -* ]]; then
+        mapfile -t COMPREPLY < <(compgen -W "$flags" -- "$current")
+    elif [[ ${COMP_WORDS[1]} != demo ]]; then
+        compopt -o filenames 2> /dev/null
+        mapfile -t COMPREPLY < <(compgen -f -- "$current")
+    fi
+}
+
+_night_run() {
+    local current=${COMP_WORDS[COMP_CWORD]} before=${COMP_WORDS[COMP_CWORD - 1]} jobs
+    COMPREPLY=()
+    case $before in
+        -j | --grace) return ;;
+        --cancel)
+            # the groups of the file of commands, if it stands before
+            jobs=${COMP_WORDS[2]}
+            [[ -f $jobs ]] || return
+            mapfile -t COMPREPLY < <(compgen -W "night $(_night_run_groups "$jobs")" -- "$current")
+            return ;;
+    esac
+    if [[ $current == -* ]]; then
+        mapfile -t COMPREPLY < <(
+            compgen -W "-j --grace --failed --list --cancel --help" -- "$current")
+    else
+        compopt -o filenames 2> /dev/null
+        mapfile -t COMPREPLY < <(compgen -f -- "$current")
+    fi
+}
+
+_night_run_groups() {
+    awk '$1 ~ /^[a-z0-9_-]+$/ && NF > 2 { print $1 }' "$1" | sort -u
+}
+
+complete -F _night night
+complete -F _night_run night-run
