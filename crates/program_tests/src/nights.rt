@@ -210,6 +210,32 @@ fn a_store_in_use_is_shown_and_not_opened(rt: HostRuntime) -> Result<(), Fail> {
     Ok(())
 }
 
+/// What is told of a disk that fails, and its file.
+const BROKEN: &str = "night: fault 2 DiskFailed\nnight: b: broken\n";
+
+/// Words that make a file, over a disk that fails behind so many calls: whether there was one of
+/// its name before, and whether the file is taken away again.
+static MAKING: [(&[&str], &str, u64, bool); 5] = [
+    (&["format", "b"], "a", 0, true),
+    (&["format", "b"], "a", 7, true),
+    (&["format", "--new", "b"], "a", 3, true),
+    (&["format", "b"], "b", 3, false),
+    (&["format", "b"], "b", 0, false),
+];
+
+#[test]
+fn a_new_file_of_no_store_is_taken_away(rt: HostRuntime) -> Result<(), Fail> {
+    for (words, name, passes, has_removed) in MAKING {
+        let mut shelf = Shelf::new(rt.alloc(), name, Vec::new(rt.alloc()));
+        shelf.passes = passes;
+        let printed = run_words(&rt, rt.alloc(), words, &mut shelf, "")?;
+        assert!(&rt; printed.errors.as_str() == BROKEN, "{printed:?}");
+        assert!(&rt; printed.ended.status == 3, "{printed:?}");
+        assert!(&rt; shelf.has_removed == has_removed, "{printed:?}");
+    }
+    Ok(())
+}
+
 /// A group of six tasks of which one ended, one runs and two are held; the crews know `copy` alone
 /// of their jobs.
 const MIXED: &str = "group g root\nlimit g 3\ngo g mail a\ngo g copy b\ngo g mail c\n\

@@ -1,11 +1,12 @@
 //! Files in memory.
 
-ghost use Rattle.std.specs.Prelude.{◌≡◌, ⊤, IfOk};
+ghost use Rattle.std.specs.Prelude.{◌≡◌, ℕ, List, ⊤, IfOk};
+ghost use Rattle.run_journal.specs.Pairs.{AreZeros};
 ghost use Rattle.night_program.specs.Files.{FilesView, IsSettled};
 
 use arrayvec::ArrayString;
 use night_program::{Files, Made, Opened, Reason, Why};
-use run_disk::{MemoryDisk, RunDisk};
+use run_disk::{Fuse, MemoryDisk, RunDisk};
 use std::alloc::Global;
 
 /// One file in memory. An opening gives a copy of it, and a file that is made anew isn't kept.
@@ -16,25 +17,28 @@ pub struct Shelf {
     pub bytes: Vec<u8>,
     /// Whether another program has it open.
     pub is_used: bool,
+    /// So many calls of each disk pass, and then each fails.
+    pub passes: u64,
     /// Whether a file was taken away.
     pub has_removed: bool,
 }
 
 impl Shelf {
-    /// A file that nobody uses.
+    /// A file that nobody uses, and whose disks are whole.
     pub fn new(alloc: Global, name: &'static str, bytes: Vec<u8>) -> Shelf {
         Shelf {
             alloc,
             name,
             bytes,
             is_used: false,
+            passes: u64::MAX,
             has_removed: false,
         }
     }
 
-    fn opened(&self, name: &str) -> Result<Opened<MemoryDisk, Quiet>, Reason>
-        ensures { IfOk result (λ opened.
-            IsSettled (⟦<MemoryDisk as RunDisk>⟧.state opened.disk)) }
+    fn opened(&self, name: &str) -> Result<Opened<Fuse<MemoryDisk>, Broken>, Reason>
+        ensures settled { IfOk result (λ opened.
+            IsSettled (⟦<Fuse<MemoryDisk> as RunDisk>⟧.state opened.disk)) }
     {
         if name != self.name {
             return Err(said("no such file"));
@@ -43,16 +47,38 @@ impl Shelf {
             return Err(said("no memory"));
         };
         match MemoryDisk::from_bytes(self.alloc, bytes) {
-            Ok(disk) => Ok(Opened { disk, why: Quiet }),
+            Ok(disk) => Ok(Opened {
+                disk: Fuse::new(disk, self.passes),
+                why: Broken(self.passes),
+            }),
+            Err(_) => Err(said("no memory")),
+        }
+    }
+
+    fn made(&self, size: u64, is_new: bool) -> Result<Made<Fuse<MemoryDisk>, Broken>, Reason>
+        ensures size { IfOk result (λ made.
+            (⟦<Fuse<MemoryDisk> as RunDisk>⟧.state made.disk).size ≡ size) }
+        ensures zeros { IfOk result (λ made. (x : List ℕ)
+            → (⟦<Fuse<MemoryDisk> as RunDisk>⟧.state made.disk).images x → AreZeros x) }
+        ensures settled { IfOk result (λ made.
+            IsSettled (⟦<Fuse<MemoryDisk> as RunDisk>⟧.state made.disk)) }
+        ensures new { IfOk result (λ made. made.is_new ≡ is_new) }
+    {
+        match MemoryDisk::new(self.alloc, size as usize) {
+            Ok(disk) => Ok(Made {
+                disk: Fuse::new(disk, self.passes),
+                why: Broken(self.passes),
+                is_new,
+            }),
             Err(_) => Err(said("no memory")),
         }
     }
 }
 
 impl Files for Shelf {
-    type Disk = MemoryDisk;
+    type Disk = Fuse<MemoryDisk>;
 
-    type Why = Quiet;
+    type Why = Broken;
 
     ghost seen = { record {
       holds = λ shelf name disk. ⊤;
@@ -61,50 +87,39 @@ impl Files for Shelf {
       removes = λ shelf name left. ⊤;
     } };
 
-    fn open(&mut self, name: &str) -> Result<Opened<MemoryDisk, Quiet>, Reason> {
+    fn open(&mut self, name: &str) -> Result<Opened<Fuse<MemoryDisk>, Broken>, Reason> {
         if self.is_used {
             return Err(Reason::InUse);
         }
         self.opened(name)
     }
 
-    fn open_to_read(&mut self, name: &str) -> Result<Opened<MemoryDisk, Quiet>, Reason> {
+    fn open_to_read(&mut self, name: &str) -> Result<Opened<Fuse<MemoryDisk>, Broken>, Reason> {
         if self.is_used {
             return Err(Reason::InUse);
         }
         self.opened(name)
     }
 
-    fn look(&mut self, name: &str) -> Result<Opened<MemoryDisk, Quiet>, Reason> {
+    fn look(&mut self, name: &str) -> Result<Opened<Fuse<MemoryDisk>, Broken>, Reason> {
         self.opened(name)
     }
 
     fn pause(&self) {}
 
-    fn create(&mut self, name: &str, size: u64) -> Result<Made<MemoryDisk, Quiet>, Reason> {
-        let is_new = name != self.name;
-        match MemoryDisk::new(self.alloc, size as usize) {
-            Ok(disk) => Ok(Made {
-                disk,
-                why: Quiet,
-                is_new,
-            }),
-            Err(_) => Err(said("no memory")),
-        }
+    fn create(&mut self, name: &str, size: u64) -> Result<Made<Fuse<MemoryDisk>, Broken>, Reason> {
+        self.made(size, name != self.name)
     }
 
-    fn create_new(&mut self, name: &str, size: u64) -> Result<Made<MemoryDisk, Quiet>, Reason> {
+    fn create_new(
+        &mut self,
+        name: &str,
+        size: u64,
+    ) -> Result<Made<Fuse<MemoryDisk>, Broken>, Reason> {
         if name == self.name {
             return Err(said("there is one"));
         }
-        match MemoryDisk::new(self.alloc, size as usize) {
-            Ok(disk) => Ok(Made {
-                disk,
-                why: Quiet,
-                is_new: true,
-            }),
-            Err(_) => Err(said("no memory")),
-        }
+        self.made(size, true)
     }
 
     fn remove(&mut self, _name: &str) {
@@ -112,13 +127,17 @@ impl Files for Shelf {
     }
 }
 
-/// Tells of no failed call: none fails.
+/// Tells why a call of a disk failed that fails behind so many.
 #[derive(Drop)]
-pub struct Quiet;
+pub struct Broken(u64);
 
-impl Why for Quiet {
+impl Why for Broken {
     fn reason(&self) -> Option<Reason> {
-        None
+        if self.0 < u64::MAX {
+            Some(said("broken"))
+        } else {
+            None
+        }
     }
 }
 
