@@ -4,7 +4,7 @@ use Rattle.std.proofs.Common.{subst, ◌∙◌}
 use Rattle.std.specs.List.Sorted.{IsPermutation}
 use Rattle.run_model.specs.State.{WorkState}
 use Rattle.run_crew.specs.declared.notes.Note.{Note}
-use Rattle.run_crew.specs.Audits.{HasStrayed, IsComplete, IsFirstLeft, LacksNote, LeavesTask}
+use Rattle.run_crew.specs.Audits.{HasStrayed, IsComplete, IsFirstLeft}
 use Rattle.run_crew.specs.Audits.{NoStray, NoneLeft, are_noted, made_at}
 use Rattle.run_crew.specs.Desks.{DeskView, history_of}
 use Rattle.run_crew.specs.Notes.{all_notes}

@@ -1,4 +1,5 @@
 pub mod Auditing
+pub mod Coursing
 pub mod Counting
 pub mod Permuting
 pub mod Strays

@@ -1,16 +1,15 @@
 -- Notes of which none is stray, and which lack no finish, are the finishes in some order.
-use Rattle.std.proofs.Common.{◌≡◌, ℕ, ◌+◌, ◌<◌, ◌≤◌, List, [], ◌∷◌, ◌++◌, length, take, Bool, true}
+use Rattle.std.proofs.Common.{◌≡◌, ℕ, ◌+◌, ◌<◌, List, [], ◌∷◌, ◌++◌, take, Bool, true}
 use Rattle.std.proofs.Common.{false, ◌||◌, ◌&&◌, refl, ap, sym, ◌∙◌, arith, append_assoc, subst}
-use Rattle.std.specs.Prelude.{suc, not, slice_get, slice_index_or, Some, ◌==◌, nat_lt}
+use Rattle.std.specs.Prelude.{suc, not, slice_index_or, ◌==◌, nat_lt}
 use Rattle.std.specs.Prelude.{if◌then◌else◌}
 use Rattle.std.specs.List.{list_all, list_any}
 use Rattle.std.specs.List.Sorted.{IsPermutation}
-use Rattle.std.specs.Str.{bytes_eq}
 use Rattle.std.proofs.lemmas.Bool.{eqb-true}
 use Rattle.std.proofs.lemmas.List.{append-nil}
 use Rattle.std.proofs.lemmas.List.Folds.{list_all-append, list_any-append}
 use Rattle.std.proofs.lemmas.List.Sorted.{IsPermutation-cons, IsPermutation-middle}
-use Rattle.std.proofs.lemmas.List.Sorted.{IsPermutation-refl, IsPermutation-sym}
+use Rattle.std.proofs.lemmas.List.Sorted.{IsPermutation-refl}
 use Rattle.std.proofs.lemmas.List.Sorted.{IsPermutation-trans}
 use Rattle.std.proofs.lemmas.Slice.Eq.{bytes_eq-Decides}
 use Rattle.run_model.specs.declared.tasks.Outcome.{Outcome}
@@ -18,7 +17,7 @@ use Rattle.run_model.specs.declared.tasks.Outcome.TheVariants.{Success, Failure}
 use Rattle.run_model.specs.Event.{Event}
 use Rattle.run_model.specs.Event as event
 use Rattle.run_crew.specs.declared.notes.Note.{Note}
-use Rattle.run_crew.specs.Audits.{IsStray, IsStrayIn, NoStray, are_noted, is_stray}
+use Rattle.run_crew.specs.Audits.{IsStrayIn, NoStray, are_noted, is_stray}
 use Rattle.run_crew.specs.Notes.{all_notes, finishes_since, has, is_same, is_same_outcome}
 use Rattle.run_crew.specs.Notes.{note_of, note_since}
 use Rattle.run_crew.proofs.Strays.{has-all}

@@ -7,9 +7,8 @@ use Rattle.std.proofs.lemmas.List.Folds.{list_any-append}
 use Rattle.std.proofs.lemmas.List.{get_or_default, get_or_past}
 use Rattle.std.proofs.lemmas.Option.{get_or_from_slice_get, slice_get-get_or, slice_get_cases}
 use Rattle.std.proofs.lemmas.Option.{slice_get_within}
-use Rattle.run_crew.specs.declared.audits.Strayed.{Strayed}
 use Rattle.run_crew.specs.declared.notes.Note.{Note}
-use Rattle.run_crew.specs.Audits.{IsBefore, IsFirstStray, IsStray, IsStrayIn, NoStray, is_stray}
+use Rattle.run_crew.specs.Audits.{IsFirstStray, IsStray, IsStrayIn, NoStray, is_stray}
 use Rattle.run_crew.specs.Notes.{all_notes, has, is_same}
 
 pub has-all :

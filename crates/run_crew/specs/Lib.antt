@@ -1,4 +1,5 @@
 pub mod Audits
+pub mod Courses
 pub mod Desks
 pub mod Notes
 pub mod Seats

@@ -1,6 +1,6 @@
 //! A [`Job`] is what a worker runs for a task, turn by turn; a [`Gate`] is asked before each turn.
 
-ghost use Rattle.std.specs.Prelude.{◌≡◌, true};
+ghost use Rattle.std.specs.Prelude.{◌≡◌, ℕ, Bool, true, ⊤};
 
 use run_model::{Name, TaskInfo, Text};
 
@@ -27,12 +27,20 @@ pub trait Job: Drop {
 
 /// What the workers share beside the desk. No lock is held while it is called.
 pub trait Gate {
+    /// What it may answer of a turn of a task.
+    ghost lets: { Self → ℕ → ℕ → Bool → Type 0 } = { λ _ _ _ _. ⊤ };
+
+    /// That it was told that a task was finished.
+    ghost told: { Self → ℕ → Type 0 } = { λ _ _. ⊤ };
+
     /// Says whether a worker may make this turn of a task. Where it may not, the task ends as the
     /// failure `gate`.
-    fn before(&self, task: u16, turn: u32) -> bool;
+    fn before(&self, task: u16, turn: u32) -> bool
+        ensures { lets self.now task turn result };
 
     /// Is told that a task was finished.
-    fn finished(&self, task: u16);
+    fn finished(&self, task: u16)
+        ensures { told self.now task };
 }
 
 /// A gate that lets each turn pass.
@@ -40,6 +48,8 @@ pub trait Gate {
 pub struct OpenGate;
 
 impl Gate for OpenGate {
+    ghost lets = { λ _ _ _ answer. answer ≡ true };
+
     fn before(&self, _task: u16, _turn: u32) -> bool
         ensures { result ≡ true }
     {

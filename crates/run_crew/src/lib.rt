@@ -9,17 +9,22 @@
 mod audits;
 mod bells;
 mod counts;
+mod courses;
 mod desks;
 mod finishes;
+mod floors;
 mod jobs;
 mod nights;
 mod notes;
 mod places;
 mod seats;
 mod workers;
+mod workplaces;
 
 pub use audits::{Strayed, audit};
+pub use courses::take_tasks;
 pub use desks::Desk;
+pub use floors::Floor;
 pub use jobs::{Gate, Job, OpenGate, Turn};
 pub use nights::run_night;
 pub use notes::{Note, WorkerNotes};

@@ -1,6 +1,14 @@
 //! What threads see of the value of the lock: what moves their seats, and no more of the book.
 
-ghost use Rattle.std.specs.Prelude.{◌≡◌, ◌<◌, MatchResult};
+ghost use Rattle.std.specs.Prelude.{◌≡◌, ◌<◌, ℕ, Bool, Result, length, MatchResult};
+ghost use Rattle.run_model.specs.declared.answers.Started.{Started};
+ghost use Rattle.run_model.specs.declared.faults.Trouble.{Trouble};
+ghost use Rattle.run_model.specs.declared.refusals.Refusal.{Refusal};
+ghost use Rattle.run_model.specs.declared.tasks.Outcome.{Outcome};
+ghost use Rattle.run_model.specs.Replies.{reply_finish, reply_start};
+ghost use Rattle.book_model.specs.Holdings.{Flushes};
+ghost use Rattle.run_book.specs.Views.{holding, unless_broken};
+ghost use Rattle.run_crew.specs.Desks.{is_done_for};
 ghost use Rattle.run_crew.specs.Seats.{one_finish, one_start};
 
 use crate::desks::Desk;
@@ -11,18 +19,33 @@ use std::sync::ledger::Ledger;
 
 /// Steps that move no seat, and what a turn is told.
 pub trait Place {
+    /// What a flush may answer and leave.
+    ghost flushes: { Self → Result ℕ Trouble → Self → Type 0 };
+
+    /// What it may tell of the scope of a task.
+    ghost tells: { Self → ℕ → Bool → Type 0 };
+
     /// Makes all events so far durable.
-    fn flush(&mut self) -> Result<u64, Trouble>;
+    fn flush(&mut self) -> Result<u64, Trouble>
+        ensures { flushes self.old result self.new };
 
     /// Says whether the scope that a task lives in is done.
-    fn is_done(&self, task: u16) -> bool;
+    fn is_done(&self, task: u16) -> bool
+        ensures { tells self.now task result };
 }
 
 /// Steps that are counted in the seat of the thread that makes them.
 pub trait CountedPlace<S: Ledger, F: Ledger>: Place {
+    /// What a start may answer and leave.
+    ghost starts: { Self → Result Started Refusal → Self → Type 0 };
+
+    /// What a finish of a task with an outcome may answer and leave.
+    ghost finishes: { Self → ℕ → Outcome → Result ℕ Refusal → Self → Type 0 };
+
     /// Starts a task.
     fn start_as(&mut self, seat: &mut Seat<S, F>) -> Result<Started, Refusal>
         requires part { 0 < seat.old.start_parts }
+        ensures starts { starts self.old result self.new }
         ensures seat { MatchResult result (λ _. seat.new ≡ one_start seat.old)
             (λ _. seat.new ≡ seat.old) };
 
@@ -34,11 +57,16 @@ pub trait CountedPlace<S: Ledger, F: Ledger>: Place {
         outcome: &Outcome,
     ) -> Result<u64, Refusal>
         requires part { 0 < seat.old.finish_parts }
+        ensures finishes { finishes self.old task outcome.now result self.new }
         ensures seat { MatchResult result (λ _. seat.new ≡ one_finish seat.old)
             (λ _. seat.new ≡ seat.old) };
 }
 
 impl<D: RunDisk, S: Ledger, F: Ledger> Place for Desk<D, S, F> {
+    ghost flushes = { λ d r e. Flushes D.state (holding d.book) r (holding e.book) };
+
+    ghost tells = { λ d task answer. answer ≡ is_done_for d.book.session.state task };
+
     fn flush(&mut self) -> Result<u64, Trouble> {
         Desk::flush(self)
     }
@@ -49,6 +77,12 @@ impl<D: RunDisk, S: Ledger, F: Ledger> Place for Desk<D, S, F> {
 }
 
 impl<D: RunDisk, S: Ledger, F: Ledger> CountedPlace<S, F> for Desk<D, S, F> {
+    ghost starts = { λ d r _. r ≡ unless_broken d.book
+        (reply_start d.book.session.state (length d.book.session.log)) };
+
+    ghost finishes = { λ d task how r _. r ≡ unless_broken d.book
+        (reply_finish d.book.session.state task how) };
+
     fn start_as(&mut self, seat: &mut Seat<S, F>) -> Result<Started, Refusal> {
         Desk::start_as(self, seat)
     }

@@ -1,4 +1,4 @@
-use Rattle.std.proofs.Common.{◌≡◌, ◌+◌, ◌≤◌, Bool, false, vec_len, vec_capacity}
+use Rattle.std.proofs.Common.{◌≡◌, ◌+◌, ◌≤◌, false, vec_len, vec_capacity}
 use Rattle.std.specs.Vec.Iter.{into_iter_len}
 use Rattle.run_crew.proofs.nights.fn.shifts_of.scope.Given as goal
 

@@ -1,5 +1,6 @@
 use Rattle.std.proofs.Common.{◌≡◌, length}
-use Rattle.run_crew.proofs.workers.Station.work.Given as goal
+use Rattle.run_crew.specs.Courses.{AreCourses, Went}
+use Rattle.run_crew.proofs.courses.take_tasks.Given as goal
 
 abbrev pub invariant-loop : goal.invariant-loop
 invariant-loop g l =
@@ -7,3 +8,5 @@ invariant-loop g l =
     × (l.seat.finish_parts ≡ 1)
     × (l.seat.finishes ≡ length l.notes)
     × (l.seat.starts ≡ length l.notes)
+    × (g.W.Floor.jobs l.floor ≡ g.W.Floor.jobs l.fn.floor)
+    × Went g.W.Floor.step (AreCourses (g.W.Floor.jobs l.fn.floor) l.notes) l.fn.floor l.floor

@@ -1,0 +1,292 @@
+-- What single calls make of a course, put together.
+use Rattle.std.proofs.Common.{◌≡◌, ℕ, ◌+◌, ◌<◌, List, [], ◌∷◌, ◌++◌, length, Bool, true, false}
+use Rattle.std.proofs.Common.{Option, None, Some, suc, arith, ◌∙◌, append-nil, append_assoc, ap, inl, inr, refl, subst, sym}
+use Rattle.std.specs.Prelude.{Result, Ok, Err, codes}
+use Rattle.run_model.specs.declared.answers.Started.{Started}
+use Rattle.run_model.specs.declared.answers.TaskInfo.{TaskInfo}
+use Rattle.run_model.specs.declared.bounds.TheConstants.{MOST_TASKS}
+use Rattle.run_model.specs.declared.faults.Trouble.{Trouble}
+use Rattle.run_model.specs.declared.refusals.Refusal.{Refusal}
+use Rattle.run_model.specs.declared.tasks.Outcome.{Outcome}
+use Rattle.run_model.specs.declared.tasks.Outcome.TheVariants as outcome
+use Rattle.run_crew.specs.declared.jobs.Turn.{Turn}
+use Rattle.run_crew.specs.declared.jobs.Turn.TheVariants as turn
+use Rattle.run_crew.specs.declared.notes.Note.{Note}
+use Rattle.run_crew.specs.Courses.{AreCourses, AreRounds, AreTurns, Call, EndsAt}
+use Rattle.run_crew.specs.Courses.{IsBegun, IsCourse, IsRun, IsShift, Path}
+use Rattle.run_crew.specs.Courses.{TakesTask, Went, declined, most_turns, round, task_calls}
+use Rattle.run_crew.specs.Courses as call
+
+-- The calls of two paths lead from the first one's begin to the second one's end.
+path-append :
+    {A : Type 0} (step : A → Call → A → Type 0) (xs ys : List Call) (a b c : A)
+    → Path step a xs b → Path step b ys c → Path step a (xs ++ ys) c
+path-append step [] ys a b c same path = subst (λ m. Path step m ys c) (sym same) path
+path-append step (x ∷ xs) ys a b c first path =
+    (first.0, first.1, path-append step xs ys first.0 b c first.2 path)
+
+-- ---- turns
+
+pub round-path :
+    {A : Type 0} (step : A → Call → A → Type 0) (info : TaskInfo) (job number : ℕ)
+    (passes done : Bool) (answer : Turn) (a b c d : A) → passes ≡ true
+    → step a (call.Gate info.task number passes) b → step b (call.Scope info.task done) c
+    → step c (call.Make job info number done answer) d
+    → Path step a (round info job number done answer) d
+round-path step info job number passes done answer a b c d is gate scope make =
+    (b, subst (λ x. step a (call.Gate info.task number x) b) is gate, (c, scope, (d, make, refl)))
+
+pub next_round :
+    {A : Type 0} (step : A → Call → A → Type 0) (info : TaskInfo) (job number : ℕ) (done : Bool)
+    (answer : Turn) (a b c : A) → answer ≡ turn.More → Went step (AreRounds info job number) a b
+    → Path step b (round info job number done answer) c
+    → Went step (AreRounds info job (number + 1)) a c
+next_round step info job number done answer a b c is rounds path =
+    let e : suc number ≡ number + 1 = omega arith in
+    let all : Went step (AreRounds info job (suc number)) a c = (
+      rounds.0 ++ round info job number done answer,
+      (rounds.0, done, rounds.1, ap (λ t. rounds.0 ++ round info job number done t) is),
+      path-append step rounds.0 (round info job number done answer) a b c rounds.2 path,
+    ) in
+    subst (λ n. Went step (AreRounds info job n) a c) e all
+
+last_calls :
+    {A : Type 0} (step : A → Call → A → Type 0) (info : TaskInfo) (job number : ℕ)
+    (last : List Call) (how : Outcome) (a b c : A) → number < most_turns
+    → EndsAt info job number last how → Went step (AreRounds info job number) a b
+    → Path step b last c → Went step (λ calls. AreTurns info job calls how) a c
+last_calls step info job number last how a b c below ends rounds path = (
+  rounds.0 ++ last,
+  inr (number, rounds.0, last, below, rounds.1, ends, refl),
+  path-append step rounds.0 last a b c rounds.2 path,
+)
+
+pub refused_turn :
+    {A : Type 0} (step : A → Call → A → Type 0) (info : TaskInfo) (job number : ℕ)
+    (passes : Bool) (how : Outcome) (a b c : A) → number < most_turns → passes ≡ false
+    → how ≡ outcome.Failure (codes "gate") → Went step (AreRounds info job number) a b
+    → step b (call.Gate info.task number passes) c
+    → Went step (λ calls. AreTurns info job calls how) a c
+refused_turn step info job number passes how a b c below is as_gate rounds gate =
+    last_calls step info job number (call.Gate info.task number false ∷ []) how a b c below
+    (inl (refl, as_gate)) rounds
+    (c, subst (λ x. step b (call.Gate info.task number x) c) is gate, refl)
+
+pub finished_turn :
+    {A : Type 0} (step : A → Call → A → Type 0) (info : TaskInfo) (job number : ℕ) (done : Bool)
+    (answer : Turn) (a b c : A) → number < most_turns → answer ≡ turn.Finished
+    → Went step (AreRounds info job number) a b
+    → Path step b (round info job number done answer) c
+    → Went step (λ calls. AreTurns info job calls outcome.Success) a c
+finished_turn step info job number done answer a b c below is rounds path =
+    last_calls step info job number (round info job number done answer) outcome.Success a b c below
+    (inr (inl (done, ap (λ t. round info job number done t) is, refl))) rounds path
+
+pub failed_turn :
+    {A : Type 0} (step : A → Call → A → Type 0) (info : TaskInfo) (job number : ℕ) (done : Bool)
+    (answer : Turn) (error : List ℕ) (a b c : A) → number < most_turns
+    → answer ≡ turn.Failed error → Went step (AreRounds info job number) a b
+    → Path step b (round info job number done answer) c
+    → Went step (λ calls. AreTurns info job calls (outcome.Failure error)) a c
+failed_turn step info job number done answer error a b c below is rounds path =
+    last_calls step info job number (round info job number done answer) (outcome.Failure error)
+    a b c below
+    (inr (inr (done, error, ap (λ t. round info job number done t) is, refl))) rounds path
+
+pub all_turns :
+    {A : Type 0} (step : A → Call → A → Type 0) (info : TaskInfo) (job number : ℕ)
+    (how : Outcome) (a b : A) → number ≡ most_turns
+    → how ≡ outcome.Failure (codes "turn limit") → Went step (AreRounds info job number) a b
+    → Went step (λ calls. AreTurns info job calls how) a b
+all_turns step info job number how a b is as_limit rounds =
+    let all = subst (λ n. Went step (AreRounds info job n) a b) is rounds in
+    (all.0, inl (all.1, as_limit), all.2)
+
+-- ---- jobs
+
+pub declines :
+    {A : Type 0} (step : A → Call → A → Type 0) (name : List ℕ) (job : ℕ) (handles : Bool)
+    (a b c : A) → handles ≡ false → Went step (λ calls. calls ≡ declined name job) a b
+    → step b (call.Handles job name handles) c
+    → Went step (λ calls. calls ≡ declined name (job + 1)) a c
+declines step name job handles a b c is before asked =
+    let one : List Call = call.Handles job name false ∷ [] in
+    let e : suc job ≡ job + 1 = omega arith in
+    let all : Went step (λ calls. calls ≡ declined name (suc job)) a c = (
+      before.0 ++ one,
+      ap (λ calls. calls ++ one) before.1,
+      path-append step before.0 one a b c before.2
+          (c, subst (λ x. step b (call.Handles job name x) c) is asked, refl),
+    ) in
+    subst (λ n. Went step (λ calls. calls ≡ declined name n) a c) e all
+
+pub run_by :
+    {A : Type 0} (step : A → Call → A → Type 0) (jobs : ℕ) (info : TaskInfo) (job : ℕ)
+    (handles : Bool) (how : Outcome) (a b c d : A) → job < jobs → handles ≡ true
+    → Went step (λ calls. calls ≡ declined info.job job) a b
+    → step b (call.Handles job info.job handles) c
+    → Went step (λ calls. AreTurns info job calls how) c d
+    → Went step (λ calls. IsRun jobs info calls how) a d
+run_by step jobs info job handles how a b c d below is before asked turns =
+    let more : List Call = call.Handles job info.job true ∷ turns.0 in (
+      before.0 ++ more,
+      inr (job, turns.0, below, turns.1, ap (λ calls. calls ++ more) before.1),
+      path-append step before.0 more a b d before.2
+          (c, subst (λ x. step b (call.Handles job info.job x) c) is asked, turns.2),
+    )
+
+pub run_by_none :
+    {A : Type 0} (step : A → Call → A → Type 0) (jobs : ℕ) (info : TaskInfo) (job : ℕ)
+    (how : Outcome) (a b : A) → job ≡ jobs → how ≡ outcome.Failure (codes "no such job")
+    → Went step (λ calls. calls ≡ declined info.job job) a b
+    → Went step (λ calls. IsRun jobs info calls how) a b
+run_by_none step jobs info job how a b is as_none before =
+    let all = subst (λ n. Went step (λ calls. calls ≡ declined info.job n) a b) is before in
+    (all.0, inl (all.1, as_none), all.2)
+
+-- ---- the task
+
+-- What was begun, a run and the calls behind it.
+run_and :
+    {A : Type 0} (step : A → Call → A → Type 0) (started : Started) (durable : ℕ)
+    (begun run calls : List Call) (a b c d : A)
+    → begun ≡ call.Start (Ok started) ∷ call.Flush (Ok durable) ∷ []
+    → Path step a begun b → Path step b run c → Path step c calls d
+    → Path step a (task_calls started durable run calls) d
+run_and step started durable begun run calls a b c d is first behind last =
+    path-append step (call.Start (Ok started) ∷ call.Flush (Ok durable) ∷ []) (run ++ calls) a b d
+    (subst (λ l. Path step a l b) is first)
+    (path-append step run calls b c d behind last)
+
+pub refused_start :
+    {A : Type 0} (step : A → Call → A → Type 0) (answer : Result Started Refusal) (why : Refusal)
+    (a b : A) → answer ≡ Err why → step a (call.Start answer) b → Went step (IsBegun None) a b
+refused_start step answer why a b is start = (
+  call.Start (Err why) ∷ [],
+  inl (why, refl),
+  (b, subst (λ x. step a (call.Start x) b) is start, refl),
+)
+
+pub failed_flush :
+    {A : Type 0} (step : A → Call → A → Type 0) (answer : Result Started Refusal)
+    (started : Started) (flushed : Result ℕ Trouble) (trouble : Trouble) (a b c : A)
+    → answer ≡ Ok started → flushed ≡ Err trouble → step a (call.Start answer) b
+    → step b (call.Flush flushed) c → Went step (IsBegun None) a c
+failed_flush step answer started flushed trouble a b c is was start flush = (
+  call.Start (Ok started) ∷ call.Flush (Err trouble) ∷ [],
+  inr (started, trouble, refl),
+  (
+    b,
+    subst (λ x. step a (call.Start x) b) is start,
+    (c, subst (λ x. step b (call.Flush x) c) was flush, refl),
+  ),
+)
+
+pub begun_task :
+    {A : Type 0} (step : A → Call → A → Type 0) (answer : Result Started Refusal)
+    (started : Started) (flushed : Result ℕ Trouble) (durable : ℕ) (a b c : A)
+    → answer ≡ Ok started → flushed ≡ Ok durable → step a (call.Start answer) b
+    → step b (call.Flush flushed) c → Went step (IsBegun (Some started)) a c
+begun_task step answer started flushed durable a b c is was start flush = (
+  call.Start (Ok started) ∷ call.Flush (Ok durable) ∷ [],
+  (durable, refl),
+  (
+    b,
+    subst (λ x. step a (call.Start x) b) is start,
+    (c, subst (λ x. step b (call.Flush x) c) was flush, refl),
+  ),
+)
+
+pub not_finished :
+    {A : Type 0} (step : A → Call → A → Type 0) (jobs had : ℕ) (answered : Option Started)
+    (started : Started) (how : Outcome) (answer : Result ℕ Refusal) (why : Refusal)
+    (notes : List Note) (a b c d : A) → had ≡ jobs → answered ≡ Some started
+    → answer ≡ Err why → length notes < MOST_TASKS → Went step (IsBegun answered) a b
+    → Went step (λ calls. IsRun had started.info calls how) b c
+    → step c (call.Finish started.info.task how answer) d
+    → Went step (TakesTask jobs false notes notes) a d
+not_finished step jobs had answered started how answer why notes a b c d same some is room first
+    behind finish =
+    let begun = subst (λ s. Went step (IsBegun s) a b) some first in
+    let run = subst (λ n. Went step (λ calls. IsRun n started.info calls how) b c) same behind in
+    let last : List Call = call.Finish started.info.task how (Err why) ∷ [] in (
+      task_calls started begun.1.0 run.0 last,
+      (refl, inr (room, inr (started, begun.1.0, run.0, how, why, run.1, refl))),
+      run_and step started begun.1.0 begun.0 run.0 last a b c d begun.1.1 begun.2 run.2
+          (d, subst (λ x. step c (call.Finish started.info.task how x) d) is finish, refl),
+    )
+
+pub finished :
+    {A : Type 0} (step : A → Call → A → Type 0) (jobs had : ℕ) (answered : Option Started)
+    (started : Started) (how : Outcome) (answer : Result ℕ Refusal) (event : ℕ)
+    (notes after : List Note) (a b c d e f : A) → had ≡ jobs → answered ≡ Some started
+    → answer ≡ Ok event
+    → after ≡ notes ++ record { event = event; task = started.info.task; outcome = how } ∷ []
+    → Went step (IsBegun answered) a b
+    → Went step (λ calls. IsRun had started.info calls how) b c
+    → step c (call.Finish started.info.task how answer) d
+    → step d (call.Tell started.info.task) e → step e call.Ring f
+    → Went step (TakesTask jobs true notes after) a f
+finished step jobs had answered started how answer event notes after a b c d e f same some is
+    noted first behind finish tell ring =
+    let begun = subst (λ s. Went step (IsBegun s) a b) some first in
+    let run = subst (λ n. Went step (λ calls. IsRun n started.info calls how) b c) same behind in
+    let task = started.info.task in
+    let last : List Call =
+    call.Finish task how (Ok event) ∷ call.Tell task ∷ call.Ring ∷ [] in (
+      task_calls started begun.1.0 run.0 last,
+      (
+        record { event = event; task = task; outcome = how },
+        (started, begun.1.0, run.0, run.1, refl, refl),
+        noted,
+      ),
+      run_and step started begun.1.0 begun.0 run.0 last a b c f begun.1.1 begun.2 run.2
+          (d, subst (λ x. step c (call.Finish task how x) d) is finish, (e, tell, (f, ring, refl))),
+    )
+
+-- ---- the shift
+
+-- A whole course more, behind the others.
+courses-snoc :
+    (jobs : ℕ) (notes : List Note) (calls course : List Call) (note : Note)
+    → AreCourses jobs notes calls → IsCourse jobs course note
+    → AreCourses jobs (notes ++ note ∷ []) (calls ++ course)
+courses-snoc jobs [] calls course note none is =
+    (course, [], is, refl, ap (λ l. l ++ course) none ∙ sym (append-nil course))
+courses-snoc jobs (first ∷ notes) calls course note all is = (
+  all.0,
+  all.1 ++ course,
+  all.2,
+  courses-snoc jobs notes all.1 course note all.3 is,
+  ap (λ l. l ++ course) all.4 ∙ append_assoc all.0 all.1 course,
+)
+
+pub next_course :
+    {A : Type 0} (step : A → Call → A → Type 0) (jobs had : ℕ) (came : Bool)
+    (notes after : List Note) (a b c : A) → had ≡ jobs → came ≡ true
+    → Went step (AreCourses jobs notes) a b → Went step (TakesTask had came notes after) b c
+    → Went step (AreCourses jobs after) a c
+next_course step jobs had came notes after a b c same is before more =
+    let last = subst (λ n. Went step (TakesTask n came notes after) b c) same more in
+    let taken = subst (λ t. Went step (TakesTask jobs t notes after) b c) is last in
+    let all : Went step (AreCourses jobs (notes ++ taken.1.0 ∷ [])) a c = (
+      before.0 ++ taken.0,
+      courses-snoc jobs notes before.0 taken.0 taken.1.0 before.1 taken.1.1,
+      path-append step before.0 taken.0 a b c before.2 taken.2,
+    ) in
+    subst (λ l. Went step (AreCourses jobs l) a c) (sym taken.1.2) all
+
+pub ended_shift :
+    {A : Type 0} (step : A → Call → A → Type 0) (jobs had : ℕ) (came : Bool)
+    (notes after : List Note) (a b c : A) → had ≡ jobs → came ≡ false
+    → Went step (AreCourses jobs notes) a b → Went step (TakesTask had came notes after) b c
+    → Went step (IsShift jobs after) a c
+ended_shift step jobs had came notes after a b c same is before more =
+    let last = subst (λ n. Went step (TakesTask n came notes after) b c) same more in
+    let ended = subst (λ t. Went step (TakesTask jobs t notes after) b c) is last in
+    let all : Went step (IsShift jobs notes) a c = (
+      before.0 ++ ended.0,
+      (before.0, ended.0, before.1, ended.1.1, refl),
+      path-append step before.0 ended.0 a b c before.2 ended.2,
+    ) in
+    subst (λ l. Went step (IsShift jobs l) a c) (sym ended.1.0) all
