@@ -94,7 +94,7 @@ loop-total-preserved g c =
       omega (arith, size.len, inv.2),
       omega (arith, size.len, size.within, inv.2),
       part_then g.D.RunDisk.state [] inv.0 (take n room) c.loop-total.tail.items tail h
-      c.args.book.now
+          c.args.book.now
           c.loop-total.book d (g.W.Write.contents c.args.output.now) w1 w2 w3 inv.4
           (subst (λ x. P [] x) same
           (subst (λ x. P x (take n (room ++ drop c.min-most.result c.loop-total.room))) inv.5

@@ -21,7 +21,7 @@ use Rattle.run_console.proofs.Troubles.{accounts_earlier}
 pub loop-byte-init : goal.loop-byte-init
 loop-byte-init g c = (
   λ begun e. clean_begins g.D.RunDisk.state _ _ begun _ _ _ _ refl
-  (part_begins g.D.RunDisk.state begun _ _ _ _ e),
+      (part_begins g.D.RunDisk.state begun _ _ _ _ e),
   omega arith,
   goes_none g.D.RunDisk.state c.args.book.now c.requires.sound c.durable-durable.ensures.carries_on,
 )
