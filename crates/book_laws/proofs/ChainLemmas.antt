@@ -37,6 +37,7 @@ use Rattle.book_model.proofs.HoldingLemmas.{carries_after, stores_fewer}
 use Rattle.book_model.proofs.NightLemmas.{is_night, opened_safe}
 use Rattle.book_model.proofs.OpeningLemmas.{formats_cause, opens_again, opens_cause}
 use Rattle.book_model.proofs.Playing.{accepted_run, not_refused, stuck_refuses, taken_keep}
+use Rattle.book_model.proofs.Rows.{row_steps}
 use Rattle.book_model.proofs.Stepping.{steps_left, steps_play}
 use Rattle.book_model.proofs.Storing.{stores_one}
 use Rattle.run_book.specs.Views.{BookView, holding}
@@ -189,7 +190,7 @@ module _ {D : Type 0} (state : D → DiskState) (given : D) (p : State) (steps :
       → LeavesOnly (HoldsOne p events) (state given) (state new.journal.disk)
   left_since new honest rest on same =
       let night = is_night state given p is.first (holding b) steps is.plays.answers is.opened
-      is.plays.played in
+      (row_steps state is.first (holding b) steps is.plays.answers is.plays.played) in
       let whole = carries_after state is.first (holding b) new is.on on in
       let safe = opened_safe state given p is.first honest rest is.opened in
       let start = on.start ∙ night.start in
@@ -221,7 +222,7 @@ module _ {D : Type 0} (state : D → DiskState) (given : D) (p : State) (steps :
   abbrev last_session : Session
   last_session =
       (steps_play state is.first (holding b) steps is.plays.answers (opened_from p) is_session
-      is.plays.played).last
+      (row_steps state is.first (holding b) steps is.plays.answers is.plays.played)).last
 
   plays : Plays (sound (opened_from p)) steps is.plays.answers (playing_in (holding b) last_session)
   plays =
@@ -231,13 +232,13 @@ module _ {D : Type 0} (state : D → DiskState) (given : D) (p : State) (steps :
       (playing_in (holding b) last_session))
       is.opened.sound
       (steps_play state is.first (holding b) steps is.plays.answers (opened_from p) is_session
-      is.plays.played).plays
+      (row_steps state is.first (holding b) steps is.plays.answers is.plays.played)).plays
 
   -- The state that all accepted events led to is the book's.
   reached : Replays b.session → run (restarted p) events ≡ Some b.session.state
   reached replays =
       let from = steps_play state is.first (holding b) steps is.plays.answers (opened_from p)
-      is_session is.plays.played in
+      is_session (row_steps state is.first (holding b) steps is.plays.answers is.plays.played) in
       accepted_run (sound (opened_from p)) (playing_in (holding b) last_session) steps
       is.plays.answers plays
       ∙ sym from.is_last.state ∙ replays.replays
@@ -262,7 +263,8 @@ module _ {D : Type 0} (state : D → DiskState) (given : D) (p : State) (steps :
   -- A call failed since the opening, where the book is broken.
   broken_why : b.journal.broken ≡ true → DeviceFails (state given) (state b.journal.disk)
   broken_why broken =
-      let left = steps_left state is.first (holding b) steps is.plays.answers is.plays.played in
+      let left = steps_left state is.first (holding b) steps is.plays.answers
+      (row_steps state is.first (holding b) steps is.plays.answers is.plays.played) in
       fails_later (state given) (state is.first.journal.disk) (state b.journal.disk)
       is.opened.passed.failures_later
       (left.failed

@@ -5,15 +5,20 @@ use Rattle.std.specs.Io.KnownBytes.{Appends}
 use Rattle.std.proofs.Common.{inl, inr, arith, refl, sym, ap, ◌∙◌, subst, append_assoc, append-nil}
 use Rattle.std.proofs.Common.{length-append}
 use Rattle.run_model.specs.declared.faults.Trouble.{Trouble}
-use Rattle.run_session.specs.Logged.{Logged}
+use Rattle.run_disk.specs.Disk.{DiskState}
+use Rattle.run_book.specs.Views.{BookView, holding}
 use Rattle.console_lines.specs.declared.faults.RunFault.{RunFault}
 use Rattle.console_lines.specs.declared.faults.RunFault.TheVariants as fault
 use Rattle.console_lines.specs.Asked.{asked_of}
 use Rattle.console_lines.specs.Progress.{WritesPart}
 use Rattle.console_lines.specs.declared.replies.Reply.TheVariants as said
 use Rattle.console_lines.specs.Replies.{reply_line}
-use Rattle.console_lines.specs.Script.{replies, reply}
+use Rattle.console_lines.specs.Script.{replies, reply, steps_of}
 use Rattle.console_lines.proofs.Written.{appends_nothing, appends_then}
+use Rattle.book_model.specs.Holdings.{Holding}
+use Rattle.book_model.specs.Steps.{StepsOn, reply_of_save}
+use Rattle.run_console.specs.Rows.{TakesAll, TriesLine, first_steps}
+use Rattle.run_console.proofs.Rows.{takes_none, took_nothing, tried_nothing}
 use Rattle.run_console.specs.SessionLines.{IsSaving, plain, logged_after, logged_after_lines}
 use Rattle.run_console.specs.Progress.{Cut, EndStops, IsOfLine, IsStopped, LineRuns, LineStops}
 use Rattle.run_console.specs.Progress.{Ran, Told}
@@ -58,28 +63,32 @@ told_cut text g h w0 w1 w2 told cut =
     subst P (sym told.told) (part_behind told.out h w0 w1 w2 told.written cut)
 
 -- Making room is no line.
-ran_told : (b : Logged) (g m : List ℕ) (w0 w1 : Option (List ℕ))
+ran_told : {D : Type 0} (state : D → DiskState) (b : BookView D) (g m : List ℕ)
+    (w0 w1 : Option (List ℕ))
     → Told [] g m w0 w1
-    → Ran [] b b g m w0 w1
-ran_told b g m w0 w1 room = record {
+    → Ran state [] b b g m w0 w1
+ran_told state b g m w0 w1 room = record {
   out = room.out;
   written = room.written;
   replied = room.told;
   session = refl;
+  taken = takes_none state (holding b);
 }
 
 -- A trouble behind the room that was made.
-pub cut_stopped :
-    (why : RunFault) (trouble : Trouble) (line : List ℕ) (b c : Logged) (g m : List ℕ)
+pub cut_stopped : {D : Type 0} (state : D → DiskState)
+    (why : RunFault) (trouble : Trouble) (line : List ℕ) (b c : BookView D) (g m : List ℕ)
     (w0 w1 w2 : Option (List ℕ))
     → IsSaving (asked_of line)
-    → c ≡ b
+    → c.session ≡ b.session
+    → StepsOn state (holding b) (steps_of (line ∷ [])) (reply_of_save (Err trouble) ∷ [])
+    (holding c)
     → Told [] g m w0 w1
     → Troubled why trouble m w1 w2
-    → Cut why (line ∷ []) b c g w0 w2
-cut_stopped why trouble line b c g m w0 w1 w2 saving same room stop =
-    cut_then why [] (line ∷ []) b b c g m w0 w1 w2 (ran_told b g m w0 w1 room)
-    (cut_troubled why trouble line b c m w1 w2 saving same stop)
+    → Cut state why (line ∷ []) b c g w0 w2
+cut_stopped state why trouble line b c g m w0 w1 w2 saving same row room stop =
+    cut_then state why [] (line ∷ []) b b c g m w0 w1 w2 (ran_told state b g m w0 w1 room)
+    (cut_troubled state why trouble line b c m w1 w2 saving same row stop)
 
 -- ---- the end
 
@@ -108,16 +117,18 @@ end_stopped fault.Memory trouble end g m w0 w1 w2 room stop = absurd stop
 -- ---- one line
 
 -- One line was run and its reply written.
-pub line_runs : (line : List ℕ) (b c : Logged) (h : List ℕ) (w0 w1 w2 : Option (List ℕ))
-    → Ran (line ∷ []) b c [] h w0 w1
+pub line_runs : {D : Type 0} (state : D → DiskState) (line : List ℕ) (b c : BookView D) (h : List ℕ)
+    (w0 w1 w2 : Option (List ℕ))
+    → Ran state (line ∷ []) b c [] h w0 w1
     → Appends w1 w2 h
-    → LineRuns line b c w0 w2
-line_runs line b c h w0 w1 w2 ran all =
+    → LineRuns state line b c w0 w2
+line_runs state line b c h w0 w1 w2 ran all =
     let P : List ℕ → Type 0 = λ t. Appends w0 w2 t in
     record {
       session = ran.session;
+      taken = ran.taken;
       written =
-          subst P (sym ran.replied ∙ append-nil (reply (plain b) line))
+          subst P (sym ran.replied ∙ append-nil (reply (plain b.session) line))
           (appends_then w0 w1 w2 ran.out h ran.written all);
     }
 
@@ -139,60 +150,82 @@ no_part w0 w1 X (front, cut, written) = none front cut.0 cut.1 cut.2
     none [] rest e some = absurd (some (sym e))
     none (x ∷ front) rest e some = absurd (omega (arith, ap length e))
 
-module _ (line : List ℕ) (b c : Logged) (w0 w1 : Option (List ℕ)) where
+module _ {D : Type 0} (state : D → DiskState) (line : List ℕ) (b c : BookView D)
+    (w0 w1 : Option (List ℕ)) where
   -- The line was not run.
   not_run : (why : RunFault)
       → IsOfLine why
       → IsStopped why (line ∷ [])
       → Wrote why [] w0 w1
-      → c ≡ b
-      → LineStops why line b c w0 w1
-  not_run fault.Output f stopped wrote same = no_part w0 w1 _ wrote
-  not_run (fault.Store why) f stopped wrote same = (stopped, same, wrote)
-  not_run fault.Memory f stopped wrote same = (stopped, same, wrote)
-  not_run fault.Input f stopped wrote same = absurd f
-  not_run fault.InputTooLong f stopped wrote same = absurd f
+      → c.session ≡ b.session
+      → TriesLine state (holding b) why [] (steps_of (line ∷ [])) (holding c)
+      → LineStops state why line b c w0 w1
+  not_run fault.Output f stopped wrote same next = no_part w0 w1 _ wrote
+  not_run (fault.Store why) f stopped wrote same next = (
+    stopped,
+    same,
+    wrote,
+    subst
+        (λ (h : Holding D).
+        StepsOn state h (steps_of (line ∷ [])) (reply_of_save (Err why) ∷ []) (holding c))
+        (took_nothing state (holding b) next.middle next.taken) next.tried,
+  )
+  not_run fault.Memory f stopped wrote same next =
+      (stopped, same, wrote, next.tried ∙ took_nothing state (holding b) next.middle next.taken)
+  not_run fault.Input f stopped wrote same next = absurd f
+  not_run fault.InputTooLong f stopped wrote same next = absurd f
 
   -- It was run.
   was_run : (why : RunFault)
       → IsOfLine why
       → IsStopped why []
-      → Wrote why (reply (plain b) line) w0 w1
-      → c ≡ logged_after b line
-      → LineStops why line b c w0 w1
-  was_run fault.Output f stopped wrote session = (session, wrote)
-  was_run (fault.Store why) f stopped wrote session = absurd stopped
-  was_run fault.Memory f stopped wrote session = absurd stopped
-  was_run fault.Input f stopped wrote session = absurd f
-  was_run fault.InputTooLong f stopped wrote session = absurd f
+      → Wrote why (reply (plain b.session) line) w0 w1
+      → c.session ≡ logged_after b.session line
+      → TriesLine state (holding b) why (line ∷ []) [] (holding c)
+      → LineStops state why line b c w0 w1
+  was_run fault.Output f stopped wrote session next = (
+    session,
+    wrote,
+    subst (λ h. TakesAll state (holding b) (steps_of (line ∷ [])) h)
+        (sym (tried_nothing state next.middle (holding c) next.tried)) next.taken,
+  )
+  was_run (fault.Store why) f stopped wrote session next = absurd stopped
+  was_run fault.Memory f stopped wrote session next = absurd stopped
+  was_run fault.Input f stopped wrote session next = absurd f
+  was_run fault.InputTooLong f stopped wrote session next = absurd f
 
   either_run : (why : RunFault) (ran left : List (List ℕ))
       → IsOfLine why
       → IsStopped why left
-      → Wrote why (replies (plain b) ran) w0 w1
-      → c ≡ logged_after_lines b ran
+      → Wrote why (replies (plain b.session) ran) w0 w1
+      → c.session ≡ logged_after_lines b.session ran
+      → TriesLine state (holding b) why ran (first_steps left) (holding c)
       → ((ran ≡ []) × (left ≡ line ∷ [])) ⊎ ((ran ≡ line ∷ []) × (left ≡ []))
-      → LineStops why line b c w0 w1
-  either_run why ran left f stopped wrote session (inl none) =
-      let P : List (List ℕ) → Type 0 = λ l. Wrote why (replies (plain b) l) w0 w1 in
-      let Q : List (List ℕ) → Type 0 = λ l. c ≡ logged_after_lines b l in
+      → LineStops state why line b c w0 w1
+  either_run why ran left f stopped wrote session next (inl none) =
+      let P : List (List ℕ) → Type 0 = λ l. Wrote why (replies (plain b.session) l) w0 w1 in
+      let Q : List (List ℕ) → Type 0 = λ l. c.session ≡ logged_after_lines b.session l in
       not_run why f (subst (IsStopped why) none.1 stopped) (subst P none.0 wrote)
       (subst Q none.0 session)
-  either_run why ran left f stopped wrote session (inr all) =
-      let P : List (List ℕ) → Type 0 = λ l. Wrote why (replies (plain b) l) w0 w1 in
-      let Q : List (List ℕ) → Type 0 = λ l. c ≡ logged_after_lines b l in
+      (subst (λ l. TriesLine state (holding b) why [] (first_steps l) (holding c)) none.1
+      (subst (λ l. TriesLine state (holding b) why l (first_steps left) (holding c)) none.0 next))
+  either_run why ran left f stopped wrote session next (inr all) =
+      let P : List (List ℕ) → Type 0 = λ l. Wrote why (replies (plain b.session) l) w0 w1 in
+      let Q : List (List ℕ) → Type 0 = λ l. c.session ≡ logged_after_lines b.session l in
       let R : List ℕ → Type 0 = λ t. Wrote why t w0 w1 in
       was_run why f (subst (IsStopped why) all.1 stopped)
-      (subst R (append-nil (reply (plain b) line)) (subst P all.0 wrote))
+      (subst R (append-nil (reply (plain b.session) line)) (subst P all.0 wrote))
       (subst Q all.0 session)
+      (subst (λ l. TriesLine state (holding b) why (line ∷ []) (first_steps l) (holding c)) all.1
+      (subst (λ l. TriesLine state (holding b) why l (first_steps left) (holding c)) all.0 next))
 
   -- One line that was cut stopped.
   pub line_stops : (why : RunFault)
       → IsOfLine why
-      → Cut why (line ∷ []) b c [] w0 w1
-      → LineStops why line b c w0 w1
+      → Cut state why (line ∷ []) b c [] w0 w1
+      → LineStops state why line b c w0 w1
   line_stops why f cut =
-      either_run why cut.ran cut.left f cut.stopped cut.written cut.session
+      either_run why cut.ran cut.left f cut.stopped cut.written cut.session cut.tried
       (split_one line cut.ran cut.left cut.lines_are)
 
 -- ---- faults that a line can have

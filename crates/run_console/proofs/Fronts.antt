@@ -4,7 +4,8 @@ use Rattle.std.specs.Io.KnownBytes.{Appends, IsAtEnd}
 use Rattle.std.proofs.Common.{arith, inl, inr, refl, sym, ap, subst, ◌∙◌, append_assoc, append-nil}
 use Rattle.std.proofs.Common.{length-append}
 use Rattle.run_model.specs.Session.{Session}
-use Rattle.run_session.specs.Logged.{Logged}
+use Rattle.run_disk.specs.Disk.{DiskState}
+use Rattle.run_book.specs.Views.{BookView}
 use Rattle.console_lines.specs.declared.faults.RunFault.{RunFault}
 use Rattle.console_lines.specs.declared.faults.RunFault.TheVariants as fault
 use Rattle.console_lines.specs.Lines.{whole_lines, open_line, lines_of}
@@ -130,18 +131,18 @@ none_untried fault.Input = refl
 none_untried fault.InputTooLong = refl
 none_untried fault.Memory = refl
 
-pub stops_begin :
-    (why : RunFault) (b c : Logged) (r0 r1 w0 w1 : Option (List ℕ))
-    → RunStops why b c r0 r1 w0 w1
-    → BeginsScript why b r0 r1 w0 w1
-stops_begin why b c r0 r1 w0 w1 h =
-    let w = fronts_of why (plain b) h.ran h.left w0 w1 h.written in
+pub stops_begin : {D : Type 0} (state : D → DiskState)
+    (why : RunFault) (b c : BookView D) (r0 r1 w0 w1 : Option (List ℕ))
+    → RunStops state why b c r0 r1 w0 w1
+    → BeginsScript why b.session r0 r1 w0 w1
+stops_begin state why b c r0 r1 w0 w1 h =
+    let w = fronts_of why (plain b.session) h.ran h.left w0 w1 h.written in
     record {
       bytes = h.bytes;
       read = h.read;
       front = w.front;
       begins =
-          said_begins (plain b) h.bytes h.ran h.left r1 w.front h.lines_are
+          said_begins (plain b.session) h.bytes h.ran h.left r1 w.front h.lines_are
           (λ e. h.ended (ap (untried why) e ∙ none_untried why)) w.begins;
       told = w.told;
       trouble = w.trouble;

@@ -6,6 +6,8 @@ pub mod Inspecting
 pub mod LineSteps
 pub mod Lines
 pub mod Parts
+pub mod Printing
+pub mod Rows
 pub mod Saving
 pub mod Sizes
 pub mod StrictLemmas

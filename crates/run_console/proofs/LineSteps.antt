@@ -1,5 +1,5 @@
 -- One line: from what it asks for to what is written.
-use Rattle.std.specs.Prelude.{◌≡◌, ℕ, true, List, [], ◌∷◌, map, Result, Ok, Err, IfErr, OnErr}
+use Rattle.std.specs.Prelude.{◌≡◌, ℕ, true, List, [], ◌∷◌, map, Result, Ok, Err, IfErr, OnErr, OnOk}
 use Rattle.std.specs.Prelude.{Option, Some, None}
 use Rattle.std.specs.Option.{option_or}
 use Rattle.std.proofs.Common.{ap, sym, subst, refl, arith, ◌∙◌, append-nil}
@@ -150,6 +150,23 @@ pub fault_then : {T E : Type 0} (r : Result T E) (P Q : E → Type 0)
     → IfErr r Q
 fault_then (Ok x) P Q then h = tt
 fault_then (Err e) P Q then h = then e h
+
+-- And what follows of two things that are known.
+pub both_then : {T E : Type 0} (r : Result T E) (P Q R : E → Type 0)
+    → ((e : E) → P e → Q e → R e)
+    → IfErr r P
+    → IfErr r Q
+    → IfErr r R
+both_then (Ok x) P Q R then h k = tt
+both_then (Err e) P Q R then h k = then e h k
+
+pub both_ok : {T E : Type 0} {P Q R : Type 0} (r : Result T E)
+    → (P → Q → R)
+    → OnOk r P
+    → OnOk r Q
+    → OnOk r R
+both_ok (Ok x) then h k = then h k
+both_ok (Err e) then h k = tt
 
 -- A line's flush or checkpoint is no tally.
 pub saves_no_tally : (line : List ℕ) (a : Asked) (X : Type 0)

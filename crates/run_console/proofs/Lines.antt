@@ -1,21 +1,26 @@
 -- Lines that were run one after another: the session, and what was written and gathered for them.
-use Rattle.std.specs.Prelude.{◌≡◌, ℕ, List, [], ◌∷◌, ◌++◌, Option}
+use Rattle.std.specs.Prelude.{◌≡◌, ℕ, List, [], ◌∷◌, ◌++◌, Option, Err}
 use Rattle.std.specs.Io.KnownBytes.{Appends}
-use Rattle.std.proofs.Common.{refl, sym, ap, ◌∙◌, subst, append_assoc, append-nil}
+use Rattle.std.proofs.Common.{inl, inr, refl, sym, ap, ◌∙◌, subst, append_assoc, append-nil}
 use Rattle.run_model.specs.declared.faults.Trouble.{Trouble}
 use Rattle.run_state.proofs.Staying.{stays_join}
 use Rattle.run_session.specs.Logged.{Logged}
+use Rattle.run_disk.specs.Disk.{DiskState}
+use Rattle.book_model.specs.Steps.{StepsOn, reply_of_save}
+use Rattle.run_book.specs.Views.{BookView, holding}
 use Rattle.console_lines.specs.declared.asked.Asked.TheVariants as asked
 use Rattle.console_lines.specs.declared.faults.RunFault.{RunFault}
 use Rattle.console_lines.specs.declared.faults.RunFault.TheVariants as fault
 use Rattle.console_lines.specs.Asked.{asked_of}
-use Rattle.console_lines.specs.Script.{after_lines, replies, reply}
+use Rattle.console_lines.specs.Script.{after_lines, replies, reply, steps_of}
 use Rattle.console_lines.specs.Progress.{WritesPart}
 use Rattle.console_lines.proofs.Steps.{replies-append}
 use Rattle.console_lines.proofs.Written.{appends_nothing, appends_then, front_behind, front_more}
 use Rattle.run_console.specs.SessionLines.{IsSaving, plain, logged_after, logged_after_lines}
 use Rattle.run_console.specs.Progress.{Cut, IsStopped, Lasts, Ran, Told, Troubled, Untold, Wrote}
 use Rattle.run_console.specs.Progress.{WritesTrouble}
+use Rattle.run_console.specs.Rows.{TakesAll, TriesLine}
+use Rattle.run_console.proofs.Rows.{takes_lines, takes_none, takes_tally, tries_more}
 use Rattle.run_console.proofs.Sizes.{session_after}
 
 -- ---- the session
@@ -91,71 +96,78 @@ wrote_behind fault.Memory x g w0 w1 w2 h k = appends_then w0 w1 w2 x g h k
 -- ---- lines that were run
 
 -- No line was run yet.
-pub ran_nothing : (b : Logged) (g : List ℕ) (w : Option (List ℕ)) → Ran [] b b g g w w
-ran_nothing b g w = record {
+pub ran_nothing : {D : Type 0} (state : D → DiskState) (b : BookView D) (g : List ℕ)
+    (w : Option (List ℕ)) → Ran state [] b b g g w w
+ran_nothing state b g w = record {
   out = [];
   written = appends_nothing w;
   replied = append-nil g;
   session = refl;
+  taken = takes_none state (holding b);
 }
 
 -- One line was run, and its reply told.
-pub ran_line :
-    (line : List ℕ) (b c : Logged) (g h : List ℕ) (w0 w1 : Option (List ℕ))
-    → c ≡ logged_after b line
-    → Told (reply (plain b) line) g h w0 w1
-    → Ran (line ∷ []) b c g h w0 w1
-ran_line line b c g h w0 w1 session told = record {
+pub ran_line : {D : Type 0} (state : D → DiskState)
+    (line : List ℕ) (b c : BookView D) (g h : List ℕ) (w0 w1 : Option (List ℕ))
+    → c.session ≡ logged_after b.session line
+    → TakesAll state (holding b) (steps_of (line ∷ [])) (holding c)
+    → Told (reply (plain b.session) line) g h w0 w1
+    → Ran state (line ∷ []) b c g h w0 w1
+ran_line state line b c g h w0 w1 session taken told = record {
   out = told.out;
   written = told.written;
-  replied = ap (λ t. g ++ t) (append-nil (reply (plain b) line)) ∙ told.told;
+  replied = ap (λ t. g ++ t) (append-nil (reply (plain b.session) line)) ∙ told.told;
   session = session;
+  taken = taken;
 }
 
 -- These lines were run, and then those.
-pub ran_then :
-    (xs ys : List (List ℕ)) (b c d : Logged) (f g h : List ℕ) (w0 w1 w2 : Option (List ℕ))
-    → Ran xs b c f g w0 w1
-    → Ran ys c d g h w1 w2
-    → Ran (xs ++ ys) b d f h w0 w2
-ran_then xs ys b c d f g h w0 w1 w2 one two =
-    let s = replies (plain b) xs in
-    let t = replies (plain c) ys in
+pub ran_then : {D : Type 0} (state : D → DiskState)
+    (xs ys : List (List ℕ)) (b c d : BookView D) (f g h : List ℕ) (w0 w1 w2 : Option (List ℕ))
+    → Ran state xs b c f g w0 w1
+    → Ran state ys c d g h w1 w2
+    → Ran state (xs ++ ys) b d f h w0 w2
+ran_then state xs ys b c d f g h w0 w1 w2 one two =
+    let s = replies (plain b.session) xs in
+    let t = replies (plain c.session) ys in
     record {
       out = one.out ++ two.out;
       written = appends_then w0 w1 w2 one.out two.out one.written two.written;
       replied =
-          ap (λ x. f ++ x) (replies_then xs ys b c one.session)
+          ap (λ x. f ++ x) (replies_then xs ys b.session c.session one.session)
           ∙ sym (append_assoc f s t)
           ∙ ap (λ x. x ++ t) one.replied
           ∙ append_assoc one.out g t
           ∙ ap (λ x. one.out ++ x) two.replied
           ∙ sym (append_assoc one.out two.out h);
-      session = logged_then xs ys b c d one.session two.session;
+      session = logged_then xs ys b.session c.session d.session one.session two.session;
+      taken = takes_lines state (holding b) (holding c) (holding d) xs ys one.taken two.taken;
     }
 
 -- All that was gathered is written.
-pub ran_written :
-    (lines : List (List ℕ)) (b c : Logged) (f g : List ℕ) (w0 w1 w2 : Option (List ℕ))
-    → Ran lines b c f g w0 w1
+pub ran_written : {D : Type 0} (state : D → DiskState)
+    (lines : List (List ℕ)) (b c : BookView D) (f g : List ℕ) (w0 w1 w2 : Option (List ℕ))
+    → Ran state lines b c f g w0 w1
     → Appends w1 w2 g
-    → Ran lines b c f [] w0 w2
-ran_written lines b c f g w0 w1 w2 ran all = record {
+    → Ran state lines b c f [] w0 w2
+ran_written state lines b c f g w0 w1 w2 ran all = record {
   out = ran.out ++ g;
   written = appends_then w0 w1 w2 ran.out g ran.written all;
   replied = ran.replied ∙ sym (append-nil (ran.out ++ g));
   session = ran.session;
+  taken = ran.taken;
 }
 
 -- ---- a line that stopped
 
 -- The writer failed in what was gathered before.
-pub cut_before :
-    (line : List ℕ) (b c : Logged) (g : List ℕ) (w0 w1 : Option (List ℕ))
-    → c ≡ b
+pub cut_before : {D : Type 0} (state : D → DiskState)
+    (line : List ℕ) (b c : BookView D) (g : List ℕ) (w0 w1 : Option (List ℕ))
+    → c.session ≡ b.session
+    → TriesLine state (holding b) fault.Output [] (steps_of (line ∷ [])) (holding c)
     → WritesPart w0 w1 g
-    → Cut fault.Output (line ∷ []) b c g w0 w1
-cut_before line b c g w0 w1 same cut =
+    → Cut state fault.Output (line ∷ []) b c g w0 w1
+cut_before state line b c g w0 w1 same tried cut =
     let P : List ℕ → Type 0 = λ t. WritesPart w0 w1 t in
     record {
       ran = [];
@@ -164,27 +176,32 @@ cut_before line b c g w0 w1 same cut =
       stopped = tt;
       written = subst P (sym (append-nil g)) cut;
       session = same;
+      tried = tried;
     }
 
 -- What a fault of a text leaves of a line that asks for it.
-pub cut_untold :
-    (why : RunFault) (line : List ℕ) (b c : Logged) (g : List ℕ) (w0 w1 : Option (List ℕ))
+pub cut_untold : {D : Type 0} (state : D → DiskState)
+    (why : RunFault) (line : List ℕ) (b : BookView D) (g : List ℕ) (w0 w1 : Option (List ℕ))
     → asked_of line ≡ asked.Tally
-    → c ≡ b
-    → c ≡ logged_after b line
-    → Untold why (reply (plain b) line) g w0 w1
-    → Cut why (line ∷ []) b c g w0 w1
-cut_untold fault.Output line b c g w0 w1 tally same session cut =
+    → b.session ≡ logged_after b.session line
+    → Untold why (reply (plain b.session) line) g w0 w1
+    → Cut state why (line ∷ []) b b g w0 w1
+cut_untold state fault.Output line b g w0 w1 tally session cut =
     let P : List ℕ → Type 0 = λ t. WritesPart w0 w1 (g ++ t) in
     record {
       ran = line ∷ [];
       left = [];
       lines_are = refl;
       stopped = tt;
-      written = subst P (sym (append-nil (reply (plain b) line))) cut;
+      written = subst P (sym (append-nil (reply (plain b.session) line))) cut;
       session = session;
+      tried = record {
+        middle = holding b;
+        taken = takes_tally state (holding b) line tally;
+        tried = inl refl;
+      };
     }
-cut_untold fault.Memory line b c g w0 w1 tally same session cut =
+cut_untold state fault.Memory line b g w0 w1 tally session cut =
     let P : List ℕ → Type 0 = λ t. Appends w0 w1 t in
     record {
       ran = [];
@@ -192,25 +209,40 @@ cut_untold fault.Memory line b c g w0 w1 tally same session cut =
       lines_are = refl;
       stopped = tally;
       written = subst P (sym (append-nil g)) cut;
-      session = same;
+      session = refl;
+      tried = record {
+        middle = holding b;
+        taken = takes_none state (holding b);
+        tried = refl;
+      };
     }
-cut_untold fault.Input line b c g w0 w1 tally same session cut = absurd cut
-cut_untold fault.InputTooLong line b c g w0 w1 tally same session cut = absurd cut
-cut_untold (fault.Store why) line b c g w0 w1 tally same session cut = absurd cut
+cut_untold state fault.Input line b g w0 w1 tally session cut = absurd cut
+cut_untold state fault.InputTooLong line b g w0 w1 tally session cut = absurd cut
+cut_untold state (fault.Store why) line b g w0 w1 tally session cut = absurd cut
 
 -- What a trouble leaves of a line that asks for a flush or a checkpoint.
-pub cut_troubled :
-    (why : RunFault) (trouble : Trouble) (line : List ℕ) (b c : Logged) (g : List ℕ)
+pub cut_troubled : {D : Type 0} (state : D → DiskState)
+    (why : RunFault) (trouble : Trouble) (line : List ℕ) (b c : BookView D) (g : List ℕ)
     (w0 w1 : Option (List ℕ))
     → IsSaving (asked_of line)
-    → c ≡ b
+    → c.session ≡ b.session
+    → StepsOn state (holding b) (steps_of (line ∷ [])) (reply_of_save (Err trouble) ∷ [])
+    (holding c)
     → Troubled why trouble g w0 w1
-    → Cut why (line ∷ []) b c g w0 w1
-cut_troubled fault.Output trouble line b c g w0 w1 saving same cut =
-    cut_before line b c g w0 w1 same cut
-cut_troubled (fault.Store why) trouble line b c g w0 w1 saving same cut =
+    → Cut state why (line ∷ []) b c g w0 w1
+cut_troubled state fault.Output trouble line b c g w0 w1 saving same row cut =
+    cut_before state line b c g w0 w1 same
+    (record {
+      middle = holding b;
+      taken = takes_none state (holding b);
+      tried = inr (reply_of_save (Err trouble) ∷ [], row);
+    })
+    cut
+cut_troubled state (fault.Store why) trouble line b c g w0 w1 saving same row cut =
     let P : List ℕ → Type 0 = λ t. WritesTrouble why t w0 w1 in
     let Q : Trouble → Type 0 = λ t. WritesTrouble t g w0 w1 in
+    let R : Trouble → Type 0 = λ t.
+    StepsOn state (holding b) (steps_of (line ∷ [])) (reply_of_save (Err t) ∷ []) (holding c) in
     record {
       ran = [];
       left = line ∷ [];
@@ -218,20 +250,25 @@ cut_troubled (fault.Store why) trouble line b c g w0 w1 saving same cut =
       stopped = saving;
       written = subst P (sym (append-nil g)) (subst Q (sym cut.0) cut.1);
       session = same;
+      tried = record {
+        middle = holding b;
+        taken = takes_none state (holding b);
+        tried = subst R (sym cut.0) row;
+      };
     }
-cut_troubled fault.Input trouble line b c g w0 w1 saving same cut = absurd cut
-cut_troubled fault.InputTooLong trouble line b c g w0 w1 saving same cut = absurd cut
-cut_troubled fault.Memory trouble line b c g w0 w1 saving same cut = absurd cut
+cut_troubled state fault.Input trouble line b c g w0 w1 saving same row cut = absurd cut
+cut_troubled state fault.InputTooLong trouble line b c g w0 w1 saving same row cut = absurd cut
+cut_troubled state fault.Memory trouble line b c g w0 w1 saving same row cut = absurd cut
 
 -- ---- lines that were cut
 
 -- What was gathered for all lines was cut.
-pub cut_written :
-    (lines : List (List ℕ)) (b c : Logged) (f g : List ℕ) (w0 w1 w2 : Option (List ℕ))
-    → Ran lines b c f g w0 w1
+pub cut_written : {D : Type 0} (state : D → DiskState)
+    (lines : List (List ℕ)) (b c : BookView D) (f g : List ℕ) (w0 w1 w2 : Option (List ℕ))
+    → Ran state lines b c f g w0 w1
     → WritesPart w1 w2 g
-    → Cut fault.Output lines b c f w0 w2
-cut_written lines b c f g w0 w1 w2 ran cut =
+    → Cut state fault.Output lines b c f w0 w2
+cut_written state lines b c f g w0 w1 w2 ran cut =
     let P : List ℕ → Type 0 = λ t. WritesPart w0 w2 t in
     record {
       ran = lines;
@@ -240,19 +277,20 @@ cut_written lines b c f g w0 w1 w2 ran cut =
       stopped = tt;
       written = subst P (sym ran.replied) (part_behind ran.out g w0 w1 w2 ran.written cut);
       session = ran.session;
+      tried = record { middle = holding c; taken = ran.taken; tried = inl refl };
     }
 
 -- These lines were run, and those were cut.
-pub cut_then :
-    (why : RunFault) (xs ys : List (List ℕ)) (b c d : Logged) (f g : List ℕ)
+pub cut_then : {D : Type 0} (state : D → DiskState)
+    (why : RunFault) (xs ys : List (List ℕ)) (b c d : BookView D) (f g : List ℕ)
     (w0 w1 w2 : Option (List ℕ))
-    → Ran xs b c f g w0 w1
-    → Cut why ys c d g w1 w2
-    → Cut why (xs ++ ys) b d f w0 w2
-cut_then why xs ys b c d f g w0 w1 w2 one two =
+    → Ran state xs b c f g w0 w1
+    → Cut state why ys c d g w1 w2
+    → Cut state why (xs ++ ys) b d f w0 w2
+cut_then state why xs ys b c d f g w0 w1 w2 one two =
     let P : List ℕ → Type 0 = λ t. Wrote why t w0 w2 in
-    let s = replies (plain b) xs in
-    let t = replies (plain c) two.ran in
+    let s = replies (plain b.session) xs in
+    let t = replies (plain c.session) two.ran in
     record {
       ran = xs ++ two.ran;
       left = two.left;
@@ -260,12 +298,19 @@ cut_then why xs ys b c d f g w0 w1 w2 one two =
       stopped = two.stopped;
       written =
           subst P
-          (sym (ap (λ x. f ++ x) (replies_then xs two.ran b c one.session)
+          (sym (ap (λ x. f ++ x) (replies_then xs two.ran b.session c.session one.session)
           ∙ sym (append_assoc f s t)
           ∙ ap (λ x. x ++ t) one.replied
           ∙ append_assoc one.out g t))
           (wrote_behind why one.out (g ++ t) w0 w1 w2 one.written two.written);
-      session = logged_then xs two.ran b c d one.session two.session;
+      session = logged_then xs two.ran b.session c.session d.session one.session two.session;
+      tried = record {
+        middle = two.tried.middle;
+        taken =
+            takes_lines state (holding b) (holding c) two.tried.middle xs two.ran one.taken
+            two.tried.taken;
+        tried = two.tried.tried;
+      };
     }
 
 -- Lines behind one that stopped change nothing of that.
@@ -280,16 +325,21 @@ stopped_more fault.InputTooLong left ys h = tt
 stopped_more fault.Output left ys h = tt
 
 -- Lines that were cut are cut, whatever lines are behind them.
-pub cut_more :
-    (why : RunFault) (xs ys : List (List ℕ)) (b c : Logged) (f : List ℕ)
+pub cut_more : {D : Type 0} (state : D → DiskState)
+    (why : RunFault) (xs ys : List (List ℕ)) (b c : BookView D) (f : List ℕ)
     (w0 w1 : Option (List ℕ))
-    → Cut why xs b c f w0 w1
-    → Cut why (xs ++ ys) b c f w0 w1
-cut_more why xs ys b c f w0 w1 h = record {
+    → Cut state why xs b c f w0 w1
+    → Cut state why (xs ++ ys) b c f w0 w1
+cut_more state why xs ys b c f w0 w1 h = record {
   ran = h.ran;
   left = h.left ++ ys;
   lines_are = ap (λ z. z ++ ys) h.lines_are ∙ append_assoc h.ran h.left ys;
   stopped = stopped_more why h.left ys h.stopped;
   written = h.written;
   session = h.session;
+  tried = record {
+    middle = h.tried.middle;
+    taken = h.tried.taken;
+    tried = tries_more state h.tried.middle (holding c) why h.left ys h.tried.tried;
+  };
 }

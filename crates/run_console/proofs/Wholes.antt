@@ -6,15 +6,20 @@ use Rattle.std.proofs.Common.{arith, refl, sym, ap, ◌∙◌, subst, append_ass
 use Rattle.std.proofs.Common.{length-append}
 use Rattle.std.proofs.lemmas.List.{length-take, length-take-le}
 use Rattle.run_model.specs.Session.{Session}
-use Rattle.run_session.specs.Logged.{Logged}
+use Rattle.run_disk.specs.Disk.{DiskState}
+use Rattle.run_book.specs.Views.{BookView, holding}
 use Rattle.console_lines.specs.declared.lines.TheConstants.{LONGEST_INPUT}
 use Rattle.console_lines.specs.declared.faults.RunFault.{RunFault}
 use Rattle.console_lines.specs.declared.faults.RunFault.TheVariants as fault
 use Rattle.console_lines.specs.Lines.{whole_lines, open_line, lines_of}
-use Rattle.console_lines.specs.Script.{after_lines, closing, replies}
+use Rattle.console_lines.specs.Script.{after_lines, closing, replies, steps_of}
 use Rattle.console_lines.specs.Progress.{WritesPart}
 use Rattle.console_lines.proofs.Splits.{whole_lines-append}
 use Rattle.console_lines.proofs.Written.{appends_then, consumes_then}
+use Rattle.run_model.specs.declared.commands.Step.{Step}
+use Rattle.run_model.specs.declared.commands.Step.TheVariants as step
+use Rattle.run_console.specs.Rows.{TakesAll, Tries, next_steps}
+use Rattle.run_console.proofs.Rows.{takes_join, tries_more, tries_next}
 use Rattle.run_console.specs.SessionLines.{plain}
 use Rattle.run_console.specs.Progress.{Cut, EndStops, IsOfLine, IsReached, IsRunStopped, IsStopped}
 use Rattle.run_console.specs.Progress.{IsWritten, PartRan, Ran, ReadsAll, RunStops, RunsAll, Told}
@@ -44,15 +49,15 @@ part_read bytes room old n most total part h few long is within =
     record { len = omega arith; within = omega arith }
 
 -- The input was read to its end.
-pub reads_all :
-    (bytes tail : List ℕ) (b c : Logged) (r0 r1 r2 w0 w1 : Option (List ℕ))
+pub reads_all : {D : Type 0} (state : D → DiskState)
+    (bytes tail : List ℕ) (b c : BookView D) (r0 r1 r2 w0 w1 : Option (List ℕ))
     → Consumes r0 r1 bytes
     → Consumes r1 r2 []
     → IsAtEnd r2
     → length bytes ≤ LONGEST_INPUT
-    → PartRan [] bytes b c tail [] [] w0 w1
-    → ReadsAll b c tail r0 r2 w0 w1
-reads_all bytes tail b c r0 r1 r2 w0 w1 read none ended within part =
+    → PartRan state [] bytes b c tail [] [] w0 w1
+    → ReadsAll state b c tail r0 r2 w0 w1
+reads_all state bytes tail b c r0 r1 r2 w0 w1 read none ended within part =
     let P : List ℕ → Type 0 = λ x. Consumes r0 r2 x in
     record {
       bytes = bytes;
@@ -70,17 +75,19 @@ left_over [] y X e = absurd (omega (arith, ap length e))
 left_over (x ∷ xs) y X e = absurd (omega (arith, ap length e))
 
 -- A fault of reading, behind all lines that an LF ended.
-pub stops_reading :
-    (why : RunFault) (bytes tail : List ℕ) (b c : Logged) (r0 r1 w0 w1 : Option (List ℕ))
+pub stops_reading : {D : Type 0} (state : D → DiskState)
+    (why : RunFault) (bytes tail : List ℕ) (b c : BookView D) (r0 r1 w0 w1 : Option (List ℕ))
     → Consumes r0 r1 bytes
-    → PartRan [] bytes b c tail [] [] w0 w1
+    → PartRan state [] bytes b c tail [] [] w0 w1
     → IsReached why bytes (whole_lines [] bytes)
     → ((left : List (List ℕ)) → untried why left ≡ left)
     → ((left : List (List ℕ)) → IsRunStopped why left)
-    → (Appends w0 w1 (replies (plain b) (whole_lines [] bytes))
-    → IsWritten why (plain b) (whole_lines [] bytes) (open_line [] bytes ∷ []) w0 w1)
-    → RunStops why b c r0 r1 w0 w1
-stops_reading why bytes tail b c r0 r1 w0 w1 read part reached all_left stopped written =
+    → (Appends w0 w1 (replies (plain b.session) (whole_lines [] bytes))
+    → IsWritten why (plain b.session) (whole_lines [] bytes) (open_line [] bytes ∷ []) w0 w1)
+    → ((steps : List Step) → Tries state (holding c) why steps (holding c))
+    → RunStops state why b c r0 r1 w0 w1
+stops_reading state why bytes tail b c r0 r1 w0 w1 read part reached all_left stopped written
+    not_tried =
     let P : List ℕ → Type 0 = λ x. Appends w0 w1 x in
     let ran = part.ran in
     let left = open_line [] bytes ∷ [] in
@@ -94,6 +101,11 @@ stops_reading why bytes tail b c r0 r1 w0 w1 read part reached all_left stopped 
       stopped = stopped left;
       reached = reached;
       session = ran.session;
+      tried = record {
+        middle = holding c;
+        taken = ran.taken;
+        tried = not_tried (next_steps left);
+      };
       written = written (subst P (sym (ran.replied ∙ append-nil ran.out)) ran.written);
     }
 
@@ -149,23 +161,23 @@ untried_more fault.InputTooLong left y X h e = left_over left y X e
 untried_more fault.Output left y X h e = left_over left y X e
 
 -- A line stopped behind some part of the input.
-pub stops_in_a_part :
-    (why : RunFault) (bytes part tail : List ℕ) (b c d : Logged)
+pub stops_in_a_part : {D : Type 0} (state : D → DiskState)
+    (why : RunFault) (bytes part tail : List ℕ) (b c d : BookView D)
     (r0 r1 r2 w0 w1 w2 : Option (List ℕ))
     → IsOfLine why
     → Consumes r0 r1 bytes
     → Consumes r1 r2 part
     → length (bytes ++ part) ≤ LONGEST_INPUT + 1
-    → PartRan [] bytes b c tail [] [] w0 w1
-    → Cut why (whole_lines (open_line [] bytes) part) c d [] w1 w2
-    → RunStops why b d r0 r2 w0 w2
-stops_in_a_part why bytes part tail b c d r0 r1 r2 w0 w1 w2 f read more few so_far cut =
+    → PartRan state [] bytes b c tail [] [] w0 w1
+    → Cut state why (whole_lines (open_line [] bytes) part) c d [] w1 w2
+    → RunStops state why b d r0 r2 w0 w2
+stops_in_a_part state why bytes part tail b c d r0 r1 r2 w0 w1 w2 f read more few so_far cut =
     let all = bytes ++ part in
     let behind = whole_lines (open_line [] bytes) part in
     let last = open_line [] all in
-    let s = plain b in
+    let s = plain b.session in
     let whole =
-    cut_then why (whole_lines [] bytes) behind b c d [] [] w0 w1 w2 so_far.ran cut in
+    cut_then state why (whole_lines [] bytes) behind b c d [] [] w0 w1 w2 so_far.ran cut in
     record {
       bytes = all;
       read = consumes_then r0 r1 r2 bytes part read more;
@@ -178,33 +190,43 @@ stops_in_a_part why bytes part tail b c d r0 r1 r2 w0 w1 w2 f read more few so_f
       stopped = run_stopped why whole.left last whole.stopped;
       reached = reached_in why all whole.ran f few;
       session = whole.session;
+      tried = record {
+        middle = whole.tried.middle;
+        taken = whole.tried.taken;
+        tried =
+            tries_next state whole.tried.middle (holding d) why (whole.left ++ last ∷ [])
+            (tries_more state whole.tried.middle (holding d) why whole.left (last ∷ [])
+            whole.tried.tried);
+      };
       written = written_before why s whole.ran whole.left last w0 w2 whole.written;
     }
 
 -- ---- the end of the input
 
 -- All lines were run.
-pub all_ran :
-    (b c d : Logged) (tail g : List ℕ) (r0 r1 w0 w1 w2 : Option (List ℕ))
-    → (reads : ReadsAll b c tail r0 r1 w0 w1)
-    → Ran (open_line [] reads.bytes ∷ []) c d [] g w1 w2
-    → Ran (lines_of reads.bytes) b d [] g w0 w2
-all_ran b c d tail g r0 r1 w0 w1 w2 reads last =
-    ran_then (whole_lines [] reads.bytes) (open_line [] reads.bytes ∷ []) b c d [] [] g w0 w1 w2
+pub all_ran : {D : Type 0} (state : D → DiskState)
+    (b c d : BookView D) (tail g : List ℕ) (r0 r1 w0 w1 w2 : Option (List ℕ))
+    → (reads : ReadsAll state b c tail r0 r1 w0 w1)
+    → Ran state (open_line [] reads.bytes ∷ []) c d [] g w1 w2
+    → Ran state (lines_of reads.bytes) b d [] g w0 w2
+all_ran state b c d tail g r0 r1 w0 w1 w2 reads last =
+    ran_then state (whole_lines [] reads.bytes) (open_line [] reads.bytes ∷ []) b c d [] [] g w0 w1
+    w2
     reads.part.ran last
 
 -- The closing line was told behind these lines.
-pub end_told :
-    (b d : Logged) (lines : List (List ℕ)) (g : List ℕ) (w0 w2 w3 : Option (List ℕ))
-    → Ran lines b d [] g w0 w2
-    → Told (closing (plain d)) g [] w2 w3
-    → Appends w0 w3 (replies (plain b) lines ++ closing (after_lines (plain b) lines))
-end_told b d lines g w0 w2 w3 ran told =
+pub end_told : {D : Type 0} (state : D → DiskState)
+    (b d : BookView D) (lines : List (List ℕ)) (g : List ℕ) (w0 w2 w3 : Option (List ℕ))
+    → Ran state lines b d [] g w0 w2
+    → Told (closing (plain d.session)) g [] w2 w3
+    → Appends w0 w3 (replies (plain b.session) lines ++ closing
+    (after_lines (plain b.session) lines))
+end_told state b d lines g w0 w2 w3 ran told =
     let P : List ℕ → Type 0 = λ x. Appends w0 w3 x in
-    let end = closing (plain d) in
-    let text : said_of (plain b) lines [] ≡ ran.out ++ told.out =
-    ap (λ t. replies (plain b) lines ++ closing t)
-      (sym (ap plain ran.session ∙ plain_lines b lines))
+    let end = closing (plain d.session) in
+    let text : said_of (plain b.session) lines [] ≡ ran.out ++ told.out =
+    ap (λ t. replies (plain b.session) lines ++ closing t) (sym
+    (ap plain ran.session ∙ plain_lines b.session lines))
     ∙ ap (λ x. x ++ end) ran.replied
     ∙ append_assoc ran.out g end
     ∙ ap (λ x. ran.out ++ x) (told.told ∙ append-nil told.out) in
@@ -230,44 +252,50 @@ reached_end fault.Input end g w2 w3 bytes lines h few = absurd h
 reached_end fault.InputTooLong end g w2 w3 bytes lines h few = absurd h
 
 -- What was written up to there.
-pub end_wrote : (why : RunFault) (b d : Logged) (lines : List (List ℕ)) (g : List ℕ)
+pub end_wrote : {D : Type 0} (state : D → DiskState) (why : RunFault) (b d : BookView D)
+    (lines : List (List ℕ)) (g : List ℕ)
     (w0 w2 w3 : Option (List ℕ))
-    → Ran lines b d [] g w0 w2
-    → EndStops why (closing (plain d)) g w2 w3
-    → IsWritten why (plain b) lines [] w0 w3
-end_wrote fault.Output b d lines g w0 w2 w3 ran h =
+    → Ran state lines b d [] g w0 w2
+    → EndStops why (closing (plain d.session)) g w2 w3
+    → IsWritten why (plain b.session) lines [] w0 w3
+end_wrote state fault.Output b d lines g w0 w2 w3 ran h =
     let P : List ℕ → Type 0 = λ x. WritesPart w0 w3 x in
-    let s = plain b in
-    let end = closing (plain d) in
+    let s = plain b.session in
+    let end = closing (plain d.session) in
     let text : said_of s lines [] ≡ ran.out ++ (g ++ end) =
-    ap (λ t. replies s lines ++ closing t) (sym (ap plain ran.session ∙ plain_lines b lines))
+    ap (λ t. replies s lines ++ closing t) (sym (ap plain ran.session ∙ plain_lines b.session
+    lines))
     ∙ ap (λ x. x ++ end) ran.replied
     ∙ append_assoc ran.out g end in
     subst P (sym text) (part_behind ran.out (g ++ end) w0 w2 w3 ran.written h)
-end_wrote (fault.Store why) b d lines g w0 w2 w3 ran h =
+end_wrote state (fault.Store why) b d lines g w0 w2 w3 ran h =
     let P : List ℕ → Type 0 = λ x. WritesTrouble why x w0 w3 in
     subst P (sym ran.replied) (trouble_behind why ran.out g w0 w2 w3 ran.written h)
-end_wrote fault.Memory b d lines g w0 w2 w3 ran h = absurd h
-end_wrote fault.Input b d lines g w0 w2 w3 ran h = absurd h
-end_wrote fault.InputTooLong b d lines g w0 w2 w3 ran h = absurd h
+end_wrote state fault.Memory b d lines g w0 w2 w3 ran h = absurd h
+end_wrote state fault.Input b d lines g w0 w2 w3 ran h = absurd h
+end_wrote state fault.InputTooLong b d lines g w0 w2 w3 ran h = absurd h
 
 -- The closing line was written behind them.
-pub runs_all :
-    (b c d e : Logged) (tail g : List ℕ) (r0 r1 w0 w1 w2 w3 : Option (List ℕ))
-    → (reads : ReadsAll b c tail r0 r1 w0 w1)
-    → Ran (open_line [] reads.bytes ∷ []) c d [] g w1 w2
-    → e ≡ d
-    → Told (closing (plain d)) g [] w2 w3
-    → RunsAll b e r0 r1 w0 w3
-runs_all b c d e tail g r0 r1 w0 w1 w2 w3 reads last same told =
-    let ran = all_ran b c d tail g r0 r1 w0 w1 w2 reads last in
+pub runs_all : {D : Type 0} (state : D → DiskState)
+    (b c d e : BookView D) (tail g : List ℕ) (r0 r1 w0 w1 w2 w3 : Option (List ℕ))
+    → (reads : ReadsAll state b c tail r0 r1 w0 w1)
+    → Ran state (open_line [] reads.bytes ∷ []) c d [] g w1 w2
+    → e.session ≡ d.session
+    → Told (closing (plain d.session)) g [] w2 w3
+    → TakesAll state (holding d) (step.Flush ∷ []) (holding e)
+    → RunsAll state b e r0 r1 w0 w3
+runs_all state b c d e tail g r0 r1 w0 w1 w2 w3 reads last same told flushed =
+    let ran = all_ran state b c d tail g r0 r1 w0 w1 w2 reads last in
     record {
       bytes = reads.bytes;
       read = reads.read;
       ended = reads.ended;
       within = reads.within;
       session = same ∙ ran.session;
-      written = end_told b d (lines_of reads.bytes) g w0 w2 w3 ran told;
+      taken =
+          takes_join state (holding b) (holding d) (holding e) (steps_of (lines_of reads.bytes))
+          (step.Flush ∷ []) ran.taken flushed;
+      written = end_told state b d (lines_of reads.bytes) g w0 w2 w3 ran told;
     }
 
 -- A line that stopped stops a run.
@@ -298,17 +326,17 @@ written_so fault.Input s ran left w0 w1 h = h
 written_so fault.InputTooLong s ran left w0 w1 h = h
 
 -- The last line stopped.
-pub stops_in_the_last :
-    (why : RunFault) (b c d : Logged) (tail : List ℕ) (r0 r1 w0 w1 w2 : Option (List ℕ))
+pub stops_in_the_last : {D : Type 0} (state : D → DiskState)
+    (why : RunFault) (b c d : BookView D) (tail : List ℕ) (r0 r1 w0 w1 w2 : Option (List ℕ))
     → IsOfLine why
-    → (reads : ReadsAll b c tail r0 r1 w0 w1)
-    → Cut why (open_line [] reads.bytes ∷ []) c d [] w1 w2
-    → RunStops why b d r0 r1 w0 w2
-stops_in_the_last why b c d tail r0 r1 w0 w1 w2 f reads cut =
+    → (reads : ReadsAll state b c tail r0 r1 w0 w1)
+    → Cut state why (open_line [] reads.bytes ∷ []) c d [] w1 w2
+    → RunStops state why b d r0 r1 w0 w2
+stops_in_the_last state why b c d tail r0 r1 w0 w1 w2 f reads cut =
     let bytes = reads.bytes in
     let last = open_line [] bytes in
     let whole =
-    cut_then why (whole_lines [] bytes) (last ∷ []) b c d [] [] w0 w1 w2 reads.part.ran cut in
+    cut_then state why (whole_lines [] bytes) (last ∷ []) b c d [] [] w0 w1 w2 reads.part.ran cut in
     record {
       bytes = bytes;
       read = reads.read;
@@ -319,21 +347,28 @@ stops_in_the_last why b c d tail r0 r1 w0 w1 w2 f reads cut =
       stopped = stopped_so why whole.left whole.stopped;
       reached = reached_in why bytes whole.ran f (omega (arith, reads.within));
       session = whole.session;
-      written = written_so why (plain b) whole.ran whole.left w0 w2 whole.written;
+      tried = record {
+        middle = whole.tried.middle;
+        taken = whole.tried.taken;
+        tried =
+            tries_next state whole.tried.middle (holding d) why whole.left whole.tried.tried;
+      };
+      written = written_so why (plain b.session) whole.ran whole.left w0 w2 whole.written;
     }
 
 -- The last flush stopped, or the writer failed behind it.
-pub stops_closing :
-    (why : RunFault) (b c d e : Logged) (tail g : List ℕ) (r0 r1 w0 w1 w2 w3 : Option (List ℕ))
-    → (reads : ReadsAll b c tail r0 r1 w0 w1)
-    → Ran (open_line [] reads.bytes ∷ []) c d [] g w1 w2
-    → e ≡ d
-    → EndStops why (closing (plain d)) g w2 w3
-    → RunStops why b e r0 r1 w0 w3
-stops_closing why b c d e tail g r0 r1 w0 w1 w2 w3 reads last same end =
+pub stops_closing : {D : Type 0} (state : D → DiskState)
+    (why : RunFault) (b c d e : BookView D) (tail g : List ℕ) (r0 r1 w0 w1 w2 w3 : Option (List ℕ))
+    → (reads : ReadsAll state b c tail r0 r1 w0 w1)
+    → Ran state (open_line [] reads.bytes ∷ []) c d [] g w1 w2
+    → e.session ≡ d.session
+    → EndStops why (closing (plain d.session)) g w2 w3
+    → Tries state (holding d) why (step.Flush ∷ []) (holding e)
+    → RunStops state why b e r0 r1 w0 w3
+stops_closing state why b c d e tail g r0 r1 w0 w1 w2 w3 reads last same end flushed =
     let bytes = reads.bytes in
     let lines = lines_of bytes in
-    let ran = all_ran b c d tail g r0 r1 w0 w1 w2 reads last in
+    let ran = all_ran state b c d tail g r0 r1 w0 w1 w2 reads last in
     record {
       bytes = bytes;
       read = reads.read;
@@ -341,10 +376,11 @@ stops_closing why b c d e tail g r0 r1 w0 w1 w2 w3 reads last same end =
       left = [];
       lines_are = sym (append-nil lines);
       ended = λ _. reads.ended;
-      stopped = end_stops why (closing (plain d)) g w2 w3 end;
+      stopped = end_stops why (closing (plain d.session)) g w2 w3 end;
       reached =
-          reached_end why (closing (plain d)) g w2 w3 bytes lines end
+          reached_end why (closing (plain d.session)) g w2 w3 bytes lines end
           (omega (arith, reads.within));
       session = same ∙ ran.session;
-      written = end_wrote why b d lines g w0 w2 w3 ran end;
+      tried = record { middle = holding d; taken = ran.taken; tried = flushed };
+      written = end_wrote state why b d lines g w0 w2 w3 ran end;
     }

@@ -1,10 +1,15 @@
 -- How far a run came: what was read, which lines were run, and what was written.
-use Rattle.std.specs.Prelude.{◌≡◌, ◌≤◌, ◌⊎◌, ◌+◌, ℕ, List, [], ◌∷◌, ◌++◌, Option, length}
+use Rattle.std.specs.Prelude.{◌≡◌, ◌≤◌, ◌⊎◌, ◌+◌, ℕ, List, [], ◌∷◌, ◌++◌, Option, length, Err}
 use Rattle.std.specs.Io.KnownBytes.{Appends, Consumes, IsAtEnd}
 use Rattle.run_model.specs.declared.faults.Trouble.{Trouble}
 use Rattle.run_model.specs.Session.{Session}
 use Rattle.run_state.specs.Lasting.{Stays}
 use Rattle.run_session.specs.Logged.{Logged}
+use Rattle.run_disk.specs.Disk.{DiskState}
+use Rattle.run_model.specs.declared.commands.Step.TheVariants as step
+use Rattle.book_model.specs.Holdings.{Holding}
+use Rattle.book_model.specs.Steps.{StepsOn, reply_of_save}
+use Rattle.run_book.specs.Views.{BookView, holding}
 use Rattle.console_lines.specs.declared.asked.Asked.TheVariants as asked
 use Rattle.console_lines.specs.declared.lines.TheConstants.{LONGEST_INPUT}
 use Rattle.console_lines.specs.declared.faults.RunFault.{RunFault}
@@ -14,7 +19,8 @@ use Rattle.console_lines.specs.Asked.{asked_of}
 use Rattle.console_lines.specs.Lines.{whole_lines, open_line, lines_of}
 use Rattle.console_lines.specs.Progress.{IsFront, WritesPart, kept}
 use Rattle.console_lines.specs.Replies.{reply_line}
-use Rattle.console_lines.specs.Script.{after_lines, closing, replies, reply, script}
+use Rattle.console_lines.specs.Script.{after_lines, closing, replies, reply, script, steps_of}
+use Rattle.run_console.specs.Rows.{TakesAll, TriesLine, next_steps, first_steps}
 use Rattle.run_console.specs.SessionLines.{IsSaving, plain, logged_after, logged_after_lines}
 
 -- What is done or has ended stays so: each scope that was done is done still, for the same reason
@@ -31,14 +37,18 @@ WritesTrouble why text old new =
 
 -- ---- a whole input, by what the reader had left and what the writer had taken
 
--- The input was read to its end and all of its lines were run, and its script was written.
-pub record RunsAll (b c : Logged) (r0 r1 w0 w1 : Option (List ℕ)) : Type 0 where
+-- The input was read to its end and all of its lines were run, and its script was written: the
+-- steps of its lines were taken, and then the closing flush.
+pub record RunsAll {D : Type 0} (state : D → DiskState) (b c : BookView D)
+    (r0 r1 w0 w1 : Option (List ℕ)) : Type 0 where
   pub bytes : List ℕ
   pub read : Consumes r0 r1 bytes
   pub ended : IsAtEnd r1
   pub within : length bytes ≤ LONGEST_INPUT
-  pub session : c ≡ logged_after_lines b (lines_of bytes)
-  pub written : Appends w0 w1 (script (plain b) bytes)
+  pub session : c.session ≡ logged_after_lines b.session (lines_of bytes)
+  pub taken : TakesAll state (holding b) (steps_of (lines_of bytes) ++ step.Flush ∷ [])
+      (holding c)
+  pub written : Appends w0 w1 (script (plain b.session) bytes)
 
 -- What is replied to the lines that were run; where no line is left, the closing line is behind.
 abbrev pub said_of : Session → (ran left : List (List ℕ)) → List ℕ
@@ -82,10 +92,11 @@ untried (fault.Store why) (line ∷ left) = left
 untried fault.Memory (line ∷ left) = left
 untried _ left = left
 
--- A run stopped: the first lines of what was read were run. The last line, which no LF ends, was
--- tried only where the end of the input was read.
-pub record RunStops
-    (why : RunFault) (b c : Logged) (r0 r1 w0 w1 : Option (List ℕ))
+-- A run stopped: the first lines of what was read were run, their steps taken, and this became of
+-- the next step. The last line, which no LF ends, was tried only where the end of the input was
+-- read.
+pub record RunStops {D : Type 0} (state : D → DiskState)
+    (why : RunFault) (b c : BookView D) (r0 r1 w0 w1 : Option (List ℕ))
     : Type 0 where
   pub bytes : List ℕ
   pub read : Consumes r0 r1 bytes
@@ -95,8 +106,9 @@ pub record RunStops
   pub ended : untried why left ≡ [] → IsAtEnd r1
   pub stopped : IsRunStopped why left
   pub reached : IsReached why bytes ran
-  pub session : c ≡ logged_after_lines b ran
-  pub written : IsWritten why (plain b) ran left w0 w1
+  pub session : c.session ≡ logged_after_lines b.session ran
+  pub tried : TriesLine state (holding b) why ran (next_steps left) (holding c)
+  pub written : IsWritten why (plain b.session) ran left w0 w1
 
 -- What was written of a trouble's line: a front of it where the store stopped the run, else
 -- nothing.
@@ -121,23 +133,30 @@ pub record BeginsScript
 
 -- ---- one line
 
--- A line was run, and its reply was written.
-pub record LineRuns (line : List ℕ) (b c : Logged) (w0 w1 : Option (List ℕ)) : Type 0 where
-  pub session : c ≡ logged_after b line
-  pub written : Appends w0 w1 (reply (plain b) line)
+-- A line was run, its step taken where it asks for one, and its reply was written.
+pub record LineRuns {D : Type 0} (state : D → DiskState) (line : List ℕ) (b c : BookView D)
+    (w0 w1 : Option (List ℕ)) : Type 0 where
+  pub session : c.session ≡ logged_after b.session line
+  pub taken : TakesAll state (holding b) (steps_of (line ∷ [])) (holding c)
+  pub written : Appends w0 w1 (reply (plain b.session) line)
 
 -- A line stopped. Where the writer failed, it was run, and a front of its reply was written, and
--- not all. Where the store failed in a flush or a checkpoint, a front of the trouble's line was
--- written. Where memory was wanting for a tally, nothing was written. Neither of these changes the
--- session.
+-- not all. Where the store failed in a flush or a checkpoint, that is what the step was answered,
+-- and a front of the trouble's line was written. Where memory was wanting for a tally, nothing was
+-- written, and the book is as it was. Neither of these changes the session.
 abbrev pub LineStops :
-    RunFault → List ℕ → Logged → Logged → Option (List ℕ) → Option (List ℕ) → Type 0
-LineStops fault.Output line b c w0 w1 =
-    (c ≡ logged_after b line) × WritesPart w0 w1 (reply (plain b) line)
-LineStops (fault.Store why) line b c w0 w1 =
-    IsSaving (asked_of line) × (c ≡ b) × WritesTrouble why [] w0 w1
-LineStops fault.Memory line b c w0 w1 = (asked_of line ≡ asked.Tally) × (c ≡ b) × Appends w0 w1 []
-LineStops _ line b c w0 w1 = ⊥
+    {D : Type 0} → (D → DiskState) → RunFault → List ℕ → BookView D → BookView D
+    → Option (List ℕ) → Option (List ℕ) → Type 0
+LineStops state fault.Output line b c w0 w1 =
+    (c.session ≡ logged_after b.session line) × WritesPart w0 w1 (reply (plain b.session) line)
+    × TakesAll state (holding b) (steps_of (line ∷ [])) (holding c)
+LineStops state (fault.Store why) line b c w0 w1 =
+    IsSaving (asked_of line) × (c.session ≡ b.session) × WritesTrouble why [] w0 w1
+    × StepsOn state (holding b) (steps_of (line ∷ [])) (reply_of_save (Err why) ∷ []) (holding c)
+LineStops state fault.Memory line b c w0 w1 =
+    (asked_of line ≡ asked.Tally) × (c.session ≡ b.session) × Appends w0 w1 []
+    × (holding c ≡ holding b)
+LineStops state _ line b c w0 w1 = ⊥
 
 -- ---- for private functions: no public contract cites what follows
 
@@ -151,13 +170,14 @@ IsOfLine _ = Unit {0}
 
 -- These lines were run, where `before` was gathered when they came. Of it and of their replies the
 -- first bytes were written, and the rest is gathered.
-pub record Ran
-    (lines : List (List ℕ)) (b c : Logged) (before gathered : List ℕ) (w0 w1 : Option (List ℕ))
+pub record Ran {D : Type 0} (state : D → DiskState)
+    (lines : List (List ℕ)) (b c : BookView D) (before gathered : List ℕ) (w0 w1 : Option (List ℕ))
     : Type 0 where
   pub out : List ℕ
   pub written : Appends w0 w1 out
-  pub replied : before ++ replies (plain b) lines ≡ out ++ gathered
-  pub session : c ≡ logged_after_lines b lines
+  pub replied : before ++ replies (plain b.session) lines ≡ out ++ gathered
+  pub session : c.session ≡ logged_after_lines b.session lines
+  pub taken : TakesAll state (holding b) (steps_of lines) (holding c)
 
 -- What was written of a text, by what stopped: all of it, behind it a front of the line of a
 -- trouble, or, where the writer failed, a front of it and not all.
@@ -168,16 +188,17 @@ Wrote _ text old new = Appends old new text
 
 -- The first of these lines were run, and what was gathered before and their replies were written,
 -- by what stopped the next.
-pub record Cut
-    (why : RunFault) (lines : List (List ℕ)) (b c : Logged) (before : List ℕ)
+pub record Cut {D : Type 0} (state : D → DiskState)
+    (why : RunFault) (lines : List (List ℕ)) (b c : BookView D) (before : List ℕ)
     (w0 w1 : Option (List ℕ))
     : Type 0 where
   pub ran : List (List ℕ)
   pub left : List (List ℕ)
   pub lines_are : lines ≡ ran ++ left
   pub stopped : IsStopped why left
-  pub written : Wrote why (before ++ replies (plain b) ran) w0 w1
-  pub session : c ≡ logged_after_lines b ran
+  pub written : Wrote why (before ++ replies (plain b.session) ran) w0 w1
+  pub session : c.session ≡ logged_after_lines b.session ran
+  pub tried : TriesLine state (holding b) why ran (first_steps left) (holding c)
 
 -- A text went behind what was gathered before: the first bytes were written, and the rest is
 -- gathered.
@@ -211,19 +232,19 @@ EndStops _ end before w0 w1 = ⊥
 -- ---- a part of an input, where `begun` was begun and `before` gathered when it came
 
 -- The lines that an LF ends were run, and of the line that is begun this is kept.
-pub record PartRan
-    (begun part : List ℕ) (b c : Logged) (tail before gathered : List ℕ)
+pub record PartRan {D : Type 0} (state : D → DiskState)
+    (begun part : List ℕ) (b c : BookView D) (tail before gathered : List ℕ)
     (w0 w1 : Option (List ℕ))
     : Type 0 where
-  pub ran : Ran (whole_lines begun part) b c before gathered w0 w1
+  pub ran : Ran state (whole_lines begun part) b c before gathered w0 w1
   pub tail_is : tail ≡ kept (open_line begun part)
 
 -- The input was read to its end, and the lines that an LF ends were run and replied to.
-pub record ReadsAll
-    (b c : Logged) (tail : List ℕ) (r0 r1 w0 w1 : Option (List ℕ))
+pub record ReadsAll {D : Type 0} (state : D → DiskState)
+    (b c : BookView D) (tail : List ℕ) (r0 r1 w0 w1 : Option (List ℕ))
     : Type 0 where
   pub bytes : List ℕ
   pub read : Consumes r0 r1 bytes
   pub ended : IsAtEnd r1
   pub within : length bytes ≤ LONGEST_INPUT
-  pub part : PartRan [] bytes b c tail [] [] w0 w1
+  pub part : PartRan state [] bytes b c tail [] [] w0 w1

@@ -3,16 +3,19 @@ use Rattle.std.specs.Prelude.{◌≡◌, ◌≤◌, ◌<◌, ◌+◌, ◌⊎◌,
 use Rattle.std.specs.Prelude.{length}
 use Rattle.std.specs.Io.KnownBytes.{Appends, Consumes, IsAtEnd}
 use Rattle.run_model.specs.Session.{Session}
-use Rattle.run_session.specs.Logged.{Logged}
-use Rattle.run_book.specs.Views.{BookView}
+use Rattle.run_disk.specs.Disk.{DiskState}
+use Rattle.run_model.specs.declared.commands.Step.TheVariants as step
+use Rattle.run_book.specs.Views.{BookView, holding}
 use Rattle.console_lines.specs.declared.lines.TheConstants.{LONGEST_INPUT}
 use Rattle.console_lines.specs.declared.faults.RunFault.{RunFault}
 use Rattle.console_lines.specs.declared.strays.StrayLine.{StrayLine}
 use Rattle.console_lines.specs.Lines.{whole_lines, open_line, lines_of}
 use Rattle.console_lines.specs.Strict.{stray_from, stray_in, strict_lines, strict_lines_of}
+use Rattle.console_lines.specs.Script.{steps_of}
 use Rattle.console_lines.specs.Strict.{strict_script}
 use Rattle.run_console.specs.Progress.{Cut, IsReached, IsRunStopped, IsWritten, PartRan, Ran}
 use Rattle.run_console.specs.Progress.{ReadsAll, untried}
+use Rattle.run_console.specs.Rows.{TakesAll, TriesLine, next_steps}
 use Rattle.run_console.specs.SessionLines.{plain, logged_after_lines}
 
 -- These lines stand first in what was read, with an LF behind the last of them, and fewer than so
@@ -32,7 +35,7 @@ IsReadFor lines bytes r1 = IsAtEnd r1 ⊎ StandsFirst lines bytes 4096
 -- A strict run came to its end: of what was read the lines up to the first that strays were run,
 -- and the strict script was written. All events are durable. Where no line strays, the input was
 -- read to its end.
-pub record RunsStrictly {D : Type 0}
+pub record RunsStrictly {D : Type 0} (state : D → DiskState)
     (stray : Option StrayLine) (old new : BookView D) (r0 r1 w0 w1 : Option (List ℕ))
     : Type 0 where
   pub bytes : List ℕ
@@ -43,24 +46,27 @@ pub record RunsStrictly {D : Type 0}
   pub within : length bytes ≤ LONGEST_INPUT + 1
   pub session : new.session ≡
       logged_after_lines old.session (strict_lines_of (plain old.session) bytes)
+  pub taken : TakesAll state (holding old)
+      (steps_of (strict_lines_of (plain old.session) bytes) ++ step.Flush ∷ []) (holding new)
   pub written : Appends w0 w1 (strict_script (plain old.session) bytes)
   pub saved : new.durable ≡ new.session.state.count
 
 -- A strict run stopped, as a run does: the first lines up to the first that strays were run, and no
 -- other line was tried.
-pub record StopsStrictly
-    (why : RunFault) (b c : Logged) (r0 r1 w0 w1 : Option (List ℕ))
+pub record StopsStrictly {D : Type 0} (state : D → DiskState)
+    (why : RunFault) (b c : BookView D) (r0 r1 w0 w1 : Option (List ℕ))
     : Type 0 where
   pub bytes : List ℕ
   pub read : Consumes r0 r1 bytes
   pub ran : List (List ℕ)
   pub left : List (List ℕ)
-  pub lines_are : strict_lines_of (plain b) bytes ≡ ran ++ left
+  pub lines_are : strict_lines_of (plain b.session) bytes ≡ ran ++ left
   pub read_for : untried why left ≡ [] → IsReadFor (ran ++ left) bytes r1
   pub stopped : IsRunStopped why left
   pub reached : IsReached why bytes ran
-  pub session : c ≡ logged_after_lines b ran
-  pub written : IsWritten why (plain b) ran left w0 w1
+  pub session : c.session ≡ logged_after_lines b.session ran
+  pub tried : TriesLine state (holding b) why ran (next_steps left) (holding c)
+  pub written : IsWritten why (plain b.session) ran left w0 w1
 
 -- ---- for private functions: no public contract cites what follows
 
@@ -81,69 +87,71 @@ abbrev pub lines_to : (begun front : List ℕ) → List (List ℕ)
 lines_to begun front = whole_lines begun front ++ open_line begun front ∷ []
 
 -- A part was run up to the line that strays, where its first line has the number n.
-pub record PartStrays
-    (stray : StrayLine) (n : ℕ) (begun part : List ℕ) (b c : Logged)
+pub record PartStrays {D : Type 0} (state : D → DiskState)
+    (stray : StrayLine) (n : ℕ) (begun part : List ℕ) (b c : BookView D)
     (before gathered : List ℕ) (w0 w1 : Option (List ℕ))
     : Type 0 where
   pub front : List ℕ
   pub behind : List ℕ
   pub part_is : part ≡ front ++ 10 ∷ behind
-  pub ran : Ran (lines_to begun front) b c before gathered w0 w1
-  pub found : Found n (plain b) (lines_to begun front) stray
+  pub ran : Ran state (lines_to begun front) b c before gathered w0 w1
+  pub found : Found n (plain b.session) (lines_to begun front) stray
 
 -- No line of it strays, and all were run.
-pub record PartClean
-    (n m : ℕ) (begun part : List ℕ) (b c : Logged) (tail before gathered : List ℕ)
+pub record PartClean {D : Type 0} (state : D → DiskState)
+    (n m : ℕ) (begun part : List ℕ) (b c : BookView D) (tail before gathered : List ℕ)
     (w0 w1 : Option (List ℕ))
     : Type 0 where
-  pub runs : PartRan begun part b c tail before gathered w0 w1
-  pub clean : Clean n m (plain b) (whole_lines begun part)
+  pub runs : PartRan state begun part b c tail before gathered w0 w1
+  pub clean : Clean n m (plain b.session) (whole_lines begun part)
 
 -- One of both.
 abbrev pub PartRuns :
-    Option StrayLine → (n m : ℕ) → (begun part : List ℕ) → (b c : Logged)
+    {D : Type 0} → (D → DiskState) → Option StrayLine → (n m : ℕ) → (begun part : List ℕ) →
+    (b c : BookView D)
     → (tail before gathered : List ℕ) → (w0 w1 : Option (List ℕ)) → Type 0
-PartRuns None n m begun part b c tail before gathered w0 w1 =
-    PartClean n m begun part b c tail before gathered w0 w1
-PartRuns (Some stray) n m begun part b c tail before gathered w0 w1 =
-    PartStrays stray n begun part b c before gathered w0 w1
+PartRuns state None n m begun part b c tail before gathered w0 w1 =
+    PartClean state n m begun part b c tail before gathered w0 w1
+PartRuns state (Some stray) n m begun part b c tail before gathered w0 w1 =
+    PartStrays state stray n begun part b c before gathered w0 w1
 
 -- A line of a part stopped, and none before it strays.
-pub record PartCut
-    (why : RunFault) (n : ℕ) (begun part : List ℕ) (b c : Logged) (before : List ℕ)
+pub record PartCut {D : Type 0} (state : D → DiskState)
+    (why : RunFault) (n : ℕ) (begun part : List ℕ) (b c : BookView D) (before : List ℕ)
     (w0 w1 : Option (List ℕ))
     : Type 0 where
   pub front : List ℕ
   pub behind : List ℕ
   pub part_is : part ≡ front ++ 10 ∷ behind
-  pub none : stray_from n (plain b) (whole_lines begun front) ≡ None
-  pub cut : Cut why (lines_to begun front) b c before w0 w1
+  pub none : stray_from n (plain b.session) (whole_lines begun front) ≡ None
+  pub cut : Cut state why (lines_to begun front) b c before w0 w1
 
 -- The input was read to its end, and no line that an LF ends strays.
-pub record ReadsClean
-    (m : ℕ) (b c : Logged) (tail : List ℕ) (r0 r1 w0 w1 : Option (List ℕ))
+pub record ReadsClean {D : Type 0} (state : D → DiskState)
+    (m : ℕ) (b c : BookView D) (tail : List ℕ) (r0 r1 w0 w1 : Option (List ℕ))
     : Type 0 where
-  pub reads : ReadsAll b c tail r0 r1 w0 w1
-  pub clean : Clean 1 m (plain b) (whole_lines [] reads.bytes)
+  pub reads : ReadsAll state b c tail r0 r1 w0 w1
+  pub clean : Clean 1 m (plain b.session) (whole_lines [] reads.bytes)
 
 -- The lines of a strict run were run, and their replies written or gathered.
-pub record RanStrictly
-    (stray : Option StrayLine) (b c : Logged) (gathered : List ℕ)
+pub record RanStrictly {D : Type 0} (state : D → DiskState)
+    (stray : Option StrayLine) (b c : BookView D) (gathered : List ℕ)
     (r0 r1 w0 w1 : Option (List ℕ))
     : Type 0 where
   pub bytes : List ℕ
   pub read : Consumes r0 r1 bytes
-  pub stray_is : stray ≡ stray_in (plain b) bytes
-  pub read_for : IsReadFor (strict_lines_of (plain b) bytes) bytes r1
+  pub stray_is : stray ≡ stray_in (plain b.session) bytes
+  pub read_for : IsReadFor (strict_lines_of (plain b.session) bytes) bytes r1
   pub ended : stray ≡ None → IsAtEnd r1 × (length bytes ≤ LONGEST_INPUT)
   pub within : length bytes ≤ LONGEST_INPUT + 1
-  pub ran : Ran (strict_lines_of (plain b) bytes) b c [] gathered w0 w1
+  pub ran : Ran state (strict_lines_of (plain b.session) bytes) b c [] gathered w0 w1
 
 -- They were up to the line that strays; else all but the last of the input were.
 abbrev pub ReadsStrictly :
-    Option StrayLine → (m : ℕ) → (b c : Logged) → (tail gathered : List ℕ)
+    {D : Type 0} → (D → DiskState) → Option StrayLine → (m : ℕ) → (b c : BookView D) →
+    (tail gathered : List ℕ)
     → (r0 r1 w0 w1 : Option (List ℕ)) → Type 0
-ReadsStrictly None m b c tail gathered r0 r1 w0 w1 =
-    ReadsClean m b c tail r0 r1 w0 w1 × (gathered ≡ [])
-ReadsStrictly (Some stray) m b c tail gathered r0 r1 w0 w1 =
-    RanStrictly (Some stray) b c gathered r0 r1 w0 w1
+ReadsStrictly state None m b c tail gathered r0 r1 w0 w1 =
+    ReadsClean state m b c tail r0 r1 w0 w1 × (gathered ≡ [])
+ReadsStrictly state (Some stray) m b c tail gathered r0 r1 w0 w1 =
+    RanStrictly state (Some stray) b c gathered r0 r1 w0 w1

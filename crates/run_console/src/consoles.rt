@@ -5,6 +5,7 @@ ghost use Rattle.std.specs.Prelude.{IfOk};
 ghost use Rattle.std.specs.Option.{option_to_list};
 ghost use Rattle.book_model.specs.Holdings.{CarriesOn};
 ghost use Rattle.run_book.specs.Views.{holding};
+ghost use Rattle.run_model.specs.declared.commands.Step.TheVariants as step;
 ghost use Rattle.run_model.specs.declared.faults.Trouble.TheVariants.{Refused};
 ghost use Rattle.run_model.specs.declared.refusals.Refusal.TheVariants.{Broken};
 ghost use Rattle.console_lines.specs.Asked.{asked_of};
@@ -12,6 +13,7 @@ ghost use Rattle.console_lines.specs.Script.{closing};
 ghost use Rattle.console_lines.specs.Strict.{stray_among, stray_at};
 ghost use Rattle.run_console.specs.Progress.{BeginsScript, Cut, EndStops, IsOfLine, Lasts};
 ghost use Rattle.run_console.specs.Progress.{LineRuns, LineStops, Ran, RunStops, RunsAll, Told};
+ghost use Rattle.run_console.specs.Rows.{TakesAll, Tries};
 ghost use Rattle.run_console.specs.SessionLines.{IsSaving, is_tally, plain};
 ghost use Rattle.run_console.specs.Troubles.{Accounts};
 
@@ -48,11 +50,11 @@ pub fn run<A: Allocator + Copy, R: Read, W: Write, D: RunDisk, B: Allocator>(
     output: &mut W,
     book: &mut Book<D, B>,
 ) -> Result<(), RunFault>
-    ensures all { OnOk result (RunsAll book.old.session book.new.session
+    ensures all { OnOk result (RunsAll D.state book.old book.new
         (R.remaining input.old) (R.remaining input.new)
         (W.contents output.old) (W.contents output.new)) }
     ensures stops { book.old.journal.broken ≡ false
-        → IfErr result (λ fault. RunStops fault book.old.session book.new.session
+        → IfErr result (λ fault. RunStops D.state fault book.old book.new
         (R.remaining input.old) (R.remaining input.new)
         (W.contents output.old) (W.contents output.new)) }
     ensures begins { book.old.journal.broken ≡ false
@@ -88,10 +90,10 @@ pub fn line<A: Allocator + Copy, W: Write, D: RunDisk, B: Allocator>(
     output: &mut W,
     book: &mut Book<D, B>,
 ) -> Result<(), RunFault>
-    ensures runs { OnOk result (LineRuns bytes.now book.old.session book.new.session
+    ensures runs { OnOk result (LineRuns D.state bytes.now book.old book.new
         (W.contents output.old) (W.contents output.new)) }
     ensures stops { book.old.journal.broken ≡ false
-        → IfErr result (λ fault. LineStops fault bytes.now book.old.session book.new.session
+        → IfErr result (λ fault. LineStops D.state fault bytes.now book.old book.new
         (W.contents output.old) (W.contents output.new)) }
     ensures accounts { book.old.journal.broken ≡ false → IfErr result (λ fault.
         Accounts D.state (holding book.old) fault (holding book.new)) }
@@ -120,10 +122,10 @@ fn run_sound<A: Allocator + Copy, R: Read, W: Write, D: RunDisk, B: Allocator>(
     book: &mut Book<D, B>,
 ) -> Result<(), RunFault>
     requires sound { book.old.journal.broken ≡ false }
-    ensures all { OnOk result (RunsAll book.old.session book.new.session
+    ensures all { OnOk result (RunsAll D.state book.old book.new
         (R.remaining input.old) (R.remaining input.new)
         (W.contents output.old) (W.contents output.new)) }
-    ensures stops { IfErr result (λ fault. RunStops fault book.old.session book.new.session
+    ensures stops { IfErr result (λ fault. RunStops D.state fault book.old book.new
         (R.remaining input.old) (R.remaining input.new)
         (W.contents output.old) (W.contents output.new)) }
     ensures accounts { IfErr result (λ fault.
@@ -152,6 +154,10 @@ pub fn close<W: Write, D: RunDisk, B: Allocator>(
         (closing (plain book.old.session)) gathered.old.items
         (W.contents output.old) (W.contents output.new)) }
     ensures session { book.new.session ≡ book.old.session }
+    ensures taken { OnOk result (TakesAll D.state (holding book.old) (step.Flush ∷ [])
+        (holding book.new)) }
+    ensures tried { IfErr result (λ fault. Tries D.state (holding book.old) fault
+        (step.Flush ∷ []) (holding book.new)) }
     ensures accounts { IfErr result (λ fault.
         Accounts D.state (holding book.old) fault (holding book.new)) }
     ensures saved { OnOk result (book.new.durable ≡ book.new.session.state.count) }
@@ -179,11 +185,11 @@ pub fn gather_line<A: Allocator + Copy, W: Write, D: RunDisk, B: Allocator>(
 ) -> Result<Option<Stray>, RunFault>
     requires sound { book.old.journal.broken ≡ false }
     ensures ran { (line : List ℕ) → asked_of line ≡ asked_of bytes.now
-        → OnOk result (Ran (line ∷ []) book.old.session book.new.session
+        → OnOk result (Ran D.state (line ∷ []) book.old book.new
         gathered.old.items gathered.new.items
         (W.contents output.old) (W.contents output.new)) }
     ensures cut { (line : List ℕ) → asked_of line ≡ asked_of bytes.now
-        → IfErr result (λ fault. Cut fault (line ∷ []) book.old.session book.new.session
+        → IfErr result (λ fault. Cut D.state fault (line ∷ []) book.old book.new
         gathered.old.items (W.contents output.old) (W.contents output.new)) }
     ensures strays { (line : List ℕ) → asked_of line ≡ asked_of bytes.now
         → IfOk result (λ why. why ≡ stray_at (plain book.old.session) line) }

@@ -44,10 +44,10 @@ pub fn run_whole_lines<A: Allocator + Copy, R: Read, W: Write, D: RunDisk, B: Al
     requires tail { tail.old.items ≡ [] }
     requires gathered { gathered.old.items ≡ [] }
     requires sound { book.old.journal.broken ≡ false }
-    ensures read { OnOk result (ReadsAll book.old.session book.new.session tail.new.items
+    ensures read { OnOk result (ReadsAll D.state book.old book.new tail.new.items
         (R.remaining input.old) (R.remaining input.new)
         (W.contents output.old) (W.contents output.new)) }
-    ensures stops { IfErr result (λ fault. RunStops fault book.old.session book.new.session
+    ensures stops { IfErr result (λ fault. RunStops D.state fault book.old book.new
         (R.remaining input.old) (R.remaining input.new)
         (W.contents output.old) (W.contents output.new)) }
     ensures none { OnOk result (gathered.new.items ≡ []) }
@@ -85,12 +85,12 @@ fn run_part<A: Allocator + Copy, W: Write, D: RunDisk, B: Allocator>(
 ) -> Result<(), RunFault>
     requires sound { book.old.journal.broken ≡ false }
     ensures ran { (begun : List ℕ) → tail.old.items ≡ kept begun
-        → OnOk result (PartRan begun part.now book.old.session book.new.session tail.new.items
+        → OnOk result (PartRan D.state begun part.now book.old book.new tail.new.items
         gathered.old.items gathered.new.items
         (W.contents output.old) (W.contents output.new)) }
     ensures cut { (begun : List ℕ) → tail.old.items ≡ kept begun
-        → IfErr result (λ fault. Cut fault (whole_lines begun part.now)
-        book.old.session book.new.session gathered.old.items
+        → IfErr result (λ fault. Cut D.state fault (whole_lines begun part.now)
+        book.old book.new gathered.old.items
         (W.contents output.old) (W.contents output.new)) }
     ensures fault { IfErr result IsOfLine }
     ensures accounts { IfErr result (λ fault.

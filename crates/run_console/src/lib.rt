@@ -11,6 +11,7 @@ mod crews;
 mod faults;
 mod inputs;
 mod inspects;
+pub mod laws;
 mod stricts;
 mod tallies;
 mod writings;

@@ -40,11 +40,11 @@ pub fn run_strict<A: Allocator + Copy, R: Read, W: Write, D: RunDisk, B: Allocat
     output: &mut W,
     book: &mut Book<D, B>,
 ) -> Result<Option<StrayLine>, RunFault>
-    ensures runs { IfOk result (λ stray. RunsStrictly stray book.old book.new
+    ensures runs { IfOk result (λ stray. RunsStrictly D.state stray book.old book.new
         (R.remaining input.old) (R.remaining input.new)
         (W.contents output.old) (W.contents output.new)) }
     ensures stops { book.old.journal.broken ≡ false
-        → IfErr result (λ fault. StopsStrictly fault book.old.session book.new.session
+        → IfErr result (λ fault. StopsStrictly D.state fault book.old book.new
         (R.remaining input.old) (R.remaining input.new)
         (W.contents output.old) (W.contents output.new)) }
     ensures accounts { book.old.journal.broken ≡ false → IfErr result (λ fault.
@@ -70,10 +70,10 @@ fn run_sound<A: Allocator + Copy, R: Read, W: Write, D: RunDisk, B: Allocator>(
     book: &mut Book<D, B>,
 ) -> Result<Option<StrayLine>, RunFault>
     requires sound { book.old.journal.broken ≡ false }
-    ensures runs { IfOk result (λ stray. RunsStrictly stray book.old book.new
+    ensures runs { IfOk result (λ stray. RunsStrictly D.state stray book.old book.new
         (R.remaining input.old) (R.remaining input.new)
         (W.contents output.old) (W.contents output.new)) }
-    ensures stops { IfErr result (λ fault. StopsStrictly fault book.old.session book.new.session
+    ensures stops { IfErr result (λ fault. StopsStrictly D.state fault book.old book.new
         (R.remaining input.old) (R.remaining input.new)
         (W.contents output.old) (W.contents output.new)) }
     ensures accounts { IfErr result (λ fault.
@@ -98,10 +98,10 @@ fn run_lines<A: Allocator + Copy, R: Read, W: Write, D: RunDisk, B: Allocator>(
 ) -> Result<Option<StrayLine>, RunFault>
     requires gathered { gathered.old.items ≡ [] }
     requires sound { book.old.journal.broken ≡ false }
-    ensures ran { IfOk result (λ stray. RanStrictly stray book.old.session book.new.session
+    ensures ran { IfOk result (λ stray. RanStrictly D.state stray book.old book.new
         gathered.new.items (R.remaining input.old) (R.remaining input.new)
         (W.contents output.old) (W.contents output.new)) }
-    ensures stops { IfErr result (λ fault. StopsStrictly fault book.old.session book.new.session
+    ensures stops { IfErr result (λ fault. StopsStrictly D.state fault book.old book.new
         (R.remaining input.old) (R.remaining input.new)
         (W.contents output.old) (W.contents output.new)) }
     ensures accounts { IfErr result (λ fault.
@@ -137,11 +137,11 @@ fn run_whole_lines<A: Allocator + Copy, R: Read, W: Write, D: RunDisk, B: Alloca
     requires number { number.old ≡ 1 }
     requires gathered { gathered.old.items ≡ [] }
     requires sound { book.old.journal.broken ≡ false }
-    ensures read { IfOk result (λ stray. ReadsStrictly stray number.new
-        book.old.session book.new.session tail.new.items gathered.new.items
+    ensures read { IfOk result (λ stray. ReadsStrictly D.state stray number.new
+        book.old book.new tail.new.items gathered.new.items
         (R.remaining input.old) (R.remaining input.new)
         (W.contents output.old) (W.contents output.new)) }
-    ensures stops { IfErr result (λ fault. StopsStrictly fault book.old.session book.new.session
+    ensures stops { IfErr result (λ fault. StopsStrictly D.state fault book.old book.new
         (R.remaining input.old) (R.remaining input.new)
         (W.contents output.old) (W.contents output.new)) }
     ensures accounts { IfErr result (λ fault.
@@ -183,13 +183,13 @@ fn run_part<A: Allocator + Copy, W: Write, D: RunDisk, B: Allocator>(
     requires number { number.old + length part.now < 2 ^ 64 }
     requires sound { book.old.journal.broken ≡ false }
     ensures ran { (begun : List ℕ) → tail.old.items ≡ kept begun
-        → IfOk result (λ stray. PartRuns stray number.old number.new begun part.now
-        book.old.session book.new.session tail.new.items
+        → IfOk result (λ stray. PartRuns D.state stray number.old number.new begun part.now
+        book.old book.new tail.new.items
         gathered.old.items gathered.new.items
         (W.contents output.old) (W.contents output.new)) }
     ensures cut { (begun : List ℕ) → tail.old.items ≡ kept begun
-        → IfErr result (λ fault. PartCut fault number.old begun part.now
-        book.old.session book.new.session gathered.old.items
+        → IfErr result (λ fault. PartCut D.state fault number.old begun part.now
+        book.old book.new gathered.old.items
         (W.contents output.old) (W.contents output.new)) }
     ensures fault { IfErr result IsOfLine }
     ensures accounts { IfErr result (λ fault.

@@ -25,13 +25,14 @@ impl<D: RunDisk, A: Allocator> Book<D, A> {
     {
         let _durable = self.durable();
         for step in steps {
-            let reply = self.answer(step);
+            let reply = self.step(step);
             replies.push_reserved(reply);
         }
     }
 
-    /// Takes one step.
-    fn answer(&mut self, step: &Step) -> Reply
+    /// Takes one step, as the call of its name does, and answers as that call. A broken book refuses
+    /// it as `Broken`.
+    pub fn step(&mut self, step: &Step) -> Reply
         ensures answers { AnswersStep D.state (holding self.old) step.now result
             (holding self.new) }
         ensures carries_on { CarriesOn D.state (holding self.old) (holding self.new) }

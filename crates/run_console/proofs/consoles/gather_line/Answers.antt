@@ -1,6 +1,6 @@
-use Rattle.std.specs.Prelude.{◌≡◌, ◌++◌, true, map}
+use Rattle.std.specs.Prelude.{◌≡◌, ◌∷◌, ◌++◌, [], Err, true, map}
 use Rattle.std.specs.Option.{option_to_list}
-use Rattle.std.proofs.Common.{ℕ, List, refl, sym, subst, ap, ◌∙◌}
+use Rattle.std.proofs.Common.{ℕ, List, inl, refl, sym, subst, ap, ◌∙◌}
 use Rattle.std.proofs.lemmas.Result.{err_from_is_err_and}
 use Rattle.run_model.specs.State.{State}
 use Rattle.run_model.specs.Session.{Session}
@@ -17,6 +17,9 @@ use Rattle.run_console.proofs.Ends.{cut_stopped, of_line, of_tally, told_more}
 use Rattle.run_console.proofs.LineSteps.{line_obeyed, line_replies, line_strays, line_tally}
 use Rattle.run_console.proofs.LineSteps.{saves_no_tally, tally_asked, tally_leaves, tally_stays}
 use Rattle.run_console.proofs.Lines.{cut_before, cut_untold, ran_line}
+use Rattle.book_model.specs.Steps.{StepsOn, reply_of_save}
+use Rattle.run_console.specs.Rows.{TakesAll, steps_asked}
+use Rattle.run_console.proofs.Rows.{takes_none, takes_tally}
 use Rattle.run_console.proofs.consoles.gather_line.Goals as goal
 use Rattle.run_book.specs.Views.{holding}
 use Rattle.run_console.proofs.Troubles.{accounts_sound, accounts_told, accounts_untold}
@@ -35,17 +38,21 @@ tallied s p line a same read tally =
 
 pub returns-then-is_tally-clause-ran : goal.returns-then-is_tally-clause-ran
 returns-then-is_tally-clause-ran g c = λ line e.
-    let b = c.args.book.now.session in
+    let b = c.args.book.now in
     let w0 = g.W.Write.contents c.args.output.now in
     let w1 = g.W.Write.contents c.gather_tally.new.output in
     let f = c.args.gathered.now.items in
     let h = c.gather_tally.new.gathered.items in
     let read = c.read_line-asked.ensures ∙ sym e in
     let P : List ℕ → Type 0 = λ t. Told t f h w0 w1 in
-    ran_line line b b f h w0 w1
-    (tally_leaves b line c.read_line-asked.result read (sym c.is_tally.ensures ∙ c.if-is_tally.true))
-    (subst P (tallied (plain b) c.state.result.now line c.read_line-asked.result
-    c.state.ensures.state read (sym c.is_tally.ensures ∙ c.if-is_tally.true)) c.in_ok-gather_tally.ensures.told)
+    ran_line g.D.RunDisk.state line b b f h w0 w1
+    (tally_leaves b.session line c.read_line-asked.result read
+    (sym c.is_tally.ensures ∙ c.if-is_tally.true))
+    (takes_tally g.D.RunDisk.state (holding b) line (tally_asked line c.read_line-asked.result read
+    (sym c.is_tally.ensures ∙ c.if-is_tally.true)))
+    (subst P (tallied (plain b.session) c.state.result.now line c.read_line-asked.result
+    c.state.ensures.state read (sym c.is_tally.ensures ∙ c.if-is_tally.true))
+    c.in_ok-gather_tally.ensures.told)
 
 pub returns-then-is_tally-clause-strays : goal.returns-then-is_tally-clause-strays
 returns-then-is_tally-clause-strays g c = λ line e.
@@ -55,17 +62,19 @@ returns-then-is_tally-clause-strays g c = λ line e.
 pub returns-in_err-gather_tally-clause-cut : goal.returns-in_err-gather_tally-clause-cut
 returns-in_err-gather_tally-clause-cut g c = λ line e.
     let p = err_from_is_err_and c.from_residual.result c.from_residual.ensures.1 in
-    let b = c.args.book.now.session in
+    let b = c.args.book.now in
     let w0 = g.W.Write.contents c.args.output.now in
     let w1 = g.W.Write.contents c.gather_tally.new.output in
     let f = c.args.gathered.now.items in
     let why = c.in_err-gather_tally.field-0.0 in
     let read = c.read_line-asked.ensures ∙ sym e in
     rw (p.1, p.2) (
-    cut_untold why line b b f w0 w1
-    (tally_asked line c.read_line-asked.result read (sym c.is_tally.ensures ∙ c.if-is_tally.true)) refl
-    (tally_leaves b line c.read_line-asked.result read (sym c.is_tally.ensures ∙ c.if-is_tally.true))
-    (subst (λ t. Untold why t f w0 w1) (tallied (plain b) c.state.result.now line c.read_line-asked.result
+    cut_untold g.D.RunDisk.state why line b f w0 w1
+    (tally_asked line c.read_line-asked.result read (sym c.is_tally.ensures ∙ c.if-is_tally.true))
+    (tally_leaves b.session line c.read_line-asked.result read
+    (sym c.is_tally.ensures ∙ c.if-is_tally.true))
+    (subst (λ t. Untold why t f w0 w1) (tallied (plain b.session) c.state.result.now line
+    c.read_line-asked.result
     c.state.ensures.state read (sym c.is_tally.ensures ∙ c.if-is_tally.true))
     c.in_err-gather_tally.ensures.untold))
 
@@ -95,10 +104,16 @@ pub returns-in_err-make_room-clause-cut : goal.returns-in_err-make_room-clause-c
 returns-in_err-make_room-clause-cut g c = λ line e.
     let p = err_from_is_err_and c.from_residual-in_err-make_room.result
     c.from_residual-in_err-make_room.ensures.1 in
-    let b = c.args.book.now.session in
+    let b = c.args.book.now in
     rw (p.1, p.2, c.in_err-make_room.ensures.fault) (
-    cut_before line b b c.args.gathered.now.items (g.W.Write.contents c.args.output.now)
-    (g.W.Write.contents c.make_room.new.output) refl c.in_err-make_room.ensures.cut)
+    cut_before g.D.RunDisk.state line b b c.args.gathered.now.items
+    (g.W.Write.contents c.args.output.now)
+    (g.W.Write.contents c.make_room.new.output) refl
+    (record {
+      middle = holding b;
+      taken = takes_none g.D.RunDisk.state (holding b);
+      tried = inl refl;
+    }) c.in_err-make_room.ensures.cut)
 
 pub returns-in_err-make_room-clause-lasts : goal.returns-in_err-make_room-clause-lasts
 returns-in_err-make_room-clause-lasts g c = stays_same c.args.book.now.session.state
@@ -108,11 +123,14 @@ returns-in_err-make_room-clause-lasts g c = stays_same c.args.book.now.session.s
 pub returns-in-Err-clause-cut : goal.returns-in-Err-clause-cut
 returns-in-Err-clause-cut g c = λ line e.
     let read = c.read_line-asked.ensures ∙ sym e in
-    cut_stopped c.stop.result c.in-Err.trouble line c.args.book.now.session
-    c.reply_to.new.book.session c.args.gathered.now.items c.make_room.new.gathered.items
+    cut_stopped g.D.RunDisk.state c.stop.result c.in-Err.trouble line c.args.book.now
+    c.reply_to.new.book c.args.gathered.now.items c.make_room.new.gathered.items
     (g.W.Write.contents c.args.output.now) (g.W.Write.contents c.make_room.new.output)
     (g.W.Write.contents c.stop.new.output)
     (subst IsSaving read c.in-Err.ensures.saving) c.in-Err.ensures.kept
+    (subst (λ (a : Asked). StepsOn g.D.RunDisk.state (holding c.args.book.now) (steps_asked a)
+    (reply_of_save (Err c.in-Err.trouble) ∷ []) (holding c.reply_to.new.book)) read
+    c.in-Err.ensures.tried)
     c.in_ok-make_room.ensures.told c.stop.ensures
 
 pub returns-in-Err-clause-fault : goal.returns-in-Err-clause-fault
@@ -125,8 +143,8 @@ returns-in-Err-clause-fault g c =
 
 pub returns-in-Ok-clause-ran : goal.returns-in-Ok-clause-ran
 returns-in-Ok-clause-ran g c = λ line e.
-    let b = c.args.book.now.session in
-    let d = c.reply_to.new.book.session in
+    let b = c.args.book.now in
+    let d = c.reply_to.new.book in
     let f = c.args.gathered.now.items in
     let m = c.make_room.new.gathered.items in
     let h = c.gather_reply.new.gathered.items in
@@ -134,11 +152,15 @@ returns-in-Ok-clause-ran g c = λ line e.
     let w1 = g.W.Write.contents c.make_room.new.output in
     let a = c.read_line-asked.result in
     let read = c.read_line-asked.ensures ∙ sym e in
-    ran_line line b d f h w0 w1 (line_obeyed b d line a read c.in-Ok.ensures.session)
-    (told_more (reply (plain b) line) f m h w0 w1 c.in_ok-make_room.ensures.told
+    ran_line g.D.RunDisk.state line b d f h w0 w1 (line_obeyed b.session d.session line a read
+    c.in-Ok.ensures.session)
+    (subst (λ (q : Asked). TakesAll g.D.RunDisk.state (holding b) (steps_asked q) (holding d)) read
+    c.in-Ok.ensures.taken)
+    (told_more (reply (plain b.session) line) f m h w0 w1 c.in_ok-make_room.ensures.told
     (c.gather_reply.ensures
     ∙ ap (λ t. m ++ t)
-    (line_replies (plain b) line a (option_to_list c.in-Ok.reply) read c.in-Ok.ensures.reply)))
+    (line_replies (plain b.session) line a (option_to_list c.in-Ok.reply) read
+    c.in-Ok.ensures.reply)))
 
 pub returns-in-Ok-clause-strays : goal.returns-in-Ok-clause-strays
 returns-in-Ok-clause-strays g c = λ line e.

@@ -15,23 +15,23 @@ pub returns-in_err-gather_line-clause-stops : goal.returns-in_err-gather_line-cl
 returns-in_err-gather_line-clause-stops g c = λ sound.
     let p = err_from_is_err_and c.from_residual.result c.from_residual.ensures.1 in
     rw (p.1, p.2) (
-    line_stops c.args.bytes.now c.args.book.now.session c.gather_line.new.book.session
+    line_stops g.D.RunDisk.state c.args.bytes.now c.args.book.now c.gather_line.new.book
     (g.W.Write.contents c.args.output.now) (g.W.Write.contents c.gather_line.new.output)
     c.in_err-gather_line.field-0.0 c.in_err-gather_line.ensures.fault
-    (subst (λ f. Cut c.in_err-gather_line.field-0.0 (c.args.bytes.now ∷ [])
-    c.args.book.now.session c.gather_line.new.book.session f
+    (subst (λ f. Cut g.D.RunDisk.state c.in_err-gather_line.field-0.0 (c.args.bytes.now ∷ [])
+    c.args.book.now c.gather_line.new.book f
     (g.W.Write.contents c.args.output.now) (g.W.Write.contents c.gather_line.new.output))
     c.new-gathered.ensures (c.in_err-gather_line.ensures.cut c.args.bytes.now refl)))
 
 pub returns-clause-runs : goal.returns-clause-runs
 returns-clause-runs g c =
     on_ok_weaker c.write_gathered.result
-    (λ h. line_runs c.args.bytes.now c.args.book.now.session c.gather_line.new.book.session
+    (λ h. line_runs g.D.RunDisk.state c.args.bytes.now c.args.book.now c.gather_line.new.book
     c.gather_line.new.gathered.items (g.W.Write.contents c.args.output.now)
     (g.W.Write.contents c.gather_line.new.output)
     (g.W.Write.contents c.write_gathered.new.output)
-    (subst (λ f. Ran (c.args.bytes.now ∷ [])
-    c.args.book.now.session c.gather_line.new.book.session f c.gather_line.new.gathered.items
+    (subst (λ f. Ran g.D.RunDisk.state (c.args.bytes.now ∷ [])
+    c.args.book.now c.gather_line.new.book f c.gather_line.new.gathered.items
     (g.W.Write.contents c.args.output.now) (g.W.Write.contents c.gather_line.new.output))
     c.new-gathered.ensures (c.in_ok-gather_line.ensures.ran c.args.bytes.now refl)) h)
     c.write_gathered.ensures.whole
@@ -39,16 +39,16 @@ returns-clause-runs g c =
 pub returns-clause-stops : goal.returns-clause-stops
 returns-clause-stops g c = λ sound.
     let line = c.args.bytes.now in
-    let b = c.args.book.now.session in
-    let d = c.gather_line.new.book.session in
+    let b = c.args.book.now in
+    let d = c.gather_line.new.book in
     let w0 = g.W.Write.contents c.args.output.now in
     let w1 = g.W.Write.contents c.gather_line.new.output in
     let w2 = g.W.Write.contents c.write_gathered.new.output in
-    let Stops : RunFault → Type 0 = λ why. LineStops why line b d w0 w2 in
+    let Stops : RunFault → Type 0 = λ why. LineStops g.D.RunDisk.state why line b d w0 w2 in
     fault_known c.write_gathered.result fault.Output _ Stops
-    (λ h. line_stops line b d w0 w2 fault.Output tt
-    (cut_written (line ∷ []) b d [] c.gather_line.new.gathered.items w0 w1 w2
-    (subst (λ f. Ran (line ∷ []) b d f c.gather_line.new.gathered.items w0 w1)
+    (λ h. line_stops g.D.RunDisk.state line b d w0 w2 fault.Output tt
+    (cut_written g.D.RunDisk.state (line ∷ []) b d [] c.gather_line.new.gathered.items w0 w1 w2
+    (subst (λ f. Ran g.D.RunDisk.state (line ∷ []) b d f c.gather_line.new.gathered.items w0 w1)
     c.new-gathered.ensures (c.in_ok-gather_line.ensures.ran line refl)) h))
     c.write_gathered.ensures.fault c.write_gathered.ensures.cut
 

@@ -6,13 +6,13 @@ use Rattle.run_console.proofs.consoles.run.Goals as goal
 
 pub returns-clause-begins : goal.returns-clause-begins
 returns-clause-begins g c = λ sound.
-    let b = c.args.book.now.session in
-    let d = c.run_sound.new.book.session in
+    let b = c.args.book.now in
+    let d = c.run_sound.new.book in
     let r0 = g.R.Read.remaining c.args.input.now in
     let r1 = g.R.Read.remaining c.run_sound.new.input in
     let w0 = g.W.Write.contents c.args.output.now in
     let w1 = g.W.Write.contents c.run_sound.new.output in
-    let Stops : RunFault → Type 0 = λ why. RunStops why b d r0 r1 w0 w1 in
-    let Begins : RunFault → Type 0 = λ why. BeginsScript why b r0 r1 w0 w1 in
+    let Stops : RunFault → Type 0 = λ why. RunStops g.D.RunDisk.state why b d r0 r1 w0 w1 in
+    let Begins : RunFault → Type 0 = λ why. BeginsScript why b.session r0 r1 w0 w1 in
     fault_then c.run_sound.result Stops Begins
-    (λ why h. stops_begin why b d r0 r1 w0 w1 h) c.run_sound.ensures.stops
+    (λ why h. stops_begin g.D.RunDisk.state why b d r0 r1 w0 w1 h) c.run_sound.ensures.stops

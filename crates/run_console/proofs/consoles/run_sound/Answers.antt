@@ -1,12 +1,14 @@
 use Rattle.std.proofs.Common.{ℕ, List, [], ◌∷◌, subst}
-use Rattle.std.proofs.lemmas.Result.{err_from_is_err_and, on_ok_weaker}
+use Rattle.std.proofs.lemmas.Result.{err_from_is_err_and}
+use Rattle.run_model.specs.declared.commands.Step.TheVariants as step
 use Rattle.console_lines.specs.Lines.{open_line}
 use Rattle.console_lines.specs.Script.{closing}
 use Rattle.console_lines.specs.declared.faults.RunFault.{RunFault}
 use Rattle.run_console.specs.Progress.{Cut, EndStops, Ran, RunStops}
+use Rattle.run_console.specs.Rows.{Tries}
 use Rattle.run_console.specs.SessionLines.{plain}
 use Rattle.run_console.proofs.Going.{Lives, lives_then}
-use Rattle.run_console.proofs.LineSteps.{fault_then, same_asked}
+use Rattle.run_console.proofs.LineSteps.{both_ok, both_then, fault_then, same_asked}
 use Rattle.run_console.proofs.Wholes.{runs_all, stops_closing, stops_in_the_last}
 use Rattle.run_console.proofs.consoles.run_sound.Given.{Over}
 use Rattle.run_console.proofs.consoles.run_sound.Goals as goal
@@ -24,13 +26,13 @@ returns-in_err-gather_line-clause-stops g c =
     let reads = c.in_ok-run_whole_lines.ensures.read in
     let why = c.in_err-gather_line.field-0.0 in
     let last = open_line [] reads.bytes in
-    let mid = c.run_whole_lines.new.book.session in
-    let d = c.gather_line.new.book.session in
+    let mid = c.run_whole_lines.new.book in
+    let d = c.gather_line.new.book in
     let w1 = g.W.Write.contents c.run_whole_lines.new.output in
     let w2 = g.W.Write.contents c.gather_line.new.output in
-    let P : List ℕ → Type 0 = λ f. Cut why (last ∷ []) mid d f w1 w2 in
+    let P : List ℕ → Type 0 = λ f. Cut g.D.RunDisk.state why (last ∷ []) mid d f w1 w2 in
     rw (p.1, p.2) (
-    stops_in_the_last why c.args.book.now.session mid d c.run_whole_lines.new.tail.items
+    stops_in_the_last g.D.RunDisk.state why c.args.book.now mid d c.run_whole_lines.new.tail.items
     (g.R.Read.remaining c.args.input.now) (g.R.Read.remaining c.run_whole_lines.new.input)
     (g.W.Write.contents c.args.output.now) w1 w2 c.in_err-gather_line.ensures.fault reads
     (subst P c.in_ok-run_whole_lines.ensures.none
@@ -42,15 +44,15 @@ returns-in_err-gather_line-clause-stops g c =
 
 -- The last line was run.
 last_ran : (g : Over) (c : After-close g)
-    → Ran (open_line [] c.in_ok-run_whole_lines.ensures.read.bytes ∷ [])
-    c.run_whole_lines.new.book.session c.gather_line.new.book.session []
+    → Ran g.D.RunDisk.state (open_line [] c.in_ok-run_whole_lines.ensures.read.bytes ∷ [])
+    c.run_whole_lines.new.book c.gather_line.new.book []
     c.gather_line.new.gathered.items (g.W.Write.contents c.run_whole_lines.new.output)
     (g.W.Write.contents c.gather_line.new.output)
 last_ran g c =
     let reads = c.in_ok-run_whole_lines.ensures.read in
     let last = open_line [] reads.bytes in
     let P : List ℕ → Type 0 = λ f.
-    Ran (last ∷ []) c.run_whole_lines.new.book.session c.gather_line.new.book.session f
+    Ran g.D.RunDisk.state (last ∷ []) c.run_whole_lines.new.book c.gather_line.new.book f
     c.gather_line.new.gathered.items (g.W.Write.contents c.run_whole_lines.new.output)
     (g.W.Write.contents c.gather_line.new.output) in
     subst P c.in_ok-run_whole_lines.ensures.none
@@ -60,21 +62,22 @@ last_ran g c =
 
 pub returns-clause-all : goal.returns-clause-all
 returns-clause-all g c =
-    on_ok_weaker c.close.result
-    (λ h. runs_all c.args.book.now.session c.run_whole_lines.new.book.session
-    c.gather_line.new.book.session c.close.new.book.session c.run_whole_lines.new.tail.items
+    both_ok c.close.result
+    (λ h flushed. runs_all g.D.RunDisk.state c.args.book.now c.run_whole_lines.new.book
+    c.gather_line.new.book c.close.new.book c.run_whole_lines.new.tail.items
     c.gather_line.new.gathered.items
     (g.R.Read.remaining c.args.input.now) (g.R.Read.remaining c.run_whole_lines.new.input)
     (g.W.Write.contents c.args.output.now) (g.W.Write.contents c.run_whole_lines.new.output)
     (g.W.Write.contents c.gather_line.new.output) (g.W.Write.contents c.close.new.output)
-    c.in_ok-run_whole_lines.ensures.read (last_ran g c) c.close.ensures.session h)
-    c.close.ensures.whole
+    c.in_ok-run_whole_lines.ensures.read (last_ran g c) c.close.ensures.session h flushed)
+    c.close.ensures.whole c.close.ensures.taken
 
 pub returns-clause-stops : goal.returns-clause-stops
 returns-clause-stops g c =
-    let b = c.args.book.now.session in
-    let d = c.gather_line.new.book.session in
-    let e = c.close.new.book.session in
+    let state = g.D.RunDisk.state in
+    let b = c.args.book.now in
+    let d = c.gather_line.new.book in
+    let e = c.close.new.book in
     let f = c.gather_line.new.gathered.items in
     let r0 = g.R.Read.remaining c.args.input.now in
     let r1 = g.R.Read.remaining c.run_whole_lines.new.input in
@@ -82,13 +85,15 @@ returns-clause-stops g c =
     let w1 = g.W.Write.contents c.run_whole_lines.new.output in
     let w2 = g.W.Write.contents c.gather_line.new.output in
     let w3 = g.W.Write.contents c.close.new.output in
-    let Ends : RunFault → Type 0 = λ why. EndStops why (closing (plain d)) f w2 w3 in
-    let Stops : RunFault → Type 0 = λ why. RunStops why b e r0 r1 w0 w3 in
-    fault_then c.close.result Ends Stops
-    (λ why h. stops_closing why b c.run_whole_lines.new.book.session d e
+    let Ends : RunFault → Type 0 = λ why. EndStops why (closing (plain d.session)) f w2 w3 in
+    let Flushed : RunFault → Type 0 = λ why.
+    Tries state (holding d) why (step.Flush ∷ []) (holding e) in
+    let Stops : RunFault → Type 0 = λ why. RunStops state why b e r0 r1 w0 w3 in
+    both_then c.close.result Ends Flushed Stops
+    (λ why h flushed. stops_closing state why b c.run_whole_lines.new.book d e
     c.run_whole_lines.new.tail.items f r0 r1 w0 w1 w2 w3 c.in_ok-run_whole_lines.ensures.read
-    (last_ran g c) c.close.ensures.session h)
-    c.close.ensures.stops
+    (last_ran g c) c.close.ensures.session h flushed)
+    c.close.ensures.stops c.close.ensures.tried
 
 -- ---- the book
 

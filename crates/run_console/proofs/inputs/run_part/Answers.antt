@@ -18,7 +18,7 @@ use Rattle.run_console.proofs.Troubles.{accounts_earlier}
 
 pub loop-byte-init : goal.loop-byte-init
 loop-byte-init g c = (
-  λ begun e. part_begins begun _ _ _ _ e,
+  λ begun e. part_begins g.D.RunDisk.state begun _ _ _ _ e,
   goes_none g.D.RunDisk.state c.args.book.now c.requires.sound c.durable-durable.ensures.carries_on,
 )
 
@@ -28,9 +28,9 @@ returns-in_err-gather_line-clause-cut g c = λ begun e.
     let i = c.loop-byte.byte-index in
     let front = take i part in
     let behind = drop (suc i) part in
-    let b = c.args.book.now.session in
-    let mid = c.loop-byte.book.session in
-    let d = c.gather_line.new.book.session in
+    let b = c.args.book.now in
+    let mid = c.loop-byte.book in
+    let d = c.gather_line.new.book in
     let w0 = g.W.Write.contents c.args.output.now in
     let w1 = g.W.Write.contents c.loop-byte.output in
     let w2 = g.W.Write.contents c.gather_line.new.output in
@@ -42,7 +42,7 @@ returns-in_err-gather_line-clause-cut g c = λ begun e.
     ∙ sym (append_assoc front (10 ∷ []) behind) in
     let p = err_from_is_err_and c.from_residual.result c.from_residual.ensures.1 in
     rw (p.1, p.2) (
-    part_cut why begun part front behind b mid d c.loop-byte.tail.items
+    part_cut g.D.RunDisk.state why begun part front behind b mid d c.loop-byte.tail.items
     c.args.gathered.now.items c.loop-byte.gathered.items w0 w1 w2 here so_far
     (c.in_err-gather_line.ensures.cut (open_line begun front)
     (same_asked (open_line begun front) c.loop-byte.tail.items c.as_slice.result.now
@@ -69,8 +69,8 @@ loop-byte-preserved g c =
     let i = c.loop-byte.byte-index in
     let front = take i part in
     let byte = get_or part i 0 in
-    let b = c.args.book.now.session in
-    let d = c.loop-byte.book.session in
+    let b = c.args.book.now in
+    let d = c.loop-byte.book in
     let w0 = g.W.Write.contents c.args.output.now in
     let w1 = g.W.Write.contents c.loop-byte.output in
     let tail = c.loop-byte.tail.items in
@@ -82,7 +82,8 @@ loop-byte-preserved g c =
           let w2 = g.W.Write.contents w.gather_line.new.output in
           let h = w.gather_line.new.gathered.items in
           let P : List ℕ → List ℕ → Type 0 = λ begun x.
-          PartRan begun x b w.gather_line.new.book.session w.clear.new.self.items f h w0 w2 in
+          PartRan g.D.RunDisk.state begun x b w.gather_line.new.book w.clear.new.self.items f h w0
+          w2 in
           let ends : take (i + 1) part ≡ front ++ 10 ∷ [] =
           next ∙ ap (λ x. front ++ x ∷ []) w.if-byte-eq10.true in
           rw (w.book-is, w.output-is, w.tail-is, w.gathered-is) (
@@ -90,8 +91,8 @@ loop-byte-preserved g c =
                 let so_far = c.loop-byte.invariant.0 begun e in
                 let line = open_line begun front in
                 subst (P begun) (sym ends)
-                (part_ends begun front w.clear.new.self.items b d
-                w.gather_line.new.book.session tail f items h w0 w1 w2 so_far
+                (part_ends g.D.RunDisk.state begun front w.clear.new.self.items b d
+                w.gather_line.new.book tail f items h w0 w1 w2 so_far
                 (w.in_ok-gather_line.ensures.ran line
                 (same_asked line tail w.as_slice.result.now w.as_slice.ensures.value
                 so_far.tail_is))
@@ -106,20 +107,21 @@ loop-byte-preserved g c =
           )
       | else-byte-eq10+then-not-is_full w ↦
           let P : List ℕ → List ℕ → Type 0 = λ begun x.
-          PartRan begun x b d w.push.new.self.items f items w0 w1 in
+          PartRan g.D.RunDisk.state begun x b d w.push.new.self.items f items w0 w1 in
           rw (w.book-is, w.output-is, w.tail-is, w.gathered-is) (
             λ begun e. subst (P begun) (sym next)
-                (part_more begun front tail w.push.new.self.items f items byte b d w0 w1
+                (part_more g.D.RunDisk.state begun front tail w.push.new.self.items f items byte b d
+                w0 w1
                 (other w.if-byte-eq10.false) (c.loop-byte.invariant.0 begun e)
                 (grind (arith, nat_tests)) w.push.ensures.items),
             c.loop-byte.invariant.1,
           )
       | else-byte-eq10+else-not-is_full w ↦
           let P : List ℕ → List ℕ → Type 0 = λ begun x.
-          PartRan begun x b d tail f items w0 w1 in
+          PartRan g.D.RunDisk.state begun x b d tail f items w0 w1 in
           rw (w.book-is, w.output-is, w.tail-is, w.gathered-is) (
             λ begun e. subst (P begun) (sym next)
-                (part_full begun front tail f items byte b d w0 w1
+                (part_full g.D.RunDisk.state begun front tail f items byte b d w0 w1
                 (other w.if-byte-eq10.false) (c.loop-byte.invariant.0 begun e)
                 (grind (arith, nat_tests))),
             c.loop-byte.invariant.1,
@@ -129,7 +131,7 @@ loop-byte-preserved g c =
 pub returns-clause-ran : goal.returns-clause-ran
 returns-clause-ran g c = λ begun e.
     let P : List ℕ → Type 0 = λ x.
-    PartRan begun x c.args.book.now.session c.loop-byte.book.session c.loop-byte.tail.items
+    PartRan g.D.RunDisk.state begun x c.args.book.now c.loop-byte.book c.loop-byte.tail.items
     c.args.gathered.now.items c.loop-byte.gathered.items
     (g.W.Write.contents c.args.output.now) (g.W.Write.contents c.loop-byte.output) in
     subst P (take_all c.loop-byte.byte-index c.args.part.now c.loop-byte-test.false)

@@ -8,7 +8,7 @@ use Rattle.run_console.proofs.inputs.run_part.Given as goal
 abbrev pub invariant-loop-byte : goal.invariant-loop-byte
 invariant-loop-byte g l =
     ((begun : List ℕ) → l.initial.tail.items ≡ kept begun →
-    PartRan begun (take l.byte-index l.part) l.initial.book.session l.book.session l.tail.items
+    PartRan g.D.RunDisk.state begun (take l.byte-index l.part) l.initial.book l.book l.tail.items
     l.initial.gathered.items l.gathered.items
     (g.W.Write.contents l.initial.output) (g.W.Write.contents l.output))
     × Goes g.D.RunDisk.state l.initial.book l.book

@@ -20,7 +20,7 @@ loop-total-init g c = (
   consumes_nothing _,
   refl,
   omega arith,
-  part_begins [] _ [] c.args.book.now.session _ c.requires.tail,
+  part_begins g.D.RunDisk.state [] _ [] c.args.book.now _ c.requires.tail,
   c.requires.gathered,
   goes_none g.D.RunDisk.state c.args.book.now c.requires.sound
       c.durable-durable.ensures.carries_on,
@@ -32,7 +32,7 @@ returns-then-count-eq0-clause-read g c =
     let r1 = g.R.Read.remaining c.loop-total.input in
     let r2 = g.R.Read.remaining c.read_some.new.input in
     let P : ℕ → Type 0 = λ n. Consumes r1 r2 (take n c.read_some.new.room) in
-    reads_all inv.0 c.loop-total.tail.items c.args.book.now.session c.loop-total.book.session
+    reads_all g.D.RunDisk.state inv.0 c.loop-total.tail.items c.args.book.now c.loop-total.book
     (g.R.Read.remaining c.args.input.now) r1 r2
     (g.W.Write.contents c.args.output.now) (g.W.Write.contents c.loop-total.output) inv.1
     (subst P c.if-count-eq0.true c.in_ok-count.ensures.bytes.0)
@@ -63,12 +63,13 @@ returns-in_err-count-clause-stops g c =
     let r2 = g.R.Read.remaining c.read_some.new.input in
     let P : List ℕ → Type 0 = λ x. Consumes r0 r2 x in
     rw (p.1, p.2, c.in_err-count.ensures.fault) (
-    stops_reading fault.Input inv.0 c.loop-total.tail.items c.args.book.now.session
-    c.loop-total.book.session r0 r2
+    stops_reading g.D.RunDisk.state fault.Input inv.0 c.loop-total.tail.items c.args.book.now
+    c.loop-total.book r0 r2
     (g.W.Write.contents c.args.output.now) (g.W.Write.contents c.loop-total.output)
     (subst P (append-nil inv.0)
     (consumes_then r0 _ r2 inv.0 [] inv.1 (consumes_kept _ r2 c.in_err-count.ensures.bytes)))
-    inv.4 (omega (arith, inv.2, c.loop-total-test.true), refl) (λ l. refl) (λ l. tt) (λ h. h))
+    inv.4 (omega (arith, inv.2, c.loop-total-test.true), refl) (λ l. refl) (λ l. tt) (λ h. h)
+    (λ l. refl))
 
 pub loop-total-preserved : goal.loop-total-preserved
 loop-total-preserved g c =
@@ -77,14 +78,14 @@ loop-total-preserved g c =
     let room = c.read_some.new.room in
     let few = c.in_ok-count.ensures.bound.0 in
     let line = open_line [] inv.0 in
-    let d = c.run_part.new.book.session in
+    let d = c.run_part.new.book in
     let tail = c.run_part.new.tail.items in
     let h = c.run_part.new.gathered.items in
     let w1 = g.W.Write.contents c.loop-total.output in
     let w2 = g.W.Write.contents c.run_part.new.output in
     let w3 = g.W.Write.contents c.write_gathered.new.output in
     let P : List ℕ → List ℕ → Type 0 = λ before x.
-    PartRan line x c.loop-total.book.session d tail before h w1 w2 in
+    PartRan g.D.RunDisk.state line x c.loop-total.book d tail before h w1 w2 in
     let same = take-append-le n room (drop c.min-most.result c.loop-total.room) few in
     let size = part_read inv.0 room c.loop-total.room n c.min-most.result c.loop-total.total 4096
     inv.2 few c.read_some.auto.room c.min-most.ensures c.loop-total-test.true in (
@@ -92,8 +93,9 @@ loop-total-preserved g c =
       consumes_then _ _ _ inv.0 (take n room) inv.1 c.in_ok-count.ensures.bytes.0,
       omega (arith, size.len, inv.2),
       omega (arith, size.len, size.within, inv.2),
-      part_then [] inv.0 (take n room) c.loop-total.tail.items tail h c.args.book.now.session
-          c.loop-total.book.session d (g.W.Write.contents c.args.output.now) w1 w2 w3 inv.4
+      part_then g.D.RunDisk.state [] inv.0 (take n room) c.loop-total.tail.items tail h
+          c.args.book.now
+          c.loop-total.book d (g.W.Write.contents c.args.output.now) w1 w2 w3 inv.4
           (subst (λ x. P [] x) same
           (subst (λ x. P x (take n (room ++ drop c.min-most.result c.loop-total.room))) inv.5
           (c.in_ok-run_part.ensures.ran line inv.4.tail_is)))
@@ -110,12 +112,12 @@ loop-total-preserved g c =
 pub returns-clause-stops : goal.returns-clause-stops
 returns-clause-stops g c =
     let inv = c.loop-total.invariant in
-    stops_reading fault.InputTooLong inv.0 c.loop-total.tail.items c.args.book.now.session
-    c.loop-total.book.session
+    stops_reading g.D.RunDisk.state fault.InputTooLong inv.0 c.loop-total.tail.items c.args.book.now
+    c.loop-total.book
     (g.R.Read.remaining c.args.input.now) (g.R.Read.remaining c.loop-total.input)
     (g.W.Write.contents c.args.output.now) (g.W.Write.contents c.loop-total.output)
     inv.1 inv.4 (omega (arith, inv.2, inv.3, c.loop-total-test.false), refl) (λ l. refl) (λ l. tt)
-    (λ h. h)
+    (λ h. h) (λ l. refl)
 
 -- ---- a part that stops
 
@@ -128,11 +130,12 @@ returns-in_err-run_part-clause-stops g c =
     let room = c.read_some.new.room in
     let line = open_line [] inv.0 in
     let why = c.in_err-run_part.field-0.0 in
-    let mid = c.loop-total.book.session in
-    let d = c.run_part.new.book.session in
+    let mid = c.loop-total.book in
+    let d = c.run_part.new.book in
     let w1 = g.W.Write.contents c.loop-total.output in
     let w2 = g.W.Write.contents c.run_part.new.output in
-    let P : List ℕ → List ℕ → Type 0 = λ before x. Cut why (whole_lines line x) mid d before w1 w2
+    let P : List ℕ → List ℕ → Type 0 = λ before x. Cut g.D.RunDisk.state why (whole_lines line x)
+    mid d before w1 w2
     in
     let cut : P [] (take n room) =
     subst (λ x. P [] x)
@@ -144,8 +147,8 @@ returns-in_err-run_part-clause-stops g c =
     inv.2 c.in_ok-count.ensures.bound.0 c.read_some.auto.room c.min-most.ensures
     c.loop-total-test.true in
     rw (p.1, p.2) (
-    stops_in_a_part why inv.0 (take n room) c.loop-total.tail.items
-    c.args.book.now.session mid d
+    stops_in_a_part g.D.RunDisk.state why inv.0 (take n room) c.loop-total.tail.items
+    c.args.book.now mid d
     (g.R.Read.remaining c.args.input.now) (g.R.Read.remaining c.loop-total.input)
     (g.R.Read.remaining c.read_some.new.input)
     (g.W.Write.contents c.args.output.now) w1 w2
@@ -159,13 +162,14 @@ returns-in_err-write_gathered-clause-stops g c =
     let n = c.in_ok-count.count in
     let room = c.read_some.new.room in
     let line = open_line [] inv.0 in
-    let mid = c.loop-total.book.session in
-    let d = c.run_part.new.book.session in
+    let mid = c.loop-total.book in
+    let d = c.run_part.new.book in
     let w1 = g.W.Write.contents c.loop-total.output in
     let w2 = g.W.Write.contents c.run_part.new.output in
     let w3 = g.W.Write.contents c.write_gathered.new.output in
     let P : List ℕ → List ℕ → Type 0 = λ before x.
-    PartRan line x mid d c.run_part.new.tail.items before c.run_part.new.gathered.items w1 w2 in
+    PartRan g.D.RunDisk.state line x mid d c.run_part.new.tail.items before
+    c.run_part.new.gathered.items w1 w2 in
     let ran : P [] (take n room) =
     subst (λ x. P [] x)
     (take-append-le n room (drop c.min-most.result c.loop-total.room)
@@ -176,13 +180,14 @@ returns-in_err-write_gathered-clause-stops g c =
     inv.2 c.in_ok-count.ensures.bound.0 c.read_some.auto.room c.min-most.ensures
     c.loop-total-test.true in
     rw (p.1, p.2, c.in_err-write_gathered.ensures.fault) (
-    stops_in_a_part fault.Output inv.0 (take n room) c.loop-total.tail.items
-    c.args.book.now.session mid d
+    stops_in_a_part g.D.RunDisk.state fault.Output inv.0 (take n room) c.loop-total.tail.items
+    c.args.book.now mid d
     (g.R.Read.remaining c.args.input.now) (g.R.Read.remaining c.loop-total.input)
     (g.R.Read.remaining c.read_some.new.input)
     (g.W.Write.contents c.args.output.now) w1 w3
     tt inv.1 c.in_ok-count.ensures.bytes.0 size.within inv.4
-    (cut_written (whole_lines line (take n room)) mid d [] c.run_part.new.gathered.items
+    (cut_written g.D.RunDisk.state (whole_lines line (take n room)) mid d []
+    c.run_part.new.gathered.items
     w1 w2 w3 ran.ran c.in_err-write_gathered.ensures.cut))
 
 pub returns-in_err-run_part-clause-lasts : goal.returns-in_err-run_part-clause-lasts

@@ -12,8 +12,9 @@ use Rattle.run_console.proofs.stricts.run_lines.Goals as goal
 
 pub returns-then-is_some-clause-ran : goal.returns-then-is_some-clause-ran
 returns-then-is_some-clause-ran g c =
-    ran_with_stray c.in_ok-stray.stray c.run_whole_lines.new.number c.args.book.now.session
-    c.run_whole_lines.new.book.session c.run_whole_lines.new.tail.items
+    ran_with_stray g.D.RunDisk.state c.in_ok-stray.stray c.run_whole_lines.new.number
+    c.args.book.now
+    c.run_whole_lines.new.book c.run_whole_lines.new.tail.items
     c.run_whole_lines.new.gathered.items
     (g.R.Read.remaining c.args.input.now) (g.R.Read.remaining c.run_whole_lines.new.input)
     (g.W.Write.contents c.args.output.now) (g.W.Write.contents c.run_whole_lines.new.output)
@@ -25,21 +26,22 @@ pub returns-in_err-why-clause-stops : goal.returns-in_err-why-clause-stops
 returns-in_err-why-clause-stops g c =
     let p = err_from_is_err_and c.from_residual-in_err-why.result
     c.from_residual-in_err-why.ensures.1 in
-    let reads = reads_clean c.in_ok-stray.stray c.run_whole_lines.new.number c.args.book.now.session
-    c.run_whole_lines.new.book.session c.run_whole_lines.new.tail.items
+    let reads = reads_clean g.D.RunDisk.state c.in_ok-stray.stray c.run_whole_lines.new.number
+    c.args.book.now
+    c.run_whole_lines.new.book c.run_whole_lines.new.tail.items
     c.run_whole_lines.new.gathered.items
     (g.R.Read.remaining c.args.input.now) (g.R.Read.remaining c.run_whole_lines.new.input)
     (g.W.Write.contents c.args.output.now) (g.W.Write.contents c.run_whole_lines.new.output)
     (sym c.is_some.ensures ∙ c.if-is_some.false) c.in_ok-stray.ensures.read in
     let why = c.in_err-why.field-0.0 in
-    let mid = c.run_whole_lines.new.book.session in
-    let d = c.gather_line.new.book.session in
+    let mid = c.run_whole_lines.new.book in
+    let d = c.gather_line.new.book in
     let last = open_line [] reads.0.reads.bytes in
     let w1 = g.W.Write.contents c.run_whole_lines.new.output in
     let w2 = g.W.Write.contents c.gather_line.new.output in
-    let P : List ℕ → Type 0 = λ f. Cut why (last ∷ []) mid d f w1 w2 in
+    let P : List ℕ → Type 0 = λ f. Cut g.D.RunDisk.state why (last ∷ []) mid d f w1 w2 in
     rw (p.1, p.2) (
-    stops_at_last why c.run_whole_lines.new.number c.args.book.now.session mid d
+    stops_at_last g.D.RunDisk.state why c.run_whole_lines.new.number c.args.book.now mid d
     c.run_whole_lines.new.tail.items
     (g.R.Read.remaining c.args.input.now) (g.R.Read.remaining c.run_whole_lines.new.input)
     (g.W.Write.contents c.args.output.now) w1 w2 c.in_err-why.ensures.fault reads.0
@@ -50,24 +52,26 @@ returns-in_err-why-clause-stops g c =
 
 pub returns-in-Some-clause-ran : goal.returns-in-Some-clause-ran
 returns-in-Some-clause-ran g c =
-    let reads = reads_clean c.in_ok-stray.stray c.run_whole_lines.new.number c.args.book.now.session
-    c.run_whole_lines.new.book.session c.run_whole_lines.new.tail.items
+    let reads = reads_clean g.D.RunDisk.state c.in_ok-stray.stray c.run_whole_lines.new.number
+    c.args.book.now
+    c.run_whole_lines.new.book c.run_whole_lines.new.tail.items
     c.run_whole_lines.new.gathered.items
     (g.R.Read.remaining c.args.input.now) (g.R.Read.remaining c.run_whole_lines.new.input)
     (g.W.Write.contents c.args.output.now) (g.W.Write.contents c.run_whole_lines.new.output)
     (sym c.is_some.ensures ∙ c.if-is_some.false) c.in_ok-stray.ensures.read in
-    let mid = c.run_whole_lines.new.book.session in
-    let d = c.gather_line.new.book.session in
+    let mid = c.run_whole_lines.new.book in
+    let d = c.gather_line.new.book in
     let last = open_line [] reads.0.reads.bytes in
     let h = c.gather_line.new.gathered.items in
     let w1 = g.W.Write.contents c.run_whole_lines.new.output in
     let w2 = g.W.Write.contents c.gather_line.new.output in
-    let P : List ℕ → Type 0 = λ f. Ran (last ∷ []) mid d f h w1 w2 in
+    let P : List ℕ → Type 0 = λ f. Ran g.D.RunDisk.state (last ∷ []) mid d f h w1 w2 in
     let asks = same_asked last c.run_whole_lines.new.tail.items c.as_slice.result.now
     c.as_slice.ensures.value reads.0.reads.part.tail_is in
-    ran_to_end c.run_whole_lines.new.number c.args.book.now.session mid d
+    ran_to_end g.D.RunDisk.state c.run_whole_lines.new.number c.args.book.now mid d
     c.run_whole_lines.new.tail.items h
-    (Some (record { number = c.run_whole_lines.new.number; why = c.in-Some.why })) (Some c.in-Some.why)
+    (Some (record { number = c.run_whole_lines.new.number; why = c.in-Some.why }))
+    (Some c.in-Some.why)
     (g.R.Read.remaining c.args.input.now) (g.R.Read.remaining c.run_whole_lines.new.input)
     (g.W.Write.contents c.args.output.now) w1 w2 reads.0
     (subst P reads.1 (c.in_ok-why.ensures.ran last asks))
@@ -75,22 +79,23 @@ returns-in-Some-clause-ran g c =
 
 pub returns-in-None-clause-ran : goal.returns-in-None-clause-ran
 returns-in-None-clause-ran g c =
-    let reads = reads_clean c.in_ok-stray.stray c.run_whole_lines.new.number c.args.book.now.session
-    c.run_whole_lines.new.book.session c.run_whole_lines.new.tail.items
+    let reads = reads_clean g.D.RunDisk.state c.in_ok-stray.stray c.run_whole_lines.new.number
+    c.args.book.now
+    c.run_whole_lines.new.book c.run_whole_lines.new.tail.items
     c.run_whole_lines.new.gathered.items
     (g.R.Read.remaining c.args.input.now) (g.R.Read.remaining c.run_whole_lines.new.input)
     (g.W.Write.contents c.args.output.now) (g.W.Write.contents c.run_whole_lines.new.output)
     (sym c.is_some.ensures ∙ c.if-is_some.false) c.in_ok-stray.ensures.read in
-    let mid = c.run_whole_lines.new.book.session in
-    let d = c.gather_line.new.book.session in
+    let mid = c.run_whole_lines.new.book in
+    let d = c.gather_line.new.book in
     let last = open_line [] reads.0.reads.bytes in
     let h = c.gather_line.new.gathered.items in
     let w1 = g.W.Write.contents c.run_whole_lines.new.output in
     let w2 = g.W.Write.contents c.gather_line.new.output in
-    let P : List ℕ → Type 0 = λ f. Ran (last ∷ []) mid d f h w1 w2 in
+    let P : List ℕ → Type 0 = λ f. Ran g.D.RunDisk.state (last ∷ []) mid d f h w1 w2 in
     let asks = same_asked last c.run_whole_lines.new.tail.items c.as_slice.result.now
     c.as_slice.ensures.value reads.0.reads.part.tail_is in
-    ran_to_end c.run_whole_lines.new.number c.args.book.now.session mid d
+    ran_to_end g.D.RunDisk.state c.run_whole_lines.new.number c.args.book.now mid d
     c.run_whole_lines.new.tail.items h
     None None
     (g.R.Read.remaining c.args.input.now) (g.R.Read.remaining c.run_whole_lines.new.input)

@@ -20,7 +20,8 @@ use Rattle.run_console.proofs.Troubles.{accounts_earlier}
 
 pub loop-byte-init : goal.loop-byte-init
 loop-byte-init g c = (
-  λ begun e. clean_begins _ _ begun _ _ _ _ refl (part_begins begun _ _ _ _ e),
+  λ begun e. clean_begins g.D.RunDisk.state _ _ begun _ _ _ _ refl
+      (part_begins g.D.RunDisk.state begun _ _ _ _ e),
   omega arith,
   goes_none g.D.RunDisk.state c.args.book.now c.requires.sound c.durable-durable.ensures.carries_on,
 )
@@ -38,8 +39,9 @@ returns-in_err-why-clause-cut g c = λ begun e.
     ∙ ap (λ x. front ++ x ∷ behind) c.if-byte-eq10.true in
     let p = err_from_is_err_and c.from_residual.result c.from_residual.ensures.1 in
     rw (p.1, p.2) (
-    part_stops c.in_err-why.field-0.0 c.args.number.now c.loop-byte.number begun part front
-    behind c.args.book.now.session c.loop-byte.book.session c.gather_line.new.book.session
+    part_stops g.D.RunDisk.state c.in_err-why.field-0.0 c.args.number.now c.loop-byte.number begun
+    part front
+    behind c.args.book.now c.loop-byte.book c.gather_line.new.book
     c.loop-byte.tail.items c.args.gathered.now.items c.loop-byte.gathered.items
     (g.W.Write.contents c.args.output.now) (g.W.Write.contents c.loop-byte.output)
     (g.W.Write.contents c.gather_line.new.output) here so_far
@@ -70,8 +72,8 @@ returns-in_err-why-clause-accounts g c =
 pub returns-clause-ran : goal.returns-clause-ran
 returns-clause-ran g c = λ begun e.
     let P : List ℕ → Type 0 = λ x.
-    PartClean c.args.number.now c.loop-byte.number begun x
-    c.args.book.now.session c.loop-byte.book.session c.loop-byte.tail.items
+    PartClean g.D.RunDisk.state c.args.number.now c.loop-byte.number begun x
+    c.args.book.now c.loop-byte.book c.loop-byte.tail.items
     c.args.gathered.now.items c.loop-byte.gathered.items
     (g.W.Write.contents c.args.output.now) (g.W.Write.contents c.loop-byte.output) in
     subst P (take_all c.loop-byte.byte-index c.args.part.now c.loop-byte-test.false)
@@ -95,8 +97,8 @@ returns-in-Some-clause-ran g c = λ begun e.
     ∙ ap (λ x. front ++ x ∷ behind) c.if-byte-eq10.true in
     let asks = same_asked line c.loop-byte.tail.items c.as_slice.result.now c.as_slice.ensures.value
     so_far.runs.tail_is in
-    part_strays c.args.number.now c.loop-byte.number begun part front
-    behind c.args.book.now.session c.loop-byte.book.session c.gather_line.new.book.session
+    part_strays g.D.RunDisk.state c.args.number.now c.loop-byte.number begun part front
+    behind c.args.book.now c.loop-byte.book c.gather_line.new.book
     c.loop-byte.tail.items c.args.gathered.now.items c.loop-byte.gathered.items
     c.gather_line.new.gathered.items
     (g.W.Write.contents c.args.output.now) (g.W.Write.contents c.loop-byte.output)
@@ -128,8 +130,8 @@ loop-byte-preserved g c =
     let byte = get_or part i 0 in
     let n = c.args.number.now in
     let m = c.loop-byte.number in
-    let b = c.args.book.now.session in
-    let d = c.loop-byte.book.session in
+    let b = c.args.book.now in
+    let d = c.loop-byte.book in
     let w0 = g.W.Write.contents c.args.output.now in
     let w1 = g.W.Write.contents c.loop-byte.output in
     let tail = c.loop-byte.tail.items in
@@ -141,7 +143,8 @@ loop-byte-preserved g c =
           let w2 = g.W.Write.contents w.gather_line.new.output in
           let h = w.gather_line.new.gathered.items in
           let P : List ℕ → List ℕ → Type 0 = λ begun x.
-          PartClean n (m + 1) begun x b w.gather_line.new.book.session w.clear.new.self.items f h
+          PartClean g.D.RunDisk.state n (m + 1) begun x b w.gather_line.new.book
+          w.clear.new.self.items f h
           w0 w2 in
           let ends : take (i + 1) part ≡ front ++ 10 ∷ [] =
           next ∙ ap (λ x. front ++ x ∷ []) w.if-byte-eq10.true in
@@ -152,8 +155,8 @@ loop-byte-preserved g c =
                 let asks = same_asked line tail w.as_slice.result.now w.as_slice.ensures.value
                 so_far.runs.tail_is in
                 subst (P begun) (sym ends)
-                (clean_ends n m begun front w.clear.new.self.items b d
-                w.gather_line.new.book.session tail f items h w0 w1 w2 so_far
+                (clean_ends g.D.RunDisk.state n m begun front w.clear.new.self.items b d
+                w.gather_line.new.book tail f items h w0 w1 w2 so_far
                 (w.in_ok-why.ensures.ran line asks)
                 (sym (w.in_ok-why.ensures.strays line asks) ∙ w.in_default.is)
                 w.clear.ensures),
@@ -168,10 +171,11 @@ loop-byte-preserved g c =
           )
       | else-byte-eq10+then-not-is_full w ↦
           let P : List ℕ → List ℕ → Type 0 = λ begun x.
-          PartClean n m begun x b d w.push.new.self.items f items w0 w1 in
+          PartClean g.D.RunDisk.state n m begun x b d w.push.new.self.items f items w0 w1 in
           rw (w.book-is, w.output-is, w.tail-is, w.number-is, w.gathered-is) (
             λ begun e. subst (P begun) (sym next)
-                (clean_more n m begun front tail w.push.new.self.items f items byte b d w0 w1
+                (clean_more g.D.RunDisk.state n m begun front tail w.push.new.self.items f items
+                byte b d w0 w1
                 (other w.if-byte-eq10.false) (c.loop-byte.invariant.0 begun e)
                 (grind (arith, nat_tests)) w.push.ensures.items),
             omega (arith, c.loop-byte.invariant.1),
@@ -179,10 +183,10 @@ loop-byte-preserved g c =
           )
       | else-byte-eq10+else-not-is_full w ↦
           let P : List ℕ → List ℕ → Type 0 = λ begun x.
-          PartClean n m begun x b d tail f items w0 w1 in
+          PartClean g.D.RunDisk.state n m begun x b d tail f items w0 w1 in
           rw (w.book-is, w.output-is, w.tail-is, w.number-is, w.gathered-is) (
             λ begun e. subst (P begun) (sym next)
-                (clean_full n m begun front tail f items byte b d w0 w1
+                (clean_full g.D.RunDisk.state n m begun front tail f items byte b d w0 w1
                 (other w.if-byte-eq10.false) (c.loop-byte.invariant.0 begun e)
                 (grind (arith, nat_tests))),
             omega (arith, c.loop-byte.invariant.1),

@@ -8,8 +8,8 @@ use Rattle.run_console.proofs.stricts.run_part.Given as goal
 abbrev pub invariant-loop-byte : goal.invariant-loop-byte
 invariant-loop-byte g l =
     ((begun : List ℕ) → l.initial.tail.items ≡ kept begun →
-    PartClean l.initial.number l.number begun (take l.byte-index l.part)
-    l.initial.book.session l.book.session l.tail.items
+    PartClean g.D.RunDisk.state l.initial.number l.number begun (take l.byte-index l.part)
+    l.initial.book l.book l.tail.items
     l.initial.gathered.items l.gathered.items
     (g.W.Write.contents l.initial.output) (g.W.Write.contents l.output))
     × (l.number ≤ l.initial.number + l.byte-index)

@@ -24,8 +24,8 @@ loop-total-init g c = (
   consumes_nothing _,
   refl,
   omega arith,
-  clean_begins 1 _ [] _ [] c.args.book.now.session _ c.requires.number
-      (part_begins [] _ [] c.args.book.now.session _ c.requires.tail),
+  clean_begins g.D.RunDisk.state 1 _ [] _ [] c.args.book.now _ c.requires.number
+      (part_begins g.D.RunDisk.state [] _ [] c.args.book.now _ c.requires.tail),
   c.requires.gathered,
   goes_none g.D.RunDisk.state c.args.book.now c.requires.sound
       c.durable-durable.ensures.carries_on,
@@ -39,8 +39,8 @@ returns-then-count-eq0-clause-read g c =
     let r1 = g.R.Read.remaining c.loop-total.input in
     let r2 = g.R.Read.remaining c.read_some.new.input in
     let P : ℕ → Type 0 = λ n. Consumes r1 r2 (take n c.read_some.new.room) in (
-      ends_clean c.loop-total.number inv.0 c.loop-total.tail.items c.args.book.now.session
-          c.loop-total.book.session
+      ends_clean g.D.RunDisk.state c.loop-total.number inv.0 c.loop-total.tail.items c.args.book.now
+          c.loop-total.book
           (g.R.Read.remaining c.args.input.now) r1 r2
           (g.W.Write.contents c.args.output.now) (g.W.Write.contents c.loop-total.output) inv.1
           (subst P c.if-count-eq0.true c.in_ok-count.ensures.bytes.0)
@@ -64,22 +64,25 @@ returns-in_err-count-clause-stops g c =
     let r2 = g.R.Read.remaining c.read_some.new.input in
     let P : List ℕ → Type 0 = λ x. Consumes r0 r2 x in
     rw (p.1, p.2, c.in_err-count.ensures.fault) (
-    stops_reading_strictly fault.Input c.loop-total.number inv.0 c.loop-total.tail.items
-    c.args.book.now.session c.loop-total.book.session r0 r2
+    stops_reading_strictly g.D.RunDisk.state fault.Input c.loop-total.number inv.0
+    c.loop-total.tail.items
+    c.args.book.now c.loop-total.book r0 r2
     (g.W.Write.contents c.args.output.now) (g.W.Write.contents c.loop-total.output)
     (subst P (append-nil inv.0)
     (consumes_then r0 _ r2 inv.0 [] inv.1 (consumes_kept _ r2 c.in_err-count.ensures.bytes)))
-    inv.4 (omega (arith, inv.2, c.loop-total-test.true), refl) (λ l. refl) (λ l. tt) (λ h. h))
+    inv.4 (omega (arith, inv.2, c.loop-total-test.true), refl) (λ l. refl) (λ l. tt) (λ h. h)
+    (λ l. refl))
 
 pub returns-clause-stops : goal.returns-clause-stops
 returns-clause-stops g c =
     let inv = c.loop-total.invariant in
-    stops_reading_strictly fault.InputTooLong c.loop-total.number inv.0 c.loop-total.tail.items
-    c.args.book.now.session c.loop-total.book.session
+    stops_reading_strictly g.D.RunDisk.state fault.InputTooLong c.loop-total.number inv.0
+    c.loop-total.tail.items
+    c.args.book.now c.loop-total.book
     (g.R.Read.remaining c.args.input.now) (g.R.Read.remaining c.loop-total.input)
     (g.W.Write.contents c.args.output.now) (g.W.Write.contents c.loop-total.output)
     inv.1 inv.4 (omega (arith, inv.2, inv.3, c.loop-total-test.false), refl) (λ l. refl) (λ l. tt)
-    (λ h. h)
+    (λ h. h) (λ l. refl)
 
 -- ---- a part is run
 
@@ -92,9 +95,9 @@ loop-total-preserved g c =
     let line = open_line [] inv.0 in
     let from = c.loop-total.number in
     let to = c.run_part.new.number in
-    let b = c.args.book.now.session in
-    let mid = c.loop-total.book.session in
-    let d = c.run_part.new.book.session in
+    let b = c.args.book.now in
+    let mid = c.loop-total.book in
+    let d = c.run_part.new.book in
     let tail = c.run_part.new.tail.items in
     let h = c.run_part.new.gathered.items in
     let w0 = g.W.Write.contents c.args.output.now in
@@ -103,8 +106,8 @@ loop-total-preserved g c =
     let w3 = g.W.Write.contents c.write_gathered.new.output in
     let found = c.in_ok-found.found in
     let P : List ℕ → List ℕ → Type 0 = λ before x.
-    PartRuns found from to line x mid d tail before h w1 w2 in
-    let runs = is_clean found from to line (take n room) mid d tail [] h w1 w2
+    PartRuns g.D.RunDisk.state found from to line x mid d tail before h w1 w2 in
+    let runs = is_clean g.D.RunDisk.state found from to line (take n room) mid d tail [] h w1 w2
     (sym c.is_some.ensures ∙ c.if-is_some.false)
     (part_here P n room (drop c.min-most.result c.loop-total.room) c.loop-total.gathered.items few
     inv.5 (c.in_ok-found.ensures.ran line inv.4.runs.tail_is)) in
@@ -116,10 +119,12 @@ loop-total-preserved g c =
       omega (arith, size.len, size.within, inv.2),
       record {
         runs =
-            part_then [] inv.0 (take n room) c.loop-total.tail.items tail h b mid d w0 w1 w2 w3
+            part_then g.D.RunDisk.state [] inv.0 (take n room) c.loop-total.tail.items tail h b mid
+            d w0 w1 w2 w3
             inv.4.runs runs.runs c.in_ok-write_gathered.ensures.whole;
         clean =
-            clean_parts from to inv.0 (take n room) c.loop-total.tail.items b mid w0 w1 inv.4
+            clean_parts g.D.RunDisk.state from to inv.0 (take n room) c.loop-total.tail.items b mid
+            w0 w1 inv.4
             runs.clean;
       },
       c.in_ok-write_gathered.ensures.none,
@@ -140,19 +145,19 @@ returns-then-is_some-clause-read g c =
     let line = open_line [] inv.0 in
     let from = c.loop-total.number in
     let to = c.run_part.new.number in
-    let mid = c.loop-total.book.session in
-    let d = c.run_part.new.book.session in
+    let mid = c.loop-total.book in
+    let d = c.run_part.new.book in
     let tail = c.run_part.new.tail.items in
     let h = c.run_part.new.gathered.items in
     let w1 = g.W.Write.contents c.loop-total.output in
     let w2 = g.W.Write.contents c.run_part.new.output in
     let found = c.in_ok-found.found in
     let P : List ℕ → List ℕ → Type 0 = λ before x.
-    PartRuns found from to line x mid d tail before h w1 w2 in
+    PartRuns g.D.RunDisk.state found from to line x mid d tail before h w1 w2 in
     let size = part_read inv.0 room c.loop-total.room n c.min-most.result c.loop-total.total 4096
     inv.2 few c.read_some.auto.room c.min-most.ensures c.loop-total-test.true in
-    reads_stray found from to inv.0 (take n room) c.loop-total.tail.items tail h
-    c.args.book.now.session mid d
+    reads_stray g.D.RunDisk.state found from to inv.0 (take n room) c.loop-total.tail.items tail h
+    c.args.book.now mid d
     (g.R.Read.remaining c.args.input.now) (g.R.Read.remaining c.loop-total.input)
     (g.R.Read.remaining c.read_some.new.input)
     (g.W.Write.contents c.args.output.now) w1 w2
@@ -175,16 +180,17 @@ returns-in_err-found-clause-stops g c =
     let line = open_line [] inv.0 in
     let from = c.loop-total.number in
     let why = c.in_err-found.field-0.0 in
-    let mid = c.loop-total.book.session in
-    let d = c.run_part.new.book.session in
+    let mid = c.loop-total.book in
+    let d = c.run_part.new.book in
     let w1 = g.W.Write.contents c.loop-total.output in
     let w2 = g.W.Write.contents c.run_part.new.output in
-    let P : List ℕ → List ℕ → Type 0 = λ before x. PartCut why from line x mid d before w1 w2 in
+    let P : List ℕ → List ℕ → Type 0 = λ before x. PartCut g.D.RunDisk.state why from line x mid d
+    before w1 w2 in
     let size = part_read inv.0 room c.loop-total.room n c.min-most.result c.loop-total.total 4096
     inv.2 few c.read_some.auto.room c.min-most.ensures c.loop-total-test.true in
     rw (p.1, p.2) (
-    stops_in_part why from inv.0 (take n room) c.loop-total.tail.items
-    c.args.book.now.session mid d
+    stops_in_part g.D.RunDisk.state why from inv.0 (take n room) c.loop-total.tail.items
+    c.args.book.now mid d
     (g.R.Read.remaining c.args.input.now) (g.R.Read.remaining c.loop-total.input)
     (g.R.Read.remaining c.read_some.new.input)
     (g.W.Write.contents c.args.output.now) w1 w2
@@ -205,8 +211,8 @@ returns-in_err-write_gathered-clause-stops g c =
     let line = open_line [] inv.0 in
     let from = c.loop-total.number in
     let to = c.run_part.new.number in
-    let mid = c.loop-total.book.session in
-    let d = c.run_part.new.book.session in
+    let mid = c.loop-total.book in
+    let d = c.run_part.new.book in
     let tail = c.run_part.new.tail.items in
     let h = c.run_part.new.gathered.items in
     let w1 = g.W.Write.contents c.loop-total.output in
@@ -214,16 +220,16 @@ returns-in_err-write_gathered-clause-stops g c =
     let w3 = g.W.Write.contents c.write_gathered.new.output in
     let found = c.in_ok-found.found in
     let P : List ℕ → List ℕ → Type 0 = λ before x.
-    PartRuns found from to line x mid d tail before h w1 w2 in
-    let runs = is_clean found from to line (take n room) mid d tail [] h w1 w2
+    PartRuns g.D.RunDisk.state found from to line x mid d tail before h w1 w2 in
+    let runs = is_clean g.D.RunDisk.state found from to line (take n room) mid d tail [] h w1 w2
     (sym c.is_some.ensures ∙ c.if-is_some.false)
     (part_here P n room (drop c.min-most.result c.loop-total.room) c.loop-total.gathered.items few
     inv.5 (c.in_ok-found.ensures.ran line inv.4.runs.tail_is)) in
     let size = part_read inv.0 room c.loop-total.room n c.min-most.result c.loop-total.total 4096
     inv.2 few c.read_some.auto.room c.min-most.ensures c.loop-total-test.true in
     rw (p.1, p.2, c.in_err-write_gathered.ensures.fault) (
-    stops_behind_part from to inv.0 (take n room) c.loop-total.tail.items tail h
-    c.args.book.now.session mid d
+    stops_behind_part g.D.RunDisk.state from to inv.0 (take n room) c.loop-total.tail.items tail h
+    c.args.book.now mid d
     (g.R.Read.remaining c.args.input.now) (g.R.Read.remaining c.loop-total.input)
     (g.R.Read.remaining c.read_some.new.input)
     (g.W.Write.contents c.args.output.now) w1 w2 w3
@@ -308,8 +314,8 @@ run_part-requires-clause-number g c =
     let inv = c.loop-total.invariant in
     let n = c.in_ok-count.count in
     let room = c.read_some.new.room in
-    let few = few_before c.loop-total.number inv.0 c.loop-total.tail.items
-    c.args.book.now.session c.loop-total.book.session (g.W.Write.contents c.args.output.now)
+    let few = few_before g.D.RunDisk.state c.loop-total.number inv.0 c.loop-total.tail.items
+    c.args.book.now c.loop-total.book (g.W.Write.contents c.args.output.now)
     (g.W.Write.contents c.loop-total.output) inv.4 in
     let size = length-take n (room ++ drop c.min-most.result c.loop-total.room) in
     omega (arith, few, size, inv.2, inv.3)

@@ -12,7 +12,7 @@ invariant-loop-total g l =
     × Consumes (g.R.Read.remaining l.initial.input) (g.R.Read.remaining l.input) bytes
     × (length bytes ≡ l.total)
     × (l.total ≤ LONGEST_INPUT + 1)
-    × PartClean 1 l.number [] bytes l.initial.book.session l.book.session l.tail.items [] []
+    × PartClean g.D.RunDisk.state 1 l.number [] bytes l.initial.book l.book l.tail.items [] []
     (g.W.Write.contents l.initial.output) (g.W.Write.contents l.output)
     × (l.gathered.items ≡ [])
     × Goes g.D.RunDisk.state l.initial.book l.book

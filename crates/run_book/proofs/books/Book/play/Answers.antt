@@ -18,17 +18,17 @@ loop-step-init g c = (
 pub loop-step-preserved : goal.loop-step-preserved
 loop-step-preserved g c =
     let state = g.D.RunDisk.state in
-    let e = c.answer-reply.ensures in
+    let e = c.step-reply.ensures in
     let old = c.args.self.now in
     let steps = c.args.steps.now in
     let before = c.args.replies.now.items in (
       subst (λ (l : List Reply).
-          HasPlayed state old c.answer-reply.new.self (take (c.loop-step.step-index + 1) steps)
+          HasPlayed state old c.step-reply.new.self (take (c.loop-step.step-index + 1) steps)
           before l)
           (sym c.push_reserved.ensures.items)
-          (played_more state old c.loop-step.self c.answer-reply.new.self steps
+          (played_more state old c.loop-step.self c.step-reply.new.self steps
           c.loop-step.step-index c.step-item.result before c.loop-step.replies.items
-          c.answer-reply.result c.loop-step-test.true c.step-item.is c.loop-step.invariant.0
+          c.step-reply.result c.loop-step-test.true c.step-item.is c.loop-step.invariant.0
           e.answers e.carries_on e.stays),
       omega (arith, c.push_reserved.ensures.len, c.loop-step.invariant.1),
       c.push_reserved.ensures.capacity ∙ c.loop-step.invariant.2,

@@ -1,0 +1,68 @@
+-- The steps that lines play over a book, one after another.
+use Rattle.std.specs.Prelude.{◌≡◌, ◌⊎◌, false, ℕ, List, [], ◌∷◌, Err}
+use Rattle.std.specs.List.{cons_option, list_any}
+use Rattle.run_model.specs.declared.answers.Reply.{Reply}
+use Rattle.run_model.specs.declared.commands.Step.{Step}
+use Rattle.run_model.specs.declared.commands.Step.TheVariants as step
+use Rattle.run_disk.specs.Disk.{DiskState}
+use Rattle.book_model.specs.Holdings.{Holding}
+use Rattle.book_model.specs.Plays.{is_fault}
+use Rattle.book_model.specs.Steps.{StepsOn, reply_of_save}
+use Rattle.run_model.specs.declared.answers.Reply.TheVariants as told
+use Rattle.run_model.specs.declared.faults.Trouble.TheVariants as trouble
+use Rattle.console_lines.specs.declared.replies.Reply as said
+use Rattle.console_lines.specs.declared.replies.Reply.TheVariants as as_said
+use Rattle.console_lines.specs.declared.asked.Asked.{Asked}
+use Rattle.console_lines.specs.declared.faults.RunFault.{RunFault}
+use Rattle.console_lines.specs.declared.faults.RunFault.TheVariants as fault
+use Rattle.console_lines.specs.Script.{step_of, steps_of}
+
+-- The book took these steps, one after another, and carried on by each. None was answered by a
+-- fault.
+pub record TakesAll {D : Type 0} (state : D → DiskState) (old : Holding D) (steps : List Step)
+    (new : Holding D) : Type 0 where
+  pub answers : List Reply
+  pub row : StepsOn state old steps answers new
+  pub fine : list_any is_fault answers ≡ false
+
+-- What became of the step that was next, by what stopped: a fault of the store is its answer;
+-- where the writer failed it was answered, or not tried; behind any other fault it wasn't tried.
+abbrev pub Tries :
+    {D : Type 0} → (D → DiskState) → Holding D → RunFault → List Step → Holding D → Type 0
+Tries state old (fault.Store why) steps new =
+    StepsOn state old steps (reply_of_save (Err why) ∷ []) new
+Tries state old fault.Output steps new =
+    (new ≡ old) ⊎ ((answers : List Reply) × StepsOn state old steps answers new)
+Tries state old _ steps new = new ≡ old
+
+-- The step of the first of these lines, where there is a line, and it asks for a step.
+abbrev pub first_steps : List (List ℕ) → List Step
+first_steps [] = []
+first_steps (line ∷ left) = steps_of (line ∷ [])
+
+-- The step that comes next: that of the next line, or, behind the last, the closing flush.
+abbrev pub next_steps : List (List ℕ) → List Step
+next_steps [] = step.Flush ∷ []
+next_steps (line ∷ left) = steps_of (line ∷ [])
+
+-- The steps of these lines were taken, and this became of the next.
+pub record TriesLine {D : Type 0} (state : D → DiskState) (old : Holding D) (why : RunFault)
+    (ran : List (List ℕ)) (next : List Step) (new : Holding D) : Type 0 where
+  pub middle : Holding D
+  pub taken : TakesAll state old (steps_of ran) middle
+  pub tried : Tries state middle why next new
+
+-- What is printed of a step's answer.
+abbrev pub printed : Reply → said.Reply
+printed (told.Answer answer) = as_said.Answered answer
+printed (told.Started started) = as_said.Started started
+printed (told.Finished event) = as_said.Finished event
+printed (told.Acked count) = as_said.Acked count
+printed (told.Refused why) = as_said.Refused why
+printed (told.Faulty why) = as_said.Failed (trouble.Faulty why)
+
+-- ---- for private functions: no public contract cites what follows
+
+-- The step that is asked for, where one is.
+abbrev pub steps_asked : Asked → List Step
+steps_asked a = cons_option (step_of a) []
