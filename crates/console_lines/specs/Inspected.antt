@@ -59,12 +59,13 @@ scope_line p s = seen_line (option_map (row.Scope s) (look_of p s))
 abbrev pub group_line : State → ℕ → List ℕ
 group_line p g = seen_line (option_map (row.Group g) (group_look_of p g))
 
-abbrev pub task_line : State → ℕ → List ℕ
-task_line p n =
-    seen_line
-    (option_and_then
+abbrev pub task_row : State → ℕ → Option Row
+task_row p n = option_and_then
     (λ look. option_map (λ group. row.Task n group.name look) (group_look_of p look.group))
-    (task_look_of p n))
+    (task_look_of p n)
+
+abbrev pub task_line : State → ℕ → List ℕ
+task_line p n = seen_line (task_row p n)
 
 -- All that is printed of a state: how many events there were and the clock, and then each scope,
 -- each group and each task.

@@ -6,6 +6,8 @@ pub mod GroupLines
 pub mod GroupNights
 pub mod Inspected
 pub mod Lines
+pub mod Listed
+pub mod ListedNights
 pub mod Nights
 pub mod Progress
 pub mod Replies

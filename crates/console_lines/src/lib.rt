@@ -14,6 +14,8 @@ mod group_lines;
 pub mod group_nights;
 pub mod laws;
 mod lines;
+pub mod listed_nights;
+mod listings;
 pub mod nights;
 mod replies;
 mod rows;

@@ -41,6 +41,15 @@ told_then x y g h k w0 w1 w2 one two = record {
       ∙ sym (append_assoc one.out two.out k);
 }
 
+-- A text was told, and all that was gathered is written.
+pub told_written : (text h : List ℕ) (w0 w1 w2 : Option (List ℕ))
+    → Told text [] h w0 w1
+    → Appends w1 w2 h
+    → Appends w0 w2 text
+told_written text h w0 w1 w2 told all =
+    let P : List ℕ → Type 0 = λ t. Appends w0 w2 t in
+    subst P (sym told.told) (appends_then w0 w1 w2 told.out h told.written all)
+
 -- A text was told, and of the next a front was written: so it is of any text that they begin.
 pub told_part : (x y rest text g h : List ℕ) (w0 w1 w2 : Option (List ℕ))
     → text ≡ (x ++ y) ++ rest
@@ -189,9 +198,7 @@ pub all_written : (p : State) (h : List ℕ) (w0 w1 w2 : Option (List ℕ))
     → Told (inspected p) [] h w0 w1
     → Appends w1 w2 h
     → Appends w0 w2 (inspected p)
-all_written p h w0 w1 w2 told all =
-    let P : List ℕ → Type 0 = λ t. Appends w0 w2 t in
-    subst P (sym told.told) (appends_then w0 w1 w2 told.out h told.written all)
+all_written p = told_written (inspected p)
 
 pub all_cut : (p : State) (h : List ℕ) (w0 w1 w2 : Option (List ℕ))
     → Told (inspected p) [] h w0 w1

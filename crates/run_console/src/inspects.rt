@@ -88,7 +88,7 @@ fn gather_rows<W: Write, B: Allocator>(
 }
 
 /// Gathers a row, where there is one.
-fn gather_row<W: Write>(
+pub(crate) fn gather_row<W: Write>(
     row: Option<Row>,
     gathered: &mut Gathered,
     output: &mut W,

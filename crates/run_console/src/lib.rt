@@ -1,8 +1,8 @@
 //! The console: it reads lines, runs each over a book, and writes its reply.
 //!
 //! [`run`] runs a whole input, and [`line`] one line. What is written for a whole input is its
-//! script, as `console_lines` defines it. [`inspect`] prints a state. [`crew`] works off the tasks
-//! of a store, and tells how that ended.
+//! script, as `console_lines` defines it. [`inspect`] prints a state, and [`list_tasks`] the lines of
+//! its tasks alone. [`crew`] works off the tasks of a store, and tells how that ended.
 #![tactic(auto)]
 
 mod answers;
@@ -12,6 +12,7 @@ mod faults;
 mod inputs;
 mod inspects;
 pub mod laws;
+mod listings;
 mod stricts;
 mod tallies;
 mod writings;
@@ -21,6 +22,7 @@ pub use consoles::{line, run};
 pub use crews::crew;
 pub use faults::stopped;
 pub use inspects::inspect;
+pub use listings::list_tasks;
 pub use run_book::Book;
 pub use stricts::run_strict;
 pub use writings::write_whole;

@@ -1,0 +1,40 @@
+//! Examples of tasks that are listed: behind the lines of a night, by phase, by group and by both.
+//!
+//! Each function has an empty body, and its clauses are the example, as in [`nights`](crate::nights).
+
+ghost use Rattle.std.specs.Prelude.{codes, Some, None};
+ghost use Rattle.console_lines.specs.ListedNights.{IsListed, three_tasks};
+ghost use Rattle.console_lines.specs.Nights.{IsPrinted};
+
+/// The lines of the night are replied to as it says.
+pub fn the_night_is_printed()
+    ensures { IsPrinted three_tasks "acked 10" }
+{}
+
+/// Where neither is asked for, all tasks are listed.
+pub fn all_tasks_are_listed()
+    ensures { IsListed None None
+        "task 0 g copy a running\ntask 1 g copy b held\ntask 2 h mail c error no room\n" }
+{}
+
+/// By a phase those in it are, those that failed whatever their error is.
+pub fn tasks_are_listed_by_phase()
+    ensures held { IsListed (Some (codes "held")) None "task 1 g copy b held\n" }
+    ensures running { IsListed (Some (codes "running")) None "task 0 g copy a running\n" }
+    ensures error { IsListed (Some (codes "error")) None "task 2 h mail c error no room\n" }
+    ensures success { IsListed (Some (codes "success")) None "" }
+{}
+
+/// By a group its own are, and none where there is no such group.
+pub fn tasks_are_listed_by_group()
+    ensures first { IsListed None (Some (codes "g"))
+        "task 0 g copy a running\ntask 1 g copy b held\n" }
+    ensures other { IsListed None (Some (codes "h")) "task 2 h mail c error no room\n" }
+    ensures none { IsListed None (Some (codes "gh")) "" }
+{}
+
+/// By both those that are as both ask.
+pub fn tasks_are_listed_by_both()
+    ensures found { IsListed (Some (codes "held")) (Some (codes "g")) "task 1 g copy b held\n" }
+    ensures none { IsListed (Some (codes "held")) (Some (codes "h")) "" }
+{}
