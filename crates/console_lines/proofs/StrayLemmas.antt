@@ -1,6 +1,6 @@
 -- The first line that strays, among lines that are one behind the other.
-use Rattle.std.specs.Prelude.{◌≡◌, ◌≤◌, ◌+◌, ◌==◌, ◌∷◌, ◌++◌, ℕ, Bool, true, false, List, []}
-use Rattle.std.specs.Prelude.{length, map, Option, Some, None, is_some, if◌then◌else◌}
+use Rattle.std.specs.Prelude.{◌≡◌, ◌+◌, ℕ, Bool, true, false, List, [], ◌∷◌, ◌++◌, length}
+use Rattle.std.specs.Prelude.{map, Option, Some, None, is_some, if◌then◌else◌}
 use Rattle.std.specs.Option.{option_map_or}
 use Rattle.std.proofs.Common.{arith, refl, sym, ap, ◌∙◌, append_assoc, append-nil}
 use Rattle.run_model.specs.Session.{Session}
@@ -9,9 +9,9 @@ use Rattle.console_lines.specs.declared.strays.StrayLine.{StrayLine}
 use Rattle.console_lines.specs.declared.tallies.Tally.{Tally}
 use Rattle.console_lines.specs.declared.replies.Reply.TheVariants as said
 use Rattle.console_lines.specs.Lines.{whole_lines, open_line, lines_of}
-use Rattle.console_lines.specs.Script.{after_line, after_lines, closing, replies, script}
+use Rattle.console_lines.specs.Script.{after_line, after_lines, closing, replies}
 use Rattle.console_lines.specs.Strict.{stray_among, stray_at, stray_from, stray_in, strict_lines}
-use Rattle.console_lines.specs.Strict.{strict_lines_of, strict_script}
+use Rattle.console_lines.specs.Strict.{strict_lines_of}
 use Rattle.console_lines.proofs.Splits.{whole_lines-append, open_line-append}
 
 -- ---- lines of which none strays, and what is behind them

@@ -1,11 +1,10 @@
 -- The examples of strict runs over a newly opened store. The lines behind the one that strays have
 -- no reply.
 use Prim.Native.String.{String}
-use Rattle.std.specs.Prelude.{◌≡◌, ℕ, List, [], ◌∷◌, ◌++◌, codes, Option, Some, None}
+use Rattle.std.specs.Prelude.{◌≡◌, ℕ, [], ◌∷◌, ◌++◌, codes, Some, None}
 use Rattle.run_model.specs.declared.layouts.Layout.TheVariants.{Small}
 use Rattle.run_model.specs.Session.{opened}
 use Rattle.console_lines.specs.declared.strays.Stray.{Stray}
-use Rattle.console_lines.specs.declared.strays.StrayLine.{StrayLine}
 use Rattle.console_lines.specs.Nights.{Night, shown, told, typed}
 use Rattle.console_lines.specs.Strict.{stray_in, strict_script}
 

@@ -1,8 +1,7 @@
 -- What a step is answered, and what is printed for a line that asks for it.
-use Rattle.std.specs.Prelude.{◌≡◌, ℕ, List, [], ◌∷◌, Option, Some, None, Result, Ok, Err, false}
+use Rattle.std.specs.Prelude.{◌≡◌, ℕ, List, [], ◌∷◌, Some, Result, Ok, Err, false}
 use Rattle.std.specs.Prelude.{unwrap_or}
-use Rattle.std.proofs.Common.{arith, refl, sym, ap, subst, ◌∙◌, append-nil}
-use Rattle.run_model.specs.declared.answers.Reply.{Reply}
+use Rattle.std.proofs.Common.{arith, refl, ap, subst, ◌∙◌, append-nil}
 use Rattle.run_model.specs.declared.answers.Reply.TheVariants as told
 use Rattle.run_model.specs.declared.commands.Step.{Step}
 use Rattle.run_model.specs.declared.commands.Step.TheVariants as step
@@ -12,7 +11,7 @@ use Rattle.run_model.specs.Session as model
 use Rattle.run_model.specs.Replies as decided
 use Rattle.run_disk.specs.Disk.{DiskState}
 use Rattle.book_model.specs.Holdings.{Holding, IsSession}
-use Rattle.book_model.specs.Plays.{Playing, Plays}
+use Rattle.book_model.specs.Plays.{Plays}
 use Rattle.book_model.specs.Steps.{playing_in}
 use Rattle.book_model.proofs.Playing.{plays_sound}
 use Rattle.book_model.proofs.Rows.{row_steps}

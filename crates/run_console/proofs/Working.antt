@@ -1,6 +1,6 @@
 -- What a night of workers leaves.
-use Rattle.std.proofs.Common.{◌∙◌, arith, ap, inl, inr, refl, subst, sym}
-use Rattle.std.specs.Prelude.{◌≡◌, ◌≤◌, ◌+◌, ◌++◌, ℕ, [], List, Option, Result, Ok, Err, ⊤, IfOk}
+use Rattle.std.proofs.Common.{◌∙◌, arith, ap, sym}
+use Rattle.std.specs.Prelude.{◌≡◌, ◌≤◌, ◌+◌, ℕ, [], Result, Ok, Err, IfOk}
 use Rattle.std.specs.Prelude.{length}
 use Rattle.run_model.specs.declared.faults.Trouble.{Trouble}
 use Rattle.record_view.specs.Records.{events_in}
@@ -10,7 +10,6 @@ use Rattle.run_session.specs.Logged.{Logged, Replays, begun_at}
 use Rattle.run_session.proofs.Replaying.{count_is}
 use Rattle.book_model.specs.Holdings.{Saves}
 use Rattle.run_book.specs.Views.{BookView, holding}
-use Rattle.run_crew.specs.declared.audits.Strayed.{Strayed}
 use Rattle.run_crew.specs.Desks.{finishes_of, history_of, starts_of}
 
 -- A book that was just opened has no history.

@@ -7,7 +7,6 @@ use Rattle.run_state.specs.Lasting.{Stays}
 use Rattle.run_session.specs.Logged.{Logged}
 use Rattle.run_disk.specs.Disk.{DiskState}
 use Rattle.run_model.specs.declared.commands.Step.TheVariants as step
-use Rattle.book_model.specs.Holdings.{Holding}
 use Rattle.book_model.specs.Steps.{StepsOn, reply_of_save}
 use Rattle.run_book.specs.Views.{BookView, holding}
 use Rattle.console_lines.specs.declared.asked.Asked.TheVariants as asked

@@ -1,7 +1,6 @@
-use Rattle.std.specs.Prelude.{[], ◌∷◌, Err, List}
+use Rattle.std.specs.Prelude.{[], ◌∷◌, Err}
 use Rattle.std.proofs.Common.{refl, sym, subst}
 use Rattle.run_model.specs.declared.answers.Reply.TheVariants as told
-use Rattle.run_model.specs.declared.commands.Step.{Step}
 use Rattle.run_model.specs.declared.commands.Step.TheVariants as step
 use Rattle.book_model.specs.Steps.{StepsOn, reply_of_save}
 use Rattle.run_book.specs.Views.{holding}
