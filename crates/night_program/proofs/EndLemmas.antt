@@ -8,6 +8,7 @@ use Rattle.run_model.specs.declared.layouts.Layout.TheVariants.{Small}
 use Rattle.run_model.specs.Session.{opened}
 use Rattle.run_disk.specs.declared.memory_disks.MemoryDisk.{MemoryDisk}
 use Rattle.run_disk.specs.Disk.{DiskState}
+use Rattle.run_disk.specs.MemoryDisks.{state_of}
 use Rattle.run_book.specs.Views.{BookView, holding}
 use Rattle.console_lines.specs.declared.faults.RunFault.{RunFault}
 use Rattle.console_lines.specs.declared.faults.RunFault.TheVariants.{Output}
@@ -30,9 +31,9 @@ printed (Err why) text w0 w1 whole cut fault = (fault, cut)
 -- What a run says of both of its ends.
 pub ran : {T D : Type 0} (state : D → DiskState) (r : Result T RunFault)
     (r0 r1 w0 w1 : Option (List ℕ)) (b c : BookView D)
-    → OnOk r (RunsAll b.session c.session r0 r1 w0 w1)
+    → OnOk r (RunsAll state b c r0 r1 w0 w1)
     → OnOk r (c.durable ≡ c.session.state.count)
-    → IfErr r (λ why. RunStops why b.session c.session r0 r1 w0 w1)
+    → IfErr r (λ why. RunStops state why b c r0 r1 w0 w1)
     → IfErr r (λ why. BeginsScript why b.session r0 r1 w0 w1)
     → IfErr r (λ why. Accounts state (holding b) why (holding c))
     → Runs state r r0 r1 w0 w1 b c
@@ -42,8 +43,8 @@ ran state (Err why) r0 r1 w0 w1 b c all saved stops begins accounts = (stops, be
 -- So of a strict run.
 pub ran_strict : {D : Type 0} (state : D → DiskState) (r : Result (Option StrayLine) RunFault)
     (r0 r1 w0 w1 : Option (List ℕ)) (b c : BookView D)
-    → IfOk r (λ stray. RunsStrictly stray b c r0 r1 w0 w1)
-    → IfErr r (λ why. StopsStrictly why b.session c.session r0 r1 w0 w1)
+    → IfOk r (λ stray. RunsStrictly state stray b c r0 r1 w0 w1)
+    → IfErr r (λ why. StopsStrictly state why b c r0 r1 w0 w1)
     → IfErr r (λ why. Accounts state (holding b) why (holding c))
     → RunsStrict state r r0 r1 w0 w1 b c
 ran_strict state (Ok stray) r0 r1 w0 w1 b c runs stops accounts = runs
@@ -53,12 +54,12 @@ ran_strict state (Err why) r0 r1 w0 w1 b c runs stops accounts = (stops, account
 pub strict_demo_ends : (r : Result (Option StrayLine) RunFault)
     (r0 r1 w0 w1 : Option (List ℕ)) (b c : BookView (MemoryDisk Global))
     → plain b.session ≡ opened Small
-    → IfOk r (λ stray. RunsStrictly stray b c r0 r1 w0 w1)
-    → IfErr r (λ why. StopsStrictly why b.session c.session r0 r1 w0 w1)
+    → IfOk r (λ stray. RunsStrictly state_of stray b c r0 r1 w0 w1)
+    → IfErr r (λ why. StopsStrictly state_of why b c r0 r1 w0 w1)
     → StrictDemoEnds r r0 r1 w0 w1
 strict_demo_ends (Ok stray) r0 r1 w0 w1 b c begun runs stops = (b, c, begun, runs)
 strict_demo_ends (Err why) r0 r1 w0 w1 b c begun runs stops =
-    inr (b.session, c.session, begun, stops)
+    inr (b, c, begun, stops)
 
 -- So of a run over a book in memory.
 pub demo_ends : {T : Type 0} (r : Result T RunFault) (r0 r1 w0 w1 : Option (List ℕ))

@@ -4,7 +4,7 @@ use Rattle.std.specs.Global.{Global}
 use Rattle.run_model.specs.declared.layouts.Layout.TheVariants.{Small}
 use Rattle.run_model.specs.Session.{opened}
 use Rattle.run_disk.specs.declared.memory_disks.MemoryDisk.{MemoryDisk}
-use Rattle.run_session.specs.Logged.{Logged}
+use Rattle.run_disk.specs.MemoryDisks.{state_of}
 use Rattle.run_book.specs.Views.{BookView}
 use Rattle.console_lines.specs.declared.faults.RunFault.{RunFault}
 use Rattle.console_lines.specs.declared.faults.RunFault.TheVariants as fault
@@ -22,13 +22,15 @@ IsUnopened _ = ⊥
 -- All lines of the input were run over a book that was just formatted and opened.
 abbrev pub IsRun : (r0 r1 w0 w1 : Option (List ℕ)) → Type 0
 IsRun r0 r1 w0 w1 =
-    (b : Logged) × (c : Logged) × (plain b ≡ opened Small) × RunsAll b c r0 r1 w0 w1
+    (b : BookView (MemoryDisk Global)) × (c : BookView (MemoryDisk Global))
+    × (plain b.session ≡ opened Small) × RunsAll state_of b c r0 r1 w0 w1
 
 -- A fault stopped such a run. Where there is no book, nothing was read and nothing was written.
 abbrev pub IsUnrun : RunFault → (r0 r1 w0 w1 : Option (List ℕ)) → Type 0
 IsUnrun why r0 r1 w0 w1 =
     (IsUnopened why × (r1 ≡ r0) × (w1 ≡ w0))
-    ⊎ ((b : Logged) × (c : Logged) × (plain b ≡ opened Small) × RunStops why b c r0 r1 w0 w1)
+    ⊎ ((b : BookView (MemoryDisk Global)) × (c : BookView (MemoryDisk Global))
+    × (plain b.session ≡ opened Small) × RunStops state_of why b c r0 r1 w0 w1)
 
 -- One or the other, by the answer.
 abbrev pub DemoEnds : {T : Type 0} → Result T RunFault → (r0 r1 w0 w1 : Option (List ℕ)) → Type 0
@@ -41,14 +43,14 @@ DemoEnds (Err why) r0 r1 w0 w1 = IsUnrun why r0 r1 w0 w1
 abbrev pub IsRunStrictly : Option StrayLine → (r0 r1 w0 w1 : Option (List ℕ)) → Type 0
 IsRunStrictly stray r0 r1 w0 w1 =
     (b : BookView (MemoryDisk Global)) × (c : BookView (MemoryDisk Global))
-    × (plain b.session ≡ opened Small) × RunsStrictly stray b c r0 r1 w0 w1
+    × (plain b.session ≡ opened Small) × RunsStrictly state_of stray b c r0 r1 w0 w1
 
 -- A fault stopped such a run. Where there is no book, nothing was read and nothing was written.
 abbrev pub IsUnrunStrictly : RunFault → (r0 r1 w0 w1 : Option (List ℕ)) → Type 0
 IsUnrunStrictly why r0 r1 w0 w1 =
     (IsUnopened why × (r1 ≡ r0) × (w1 ≡ w0))
-    ⊎ ((b : Logged) × (c : Logged) × (plain b ≡ opened Small)
-    × StopsStrictly why b c r0 r1 w0 w1)
+    ⊎ ((b : BookView (MemoryDisk Global)) × (c : BookView (MemoryDisk Global))
+    × (plain b.session ≡ opened Small) × StopsStrictly state_of why b c r0 r1 w0 w1)
 
 -- One or the other, by the answer.
 abbrev pub StrictDemoEnds :

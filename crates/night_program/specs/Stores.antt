@@ -47,9 +47,9 @@ FormatEnds state given answer left w0 w1 =
 abbrev pub Runs : {T D : Type 0} → (D → DiskState) → Result T RunFault
     → (r0 r1 w0 w1 : Option (List ℕ)) → BookView D → BookView D → Type 0
 Runs state (Ok done) r0 r1 w0 w1 b c =
-    RunsAll b.session c.session r0 r1 w0 w1 × (c.durable ≡ c.session.state.count)
+    RunsAll state b c r0 r1 w0 w1 × (c.durable ≡ c.session.state.count)
 Runs state (Err why) r0 r1 w0 w1 b c =
-    RunStops why b.session c.session r0 r1 w0 w1
+    RunStops state why b c r0 r1 w0 w1
     × BeginsScript why b.session r0 r1 w0 w1
     × Accounts state (holding b) why (holding c)
 
@@ -57,9 +57,9 @@ Runs state (Err why) r0 r1 w0 w1 b c =
 -- stopped the run.
 abbrev pub RunsStrict : {D : Type 0} → (D → DiskState) → Result (Option StrayLine) RunFault
     → (r0 r1 w0 w1 : Option (List ℕ)) → BookView D → BookView D → Type 0
-RunsStrict state (Ok stray) r0 r1 w0 w1 b c = RunsStrictly stray b c r0 r1 w0 w1
+RunsStrict state (Ok stray) r0 r1 w0 w1 b c = RunsStrictly state stray b c r0 r1 w0 w1
 RunsStrict state (Err why) r0 r1 w0 w1 b c =
-    StopsStrictly why b.session c.session r0 r1 w0 w1
+    StopsStrictly state why b c r0 r1 w0 w1
     × Accounts state (holding b) why (holding c)
 
 -- A book was opened over the disk, the input was run over it so, and the disk is left as it held
