@@ -1,6 +1,7 @@
 //! Examples of tasks that are listed: behind the lines of a night, by phase, by group and by both.
 //!
-//! Each function has an empty body, and its clauses are the example, as in [`nights`](crate::nights).
+//! Each function has an empty body, and its clauses are the example, as in
+//! [`nights`](crate::nights).
 
 ghost use Rattle.std.specs.Prelude.{codes, Some, None};
 ghost use Rattle.console_lines.specs.ListedNights.{IsListed, three_tasks};

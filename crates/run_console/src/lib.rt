@@ -1,8 +1,8 @@
 //! The console: it reads lines, runs each over a book, and writes its reply.
 //!
 //! [`run`] runs a whole input, and [`line`] one line. What is written for a whole input is its
-//! script, as `console_lines` defines it. [`inspect`] prints a state, and [`list_tasks`] the lines of
-//! its tasks alone. [`crew`] works off the tasks of a store, and tells how that ended.
+//! script, as `console_lines` defines it. [`inspect`] prints a state, and [`list_tasks`] the lines
+//! of its tasks alone. [`crew`] works off the tasks of a store, and tells how that ended.
 #![tactic(auto)]
 
 mod answers;

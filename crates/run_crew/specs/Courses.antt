@@ -134,7 +134,8 @@ EndsShift jobs notes calls =
     ((length notes ≡ MOST_TASKS) × (calls ≡ []))
     ⊎ ((length notes < MOST_TASKS) × IsCutShort jobs calls)
 
--- What a worker calls for its next task, and what it notes: a whole course and its note, or the end.
+-- What a worker calls for its next task, and what it notes: a whole course and its note, or the
+-- end.
 abbrev pub TakesTask : ℕ → Bool → List Note → List Note → List Call → Type 0
 TakesTask jobs true notes after calls =
     (note : Note) × IsCourse jobs calls note × (after ≡ notes ++ note ∷ [])

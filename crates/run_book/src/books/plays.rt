@@ -30,8 +30,8 @@ impl<D: RunDisk, A: Allocator> Book<D, A> {
         }
     }
 
-    /// Takes one step, as the call of its name does, and answers as that call. A broken book refuses
-    /// it as `Broken`.
+    /// Takes one step, as the call of its name does, and answers as that call. A broken book
+    /// refuses it as `Broken`.
     pub fn step(&mut self, step: &Step) -> Reply
         ensures answers { AnswersStep D.state (holding self.old) step.now result
             (holding self.new) }
