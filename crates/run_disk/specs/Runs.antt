@@ -27,6 +27,21 @@ pub record Took {T E : Type 0} (n : ℕ) (old new : DiskState) (result : Result 
   pub exactly : OnOk result (new.clock ≡ old.clock + n)
   pub most : new.clock ≤ old.clock + n
 
+-- As the disk's two counts tell it: the call of this number, counted from 1, is the last one, and
+-- one call failed. It is counted, and so is its failure, unless the disk was spent before it.
+abbrev pub FailedAt : ℕ → DiskState → DiskState → Type 0
+FailedAt n old new =
+    ((new.clock ≡ old.clock + n) × (new.failures ≡ old.failures + 1))
+    ⊎ ((new.clock + 1 ≡ old.clock + n) × (new.clock ≡ last_moment)
+    × (new.failures ≡ old.failures))
+
+-- No call is made behind the one that failed: up to some moment of the run none had failed, and
+-- from there on one call was made, which failed.
+pub record FailedLast {D : Type 0} (state : D → DiskState) (old new : DiskState) : Type 0 where
+  pub before : D
+  pub fine : (state before).failures ≡ old.failures
+  pub failed : FailedAt 1 (state before) new
+
 -- At the end of the run what reads give, and each content that a crash may leave, comes by this
 -- step from what it was before the run.
 pub record Ends (step : List ℕ → List ℕ → Type 0) (old new : DiskState) : Type 0 where

@@ -2,7 +2,8 @@
 //! pass over all places, the last one first.
 
 ghost use Rattle.std.specs.Prelude.{◌≡◌, ◌<◌, ◌≤◌, ℕ, [], ◌∷◌, ◌++◌, Some, length};
-ghost use Rattle.std.specs.Prelude.{IfSome, IfOk, slice_get};
+ghost use Rattle.std.specs.Prelude.{IfSome, IfOk, None, replicate, slice_get, vec_capacity};
+ghost use Rattle.scope_tree.specs.declared.chains.TheConstants.{CHAINS};
 ghost use Rattle.run_model.specs.declared.bounds.TheConstants.{MOST_SCOPES};
 ghost use Rattle.scope_tree.specs.Chains.{IsLast, head_of, hung};
 
@@ -21,7 +22,8 @@ pub struct Chains<A: Allocator> {
 }
 
 impl<A: Allocator> Model for Chains<A> {
-    ghost use Rattle.std.specs.Prelude.{vec_capacity};
+    ghost use Rattle.std.specs.Prelude.{◌≡◌, vec_capacity};
+    ghost use Rattle.scope_tree.specs.declared.chains.TheConstants.{CHAINS};
     ghost use Rattle.scope_tree.specs.Chains.{Places, IsChained};
 
     ghost Value = { Places };
@@ -30,7 +32,8 @@ impl<A: Allocator> Model for Chains<A> {
 
     ghost invariant = { λ c. IsChained
         (record { room = vec_capacity c.keys; keys = c.keys.items })
-        c.heads.items c.nexts.items (vec_capacity c.nexts) };
+        c.heads.items c.nexts.items (vec_capacity c.nexts)
+        × (vec_capacity c.heads ≡ CHAINS) };
 }
 
 impl<A: Allocator + Copy> Chains<A> {
@@ -41,7 +44,7 @@ impl<A: Allocator + Copy> Chains<A> {
     {
         let keys = Vec::with_capacity(alloc, room)?;
         let nexts = Vec::with_capacity(alloc, room)?;
-        let heads = Vec::from_elem(alloc, None, CHAINS)?;
+        let heads = no_heads(alloc)?;
         Ok(Chains { keys, heads, nexts })
     }
 }
@@ -75,6 +78,18 @@ impl<A: Allocator> Chains<A> {
     {
         self.nexts[n as usize]
     }
+}
+
+/// The heads of chains without a place, and room for no more.
+fn no_heads<A: Allocator>(alloc: A) -> Result<Vec<Option<u16>, A>, AllocError>
+    ensures none { IfOk result (λ heads. heads.items ≡ replicate CHAINS None) }
+    ensures room { IfOk result (λ heads. vec_capacity heads ≡ CHAINS) }
+{
+    let mut heads = Vec::with_capacity(alloc, CHAINS)?;
+    while heads.len() < CHAINS {
+        heads.push_reserved(None);
+    }
+    Ok(heads)
 }
 
 /// Puts place `n` in front of its key's chain, and gives what stood there.

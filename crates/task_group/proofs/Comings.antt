@@ -4,7 +4,7 @@ use Rattle.std.proofs.Common.{length, Option, Some, None, inl, inr, slice_get, r
 use Rattle.std.proofs.Common.{◌∙◌, arith, zero-add}
 use Rattle.std.specs.Prelude.{◌==◌, count_by, slice_set}
 use Rattle.std.specs.Option.{IfSome}
-use Rattle.std.proofs.lemmas.Bool.{cases_eq, cases_lt, ltb-true}
+use Rattle.std.proofs.lemmas.Bool.{cases_eq, cases_lt}
 use Rattle.std.proofs.lemmas.List.{length-append, take-append-le}
 use Rattle.std.proofs.lemmas.List.Sums.{sum_by-append}
 use Rattle.run_model.specs.declared.groups.Group.{Group}
@@ -16,7 +16,7 @@ use Rattle.run_model.specs.Rows.{new_task}
 use Rattle.task_group.specs.declared.seats.Seats.{Seats}
 use Rattle.task_group.specs.Flags.{AreFlagged, flags_after}
 use Rattle.task_group.specs.Held.{fits_limit}
-use Rattle.task_group.specs.Kept.{Kept, SeatsOf, capped, entered, linked}
+use Rattle.task_group.specs.Kept.{Kept, SeatsOf, entered, linked}
 use Rattle.task_group.specs.Sound.{AreKept}
 use Rattle.task_group.proofs.Admits.{is_of, eqb_same, eqb_apart, ended_not_fresh, held_none}
 use Rattle.task_group.proofs.Admits.{ready_none, running_not_fresh, running_unfinished}
@@ -129,15 +129,9 @@ seats_stay w x k s e not_of r =
     let held = λ (j : ℕ). (all_stay w x e j).held k in
     record {
       unfinished = r.unfinished ∙ sym count;
-      admitted = r.admitted ∙ ap (capped (limit_of w.groups k)) (sym count);
       first = next_same (is_held w k) (is_held (with_task x w) k) held 0 s.first r.first;
       last = last_same (is_held w k) (is_held (with_task x w) k) held s.first s.last r.last;
     }
-
-capped_more : (limit : Option ℕ) (n : ℕ) → admits limit n ≡ true
-    → capped limit (n + 1) ≡ capped limit n + 1
-capped_more None n ok = refl
-capped_more (Some most) n ok = (let lt : n < most = ltb-true n most ok in omega arith)
 
 seats_more : (w : Work) (x : Task) (s : Seats) → is_running x.stage ≡ true
     → admits (limit_of w.groups x.group) (unfinished_in x.group w.tasks) ≡ true
@@ -153,10 +147,6 @@ seats_more w x s run ok r =
     let held = λ (j : ℕ). (all_stay w x (running_not_fresh x.stage run) j).held g in
     record {
       unfinished = ap (λ (n : ℕ). n + 1) r.unfinished ∙ sym count;
-      admitted =
-          ap (λ (n : ℕ). n + 1) r.admitted
-          ∙ sym (capped_more (limit_of w.groups g) (unfinished_in g w.tasks) ok)
-          ∙ ap (capped (limit_of w.groups g)) (sym count);
       first = next_same (is_held w g) (is_held (with_task x w) g) held 0 s.first r.first;
       last = last_same (is_held w g) (is_held (with_task x w) g) held s.first s.last r.last;
     }

@@ -20,9 +20,11 @@ invariant_of-self g c =
       ap length heads,
       c.deref_mut.ensures.len,
       heads_fixed old.heads.items c.args.key (length old.keys.items),
-    )) in
-    chained_pushed places _ old.nexts.cap _ old.heads.items old.nexts.items _ _ _ c.args.key
-    c.self.invariant room c.requires.key c.push_reserved.ensures.capacity
-    c.push_reserved-2.ensures.capacity c.push_reserved.ensures.items (back ∙ now)
-    (c.push_reserved-2.ensures.items ∙ ap (λ o. old.nexts.items ++ o ∷ [])
-    (c.hang-next.ensures.head ∙ ap (λ l. head_of l c.args.key) heads))
+    )) in (
+      chained_pushed places _ old.nexts.cap _ old.heads.items old.nexts.items _ _ _ c.args.key
+          c.self.invariant.0 room c.requires.key c.push_reserved.ensures.capacity
+          c.push_reserved-2.ensures.capacity c.push_reserved.ensures.items (back ∙ now)
+          (c.push_reserved-2.ensures.items ∙ ap (λ o. old.nexts.items ++ o ∷ [])
+          (c.hang-next.ensures.head ∙ ap (λ l. head_of l c.args.key) heads)),
+      c.self.invariant.1,
+    )

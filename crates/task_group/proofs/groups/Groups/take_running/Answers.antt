@@ -14,7 +14,7 @@ enter-requires-clause-room g c row here =
     (c.self.invariant.0.seated.right c.args.row.group row here) in
     let room = rw (← c.self.view_is) at c.requires.room in
     let most = most_tasks_most s.layout in
-    (omega (arith, few.0, room, most), omega (arith, few.1, room, most))
+    omega (arith, few, room, most)
 
 pub invariant_of-self : goal.invariant_of-self
 invariant_of-self g c =

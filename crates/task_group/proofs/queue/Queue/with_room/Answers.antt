@@ -1,4 +1,4 @@
-use Rattle.std.proofs.Common.{◌≡◌, ◌+◌, ◌*◌, ◌∙◌, drop, false, sym, ap, subst, arith, rules}
+use Rattle.std.proofs.Common.{◌≡◌, ◌+◌, ◌*◌, ◌∙◌, drop, false, sym, ap, subst, arith}
 use Rattle.std.specs.Prelude.{replicate}
 use Rattle.run_model.specs.Layouts.{most_tasks}
 use Rattle.task_group.specs.Trees.{IsTree}
@@ -14,13 +14,14 @@ all_down g c =
     let twice : 2 * c.most_tasks-leaves.result
     ≡ most_tasks c.args.layout + most_tasks c.args.layout =
     omega (arith, c.most_tasks-leaves.ensures.value) in
-    c.in_ok-nodes.ensures.items_if_clones_equal (λ y same. search rules)
-    ∙ ap (λ n. replicate n false) twice
+    c.in_ok-nodes.ensures.down ∙ ap (λ n. replicate n false) twice
 
 pub invariant_of-result : goal.invariant_of-result
-invariant_of-result g c =
-    subst (λ n. IsTree n c.in_ok-nodes.nodes.items) (sym c.most_tasks-leaves.ensures.value)
-    (subst (IsTree (most_tasks c.args.layout)) (sym (all_down g c)) (new_tree c.args.layout))
+invariant_of-result g c = (
+  subst (λ n. IsTree n c.in_ok-nodes.nodes.items) (sym c.most_tasks-leaves.ensures.value)
+      (subst (IsTree (most_tasks c.args.layout)) (sym (all_down g c)) (new_tree c.args.layout)),
+  omega (arith, c.in_ok-nodes.ensures.room),
+)
 
 pub returns : goal.returns
 returns g c =

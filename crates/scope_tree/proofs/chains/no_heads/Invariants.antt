@@ -1,0 +1,14 @@
+use Rattle.std.proofs.Common.{◌≡◌, ◌≤◌, ◌-◌, None, length, vec_capacity}
+use Rattle.std.specs.Prelude.{replicate}
+use Rattle.scope_tree.specs.declared.chains.TheConstants.{CHAINS}
+use Rattle.scope_tree.proofs.chains.no_heads.Given as goal
+
+abbrev pub invariant-loop-heads : goal.invariant-loop-heads
+invariant-loop-heads g l = record {
+  none : l.heads.items ≡ replicate (length l.heads.items) None;
+  room : vec_capacity l.heads ≡ CHAINS;
+  within : length l.heads.items ≤ CHAINS;
+}
+
+abbrev pub decreases-loop-heads : goal.decreases-loop-heads
+decreases-loop-heads g l = CHAINS - length l.heads.items
