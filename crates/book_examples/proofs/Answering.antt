@@ -13,7 +13,7 @@ use Rattle.run_model.specs.declared.layouts.Layout.TheVariants.{Small}
 use Rattle.record_view.specs.Spelling.{spelling}
 use Rattle.run_disk.specs.Disk.{last_moment}
 use Rattle.run_disk.specs.Runs.{Passed}
-use Rattle.run_store.specs.Recoveries.{FailedAt}
+use Rattle.run_disk.specs.Runs.{FailedAt}
 use Rattle.scope_laws.proofs.RunLemmas.{run_counts}
 use Rattle.model_examples.specs.Calls.{acked, checkpoint, faulty, flush, scope_made}
 use Rattle.model_examples.specs.Nights.{new_store}

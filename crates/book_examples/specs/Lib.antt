@@ -1,3 +1,4 @@
 pub mod Plays
 pub mod Steps
 pub mod Stores
+pub mod TwoNights

@@ -4,6 +4,7 @@
 //! Each function has an empty body, and its clauses are the example.
 #![tactic(auto)]
 
+pub mod nights;
 pub mod plays;
 pub mod steps;
 pub mod stores;

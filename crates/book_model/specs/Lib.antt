@@ -1,8 +1,11 @@
 pub mod Holdings
+pub mod Machines
+pub mod ManyNights
 pub mod Meanings
 pub mod Migrations
 pub mod Nights
 pub mod Openings
 pub mod Plays
+pub mod Standing
 pub mod Steps
 pub mod Stores

@@ -7,6 +7,7 @@
 
 pub mod fronts;
 pub mod holdings;
+pub mod machines;
 pub mod meanings;
 pub mod migrations;
 pub mod openings;

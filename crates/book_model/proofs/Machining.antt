@@ -1,0 +1,249 @@
+-- A book over a disk makes the moves of the machine that it is.
+use Rattle.std.proofs.Common.{◌≡◌, ◌⊎◌, ◌+◌, ◌-◌, ◌++◌, ◌∷◌, [], ℕ, Bool, true, false, List}
+use Rattle.std.proofs.Common.{length, Option, Some, None, Ok, if◌then◌else◌, inl, inr}
+use Rattle.std.proofs.Common.{refl, sym, ap, subst, ◌∙◌, arith}
+use Rattle.std.specs.Prelude.{unwrap_or}
+use Rattle.run_model.specs.declared.answers.Reply.{Reply}
+use Rattle.run_model.specs.declared.commands.Step.{Step}
+use Rattle.run_model.specs.Allowed.{IsFront}
+use Rattle.run_model.specs.Session.{Session, is_ack}
+use Rattle.run_model.specs.State.{State}
+use Rattle.run_disk.specs.Disk.{DiskState, IsAtRest, IsDisk}
+use Rattle.book_model.specs.Holdings.{CarriesOn, Holding, IsOpened, IsSession, acked}
+use Rattle.book_model.specs.Machines.{Goes, GoesOn, Machine, Move, Open, OpenInVain, Running}
+use Rattle.book_model.specs.Machines.{Runs, Stop, StopsAt, Stored, Take, TakesAll, added, opened_at}
+use Rattle.book_model.specs.Machines.{took}
+use Rattle.book_model.specs.Openings.{Opens}
+use Rattle.book_model.specs.Plays.{IsReply, IsReplyWhere, acked_of}
+use Rattle.book_model.specs.Standing.{Closed, CutsOpening, CutsSteps, Does, DoesAll, GoesAs}
+use Rattle.book_model.specs.Standing.{HoldsAs, LiesWith, Opened, Standing, StandsAs}
+use Rattle.book_model.specs.Steps.{AnswersStep, StepsOn}
+use Rattle.book_model.specs.Stores.{StoresFront, StoresOpened, restarted}
+use Rattle.book_model.proofs.HoldingLemmas.{left_any_moment, safe_on}
+use Rattle.book_model.proofs.NightLemmas.{opened_safe, opened_session}
+use Rattle.book_model.proofs.Playing.{ack_is, acked_is, some_none, sound_acked}
+use Rattle.book_model.proofs.Rows.{row_carries}
+use Rattle.book_model.proofs.Stepping.{IsTold, session_count, step_left, step_told}
+use Rattle.book_model.proofs.Storing.{stores_one}
+
+-- ---- a step
+
+-- What is acknowledged behind an Acked is the count of the session; no broken book tells it.
+pub acked_count : (b : Bool) (s : Session) (x : Step) (r : Reply) (n : ℕ)
+    → IsReplyWhere b s x r → acked_of r ≡ Some n → n ≡ s.state.count
+acked_count true s x r n told some = absurd (some_none (acked_of r) n some (ap acked_of told))
+acked_count false s x r n told some = (sound_acked s x r n told some).0
+
+-- As many events are acknowledged behind a step as the machine says.
+acked_after : {D : Type 0} (old new : Holding D) (b : Bool) (s : Session) (x : Step) (r : Reply)
+    (n : ℕ) → IsSession old s → IsReplyWhere b s x r → new.start ≡ old.start
+    → new.durable ≡ unwrap_or (acked_of r) old.durable → n ≡ acked old
+    → (if is_ack r then length old.history else n) ≡ acked new
+acked_after old new b s x r n is told start durable was = go (acked_of r) refl
+  where
+    go : (o : Option ℕ) → acked_of r ≡ o
+        → (if is_ack r then length old.history else n) ≡ acked new
+    go None none =
+        let same : new.durable ≡ old.durable =
+        durable ∙ ap (λ o. unwrap_or o old.durable) none in
+        let count : new.start.count ≡ old.start.count = ap (λ (q : State). q.count) start in
+        let stays : n ≡ acked new = omega (arith, same, count, was) in
+        ap (λ k. if k then length old.history else n) (acked_is r none) ∙ stays
+    go (Some k) some =
+        let last : new.durable ≡ k = durable ∙ ap (λ o. unwrap_or o old.durable) some in
+        let all : k ≡ s.state.count = acked_count b s x r k told some in
+        let count = session_count old s is in
+        let begins : new.start.count ≡ old.start.count = ap (λ (q : State). q.count) start in
+        let whole : length old.history ≡ acked new = omega (arith, last, all, count, begins) in
+        ap (λ k. if k then length old.history else n) (ack_is r k some) ∙ whole
+
+-- The machine takes the step, and the book holds what it does then.
+pub record TookAs {D : Type 0} (state : D → DiskState) (m : Running) (x : Step) (r : Reply)
+    (new : Holding D) : Type 0 where
+  pub reply : IsReply m.book x r
+  pub holds : HoldsAs state new (took m x r)
+
+pub record TakenAs {D : Type 0} (state : D → DiskState) (m : Running) (steps : List Step)
+    (answers : List Reply) (new : Holding D) : Type 0 where
+  pub end : Running
+  pub takes : TakesAll m steps answers end
+  pub holds : HoldsAs state new end
+
+-- The machine makes the move, and the book stands where it does then.
+pub record MovesAs {D : Type 0} (state : D → DiskState) (m : Machine) (move : Move)
+    (new : Standing D) : Type 0 where
+  pub next : Machine
+  pub goes : Goes m move next
+  pub stands : StandsAs state new next
+
+module _ {D : Type 0} (state : D → DiskState) where
+  pub took_as : (h new : Holding D) (m : Running) (x : Step) (r : Reply) → HoldsAs state h m
+      → AnswersStep state h x r new → CarriesOn state h new → TookAs state m x r new
+  took_as h new m x r is answers on =
+      let s = m.book.session in
+      let b = m.book.broken in
+      let left = step_left state h x r new answers in
+      let told : IsTold h b s x r new =
+      subst (λ k. IsTold h k s x r new) (sym is.broken)
+      (step_told state h s x r new is.session answers) in
+      record {
+        reply = told.replied;
+        holds = record {
+          safe = safe_on state h new on is.safe;
+          durable = on.images;
+          start = is.start ∙ sym on.start;
+          history = ap (λ l. l ++ added b s x) is.history ∙ sym told.history;
+          acked = ap (λ l. if is_ack r then length l else m.acked) is.history
+              ∙ acked_after h new b s x r m.acked is.session told.replied left.start
+              left.durable is.acked;
+          session = told.next;
+          broken = told.broken;
+        };
+      }
+
+  pub row_as : (h last : Holding D) (m : Running) (steps : List Step) (answers : List Reply)
+      → HoldsAs state h m → StepsOn state h steps answers last
+      → TakenAs state m steps answers last
+  row_as h last m [] [] is p = record {
+    end = m;
+    takes = refl;
+    holds = subst (λ g. HoldsAs state g m) (sym p) is;
+  }
+  row_as h last m [] (r ∷ answers) is p = absurd p
+  row_as h last m (x ∷ steps) [] is p = absurd p
+  row_as h last m (x ∷ steps) (r ∷ answers) is (next, one, on, rest) =
+      let first = took_as h next m x r is one on in
+      let more = row_as next last (took m x r) steps answers first.holds rest in
+      record { end = more.end; takes = (first.reply, more.takes); holds = more.holds }
+
+  -- ---- an opening
+
+  pub opened_as : (given : D) (p : State) (h : Holding D) → LiesWith state given p
+      → Opens state given (Ok h) → HoldsAs state h (opened_at p)
+  opened_as given p h lies opens =
+      let found = opens.answer.found.stores lies.honest in
+      let same = stores_one (state given).now opens.answer.stored p found lies.stores in
+      let is : IsOpened state given p h =
+      subst (λ q. IsOpened state given q h) same opens.answer.opened in
+      let none : acked h ≡ 0 = omega (arith, is.durable) in
+      record {
+        safe = opened_safe state given p h lies.honest lies.rest is;
+        durable = λ safe x left.
+            subst (λ q. StoresFront q h.history (acked h) x) (sym is.start) (record {
+              state = restarted p;
+              front = record {
+                many = 0;
+                enough = omega (arith, none);
+                within = omega arith;
+                reached = refl;
+              };
+              stores = opens.now lies.honest lies.rest p lies.stores x left;
+            });
+        start = sym is.start;
+        history = sym is.history;
+        acked = sym none;
+        session = opened_session state given p h is;
+        broken = sym is.sound;
+      }
+
+  vain_by : (next : D) (p : State) → (state next).honest → IsAtRest (state next)
+      → StoresOpened p (state next).now → MovesAs state (Stored p) OpenInVain (Closed next)
+  vain_by next p honest rest (inl same) = record {
+    next = Stored p;
+    goes = inl refl;
+    stands = record { honest = honest; rest = rest; stores = same };
+  }
+  vain_by next p honest rest (inr again) = record {
+    next = Stored (restarted p);
+    goes = inr refl;
+    stands = record { honest = honest; rest = rest; stores = again };
+  }
+
+  vain_as : (given next : D) (p : State) → LiesWith state given p
+      → CutsOpening state given next → MovesAs state (Stored p) OpenInVain (Closed next)
+  vain_as given next p lies cut =
+      vain_by next p cut.finds.honest cut.finds.rest
+      ((cut.opens.any_moment lies.honest lies.rest p lies.stores).each (state next).now
+      cut.finds.content)
+
+  -- ---- a stop
+
+  stop_as : (h : Holding D) (next : D) (m : Running) (more : List Step)
+      → ((d : D) → IsDisk (state d)) → HoldsAs state h m → CutsSteps state h more next
+      → MovesAs state (Runs m) (Stop more) (Closed next)
+  stop_as h next m more disk is cut =
+      let row = row_as h cut.last m more cut.untold is cut.takes in
+      let on = row_carries state h cut.last more cut.untold disk is.durable cut.takes in
+      let left = left_any_moment state h cut.last (state next).now on is.safe
+      cut.finds.content in
+      let q = left.state in
+      let begun : IsFront m.start cut.last.history (acked h) q =
+      subst (λ p. IsFront p cut.last.history (acked h) q) (sym is.start) left.front in
+      let grown : IsFront m.start row.end.history (acked h) q =
+      subst (λ l. IsFront m.start l (acked h) q) (sym row.holds.history) begun in
+      record {
+        next = Stored q;
+        goes = record {
+          untold = cut.untold;
+          last = row.end;
+          takes = row.takes;
+          front = subst (λ n. IsFront m.start row.end.history n q) (sym is.acked) grown;
+        };
+        stands = record {
+          honest = cut.finds.honest;
+          rest = cut.finds.rest;
+          stores = left.stores;
+        };
+      }
+
+  -- ---- any move
+
+  closed_as : (given : D) (new : Standing D) (move : Move) (p : State) → LiesWith state given p
+      → Does state (Closed given) move new → MovesAs state (Stored p) move new
+  closed_as given (Opened h) Open p is does = record {
+    next = Runs (opened_at p);
+    goes = refl;
+    stands = opened_as given p h is does;
+  }
+  closed_as given (Closed next) Open p is does = absurd does
+  closed_as given (Closed next) OpenInVain p is does = vain_as given next p is does
+  closed_as given (Opened h) OpenInVain p is does = absurd does
+  closed_as given (Closed next) (Take x r) p is does = absurd does
+  closed_as given (Opened h) (Take x r) p is does = absurd does
+  closed_as given (Closed next) (Stop more) p is does = absurd does
+  closed_as given (Opened h) (Stop more) p is does = absurd does
+
+  open_as : (h : Holding D) (new : Standing D) (move : Move) (m : Running)
+      → ((d : D) → IsDisk (state d)) → HoldsAs state h m → Does state (Opened h) move new
+      → MovesAs state (Runs m) move new
+  open_as h (Opened new) (Take x r) m disk is (answers, on) =
+      let one = took_as h new m x r is answers on in
+      record { next = Runs (took m x r); goes = (one.reply, refl); stands = one.holds }
+  open_as h (Closed next) (Take x r) m disk is does = absurd does
+  open_as h (Closed next) (Stop more) m disk is does = stop_as h next m more disk is does
+  open_as h (Opened new) (Stop more) m disk is does = absurd does
+  open_as h (Closed next) Open m disk is does = absurd does
+  open_as h (Opened new) Open m disk is does = absurd does
+  open_as h (Closed next) OpenInVain m disk is does = absurd does
+  open_as h (Opened new) OpenInVain m disk is does = absurd does
+
+  pub does_as : (old new : Standing D) (move : Move) (m : Machine)
+      → ((d : D) → IsDisk (state d)) → StandsAs state old m → Does state old move new
+      → MovesAs state m move new
+  does_as (Closed given) new move (Stored p) disk is does = closed_as given new move p is does
+  does_as (Closed given) new move (Runs m) disk is does = absurd is
+  does_as (Opened h) new move (Stored p) disk is does = absurd is
+  does_as (Opened h) new move (Runs m) disk is does = open_as h new move m disk is does
+
+  pub all_as : (old new : Standing D) (moves : List Move) (m : Machine)
+      → ((d : D) → IsDisk (state d)) → StandsAs state old m → DoesAll state old moves new
+      → GoesAs state m moves new
+  all_as old new [] m disk is p = record {
+    end = m;
+    goes = refl;
+    stands = subst (λ s. StandsAs state s m) (sym p) is;
+  }
+  all_as old new (move ∷ moves) m disk is (next, one, rest) =
+      let first = does_as old next move m disk is one in
+      let more = all_as next new moves first.next disk first.stands rest in
+      record { end = more.end; goes = (first.next, first.goes, more.goes); stands = more.stands }

@@ -1,0 +1,384 @@
+-- Many nights of the machine: what they lead to.
+use Rattle.std.proofs.Common.{◌≡◌, ◌⊎◌, ◌+◌, ◌-◌, ◌≤◌, ◌++◌, ◌∷◌, [], ℕ, Bool, true, false}
+use Rattle.std.proofs.Common.{List, length, take, drop, map, Option, Some, None, if◌then◌else◌}
+use Rattle.std.proofs.Common.{refl, sym, ap, subst, ◌∙◌, arith, append_assoc, append-nil}
+use Rattle.std.proofs.Common.{length-append}
+use Rattle.std.specs.Prelude.{unwrap_or}
+use Rattle.std.specs.List.{cons_option, flat_map}
+use Rattle.std.proofs.lemmas.List.{take-append-drop}
+use Rattle.run_model.specs.declared.answers.Reply.{Reply}
+use Rattle.run_model.specs.declared.commands.Step.{Step}
+use Rattle.run_model.specs.Allowed.{run}
+use Rattle.run_model.specs.Event.{Event}
+use Rattle.run_model.specs.Session.{Session, accepted, acknowledged, event_of_step, is_ack}
+use Rattle.run_model.specs.Session.{with_event}
+use Rattle.run_model.specs.State.{State}
+use Rattle.run_disk.specs.Disk.{DiskState, IsDisk}
+use Rattle.book_model.specs.Machines.{Goes, GoesOn, Machine, Move, Open, OpenInVain, Running}
+use Rattle.book_model.specs.Machines.{Runs, Stop, StopsAt, Stored, Take, TakesAll, added, opened_at}
+use Rattle.book_model.specs.Machines.{took}
+use Rattle.book_model.specs.ManyNights.{LeadOver, Leads, LeadsOver, Night, InVain, Spent}
+use Rattle.book_model.specs.ManyNights.{StoresBehindNights, answers_of, moves_of, steps_of}
+use Rattle.book_model.specs.Nights.{opened_from}
+use Rattle.book_model.specs.Plays.{IsReplyWhere, Plays, acked_of, is_broken_reply, last_acked}
+use Rattle.book_model.specs.Plays.{session_behind, taken}
+use Rattle.book_model.specs.Standing.{Closed, DoesAll, LiesWith, StandsAs}
+use Rattle.book_model.specs.Stores.{restarted}
+use Rattle.book_model.proofs.FrontLemmas.{take_behind}
+use Rattle.book_model.proofs.Machining.{acked_count, all_as}
+use Rattle.book_model.proofs.NightLemmas.{told_enough}
+use Rattle.book_model.proofs.Playing.{accepted_run, ack_is, acked_is, acknowledged_first}
+use Rattle.book_model.proofs.Playing.{acknowledged_told, not_refused}
+use Rattle.book_model.proofs.Stepping.{added_first, told_last}
+
+-- ---- what steps leave of the machine
+
+pub takes_plays : (m end : Running) (steps : List Step) (answers : List Reply)
+    → TakesAll m steps answers end → Plays m.book steps answers end.book
+takes_plays m end [] [] p = ap (λ (n : Running). n.book) p
+takes_plays m end [] (r ∷ answers) p = absurd p
+takes_plays m end (x ∷ steps) [] p = absurd p
+takes_plays m end (x ∷ steps) (r ∷ answers) (reply, rest) =
+    (reply, takes_plays (took m x r) end steps answers rest)
+
+pub takes_join : (m middle end : Running) (steps more : List Step) (answers others : List Reply)
+    → TakesAll m steps answers middle → TakesAll middle more others end
+    → TakesAll m (steps ++ more) (answers ++ others) end
+takes_join m middle end [] more [] others p q = subst (λ n. TakesAll n more others end) p q
+takes_join m middle end [] more (r ∷ answers) others p q = absurd p
+takes_join m middle end (x ∷ steps) more [] others p q = absurd p
+takes_join m middle end (x ∷ steps) more (r ∷ answers) others (reply, rest) q =
+    (reply, takes_join (took m x r) middle end steps more answers others rest q)
+
+pub takes_start : (m end : Running) (steps : List Step) (answers : List Reply)
+    → TakesAll m steps answers end → end.start ≡ m.start
+takes_start m end [] [] p = ap (λ (n : Running). n.start) p
+takes_start m end [] (r ∷ answers) p = absurd p
+takes_start m end (x ∷ steps) [] p = absurd p
+takes_start m end (x ∷ steps) (r ∷ answers) (reply, rest) =
+    takes_start (took m x r) end steps answers rest
+
+-- A reply is Broken where the machine is.
+broken_where : (b : Bool) (s : Session) (x : Step) (r : Reply) → IsReplyWhere b s x r
+    → is_broken_reply r ≡ b
+broken_where true s x r told = ap is_broken_reply told
+broken_where false s x r told = not_refused s x r told
+
+pub takes_history : (m end : Running) (steps : List Step) (answers : List Reply)
+    → TakesAll m steps answers end
+    → end.history ≡ m.history ++ accepted m.book.session (taken steps answers)
+takes_history m end [] [] p =
+    ap (λ (n : Running). n.history) p ∙ sym (append-nil m.history)
+takes_history m end [] (r ∷ answers) p = absurd p
+takes_history m end (x ∷ steps) [] p = absurd p
+takes_history m end (x ∷ steps) (r ∷ answers) (reply, rest) =
+    let b = m.book.broken in
+    let s = m.book.session in
+    takes_history (took m x r) end steps answers rest
+    ∙ append_assoc m.history (added b s x)
+    (accepted (session_behind b s x) (taken steps answers))
+    ∙ ap (λ es. m.history ++ es)
+    (sym (added_first b s x r steps answers (broken_where b s x r reply)))
+
+-- ---- what is acknowledged
+
+-- The events since the opening are those that the session counts.
+abbrev Counts : Running → Type 0
+Counts m = m.start.count + length m.history ≡ m.book.session.state.count
+
+added_counts : (n : ℕ) (history : List Event) (b : Bool) (s : Session) (x : Step)
+    → n + length history ≡ s.state.count
+    → n + length (history ++ added b s x) ≡ (session_behind b s x).state.count
+added_counts n history true s x counts =
+    let sum = length-append history [] in
+    omega (arith, counts, sum)
+added_counts n history false s x counts = by (event_of_step s x)
+  where
+    by : (o : Option Event)
+        → n + length (history ++ cons_option o []) ≡ (with_event s o).state.count
+    by None =
+        let sum = length-append history [] in
+        omega (arith, counts, sum)
+    by (Some made) =
+        let sum = length-append history (made ∷ []) in
+        omega (arith, counts, sum)
+
+acked_once : (m : Running) (x : Step) (r : Reply) → Counts m
+    → IsReplyWhere m.book.broken m.book.session x r
+    → m.start.count + (took m x r).acked ≡ unwrap_or (acked_of r) (m.start.count + m.acked)
+acked_once m x r counts told = go (acked_of r) refl
+  where
+    go : (o : Option ℕ) → acked_of r ≡ o
+        → m.start.count + (if is_ack r then length m.history else m.acked)
+        ≡ unwrap_or (acked_of r) (m.start.count + m.acked)
+    go None none =
+        ap (λ k. m.start.count + (if k then length m.history else m.acked)) (acked_is r none)
+        ∙ sym (ap (λ o. unwrap_or o (m.start.count + m.acked)) none)
+    go (Some n) some =
+        let all : n ≡ m.book.session.state.count =
+        acked_count m.book.broken m.book.session x r n told some in
+        let whole : m.start.count + length m.history ≡ n = omega (arith, counts, all) in
+        ap (λ k. m.start.count + (if k then length m.history else m.acked)) (ack_is r n some)
+        ∙ whole
+        ∙ sym (ap (λ o. unwrap_or o (m.start.count + m.acked)) some)
+
+takes_acked : (m end : Running) (steps : List Step) (answers : List Reply) → Counts m
+    → TakesAll m steps answers end
+    → m.start.count + end.acked ≡ unwrap_or (last_acked answers) (m.start.count + m.acked)
+takes_acked m end [] [] counts p = ap (λ (n : Running). m.start.count + n.acked) p
+takes_acked m end [] (r ∷ answers) counts p = absurd p
+takes_acked m end (x ∷ steps) [] counts p = absurd p
+takes_acked m end (x ∷ steps) (r ∷ answers) counts (reply, rest) =
+    takes_acked (took m x r) end steps answers
+    (added_counts m.start.count m.history m.book.broken m.book.session x counts) rest
+    ∙ ap (λ n. unwrap_or (last_acked answers) n) (acked_once m x r counts reply)
+    ∙ told_last answers r (m.start.count + m.acked)
+
+-- ---- from the opening on
+
+pub taken_state : (p : State) (m : Running) (steps : List Step) (answers : List Reply)
+    → TakesAll (opened_at p) steps answers m
+    → run m.start m.history ≡ Some m.book.session.state
+taken_state p m steps answers takes =
+    ap (λ q. run q m.history) (takes_start (opened_at p) m steps answers takes)
+    ∙ ap (λ l. run (restarted p) l) (takes_history (opened_at p) m steps answers takes)
+    ∙ accepted_run (opened_at p).book m.book steps answers
+    (takes_plays (opened_at p) m steps answers takes)
+
+pub taken_acked : (p : State) (m : Running) (steps : List Step) (answers : List Reply)
+    → TakesAll (opened_at p) steps answers m → m.acked ≤ length m.history
+taken_acked p m steps answers takes = go (last_acked answers) refl
+  where
+    none : (restarted p).count + 0 ≡ (restarted p).count
+    none = omega arith
+
+    told : (restarted p).count + m.acked ≡ unwrap_or (last_acked answers) (restarted p).count
+    told = takes_acked (opened_at p) m steps answers none takes
+        ∙ ap (λ n. unwrap_or (last_acked answers) n) none
+
+    plays : Plays (opened_at p).book steps answers m.book
+    plays = takes_plays (opened_at p) m steps answers takes
+
+    go : (o : Option ℕ) → last_acked answers ≡ o → m.acked ≤ length m.history
+    go None is =
+        let first : (restarted p).count + m.acked ≡ (restarted p).count =
+        told ∙ ap (λ o. unwrap_or o (restarted p).count) is in
+        omega (arith, first)
+    go (Some n) is =
+        let last : (restarted p).count + m.acked ≡ n =
+        told ∙ ap (λ o. unwrap_or o (restarted p).count) is in
+        let counted = acknowledged_told (opened_at p).book m.book steps answers n plays is in
+        let order = acknowledged_first (opened_at p).book m.book steps answers plays in
+        let sum = length-append (acknowledged (opened_from p) steps answers) order.0 in
+        let whole : length m.history
+        ≡ length (acknowledged (opened_from p) steps answers ++ order.0) =
+        ap (λ (l : List Event). length l)
+        (takes_history (opened_at p) m steps answers takes ∙ order.1) in
+        omega (arith, last, counted, sum, whole)
+
+-- ---- one night
+
+-- What steps leave of the machine that was just opened.
+record IsSpent (p : State) (steps : List Step) (answers : List Reply) (end : Running)
+    : Type 0 where
+  pub start : end.start ≡ restarted p
+  pub history : end.history ≡ accepted (opened_from p) (taken steps answers)
+  pub first : List Event
+  pub in_order : accepted (opened_from p) (taken steps answers)
+      ≡ acknowledged (opened_from p) steps answers ++ first
+  pub enough : length (acknowledged (opened_from p) steps answers) ≤ end.acked
+
+spent : (p : State) (end : Running) (steps : List Step) (answers : List Reply)
+    → TakesAll (opened_at p) steps answers end → IsSpent p steps answers end
+spent p end steps answers takes =
+    let m = opened_at p in
+    let plays = takes_plays m end steps answers takes in
+    let order = acknowledged_first m.book end.book steps answers plays in
+    let none : (restarted p).count + 0 ≡ (restarted p).count = omega arith in
+    let told : (restarted p).count + end.acked
+    ≡ unwrap_or (last_acked answers) (restarted p).count =
+    takes_acked m end steps answers none takes
+    ∙ ap (λ n. unwrap_or (last_acked answers) n) none in
+    let enough = told_enough m.book end.book steps answers (restarted p).count
+    ((restarted p).count + end.acked) plays refl told in
+    record {
+      start = takes_start m end steps answers takes;
+      history = takes_history m end steps answers takes;
+      first = order.0;
+      in_order = order.1;
+      enough = omega (arith, enough);
+    }
+
+led_over : (p q : State) (m : Running) (calls : List (Step × Reply)) (more : List Step)
+    → TakesAll (opened_at p) (steps_of calls) (answers_of calls) m → StopsAt m more q
+    → LeadsOver p calls more q
+led_over p q m calls more takes stops =
+    let s = opened_from p in
+    let steps = steps_of calls in
+    let answers = answers_of calls in
+    let acks = acknowledged s steps answers in
+    let one = spent p m steps answers takes in
+    let all = spent p stops.last (steps ++ more) (answers ++ stops.untold)
+    (takes_join (opened_at p) m stops.last steps more answers stops.untold takes stops.takes) in
+    let later = accepted m.book.session (taken more stops.untold) in
+    let rest = one.first ++ later in
+    let order : stops.last.history ≡ acks ++ rest =
+    takes_history m stops.last more stops.untold stops.takes
+    ∙ ap (λ l. l ++ later) (one.history ∙ one.in_order)
+    ∙ append_assoc acks one.first later in
+    let many = stops.front.many in
+    let enough : length acks ≤ many = omega (arith, one.enough, stops.front.enough) in
+    let k = many - length acks in
+    record {
+      untold = stops.untold;
+      further = take k rest;
+      lost = drop k rest;
+      in_order = sym all.history ∙ order
+          ∙ ap (λ l. acks ++ l) (sym (take-append-drop k rest));
+      reached = ap (λ l. run (restarted p) l)
+          (sym (take_behind many stops.last.history acks rest order enough))
+          ∙ subst (λ b. run b (take many stops.last.history) ≡ Some q) one.start
+          stops.front.reached;
+    }
+
+-- ---- the moves of nights
+
+-- Moves fall into two parts.
+record Parts (m : Machine) (first second : List Move) (n : Machine) : Type 0 where
+  pub middle : Machine
+  pub before : GoesOn m first middle
+  pub behind : GoesOn middle second n
+
+parts : (m n : Machine) (first second : List Move) → GoesOn m (first ++ second) n
+    → Parts m first second n
+parts m n [] second p = record { middle = m; before = refl; behind = p }
+parts m n (move ∷ first) second (next, one, rest) =
+    let more = parts next n first second rest in
+    record { middle = more.middle; before = (next, one, more.before); behind = more.behind }
+
+-- The moves of calls are steps that are taken.
+record Called (m : Running) (calls : List (Step × Reply)) (n : Machine) : Type 0 where
+  pub end : Running
+  pub takes : TakesAll m (steps_of calls) (answers_of calls) end
+  pub is : n ≡ Runs end
+
+called : (m : Running) (n : Machine) (calls : List (Step × Reply))
+    → GoesOn (Runs m) (map (λ call. Take call.0 call.1) calls) n → Called m calls n
+called m n [] p = record { end = m; takes = refl; is = p }
+called m n ((x, r) ∷ calls) (Stored q, one, rest) = absurd one
+called m n ((x, r) ∷ calls) (Runs next, (reply, same), rest) =
+    let more = called (took m x r) n calls
+    (subst (λ k. GoesOn (Runs k) (map (λ call. Take call.0 call.1) calls) n) same rest) in
+    record { end = more.end; takes = (reply, more.takes); is = more.is }
+
+-- A night that was spent: the steps that were answered, and then the stop.
+pub record WasSpent (p : State) (calls : List (Step × Reply)) (more : List Step) (n : Machine)
+    : Type 0 where
+  pub end : Running
+  pub takes : TakesAll (opened_at p) (steps_of calls) (answers_of calls) end
+  pub state : State
+  pub stops : StopsAt end more state
+  pub is : n ≡ Stored state
+
+stopped : (p : State) (n : Machine) (calls : List (Step × Reply)) (more : List Step)
+    (end : Running) → TakesAll (opened_at p) (steps_of calls) (answers_of calls) end
+    → GoesOn (Runs end) (Stop more ∷ []) n → WasSpent p calls more n
+stopped p n calls more end takes (Stored q, stops, last) =
+    record { end = end; takes = takes; state = q; stops = stops; is = last }
+stopped p n calls more end takes (Runs k, stops, last) = absurd stops
+
+pub was_spent : (p : State) (n : Machine) (calls : List (Step × Reply)) (more : List Step)
+    → GoesOn (Stored p) (moves_of (Spent calls more)) n → WasSpent p calls more n
+was_spent p n calls more (Stored q, one, rest) = absurd one
+was_spent p n calls more (Runs m, one, rest) =
+    let begun = subst
+    (λ k. GoesOn (Runs k) (map (λ call. Take call.0 call.1) calls ++ Stop more ∷ []) n) one
+    rest in
+    let two = parts (Runs (opened_at p)) n (map (λ call. Take call.0 call.1) calls)
+    (Stop more ∷ []) begun in
+    let row = called (opened_at p) two.middle calls two.before in
+    stopped p n calls more row.end row.takes
+    (subst (λ k. GoesOn k (Stop more ∷ []) n) row.is two.behind)
+
+-- And the other way round.
+moves_called : (m end : Running) (n : Machine) (calls : List (Step × Reply)) (moves : List Move)
+    → TakesAll m (steps_of calls) (answers_of calls) end → GoesOn (Runs end) moves n
+    → GoesOn (Runs m) (map (λ call. Take call.0 call.1) calls ++ moves) n
+moves_called m end n [] moves takes rest = subst (λ k. GoesOn (Runs k) moves n) takes rest
+moves_called m end n ((x, r) ∷ calls) moves (reply, takes) rest =
+    (Runs (took m x r), (reply, refl), moves_called (took m x r) end n calls moves takes rest)
+
+pub spends : (p q : State) (end : Running) (calls : List (Step × Reply)) (more : List Step)
+    → TakesAll (opened_at p) (steps_of calls) (answers_of calls) end → StopsAt end more q
+    → GoesOn (Stored p) (moves_of (Spent calls more)) (Stored q)
+spends p q end calls more takes stops = (
+  Runs (opened_at p),
+  refl,
+  moves_called (opened_at p) end (Stored q) calls (Stop more ∷ []) takes
+      (Stored q, stops, refl),
+)
+
+pub joined_moves : (m middle n : Machine) (first second : List Move) → GoesOn m first middle
+    → GoesOn middle second n → GoesOn m (first ++ second) n
+joined_moves m middle n [] second p q = subst (λ k. GoesOn k second n) p q
+joined_moves m middle n (move ∷ first) second (next, one, rest) q =
+    (next, one, joined_moves next middle n first second rest q)
+
+-- A night leads from what is stored to what is stored.
+record NightLeads (p : State) (night : Night) (n : Machine) : Type 0 where
+  pub state : State
+  pub leads : Leads p night state
+  pub is : n ≡ Stored state
+
+night_leads : (p : State) (n : Machine) (night : Night) → GoesOn (Stored p) (moves_of night) n
+    → NightLeads p night n
+night_leads p n InVain (Stored q, one, rest) = record { state = q; leads = one; is = rest }
+night_leads p n InVain (Runs m, one, rest) = absurd one
+night_leads p n (Spent calls more) goes =
+    let spent = was_spent p n calls more goes in
+    record {
+      state = spent.state;
+      leads = led_over p spent.state spent.end calls more spent.takes spent.stops;
+      is = spent.is;
+    }
+
+-- So many nights.
+record Nights (p : State) (nights : List Night) (n : Machine) : Type 0 where
+  pub state : State
+  pub leads : LeadOver p nights state
+  pub is : n ≡ Stored state
+
+nights_lead : (p : State) (n : Machine) (nights : List Night)
+    → GoesOn (Stored p) (flat_map moves_of nights) n → Nights p nights n
+nights_lead p n [] rest = record { state = p; leads = refl; is = rest }
+nights_lead p n (night ∷ nights) goes =
+    let two = parts (Stored p) n (moves_of night) (flat_map moves_of nights) goes in
+    let first = night_leads p two.middle night two.before in
+    let more = nights_lead first.state n nights
+    (subst (λ k. GoesOn k (flat_map moves_of nights) n) first.is two.behind) in
+    record {
+      state = more.state;
+      leads = (first.state, first.leads, more.leads);
+      is = more.is;
+    }
+
+pub same_stored : (p q : State) → Stored p ≡ Stored q → p ≡ q
+same_stored p q e = cc
+
+pub stored_nights : (p q : State) (nights : List Night)
+    → GoesOn (Stored p) (flat_map moves_of nights) (Stored q) → LeadOver p nights q
+stored_nights p q nights goes =
+    let all = nights_lead p (Stored q) nights goes in
+    subst (λ s. LeadOver p nights s) (sym (same_stored q all.state all.is)) all.leads
+
+pub book_nights : {D : Type 0} (state : D → DiskState) (given next : D) (p : State)
+    (nights : List Night) → ((d : D) → IsDisk (state d)) → LiesWith state given p
+    → DoesAll state (Closed given) (flat_map moves_of nights) (Closed next)
+    → StoresBehindNights p nights (state next).now
+book_nights state given next p nights disk lies does =
+    let all = all_as state (Closed given) (Closed next) (flat_map moves_of nights) (Stored p) disk
+    lies does in
+    let led = nights_lead p all.end nights all.goes in
+    let stands : LiesWith state next led.state =
+    subst (λ m. StandsAs state (Closed next) m) led.is all.stands in
+    record { state = led.state; stores = stands.stores; leads = led.leads }

@@ -1,0 +1,61 @@
+-- Many nights of the machine: which state they lead to, by what their replies told.
+use Rattle.std.specs.Prelude.{◌≡◌, ◌⊎◌, ◌++◌, ◌∷◌, [], ℕ, List, map, Some}
+use Rattle.run_model.specs.declared.answers.Reply.{Reply}
+use Rattle.run_model.specs.declared.commands.Step.{Step}
+use Rattle.run_model.specs.Allowed.{run}
+use Rattle.run_model.specs.Event.{Event}
+use Rattle.run_model.specs.Event as event
+use Rattle.run_model.specs.Session.{accepted, acknowledged}
+use Rattle.run_model.specs.State.{State}
+use Rattle.book_model.specs.Machines.{Move, Open, OpenInVain, Stop, Take}
+use Rattle.book_model.specs.Nights.{opened_from}
+use Rattle.book_model.specs.Plays.{taken}
+use Rattle.book_model.specs.Stores.{Stores, restarted}
+
+-- What is seen of a night: an opening in vain; or the steps that were answered, each with its
+-- reply, and those that it was stopped in the midst of.
+pub data Night : Type 0 where
+  InVain : Night
+  Spent : List (Step × Reply) → List Step → Night
+
+-- The moves of a night.
+abbrev pub moves_of : Night → List Move
+moves_of InVain = OpenInVain ∷ []
+moves_of (Spent calls more) =
+    Open ∷ (map (λ call. Take call.0 call.1) calls ++ Stop more ∷ [])
+
+-- The steps that were answered, and the replies.
+abbrev pub steps_of : List (Step × Reply) → List Step
+steps_of calls = map (λ call. call.0) calls
+
+abbrev pub answers_of : List (Step × Reply) → List Reply
+answers_of calls = map (λ call. call.1) calls
+
+-- The night leads from state p to state q: by a restart, the events that its replies acknowledged,
+-- and perhaps some more of those that were accepted, in order and none left out.
+pub record LeadsOver (p : State) (calls : List (Step × Reply)) (more : List Step) (q : State)
+    : Type 0 where
+  pub untold : List Reply
+  pub further : List Event
+  pub lost : List Event
+  pub in_order : accepted (opened_from p)
+      (taken (steps_of calls ++ more) (answers_of calls ++ untold))
+      ≡ acknowledged (opened_from p) (steps_of calls) (answers_of calls) ++ (further ++ lost)
+  pub reached : run p (event.Restart
+      ∷ (acknowledged (opened_from p) (steps_of calls) (answers_of calls) ++ further)) ≡ Some q
+
+-- An opening in vain leads to the state itself, or by a restart.
+abbrev pub Leads : State → Night → State → Type 0
+Leads p InVain q = (q ≡ p) ⊎ (q ≡ restarted p)
+Leads p (Spent calls more) q = LeadsOver p calls more q
+
+-- These nights, one after another, lead from state p to state q.
+abbrev pub LeadOver : State → List Night → State → Type 0
+LeadOver p [] q = q ≡ p
+LeadOver p (night ∷ nights) q = (next : State) × Leads p night next × LeadOver next nights q
+
+-- The disk stores a state that these nights lead to.
+pub record StoresBehindNights (p : State) (nights : List Night) (bytes : List ℕ) : Type 0 where
+  pub state : State
+  pub stores : Stores bytes state
+  pub leads : LeadOver p nights state

@@ -1,0 +1,90 @@
+-- A book over a disk from one opening to the next, as the moves of the machine that it is.
+use Rattle.std.specs.Prelude.{◌≡◌, ◌∷◌, [], ℕ, List, Result, Ok}
+use Rattle.run_model.specs.declared.answers.Reply.{Reply}
+use Rattle.run_model.specs.declared.commands.Step.{Step}
+use Rattle.run_model.specs.declared.faults.Fault.{Fault}
+use Rattle.run_model.specs.State.{State}
+use Rattle.run_disk.specs.Disk.{DiskState, IsAtRest}
+use Rattle.book_model.specs.Holdings.{CarriesOn, Holding, IsDurable, IsSafe, IsSession, acked}
+use Rattle.book_model.specs.Machines.{GoesOn, Machine, Move, Open, OpenInVain, Running, Runs}
+use Rattle.book_model.specs.Machines.{Stop, Stored, Take}
+use Rattle.book_model.specs.Openings.{Opens, disk_behind}
+use Rattle.book_model.specs.Steps.{AnswersStep, StepsOn}
+use Rattle.book_model.specs.Stores.{Stores}
+
+-- A disk lies there, or a book is open over it.
+pub data Standing (D : Type 0) : Type 0 where
+  Closed : D → Standing D
+  Opened : Holding D → Standing D
+
+-- The next opening finds a disk that is honest and at rest, with one of the contents that may have
+-- been left.
+pub record Finds {D : Type 0} (state : D → DiskState) (left : List ℕ → Type 0) (next : D)
+    : Type 0 where
+  pub honest : (state next).honest
+  pub rest : IsAtRest (state next)
+  pub content : left (state next).now
+
+-- An opening answers, but a crash at some moment since it began comes first, or none is wanted any
+-- more: the next opening finds what that left.
+pub record CutsOpening {D : Type 0} (state : D → DiskState) (given next : D) : Type 0 where
+  pub result : Result (Holding D) (Fault × D)
+  pub opens : Opens state given result
+  pub finds : Finds state ((state (disk_behind result)).since (state given).clock) next
+
+-- These steps are taken, but a crash at some moment since the first of them began comes before the
+-- replies are told: the next opening finds what that left.
+pub record CutsSteps {D : Type 0} (state : D → DiskState) (h : Holding D) (more : List Step)
+    (next : D) : Type 0 where
+  pub untold : List Reply
+  pub last : Holding D
+  pub takes : StepsOn state h more untold last
+  pub finds : Finds state ((state last.journal.disk).since (state h.journal.disk).clock) next
+
+-- A book makes this move.
+abbrev pub Does :
+    {D : Type 0} → (D → DiskState) → Standing D → Move → Standing D → Type 0
+Does state (Closed given) Open (Opened h) = Opens state given (Ok h)
+Does state (Closed given) OpenInVain (Closed next) = CutsOpening state given next
+Does state (Opened h) (Take x r) (Opened new) = AnswersStep state h x r new × CarriesOn state h new
+Does state (Opened h) (Stop more) (Closed next) = CutsSteps state h more next
+Does state _ _ _ = ⊥
+
+-- A book makes these moves, one after another.
+abbrev pub DoesAll :
+    {D : Type 0} → (D → DiskState) → Standing D → List Move → Standing D → Type 0
+DoesAll state old [] new = new ≡ old
+DoesAll state old (move ∷ moves) new =
+    (next : Standing _) × Does state old move next × DoesAll state next moves new
+
+-- ---- that it is this machine
+
+-- The disk is honest and at rest, and stores this state.
+pub record LiesWith {D : Type 0} (state : D → DiskState) (d : D) (p : State) : Type 0 where
+  pub honest : (state d).honest
+  pub rest : IsAtRest (state d)
+  pub stores : Stores (state d).now p
+
+-- The book holds what the machine does.
+pub record HoldsAs {D : Type 0} (state : D → DiskState) (h : Holding D) (m : Running)
+    : Type 0 where
+  pub safe : IsSafe state h
+  pub durable : IsDurable state h
+  pub start : m.start ≡ h.start
+  pub history : m.history ≡ h.history
+  pub acked : m.acked ≡ acked h
+  pub session : IsSession h m.book.session
+  pub broken : m.book.broken ≡ h.journal.broken
+
+-- The book stands where the machine does.
+abbrev pub StandsAs : {D : Type 0} → (D → DiskState) → Standing D → Machine → Type 0
+StandsAs state (Closed d) (Stored p) = LiesWith state d p
+StandsAs state (Opened h) (Runs m) = HoldsAs state h m
+StandsAs state _ _ = ⊥
+
+-- The machine makes these moves too, reply for reply, and the book stands where it does then.
+pub record GoesAs {D : Type 0} (state : D → DiskState) (m : Machine) (moves : List Move)
+    (new : Standing D) : Type 0 where
+  pub end : Machine
+  pub goes : GoesOn m moves end
+  pub stands : StandsAs state new end

@@ -1,0 +1,47 @@
+//! The machine that a book over a disk is, and what many nights of it lead to.
+
+ghost use Rattle.std.specs.Prelude.{◌≡◌, ◌≤◌, List, length, Some};
+ghost use Rattle.std.specs.List.{flat_map};
+ghost use Rattle.run_model.specs.declared.answers.Reply.{Reply};
+ghost use Rattle.run_model.specs.declared.commands.Step.{Step};
+ghost use Rattle.run_model.specs.Allowed.{run};
+ghost use Rattle.run_model.specs.State.{State};
+ghost use Rattle.book_model.specs.Machines.{GoesOn, Machine, Move, Running, Stored, TakesAll};
+ghost use Rattle.book_model.specs.Machines.{opened_at};
+ghost use Rattle.book_model.specs.ManyNights.{LeadOver, Night, StoresBehindNights, moves_of};
+ghost use Rattle.book_model.specs.Standing.{Closed, DoesAll, GoesAs, LiesWith, Standing, StandsAs};
+
+use run_disk::RunDisk;
+
+/// A book over a disk is the machine: whatever calls of it, stops and openings come one after
+/// another, each opening on an honest disk at rest with what a crash may have left, the machine
+/// makes the same moves, reply for reply. So does one that goes on from where a machine stands.
+pub fn a_book_is_a_machine<D: RunDisk>()
+    ensures store { (given : D) (p : State) (moves : List Move) (new : Standing D)
+        → LiesWith D.state given p → DoesAll D.state (Closed given) moves new
+        → GoesAs D.state (Stored p) moves new }
+    ensures anywhere { (old new : Standing D) (m : Machine) (moves : List Move)
+        → StandsAs D.state old m → DoesAll D.state old moves new → GoesAs D.state m moves new }
+{}
+
+/// The machine answers from its history: the state of its session is the one that all events since
+/// its opening led to, and of these no more are acknowledged than there are.
+pub fn a_machine_answers_from_its_history()
+    ensures state { (p : State) (m : Running) (steps : List Step) (answers : List Reply)
+        → TakesAll (opened_at p) steps answers m
+        → run m.start m.history ≡ Some m.book.session.state }
+    ensures acked { (p : State) (m : Running) (steps : List Step) (answers : List Reply)
+        → TakesAll (opened_at p) steps answers m → m.acked ≤ length m.history }
+{}
+
+/// Many nights lose nothing that was acknowledged. The state behind the last night is that of the
+/// first store, run over, night by night, a restart, every event that this night's replies
+/// acknowledged, and perhaps some more of those that it accepted, in order and none left out. So
+/// the machine, and so a book over disks, each of which holds what a stop of the one before left.
+pub fn many_nights_lose_nothing_acknowledged<D: RunDisk>()
+    ensures machine { (p q : State) (nights : List Night)
+        → GoesOn (Stored p) (flat_map moves_of nights) (Stored q) → LeadOver p nights q }
+    ensures books { (given next : D) (p : State) (nights : List Night) → LiesWith D.state given p
+        → DoesAll D.state (Closed given) (flat_map moves_of nights) (Closed next)
+        → StoresBehindNights p nights (D.state next).now }
+{}
