@@ -1,8 +1,10 @@
 //! The range of each field, and the numbers of bytes and rows.
 
 use crate::asserts::{done, holds};
-use crate::plain::{Counts, Head, Pair, assert_pair, assert_pairs, image, is_read, is_refused};
+use crate::images::{Counts, Head, Pair, assert_pair, assert_pairs, image, is_read, is_refused};
 use run_model::Layout;
+use std::alloc::Global;
+use std::process::Abort;
 
 /// As many bytes as a name and a text can have at most.
 const NAME: &[u8] = &[b'x'; 32];
@@ -52,12 +54,17 @@ static HEADS: [(&str, Head, Head); 5] = [
     ),
 ];
 
+/// Asserts that the first head is one, and that the second is none.
+fn assert_heads(rt: &impl Abort, alloc: Global, heads: &(&str, Head, Head), row: usize) {
+    let good = image(rt, alloc, heads.1, &[]);
+    let bad = image(rt, alloc, heads.2, &[]);
+    assert_pair(rt, alloc, &good, &bad, heads.0, row);
+}
+
 #[test]
 fn heads(rt: HostRuntime) {
-    for (n, (what, good, bad)) in HEADS.iter().enumerate() {
-        let good = image(&rt, rt.alloc(), *good, &[]);
-        let bad = image(&rt, rt.alloc(), *bad, &[]);
-        assert_pair(&rt, rt.alloc(), &good, &bad, what, n);
+    for (n, heads) in HEADS.iter().enumerate() {
+        assert_heads(&rt, rt.alloc(), heads, n);
     }
 }
 
@@ -380,13 +387,9 @@ static OTHER_COUNTS: [Counts; 13] = [
 fn a_row_too_few_or_too_many(rt: HostRuntime) {
     for (n, rows) in OTHER_COUNTS.iter().enumerate() {
         let image = image(&rt, rt.alloc(), Head::of(*rows), &ROWS);
-        for layout in [Layout::Small, Layout::Large] {
-            holds(
-                &rt,
-                is_refused(&rt, rt.alloc(), layout, &image),
-                "counts",
-                n,
-            );
-        }
+        let is_none = is_refused(rt.alloc(), Layout::Small, &image);
+        holds(&rt, is_none, "counts in a small store", n);
+        let is_none = is_refused(rt.alloc(), Layout::Large, &image);
+        holds(&rt, is_none, "counts in a large store", n);
     }
 }

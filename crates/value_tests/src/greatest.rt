@@ -1,11 +1,12 @@
 //! The greatest images, and images with as many rows of a kind as there can be, and one more.
 
 use crate::asserts::{done, holds};
-use crate::plain::{Counts, Head, is_kept, is_refused, push_head, read_again};
+use crate::images::{Counts, Head, is_kept, is_refused, push_head, read_again};
 use record_view::ImageVersion;
 use run_model::Layout;
 use std::alloc::{AllocError, Global};
 use std::process::Abort;
+use test_fixtures::digits;
 
 /// No link.
 const LINK: &[u8] = b"\xff\xff";
@@ -23,27 +24,21 @@ fn push_all(image: &mut Vec<u8>, pieces: &[&[u8]]) -> Result<(), AllocError> {
     Ok(())
 }
 
-/// The four digits of a number below 10,000.
-fn digits(n: u16) -> [u8; 4] {
-    let digit = |d: u16| b'0' + (d % 10) as u8;
-    [digit(n / 1_000), digit(n / 100), digit(n / 10), digit(n)]
-}
-
 /// Appends the row of a scope, of 192 bytes: its name of 32 begins with its number, and event 1
 /// found its deadline of 0 exceeded, with two causes of 64 bytes.
 fn push_greatest_scope(image: &mut Vec<u8>, n: u16) -> Result<(), AllocError> {
-    let pieces: [&[u8]; 8] = [
-        b"\x20",
-        &digits(n),
-        REST,
-        b"\x00\x00\x03\x00\x00\x00\x00\x00\x00\x00\x00\x40",
-        TEXT,
-        b"\x01\x00\x00\x00\x00\x00\x00\x00\x01",
-        b"\x00\x00\x00\x00\x00\x00\x00\x00\x02\x40",
-        TEXT,
-    ];
-    push_all(image, &pieces)
+    push_all(image, &[b"\x20", &digits(n), REST])?;
+    push_all(image, EXCEEDED)
 }
+
+/// What stands behind the name in the row of the greatest scope.
+const EXCEEDED: &[&[u8]] = &[
+    b"\x00\x00\x03\x00\x00\x00\x00\x00\x00\x00\x00\x40",
+    TEXT,
+    b"\x01\x00\x00\x00\x00\x00\x00\x00\x01",
+    b"\x00\x00\x00\x00\x00\x00\x00\x00\x02\x40",
+    TEXT,
+];
 
 /// Appends the row of a group, of 103 bytes: its name of 32 begins with its number, and it is bare,
 /// in root, without a limit, with an error.
@@ -129,7 +124,7 @@ fn greatest_images(rt: HostRuntime) {
     let large = done(&rt, greatest(rt.alloc(), 2, 4_095, 8_192, LINK), "memory");
     holds(
         &rt,
-        is_refused(&rt, rt.alloc(), Layout::Small, &large),
+        is_refused(rt.alloc(), Layout::Small, &large),
         "large",
         0,
     );
@@ -182,7 +177,7 @@ fn a_row_too_many(rt: HostRuntime) {
         );
         holds(
             &rt,
-            is_refused(&rt, rt.alloc(), *layout, &more),
+            is_refused(rt.alloc(), *layout, &more),
             "one more, row",
             n,
         );

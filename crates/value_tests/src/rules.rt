@@ -1,7 +1,7 @@
 //! Images that break one rule each, beside those that differ in the same place and keep it.
 
 use crate::asserts::holds;
-use crate::plain::{Counts, Head, Pair, Pieces, assert_pairs, image, is_read};
+use crate::images::{Counts, Head, Pair, Pieces, assert_pairs, image, is_read};
 
 /// Scopes below root up to their hit: two that are cancelled, a cause, a deadline that has come and
 /// one that has not, a value, a detached one, and a group's.

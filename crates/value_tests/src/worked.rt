@@ -1,13 +1,14 @@
 //! Images whose bytes are known from outside, stores that were damaged, and states that keep the
 //! rules though no history gives them.
 
-use crate::asserts::{done, holds};
-use crate::plain::{Counts, Head, Pieces, image, is_read, is_refused, read, read_again};
+use crate::asserts::holds;
+use crate::images::{Counts, Head, Pieces, image, is_read, is_refused, read, read_again};
 use record_view::ImageVersion;
-use run_model::{Layout, Reason};
+use run_model::Layout;
 use run_state::State;
 use std::alloc::Global;
 use std::process::Abort;
+use test_fixtures::{Seen, seen_of};
 
 /// Scope a, which was cancelled by event 4 with the cause `disk`, and its child b, in version 2.
 const CANCELED: &[u8; 57] = b"\x02\x00\x00\x00\x00\x00\x00\x00\x00\x00\x00\x00\x00\x00\x00\x00\x04\
@@ -15,32 +16,45 @@ const CANCELED: &[u8; 57] = b"\x02\x00\x00\x00\x00\x00\x00\x00\x00\x00\x00\x00\x
     \x00\x00\x00\x00\x01\x04disk\x01b\x00\x01\x01\x00";
 
 /// Says whether a scope is cancelled with this cause.
-fn is_canceled(state: &State, scope: u16, cause: &[u8]) -> bool {
-    let Some(look) = state.look(scope) else {
-        return false;
-    };
-    match &look.done {
-        Some((reason, found)) => *reason == Reason::Canceled && found.as_bytes() == cause,
+fn is_canceled(state: &State, scope: u16, cause: &'static [u8]) -> bool {
+    match state.look(scope) {
+        Some(look) => seen_of(&look) == Seen::Canceled(cause),
         None => false,
     }
 }
 
 /// The state of an image, read in a small store.
 fn read_state(rt: &impl Abort, alloc: Global, image: &[u8]) -> State {
-    done(rt, read(rt, alloc, Layout::Small, image), "state").0
+    match read(alloc, Layout::Small, image) {
+        Ok((state, _)) => state,
+        Err(_) => panic!(rt; "no state"),
+    }
+}
+
+/// How many events there were, and whether scopes a and b are cancelled with a's cause.
+fn seen(rt: &impl Abort, alloc: Global, image: &[u8]) -> (u64, bool, bool) {
+    let state = read_state(rt, alloc, image);
+    let are_canceled = (
+        is_canceled(&state, 1, b"disk"),
+        is_canceled(&state, 2, b"disk"),
+    );
+    (state.count(), are_canceled.0, are_canceled.1)
+}
+
+/// The image of 57 bytes in the version of this byte.
+fn image_of(byte: u8) -> [u8; 57] {
+    let mut image = *CANCELED;
+    image[0] = byte;
+    image
 }
 
 /// Asserts that the image of 57 bytes is read in the version of this byte.
 fn assert_image_of_57_bytes(rt: &impl Abort, alloc: Global, byte: u8, version: ImageVersion) {
-    let row = byte as usize;
-    let mut image = *CANCELED;
-    image[0] = byte;
+    let image = image_of(byte);
     let read = read_again(rt, alloc, Layout::Small, &image, CANCELED);
-    holds(rt, read == Ok((version, true)), "version", row);
-    let state = read_state(rt, alloc, &image);
-    holds(rt, state.count() == 4, "count in version", row);
-    holds(rt, is_canceled(&state, 1, b"disk"), "a in version", row);
-    holds(rt, is_canceled(&state, 2, b"disk"), "b in version", row);
+    holds(rt, read == Ok((version, true)), "version", byte as usize);
+    let is_seen = seen(rt, alloc, &image) == (4, true, true);
+    holds(rt, is_seen, "events and scopes in version", byte as usize);
 }
 
 #[test]
@@ -61,9 +75,9 @@ const NO_LINK: &[u8] = b"\xff\xff";
 
 const LINK: &[u8] = b"\x00\x00";
 
-/// The task that a task retries.
-fn retry_of(state: &State, task: u16) -> Option<u16> {
-    match state.task(task) {
+/// The task that a task of this image retries.
+fn retry_of(rt: &impl Abort, alloc: Global, image: &[u8], task: u16) -> Option<u16> {
+    match read_state(rt, alloc, image).task(task) {
         Some(task) => task.retry_of,
         None => None,
     }
@@ -74,8 +88,8 @@ fn a_link_is_kept(rt: HostRuntime) {
     let pieces: Pieces = &[GROUP, TASK, NO_LINK, FRESH, LINK];
     let image = image(&rt, rt.alloc(), Head::of((0, 1, 2)), pieces);
     holds(&rt, is_read(&rt, rt.alloc(), &image, true), "a link", 0);
-    let state = read_state(&rt, rt.alloc(), &image);
-    holds(&rt, retry_of(&state, 1) == Some(0), "retry", 1);
+    let retried = retry_of(&rt, rt.alloc(), &image, 1);
+    holds(&rt, retried == Some(0), "retry", 1);
 }
 
 #[test]
@@ -92,7 +106,7 @@ fn rows_of_version_1_have_no_links(rt: HostRuntime) {
 /// Says whether this is no image in a small store.
 fn is_image_refused(rt: &impl Abort, alloc: Global, head: Head, pieces: Pieces) -> bool {
     let image = image(rt, alloc, head, pieces);
-    is_refused(rt, alloc, Layout::Small, &image)
+    is_refused(alloc, Layout::Small, &image)
 }
 
 /// A version, and rows that it does not have.
@@ -304,24 +318,23 @@ static STATES: [Caused; 7] = [
     ),
 ];
 
-/// Asserts that an image is kept, and that its scopes are cancelled with these causes.
-fn assert_causes(rt: &impl Abort, alloc: Global, image: &[u8], causes: Causes, what: &str) {
-    holds(rt, is_read(rt, alloc, image, true), what, 0);
-    let state = read_state(rt, alloc, image);
+/// Asserts that the scopes of a state are cancelled with these causes.
+fn assert_causes(rt: &impl Abort, state: &State, causes: Causes, what: &str) {
     for (scope, cause) in causes.iter() {
-        holds(
-            rt,
-            is_canceled(&state, *scope, cause),
-            what,
-            *scope as usize,
-        );
+        holds(rt, is_canceled(state, *scope, cause), what, *scope as usize);
     }
+}
+
+/// Asserts that an image is kept, and that its scopes are cancelled with these causes.
+fn assert_caused(rt: &impl Abort, alloc: Global, caused: &Caused) {
+    let image = image(rt, alloc, Head::of(caused.1), caused.2);
+    holds(rt, is_read(rt, alloc, &image, true), caused.0, 0);
+    assert_causes(rt, &read_state(rt, alloc, &image), caused.3, caused.0);
 }
 
 #[test]
 fn states_that_no_history_gives(rt: HostRuntime) {
-    for (what, counts, pieces, causes) in STATES.iter() {
-        let image = image(&rt, rt.alloc(), Head::of(*counts), pieces);
-        assert_causes(&rt, rt.alloc(), &image, causes, what);
+    for caused in STATES.iter() {
+        assert_caused(&rt, rt.alloc(), caused);
     }
 }

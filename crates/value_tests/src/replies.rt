@@ -1,27 +1,19 @@
 //! Tests of what replies print; the texts stand in `docs/formats/console.md`.
 
+use crate::asserts::{done, holds};
+use crate::values::{moment, name, text};
 use arrayvec::ArrayVec;
 use console_lines::{Counts, LONGEST_REPLY, Reply, RunFault, Tally};
 use run_model::{
-    Answer, Fault, GroupLook, Limit, Look, Moment, Name, Phase, Reason, Refusal, Started, TaskInfo,
-    Text, Trouble,
+    Answer, Fault, GroupLook, Limit, Look, Phase, Reason, Refusal, Started, TaskInfo, Trouble,
 };
 use std::alloc::{AllocError, Global};
 use std::process::Abort;
-use std::test::Fail;
 
-fn name(rt: &impl Abort, bytes: &[u8]) -> Name {
-    Name::read(bytes).expect(rt, "a name")
-}
-
-fn text(rt: &impl Abort, bytes: &[u8]) -> Text {
-    Text::read(bytes).expect(rt, "a text")
-}
-
-/// Says whether this is what a reply prints, and with an LF behind it what is gathered.
-fn prints(alloc: Global, reply: &Reply, wanted: &str) -> Result<bool, AllocError> {
+/// Says whether this is what a reply prints.
+fn is_printed(alloc: Global, reply: &Reply, wanted: &str) -> Result<bool, AllocError> {
     let printed = format!(in alloc; "{reply}")?;
-    Ok(printed.as_str() == wanted && is_gathered(reply, wanted))
+    Ok(printed.as_str() == wanted)
 }
 
 /// Says whether a reply is gathered as this text and an LF.
@@ -32,6 +24,18 @@ fn is_gathered(reply: &Reply, wanted: &str) -> bool {
     }
     reply.gather(&mut gathered);
     gathered.as_slice().split_last() == Some((&b'\n', wanted.as_bytes()))
+}
+
+/// Asserts that this is what a reply prints, and with an LF behind it what is gathered.
+fn assert_prints(rt: &impl Abort, alloc: Global, reply: &Reply, wanted: &str, row: usize) {
+    let is_so = done(rt, is_printed(alloc, reply, wanted), "memory");
+    holds(rt, is_so, "what is printed of row", row);
+    holds(
+        rt,
+        is_gathered(reply, wanted),
+        "what is gathered of row",
+        row,
+    );
 }
 
 /// How far a task is.
@@ -136,16 +140,47 @@ static REPLIES: [(Told, &str); 23] = [
 ];
 
 #[test]
-fn replies_print_their_texts(rt: HostRuntime) -> Result<(), Fail> {
+fn replies_print_their_texts(rt: HostRuntime) {
     for (n, row) in REPLIES.iter().enumerate() {
         let reply = reply_of(&rt, &row.0);
-        assert!(rt; prints(rt.alloc(), &reply, row.1)?, "row {n}");
+        assert_prints(&rt, rt.alloc(), &reply, row.1, n);
     }
-    Ok(())
 }
 
-/// How the scope `root` is, with this end and this deadline.
-fn scope(rt: &impl Abort, done: Option<(Reason, Text)>, deadline: Option<Moment>) -> Reply {
+/// How the scope `root` is: its end and the cause, and its deadline.
+type ScopeRow = (Option<(Reason, &'static [u8])>, Option<u64>, &'static str);
+
+static SCOPES: [ScopeRow; 4] = [
+    (None, None, "live; deadline none"),
+    (
+        Some((Reason::Canceled, b"disk")),
+        None,
+        "done; deadline none; err context canceled; cause disk",
+    ),
+    (
+        Some((Reason::DeadlineExceeded, b"context deadline exceeded")),
+        Some(1_704_074_400),
+        "done; deadline 1704074400; err context deadline exceeded; \
+         cause context deadline exceeded",
+    ),
+    (
+        Some((Reason::DeadlineExceeded, &[b'~'; 64])),
+        Some(253_000_000_000),
+        "done; deadline 253000000000; err context deadline exceeded; \
+         cause ~~~~~~~~~~~~~~~~~~~~~~~~~~~~~~~~~~~~~~~~~~~~~~~~~~~~~~~~~~~~~~~~",
+    ),
+];
+
+/// How the scope `root` is, by a row.
+fn scope(rt: &impl Abort, row: &ScopeRow) -> Reply {
+    let done = match row.0 {
+        Some((reason, cause)) => Some((reason, text(rt, cause))),
+        None => None,
+    };
+    let deadline = match row.1 {
+        Some(seconds) => Some(moment(rt, seconds)),
+        None => None,
+    };
     Reply::Scope(Look {
         name: name(rt, b"root"),
         done,
@@ -154,108 +189,112 @@ fn scope(rt: &impl Abort, done: Option<(Reason, Text)>, deadline: Option<Moment>
 }
 
 #[test]
-fn how_a_scope_is_prints_its_end_and_its_deadline(rt: HostRuntime) -> Result<(), Fail> {
-    let alloc = rt.alloc();
-    let live = scope(&rt, None, None);
-    assert!(rt; prints(alloc, &live, "live; deadline none")?);
-    let cause = text(&rt, b"disk");
-    let canceled = scope(&rt, Some((Reason::Canceled, cause)), None);
-    let printed = "done; deadline none; err context canceled; cause disk";
-    assert!(rt; prints(alloc, &canceled, printed)?);
-    let cause = text(&rt, b"context deadline exceeded");
-    let exceeded = scope(
+fn how_a_scope_is_prints_its_end_and_its_deadline(rt: HostRuntime) {
+    for (n, row) in SCOPES.iter().enumerate() {
+        assert_prints(&rt, rt.alloc(), &scope(&rt, row), row.2, n);
+    }
+    holds(
         &rt,
-        Some((Reason::DeadlineExceeded, cause)),
-        Moment::new(1_704_074_400),
+        SCOPES[3].2.len() + 1 == LONGEST_REPLY,
+        "the longest row",
+        3,
     );
-    let printed = "done; deadline 1704074400; err context deadline exceeded; \
-         cause context deadline exceeded";
-    assert!(rt; prints(alloc, &exceeded, printed)?);
-    let cause = text(&rt, &[b'~'; 64]);
-    let longest = scope(
-        &rt,
-        Some((Reason::DeadlineExceeded, cause)),
-        Moment::new(253_000_000_000),
-    );
-    let printed = "done; deadline 253000000000; err context deadline exceeded; \
-         cause ~~~~~~~~~~~~~~~~~~~~~~~~~~~~~~~~~~~~~~~~~~~~~~~~~~~~~~~~~~~~~~~~";
-    assert!(rt; printed.len() + 1 == LONGEST_REPLY);
-    assert!(rt; prints(alloc, &longest, printed)?);
-    Ok(())
 }
 
-#[test]
-fn a_start_prints_its_task(rt: HostRuntime) -> Result<(), Fail> {
-    let reply = Reply::Started(Started {
-        event: 5,
-        info: TaskInfo {
-            task: 8_191,
-            job: name(&rt, b"copy"),
-            argument: name(&rt, b"a-1_b"),
-        },
-        done: true,
-    });
-    assert!(rt; prints(rt.alloc(), &reply, "start 8191 copy a-1_b")?);
-    Ok(())
+/// How the group `g` is: its unfinished tasks, limit, whether it was waited for, and error.
+type GroupRow = (u16, Option<u8>, bool, Option<&'static [u8]>, &'static str);
+
+static GROUPS: [GroupRow; 3] = [
+    (
+        2,
+        Some(1),
+        false,
+        None,
+        "unfinished 2; limit 1; waited no; error none",
+    ),
+    (
+        0,
+        None,
+        true,
+        Some(b"no  room "),
+        "unfinished 0; limit none; waited yes; error no  room ",
+    ),
+    (
+        8_192,
+        Some(0),
+        false,
+        Some(b"none"),
+        "unfinished 8192; limit 0; waited no; error none",
+    ),
+];
+
+fn limit(rt: &impl Abort, most: Option<u8>) -> Limit {
+    match most {
+        Some(most) => Limit::new(most).expect(rt, "a limit"),
+        None => Limit::none(),
+    }
 }
 
-/// How the group `g` is.
-fn group(
-    rt: &impl Abort,
-    unfinished: u16,
-    limit: Limit,
-    waited: bool,
-    error: Option<Text>,
-) -> Reply {
+/// How the group `g` is, by a row.
+fn group(rt: &impl Abort, row: &GroupRow) -> Reply {
+    let error = match row.3 {
+        Some(error) => Some(text(rt, error)),
+        None => None,
+    };
     Reply::Group(GroupLook {
         name: name(rt, b"g"),
         scope: 1,
-        unfinished,
-        limit,
-        waited,
+        unfinished: row.0,
+        limit: limit(rt, row.1),
+        waited: row.2,
         error,
     })
 }
 
 #[test]
-fn how_a_group_is_prints_its_tasks_and_its_error(rt: HostRuntime) -> Result<(), Fail> {
-    let alloc = rt.alloc();
-    let one = Limit::new(1).ok_or("no limit")?;
-    let active = group(&rt, 2, one, false, None);
-    let printed = "unfinished 2; limit 1; waited no; error none";
-    assert!(rt; prints(alloc, &active, printed)?);
-    let error = Some(text(&rt, b"no  room "));
-    let waited = group(&rt, 0, Limit::none(), true, error);
-    let printed = "unfinished 0; limit none; waited yes; error no  room ";
-    assert!(rt; prints(alloc, &waited, printed)?);
-    let zero = Limit::new(0).ok_or("no limit")?;
-    let large = group(&rt, 8_192, zero, false, Some(text(&rt, b"none")));
-    let printed = "unfinished 8192; limit 0; waited no; error none";
-    assert!(rt; prints(alloc, &large, printed)?);
-    Ok(())
+fn how_a_group_is_prints_its_tasks_and_its_error(rt: HostRuntime) {
+    for (n, row) in GROUPS.iter().enumerate() {
+        assert_prints(&rt, rt.alloc(), &group(&rt, row), row.4, n);
+    }
 }
 
-#[test]
-fn a_tally_prints_the_counts_of_its_job(rt: HostRuntime) -> Result<(), Fail> {
-    let reply = Reply::Tally(Tally {
-        job: name(&rt, b"spin"),
+/// The start of a task.
+fn start(rt: &impl Abort) -> Reply {
+    Reply::Started(Started {
+        event: 5,
+        info: TaskInfo {
+            task: 8_191,
+            job: name(rt, b"copy"),
+            argument: name(rt, b"a-1_b"),
+        },
+        done: true,
+    })
+}
+
+/// The counts of a job.
+fn tally(rt: &impl Abort) -> Reply {
+    Reply::Tally(Tally {
+        job: name(rt, b"spin"),
         counts: Counts {
             total: 8_192,
             success: 30,
             failure: 200,
             interrupted: 1_000,
         },
-    });
-    let printed = "tally spin total 8192; success 30; failure 200; interrupted 1000";
-    assert!(rt; prints(rt.alloc(), &reply, printed)?);
-    Ok(())
+    })
 }
 
 #[test]
-fn a_reply_is_written_with_its_line_feed(rt: HostRuntime) -> Result<(), Fail> {
-    let line = Reply::Acked(4).to_line(rt.alloc())?;
-    assert!(rt; line.as_str() == "acked 4\n");
-    Ok(())
+fn a_start_prints_its_task_and_a_tally_its_counts(rt: HostRuntime) {
+    assert_prints(&rt, rt.alloc(), &start(&rt), "start 8191 copy a-1_b", 0);
+    let printed = "tally spin total 8192; success 30; failure 200; interrupted 1000";
+    assert_prints(&rt, rt.alloc(), &tally(&rt), printed, 1);
+}
+
+#[test]
+fn a_reply_is_written_with_its_line_feed(rt: HostRuntime) {
+    let line = done(&rt, Reply::Acked(4).to_line(rt.alloc()), "memory");
+    holds(&rt, line.as_str() == "acked 4\n", "line", 0);
 }
 
 static REFUSALS: [(Refusal, &str); 25] = [
@@ -287,12 +326,10 @@ static REFUSALS: [(Refusal, &str); 25] = [
 ];
 
 #[test]
-fn refusals_print_their_number_and_name(rt: HostRuntime) -> Result<(), Fail> {
+fn refusals_print_their_number_and_name(rt: HostRuntime) {
     for (n, row) in REFUSALS.iter().enumerate() {
-        let reply = Reply::Refused(row.0);
-        assert!(rt; prints(rt.alloc(), &reply, row.1)?, "row {n}");
+        assert_prints(&rt, rt.alloc(), &Reply::Refused(row.0), row.1, n);
     }
-    Ok(())
 }
 
 static FAULTS: [(RunFault, &str); 5] = [
@@ -326,14 +363,19 @@ fn shows(alloc: Global, fault: RunFault, wanted: &str) -> Result<bool, AllocErro
     Ok(printed.as_str() == wanted)
 }
 
+/// Asserts that this is what a fault prints.
+fn assert_shows(rt: &impl Abort, alloc: Global, fault: RunFault, wanted: &str) {
+    let is_so = done(rt, shows(alloc, fault, wanted), "memory");
+    holds(rt, is_so, wanted, 0);
+}
+
 #[test]
-fn faults_of_a_run_print_their_texts(rt: HostRuntime) -> Result<(), Fail> {
+fn faults_of_a_run_print_their_texts(rt: HostRuntime) {
     for (fault, text) in FAULTS {
-        assert!(rt; shows(rt.alloc(), fault, text)?, "{text}");
+        assert_shows(&rt, rt.alloc(), fault, text);
     }
     for (fault, text) in STORE_FAULTS {
         let fault = RunFault::Store(Trouble::Faulty(fault));
-        assert!(rt; shows(rt.alloc(), fault, text)?, "{text}");
+        assert_shows(&rt, rt.alloc(), fault, text);
     }
-    Ok(())
 }

@@ -1,7 +1,10 @@
+//! Tests of the words of the command line: what each asks for, and which are mistakes.
+
+use crate::asserts::{done, holds};
 use night_words::{Asked, WordsFault, own_words, read_words};
 use std::alloc::{AllocError, Global};
 use std::env::{Env, FillError};
-use std::test::Fail;
+use std::process::Abort;
 
 /// What words are answered.
 enum Told {
@@ -395,42 +398,71 @@ fn is_store(told: &Told, word: &str, store: &str, is_set: bool) -> bool {
     }
 }
 
-/// Says whether the words ask for what they should.
-fn is_asked(asked: &Asked, told: &Told) -> bool {
-    match (asked, told) {
-        (Asked::Demo { strict }, Told::Demo(flag)) => strict == flag,
-        (Asked::Format { store, is_new }, told) => is_store(told, "format", store, *is_new),
-        (Asked::Script { store, strict }, told) => is_store(told, "script", store, *strict),
-        (Asked::Inspect(store), told) => is_store(told, "inspect", store, false),
-        (
-            Asked::Crew {
-                store,
-                workers,
-                known,
-            },
-            Told::Crew(name, number, flag),
-        ) => { store == name && workers == number && known == flag }
-        (Asked::Migrate(old, new), Told::Migration(from, to)) => old == from && new == to,
-        (Asked::Help(text), Told::Help(part)) => text.contains(*part),
-        (Asked::Help(text), Told::Text(whole)) => text.as_str() == *whole,
+/// Says whether a demo is told, strict or not.
+fn is_demo(told: &Told, strict: bool) -> bool {
+    match told {
+        Told::Demo(flag) => *flag == strict,
         _ => false,
     }
 }
 
+/// Says whether a crew of so many workers over this store is told, of known jobs or not.
+fn is_crew(told: &Told, store: &str, workers: u8, known: bool) -> bool {
+    match told {
+        Told::Crew(name, number, flag) => { *name == store && *number == workers && *flag == known }
+        _ => false,
+    }
+}
+
+/// Says whether a migration from this store to that one is told.
+fn is_migration(told: &Told, old: &str, new: &str) -> bool {
+    match told {
+        Told::Migration(from, to) => *from == old && *to == new,
+        _ => false,
+    }
+}
+
+/// Says whether this text for help is told, or a part of it.
+fn is_help(told: &Told, text: &str) -> bool {
+    match told {
+        Told::Help(part) => text.contains(*part),
+        Told::Text(whole) => text == *whole,
+        _ => false,
+    }
+}
+
+/// Says whether the words ask for what they should.
+fn is_asked(asked: &Asked, told: &Told) -> bool {
+    match asked {
+        Asked::Demo { strict } => is_demo(told, *strict),
+        Asked::Format { store, is_new } => is_store(told, "format", store, *is_new),
+        Asked::Script { store, strict } => is_store(told, "script", store, *strict),
+        Asked::Inspect(store) => is_store(told, "inspect", store, false),
+        Asked::Crew {
+            store,
+            workers,
+            known,
+        } => is_crew(told, store, *workers, *known),
+        Asked::Migrate(old, new) => is_migration(told, old, new),
+        Asked::Help(text) => is_help(told, text),
+    }
+}
+
+/// Says whether a text has this part, and ends with a line feed.
+fn has_part(text: &str, part: &str) -> bool {
+    text.contains(part) && text.ends_with("\n")
+}
+
 /// Says whether the words are the mistake that they should be.
 fn is_mistake(alloc: Global, fault: &WordsFault, told: &Told) -> Result<bool, AllocError> {
-    if matches!(told, Told::SameStores) {
-        return Ok(matches!(fault, WordsFault::SameStores));
+    match (fault, told) {
+        (WordsFault::SameStores, Told::SameStores) => Ok(true),
+        (WordsFault::Workers, Told::Workers) => Ok(true),
+        (WordsFault::Mistake(_), Told::Mistake(part)) => {
+            Ok(has_part(&fault.to_string(alloc)?, part))
+        }
+        _ => Ok(false),
     }
-    if matches!(told, Told::Workers) {
-        return Ok(matches!(fault, WordsFault::Workers));
-    }
-    let Told::Mistake(part) = told else {
-        return Ok(false);
-    };
-    let shown = fault.to_string(alloc)?;
-    let mistake = matches!(fault, WordsFault::Mistake(_));
-    Ok(mistake && shown.contains(*part) && shown.ends_with("\n"))
 }
 
 /// Says whether the words are answered so.
@@ -442,95 +474,84 @@ fn is_told(alloc: Global, words: &[&str], told: &Told) -> Result<bool, AllocErro
     }
 }
 
-/// The first row whose words are answered otherwise.
-fn first_untold(alloc: Global, cases: &[Case]) -> Result<Option<usize>, AllocError> {
+/// Asserts that the words of each row are answered so.
+fn assert_told(rt: &impl Abort, alloc: Global, cases: &[Case]) {
     for (n, case) in cases.iter().enumerate() {
-        if !is_told(alloc, case.0, &case.1)? {
-            return Ok(Some(n));
+        let is_so = done(rt, is_told(alloc, case.0, &case.1), "memory");
+        holds(rt, is_so, "row", n);
+    }
+}
+
+#[test]
+fn demo_is_asked_for(rt: HostRuntime) {
+    assert_told(&rt, rt.alloc(), &DEMO);
+}
+
+#[test]
+fn a_store_is_named(rt: HostRuntime) {
+    assert_told(&rt, rt.alloc(), &STORES);
+}
+
+#[test]
+fn a_flag_may_stand_there(rt: HostRuntime) {
+    assert_told(&rt, rt.alloc(), &FLAGS);
+}
+
+#[test]
+fn two_stores_are_named(rt: HostRuntime) {
+    assert_told(&rt, rt.alloc(), &MIGRATIONS);
+}
+
+#[test]
+fn a_crew_is_named(rt: HostRuntime) {
+    assert_told(&rt, rt.alloc(), &CREWS);
+}
+
+#[test]
+fn help_is_shown(rt: HostRuntime) {
+    assert_told(&rt, rt.alloc(), &HELP);
+}
+
+/// How many of all lines the help of this word has, in their order, up to the first that it leaves
+/// out.
+fn listed(alloc: Global, word: &str) -> Result<usize, AllocError> {
+    let texts = texts_of(alloc, &[word, "--help"])?;
+    match read_words(alloc, texts.as_slice()) {
+        Ok(Asked::Help(text)) => Ok(lines_in(&text)),
+        _ => Ok(0),
+    }
+}
+
+fn lines_in(text: &str) -> usize {
+    for (n, line) in LINES.iter().enumerate() {
+        if !text.contains(*line) {
+            return n;
         }
     }
-    Ok(None)
+    LINES.len()
 }
 
 #[test]
-fn demo_is_asked_for(rt: HostRuntime) -> Result<(), Fail> {
-    let untold = first_untold(rt.alloc(), &DEMO)?;
-    assert!(rt; untold.is_none(), "row {untold:?}");
-    Ok(())
-}
-
-#[test]
-fn a_store_is_named(rt: HostRuntime) -> Result<(), Fail> {
-    let untold = first_untold(rt.alloc(), &STORES)?;
-    assert!(rt; untold.is_none(), "row {untold:?}");
-    Ok(())
-}
-
-#[test]
-fn a_flag_may_stand_there(rt: HostRuntime) -> Result<(), Fail> {
-    let untold = first_untold(rt.alloc(), &FLAGS)?;
-    assert!(rt; untold.is_none(), "row {untold:?}");
-    Ok(())
-}
-
-#[test]
-fn two_stores_are_named(rt: HostRuntime) -> Result<(), Fail> {
-    let untold = first_untold(rt.alloc(), &MIGRATIONS)?;
-    assert!(rt; untold.is_none(), "row {untold:?}");
-    Ok(())
-}
-
-#[test]
-fn a_crew_is_named(rt: HostRuntime) -> Result<(), Fail> {
-    let untold = first_untold(rt.alloc(), &CREWS)?;
-    assert!(rt; untold.is_none(), "row {untold:?}");
-    Ok(())
-}
-
-#[test]
-fn help_is_shown(rt: HostRuntime) -> Result<(), Fail> {
-    let untold = first_untold(rt.alloc(), &HELP)?;
-    assert!(rt; untold.is_none(), "row {untold:?}");
-    Ok(())
-}
-
-/// The first line that the help of this word leaves out.
-fn first_unlisted(alloc: Global, word: &str) -> Result<Option<usize>, AllocError> {
-    let texts = texts_of(alloc, &[word, "--help"])?;
-    let Ok(Asked::Help(text)) = read_words(alloc, texts.as_slice()) else {
-        return Ok(Some(LINES.len()));
-    };
-    Ok(LINES.iter().position(|line| !text.contains(*line)))
-}
-
-#[test]
-fn all_lines_are_listed(rt: HostRuntime) -> Result<(), Fail> {
-    for word in RUNS.iter() {
-        let unlisted = first_unlisted(rt.alloc(), word)?;
-        assert!(rt; unlisted.is_none(), "{word}: line {unlisted:?}");
+fn all_lines_are_listed(rt: HostRuntime) {
+    for (n, word) in RUNS.iter().enumerate() {
+        let lines = done(&rt, listed(rt.alloc(), word), "memory");
+        holds(&rt, lines == 22, "the help of word", n);
     }
-    Ok(())
 }
 
 #[test]
-fn the_version_is_shown(rt: HostRuntime) -> Result<(), Fail> {
-    let untold = first_untold(rt.alloc(), &VERSION)?;
-    assert!(rt; untold.is_none(), "row {untold:?}");
-    Ok(())
+fn the_version_is_shown(rt: HostRuntime) {
+    assert_told(&rt, rt.alloc(), &VERSION);
 }
 
 #[test]
-fn mistakes_say_what_is_wrong(rt: HostRuntime) -> Result<(), Fail> {
-    let untold = first_untold(rt.alloc(), &MISTAKES)?;
-    assert!(rt; untold.is_none(), "row {untold:?}");
-    Ok(())
+fn mistakes_say_what_is_wrong(rt: HostRuntime) {
+    assert_told(&rt, rt.alloc(), &MISTAKES);
 }
 
 #[test]
-fn other_flags_are_mistakes(rt: HostRuntime) -> Result<(), Fail> {
-    let untold = first_untold(rt.alloc(), &STRAY_FLAGS)?;
-    assert!(rt; untold.is_none(), "row {untold:?}");
-    Ok(())
+fn other_flags_are_mistakes(rt: HostRuntime) {
+    assert_told(&rt, rt.alloc(), &STRAY_FLAGS);
 }
 
 /// Words of one, no and two bytes a letter.
@@ -581,22 +602,31 @@ fn are_texts(words: &[String], wanted: &[&str]) -> bool {
     words.len() == wanted.len()
 }
 
-#[test]
-fn own_words_are_all_words(rt: HostRuntime) -> Result<(), Fail> {
-    match started_with(rt.alloc(), &TEXTS) {
-        Ok(words) => assert!(rt; are_texts(&words, &["night", "", "d\u{e9}mo"])),
-        Err(_) => return Err(Fail::from("no words")),
+/// Says whether these are the words of a system that started the program with those.
+fn are_words(alloc: Global, words: &'static [&'static [u8]], wanted: &[&str]) -> bool {
+    match started_with(alloc, words) {
+        Ok(words) => are_texts(&words, wanted),
+        Err(_) => false,
     }
-    Ok(())
 }
 
 #[test]
-fn a_word_that_is_no_text_is_refused(rt: HostRuntime) -> Result<(), Fail> {
-    let Err(fault) = started_with(rt.alloc(), &NO_TEXT) else {
-        return Err(Fail::from("words"));
-    };
-    assert!(rt; matches!(&fault, WordsFault::NotText));
-    let shown = fault.to_string(rt.alloc())?;
-    assert!(rt; shown.as_str() == "error: a word is no text in UTF-8\n");
-    Ok(())
+fn own_words_are_all_words(rt: HostRuntime) {
+    let are_all = are_words(rt.alloc(), &TEXTS, &["night", "", "d\u{e9}mo"]);
+    holds(&rt, are_all, "words", 3);
+}
+
+/// What is shown of words that are no text; nothing where they are one, or at fault otherwise.
+fn shown_of(alloc: Global, words: &'static [&'static [u8]]) -> Result<String, AllocError> {
+    match started_with(alloc, words) {
+        Err(WordsFault::NotText) => WordsFault::NotText.to_string(alloc),
+        _ => Ok(String::new(alloc)),
+    }
+}
+
+#[test]
+fn a_word_that_is_no_text_is_refused(rt: HostRuntime) {
+    let shown = done(&rt, shown_of(rt.alloc(), &NO_TEXT), "memory");
+    let is_told = shown.as_str() == "error: a word is no text in UTF-8\n";
+    holds(&rt, is_told, "text", 0);
 }

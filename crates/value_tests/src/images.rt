@@ -74,28 +74,22 @@ pub fn greatest_len(layout: Layout) -> usize
 }
 
 /// What is read as an image in a new store of this layout.
-pub fn read(
-    rt: &impl Abort,
-    alloc: Global,
-    layout: Layout,
-    image: &[u8],
-) -> Result<(State, ImageVersion), Fault> {
-    match State::new(alloc, layout) {
-        Ok(state) => state.read_image(image),
-        Err(_) => panic!(rt; "no memory"),
-    }
+pub fn read(alloc: Global, layout: Layout, image: &[u8]) -> Result<(State, ImageVersion), Fault> {
+    State::new(alloc, layout)?.read_image(image)
 }
 
 /// Says whether these bytes are what a state writes, over bytes of 0xEE.
-fn is_written(rt: &impl Abort, alloc: Global, state: &State, again: &[u8]) -> bool {
-    let Ok(mut out) = Vec::from_elem(alloc, 0xee, greatest_len(state.layout())) else {
-        panic!(rt; "no memory");
-    };
-    if 1 << 63 <= state.count() {
+fn is_written(state: &State, out: &mut [u8], again: &[u8]) -> bool {
+    if 1 << 63 <= state.count() || out.len() < greatest_len(state.layout()) {
         return false;
     }
-    let len = state.write_image(&mut out);
+    let len = state.write_image(out);
     len == again.len() && out.starts_with(again)
+}
+
+/// Room for the greatest image, with bytes of 0xEE.
+fn room(rt: &impl Abort, alloc: Global) -> Vec<u8> {
+    done(rt, Vec::from_elem(alloc, 0xee, 1_913_559), "memory")
 }
 
 /// The version of the image that is read, and whether these bytes are written again.
@@ -106,8 +100,11 @@ pub fn read_again(
     image: &[u8],
     again: &[u8],
 ) -> Result<(ImageVersion, bool), Fault> {
-    let (state, version) = read(rt, alloc, layout, image)?;
-    Ok((version, is_written(rt, alloc, &state, again)))
+    let mut out = room(rt, alloc);
+    match read(alloc, layout, image) {
+        Ok((state, version)) => Ok((version, is_written(&state, &mut out, again))),
+        Err(fault) => Err(fault),
+    }
 }
 
 /// Says whether these bytes are read as an image of version 2, and written again.
@@ -116,8 +113,11 @@ pub fn is_kept(rt: &impl Abort, alloc: Global, layout: Layout, image: &[u8]) -> 
 }
 
 /// Says whether these bytes are no image in a store of this layout.
-pub fn is_refused(rt: &impl Abort, alloc: Global, layout: Layout, image: &[u8]) -> bool {
-    read(rt, alloc, layout, image).err() == Some(Fault::BadImage)
+pub fn is_refused(alloc: Global, layout: Layout, image: &[u8]) -> bool {
+    match read(alloc, layout, image) {
+        Ok(_) => false,
+        Err(fault) => fault == Fault::BadImage,
+    }
 }
 
 /// Says whether an image is kept, or else refused, in a small store.
@@ -125,8 +125,13 @@ pub fn is_read(rt: &impl Abort, alloc: Global, image: &[u8], kept: bool) -> bool
     if kept {
         is_kept(rt, alloc, Layout::Small, image)
     } else {
-        is_refused(rt, alloc, Layout::Small, image)
+        is_refused(alloc, Layout::Small, image)
     }
+}
+
+/// Says whether the first image is kept and the second refused, in a store of this layout.
+fn is_pair(rt: &impl Abort, alloc: Global, layout: Layout, good: &[u8], bad: &[u8]) -> bool {
+    is_kept(rt, alloc, layout, good) && is_refused(alloc, layout, bad)
 }
 
 /// Asserts that the first image is kept and the second refused, in small stores and in large ones.
@@ -138,10 +143,8 @@ pub fn assert_pair(
     what: &str,
     row: usize,
 ) {
-    for layout in [Layout::Small, Layout::Large] {
-        holds(rt, is_kept(rt, alloc, layout, good), what, row);
-        holds(rt, is_refused(rt, alloc, layout, bad), what, row);
-    }
+    holds(rt, is_pair(rt, alloc, Layout::Small, good, bad), what, row);
+    holds(rt, is_pair(rt, alloc, Layout::Large, good, bad), what, row);
 }
 
 /// What the second image breaks, the numbers of rows, and the rows of both.

@@ -1,0 +1,15 @@
+//! What tests share: steps as tables write them, what each is answered, and all that a state shows.
+//! Nothing here asserts: a test asserts of what it is given, with a message that names its row.
+#![tactic(auto)]
+
+mod calls;
+mod listings;
+mod looks;
+mod numbers;
+mod replies;
+
+pub use calls::{Ask, Call, command_of, step_of};
+pub use listings::{Listing, are_same, have_same_rows, listing_of};
+pub use looks::{GroupSeen, Seen, TaskSeen, is_group, is_task, seen_of};
+pub use numbers::{digits, numbered};
+pub use replies::{Said, said_by};

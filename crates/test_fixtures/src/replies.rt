@@ -1,0 +1,68 @@
+//! What a step is answered, as tables write it.
+
+use run_model::{Answer, Fault, Phase, Refusal, Reply, Started};
+
+/// What a step is answered.
+#[derive(Clone, Copy, PartialEq)]
+pub enum Said<'a> {
+    /// The number of a scope.
+    Scope(u16),
+    /// The numbers of a group and of its own scope.
+    Group(u16, Option<u16>),
+    /// It is done.
+    Done,
+    /// The number of a task that is held.
+    Held(u16),
+    /// The number of a task that is ready.
+    Ready(u16),
+    /// The first error of a group.
+    Waited(Option<&'a [u8]>),
+    /// The number of the event, that of a task, its job and argument, and whether its scope is
+    /// done.
+    Started(u64, u16, &'a [u8], &'a [u8], bool),
+    /// The number of an event.
+    Finished(u64),
+    /// All events up to this number are durable.
+    Acked(u64),
+    /// A refusal.
+    Refused(Refusal),
+    /// A fault.
+    Faulty(Fault),
+    /// Anything else.
+    Other,
+}
+
+/// What a reply says.
+pub fn said_by(reply: &Reply) -> Said<'_> {
+    match reply {
+        Reply::Answer(answer) => said_by_answer(answer),
+        Reply::Started(started) => said_by_start(started),
+        Reply::Finished(event) => Said::Finished(*event),
+        Reply::Acked(event) => Said::Acked(*event),
+        Reply::Refused(refusal) => Said::Refused(*refusal),
+        Reply::Faulty(fault) => Said::Faulty(*fault),
+    }
+}
+
+fn said_by_answer(answer: &Answer) -> Said<'_> {
+    match answer {
+        Answer::Scope(scope) => Said::Scope(*scope),
+        Answer::Group(group, scope) => Said::Group(*group, *scope),
+        Answer::Done => Said::Done,
+        Answer::Task(task, Phase::Held) => Said::Held(*task),
+        Answer::Task(task, Phase::Ready) => Said::Ready(*task),
+        Answer::Task(_, _) => Said::Other,
+        Answer::Waited(Some(error)) => Said::Waited(Some(error.as_bytes())),
+        Answer::Waited(None) => Said::Waited(None),
+    }
+}
+
+fn said_by_start(started: &Started) -> Said<'_> {
+    Said::Started(
+        started.event,
+        started.info.task,
+        started.info.job.as_bytes(),
+        started.info.argument.as_bytes(),
+        started.done,
+    )
+}
