@@ -1,0 +1,257 @@
+-- What is kept: what is above a kept scope, the scope of a kept group, and what isn't finished.
+use Rattle.std.proofs.Common.{◌≡◌, ◌⊎◌, ◌<◌, ◌≤◌, ◌+◌, ◌==◌, ◌&&◌, ◌||◌, ℕ, zero, suc, Bool, true}
+use Rattle.std.proofs.Common.{false, not, cond, List, [], ◌∷◌, length, Option, Some, None}
+use Rattle.std.proofs.Common.{slice_get, inl, inr, refl, sym, ap, subst, ◌∙◌, is_some, arith}
+use Rattle.std.specs.List.{list_any, range_with_len, filter_map}
+use Rattle.std.specs.Option.{option_map, option_map_or}
+use Rattle.std.specs.Prelude.{count_by, if◌then◌else◌}
+use Rattle.std.proofs.lemmas.Bool.{and_parts, and_from, or_cases, or_left, or_right, eq-eqb}
+use Rattle.std.proofs.lemmas.Bool.{eqb-true, false≢true, both_ways}
+use Rattle.std.proofs.lemmas.List.Sums.{sum_by-cons}
+use Rattle.std.proofs.lemmas.Option.{none-some, same_Some, slice_get_within}
+use Rattle.run_model.specs.declared.groups.Group.{Group}
+use Rattle.run_model.specs.declared.scopes.Scope.{Scope}
+use Rattle.run_model.specs.declared.tasks.Task.{Task}
+use Rattle.run_model.specs.Rows.{root}
+use Rattle.run_model.specs.Rules.{HasScope, HasGroup, HasTask, IsConsistent}
+use Rattle.run_model.specs.Scopes.{is_root, upwards, line_within, line, before_detached}
+use Rattle.run_model.specs.Scopes.{hit_at, least_hit, is_done, AreOrdered}
+use Rattle.run_model.specs.State.{State}
+use Rattle.run_model.specs.Tasks.{is_unfinished}
+use Rattle.scope_laws.specs.Hits.{is_on}
+use Rattle.scope_laws.specs.Searches.{above}
+use Rattle.scope_laws.proofs.Lines.{line_up}
+use Rattle.state_laws.proofs.FirstErrors.{any_found}
+use Rattle.state_renewal.specs.Renewed.{hosts_unwaited, is_needed, scope_numbers, keeps_scope}
+use Rattle.state_renewal.specs.Renewed.{keeps_group, keeps_task}
+
+-- ---- rows
+
+-- There is a row of each number below the length.
+pub there : {X : Type 0} (rows : List X) (n : ℕ) → n < length rows
+    → (row : X) × (slice_get rows n ≡ Some row)
+there [] n less = absurd (omega (arith, less))
+there (r ∷ rows) zero less = (r, refl)
+there (r ∷ rows) (suc n) less = there rows n (omega (arith, less))
+
+pub range_get : (a n i : ℕ) → i < n → slice_get (range_with_len a n) i ≡ Some (a + i)
+range_get a zero i less = absurd (omega (arith, less))
+range_get a (suc n) zero less = let e : a ≡ a + 0 = omega arith in ap Some e
+range_get a (suc n) (suc i) less =
+    let e : (a + 1) + i ≡ a + suc i = omega arith in
+    range_get (a + 1) n i (omega (arith, less)) ∙ ap Some e
+
+pub number_get : (n i : ℕ) → i < n → slice_get (range_with_len 0 n) i ≡ Some i
+number_get n i less = let e : 0 + i ≡ i = omega arith in range_get 0 n i less ∙ ap Some e
+
+-- Where a test passes among some, one of them passes it.
+pub found_any : {X : Type 0} (test : X → Bool) (rows : List X) → list_any test rows ≡ true
+    → (n : ℕ) × (x : X) × (slice_get rows n ≡ Some x) × (test x ≡ true)
+found_any test [] is = absurd (false≢true is)
+found_any test (row ∷ rows) is =
+    elim (or_cases (test row) (list_any test rows) is) [
+      | inl here ↦ (0, row, refl, here)
+      | inr later ↦ (let x = found_any test rows later in (suc x.0, x.1, x.2, x.3))
+    ]
+
+-- ---- lines
+
+-- Each scope is on its own line.
+pub line_self : (rows : List Scope) (s : ℕ) (row : Scope) → slice_get rows s ≡ Some row
+    → is_on s (line rows s) ≡ true
+line_self rows s row found =
+    subst (λ o. is_on s (upwards (line_within s rows) s o) ≡ true) (sym found)
+    (or_left (s == s)
+    (is_on s (cond (is_root row.kind) [] (line_within s rows row.parent)))
+    (eq-eqb s s refl))
+
+-- What passes from a scope to its parent on all lines of scopes below t.
+abbrev PassesBelow : List Scope → ℕ → ℕ → Scope → Type 0
+PassesBelow rows t s row = (u : ℕ) → u < t → is_on s (line rows u) ≡ true
+    → is_on row.parent (line rows u) ≡ true
+
+passes_above : (rows : List Scope) → AreOrdered rows → (t s : ℕ) (row r : Scope)
+    → PassesBelow rows t s row → (b : Bool) → is_root r.kind ≡ b → slice_get rows t ≡ Some r
+    → is_on s (cond b [] (line rows r.parent)) ≡ true
+    → is_on row.parent (cond b [] (line rows r.parent)) ≡ true
+passes_above rows ordered t s row r passes true is at on = absurd (false≢true on)
+passes_above rows ordered t s row r passes false is at on = passes r.parent (ordered t r at is) on
+
+pub parent_there : (rows : List Scope) → AreOrdered rows → (s : ℕ) (row : Scope)
+    → slice_get rows s ≡ Some row → is_root row.kind ≡ false
+    → (up : Scope) × (slice_get rows row.parent ≡ Some up)
+parent_there rows ordered s row found below =
+    let lower = ordered s row found below in
+    let within = slice_get_within rows s row found in
+    there rows row.parent (omega (arith, lower, within))
+
+passes_at : (rows : List Scope) → AreOrdered rows → (t s : ℕ) (row r : Scope)
+    → PassesBelow rows t s row → slice_get rows s ≡ Some row → is_root row.kind ≡ false
+    → slice_get rows t ≡ Some r
+    → ((t == s) ≡ true) ⊎ (is_on s (above (line rows) [] r) ≡ true)
+    → ((t == row.parent) || is_on row.parent (above (line rows) [] r)) ≡ true
+passes_at rows ordered t s row r passes found below at (inl same) =
+    let e : t ≡ s = eqb-true t s same in
+    let is : r ≡ row = same_Some r row (sym at ∙ ap (slice_get rows) e ∙ found) in
+    let up = parent_there rows ordered s row found below in
+    or_right (t == row.parent) (is_on row.parent (above (line rows) [] r))
+    (ap (λ x. is_on row.parent (above (line rows) [] x)) is
+    ∙ ap (λ b. is_on row.parent (cond b [] (line rows row.parent))) below
+    ∙ line_self rows row.parent up.0 up.1)
+passes_at rows ordered t s row r passes found below at (inr later) =
+    or_right (t == row.parent) (is_on row.parent (above (line rows) [] r))
+    (passes_above rows ordered t s row r passes (is_root r.kind) refl at later)
+
+passes_here : (rows : List Scope) → AreOrdered rows → (t s : ℕ) (row : Scope)
+    → PassesBelow rows t s row → slice_get rows s ≡ Some row → is_root row.kind ≡ false
+    → is_on s (line rows t) ≡ true → (o : Option Scope) → slice_get rows t ≡ o
+    → is_on row.parent (line rows t) ≡ true
+passes_here rows ordered t s row passes found below on None at =
+    absurd (false≢true (subst (λ o. is_on s (upwards (line_within t rows) t o) ≡ true) at on))
+passes_here rows ordered t s row passes found below on (Some r) at =
+    let up = line_up rows t r ordered at in
+    ap (is_on row.parent) up
+    ∙ passes_at rows ordered t s row r passes found below at
+    (or_cases (t == s) (is_on s (above (line rows) [] r)) (sym (ap (is_on s) up) ∙ on))
+
+passes_below : (rows : List Scope) → AreOrdered rows → (t s : ℕ) (row : Scope)
+    → slice_get rows s ≡ Some row → is_root row.kind ≡ false → PassesBelow rows t s row
+passes_below rows ordered zero s row found below u less on = absurd (omega (arith, less))
+passes_below rows ordered (suc t) s row found below u less on =
+    let lower : PassesBelow rows u s row =
+    λ v lesser. passes_below rows ordered t s row found below v (omega (arith, less, lesser)) in
+    passes_here rows ordered u s row lower found below on (slice_get rows u) refl
+
+-- On each line on which a scope is, its parent is too.
+pub line_passes : (rows : List Scope) → AreOrdered rows → (t s : ℕ) (row : Scope)
+    → slice_get rows s ≡ Some row → is_root row.kind ≡ false → is_on s (line rows t) ≡ true
+    → is_on row.parent (line rows t) ≡ true
+line_passes rows ordered t s row found below on =
+    passes_below rows ordered (suc t) s row found below t (omega arith) on
+
+-- ---- scopes
+
+-- A scope that is needed is kept.
+pub needed_kept : (p : State) (s : ℕ) (row : Scope) → HasScope p.tree s row
+    → is_needed p s ≡ true → keeps_scope p s ≡ true
+needed_kept p s row found is =
+    any_found (λ t. is_needed p t && is_on s (line p.tree.scopes t)) (scope_numbers p.tree) s s
+    (number_get (length p.tree.scopes) s (slice_get_within p.tree.scopes s row found))
+    (and_from (is_needed p s) (is_on s (line p.tree.scopes s)) is
+    (line_self p.tree.scopes s row found))
+
+-- A scope that isn't done is kept.
+pub live_kept : (p : State) (s : ℕ) (row : Scope) → HasScope p.tree s row
+    → is_done p.tree.scopes s ≡ false → keeps_scope p s ≡ true
+live_kept p s row found is =
+    needed_kept p s row found
+    (or_left (not (is_done p.tree.scopes s)) (hosts_unwaited p.work s) (ap not is))
+
+-- The parent of a scope that is kept is kept.
+pub parent_kept : (p : State) (s : ℕ) (row : Scope) → AreOrdered p.tree.scopes
+    → HasScope p.tree s row → is_root row.kind ≡ false → keeps_scope p s ≡ true
+    → keeps_scope p row.parent ≡ true
+parent_kept p s row ordered found below is =
+    let by = found_any (λ t. is_needed p t && is_on s (line p.tree.scopes t))
+    (scope_numbers p.tree) is in
+    let parts = and_parts (is_needed p by.1) (is_on s (line p.tree.scopes by.1)) by.3 in
+    any_found (λ t. is_needed p t && is_on row.parent (line p.tree.scopes t))
+    (scope_numbers p.tree) by.0 by.1 by.2
+    (and_from (is_needed p by.1) (is_on row.parent (line p.tree.scopes by.1)) parts.0
+    (line_passes p.tree.scopes ordered by.1 s row found below parts.1))
+
+-- Root is kept.
+pub root_kept : (p : State) → slice_get p.tree.scopes 0 ≡ Some root → keeps_scope p 0 ≡ true
+root_kept p rooted =
+    live_kept p 0 root rooted
+    (ap (λ o. is_some (option_map (λ a. a.1) (least_hit (filter_map hit_at (before_detached
+    (upwards (line_within 0 p.tree.scopes) 0 o)))))) rooted)
+
+-- ---- groups
+
+-- A group that wasn't waited for is kept.
+pub unwaited_kept : (p : State) (g : ℕ) (row : Group) → HasGroup p.work g row
+    → row.waited ≡ false → keeps_group p g ≡ true
+unwaited_kept p g row found is =
+    ap (λ o. option_map_or
+    (λ group. not group.waited || not group.bare && keeps_scope p group.scope) o false) found
+    ∙ or_left (not row.waited) (not row.bare && keeps_scope p row.scope) (ap not is)
+
+-- A group is kept with its own scope.
+pub owner_kept : (p : State) (g : ℕ) (row : Group) → HasGroup p.work g row → row.bare ≡ false
+    → keeps_scope p row.scope ≡ true → keeps_group p g ≡ true
+owner_kept p g row found own is =
+    ap (λ o. option_map_or
+    (λ group. not group.waited || not group.bare && keeps_scope p group.scope) o false) found
+    ∙ or_right (not row.waited) (not row.bare && keeps_scope p row.scope)
+    (and_from (not row.bare) (keeps_scope p row.scope) (ap not own) is)
+
+-- The scope of a group that is kept is kept.
+pub scope_kept : (p : State) (g : ℕ) (row : Group) → HasGroup p.work g row
+    → row.scope < length p.tree.scopes → keeps_group p g ≡ true → keeps_scope p row.scope ≡ true
+scope_kept p g row found within is =
+    by_cause (or_cases (not row.waited) (not row.bare && keeps_scope p row.scope)
+    (sym (ap (λ o. option_map_or
+    (λ group. not group.waited || not group.bare && keeps_scope p group.scope) o false) found)
+    ∙ is))
+  where
+    by_cause : (not row.waited ≡ true) ⊎ ((not row.bare && keeps_scope p row.scope) ≡ true)
+        → keeps_scope p row.scope ≡ true
+    by_cause (inl unwaited) =
+        let scope = there p.tree.scopes row.scope within in
+        needed_kept p row.scope scope.0 scope.1
+        (or_right (not (is_done p.tree.scopes row.scope)) (hosts_unwaited p.work row.scope)
+        (any_found (λ group. not group.waited && group.scope == row.scope) p.work.groups g row
+        found
+        (and_from (not row.waited) (row.scope == row.scope) unwaited
+        (eq-eqb row.scope row.scope refl))))
+    by_cause (inr own) = (and_parts (not row.bare) (keeps_scope p row.scope) own).1
+
+-- ---- tasks
+
+-- A task is kept exactly where its group is.
+pub task_is_kept : (p : State) (n : ℕ) (row : Task) → HasTask p.work n row
+    → keeps_task p n ≡ keeps_group p row.group
+task_is_kept p n row found =
+    ap (λ o. option_map_or (λ task. keeps_group p task.group) o false) found
+
+count_first : (b : Bool) (n : ℕ) → b ≡ true → 1 ≤ (if b then 1 else 0) + n
+count_first true n is = omega arith
+count_first false n is = absurd (both_ways false refl is)
+
+pub count_cons : {X : Type 0} (test : X → Bool) (row : X) (rows : List X)
+    → count_by test (row ∷ rows) ≡ (if test row then 1 else 0) + count_by test rows
+count_cons test row rows = sum_by-cons (λ x. if test x then 1 else 0) row rows
+
+count_found : {X : Type 0} (test : X → Bool) (rows : List X) (n : ℕ) (x : X)
+    → slice_get rows n ≡ Some x → test x ≡ true → 1 ≤ count_by test rows
+count_found test [] n x found is = absurd (none-some x found)
+count_found test (row ∷ rows) zero x found is =
+    rw (count_cons test row rows)
+    (count_first (test row) (count_by test rows) (ap test (same_Some row x found) ∙ is))
+count_found test (row ∷ rows) (suc n) x found is =
+    let rest = count_found test rows n x found is in
+    rw (count_cons test row rows) (omega (arith, rest))
+
+-- In a consistent state each unfinished task is kept.
+pub unfinished_kept : (p : State) (n : ℕ) (row : Task) → IsConsistent p → HasTask p.work n row
+    → is_unfinished row.stage ≡ true → keeps_task p n ≡ true
+unfinished_kept p n row consistent found is =
+    task_is_kept p n row found
+    ∙ unwaited_kept p row.group group.0 group.1 (by_wait group.0.waited refl)
+  where
+    group : (g : Group) × HasGroup p.work row.group g
+    group = there p.work.groups row.group (consistent.numbered.groups n row found)
+
+    some : 1 ≤ count_by (λ task. task.group == row.group && is_unfinished task.stage) p.work.tasks
+    some =
+        count_found (λ task. task.group == row.group && is_unfinished task.stage) p.work.tasks n row
+        found
+        (and_from (row.group == row.group) (is_unfinished row.stage)
+        (eq-eqb row.group row.group refl) is)
+
+    by_wait : (b : Bool) → group.0.waited ≡ b → b ≡ false
+    by_wait false e = refl
+    by_wait true e =
+        let none = consistent.admitted.waited row.group group.0 group.1 e in
+        absurd (omega (arith, some, none))

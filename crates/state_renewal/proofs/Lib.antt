@@ -1,0 +1,12 @@
+pub mod Numbers
+pub mod Keeps
+pub mod Works
+pub mod RulesKept
+pub mod AnswersKept
+pub mod Stays
+pub mod Again
+pub mod FirstReady
+pub mod ImageKept
+pub mod NamesKept
+pub mod AllowedKept
+pub mod AllowedBefore

@@ -1,0 +1,173 @@
+-- Rows that are kept and told anew: where each comes from, and where it goes.
+use Rattle.std.proofs.Common.{◌≡◌, ◌⊎◌, ◌<◌, ◌≤◌, ℕ, zero, suc, Bool, true, false, List, [], ◌∷◌}
+use Rattle.std.proofs.Common.{length, map, Some, slice_get, inl, inr, refl, sym, ap, subst, ◌∙◌}
+use Rattle.std.proofs.Common.{arith}
+use Rattle.std.specs.Option.{option_map}
+use Rattle.std.proofs.lemmas.Bool.{cases_order}
+use Rattle.std.proofs.lemmas.List.{length-map}
+use Rattle.std.proofs.lemmas.Option.{none-some, slice_get-map}
+use Rattle.run_model.proofs.RowLemmas.{map_cases}
+use Rattle.state_renewal.specs.Renewed.{one_more_if, new_number, in_front_if, kept}
+
+-- ---- new numbers
+
+more_at_most : (b : Bool) (n : ℕ) → n ≤ one_more_if b n
+more_at_most true n = omega arith
+more_at_most false n = omega arith
+
+more_at_least : (b : Bool) (n m : ℕ) → m ≤ n → one_more_if b m ≤ suc n
+more_at_least true n m less = omega arith
+more_at_least false n m less = omega arith
+
+pub number_at_most : (keeps : ℕ → Bool) (n : ℕ) → new_number keeps n ≤ n
+number_at_most keeps zero = omega arith
+number_at_most keeps (suc n) =
+    more_at_least (keeps n) n (new_number keeps n) (number_at_most keeps n)
+
+-- A row that is kept has a lesser new number than each row behind it.
+pub number_less : (keeps : ℕ → Bool) (n m : ℕ) → keeps n ≡ true → n < m
+    → new_number keeps n < new_number keeps m
+number_less keeps n zero is less = absurd (omega (arith, less))
+number_less keeps n (suc m) is less =
+    by_order (cases_order n m) (λ below. number_less keeps n m is below)
+  where
+    by_order : (n ≡ m) ⊎ ((n < m) ⊎ (m < n))
+        → (n < m → new_number keeps n < new_number keeps m)
+        → new_number keeps n < one_more_if (keeps m) (new_number keeps m)
+    by_order (inl e) lesser =
+        subst (λ k. new_number keeps n < one_more_if (keeps k) (new_number keeps k)) e
+        (subst (λ b. new_number keeps n < one_more_if b (new_number keeps n)) (sym is)
+        (omega arith))
+    by_order (inr (inl below)) lesser =
+        let rest = lesser below in
+        let more = more_at_most (keeps m) (new_number keeps m) in
+        omega (arith, rest, more)
+    by_order (inr (inr above)) lesser = absurd (omega (arith, less, above))
+
+-- Two rows that are kept have two new numbers.
+pub number_same : (keeps : ℕ → Bool) (n m : ℕ) → keeps n ≡ true → keeps m ≡ true
+    → new_number keeps n ≡ new_number keeps m → n ≡ m
+number_same keeps n m is_n is_m same = by_order (cases_order n m)
+  where
+    by_order : (n ≡ m) ⊎ ((n < m) ⊎ (m < n)) → n ≡ m
+    by_order (inl e) = e
+    by_order (inr (inl less)) =
+        let apart = number_less keeps n m is_n less in absurd (omega (arith, apart, same))
+    by_order (inr (inr less)) =
+        let apart = number_less keeps m n is_m less in absurd (omega (arith, apart, same))
+
+-- ---- the rows that are kept
+
+more_swapped : (a b : Bool) (n : ℕ)
+    → one_more_if a (one_more_if b n) ≡ one_more_if b (one_more_if a n)
+more_swapped true true n = refl
+more_swapped true false n = refl
+more_swapped false true n = refl
+more_swapped false false n = refl
+
+-- A row behind the first has the number that it has without the first, or one more.
+pub number_behind : (keeps : ℕ → Bool) (n : ℕ)
+    → new_number keeps (suc n) ≡ one_more_if (keeps zero) (new_number (λ k. keeps (suc k)) n)
+number_behind keeps zero = refl
+number_behind keeps (suc n) =
+    ap (one_more_if (keeps (suc n))) (number_behind keeps n)
+    ∙ more_swapped (keeps (suc n)) (keeps zero) (new_number (λ k. keeps (suc k)) n)
+
+behind_first : {X : Type 0} (b : Bool) (row : X) (rows : List X) (n : ℕ)
+    → slice_get (in_front_if b row rows) (one_more_if b n) ≡ slice_get rows n
+behind_first true row rows n = refl
+behind_first false row rows n = refl
+
+pub kept_forth : {X : Type 0} (keeps : ℕ → Bool) (rows : List X) (n : ℕ) (row : X)
+    → slice_get rows n ≡ Some row → keeps n ≡ true
+    → slice_get (kept keeps rows) (new_number keeps n) ≡ Some row
+kept_forth keeps [] n row found is = absurd (none-some row found)
+kept_forth keeps (r ∷ rows) zero row found is =
+    subst (λ b. slice_get (in_front_if b r (kept (λ n. keeps (suc n)) rows)) zero ≡ Some row)
+    (sym is) found
+kept_forth keeps (r ∷ rows) (suc n) row found is =
+    ap (slice_get (kept keeps (r ∷ rows))) (number_behind keeps n)
+    ∙ behind_first (keeps zero) r (kept (λ k. keeps (suc k)) rows)
+    (new_number (λ k. keeps (suc k)) n)
+    ∙ kept_forth (λ k. keeps (suc k)) rows n row found is
+
+-- Where the row of this new number comes from.
+pub record ComesFrom
+    {X : Type 0} (keeps : ℕ → Bool) (rows : List X) (m : ℕ) (row : X) : Type 0 where
+  pub number : ℕ
+  pub found : slice_get rows number ≡ Some row
+  pub is_kept : keeps number ≡ true
+  pub told : m ≡ new_number keeps number
+
+comes_behind : {X : Type 0} (keeps : ℕ → Bool) (r : X) (rows : List X) (m : ℕ) (row : X)
+    → ComesFrom (λ k. keeps (suc k)) rows m row
+    → ComesFrom keeps (r ∷ rows) (one_more_if (keeps zero) m) row
+comes_behind keeps r rows m row from = record {
+  number = suc from.number;
+  found = from.found;
+  is_kept = from.is_kept;
+  told = ap (one_more_if (keeps zero)) from.told ∙ sym (number_behind keeps from.number);
+}
+
+pub kept_back : {X : Type 0} (keeps : ℕ → Bool) (rows : List X) (m : ℕ) (row : X)
+    → slice_get (kept keeps rows) m ≡ Some row → ComesFrom keeps rows m row
+kept_back keeps [] m row found = absurd (none-some row found)
+kept_back keeps (r ∷ rows) m row found =
+    by_first (keeps zero) refl m found (λ k at. kept_back (λ n. keeps (suc n)) rows k row at)
+  where
+    by_first : (b : Bool) → keeps zero ≡ b → (m : ℕ)
+        → slice_get (in_front_if b r (kept (λ k. keeps (suc k)) rows)) m ≡ Some row
+        → ((k : ℕ) → slice_get (kept (λ n. keeps (suc n)) rows) k ≡ Some row
+        → ComesFrom (λ n. keeps (suc n)) rows k row)
+        → ComesFrom keeps (r ∷ rows) m row
+    by_first true is zero at behind =
+        record { number = zero; found = at; is_kept = is; told = refl }
+    by_first true is (suc k) at behind =
+        subst (λ b. ComesFrom keeps (r ∷ rows) (one_more_if b k) row) is
+        (comes_behind keeps r rows k row (behind k at))
+    by_first false is k at behind =
+        subst (λ b. ComesFrom keeps (r ∷ rows) (one_more_if b k) row) is
+        (comes_behind keeps r rows k row (behind k at))
+
+length_in_front : {X : Type 0} (b : Bool) (row : X) (rows : List X)
+    → length (in_front_if b row rows) ≡ one_more_if b (length rows)
+length_in_front true row rows = refl
+length_in_front false row rows = refl
+
+-- As many rows are kept as the number says that a row behind all would have.
+pub length-kept : {X : Type 0} (keeps : ℕ → Bool) (rows : List X)
+    → length (kept keeps rows) ≡ new_number keeps (length rows)
+length-kept keeps [] = refl
+length-kept keeps (r ∷ rows) =
+    length_in_front (keeps zero) r (kept (λ k. keeps (suc k)) rows)
+    ∙ ap (one_more_if (keeps zero)) (length-kept (λ k. keeps (suc k)) rows)
+    ∙ sym (number_behind keeps (length rows))
+
+-- ---- told anew
+
+-- The new rows are the old ones that are kept, each told anew, in the old order.
+pub record AreTold
+    {X : Type 0} (keeps : ℕ → Bool) (tell : X → X) (old new : List X) : Type 0 where
+  pub few : length new ≤ length old
+  pub forth : (n : ℕ) (row : X) → slice_get old n ≡ Some row → keeps n ≡ true
+      → slice_get new (new_number keeps n) ≡ Some (tell row)
+  pub back : (m : ℕ) (row : X) → slice_get new m ≡ Some row
+      → (old_row : X) × ComesFrom keeps old m old_row × (row ≡ tell old_row)
+
+pub are_told : {X : Type 0} (keeps : ℕ → Bool) (tell : X → X) (rows : List X)
+    → AreTold keeps tell rows (map tell (kept keeps rows))
+are_told keeps tell rows = record {
+  few =
+      let same = length-map (kept keeps rows) tell in
+      let many = length-kept keeps rows in
+      let less = number_at_most keeps (length rows) in
+      omega (arith, same, many, less);
+  forth =
+      λ n row found is.
+      slice_get-map tell (kept keeps rows) (new_number keeps n)
+      ∙ ap (option_map tell) (kept_forth keeps rows n row found is);
+  back =
+      λ m row found.
+      let old = map_cases tell m (kept keeps rows) row found in
+      (old.0, kept_back keeps rows m old.0 old.1, old.2);
+}

@@ -1,0 +1,9 @@
+use Rattle.state_renewal.proofs.AllowedKept.{allowed_told}
+use Rattle.state_renewal.proofs.AllowedBefore.{allowed_before}
+use Rattle.state_renewal.proofs.renewals.what_is_allowed_stays.Goals as goal
+
+pub returns-clause-allowed : goal.returns-clause-allowed
+returns-clause-allowed c = allowed_told
+
+pub returns-clause-before : goal.returns-clause-before
+returns-clause-before c = allowed_before

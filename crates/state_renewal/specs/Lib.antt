@@ -1,0 +1,4 @@
+pub mod Renewed
+pub mod Kept
+pub mod Told
+pub mod Examples

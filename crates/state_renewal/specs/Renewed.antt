@@ -1,0 +1,92 @@
+-- What is left of a state that is renewed: all that isn't finished, and what that stands on.
+use Rattle.std.specs.Prelude.{ℕ, zero, suc, ◌==◌, Bool, true, false, not, ◌&&◌, ◌||◌, List, [], ◌∷◌}
+use Rattle.std.specs.Prelude.{length, map, slice_get}
+use Rattle.std.specs.List.{list_any, range_with_len}
+use Rattle.std.specs.Option.{option_map, option_map_or}
+use Rattle.run_model.specs.declared.scopes.Scope.{Scope}
+use Rattle.run_model.specs.declared.groups.Group.{Group}
+use Rattle.run_model.specs.declared.tasks.Task.{Task}
+use Rattle.run_model.specs.State.{State, TreeState, WorkState}
+use Rattle.run_model.specs.Scopes.{line, is_done}
+use Rattle.scope_laws.specs.Hits.{is_on}
+
+-- ---- what is kept
+
+-- A group that wasn't waited for lives in this scope.
+abbrev pub hosts_unwaited : WorkState → ℕ → Bool
+hosts_unwaited w s = list_any (λ group. not group.waited && group.scope == s) w.groups
+
+-- A scope is needed while it isn't done, or while a group lives in it that wasn't waited for.
+abbrev pub is_needed : State → ℕ → Bool
+is_needed p s = not (is_done p.tree.scopes s) || hosts_unwaited p.work s
+
+-- The numbers of all scopes, ascending.
+abbrev pub scope_numbers : TreeState → List ℕ
+scope_numbers t = range_with_len 0 (length t.scopes)
+
+-- A scope is kept where it is needed, or is above one that is.
+abbrev pub keeps_scope : State → ℕ → Bool
+keeps_scope p s =
+    list_any (λ t. is_needed p t && is_on s (line p.tree.scopes t)) (scope_numbers p.tree)
+
+-- A group is kept unless it was waited for; then it still stays with its own scope, if that does.
+abbrev pub keeps_group : State → ℕ → Bool
+keeps_group p g =
+    option_map_or (λ group. not group.waited || not group.bare && keeps_scope p group.scope)
+    (slice_get p.work.groups g) false
+
+-- A task is kept with its group.
+abbrev pub keeps_task : State → ℕ → Bool
+keeps_task p n =
+    option_map_or (λ task. keeps_group p task.group) (slice_get p.work.tasks n) false
+
+-- ---- new numbers
+
+-- One more, where this holds.
+abbrev pub one_more_if : Bool → ℕ → ℕ
+one_more_if true n = suc n
+one_more_if false n = n
+
+-- The new number of a row is how many rows before it are kept.
+abbrev pub new_number : (ℕ → Bool) → ℕ → ℕ
+new_number keeps zero = zero
+new_number keeps (suc n) = one_more_if (keeps n) (new_number keeps n)
+
+-- The row in front, where it is kept.
+abbrev pub in_front_if : {X : Type 0} → Bool → X → List X → List X
+in_front_if true row rows = row ∷ rows
+in_front_if false row rows = rows
+
+-- The rows that are kept, in order.
+abbrev pub kept : {X : Type 0} → (ℕ → Bool) → List X → List X
+kept keeps [] = []
+kept keeps (row ∷ rows) = in_front_if (keeps zero) row (kept (λ n. keeps (suc n)) rows)
+
+-- ---- the rows told anew
+
+-- A scope is told by its parent's new number; all else of its row is as it was.
+abbrev pub scope_told : State → Scope → Scope
+scope_told p row = record row { parent = new_number (keeps_scope p) row.parent }
+
+-- A group is told by its scope's new number; all else of its row is as it was.
+abbrev pub group_told : State → Group → Group
+group_told p row = record row { scope = new_number (keeps_scope p) row.scope }
+
+-- A task is told by the new numbers of its group and of the task that it is a retry of; all else of
+-- its row is as it was.
+abbrev pub task_told : State → Task → Task
+task_told p row = record row {
+  group = new_number (keeps_group p) row.group;
+  retry_of = option_map (new_number (keeps_task p)) row.retry_of;
+}
+
+-- A renewed state has the kept rows, told by their new numbers. Its count, clock and layout stay.
+abbrev pub renewed : State → State
+renewed p = record {
+  count = p.count;
+  tree = record p.tree { scopes = map (scope_told p) (kept (keeps_scope p) p.tree.scopes) };
+  work = record p.work {
+    groups = map (group_told p) (kept (keeps_group p) p.work.groups);
+    tasks = map (task_told p) (kept (keeps_task p) p.work.tasks);
+  };
+}

@@ -1,0 +1,68 @@
+//! What a renewal keeps: the rules, all that isn't finished, and what is answered of what stays.
+
+ghost use Rattle.std.specs.Option.{option_map};
+ghost use Rattle.std.specs.Prelude.{◌≡◌, ℕ, true};
+ghost use Rattle.run_model.specs.declared.groups.Group.{Group};
+ghost use Rattle.run_model.specs.declared.scopes.Scope.{Scope};
+ghost use Rattle.run_model.specs.declared.tasks.Task.{Task};
+ghost use Rattle.run_model.specs.Allowed.{allowed};
+ghost use Rattle.run_model.specs.Event.{Event};
+ghost use Rattle.run_model.specs.Rules.{IsConsistent, HasScope, HasGroup, HasTask};
+ghost use Rattle.run_model.specs.State.{State};
+ghost use Rattle.run_model.specs.Tasks.{first_ready};
+ghost use Rattle.state_renewal.specs.Kept.{AreNamesKept, IsRoomKept};
+ghost use Rattle.state_renewal.specs.Kept.{ScopeStays, GroupStays, TaskStays, KeepsUnfinished};
+ghost use Rattle.state_renewal.specs.Renewed.{keeps_scope, keeps_group, keeps_task, new_number};
+ghost use Rattle.state_renewal.specs.Renewed.{renewed};
+ghost use Rattle.state_renewal.specs.Told.{event_told, has_place, names_kept};
+
+/// A state that meets the seven rules meets them renewed: so it has an image, which is read again.
+pub fn a_renewed_state_meets_the_rules()
+    ensures { (p : State) → IsConsistent p → IsConsistent (renewed p) }
+{}
+
+/// Nothing that isn't finished goes.
+pub fn nothing_unfinished_goes()
+    ensures { (p : State) → IsConsistent p → KeepsUnfinished p }
+{}
+
+/// What is kept is as it was: of a scope whether it is done, its reason, its cause, its deadline
+/// and every value, also those from scopes above it; of a group its row and how many tasks of it
+/// aren't finished; of a task its row and how far it is.
+pub fn what_is_kept_is_as_it_was()
+    ensures scopes { (p : State) (s : ℕ) (row : Scope) → IsConsistent p → HasScope p.tree s row
+        → keeps_scope p s ≡ true → ScopeStays p s row }
+    ensures groups { (p : State) (g : ℕ) (row : Group) → IsConsistent p → HasGroup p.work g row
+        → keeps_group p g ≡ true → GroupStays p g row }
+    ensures tasks { (p : State) (n : ℕ) (row : Task) → IsConsistent p → HasTask p.work n row
+        → keeps_task p n ≡ true → TaskStays p n row }
+{}
+
+/// An event that names only what is kept is allowed of the renewed state, told by the new numbers,
+/// where it was allowed; and where it wasn't, only for want of a free name or of room.
+pub fn what_is_allowed_stays()
+    ensures allowed { (p : State) (event : Event) → IsConsistent p → names_kept p event ≡ true
+        → allowed p event ≡ true → allowed (renewed p) (event_told p event) ≡ true }
+    ensures before { (p : State) (event : Event) → IsConsistent p → names_kept p event ≡ true
+        → has_place p event ≡ true → allowed (renewed p) (event_told p event) ≡ true
+        → allowed p event ≡ true }
+{}
+
+/// The names and the room that what goes had are free again, and no others: each name of a kept row
+/// is found under its new number, every other name is free, and so many rows are there as are kept.
+pub fn names_and_room_are_free_again()
+    ensures names { (p : State) → IsConsistent p → AreNamesKept p }
+    ensures room { (p : State) → IsRoomKept p }
+{}
+
+/// The task that is started next is the one that was, under its new number; there is none where
+/// there was none.
+pub fn the_next_task_is_the_one_that_was()
+    ensures { (p : State) → IsConsistent p → first_ready (renewed p).work
+        ≡ option_map (new_number (keeps_task p)) (first_ready p.work) }
+{}
+
+/// A renewed state stays as it is when it is renewed again.
+pub fn a_second_renewal_changes_nothing()
+    ensures { (p : State) → IsConsistent p → renewed (renewed p) ≡ renewed p }
+{}
