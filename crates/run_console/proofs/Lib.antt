@@ -5,6 +5,7 @@ pub mod Going
 pub mod Inspecting
 pub mod LineSteps
 pub mod Lines
+pub mod Nights
 pub mod Parts
 pub mod Printing
 pub mod Rows

@@ -13,7 +13,7 @@ use Rattle.run_book.specs.Views.{BookView, holding}
 use Rattle.run_crew.specs.Desks.{finishes_of, history_of, starts_of}
 
 -- A book that was just opened has no history.
-no_history : {D : Type 0} (b : BookView D) → b.session ≡ begun_at b.session.start
+pub no_history : {D : Type 0} (b : BookView D) → b.session ≡ begun_at b.session.start
     → history_of b ≡ []
 no_history b begun =
     ap (λ (s : Logged). events_in s.log) begun ∙ events_in_records [] [] no_records

@@ -1,24 +1,31 @@
 -- A night of worker threads over a store: what it leaves, and what is told of it.
 use Rattle.std.specs.Prelude.{◌≡◌, ◌⊎◌, ◌≤◌, ◌+◌, ◌++◌, ℕ, List, length, Bool, Option, Result, Ok}
-use Rattle.std.specs.Prelude.{Err}
+use Rattle.std.specs.Prelude.{Err, Some, true}
 use Rattle.std.specs.Prelude.{⊤, [], codes, is_ok, IfOk, MatchResult, OnOk}
 use Rattle.std.specs.Fmt.{decimal}
 use Rattle.std.specs.Io.KnownBytes.{Appends}
+use Rattle.std.specs.List.{list_all}
 use Rattle.std.specs.List.Sorted.{IsPermutation}
 use Rattle.run_model.specs.declared.faults.Fault.{Fault}
 use Rattle.run_model.specs.declared.faults.Fault.TheVariants.{DiskFailed}
 use Rattle.run_model.specs.declared.faults.Trouble.{Trouble}
 use Rattle.run_model.specs.declared.faults.Trouble.TheVariants.{Refused, Faulty}
-use Rattle.run_disk.specs.Disk.{DiskState}
+use Rattle.run_model.specs.Allowed.{run}
+use Rattle.run_model.specs.Event.{Event}
+use Rattle.run_model.specs.State.{State}
+use Rattle.run_disk.specs.Disk.{DiskState, IsAtRest}
+use Rattle.run_disk.specs.Runs.{LeavesOnly}
 use Rattle.run_session.specs.Logged.{Replays, begun_at}
-use Rattle.book_model.specs.Holdings.{Flushes, IsDurable}
+use Rattle.book_model.specs.Holdings.{Flushes, Holding, IsDurable}
 use Rattle.book_model.specs.Openings.{HasOpened, OpensNot}
+use Rattle.book_model.specs.Stores.{Stores, StoresFront, StoresOpened, restarted}
 use Rattle.run_book.specs.Views.{BookView, holding}
 use Rattle.run_crew.specs.declared.audits.Strayed.{Strayed}
 use Rattle.run_crew.specs.declared.notes.Note.{Note}
 use Rattle.run_crew.specs.Audits.{HasStrayed, IsComplete, made_at}
 use Rattle.run_crew.specs.Desks.{DeskView, finishes_of, history_of, starts_of}
 use Rattle.run_crew.specs.Notes.{all_notes, noted}
+use Rattle.run_crew.specs.Openings.{Carries, From, Known, is_work, opened_of}
 use Rattle.console_lines.specs.declared.faults.RunFault.{RunFault}
 use Rattle.console_lines.specs.declared.faults.RunFault.TheVariants.{Memory, Output, Store}
 use Rattle.console_lines.specs.declared.replies.Reply.TheVariants as said
@@ -65,9 +72,17 @@ IsTold audited starts finishes flushed answer w0 w1 =
 
 -- ---- what the night leaves
 
--- So many workers left a desk, whose book was flushed then, and a list of notes each.
-pub record IsWorked {D : Type 0} (state : D → DiskState) (workers : ℕ)
-    (audited : Result ⊤ Strayed) (starts finishes : ℕ) (flushed : Result ℕ Trouble) : Type 0
+-- This disk is that of a book that carries on from what is known of it.
+pub record WasLeft {D : Type 0} (state : D → DiskState) (known : Known) (left : D) : Type 0 where
+  pub book : Holding D
+  pub carries : Carries known state book
+  pub disk : book.journal.disk ≡ left
+
+-- So many workers left a desk, whose book was flushed then, and a list of notes each. The book
+-- carries on from what is known of it, and this disk is its own.
+pub record IsWorked {D : Type 0} (state : D → DiskState) (known : Known) (workers : ℕ)
+    (audited : Result ⊤ Strayed) (starts finishes : ℕ) (flushed : Result ℕ Trouble)
+    (left : D) : Type 0
   where
     -- the book as the threads left it, and the desk behind its flush
     pub book : BookView D
@@ -75,6 +90,8 @@ pub record IsWorked {D : Type 0} (state : D → DiskState) (workers : ℕ)
     pub lists : List (List Note)
     pub flushes : Flushes state (holding book) flushed (holding desk.book)
     pub session : desk.book.session ≡ book.session
+    pub carries : Carries known state (holding desk.book)
+    pub disk : desk.book.journal.disk ≡ left
     pub acked : IfOk flushed (λ count. (count ≡ desk.book.session.state.count)
         × (desk.book.durable ≡ count))
     pub replays : Replays desk.book.session
@@ -89,17 +106,46 @@ pub record IsWorked {D : Type 0} (state : D → DiskState) (workers : ℕ)
     pub each_was_started : finishes ≤ starts
     pub one_more_at_most : starts ≤ finishes + workers
 
--- A night over a disk: no book was opened, the fault tells why, and nothing was told. Or a book was
--- opened; and memory or a thread was wanting then, and nothing was told, or the workers worked, and
--- it was told what they left.
+-- What is promised of a disk that is honest and at rest, by the state that it stores.
+abbrev pub Promises : DiskState → (State → Type 0) → Type 0
+Promises s says = s.honest → IsAtRest s → (p : State) → Stores s.now p → says p
+
+-- The bytes store this state, or one that some first of these events lead to behind a restart.
+abbrev pub StoresNight : State → List Event → List ℕ → Type 0
+StoresNight p work bytes = Stores bytes p ⊎ StoresFront (restarted p) work 0 bytes
+
+-- Starts and finishes alone were made behind a restart, and a crash at any moment from `old` on
+-- leaves the state that was stored, or one that some first of them lead to.
+pub record KeepsNight (p : State) (work : List Event) (old new : DiskState) : Type 0 where
+  pub only : list_all is_work work ≡ true
+  pub any_moment : LeavesOnly (StoresNight p work) old new
+
+-- So many events are acknowledged: they are all, and whatever a crash leaves stores the state that
+-- they lead to.
+pub record AcksNight (p : State) (work : List Event) (n : ℕ) (s : DiskState) : Type 0 where
+  pub state : State
+  pub reached : run (restarted p) work ≡ Some state
+  pub counted : n ≡ state.count
+  pub stores : (x : List ℕ) → s.images x → Stores x state
+
+-- A night over a disk, which is handed back: no book was opened, the fault tells why, and nothing
+-- was told. Or a book was opened; and memory or a thread was wanting then, and nothing was told, or
+-- the workers worked, and it was told what they left. And what a crash leaves of the disk at any
+-- moment since the call's start, where it was honest and at rest.
 abbrev pub CrewEnds : {D : Type 0} → (D → DiskState) → (given : D) → (workers : ℕ)
-    → Result Bool RunFault → (w0 w1 : Option (List ℕ)) → Type 0
-CrewEnds {D = D} state given workers answer w0 w1 =
-    ((why : Fault) × (left : D) × (answer ≡ Err (stopped why)) × OpensNot state given why left
-    × (w1 ≡ w0))
+    → Result Bool RunFault → (left : D) → (w0 w1 : Option (List ℕ)) → Type 0
+CrewEnds {D = D} state given workers answer left w0 w1 =
+    ((why : Fault) × (answer ≡ Err (stopped why)) × OpensNot state given why left × (w1 ≡ w0)
+    × Promises (state given) (λ p. LeavesOnly (StoresOpened p) (state given) (state left)))
     ⊎ ((b : BookView D) × HasOpened state given (holding b)
     × (b.session ≡ begun_at b.session.start)
-    × (((answer ≡ Err Memory) × (w1 ≡ w0))
+    × (((answer ≡ Err Memory) × (w1 ≡ w0)
+    × Promises (state given) (λ p. (work : List Event)
+    × KeepsNight p work (state given) (state left)))
     ⊎ ((audited : Result ⊤ Strayed) × (starts : ℕ) × (finishes : ℕ) × (flushed : Result ℕ Trouble)
-    × IsWorked state workers audited starts finishes flushed
-    × IsTold audited starts finishes flushed answer w0 w1)))
+    × (worked : IsWorked state (From (opened_of state (holding b))) workers audited starts
+    finishes flushed left)
+    × IsTold audited starts finishes flushed answer w0 w1
+    × Promises (state given) (λ p.
+    KeepsNight p (history_of worked.desk.book) (state given) (state left)
+    × IfOk flushed (λ n. AcksNight p (history_of worked.desk.book) n (state left))))))

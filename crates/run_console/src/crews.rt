@@ -6,16 +6,18 @@ ghost use Rattle.std.specs.Fmt.{decimal};
 ghost use Rattle.arrayvec.specs.ArrayVec.{array_vec_len};
 ghost use Rattle.run_model.specs.declared.faults.Fault.TheVariants.{Memory};
 ghost use Rattle.run_session.specs.Logged.{begun_at};
+ghost use Rattle.run_book.specs.Views.{holding};
+ghost use Rattle.run_crew.specs.Openings.{Carries};
 ghost use Rattle.console_lines.specs.Gathers.{Gathers};
-ghost use Rattle.run_console.specs.Crews.{CrewEnds, IsTold, IsWorked, audit_line, flush_line};
-ghost use Rattle.run_console.specs.Crews.{numbers_line, told_of};
+ghost use Rattle.run_console.specs.Crews.{CrewEnds, IsTold, IsWorked, WasLeft, audit_line};
+ghost use Rattle.run_console.specs.Crews.{flush_line, numbers_line, told_of};
 
 use crate::faults::{of_device, stopped};
 use crate::writings::{Gathered, write_gathered};
 use console_lines::{Reply, RunFault};
 use itoa::Buffer;
 use run_book::Book;
-use run_crew::{Desk, Gate, Job, Strayed, audit, run_night};
+use run_crew::{Desk, Gate, Job, Opening, Strayed, audit, run_night};
 use run_disk::RunDisk;
 use run_model::{Fault, Trouble};
 use std::alloc::Global;
@@ -35,6 +37,8 @@ use std::thread::Threads;
 /// `Store`. Nothing is printed then. Where the last flush isn't done, the audit's line alone is
 /// printed, and the fault is `Store`, too: that of a device for a book that broke before. `Output`
 /// where not all could be printed.
+///
+/// The disk is dropped: [`crew_over`] hands it back, and so says what is left on it.
 pub fn crew<D: RunDisk + Drop + Send, G: Gate + Sync, R: Threads + Wait + Sync, W: Write>(
     rt: &R,
     alloc: Global,
@@ -43,19 +47,42 @@ pub fn crew<D: RunDisk + Drop + Send, G: Gate + Sync, R: Threads + Wait + Sync, 
     gate: &G,
     output: &mut W,
 ) -> Result<bool, RunFault>
-    ensures { CrewEnds D.state disk (vec_len jobs) result
+    ensures { (left : D) × CrewEnds D.state disk (vec_len jobs) result left
+        (W.contents output.old) (W.contents output.new) }
+{
+    let (done, _) = crew_over(rt, alloc, disk, jobs, gate, output);
+    done
+}
+
+/// A crew's night, as [`crew`] has it, that hands the disk back. Whatever it answers, a crash at
+/// any moment since the call began leaves the state that was stored, or what a restart of it and
+/// some first of the night's starts and finishes lead to; and behind a printed `acked N`, all N.
+pub fn crew_over<D: RunDisk + Drop + Send, G: Gate + Sync, R: Threads + Wait + Sync, W: Write>(
+    rt: &R,
+    alloc: Global,
+    disk: D,
+    jobs: Vec<Vec<Box<dyn Job + Send>>>,
+    gate: &G,
+    output: &mut W,
+) -> (Result<bool, RunFault>, D)
+    ensures { CrewEnds D.state disk (vec_len jobs) result.0 result.1
         (W.contents output.old) (W.contents output.new) }
 {
     let book = match Book::open(alloc, disk) {
         Ok(book) => book,
-        Err((fault, _)) => return Err(stopped(fault)),
+        Err((fault, disk)) => return (Err(stopped(fault)), disk),
     };
     let parts = jobs.len() as u64 + 1;
     let starts = Blank::new(parts);
     let finishes = Blank::new(parts);
-    match work::<D, Brand, Brand, G, R>(rt, alloc, book, jobs, gate, starts, finishes) {
-        Ok(night) => tell(&night, output),
-        Err(fault) => Err(stopped(fault)),
+    // that the book carries on from itself
+    let _durable = book.durable();
+    let (night, disk) = work::<D, Brand, Brand, Brand, G, R>(
+        rt, alloc, book, jobs, gate, starts, finishes,
+    );
+    match night {
+        Ok(night) => (tell(&night, output), disk),
+        Err(fault) => (Err(stopped(fault)), disk),
     }
 }
 
@@ -68,11 +95,13 @@ struct Night {
     flushed: Result<u64, Trouble>,
 }
 
-/// A night over a book that was just opened, for any two ledgers.
+/// A night over a book that was just opened, for any two ledgers, and for whatever is known of the
+/// book. The disk is handed back.
 fn work<
     D: RunDisk + Drop + Send,
     S: Ledger + Send + Sync,
     F: Ledger + Send + Sync,
+    O: Opening + Send + Sync,
     G: Gate + Sync,
     R: Threads + Wait + Sync,
 >(
@@ -83,32 +112,39 @@ fn work<
     gate: &G,
     starts: Blank,
     finishes: Blank,
-) -> Result<Night, Fault>
+) -> (Result<Night, Fault>, D)
     requires starts { (starts.name ≡ S.name) × (starts.parts ≡ S.parts)
         × (vec_len jobs < S.parts) }
     requires finishes { (finishes.name ≡ F.name) × (finishes.parts ≡ F.parts)
         × (vec_len jobs < F.parts) }
     requires begun { book.session ≡ begun_at book.session.start }
-    ensures worked { IfOk result (λ night. IsWorked D.state (vec_len jobs)
-        night.audited night.starts night.finishes night.flushed) }
-    ensures fault { IfErr result (λ fault. fault ≡ Memory) }
+    requires carries { Carries O.opening D.state (holding book) }
+    ensures worked { IfOk result.0 (λ night. IsWorked D.state O.opening (vec_len jobs)
+        night.audited night.starts night.finishes night.flushed result.1) }
+    ensures left { WasLeft D.state O.opening result.1 }
+    ensures fault { IfErr result.0 (λ fault. fault ≡ Memory) }
 {
-    let (desk, mut seat) = Desk::<D, S, F>::new(book, starts, finishes);
+    let (desk, mut seat) = Desk::<D, S, F, O>::new(book, starts, finishes);
     let shared = Mutex::new(desk);
-    let (lists, _) = run_night(rt, alloc, &shared, &mut seat, jobs, gate)?;
+    let night = run_night(rt, alloc, &shared, &mut seat, jobs, gate);
     let mut desk = shared.into_inner();
+    let lists = match night {
+        Ok((lists, _)) => lists,
+        Err(fault) => return (Err(fault), desk.into_book().into_disk()),
+    };
     // What the night's own last flush answers, no clause can tie to this desk. Behind one that was
     // done this one finds nothing to do.
     let flushed = desk.flush();
     let _book = desk.book();
     let audited = audit(&desk, lists.as_slice());
     let (starts, finishes) = desk.settle(&mut seat);
-    Ok(Night {
+    let night = Night {
         audited,
         starts,
         finishes,
         flushed,
-    })
+    };
+    (Ok(night), desk.into_book().into_disk())
 }
 
 /// Prints what is told of a night. It takes no memory.

@@ -19,7 +19,7 @@ mod writings;
 
 pub use console_lines::{RunFault, Stray, StrayLine};
 pub use consoles::{line, run};
-pub use crews::crew;
+pub use crews::{crew, crew_over};
 pub use faults::stopped;
 pub use inspects::inspect;
 pub use listings::list_tasks;

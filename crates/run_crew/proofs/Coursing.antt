@@ -13,8 +13,8 @@ use Rattle.run_model.specs.declared.tasks.Outcome.TheVariants as outcome
 use Rattle.run_crew.specs.declared.jobs.Turn.{Turn}
 use Rattle.run_crew.specs.declared.jobs.Turn.TheVariants as turn
 use Rattle.run_crew.specs.declared.notes.Note.{Note}
-use Rattle.run_crew.specs.Courses.{AreCourses, AreRounds, AreTurns, Call, EndsAt}
-use Rattle.run_crew.specs.Courses.{IsBegun, IsCourse, IsRun, IsShift, Path}
+use Rattle.run_crew.specs.Courses.{AreCourses, AreFlushes, AreRounds, AreTurns, Call, EndsAt}
+use Rattle.run_crew.specs.Courses.{IsBegun, IsCourse, IsRun, IsShift, IsWatch, Path}
 use Rattle.run_crew.specs.Courses.{TakesTask, Went, declined, most_turns, round, task_calls}
 use Rattle.run_crew.specs.Courses as call
 
@@ -291,3 +291,42 @@ ended_shift step jobs had came notes after a b c same is before more =
       path-append step before.0 ended.0 a b c before.2 ended.2,
     ) in
     subst (λ l. Went step (IsShift jobs l) a c) (sym ended.1.0) all
+
+-- ---- the flusher
+
+-- What holds of a flusher that has heard this number of rings: some rounds were made.
+abbrev pub Watched : {A : Type 0} (step : A → Call → A → Type 0) → ℕ → A → A → Type 0
+Watched step heard a b = (rounds : ℕ) × Went step (AreFlushes rounds heard) a b
+
+pub no_flush : {A : Type 0} (step : A → Call → A → Type 0) (a : A) → Watched step 0 a a
+no_flush step a = (0, ([], (refl, refl), refl))
+
+pub next_flush :
+    {A : Type 0} (step : A → Call → A → Type 0) (was heard : ℕ) (answer : Option ℕ)
+    (r : Result ℕ Trouble) (a b c d : A) → answer ≡ Some heard → Watched step was a b
+    → step b (call.Wait was answer) c → step c (call.Flush r) d → Watched step heard a d
+next_flush step was heard answer r a b c d is watched wait flush =
+    let went : Went step (AreFlushes watched.0 was) a b = watched.1 in
+    let last : List Call = call.Wait was (Some heard) ∷ call.Flush r ∷ [] in
+    let waited : step b (call.Wait was (Some heard)) c =
+    subst (λ x. step b (call.Wait was x) c) is wait in
+    let all : Went step (AreFlushes (suc watched.0) heard) a d = (
+      went.0 ++ last,
+      (went.0, was, r, went.1, refl),
+      path-append step went.0 last a b d went.2 (c, waited, (d, flush, refl)),
+    ) in
+    (suc watched.0, all)
+
+pub ended_watch :
+    {A : Type 0} (step : A → Call → A → Type 0) (heard : ℕ) (answer : Option ℕ) (a b c : A)
+    → answer ≡ None → Watched step heard a b → step b (call.Wait heard answer) c
+    → Went step IsWatch a c
+ended_watch step heard answer a b c is watched wait =
+    let went : Went step (AreFlushes watched.0 heard) a b = watched.1 in
+    let last : List Call = call.Wait heard None ∷ [] in
+    let waited : step b (call.Wait heard None) c =
+    subst (λ x. step b (call.Wait heard x) c) is wait in (
+      went.0 ++ last,
+      (watched.0, heard, went.0, went.1, refl),
+      path-append step went.0 last a b c went.2 (c, waited, refl),
+    )

@@ -1,4 +1,5 @@
 pub mod Auditing
+pub mod Carrying
 pub mod Coursing
 pub mod Counting
 pub mod Permuting

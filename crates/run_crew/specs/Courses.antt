@@ -1,4 +1,5 @@
--- The course of a task: what a worker calls, in order, and what each call is answered.
+-- The course of a task: what a worker calls, in order, and what each call is answered; and what the
+-- flusher calls beside it.
 use Rattle.std.specs.Prelude.{ℕ, zero, suc, ◌<◌, ◌≡◌, ◌⊎◌, Bool, true, false, codes}
 use Rattle.std.specs.Prelude.{List, [], ◌∷◌, ◌++◌, length, Result, Ok, Err, Option, None, Some, ⊤}
 use Rattle.run_model.specs.declared.answers.Started.{Started}
@@ -12,7 +13,7 @@ use Rattle.run_crew.specs.declared.jobs.Turn.{Turn}
 use Rattle.run_crew.specs.declared.jobs.Turn.TheVariants as turn
 use Rattle.run_crew.specs.declared.notes.Note.{Note}
 
--- What a worker calls, and what it is answered.
+-- What a worker and the flusher call, and what they are answered.
 pub data Call : Type 0 where
   -- under the lock, a task is started
   Start : Result Started Refusal → Call
@@ -32,6 +33,9 @@ pub data Call : Type 0 where
   Tell : ℕ → Call
   -- the bell is rung
   Ring : Call
+  -- it is waited until the bell has rung another number of times than this, and told how many;
+  -- nothing where it is closed
+  Wait : ℕ → Option ℕ → Call
 
 -- ---- what was called between two moments
 
@@ -155,6 +159,22 @@ abbrev pub IsShift : ℕ → List Note → List Call → Type 0
 IsShift jobs notes calls =
     (courses : List Call) × (last : List Call) × AreCourses jobs notes courses
     × EndsShift jobs notes last × (calls ≡ courses ++ last)
+
+-- ---- the flusher
+
+-- So many rounds of the flusher, behind which it has heard this number of rings: each waits for
+-- another number of them than was heard before, and then flushes.
+abbrev pub AreFlushes : ℕ → ℕ → List Call → Type 0
+AreFlushes zero heard calls = (heard ≡ 0) × (calls ≡ [])
+AreFlushes (suc rounds) heard calls =
+    (before : List Call) × (was : ℕ) × (r : Result ℕ Trouble) × AreFlushes rounds was before
+    × (calls ≡ before ++ Wait was (Some heard) ∷ Flush r ∷ [])
+
+-- All that the flusher calls: rounds, until the bell is closed.
+abbrev pub IsWatch : List Call → Type 0
+IsWatch calls =
+    (rounds : ℕ) × (heard : ℕ) × (before : List Call) × AreFlushes rounds heard before
+    × (calls ≡ before ++ Wait heard None ∷ [])
 
 -- ---- what the others answered
 

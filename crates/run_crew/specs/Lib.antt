@@ -2,5 +2,6 @@ pub mod Audits
 pub mod Courses
 pub mod Desks
 pub mod Notes
+pub mod Openings
 pub mod Seats
 pub mod Shifts

@@ -12,6 +12,7 @@ ghost use Rattle.run_crew.specs.Notes.{all_notes, has};
 use crate::desks::Desk;
 use crate::finishes::Finishes;
 use crate::notes::{Note, WorkerNotes, has_note, have_note};
+use crate::openings::Opening;
 use run_book::State;
 use run_disk::RunDisk;
 use run_model::Phase;
@@ -33,8 +34,8 @@ pub struct Strayed {
 /// its number, task and outcome, and no task is ready or running. If not, it names the first note,
 /// by worker and then by place, that is of none of them or repeats an earlier one; else that a
 /// finish is in no list; else the task that is left. Takes no memory.
-pub fn audit<D: RunDisk, S: Ledger, F: Ledger>(
-    desk: &Desk<D, S, F>,
+pub fn audit<D: RunDisk, S: Ledger, F: Ledger, O: Opening>(
+    desk: &Desk<D, S, F, O>,
     lists: &[WorkerNotes],
 ) -> Result<(), Strayed>
     ensures answer { MatchResult result (λ _. IsComplete desk.now lists.now)

@@ -1,11 +1,13 @@
 //! A [`Bell`] is what the flusher waits at. Workers ring it, and it is closed at the end.
 
+ghost use Rattle.std.specs.Prelude.{◌≡◌, ◌≢◌, IfSome};
+
 use std::sync::{Condvar, Mutex, Wait};
 
-/// Whether the bell rang since the flusher last woke, and whether it is closed.
+/// How many times the bell rang, modulo 2^64, and whether it is closed.
 #[derive(Drop)]
 struct Marks {
-    rung: bool,
+    rings: u64,
     closed: bool,
 }
 
@@ -20,7 +22,7 @@ impl Bell {
     /// A bell that didn't ring yet.
     pub fn new() -> Bell {
         let marks = Marks {
-            rung: false,
+            rings: 0,
             closed: false,
         };
         Bell {
@@ -32,7 +34,7 @@ impl Bell {
     /// Wakes the flusher.
     pub fn ring<R: Wait>(&self, rt: &R) {
         let mut marks = self.marks.lock(rt);
-        marks.rung = true;
+        marks.rings = marks.rings.wrapping_add(1);
         self.moved.notify_all();
     }
 
@@ -43,12 +45,21 @@ impl Bell {
         self.moved.notify_all();
     }
 
-    /// Waits until the bell rings or is closed, and says whether it is closed.
-    pub fn wait<R: Wait>(&self, rt: &R) -> bool {
-        let mut marks = self
-            .moved
-            .wait_while(rt, self.marks.lock(rt), |m| !m.rung && !m.closed);
-        marks.rung = false;
-        marks.closed
+    /// Waits until the bell has rung another number of times than was heard before, and says that
+    /// number; `None` where it is closed. Nothing is cleared, so a ring is heard whenever it comes.
+    pub fn wait<R: Wait>(&self, rt: &R, heard: u64) -> Option<u64>
+        ensures another { IfSome result (λ rings. rings ≢ heard) }
+    {
+        let mut marks = self.marks.lock(rt);
+        for _ in rt.forever() {
+            if marks.closed {
+                return None;
+            }
+            if marks.rings != heard {
+                return Some(marks.rings);
+            }
+            marks = self.moved.wait(rt, marks);
+        }
+        unreachable!()
     }
 }

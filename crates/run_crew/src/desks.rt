@@ -17,46 +17,56 @@ ghost use Rattle.book_model.specs.Steps.{AnswersStep};
 ghost use Rattle.book_model.specs.Stores.{Stores};
 ghost use Rattle.run_book.specs.Views.{holding, unless_broken, with_session};
 ghost use Rattle.run_crew.specs.Desks.{DeskView, finishes_of, history_of, is_done_for, starts_of};
+ghost use Rattle.run_crew.specs.Openings.{Carries};
 ghost use Rattle.run_crew.specs.Seats.{one_finish, one_start};
 
 use crate::counts::counts_of;
+use crate::openings::{AnyBook, Obeys, Opening};
 use crate::seats::Seat;
 use run_book::Book;
 use run_disk::RunDisk;
 use run_model::{Answer, Command, Outcome, Refusal, Started, Trouble};
-use std::marker::Model;
+use std::marker::{Model, PhantomData};
 use std::sync::ledger::{Blank, Book as Total, Ledger};
 
 /// A book, how many events it had when the desk was made, and the totals of the starts and the
 /// finishes in its history. It is the value of the one lock that all workers share, so each of its
 /// calls is one step of the book.
+///
+/// The opening says what is known of the book when the desk was made, and from there it carries on:
+/// so says [`Desk::book`], whatever threads had the lock. A desk that names none is of any book.
 #[derive(Drop)]
-pub struct Desk<D: RunDisk, S: Ledger, F: Ledger> {
+pub struct Desk<D: RunDisk, S: Ledger, F: Ledger, O: Opening = AnyBook> {
     book: Book<D>,
     since: u64,
     starts: Total<S>,
     finishes: Total<F>,
+    opening: PhantomData<O>,
 }
 
-impl<D: RunDisk, S: Ledger, F: Ledger> Model for Desk<D, S, F> {
+impl<D: RunDisk, S: Ledger, F: Ledger, O: Opening> Model for Desk<D, S, F, O> {
     ghost use Rattle.std.specs.Prelude.{◌≡◌};
+    ghost use Rattle.run_book.specs.Views.{holding};
     ghost use Rattle.run_crew.specs.Desks.{DeskView, finishes_of, history_of, starts_of};
+    ghost use Rattle.run_crew.specs.Openings.{Carries};
 
     ghost Value = { DeskView D };
 
     ghost view = { λ d. record { book = d.book; since = d.since } };
 
     ghost invariant = { λ d. (d.starts.total ≡ starts_of (history_of d.book))
-        × (d.finishes.total ≡ finishes_of (history_of d.book)) };
+        × (d.finishes.total ≡ finishes_of (history_of d.book))
+        × Carries O.opening D.state (holding d.book) };
 }
 
-impl<D: RunDisk, S: Ledger, F: Ledger> Desk<D, S, F> {
+impl<D: RunDisk, S: Ledger, F: Ledger, O: Opening> Desk<D, S, F, O> {
     /// A desk over a book, and the seat with every part of both shares. It has counted what the
     /// book's history has already.
-    pub fn new(book: Book<D>, starts: Blank, finishes: Blank) -> (Desk<D, S, F>, Seat<S, F>)
+    pub fn new(book: Book<D>, starts: Blank, finishes: Blank) -> (Desk<D, S, F, O>, Seat<S, F>)
         requires starts { (starts.name ≡ S.name) × (starts.parts ≡ S.parts) × (0 < S.parts) }
         requires finishes { (finishes.name ≡ F.name) × (finishes.parts ≡ F.parts)
             × (0 < F.parts) }
+        requires carries { Carries O.opening D.state (holding book) }
         ensures desk { result.0 ≡ record { book = book; since = book.session.state.count } }
         ensures seat { result.1 ≡ record {
           start_parts = S.parts;
@@ -75,27 +85,9 @@ impl<D: RunDisk, S: Ledger, F: Ledger> Desk<D, S, F> {
             book,
             starts: start_total,
             finishes: finish_total,
+            opening: PhantomData,
         };
         (desk, Seat::new(start_share, finish_share))
-    }
-
-    /// Obeys a command, as [`Book::command`] does.
-    pub fn command(&mut self, call: &Command) -> Result<Answer, Refusal>
-        ensures reply { result ≡ unless_broken self.old.book
-            (reply self.old.book.session.state (length self.old.book.session.log) call.now) }
-        ensures after { self.new.book ≡ with_session self.old.book
-            (after_command self.old.book.session call.now) }
-        ensures history { GoesOnBy (made (unless_broken self.old.book
-            (decide self.old.book.session.state (length self.old.book.session.log) call.now)))
-            self.old.book.session self.new.book.session }
-        ensures answers { AnswersStep D.state (holding self.old.book) (step.Command call.now)
-            (replied told.Answer result) (holding self.new.book) }
-        ensures refused { OnErr result (self.new.book ≡ self.old.book) }
-        ensures stays { Stays self.old.book.session.state self.new.book.session.state }
-        ensures carries_on { CarriesOn D.state (holding self.old.book) (holding self.new.book) }
-        ensures since { self.new.since ≡ self.old.since }
-    {
-        self.book.command(call)
     }
 
     /// Starts the ready task with the least number, as [`Book::start`] does. Where it is accepted,
@@ -204,11 +196,13 @@ impl<D: RunDisk, S: Ledger, F: Ledger> Desk<D, S, F> {
     }
 
     /// The book, for reading. Whenever the lock is free, its state is what its history leads to,
-    /// and whatever a crash leaves has the acknowledged events.
+    /// whatever a crash leaves has the acknowledged events, and
+    /// it carries on from what is known of the opening.
     pub fn book(&self) -> &Book<D>
         ensures book { result.now ≡ self.now.book }
         ensures replays { Replays self.now.book.session }
         ensures images { IsDurable D.state (holding self.now.book) }
+        ensures carries { Carries O.opening D.state (holding self.now.book) }
     {
         let _state = self.book.state();
         let _durable = self.book.durable();
@@ -241,9 +235,31 @@ impl<D: RunDisk, S: Ledger, F: Ledger> Desk<D, S, F> {
 
     /// The book, given back.
     pub fn into_book(self) -> Book<D>
-        ensures { result ≡ self.book }
+        ensures book { result ≡ self.book }
+        ensures carries { Carries O.opening D.state (holding self.book) }
     {
         let Desk { book, .. } = self;
         book
+    }
+}
+
+impl<D: RunDisk, S: Ledger, F: Ledger, O: Obeys> Desk<D, S, F, O> {
+    /// Obeys a command, as [`Book::command`] does.
+    pub fn command(&mut self, call: &Command) -> Result<Answer, Refusal>
+        ensures reply { result ≡ unless_broken self.old.book
+            (reply self.old.book.session.state (length self.old.book.session.log) call.now) }
+        ensures after { self.new.book ≡ with_session self.old.book
+            (after_command self.old.book.session call.now) }
+        ensures history { GoesOnBy (made (unless_broken self.old.book
+            (decide self.old.book.session.state (length self.old.book.session.log) call.now)))
+            self.old.book.session self.new.book.session }
+        ensures answers { AnswersStep D.state (holding self.old.book) (step.Command call.now)
+            (replied told.Answer result) (holding self.new.book) }
+        ensures refused { OnErr result (self.new.book ≡ self.old.book) }
+        ensures stays { Stays self.old.book.session.state self.new.book.session.state }
+        ensures carries_on { CarriesOn D.state (holding self.old.book) (holding self.new.book) }
+        ensures since { self.new.since ≡ self.old.since }
+    {
+        self.book.command(call)
     }
 }

@@ -16,8 +16,10 @@ mod floors;
 mod jobs;
 mod nights;
 mod notes;
+mod openings;
 mod places;
 mod seats;
+mod watches;
 mod workers;
 mod workplaces;
 
@@ -28,4 +30,6 @@ pub use floors::Floor;
 pub use jobs::{Gate, Job, OpenGate, Turn};
 pub use nights::run_night;
 pub use notes::{Note, WorkerNotes};
+pub use openings::{AnyBook, Obeys, Opening};
 pub use seats::Seat;
+pub use watches::{Watch, flush_rings};

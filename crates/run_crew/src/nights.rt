@@ -9,8 +9,10 @@ use crate::bells::Bell;
 use crate::desks::Desk;
 use crate::jobs::{Gate, Job};
 use crate::notes::WorkerNotes;
+use crate::openings::Opening;
 use crate::places::{CountedPlace, Place};
 use crate::seats::Seat;
+use crate::watches::{Lookout, flush_rings};
 use crate::workers::{Shift, Station};
 use run_disk::RunDisk;
 use run_model::{Fault, Trouble};
@@ -36,12 +38,13 @@ pub fn run_night<
     D: RunDisk + Send,
     S: Ledger + Send + Sync,
     F: Ledger + Send + Sync,
+    O: Opening + Send + Sync,
     G: Gate + Sync,
     R: Threads + Wait + Sync,
 >(
     rt: &R,
     alloc: Global,
-    shared: &Mutex<Desk<D, S, F>>,
+    shared: &Mutex<Desk<D, S, F, O>>,
     seat: &mut Seat<S, F>,
     jobs: Vec<Vec<Box<dyn Job + Send>>>,
     gate: &G,
@@ -155,14 +158,9 @@ fn shifts_of<
     )
 }
 
-/// Flushes whenever the bell rings, until it is closed. A flush that is refused is no end.
+/// Flushes whenever the bell rings, until it is closed.
 fn flush_at<T: Place, R: Wait>(rt: &R, shared: &Mutex<T>, bell: &Bell) {
-    for _ in rt.forever() {
-        if bell.wait(rt) {
-            return;
-        }
-        let _ = shared.lock(rt).flush();
-    }
+    flush_rings(rt, &mut Lookout { rt, shared, bell });
 }
 
 /// Takes the parts back, and puts the notes of the shifts into a list that has room for them.

@@ -21,14 +21,14 @@ pub struct Note {
     pub outcome: Outcome,
 }
 
-/// The notes of one worker, in the order of its finishes. There is room for 8,192.
+/// The notes of one worker, in the order of its finishes. There is room for 8,192, and no more.
 #[derive(Drop)]
 pub struct WorkerNotes {
     notes: Vec<Note>,
 }
 
 impl Model for WorkerNotes {
-    ghost use Rattle.std.specs.Prelude.{List, length, vec_capacity, ◌≤◌};
+    ghost use Rattle.std.specs.Prelude.{List, length, vec_capacity, ◌≡◌, ◌≤◌};
     ghost use Rattle.run_model.specs.declared.bounds.TheConstants.{MOST_TASKS};
     ghost use Rattle.run_crew.specs.declared.notes.Note.{Note};
 
@@ -37,7 +37,7 @@ impl Model for WorkerNotes {
     ghost view = { λ n. n.notes.items };
 
     ghost invariant = { λ n.
-        (length n.notes.items ≤ MOST_TASKS) × (MOST_TASKS ≤ vec_capacity n.notes) };
+        (length n.notes.items ≤ MOST_TASKS) × (vec_capacity n.notes ≡ MOST_TASKS) };
 }
 
 impl WorkerNotes {

@@ -12,6 +12,7 @@ ghost use Rattle.run_crew.specs.Desks.{is_done_for};
 ghost use Rattle.run_crew.specs.Seats.{one_finish, one_start};
 
 use crate::desks::Desk;
+use crate::openings::Opening;
 use crate::seats::Seat;
 use run_disk::RunDisk;
 use run_model::{Outcome, Refusal, Started, Trouble};
@@ -62,7 +63,7 @@ pub trait CountedPlace<S: Ledger, F: Ledger>: Place {
             (λ _. seat.new ≡ seat.old) };
 }
 
-impl<D: RunDisk, S: Ledger, F: Ledger> Place for Desk<D, S, F> {
+impl<D: RunDisk, S: Ledger, F: Ledger, O: Opening> Place for Desk<D, S, F, O> {
     ghost flushes = { λ d r e. Flushes D.state (holding d.book) r (holding e.book) };
 
     ghost tells = { λ d task answer. answer ≡ is_done_for d.book.session.state task };
@@ -76,7 +77,7 @@ impl<D: RunDisk, S: Ledger, F: Ledger> Place for Desk<D, S, F> {
     }
 }
 
-impl<D: RunDisk, S: Ledger, F: Ledger> CountedPlace<S, F> for Desk<D, S, F> {
+impl<D: RunDisk, S: Ledger, F: Ledger, O: Opening> CountedPlace<S, F> for Desk<D, S, F, O> {
     ghost starts = { λ d r _. r ≡ unless_broken d.book
         (reply_start d.book.session.state (length d.book.session.log)) };
 

@@ -1,4 +1,6 @@
-use Rattle.std.proofs.Common.{◌∙◌, ap}
+use Rattle.std.proofs.Common.{◌∙◌, ap, sym}
+use Rattle.run_book.specs.Views.{BookView, holding}
+use Rattle.run_crew.specs.Desks.{DeskView}
 use Rattle.run_crew.specs.Notes.{noted}
 use Rattle.run_crew.specs.Seats.{SeatView}
 use Rattle.run_console.proofs.Working.{acknowledged, no_finishes, no_starts, shares_count}
@@ -10,7 +12,7 @@ returns-clause-worked g c =
     let counts = shares_count _ _ _ _ _ _ _ _ _
     (ap (λ (s : SeatView). s.starts) c.new-desk.ensures.seat ∙ no_starts c.args.book begun)
     (ap (λ (s : SeatView). s.finishes) c.new-desk.ensures.seat ∙ no_finishes c.args.book begun)
-    c.in_ok-lists.ensures.finishes c.in_ok-lists.ensures.starts c.in_ok-lists.ensures.one_more
+    c.in-Ok.ensures.finishes c.in-Ok.ensures.starts c.in-Ok.ensures.one_more
     c.settle-starts.ensures.counted.0 c.settle-starts.ensures.counted.1
     (ap noted c.as_slice.ensures.value) in
     record {
@@ -19,6 +21,10 @@ returns-clause-worked g c =
       lists = c.as_slice.result.now;
       flushes = c.flush-flushed.ensures.flushes;
       session = c.flush-flushed.ensures.session;
+      carries = c.book-book.ensures.carries;
+      disk = sym (c.into_disk-2.ensures
+          ∙ ap (λ (b : BookView _). b.journal.disk) c.into_book-2.ensures.book
+          ∙ ap (λ (d : DeskView _). d.book.journal.disk) c.settle-starts.ensures.same.0);
       acked = acknowledged g.D.RunDisk.state c.into_inner-desk.result.book
           c.flush-flushed.new.self.book c.flush-flushed.result c.book-book.ensures.replays
           c.flush-flushed.ensures.session c.flush-flushed.ensures.flushes.saves;
@@ -28,8 +34,24 @@ returns-clause-worked g c =
       exactly = c.audit-audited.ensures.exactly;
       started = c.settle-starts.ensures.history.0;
       finished = c.settle-starts.ensures.history.1;
-      each_has_a_list = c.as_slice.ensures.len ∙ c.in_ok-lists.ensures.workers;
+      each_has_a_list = c.as_slice.ensures.len ∙ c.in-Ok.ensures.workers;
       each_is_noted = counts.0;
       each_was_started = counts.1;
       one_more_at_most = counts.2;
     }
+
+pub returns-in-Err-clause-left : goal.returns-in-Err-clause-left
+returns-in-Err-clause-left g c = record {
+  book = holding c.into_inner-desk.result.book;
+  carries = c.into_book.ensures.carries;
+  disk = sym (c.into_disk.ensures
+      ∙ ap (λ (b : BookView _). b.journal.disk) c.into_book.ensures.book);
+}
+
+pub returns-clause-left : goal.returns-clause-left
+returns-clause-left g c = record {
+  book = holding c.settle-starts.new.self.book;
+  carries = c.into_book-2.ensures.carries;
+  disk = sym (c.into_disk-2.ensures
+      ∙ ap (λ (b : BookView _). b.journal.disk) c.into_book-2.ensures.book);
+}

@@ -1,0 +1,119 @@
+-- What a night leaves of a disk.
+use Rattle.std.proofs.Common.{◌≡◌, ◌≤◌, ◌-◌, ◌+◌, ◌++◌, ℕ, List, [], true, length, Some, Ok}
+use Rattle.std.proofs.Common.{arith, ap, inl, inr, refl, subst, sym, ◌∙◌}
+use Rattle.std.specs.List.{list_all}
+use Rattle.std.specs.Prelude.{Result, Err, IfOk}
+use Rattle.run_model.specs.declared.faults.Trouble.{Trouble}
+use Rattle.run_model.specs.Allowed.{run}
+use Rattle.run_model.specs.Event.{Event}
+use Rattle.run_model.specs.State.{State}
+use Rattle.run_disk.specs.Disk.{DiskState, IsAtRest}
+use Rattle.run_disk.specs.Runs.{LeavesOnly}
+use Rattle.run_disk.proofs.RunLemmas.{leaves_only_more}
+use Rattle.run_session.specs.Logged.{Replays, begun_at}
+use Rattle.run_session.proofs.Replaying.{count_is}
+use Rattle.book_model.specs.Holdings.{Holding, IsDurable, IsSafe}
+use Rattle.book_model.specs.Openings.{HasOpened, Opens}
+use Rattle.book_model.specs.Stores.{Stores, StoresFront, StoresOpened, restarted}
+use Rattle.book_model.proofs.HoldingLemmas.{saved_stores, stores_fewer}
+use Rattle.book_model.proofs.Storing.{stores_one}
+use Rattle.run_book.specs.Views.{BookView, holding}
+use Rattle.run_crew.specs.Desks.{history_of}
+use Rattle.run_crew.specs.Openings.{CarriesFrom, is_work, opened_of}
+use Rattle.run_console.specs.Crews.{AcksNight, KeepsNight, StoresNight}
+use Rattle.run_console.proofs.Working.{no_history}
+
+pub opened_night : (p : State) (work : List Event) (x : List ℕ) → StoresOpened p x
+    → StoresNight p work x
+opened_night p work x (inl before) = inl before
+opened_night p work x (inr after) =
+    inr (record {
+      state = restarted p;
+      front = record {
+        many = 0;
+        enough = omega arith;
+        within = omega arith;
+        reached = refl;
+      };
+      stores = after;
+    })
+
+module _ {D : Type 0} (state : D → DiskState) (given : D) (b : BookView D)
+    (opens : Opens state given (Ok (holding b))) (begun : b.session ≡ begun_at b.session.start)
+    (honest : (state given).honest) (rest : IsAtRest (state given)) (p : State)
+    (stores : Stores (state given).now p) (h : Holding D)
+    (on : CarriesFrom (opened_of state (holding b)) state h) where
+  start : b.session.start ≡ restarted p
+  start =
+      let opened = opens.answer in
+      opened.opened.start
+      ∙ ap restarted (stores_one (state given).now opened.stored p
+      (opened.found.stores honest) stores)
+
+  honest_then : (state b.journal.disk).honest
+  honest_then = opens.answer.opened.passed.honest honest
+
+  rest_then : IsAtRest (state b.origin)
+  rest_then = subst (λ d. IsAtRest (state d)) (sym opens.answer.opened.origin) rest
+
+  pub keeps_night : (left : D) → h.journal.disk ≡ left
+      → KeepsNight p h.history (state given) (state left)
+  keeps_night left is =
+      let only : list_all is_work h.history ≡ true =
+      ap (λ l. list_all is_work l) (on.more ∙ ap (λ l. l ++ on.added) (no_history b begun))
+      ∙ on.only refl in
+      let least = b.durable - b.session.start.count in
+      record {
+        only = only;
+        any_moment =
+            subst (λ d. LeavesOnly (StoresNight p h.history) (state given) (state d)) is
+            (leaves_only_more
+            (StoresOpened p) (StoresFront b.session.start h.history least)
+            (StoresNight p h.history)
+            (state given) (state b.journal.disk) (state h.journal.disk)
+            (opens.any_moment honest rest p stores) (on.any_moment honest_then rest_then)
+            (λ x s. opened_night p h.history x s)
+            (λ x s.
+            inr (stores_fewer (restarted p) h.history least 0 x (omega arith)
+            (subst (λ q. StoresFront q h.history least x) start s))));
+      }
+
+  pub safe_night : IsSafe state h
+  safe_night = record {
+    honest = on.passed.honest honest_then;
+    rest = on.rest rest_then;
+  }
+
+  pub start_night : h.start ≡ restarted p
+  start_night = on.start ∙ start
+
+module _ {D : Type 0} (state : D → DiskState) (given : D) (b : BookView D)
+    (opens : Opens state given (Ok (holding b))) (begun : b.session ≡ begun_at b.session.start)
+    (honest : (state given).honest) (rest : IsAtRest (state given)) (p : State)
+    (stores : Stores (state given).now p) (d : BookView D)
+    (on : CarriesFrom (opened_of state (holding b)) state (holding d)) where
+  pub acks_night : (left : D) (n : ℕ) → d.journal.disk ≡ left → Replays d.session
+      → IsDurable state (holding d) → n ≡ d.session.state.count → d.durable ≡ n
+      → AcksNight p (history_of d) n (state left)
+  acks_night left n is replays durable counted acked =
+      let safe = safe_night state given b opens begun honest rest p stores (holding d) on in
+      record {
+        state = d.session.state;
+        reached = ap (λ q. run q (history_of d))
+            (sym (start_night state given b opens begun honest rest p stores (holding d) on))
+            ∙ replays.replays;
+        counted = counted;
+        stores = subst
+            (λ e. (x : List ℕ) → (state e).images x → Stores x d.session.state) is
+            (λ x image.
+            saved_stores state (holding d) d.session.state x durable safe
+            (acked ∙ counted ∙ count_is d.session replays) replays.replays image);
+      }
+
+  pub acks_told : (left : D) (r : Result ℕ Trouble) → d.journal.disk ≡ left → Replays d.session
+      → IsDurable state (holding d)
+      → IfOk r (λ count. (count ≡ d.session.state.count) × (d.durable ≡ count))
+      → IfOk r (λ n. AcksNight p (history_of d) n (state left))
+  acks_told left (Ok n) is replays durable acked =
+      acks_night left n is replays durable acked.0 acked.1
+  acks_told left (Err why) is replays durable acked = tt

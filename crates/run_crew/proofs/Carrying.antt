@@ -1,0 +1,136 @@
+-- How a book goes on from what it was when a desk was made over it.
+use Rattle.std.proofs.Common.{◌≡◌, ◌≤◌, ◌-◌, ◌++◌, ◌∷◌, ℕ, List, [], Bool, true, false}
+use Rattle.std.proofs.Common.{Option, None}
+use Rattle.std.proofs.Common.{Some, refl, sym, subst, ap, ◌∙◌, arith, append_assoc, append-nil}
+use Rattle.std.specs.Prelude.{Result, Ok, Err, if◌then◌else◌, ◌&&◌, option_to_list}
+use Rattle.std.specs.Option.{ok_or}
+use Rattle.std.specs.List.{list_all}
+use Rattle.std.proofs.lemmas.List.Folds.{list_all-append}
+use Rattle.run_model.specs.declared.refusals.Refusal.{Refusal}
+use Rattle.run_model.specs.declared.refusals.Refusal.TheVariants.{Broken, SessionFull, NothingReady}
+use Rattle.run_model.specs.declared.tasks.Outcome.{Outcome}
+use Rattle.run_model.specs.Event.{Event}
+use Rattle.run_model.specs.Event as event
+use Rattle.run_model.specs.Replies.{and_then, decide_finish, decide_start, finish_refusals, if_room}
+use Rattle.run_model.specs.Replies.{is_full, unless}
+use Rattle.run_model.specs.Session.{made}
+use Rattle.run_model.specs.State.{State}
+use Rattle.run_model.specs.Tasks.{first_ready}
+use Rattle.run_disk.specs.Disk.{DiskState, IsAtRest}
+use Rattle.run_disk.proofs.RunLemmas.{leaves_only_more}
+use Rattle.book_model.specs.Holdings.{CarriesOn, Holding, acked}
+use Rattle.book_model.specs.Stores.{StoresFront}
+use Rattle.book_model.proofs.HoldingLemmas.{passed_more, stores_fewer, stores_more}
+use Rattle.run_book.specs.Views.{BookView, unless_broken}
+use Rattle.run_crew.specs.Openings.{Carries, CarriesFrom, From, Known, Opened, Unsaid}
+use Rattle.run_crew.specs.Openings.{is_work, obeys}
+use Rattle.run_crew.specs.Openings.{opened_of}
+
+-- ---- what is decided of a start and of a finish
+
+-- All that a decision leads to are starts and finishes.
+abbrev pub works : Result (Option Event) Refusal → Bool
+works decision = list_all is_work (option_to_list (made decision))
+
+room_works : (p : State) (log : ℕ) (e : Event) → is_work e ≡ true → works (if_room p log e) ≡ true
+room_works p log e is =
+    elim (is_full p log e) as (λ b. works (if b then Err SessionFull else Ok (Some e)) ≡ true)
+    [ true ↦ refl | false ↦ ap (λ b. b && true) is ]
+
+decide_start_works : (p : State) (log : ℕ) → works (decide_start p log) ≡ true
+decide_start_works p log =
+    elim (first_ready p.work) as (λ o.
+    works (and_then (ok_or o NothingReady) (λ n. if_room p log (event.Start n))) ≡ true)
+    [ None ↦ refl | Some n ↦ room_works p log (event.Start n) refl ]
+
+unless_works : (tests : List (Bool × Refusal)) (answer : Result (Option Event) Refusal)
+    → works answer ≡ true → works (unless tests answer) ≡ true
+unless_works [] answer is = is
+unless_works (t ∷ tests) answer is =
+    elim t.0 as (λ b. works (if b then Err t.1 else unless tests answer) ≡ true)
+    [ true ↦ refl | false ↦ unless_works tests answer is ]
+
+unless_broken_works : {D : Type 0} (b : BookView D) (decision : Result (Option Event) Refusal)
+    → works decision ≡ true → works (unless_broken b decision) ≡ true
+unless_broken_works b decision is =
+    elim b.journal.broken as (λ broken. works (if broken then Err Broken else decision) ≡ true)
+    [ true ↦ refl | false ↦ is ]
+
+pub start_works : {D : Type 0} (b : BookView D) (p : State) (log : ℕ)
+    → works (unless_broken b (decide_start p log)) ≡ true
+start_works b p log = unless_broken_works b (decide_start p log) (decide_start_works p log)
+
+pub finish_works : {D : Type 0} (b : BookView D) (p : State) (n : ℕ) (outcome : Outcome)
+    → works (unless_broken b (decide_finish p n outcome)) ≡ true
+finish_works b p n outcome =
+    unless_broken_works b (decide_finish p n outcome)
+    (unless_works (finish_refusals p n) (Ok (Some (event.Finish n outcome))) refl)
+
+-- ---- going on
+
+module _ {D : Type 0} (state : D → DiskState) where
+  -- A book goes on from what it is.
+  pub from_itself : (h : Holding D) → CarriesOn state h h → CarriesFrom (opened_of state h) state h
+  from_itself h on = record {
+    start = refl;
+    added = [];
+    more = sym (append-nil h.history);
+    only = λ _. refl;
+    durable = omega arith;
+    passed = on.passed;
+    rest = λ rest. rest;
+    any_moment = λ honest rest. on.any_moment (record { honest = honest; rest = rest });
+  }
+
+  -- It took a step.
+  from_more : (from : Opened) (h new : Holding D) (events : List Event)
+      → CarriesFrom from state h → CarriesOn state h new → new.history ≡ h.history ++ events
+      → (from.commands ≡ false → list_all is_work events ≡ true) → CarriesFrom from state new
+  from_more from h new events is on grown work =
+      let least = from.durable - from.start.count in
+      let fewer : least ≤ acked h =
+      omega (arith, is.durable, ap (λ (p : State). p.count) is.start) in
+      record {
+        start = on.start ∙ is.start;
+        added = is.added ++ events;
+        more = grown ∙ ap (λ l. l ++ events) is.more ∙ append_assoc from.history is.added events;
+        only = λ none. list_all-append is_work is.added events
+            ∙ ap (λ b. b && list_all is_work events) (is.only none) ∙ work none;
+        durable = omega (arith, is.durable, on.durable);
+        passed = passed_more from.disk (state h.journal.disk) (state new.journal.disk) is.passed
+            on.passed;
+        rest = λ rest. subst (λ d. IsAtRest (state d)) (sym on.origin) (is.rest rest);
+        any_moment = λ honest rest.
+            leaves_only_more
+            (StoresFront from.start h.history least)
+            (StoresFront new.start new.history (acked h))
+            (StoresFront from.start new.history least)
+            from.disk (state h.journal.disk) (state new.journal.disk)
+            (is.any_moment honest rest)
+            (on.any_moment (record { honest = is.passed.honest honest; rest = is.rest rest }))
+            (λ x s.
+            subst (λ l. StoresFront from.start l least x) (sym grown)
+            (stores_more from.start h.history events least x s))
+            (λ x s.
+            stores_fewer from.start new.history (acked h) least x fewer
+            (subst (λ p. StoresFront p new.history (acked h) x) (on.start ∙ is.start) s));
+      }
+
+  -- Starts and finishes came, or others where they may.
+  pub carries_more : (known : Known) (h new : Holding D) (events : List Event)
+      → Carries known state h → CarriesOn state h new → new.history ≡ h.history ++ events
+      → (obeys known ≡ false → list_all is_work events ≡ true) → Carries known state new
+  carries_more Unsaid h new events is on grown work = tt
+  carries_more (From from) h new events is on grown work =
+      from_more from h new events is on grown work
+
+  -- No event came.
+  pub carries_same : (known : Known) (h new : Holding D) → Carries known state h
+      → CarriesOn state h new → new.history ≡ h.history → Carries known state new
+  carries_same known h new is on same =
+      carries_more known h new [] is on (same ∙ sym (append-nil h.history)) (λ _. refl)
+
+-- Where commands may come it doesn't matter what came.
+pub none_barred : (known : Known) (events : List Event) → obeys known ≡ true
+    → obeys known ≡ false → list_all is_work events ≡ true
+none_barred known events may not = absurd (let e : true ≡ false = sym may ∙ not in cc)

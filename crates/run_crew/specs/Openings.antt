@@ -1,0 +1,69 @@
+-- What a book was when a desk was made over it, and how it goes on from there.
+use Rattle.std.specs.Prelude.{◌≡◌, ◌≤◌, ◌-◌, ◌++◌, ℕ, Bool, true, false, List, ⊤}
+use Rattle.std.specs.List.{list_all}
+use Rattle.run_model.specs.Event.{Event}
+use Rattle.run_model.specs.Event as event
+use Rattle.run_model.specs.State.{State}
+use Rattle.run_disk.specs.Disk.{DiskState, IsAtRest}
+use Rattle.run_disk.specs.Runs.{LeavesOnly, Passed}
+use Rattle.book_model.specs.Holdings.{Holding}
+use Rattle.book_model.specs.Stores.{StoresFront}
+
+-- What a book held at one moment, and the states of its disk then and as it was given to its
+-- opening; and whether commands may come behind it, beside starts and finishes.
+pub record Opened : Type 1 where
+  pub start : State
+  pub history : List Event
+  pub durable : ℕ
+  pub disk : DiskState
+  pub origin : DiskState
+  pub commands : Bool
+
+-- What is known of the book that a desk was made over: nothing, or what it was then.
+pub data Known : Type 1 where
+  Unsaid : Known
+  From : Opened → Known
+
+-- What a book is now, and that starts and finishes alone may come.
+abbrev pub opened_of : {D : Type 0} → (D → DiskState) → Holding D → Opened
+opened_of state h = record {
+  start = h.start;
+  history = h.history;
+  durable = h.durable;
+  disk = state h.journal.disk;
+  origin = state h.origin;
+  commands = false;
+}
+
+-- Commands may come, too.
+abbrev pub obeys : Known → Bool
+obeys Unsaid = true
+obeys (From from) = from.commands
+
+-- The event is a start or a finish.
+abbrev pub is_work : Event → Bool
+is_work (event.Start task) = true
+is_work (event.Finish task outcome) = true
+is_work _ = false
+
+-- A book goes on from what it was at that moment: its opening stays, events are only added, starts
+-- and finishes alone unless commands may come, and no event that was acknowledged is lost. Where
+-- the disk is honest and the book was opened on a disk at rest, a crash at any moment from that one
+-- on leaves a state that some first events lead to, each among them that was acknowledged then.
+pub record CarriesFrom {D : Type 0} (from : Opened) (state : D → DiskState) (h : Holding D)
+    : Type 0 where
+  pub start : h.start ≡ from.start
+  pub added : List Event
+  pub more : h.history ≡ from.history ++ added
+  pub only : from.commands ≡ false → list_all is_work added ≡ true
+  pub durable : from.durable ≤ h.durable
+  pub passed : Passed from.disk (state h.journal.disk)
+  pub rest : IsAtRest from.origin → IsAtRest (state h.origin)
+  pub any_moment : from.disk.honest → IsAtRest from.origin
+      → LeavesOnly (StoresFront from.start h.history (from.durable - from.start.count)) from.disk
+      (state h.journal.disk)
+
+-- A book goes on from what is known of it.
+abbrev pub Carries : {D : Type 0} → Known → (D → DiskState) → Holding D → Type 0
+Carries Unsaid state h = ⊤
+Carries (From from) state h = CarriesFrom from state h

@@ -1,0 +1,35 @@
+//! An [`Opening`] stands for what the book of a desk was when the desk was made.
+
+ghost use Rattle.std.specs.Prelude.{◌≡◌, true, refl};
+ghost use Rattle.run_crew.specs.Openings.{Known, Unsaid, obeys};
+
+use std::marker::Brand;
+
+/// A type that stands for what a book was at one moment. Whoever makes a desk picks which, where it
+/// passes [`Brand`].
+pub trait Opening {
+    /// What is known of the book.
+    ghost opening: { Known };
+}
+
+/// An opening behind which commands may come, beside starts and finishes.
+pub trait Obeys: Opening {
+    /// They may come.
+    ghost commands_come: { obeys Self.opening ≡ true };
+}
+
+/// Nothing is known of the book.
+#[derive(Drop)]
+pub struct AnyBook;
+
+impl Opening for AnyBook {
+    ghost opening = { Unsaid };
+}
+
+impl Obeys for AnyBook {
+    ghost commands_come = { refl };
+}
+
+impl Opening for Brand {
+    ghost opening = { Unsaid };
+}
