@@ -1,5 +1,6 @@
 mod Begins
 mod EndLemmas
 mod KnownTasks
+mod LastingLemmas
 mod Looking
 mod NameTexts

@@ -5,6 +5,7 @@ pub mod Failures
 pub mod Files
 pub mod Jobs
 pub mod Known
+pub mod Lasting
 pub mod Looks
 pub mod Programs
 pub mod Reasons

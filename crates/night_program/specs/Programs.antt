@@ -158,11 +158,12 @@ module _ {F D : Type 0} (state : D → DiskState) (seen : FilesView F D) where
       (f0 : F) (w0 w1 : Option (List ℕ)) : Type 0 where
     pub given : D
     pub begun : D
+    pub left : D
     pub done : Result Bool RunFault
     pub held : seen.holds f0 store given
     pub settled : IsSettled (state given)
     pub looked : IsLooked state known given begun
-    pub works : CrewEnds state begun workers done w0 w1
+    pub works : CrewEnds state begun workers done left w0 w1
     pub answers : AnswersCrew (Names store) done answer
 
   -- The file of this name was opened and read alone: it wasn't known what is in it, or it has tasks

@@ -6,7 +6,7 @@ use Rattle.run_model.specs.declared.faults.Fault.{Fault}
 use Rattle.run_model.specs.State.{State}
 use Rattle.run_disk.specs.Disk.{DiskState, IsAtRest}
 use Rattle.book_model.specs.Holdings.{CarriesOn}
-use Rattle.book_model.specs.Openings.{FormatsNot, HasFormatted, HasOpened, HasRecovered, OpensNot}
+use Rattle.book_model.specs.Openings.{FormatsNot, HasFormatted, HasRecovered, Opens}
 use Rattle.book_model.specs.Openings.{RecoversNone}
 use Rattle.book_model.specs.declared.migrations.MigrateFault.{MigrateFault}
 use Rattle.book_model.specs.declared.migrations.MigrateFault.TheVariants as of_two
@@ -68,7 +68,7 @@ pub record RunsOver {D : Type 0} (state : D → DiskState) (Ran : BookView D →
     (given left : D) : Type 0 where
   pub before : BookView D
   pub after : BookView D
-  pub opened : HasOpened state given (holding before)
+  pub opened : Opens state given (Ok (holding before))
   pub begun : before.session ≡ begun_at before.session.start
   pub runs : Ran before after
   pub lasts : Lasts before.session after.session
@@ -81,7 +81,7 @@ abbrev pub EndsOver : {T D : Type 0} → (D → DiskState) → (BookView D → B
     → (given : D) → Result T RunFault → (left : D) → (r0 r1 w0 w1 : Option (List ℕ)) → Type 0
 EndsOver state Ran given answer left r0 r1 w0 w1 =
     RunsOver state Ran given left
-    ⊎ ((why : Fault) × (answer ≡ Err (stopped why)) × OpensNot state given why left
+    ⊎ ((why : Fault) × (answer ≡ Err (stopped why)) × Opens state given (Err (why, left))
     × (r1 ≡ r0) × (w1 ≡ w0))
 
 abbrev pub ScriptEnds : {T D : Type 0} → (D → DiskState) → (given : D)

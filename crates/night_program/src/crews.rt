@@ -10,7 +10,7 @@ use crate::failures::{Failure, done_alone, failed_over, no_file};
 use crate::files::{Files, Opened, Why};
 use crate::known::{UnknownJob, unknown_in};
 use console_lines::RunFault;
-use run_console::{Book, crew, stopped};
+use run_console::{Book, crew_over, stopped};
 use run_crew::{Gate, Job};
 use run_disk::RunDisk;
 use run_model::Fault;
@@ -64,7 +64,8 @@ pub fn crew_file<'a, F: Files, O: Write, R: Threads + Wait + Sync>(
             Err(fault) => return Err(failed_over(stopped(fault), store, &why)),
         }
     }
-    worked(crew(rt, alloc, disk, jobs, &Open, output), store, &why)
+    let (done, _) = crew_over(rt, alloc, disk, jobs, &Open, output);
+    worked(done, store, &why)
 }
 
 /// The tasks of the store on a disk that aren't ended and whose jobs aren't known, if there are

@@ -64,8 +64,9 @@ returns g c =
       c.from.ensures,
       c.from-2.ensures,
     ) in
-    let P : ℕ → Type 0 = λ n. CrewEnds g.F.Disk.RunDisk.state c.if-known.disk n c.crew.result
-    (g.O.Write.contents c.args.output.now) (g.O.Write.contents c.crew.new.output) in
+    let P : ℕ → Type 0 = λ n. CrewEnds g.F.Disk.RunDisk.state c.if-known.disk n
+    c.crew_over-done.result.0 c.crew_over-done.result.1
+    (g.O.Write.contents c.args.output.now) (g.O.Write.contents c.crew_over-done.new.output) in
     let looked : IsLooked g.F.Disk.RunDisk.state c.args.known c.in-Ok.opened.disk c.if-known.disk =
     elim c.if-known.branch [
       | then-known+in-Ok-None w ↦
@@ -83,11 +84,12 @@ returns g c =
       inr (inr (inl record {
         given = c.in-Ok.opened.disk;
         begun = c.if-known.disk;
-        done = c.crew.result;
+        left = c.crew_over-done.result.1;
+        done = c.crew_over-done.result.0;
         held = c.in-Ok.ensures.holds;
         settled = c.in-Ok.ensures.settled;
         looked = looked;
-        works = subst P count c.crew.ensures;
+        works = subst P count c.crew_over-done.ensures;
         answers = c.worked.ensures;
       })),
     )

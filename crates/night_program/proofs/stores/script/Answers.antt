@@ -5,12 +5,12 @@ use Rattle.night_program.proofs.stores.script.Goals as goal
 
 pub returns-in-Ok : goal.returns-in-Ok
 returns-in-Ok g c =
-    let opened = c.in-Ok.ensures.opens.answer in
-    let sound = opened.opened.sound in
+    let opens = c.in-Ok.ensures.opens in
+    let sound = opens.answer.opened.sound in
     inl record {
       before = c.in-Ok.book;
       after = c.run-answer.new.book;
-      opened = opened;
+      opened = opens;
       begun = c.in-Ok.ensures.session;
       runs = ran g.D.RunDisk.state c.run-answer.result _ _ _ _ c.in-Ok.book
           c.run-answer.new.book c.run-answer.ensures.all c.run-answer.ensures.saved
@@ -23,4 +23,4 @@ returns-in-Ok g c =
 
 pub returns-in-Err : goal.returns-in-Err
 returns-in-Err g c =
-    inr (c.in-Err.fault, ap Err c.stopped.ensures, c.in-Err.ensures.opens.answer, refl, refl)
+    inr (c.in-Err.fault, ap Err c.stopped.ensures, c.in-Err.ensures.opens, refl, refl)

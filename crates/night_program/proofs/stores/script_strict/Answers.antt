@@ -4,12 +4,12 @@ use Rattle.night_program.proofs.stores.script_strict.Goals as goal
 
 pub returns-in-Ok : goal.returns-in-Ok
 returns-in-Ok g c =
-    let opened = c.in-Ok.ensures.opens.answer in
-    let sound = opened.opened.sound in
+    let opens = c.in-Ok.ensures.opens in
+    let sound = opens.answer.opened.sound in
     inl record {
       before = c.in-Ok.book;
       after = c.run_strict-answer.new.book;
-      opened = opened;
+      opened = opens;
       begun = c.in-Ok.ensures.session;
       runs = ran_strict g.D.RunDisk.state c.run_strict-answer.result _ _ _ _ c.in-Ok.book
           c.run_strict-answer.new.book c.run_strict-answer.ensures.runs

@@ -1,0 +1,32 @@
+-- What one run of the program leaves of a store, and what the next one finds of it.
+--
+-- What is premised of files, `FindsLeft`, no clause of `Files` promises, since a disk that was
+-- dropped is in no one's hands: it is for whoever has files that keep it.
+use Rattle.std.specs.Prelude.{◌≡◌, List, ℕ, true}
+use Rattle.std.specs.List.{list_all}
+use Rattle.run_model.specs.Event.{Event}
+use Rattle.run_model.specs.State.{State}
+use Rattle.run_disk.specs.Disk.{DiskState, IsAtRest}
+use Rattle.book_model.specs.Stores.{Stores}
+use Rattle.run_crew.specs.Openings.{is_work}
+use Rattle.run_console.specs.Crews.{StoresNight}
+
+-- What an opening finds under a name is an honest disk at rest, with what a crash may have left of
+-- the disk that was last there, at some moment from this one on.
+pub record FindsLeft (from left next : DiskState) : Type 0 where
+  pub honest : next.honest
+  pub rest : IsAtRest next
+  pub content : left.since from.clock next.now
+
+-- An honest disk at rest stores this state.
+pub record Lies (s : DiskState) (p : State) : Type 0 where
+  pub honest : s.honest
+  pub rest : IsAtRest s
+  pub stores : Stores s.now p
+
+-- The bytes store this state, or what a restart of it and some first ones of a night's starts and
+-- finishes lead to.
+pub record StoresWork (p : State) (bytes : List ℕ) : Type 0 where
+  pub work : List Event
+  pub only : list_all is_work work ≡ true
+  pub stores : StoresNight p work bytes

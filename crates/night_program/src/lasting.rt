@@ -1,0 +1,43 @@
+//! What one run of the program leaves of a store, and what the next one finds.
+
+ghost use Rattle.std.specs.Prelude.{◌≡◌, ℕ, List, Bool, Option, Ok, Result, ⊤};
+ghost use Rattle.std.specs.Io.KnownBytes.{Appends};
+ghost use Rattle.run_model.specs.State.{State, formatted};
+ghost use Rattle.book_model.specs.Holdings.{CarriesOn, Holding, acked};
+ghost use Rattle.book_model.specs.Openings.{HasFormatted, Opens};
+ghost use Rattle.book_model.specs.Stores.{Stores, StoresFront, restarted};
+ghost use Rattle.console_lines.specs.declared.faults.RunFault.{RunFault};
+ghost use Rattle.console_lines.specs.Inspected.{inspected};
+ghost use Rattle.run_console.specs.Crews.{CrewEnds, StoresNight};
+ghost use Rattle.night_program.specs.Lasting.{FindsLeft, Lies, StoresWork};
+ghost use Rattle.night_program.specs.Stores.{InspectEnds};
+
+use run_disk::RunDisk;
+
+/// What one run of the program leaves of a store, the next one finds, where an opening finds what a
+/// crash of the disk that was last there may have left: behind a format the state of root alone;
+/// behind a script that was cut at any moment the state that was there, or what a restart of it and
+/// some first ones of the accepted events lead to; where it was cut from some place of its row on,
+/// all that was acknowledged there; behind a crew the same, of starts and finishes. And an
+/// inspection that is done prints the state that it finds.
+pub fn a_store_lasts_from_run_to_run<D: RunDisk>()
+    ensures format { (given left next : D) → (made : HasFormatted (D.state given) (D.state left))
+        → (D.state given).honest → FindsLeft (D.state left) (D.state left) (D.state next)
+        → Stores (D.state next).now (formatted made.layout) }
+    ensures cut { (given next : D) (p : State) (b c : Holding D) → Lies (D.state given) p
+        → Opens D.state given (Ok b) → CarriesOn D.state b c
+        → FindsLeft (D.state given) (D.state c.journal.disk) (D.state next)
+        → StoresNight p c.history (D.state next).now }
+    ensures held { (given next : D) (p : State) (b m c : Holding D) → Lies (D.state given) p
+        → Opens D.state given (Ok b) → CarriesOn D.state b m → CarriesOn D.state m c
+        → FindsLeft (D.state m.journal.disk) (D.state c.journal.disk) (D.state next)
+        → StoresFront (restarted p) c.history (acked m) (D.state next).now }
+    ensures crew { (given left next : D) (p : State) (workers : ℕ) (answer : Result Bool RunFault)
+        (w0 w1 : Option (List ℕ)) → Lies (D.state given) p
+        → CrewEnds D.state given workers answer left w0 w1
+        → FindsLeft (D.state given) (D.state left) (D.state next)
+        → StoresWork p (D.state next).now }
+    ensures inspect { (found read : D) (p : State) (done : ⊤) (w0 w1 : Option (List ℕ))
+        → Lies (D.state found) p → InspectEnds D.state found (Ok done) read w0 w1
+        → Appends w0 w1 (inspected p) }
+{}
