@@ -8,6 +8,7 @@ use Rattle.run_disk.specs.Runs.{LeavesOnly}
 use Rattle.run_disk.proofs.RunLemmas.{leaves_only_more}
 use Rattle.book_model.specs.Holdings.{CarriesOn, Holding, IsSafe, acked}
 use Rattle.book_model.specs.Openings.{HasFormatted, Opens}
+use Rattle.book_model.specs.Standing.{LiesWith}
 use Rattle.book_model.specs.Stores.{Stores, StoresFront, StoresOpened, restarted}
 use Rattle.book_model.proofs.HoldingLemmas.{stores_fewer}
 use Rattle.book_model.proofs.Storing.{stores_one}
@@ -16,34 +17,34 @@ use Rattle.console_lines.specs.Inspected.{inspected}
 use Rattle.run_crew.specs.Desks.{history_of}
 use Rattle.run_console.specs.Crews.{CrewEnds, StoresNight}
 use Rattle.run_console.proofs.Nights.{opened_night}
-use Rattle.night_program.specs.Lasting.{FindsLeft, Lies, StoresWork}
+use Rattle.night_program.specs.Lasting.{FindsLeft, StoresWork}
 use Rattle.night_program.specs.Stores.{InspectEnds}
 
 module _ {D : Type 0} (state : D → DiskState) where
   pub formatted_is_found : (given left next : D) (made : HasFormatted (state given) (state left))
       → IsDisk (state left) → (state given).honest
-      → FindsLeft (state left) (state left) (state next)
+      → FindsLeft state left left next
       → Stores (state next).now (formatted made.layout)
   formatted_is_found given left next made disk honest finds =
       made.stores honest (state next).now (disk.only_now (state next).now finds.content)
 
-  start_is : (given : D) (p : State) (b : Holding D) → Lies (state given) p
+  start_is : (given : D) (p : State) (b : Holding D) → LiesWith state given p
       → Opens state given (Ok b) → b.start ≡ restarted p
   start_is given p b lies opens =
       opens.answer.opened.start
       ∙ ap restarted (stores_one (state given).now opens.answer.stored p
       (opens.answer.found.stores lies.honest) lies.stores)
 
-  safe_then : (given : D) (p : State) (b : Holding D) → Lies (state given) p
+  safe_then : (given : D) (p : State) (b : Holding D) → LiesWith state given p
       → Opens state given (Ok b) → IsSafe state b
   safe_then given p b lies opens = record {
     honest = opens.answer.opened.passed.honest lies.honest;
     rest = subst (λ d. IsAtRest (state d)) (sym opens.answer.opened.origin) lies.rest;
   }
 
-  pub cut_is_found : (given next : D) (p : State) (b c : Holding D) → Lies (state given) p
+  pub cut_is_found : (given next : D) (p : State) (b c : Holding D) → LiesWith state given p
       → Opens state given (Ok b) → CarriesOn state b c
-      → FindsLeft (state given) (state c.journal.disk) (state next)
+      → FindsLeft state given c.journal.disk next
       → StoresNight p c.history (state next).now
   cut_is_found given next p b c lies opens on finds =
       let all : LeavesOnly (StoresNight p c.history) (state given) (state c.journal.disk) =
@@ -58,9 +59,9 @@ module _ {D : Type 0} (state : D → DiskState) where
       (on.start ∙ start_is given p b lies opens) s))) in
       all.each (state next).now finds.content
 
-  pub held_is_found : (given next : D) (p : State) (b m c : Holding D) → Lies (state given) p
+  pub held_is_found : (given next : D) (p : State) (b m c : Holding D) → LiesWith state given p
       → Opens state given (Ok b) → CarriesOn state b m → CarriesOn state m c
-      → FindsLeft (state m.journal.disk) (state c.journal.disk) (state next)
+      → FindsLeft state m.journal.disk c.journal.disk next
       → StoresFront (restarted p) c.history (acked m) (state next).now
   held_is_found given next p b m c lies opens first second finds =
       let safe = safe_then given p b lies opens in
@@ -73,9 +74,9 @@ module _ {D : Type 0} (state : D → DiskState) where
       (left.each (state next).now finds.content)
 
   pub crew_is_found : (given left next : D) (p : State) (workers : ℕ)
-      (answer : Result Bool RunFault) (w0 w1 : Option (List ℕ)) → Lies (state given) p
+      (answer : Result Bool RunFault) (w0 w1 : Option (List ℕ)) → LiesWith state given p
       → CrewEnds state given workers answer left w0 w1
-      → FindsLeft (state given) (state left) (state next) → StoresWork p (state next).now
+      → FindsLeft state given left next → StoresWork p (state next).now
   crew_is_found given left next p workers answer w0 w1 lies
       (inl (why, told, opens, same, promises)) finds = record {
         work = [];
@@ -102,7 +103,7 @@ module _ {D : Type 0} (state : D → DiskState) where
       }
 
   pub found_is_printed : (found read : D) (p : State) (done : ⊤) (w0 w1 : Option (List ℕ))
-      → Lies (state found) p → InspectEnds state found (Ok done) read w0 w1
+      → LiesWith state found p → InspectEnds state found (Ok done) read w0 w1
       → Appends w0 w1 (inspected p)
   found_is_printed found read p done w0 w1 lies (inl (q, recovered, prints)) =
       subst (λ s. Appends w0 w1 (inspected s))

@@ -6,23 +6,15 @@ use Rattle.std.specs.Prelude.{◌≡◌, List, ℕ, true}
 use Rattle.std.specs.List.{list_all}
 use Rattle.run_model.specs.Event.{Event}
 use Rattle.run_model.specs.State.{State}
-use Rattle.run_disk.specs.Disk.{DiskState, IsAtRest}
-use Rattle.book_model.specs.Stores.{Stores}
+use Rattle.run_disk.specs.Disk.{DiskState}
+use Rattle.book_model.specs.Standing.{Finds}
 use Rattle.run_crew.specs.Openings.{is_work}
 use Rattle.run_console.specs.Crews.{StoresNight}
 
 -- What an opening finds under a name is an honest disk at rest, with what a crash may have left of
 -- the disk that was last there, at some moment from this one on.
-pub record FindsLeft (from left next : DiskState) : Type 0 where
-  pub honest : next.honest
-  pub rest : IsAtRest next
-  pub content : left.since from.clock next.now
-
--- An honest disk at rest stores this state.
-pub record Lies (s : DiskState) (p : State) : Type 0 where
-  pub honest : s.honest
-  pub rest : IsAtRest s
-  pub stores : Stores s.now p
+abbrev pub FindsLeft : {D : Type 0} → (D → DiskState) → D → D → D → Type 0
+FindsLeft state from left next = Finds state ((state left).since (state from).clock) next
 
 -- The bytes store this state, or what a restart of it and some first ones of a night's starts and
 -- finishes lead to.

@@ -11,25 +11,13 @@ use crate::files::{Files, Opened, Why};
 use crate::known::{UnknownJob, unknown_in};
 use console_lines::RunFault;
 use run_console::{Book, crew_over, stopped};
-use run_crew::{Gate, Job};
+use run_crew::{Job, OpenGate};
 use run_disk::RunDisk;
 use run_model::Fault;
 use std::alloc::Global;
 use std::io::Write;
 use std::sync::Wait;
 use std::thread::Threads;
-
-/// A gate that lets each turn pass.
-#[derive(Drop)]
-struct Open;
-
-impl Gate for Open {
-    fn before(&self, _task: u16, _turn: u32) -> bool {
-        true
-    }
-
-    fn finished(&self, _task: u16) {}
-}
 
 /// Opens the store in the file of this name, and works off its ready tasks with so many workers,
 /// who take the first of these lists of jobs. `Memory` where there are fewer lists. Where the jobs
@@ -64,7 +52,7 @@ pub fn crew_file<'a, F: Files, O: Write, R: Threads + Wait + Sync>(
             Err(fault) => return Err(failed_over(stopped(fault), store, &why)),
         }
     }
-    let (done, _) = crew_over(rt, alloc, disk, jobs, &Open, output);
+    let (done, _) = crew_over(rt, alloc, disk, jobs, &OpenGate, output);
     worked(done, store, &why)
 }
 

@@ -1,6 +1,6 @@
 //! The jobs of the program's crews.
 
-ghost use Rattle.std.specs.Prelude.{◌≡◌};
+ghost use Rattle.std.specs.Prelude.{◌≡◌, bytes_eq, codes};
 ghost use Rattle.run_model.specs.Texts.{IsText};
 ghost use Rattle.run_crew.specs.declared.jobs.Turn.TheVariants as turn;
 ghost use Rattle.night_program.specs.Jobs.{goes_on, number_in, spin_turn};
@@ -18,11 +18,15 @@ const MOST_DIGITS: usize = 4;
 pub struct SpinJob;
 
 impl Job for SpinJob {
-    fn handles(&self, job: &Name) -> bool {
+    fn handles(&self, job: &Name) -> bool
+        ensures { result ≡ bytes_eq job.now (codes "spin") }
+    {
         job.as_bytes() == b"spin".as_slice()
     }
 
-    fn turn(&mut self, info: &TaskInfo, turn: u32, done: bool) -> Turn {
+    fn turn(&mut self, info: &TaskInfo, turn: u32, done: bool) -> Turn
+        ensures { result ≡ spin_turn info.now.argument turn done }
+    {
         spin(info.argument.as_bytes(), turn, done)
     }
 }
@@ -32,11 +36,15 @@ impl Job for SpinJob {
 pub struct FailJob;
 
 impl Job for FailJob {
-    fn handles(&self, job: &Name) -> bool {
+    fn handles(&self, job: &Name) -> bool
+        ensures { result ≡ bytes_eq job.now (codes "fail") }
+    {
         job.as_bytes() == b"fail".as_slice()
     }
 
-    fn turn(&mut self, info: &TaskInfo, _turn: u32, _done: bool) -> Turn {
+    fn turn(&mut self, info: &TaskInfo, _turn: u32, _done: bool) -> Turn
+        ensures { result ≡ turn.Failed info.now.argument }
+    {
         fail(&info.argument)
     }
 }
@@ -46,11 +54,15 @@ impl Job for FailJob {
 pub struct CopyJob;
 
 impl Job for CopyJob {
-    fn handles(&self, job: &Name) -> bool {
+    fn handles(&self, job: &Name) -> bool
+        ensures { result ≡ bytes_eq job.now (codes "copy") }
+    {
         job.as_bytes() == b"copy".as_slice()
     }
 
-    fn turn(&mut self, _info: &TaskInfo, _turn: u32, _done: bool) -> Turn {
+    fn turn(&mut self, _info: &TaskInfo, _turn: u32, _done: bool) -> Turn
+        ensures { result ≡ turn.Finished }
+    {
         Turn::Finished
     }
 }

@@ -5,11 +5,12 @@ ghost use Rattle.std.specs.Io.KnownBytes.{Appends};
 ghost use Rattle.run_model.specs.State.{State, formatted};
 ghost use Rattle.book_model.specs.Holdings.{CarriesOn, Holding, acked};
 ghost use Rattle.book_model.specs.Openings.{HasFormatted, Opens};
+ghost use Rattle.book_model.specs.Standing.{LiesWith};
 ghost use Rattle.book_model.specs.Stores.{Stores, StoresFront, restarted};
 ghost use Rattle.console_lines.specs.declared.faults.RunFault.{RunFault};
 ghost use Rattle.console_lines.specs.Inspected.{inspected};
 ghost use Rattle.run_console.specs.Crews.{CrewEnds, StoresNight};
-ghost use Rattle.night_program.specs.Lasting.{FindsLeft, Lies, StoresWork};
+ghost use Rattle.night_program.specs.Lasting.{FindsLeft, StoresWork};
 ghost use Rattle.night_program.specs.Stores.{InspectEnds};
 
 use run_disk::RunDisk;
@@ -22,22 +23,22 @@ use run_disk::RunDisk;
 /// inspection that is done prints the state that it finds.
 pub fn a_store_lasts_from_run_to_run<D: RunDisk>()
     ensures format { (given left next : D) → (made : HasFormatted (D.state given) (D.state left))
-        → (D.state given).honest → FindsLeft (D.state left) (D.state left) (D.state next)
+        → (D.state given).honest → FindsLeft D.state left left next
         → Stores (D.state next).now (formatted made.layout) }
-    ensures cut { (given next : D) (p : State) (b c : Holding D) → Lies (D.state given) p
+    ensures cut { (given next : D) (p : State) (b c : Holding D) → LiesWith D.state given p
         → Opens D.state given (Ok b) → CarriesOn D.state b c
-        → FindsLeft (D.state given) (D.state c.journal.disk) (D.state next)
+        → FindsLeft D.state given c.journal.disk next
         → StoresNight p c.history (D.state next).now }
-    ensures held { (given next : D) (p : State) (b m c : Holding D) → Lies (D.state given) p
+    ensures held { (given next : D) (p : State) (b m c : Holding D) → LiesWith D.state given p
         → Opens D.state given (Ok b) → CarriesOn D.state b m → CarriesOn D.state m c
-        → FindsLeft (D.state m.journal.disk) (D.state c.journal.disk) (D.state next)
+        → FindsLeft D.state m.journal.disk c.journal.disk next
         → StoresFront (restarted p) c.history (acked m) (D.state next).now }
     ensures crew { (given left next : D) (p : State) (workers : ℕ) (answer : Result Bool RunFault)
-        (w0 w1 : Option (List ℕ)) → Lies (D.state given) p
+        (w0 w1 : Option (List ℕ)) → LiesWith D.state given p
         → CrewEnds D.state given workers answer left w0 w1
-        → FindsLeft (D.state given) (D.state left) (D.state next)
+        → FindsLeft D.state given left next
         → StoresWork p (D.state next).now }
     ensures inspect { (found read : D) (p : State) (done : ⊤) (w0 w1 : Option (List ℕ))
-        → Lies (D.state found) p → InspectEnds D.state found (Ok done) read w0 w1
+        → LiesWith D.state found p → InspectEnds D.state found (Ok done) read w0 w1
         → Appends w0 w1 (inspected p) }
 {}

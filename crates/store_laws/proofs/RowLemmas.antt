@@ -26,6 +26,15 @@ flushes image batches a b s0 s1 s2 first second =
     (λ x e. elim e [ inl p ↦ inl p | inr p ↦ inr (inl p) ])
     (λ x e. elim e [ inl p ↦ inr (inl p) | inr p ↦ inr (inr p) ])
 
+pub one_call : (image : List ℕ) (batches : List (List ℕ)) (a b fresh c : List ℕ)
+    (s0 s1 : DiskState)
+    → LeavesOnly (HasEither image batches image (batches ++ a ∷ [])) s0 s1
+    → LeavesOnly (HasOneInRow image batches a b fresh c) s0 s1
+one_call image batches a b fresh c s0 s1 first =
+    only_weaker (HasEither image batches image (batches ++ a ∷ []))
+    (HasOneInRow image batches a b fresh c) s0 s1
+    (λ x e. elim e [ inl p ↦ inl (inl p) | inr p ↦ inl (inr (inl p)) ]) first
+
 pub two_calls : (image : List ℕ) (batches : List (List ℕ)) (a b fresh c : List ℕ)
     (s0 s1 s2 : DiskState)
     → LeavesOnly (HasEither image batches image (batches ++ a ∷ [])) s0 s1

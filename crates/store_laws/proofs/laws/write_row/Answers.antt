@@ -1,6 +1,11 @@
 use Rattle.std.proofs.Common.{drop, ◌++◌, [], ◌∷◌}
-use Rattle.store_laws.proofs.RowLemmas.{four_calls, three_calls, two_calls}
+use Rattle.store_laws.proofs.RowLemmas.{four_calls, one_call, three_calls, two_calls}
 use Rattle.store_laws.proofs.laws.write_row.Goals as goal
+
+pub returns-in_err-flush-clause-any_moment : goal.returns-in_err-flush-clause-any_moment
+returns-in_err-flush-clause-any_moment g c honest image batches keeps =
+    one_call image batches c.args.a.now c.args.b.now (drop 12 c.args.next.now) c.args.c.now _ _
+    (c.flush.ensures.any_moment honest image batches keeps)
 
 pub returns-in_err-flush-2-clause-any_moment : goal.returns-in_err-flush-2-clause-any_moment
 returns-in_err-flush-2-clause-any_moment g c honest image batches keeps =
