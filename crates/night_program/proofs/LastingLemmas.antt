@@ -108,5 +108,5 @@ module _ {D : Type 0} (state : D → DiskState) where
   found_is_printed found read p done w0 w1 lies (inl (q, recovered, prints)) =
       subst (λ s. Appends w0 w1 (inspected s))
       (stores_one (state found).now q p (recovered.stores lies.honest) lies.stores) prints
-  found_is_printed found read p done w0 w1 lies (inr (why, answer, rest)) =
+  found_is_printed found read p done w0 w1 lies (inr (why, answer, none, quiet)) =
       absurd (cc)
