@@ -7,6 +7,11 @@ pub fn holds(rt: &impl Abort, it: bool, what: &str, row: usize) {
     assert!(rt; it, "{what} {row}");
 }
 
+/// Asserts that something holds. The message names the table, the part and its row.
+pub fn holds_in(rt: &impl Abort, it: bool, what: &str, part: &str, row: usize) {
+    assert!(rt; it, "{what}: {part} {row}");
+}
+
 /// What was made, and must have been.
 pub fn done<T, E: Drop>(rt: &impl Abort, it: Result<T, E>, what: &str) -> T {
     match it {

@@ -1,30 +1,22 @@
-//! Tests of the session and of its state: tables of calls with what each is answered, full
-//! sessions, sessions that begin behind a restart, and want of memory.
+//! Tests of the session and of what it stands on: the tree of scopes beside a plain program that
+//! searches the rows, groups and tasks beside one that counts, the rows of both in images, and the
+//! session itself by tables of calls with what each is answered; each of them full, and in want of
+//! memory.
 #![tactic(auto)]
 
 #[cfg(test)]
 mod asserts;
 #[cfg(test)]
-mod bounds;
-#[cfg(test)]
-mod calls;
-#[cfg(test)]
-mod deadlines;
-#[cfg(test)]
-mod fills;
-#[cfg(test)]
-mod fulls;
+mod dice;
 #[cfg(test)]
 mod groups;
 #[cfg(test)]
-mod looks;
+mod heaps;
 #[cfg(test)]
-mod records;
+mod runners;
 #[cfg(test)]
-mod restarts;
+mod sessions;
 #[cfg(test)]
-mod rooms;
+mod trees;
 #[cfg(test)]
-mod scopes;
-#[cfg(test)]
-mod steps;
+mod values;

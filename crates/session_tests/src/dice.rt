@@ -1,0 +1,23 @@
+//! Numbers that look like chance, and are the same each time.
+
+ghost use Rattle.std.specs.Prelude.{◌<◌};
+
+/// What the next number comes from.
+#[derive(Drop)]
+pub struct Dice {
+    pub state: u64,
+}
+
+impl Dice {
+    /// A number below this one.
+    pub fn roll(&mut self, sides: u64) -> u64
+        requires { 0 < sides }
+        ensures { result < sides }
+    {
+        self.state = self
+            .state
+            .wrapping_mul(6_364_136_223_846_793_005)
+            .wrapping_add(1_442_695_040_888_963_407);
+        (self.state >> 33) % sides
+    }
+}

@@ -1,0 +1,68 @@
+//! Calls of a session, and the first of a table that is answered otherwise.
+
+use run_model::{Answer, Refusal, Reply, Started, Step};
+use run_session::Session;
+use std::alloc::Allocator;
+use std::process::Abort;
+use test_fixtures::{Call, Said, said_by, step_of};
+
+fn answered(answer: Result<Answer, Refusal>) -> Reply {
+    match answer {
+        Ok(answer) => Reply::Answer(answer),
+        Err(refusal) => Reply::Refused(refusal),
+    }
+}
+
+fn started(answer: Result<Started, Refusal>) -> Reply {
+    match answer {
+        Ok(started) => Reply::Started(started),
+        Err(refusal) => Reply::Refused(refusal),
+    }
+}
+
+fn finished(answer: Result<u64, Refusal>) -> Reply {
+    match answer {
+        Ok(event) => Reply::Finished(event),
+        Err(refusal) => Reply::Refused(refusal),
+    }
+}
+
+/// Makes a call, which is one of a session's.
+pub fn reply<A: Allocator>(rt: &impl Abort, session: &mut Session<A>, call: Call) -> Reply {
+    match step_of(call) {
+        Some(Step::Command(command)) => answered(session.command(&command)),
+        Some(Step::Finish(task, outcome)) => finished(session.finish(task, &outcome)),
+        Some(Step::Start) => started(session.start()),
+        _ => panic!(rt; "no call of a session"),
+    }
+}
+
+/// The first call of a table that is answered otherwise. None behind it is made.
+pub fn first_unlike<A: Allocator>(
+    rt: &impl Abort,
+    session: &mut Session<A>,
+    rows: &[(Call, Said<'static>)],
+) -> Option<usize> {
+    for (n, row) in rows.iter().enumerate() {
+        if said_by(&reply(rt, session, row.0)) != row.1 {
+            return Some(n);
+        }
+    }
+    None
+}
+
+/// The first call of a table that isn't refused so, or that changes something.
+pub fn first_unrefused<A: Allocator>(
+    rt: &impl Abort,
+    session: &mut Session<A>,
+    rows: &[(Call, Refusal)],
+) -> Option<usize> {
+    let before = (session.count(), session.log_len());
+    for (n, row) in rows.iter().enumerate() {
+        let refused = said_by(&reply(rt, session, row.0)) == Said::Refused(row.1);
+        if !refused || (session.count(), session.log_len()) != before {
+            return Some(n);
+        }
+    }
+    None
+}
