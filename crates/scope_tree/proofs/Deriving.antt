@@ -15,7 +15,9 @@ use Rattle.scope_tree.specs.Chains.{Places}
 use Rattle.scope_tree.specs.Deadlines.{AreWaiting}
 use Rattle.scope_tree.specs.Links.{AreFound}
 use Rattle.scope_tree.specs.Marks.{AreMarked, mark_of, new_mark}
+use Rattle.scope_tree.specs.Reaches.{AreReached}
 use Rattle.scope_tree.specs.Sound.{IsSound}
+use Rattle.scope_tree.specs.declared.reaches.Reach.{Reach}
 use Rattle.scope_tree.proofs.Growing.{marked_push}
 use Rattle.scope_tree.proofs.Naming.{name_ticked}
 use Rattle.scope_tree.proofs.Passing.{IsDerivable}
@@ -55,29 +57,32 @@ marked_grown rows e parent name kind row marks kept ordered ordered' were below_
     (λ hit has. subst (AreEarlier rows) (sym (kept.hit hit has)) earlier))
 
 pub sound_grown : (t : TreeState) (e parent : ℕ) (name : List ℕ) (kind : Kind)
-    (marks : List (Option ℕ)) (names links : Places) (due : List ℕ) (r m : ℕ) (row : Scope)
-    (mark : Option ℕ) (scopes' : List Scope) (marks' : List (Option ℕ)) (names' links' : Places)
-    (due' : List ℕ) (r' m' : ℕ) → IsSound t marks names links due r m → IsDerivable t parent
+    (marks : List (Option ℕ)) (names links : Places) (due : List ℕ) (reaches : List Reach)
+    (r m u : ℕ) (row : Scope) (mark : Option ℕ) (scopes' : List Scope)
+    (marks' : List (Option ℕ)) (names' links' : Places) (due' : List ℕ)
+    (reaches' : List Reach) (r' m' u' : ℕ)
+    → IsSound t marks names links due reaches r m u → IsDerivable t parent
     → AreEarlier t.scopes e → is_root kind ≡ false
     → row ≡ tick e t.clock (new_scope name parent kind)
     → mark ≡ new_mark row (length t.scopes) (mark_of marks parent)
     → scopes' ≡ t.scopes ++ row ∷ [] → marks' ≡ marks ++ mark ∷ []
-    → AreFound scopes' r' names' links' → AreWaiting scopes' due' → r' ≡ r → m' ≡ m
-    → IsSound (record t { scopes = scopes' }) marks' names' links' due' r' m'
-sound_grown t e parent name kind marks names links due r m row mark scopes' marks' names' links'
-    due' r' m' sound may earlier below_root row_is mark_is scopes_are marks_are found waiting
-    room_r room_m =
+    → AreFound scopes' r' names' links' → AreWaiting scopes' due' → AreReached scopes' reaches'
+    → r' ≡ r → m' ≡ m → u' ≡ u
+    → IsSound (record t { scopes = scopes' }) marks' names' links' due' reaches' r' m' u'
+sound_grown t e parent name kind marks names links due reaches r m u row mark scopes' marks' names'
+    links' due' reaches' r' m' u' sound may earlier below_root row_is mark_is scopes_are marks_are
+    found waiting reached room_r room_m room_u =
     let kept = subst (RowKept e name parent kind) (sym row_is)
     (row_kept e t.clock name parent kind)
     in
     let same = ap (λ x. t.scopes ++ x ∷ []) row_is in
     let changed = sound_derive t e name parent kind (sound_still sound) below_root may in
     let room = room_r ∙ sound.scope_room in
-    sound_fields (after_derive e name parent kind t) scopes' marks' names' links' due' r' m'
-    (scopes_are ∙ same) changed
+    sound_fields (after_derive e name parent kind t) scopes' marks' names' links' due'
+    reaches' r' m' u' (scopes_are ∙ same) changed
     (subst (λ l. AreMarked l marks') (sym scopes_are) (subst (AreMarked (t.scopes ++ row ∷ []))
     (sym (marks_are ∙ ap (λ o. marks ++ o ∷ []) mark_is))
     (marked_grown t.scopes e parent name kind row marks kept sound.ordered
     (subst AreOrdered (sym same) changed.ordered) sound.marked below_root may.known earlier)))
     (subst (λ n. AreFound scopes' n names' links') room found)
-    waiting room (room_m ∙ sound.mark_room)
+    waiting reached room (room_m ∙ sound.mark_room) (room_u ∙ sound.reach_room)

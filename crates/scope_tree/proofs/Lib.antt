@@ -13,6 +13,7 @@ pub mod KeptRows
 pub mod Latest
 pub mod Marking
 pub mod Naming
+pub mod Nearing
 pub mod Passing
 pub mod Reaching
 pub mod RowLoops

@@ -1,10 +1,14 @@
-use Rattle.std.proofs.Common.{◌≡◌, ap, subst, ◌∙◌}
+use Rattle.std.proofs.Common.{◌≡◌, ◌<◌, length, ap, subst}
 use Rattle.run_model.specs.Scopes.{deadline_of}
 use Rattle.run_model.specs.State.{TreeState}
+use Rattle.scope_tree.proofs.Nearing.{reach_at}
 use Rattle.scope_tree.proofs.trees.Tree.deadline.Goals as goal
 
 pub returns : goal.returns
 returns g c =
-    subst (λ rows. c.least_deadline.result ≡ deadline_of rows c.args.s)
-    (c.deref.ensures.value ∙ ap (λ (t : TreeState). t.scopes) c.self.view_is)
-    c.least_deadline.ensures
+    let rows = c.self.inside.scopes.items in
+    let same = ap (λ (t : TreeState). t.scopes) c.self.view_is in
+    let known : c.args.s < length rows = rw (← c.self.view_is) at c.requires in
+    subst (λ rows. c.index.result.now.least ≡ deadline_of rows c.args.s) same
+    (reach_at rows c.self.inside.reaches.items c.args.s c.index.result.now
+    c.self.invariant.reached known c.index.ensures).least
