@@ -1,13 +1,16 @@
 //! Damaged stores, each with the fault that tells it, or with what it stores still.
 //!
 //! This rests on `Recovers` and `Opens`: of all faults whose cause holds the first one is told,
-//! behind so many reads, and nothing is written.
+//! behind so many reads, and nothing is written. That its memory is given back no clause says.
 
-use crate::asserts::holds;
-use crate::disks::{counted, disk_of, put, small_disk, told_by_opening};
+use crate::asserts::{done, holds};
+use crate::disks::{AMPLE, counted, counted_on, disk_of, heap, put, small_disk, told_by_opening};
 use crate::six_events::FIRST_BATCH;
+use linked_list_allocator::LocalHeap;
+use run_book::{MigrateFault, migrate};
+use run_disk::MemoryDisk;
 use run_model::Fault;
-use std::alloc::Global;
+use std::alloc::{Allocator, Global};
 use std::process::Abort;
 
 /// The first bytes of both slots, up to the version of their images.
@@ -216,5 +219,61 @@ fn assert_unopened(rt: &impl Abort, alloc: Global, damages: Puts, fault: Fault, 
 fn an_opening_of_a_damaged_store_only_reads(rt: HostRuntime) {
     for row in REFUSED.iter() {
         assert_unopened(&rt, rt.alloc(), row.0, row.1, row.2);
+    }
+}
+
+/// Why a store isn't migrated, if it isn't, and the new disk.
+fn migrated<A: Allocator + Copy>(
+    alloc: A,
+    old: &mut MemoryDisk,
+    new: MemoryDisk,
+) -> (Option<MigrateFault>, MemoryDisk) {
+    match migrate(alloc, old, new) {
+        Ok(new) => (None, new),
+        Err((fault, new)) => (Some(fault), new),
+    }
+}
+
+/// A damage for each fault that a store has.
+static ONE_EACH: [(Puts, Fault); 6] = [
+    (&[(0, b"\0"), (524_288, b"\0")], Fault::NotAStore),
+    (&[(524_296, b"\x02")], Fault::BadSlot),
+    (&[(1_310_721, b"\0\0\0\0")], Fault::BadBatch),
+    (&[(524_301, b"\x09")], Fault::BadImage),
+    (&[(1_310_725, b"\x0c")], Fault::BadRecord),
+    (&[(1_310_731, b"\x05")], Fault::BadEvent),
+];
+
+/// Asserts that a recovery, a migration and an opening of a damaged store leave no byte of a heap
+/// in use. Gives the new disk of the migration.
+fn assert_nothing_left(
+    rt: &impl Abort,
+    alloc: Global,
+    heap: &LocalHeap,
+    new: MemoryDisk,
+    row: &(Puts, Fault),
+) -> MemoryDisk {
+    let mut disk = disk_of(rt, alloc, damaged(rt, alloc, 2, row.0));
+    let found = (counted_on(heap, &mut disk), heap.used());
+    holds(rt, found == (Err(row.1), 0), row.1.name(), 1);
+    let (told, new) = migrated(heap, &mut disk, new);
+    let old = Some(MigrateFault::Old(row.1));
+    holds(rt, (told, heap.used()) == (old, 0), row.1.name(), 2);
+    let (fault, _calls) = told_by_opening(heap, disk);
+    holds(
+        rt,
+        (fault, heap.used()) == (Some(row.1), 0),
+        row.1.name(),
+        3,
+    );
+    new
+}
+
+#[test]
+fn a_damaged_store_leaves_no_memory_in_use(rt: HostRuntime) {
+    let heap = heap(&rt, rt.alloc(), AMPLE);
+    let mut new = done(&rt, MemoryDisk::new(rt.alloc(), 6_291_456), "memory");
+    for row in ONE_EACH.iter() {
+        new = assert_nothing_left(&rt, rt.alloc(), &heap, new, row);
     }
 }

@@ -191,7 +191,7 @@ pub fn play_without_memory(
 }
 
 /// How many events there are in what a disk stores.
-pub fn counted_on<D: RunDisk>(alloc: Global, disk: &mut D) -> Result<u64, Fault> {
+pub fn counted_on<D: RunDisk, A: Allocator + Copy>(alloc: A, disk: &mut D) -> Result<u64, Fault> {
     match Book::recover(alloc, disk) {
         Ok(state) => Ok(state.count()),
         Err(fault) => Err(fault),
@@ -240,7 +240,7 @@ pub fn small_disk(rt: &impl Abort, alloc: Global, rows: &[(usize, &[u8])]) -> Ve
 }
 
 /// Why a disk isn't opened, if it isn't, and how many calls it counts.
-pub fn told_by_opening(alloc: Global, disk: MemoryDisk) -> (Option<Fault>, u64) {
+pub fn told_by_opening<A: Allocator + Copy>(alloc: A, disk: MemoryDisk) -> (Option<Fault>, u64) {
     match Book::open(alloc, disk) {
         Ok(book) => (None, book.into_disk().calls()),
         Err((fault, disk)) => (Some(fault), disk.calls()),

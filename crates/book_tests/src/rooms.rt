@@ -1,17 +1,21 @@
-//! Want of memory: all of it is taken before the first device call, and none later.
+//! Want of memory: all of it is taken before the first device call, and none later, though it could
+//! be had; and nothing is left of it where a store isn't opened.
 //!
 //! This rests on `Opens` (at Memory the disk is as it was given), and on `AnswersStep` of a book
-//! whose allocator may refuse everything.
+//! whose allocator may refuse everything. That memory is given back no clause says.
 
 use crate::asserts::{done, given, holds};
-use crate::calls::Call::{Cancel, Cause, Checkpoint, Flush, Go, Group, Limit, Retry, Start, Wait};
-use crate::calls::{Call, Said, assert_replies, steps_of};
-use crate::disks::{AMPLE, formatted, heap, play_without_memory};
+use crate::calls::Call::{
+    Advance, Bare, Cancel, Cause, Checkpoint, Flush, Go, Group, Limit, Plain, Retry, Start,
+    Succeed, Wait,
+};
+use crate::calls::{Call, Said, assert_replies, meaning, name, step, steps_of, take};
+use crate::disks::{AMPLE, book_of, disk_of, formatted, heap, play_without_memory, played};
 use linked_list_allocator::LocalHeap;
 use run_book::Book;
-use run_disk::MemoryDisk;
+use run_disk::{Fuse, MemoryDisk, RunDisk};
 use run_model::{Fault, Layout, Refusal};
-use std::alloc::Global;
+use std::alloc::{Allocator, Global};
 use std::process::Abort;
 
 /// How many bytes a state has in memory.
@@ -136,4 +140,116 @@ fn assert_steps(rt: &impl Abort, alloc: Global, layout: Layout) {
 fn no_step_takes_memory(rt: HostRuntime) {
     assert_steps(&rt, rt.alloc(), Layout::Small);
     assert_steps(&rt, rt.alloc(), Layout::Large);
+}
+
+/// A night whose task is running as it ends.
+const FIRST: [(Call, Said<'static>); 4] = [
+    (Group(b"g", b"root"), Said::Group(0, Some(1))),
+    (Go(b"g", b"copy", b"a"), Said::Ready(0)),
+    (Start, Said::Started(4, 0, b"copy", b"a", false)),
+    (Flush, Said::Acked(4)),
+];
+
+/// Behind a restart, a step of each kind and each command, each with its answer.
+const SECOND: [(Call, Said<'static>); 22] = [
+    (Retry(0), Said::Ready(1)),
+    (Cause(b"a", b"root"), Said::Scope(2)),
+    (Plain(b"p", b"a"), Said::Scope(3)),
+    (Cancel(b"a", b"disk"), Said::Done),
+    (Cancel(b"a", b""), Said::Refused(Refusal::AlreadyDone)),
+    (Advance(5), Said::Done),
+    (Bare(b"h", b"root"), Said::Group(1, None)),
+    (Limit(b"h", Some(1)), Said::Done),
+    (Go(b"h", b"copy", b"b"), Said::Ready(2)),
+    (Go(b"h", b"copy", b"c"), Said::Held(3)),
+    (Flush, Said::Acked(14)),
+    (Start, Said::Started(15, 1, b"copy", b"a", true)),
+    (Start, Said::Started(16, 2, b"copy", b"b", false)),
+    (Checkpoint, Said::Acked(16)),
+    (Succeed(1), Said::Finished(17)),
+    (Call::Fail(2, b"x"), Said::Finished(18)),
+    (Wait(b"g"), Said::Waited(Some(b"interrupted"))),
+    (Wait(b"g"), Said::Waited(Some(b"interrupted"))),
+    (Start, Said::Started(20, 3, b"copy", b"c", false)),
+    (Flush, Said::Acked(20)),
+    (Group(b"i", b"root"), Said::Group(2, Some(4))),
+    (Checkpoint, Said::Acked(21)),
+];
+
+/// Which questions of a book find something, and how many scopes, groups, tasks and running tasks
+/// there are.
+fn asked<D: RunDisk, A: Allocator>(rt: &impl Abort, book: &Book<D, A>) -> ([bool; 7], [usize; 4]) {
+    let state = book.state();
+    let found = [
+        state.look(1).is_some(),
+        state.value(1, &name(rt, b"a")).is_some(),
+        state.task(0).is_some(),
+        state.phase(0).is_some(),
+        state.group(0).is_some(),
+        state.find_scope(&name(rt, b"a")).is_some(),
+        state.find_group(&name(rt, b"h")).is_some(),
+    ];
+    let counts = [
+        state.scope_count(),
+        state.group_count(),
+        state.task_count(),
+        state.running(),
+    ];
+    (found, counts)
+}
+
+/// Asserts that each of those steps, and questions behind them, leave a heap's bytes in use as
+/// they were, though there are more.
+fn assert_kept(rt: &impl Abort, alloc: Global, layout: Layout) {
+    let heap = heap(rt, alloc, AMPLE);
+    let mut book = book_of(rt, &heap, played(rt, alloc, layout, &[&FIRST]));
+    let used = heap.used();
+    for (n, row) in SECOND.iter().enumerate() {
+        let reply = take(&mut book, &step(rt, row.0));
+        let told = (meaning(&reply), heap.used());
+        holds(rt, told == (row.1, used), "bytes behind row", n as u64);
+    }
+    let found = [true, false, true, true, true, true, true];
+    holds(rt, asked(rt, &book) == (found, [5, 3, 4, 1]), "answers", 0);
+    holds(rt, heap.used() == used, "bytes behind questions", 0);
+}
+
+#[test]
+fn a_step_or_question_takes_no_memory_that_is_there(rt: HostRuntime) {
+    assert_kept(&rt, rt.alloc(), Layout::Small);
+    assert_kept(&rt, rt.alloc(), Layout::Large);
+}
+
+/// Why a disk isn't opened, if it isn't, where neither the book nor the disk is kept.
+fn fault_of<D: RunDisk + Drop, A: Allocator + Copy>(alloc: A, disk: D) -> Option<Fault> {
+    match Book::open(alloc, disk) {
+        Ok(_) => None,
+        Err((fault, _)) => Some(fault),
+    }
+}
+
+#[test]
+fn a_device_that_fails_an_opening_leaves_no_memory_in_use(rt: HostRuntime) {
+    let heap = heap(&rt, rt.alloc(), AMPLE);
+    for calls in 0..10 {
+        let disk = Fuse::new(formatted(&rt, rt.alloc(), Layout::Small), calls);
+        let told = (fault_of(&heap, disk), heap.used());
+        holds(&rt, told == (Some(Fault::DiskFailed), 0), "calls", calls);
+    }
+}
+
+#[test]
+fn a_disk_of_another_size_leaves_no_memory_in_use(rt: HostRuntime) {
+    let heap = heap(&rt, rt.alloc(), AMPLE);
+    for size in [0, 4_096, 1_572_863] {
+        let bytes = done(&rt, vec![in rt.alloc(); 0u8; size], "memory");
+        let disk = disk_of(&rt, rt.alloc(), bytes);
+        let told = (fault_of(&heap, disk), heap.used());
+        holds(
+            &rt,
+            told == (Some(Fault::WrongSize), 0),
+            "size",
+            size as u64,
+        );
+    }
 }

@@ -12,6 +12,7 @@ use crate::disks::{DiskFailed, RunDisk};
 /// What a killed program wrote is there to be read, and a cut of the power may still lose it. So
 /// whoever opens a disk that isn't known to be at rest settles it first: a disk that a book gave
 /// back whose sync had failed, say, or one that another program wrote.
+#[tactic(auto, using(crate::proofs::RunLemmas::settled))]
 pub fn settle<D: RunDisk>(disk: &mut D) -> Result<(), DiskFailed>
     ensures ran { Ran (D.state disk.old) (D.state disk.new) result }
     ensures took { Took 1 (D.state disk.old) (D.state disk.new) result }

@@ -15,11 +15,13 @@ use std::alloc::Allocator;
 
 impl<D: RunDisk, A: Allocator> Book<D, A> {
     /// Takes the steps in order, and puts one reply for each at the end of the list, which has
-    /// room for them. Behind a failure of the device each step is refused as `Broken`.
+    /// room for them, and takes no more. Behind a failure of the device each step is refused as
+    /// `Broken`.
     pub fn play<B: Allocator>(&mut self, steps: &[Step], replies: &mut Vec<Reply, B>)
         requires room { vec_len replies.old + length steps.now ≤ vec_capacity replies.old }
         ensures plays { PlaysInto D.state (holding self.old) steps.now replies.old.items
             (holding self.new) replies.new.items }
+        ensures capacity { vec_capacity replies.new ≡ vec_capacity replies.old }
         ensures carries_on { CarriesOn D.state (holding self.old) (holding self.new) }
         ensures stays { Stays self.old.session.state self.new.session.state }
     {

@@ -54,6 +54,7 @@ returns g c =
           subst (λ (l : List Step). PlaysInto g.D.RunDisk.state (holding c.args.self.now) l
           c.args.replies.now.items (holding c.loop-step.self) c.loop-step.replies.items) all
           played.plays;
+      capacity = c.loop-step.invariant.2;
       carries_on = played.carries_on;
       stays = played.stays;
     }
