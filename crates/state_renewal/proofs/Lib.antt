@@ -10,3 +10,5 @@ pub mod ImageKept
 pub mod NamesKept
 pub mod AllowedKept
 pub mod AllowedBefore
+pub mod Numbering
+pub mod Raising

@@ -2,3 +2,4 @@ pub mod Renewed
 pub mod Kept
 pub mod Told
 pub mod Examples
+pub mod Marks

@@ -1,0 +1,57 @@
+//! The marks of a renewal: flags, one for each row, which say whether the row is kept, and the new
+//! numbers of the rows by them.
+
+ghost use Rattle.std.specs.Prelude.{◌≡◌, ◌<◌, ◌≤◌, ◌^◌, ℕ, IfOk, IfErr, Some, length, slice_get};
+ghost use Rattle.run_model.specs.declared.faults.Fault.TheVariants.{Memory};
+ghost use Rattle.run_model.specs.Scopes.{AreOrdered, is_root};
+ghost use Rattle.state_renewal.specs.Marks.{is_above_flagged, is_flagged};
+ghost use Rattle.state_renewal.specs.Renewed.{new_number};
+
+use run_model::{Fault, Kind, Scope};
+use std::alloc::Allocator;
+
+/// Flags each scope that is above a flagged one, too. There is a flag for each scope; where those
+/// that are needed are flagged, all that are kept are then. Takes no memory.
+pub fn flag_above(scopes: &[Scope], flags: &mut [bool])
+    requires ordered { AreOrdered scopes.now }
+    requires each { length flags.old ≡ length scopes.now }
+    ensures flags { (s : ℕ) → is_flagged flags.new s ≡ is_above_flagged scopes.now flags.old s }
+    ensures each { length flags.new ≡ length scopes.now }
+{
+    for back in 0..scopes.len() {
+        let s = scopes.len() - 1 - back;
+        let row = &scopes[s];
+        if flags[s] && !is_root(&row.kind) {
+            flags[row.parent as usize] = true;
+        }
+    }
+}
+
+/// The new number of each row, by flags that say which are kept, and behind them how many are kept.
+/// `Memory` where the memory for them is refused.
+pub fn new_numbers<A: Allocator>(alloc: A, flags: &[bool]) -> Result<Vec<u16, A>, Fault>
+    requires few { length flags.now < 2 ^ 16 }
+    ensures numbers { IfOk result (λ numbers. (n : ℕ) → n ≤ length flags.now
+        → slice_get numbers.items n
+        ≡ Some (new_number (is_flagged flags.now) n)) }
+    ensures fault { IfErr result (λ fault. fault ≡ Memory) }
+{
+    let Ok(mut numbers) = Vec::with_capacity(alloc, flags.len() + 1) else {
+        return Err(Fault::Memory);
+    };
+    let mut next = 0;
+    for n in 0..flags.len() {
+        numbers.push_reserved(next);
+        if flags[n] {
+            next += 1;
+        }
+    }
+    numbers.push_reserved(next);
+    Ok(numbers)
+}
+
+fn is_root(kind: &Kind) -> bool
+    ensures { result ≡ is_root kind.now }
+{
+    matches!(kind, Kind::Root)
+}
