@@ -1,5 +1,7 @@
 pub mod Asked
 pub mod Checked
+pub mod Entries
+pub mod EntryNights
 pub mod Faults
 pub mod Gathers
 pub mod GroupLines

@@ -385,7 +385,7 @@ fn push_failed<const N: usize>(out: &mut ArrayVec<u8, N>, counts: Counts)
 
 /// A count has at most 5 digits.
 #[tactic(auto, using(crate::proofs::Digits::count_digits))]
-fn push_count<const N: usize>(out: &mut ArrayVec<u8, N>, count: u16)
+pub(crate) fn push_count<const N: usize>(out: &mut ArrayVec<u8, N>, count: u16)
     requires { array_vec_len out.old + 5 ≤ N }
     ensures { Gathers out.old.items out.new.items (decimal count) 5 }
 {

@@ -8,6 +8,8 @@
 
 mod asked;
 mod causes;
+mod entries;
+pub mod entry_nights;
 mod faults;
 mod gathers;
 mod group_lines;
@@ -27,6 +29,7 @@ mod wishes;
 mod words;
 
 pub use asked::Asked;
+pub use entries::{Entry, LONGEST_ENTRY};
 pub use faults::{RunFault, ShownFault};
 pub use gathers::LONGEST_REPLY;
 pub use lines::{LONGEST_INPUT, LONGEST_LINE, read_line};

@@ -1,6 +1,6 @@
 //! Which tasks are listed: by the word of a phase, and by the name of a group.
 
-ghost use Rattle.std.specs.Prelude.{◌≡◌, option_map};
+ghost use Rattle.std.specs.Prelude.{◌≡◌, ◌≤◌, length, option_map};
 ghost use Rattle.console_lines.specs.Listed.{is_as_asked, is_listed, phase_word};
 
 use crate::rows::Row;
@@ -34,8 +34,9 @@ fn is_as_asked(asked: Option<&str>, word: &[u8]) -> bool
 }
 
 /// The word of a phase.
-fn phase_word(phase: &Phase) -> &'static str
-    ensures { result.now ≡ phase_word phase.now }
+pub(crate) fn phase_word(phase: &Phase) -> &'static str
+    ensures word { result.now ≡ phase_word phase.now }
+    ensures few { length result.now ≤ 32 }
 {
     match phase {
         Phase::Held => "held",

@@ -1,0 +1,217 @@
+-- What is printed of a whole state as one object of JSON.
+use Rattle.std.specs.Prelude.{ℕ, Bool, nat_eq, ◌||◌, if◌then◌else◌, List, [], ◌∷◌, ◌++◌, length}
+use Rattle.std.specs.Prelude.{codes, Option, Some, None, slice_get}
+use Rattle.std.specs.List.{flat_map}
+use Rattle.std.specs.Option.{option_map_or, option_and_then, option_map}
+use Rattle.std.specs.Fmt.{decimal}
+use Rattle.run_model.specs.declared.answers.GroupLook.{GroupLook}
+use Rattle.run_model.specs.declared.answers.Look.{Look}
+use Rattle.run_model.specs.declared.answers.TaskLook.{TaskLook}
+use Rattle.run_model.specs.declared.bounds.TheConstants.{MOST_GROUPS}
+use Rattle.run_model.specs.declared.layouts.Layout.{Layout}
+use Rattle.run_model.specs.declared.layouts.Layout.TheVariants.{Small, Large}
+use Rattle.run_model.specs.declared.scopes.Kind.{Kind}
+use Rattle.run_model.specs.declared.scopes.Kind.TheVariants as kind
+use Rattle.run_model.specs.declared.scopes.Reason.{Reason}
+use Rattle.run_model.specs.declared.tasks.Phase.{Phase}
+use Rattle.run_model.specs.declared.tasks.Phase.TheVariants as phase
+use Rattle.run_model.specs.Layouts.{most_scopes, most_tasks}
+use Rattle.run_model.specs.Questions.{look_of, group_look_of, task_look_of}
+use Rattle.run_model.specs.Reasons.{reason_text}
+use Rattle.run_model.specs.State.{State}
+use Rattle.console_lines.specs.declared.entries.Entry.{Entry}
+use Rattle.console_lines.specs.declared.entries.Entry.TheVariants as entry
+use Rattle.console_lines.specs.Inspected.{lines_below}
+use Rattle.console_lines.specs.Listed.{phase_word}
+
+-- A quotation mark and a backslash have a backslash before them in a string.
+abbrev pub is_escaped : ℕ → Bool
+is_escaped b = nat_eq b 34 || nat_eq b 92
+
+abbrev pub string_byte : ℕ → List ℕ
+string_byte b = if is_escaped b then 92 ∷ b ∷ [] else b ∷ []
+
+-- Bytes between quotation marks.
+abbrev pub quoted : List ℕ → List ℕ
+quoted bytes = codes "\"" ++ (bytes ++ codes "\"")
+
+-- A text as a string of JSON.
+abbrev pub string_text : List ℕ → List ℕ
+string_text text = quoted (flat_map string_byte text)
+
+-- A number, a string and a truth; what isn't there is `null`.
+abbrev pub number_or_null : Option ℕ → List ℕ
+number_or_null None = codes "null"
+number_or_null (Some n) = decimal n
+
+abbrev pub string_or_null : Option (List ℕ) → List ℕ
+string_or_null None = codes "null"
+string_or_null (Some text) = string_text text
+
+abbrev pub truth_text : Bool → List ℕ
+truth_text is_so = if is_so then codes "true" else codes "false"
+
+-- ---- the store
+
+abbrev pub layout_word : Layout → List ℕ
+layout_word Small = codes "small"
+layout_word Large = codes "large"
+
+-- How many scopes, groups and tasks there can be.
+abbrev pub tasks_room : Layout → List ℕ
+tasks_room layout = codes ",\"tasks\":" ++ (decimal (most_tasks layout) ++ codes "}")
+
+abbrev pub groups_room : Layout → List ℕ
+groups_room layout = codes ",\"groups\":" ++ (decimal MOST_GROUPS ++ tasks_room layout)
+
+abbrev pub room_text : Layout → List ℕ
+room_text layout =
+    codes ",\"room\":{\"scopes\":" ++ (decimal (most_scopes layout) ++ groups_room layout)
+
+abbrev pub layout_text : Layout → List ℕ
+layout_text layout =
+    codes ",\"layout\":" ++ (quoted (layout_word layout) ++ room_text layout)
+
+-- ---- a scope
+
+abbrev pub kind_word : Kind → List ℕ
+kind_word kind.Root = codes "root"
+kind_word kind.Cancel = codes "cancel"
+kind_word kind.Cause = codes "cause"
+kind_word (kind.Deadline moment cause) = codes "deadline"
+kind_word (kind.Value key text) = codes "value"
+kind_word kind.Detached = codes "detached"
+kind_word kind.Group = codes "group"
+
+-- The number of the scope that it was derived from; root has none.
+abbrev pub parent_text : Kind → ℕ → List ℕ
+parent_text kind.Root parent = codes "null"
+parent_text _ parent = decimal parent
+
+-- The value that it holds, and under which key.
+abbrev pub held_text : Kind → List ℕ
+held_text (kind.Value key text) =
+    codes ",\"key\":" ++ (quoted key ++ (codes ",\"value\":" ++ string_text text))
+held_text _ = codes ",\"key\":null,\"value\":null"
+
+-- Whether it is done, why, and with which cause.
+abbrev pub cause_text : List ℕ → List ℕ
+cause_text cause = codes ",\"cause\":" ++ (string_text cause ++ codes "}")
+
+abbrev pub ending_text : Reason → List ℕ → List ℕ
+ending_text reason cause =
+    codes ",\"done\":true,\"reason\":" ++ (quoted (reason_text reason) ++ cause_text cause)
+
+abbrev pub done_text : Option (Reason × List ℕ) → List ℕ
+done_text None = codes ",\"done\":false,\"reason\":null,\"cause\":null}"
+done_text (Some ending) = ending_text ending.0 ending.1
+
+abbrev pub ends_text : Look → List ℕ
+ends_text look = codes ",\"deadline\":" ++ (number_or_null look.deadline ++ done_text look.done)
+
+abbrev pub derived_text : ℕ → Kind → List ℕ
+derived_text parent kind =
+    codes ",\"parent\":" ++ (parent_text kind parent
+    ++ (codes ",\"kind\":" ++ (quoted (kind_word kind) ++ held_text kind)))
+
+-- The number and the name of a scope or a group.
+abbrev pub opened_text : ℕ → List ℕ → List ℕ
+opened_text n name =
+    codes "{\"number\":" ++ (decimal n ++ (codes ",\"name\":" ++ quoted name))
+
+-- ---- a group
+
+abbrev pub first_error : Option (List ℕ) → List ℕ
+first_error error = codes ",\"error\":" ++ (string_or_null error ++ codes "}")
+
+abbrev pub counted_text : GroupLook → List ℕ
+counted_text look =
+    codes ",\"unfinished\":" ++ (decimal look.unfinished ++ first_error look.error)
+
+abbrev pub limited_group : GroupLook → List ℕ
+limited_group look =
+    codes ",\"limit\":" ++ (number_or_null look.limit
+    ++ (codes ",\"waited\":" ++ (truth_text look.waited ++ counted_text look)))
+
+-- ---- a task
+
+-- With which error it failed.
+abbrev pub failure_of : Phase → Option (List ℕ)
+failure_of (phase.Failure error) = Some error
+failure_of _ = None
+
+abbrev pub outcome_text : TaskLook → List ℕ
+outcome_text look =
+    codes ",\"error\":" ++ (string_or_null (failure_of look.phase)
+    ++ (codes ",\"retry_of\":" ++ (number_or_null look.retry_of ++ codes "}")))
+
+abbrev pub named_work : TaskLook → List ℕ
+named_work look =
+    codes ",\"argument\":" ++ (quoted look.argument
+    ++ (codes ",\"phase\":" ++ (quoted (phase_word look.phase) ++ outcome_text look)))
+
+abbrev pub job_of_task : TaskLook → List ℕ
+job_of_task look = codes ",\"job\":" ++ (quoted look.job ++ named_work look)
+
+abbrev pub group_of_task : TaskLook → List ℕ
+group_of_task look = codes ",\"group\":" ++ (decimal look.group ++ job_of_task look)
+
+-- ---- all of them
+
+abbrev pub store_object : ℕ → ℕ → Layout → List ℕ
+store_object count clock layout =
+    codes "{\"count\":" ++ (decimal count
+    ++ (codes ",\"clock\":" ++ (decimal clock ++ layout_text layout)))
+
+abbrev pub scope_object : ℕ → ℕ → Kind → Look → List ℕ
+scope_object n parent kind look =
+    opened_text n look.name ++ (derived_text parent kind ++ ends_text look)
+
+abbrev pub group_object : ℕ → GroupLook → List ℕ
+group_object n look =
+    opened_text n look.name
+    ++ (codes ",\"scope\":" ++ (decimal look.scope ++ limited_group look))
+
+abbrev pub task_object : ℕ → TaskLook → List ℕ
+task_object n look = codes "{\"number\":" ++ (decimal n ++ group_of_task look)
+
+-- What an entry prints. That of the store is left open: its lists follow.
+abbrev pub entry_text : Entry → List ℕ
+entry_text (entry.Store count clock layout) = store_object count clock layout
+entry_text (entry.Scope n parent kind look) = scope_object n parent kind look
+entry_text (entry.Group n look) = group_object n look
+entry_text (entry.Task n look) = task_object n look
+
+-- Each entry of a list stands on a line of its own, behind a comma if another is before it.
+abbrev pub separator : Bool → List ℕ
+separator first = if first then codes "\n" else codes ",\n"
+
+abbrev pub listed_entry : ℕ → Option Entry → List ℕ
+listed_entry n seen =
+    option_map_or (λ entry. separator (nat_eq n 0) ++ entry_text entry) seen []
+
+abbrev pub scope_entry : State → ℕ → Option Entry
+scope_entry p s = option_and_then
+    (λ row. option_map (λ look. entry.Scope s row.parent row.kind look) (look_of p s))
+    (slice_get p.tree.scopes s)
+
+abbrev pub scope_item : State → ℕ → List ℕ
+scope_item p s = listed_entry s (scope_entry p s)
+
+abbrev pub group_item : State → ℕ → List ℕ
+group_item p g = listed_entry g (option_map (entry.Group g) (group_look_of p g))
+
+abbrev pub task_item : State → ℕ → List ℕ
+task_item p n = listed_entry n (option_map (entry.Task n) (task_look_of p n))
+
+-- All that is printed of a state as JSON: one object, with how many events there were, the clock,
+-- the layout and its room, and a list of the scopes, of the groups and of the tasks.
+abbrev pub json_text : State → List ℕ
+json_text p =
+    entry_text (entry.Store p.count p.tree.clock p.tree.layout)
+    ++ (codes ",\n\"scopes\":["
+    ++ (lines_below (scope_item p) (length p.tree.scopes)
+    ++ (codes "],\n\"groups\":["
+    ++ (lines_below (group_item p) (length p.work.groups)
+    ++ (codes "],\n\"tasks\":["
+    ++ (lines_below (task_item p) (length p.work.tasks) ++ codes "]}\n"))))))

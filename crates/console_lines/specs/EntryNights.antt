@@ -1,0 +1,77 @@
+-- Examples of a state as JSON: what a person types into a newly opened store, and what is printed
+-- of it then.
+use Prim.Native.String.{String}
+use Rattle.std.specs.Prelude.{◌≡◌, ℕ, List, [], ◌∷◌, ◌++◌, codes}
+use Rattle.console_lines.specs.Entries.{json_text}
+use Rattle.console_lines.specs.Nights.{Night, session_of}
+
+-- Texts one behind the other.
+abbrev pub joined : List String → List ℕ
+joined [] = []
+joined (text ∷ texts) = codes text ++ joined texts
+
+-- Behind a night these texts, one behind the other, are printed as JSON.
+abbrev pub IsShown : Night → List String → Type 0
+IsShown night texts = json_text (session_of night).state ≡ joined texts
+
+-- A scope of each kind, below root; one is cancelled, and one keeps it from those below.
+abbrev pub all_kinds : Night
+all_kinds =
+    ("derive v root value k a\"b\\c", "scope 1")
+    ∷ ("derive x v cause", "scope 2")
+    ∷ ("derive d x detached", "scope 3")
+    ∷ ("derive y d deadline 100 late", "scope 4")
+    ∷ ("derive z y cancel", "scope 5")
+    ∷ ("group g z", "group 0 scope 6")
+    ∷ ("cancel x disk", "ok")
+    ∷ []
+
+-- What is printed of it.
+abbrev pub kinds_shown : List String
+kinds_shown =
+    "{\"count\":8,\"clock\":0,\"layout\":\"small\",\"room\":{\"scopes\":1024,\"groups\":128,"
+    ∷ "\"tasks\":2048},\n\"scopes\":[\n"
+    ∷ "{\"number\":0,\"name\":\"root\",\"parent\":null,\"kind\":\"root\",\"key\":null,"
+    ∷ "\"value\":null,\"deadline\":null,\"done\":false,\"reason\":null,\"cause\":null},\n"
+    ∷ "{\"number\":1,\"name\":\"v\",\"parent\":0,\"kind\":\"value\",\"key\":\"k\","
+    ∷ "\"value\":\"a\\\"b\\\\c\",\"deadline\":null,\"done\":false,\"reason\":null,"
+    ∷ "\"cause\":null},\n"
+    ∷ "{\"number\":2,\"name\":\"x\",\"parent\":1,\"kind\":\"cause\",\"key\":null,"
+    ∷ "\"value\":null,\"deadline\":null,\"done\":true,\"reason\":\"context canceled\","
+    ∷ "\"cause\":\"disk\"},\n"
+    ∷ "{\"number\":3,\"name\":\"d\",\"parent\":2,\"kind\":\"detached\",\"key\":null,"
+    ∷ "\"value\":null,\"deadline\":null,\"done\":false,\"reason\":null,\"cause\":null},\n"
+    ∷ "{\"number\":4,\"name\":\"y\",\"parent\":3,\"kind\":\"deadline\",\"key\":null,"
+    ∷ "\"value\":null,\"deadline\":100,\"done\":false,\"reason\":null,\"cause\":null},\n"
+    ∷ "{\"number\":5,\"name\":\"z\",\"parent\":4,\"kind\":\"cancel\",\"key\":null,"
+    ∷ "\"value\":null,\"deadline\":100,\"done\":false,\"reason\":null,\"cause\":null},\n"
+    ∷ "{\"number\":6,\"name\":\"g\",\"parent\":5,\"kind\":\"group\",\"key\":null,"
+    ∷ "\"value\":null,\"deadline\":100,\"done\":false,\"reason\":null,\"cause\":null}],\n"
+    ∷ "\"groups\":[\n"
+    ∷ "{\"number\":0,\"name\":\"g\",\"scope\":6,\"limit\":null,\"waited\":false,"
+    ∷ "\"unfinished\":0,\"error\":null}],\n"
+    ∷ "\"tasks\":[]}\n"
+    ∷ []
+
+-- What is printed of the night of three tasks.
+abbrev pub tasks_shown : List String
+tasks_shown =
+    "{\"count\":10,\"clock\":0,\"layout\":\"small\",\"room\":{\"scopes\":1024,\"groups\":128,"
+    ∷ "\"tasks\":2048},\n\"scopes\":[\n"
+    ∷ "{\"number\":0,\"name\":\"root\",\"parent\":null,\"kind\":\"root\",\"key\":null,"
+    ∷ "\"value\":null,\"deadline\":null,\"done\":false,\"reason\":null,\"cause\":null},\n"
+    ∷ "{\"number\":1,\"name\":\"g\",\"parent\":0,\"kind\":\"group\",\"key\":null,"
+    ∷ "\"value\":null,\"deadline\":null,\"done\":false,\"reason\":null,\"cause\":null}],\n"
+    ∷ "\"groups\":[\n"
+    ∷ "{\"number\":0,\"name\":\"g\",\"scope\":1,\"limit\":1,\"waited\":false,"
+    ∷ "\"unfinished\":2,\"error\":null},\n"
+    ∷ "{\"number\":1,\"name\":\"h\",\"scope\":0,\"limit\":null,\"waited\":false,"
+    ∷ "\"unfinished\":0,\"error\":\"no room\"}],\n"
+    ∷ "\"tasks\":[\n"
+    ∷ "{\"number\":0,\"group\":0,\"job\":\"copy\",\"argument\":\"a\",\"phase\":\"running\","
+    ∷ "\"error\":null,\"retry_of\":null},\n"
+    ∷ "{\"number\":1,\"group\":0,\"job\":\"copy\",\"argument\":\"b\",\"phase\":\"held\","
+    ∷ "\"error\":null,\"retry_of\":null},\n"
+    ∷ "{\"number\":2,\"group\":1,\"job\":\"mail\",\"argument\":\"c\",\"phase\":\"error\","
+    ∷ "\"error\":\"no room\",\"retry_of\":null}]}\n"
+    ∷ []
