@@ -1,3 +1,4 @@
+pub mod Accounting
 pub mod Counting
 pub mod Ends
 pub mod Fronts

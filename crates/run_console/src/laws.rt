@@ -2,14 +2,19 @@
 //!
 //! Each function has an empty body, and its clauses are the law.
 
-ghost use Rattle.std.specs.Prelude.{◌≡◌, List, ℕ, Some, false};
+ghost use Rattle.std.specs.Prelude.{◌≡◌, List, Option, ℕ, Some, false};
 ghost use Rattle.run_model.specs.declared.commands.Step.{Step};
 ghost use Rattle.run_model.specs.Session.{Session, replies, reply_of_step};
 ghost use Rattle.book_model.specs.Holdings.{Holding, IsSession};
+ghost use Rattle.run_book.specs.Views.{BookView, holding};
+ghost use Rattle.console_lines.specs.declared.faults.RunFault.{RunFault};
 ghost use Rattle.console_lines.specs.Asked.{asked_of};
 ghost use Rattle.console_lines.specs.Replies.{reply_line};
 ghost use Rattle.console_lines.specs.Script.{reply, step_of, steps_of};
+ghost use Rattle.run_console.specs.Progress.{LineStops, RunStops};
 ghost use Rattle.run_console.specs.Rows.{TakesAll, printed};
+ghost use Rattle.run_console.specs.Strict.{StopsStrictly};
+ghost use Rattle.run_console.specs.Troubles.{Accounts};
 
 use run_disk::RunDisk;
 
@@ -22,4 +27,20 @@ pub fn what_is_printed_is_what_was_answered<D: RunDisk>()
         → taken.answers ≡ replies s (steps_of lines) }
     ensures line { (s : Session) (line : List ℕ) (x : Step) → step_of (asked_of line) ≡ Some x
         → reply s line ≡ reply_line (printed (reply_of_step s x)) }
+{}
+
+/// A fault that stopped a run, a strict run or a line over a book that wasn't broken has its cause
+/// in the store: which trouble the store's fault tells, and from what. That follows from the steps
+/// that were taken, and from what became of the next.
+pub fn a_fault_that_stops_a_run_has_its_cause<D: RunDisk>()
+    ensures run { (why : RunFault) (b c : BookView D) (r0 r1 w0 w1 : Option (List ℕ))
+        → b.journal.broken ≡ false → RunStops D.state why b c r0 r1 w0 w1
+        → Accounts D.state (holding b) why (holding c) }
+    ensures strict { (why : RunFault) (b c : BookView D) (r0 r1 w0 w1 : Option (List ℕ))
+        → b.journal.broken ≡ false → StopsStrictly D.state why b c r0 r1 w0 w1
+        → Accounts D.state (holding b) why (holding c) }
+    ensures line { (why : RunFault) (line : List ℕ) (b c : BookView D)
+        (w0 w1 : Option (List ℕ)) → b.journal.broken ≡ false
+        → LineStops D.state why line b c w0 w1
+        → Accounts D.state (holding b) why (holding c) }
 {}
