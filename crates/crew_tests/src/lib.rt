@@ -20,3 +20,5 @@ mod nights;
 mod seated;
 #[cfg(test)]
 mod stores;
+#[cfg(test)]
+mod turns;

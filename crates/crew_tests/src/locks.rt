@@ -1,4 +1,5 @@
-//! Gates that take the lock, and so see what is durable while the workers run.
+//! Gates that take the lock, and so see what is durable while the workers run, and what has ended
+//! when they are told of it.
 
 ghost use Rattle.std.specs.Prelude.{◌≡◌, ◌<◌};
 
@@ -8,6 +9,7 @@ use crate::stores::{opened, stored};
 use run_book::Book;
 use run_crew::{Desk, Gate, Job, run_night};
 use run_disk::{MemoryDisk, RunDisk};
+use run_model::Phase;
 use std::alloc::Global;
 use std::marker::Brand;
 use std::sync::atomic::{AtomicBool, AtomicU32, Ordering};
@@ -180,5 +182,83 @@ fn a_finish_is_flushed_while_another_task_runs(rt: HostRuntime) -> Result<(), Fa
         Blank::new(3),
     )?;
     assert!(&rt; seen);
+    Ok(())
+}
+
+/// What shows whether a task ended without an error.
+trait Shows {
+    fn is_success(&self, task: u16) -> bool;
+}
+
+impl<D: RunDisk, S: Ledger, F: Ledger> Shows for Desk<D, S, F> {
+    fn is_success(&self, task: u16) -> bool {
+        matches!(self.book().state().phase(task), Some(Phase::Success))
+    }
+}
+
+/// Takes the lock when it is told of a finish, and counts the tasks that it finds ended. It looks
+/// for the lock 10,000 times at most, a millisecond apart: told under the lock it would never get
+/// it.
+#[derive(Drop)]
+struct Told<'a, T: Shows, R: Wait + Clock> {
+    rt: &'a R,
+    shared: &'a Mutex<T>,
+    found: AtomicU32,
+}
+
+impl<'a, T: Shows, R: Wait + Clock> Gate for Told<'a, T, R> {
+    fn before(&self, _task: u16, _turn: u32) -> bool {
+        true
+    }
+
+    fn finished(&self, task: u16) {
+        for _ in 0..10_000 {
+            if let Some(desk) = self.shared.try_lock() {
+                if desk.is_success(task) {
+                    self.found.fetch_add(1, Ordering::SeqCst);
+                }
+                return;
+            }
+            thread::sleep(self.rt, Duration::from_millis(1));
+        }
+    }
+}
+
+/// How many tasks of a night of one worker have ended when the gate is told of them.
+fn ended_when_told<
+    D: RunDisk + Drop + Send,
+    S: Ledger + Send + Sync,
+    F: Ledger + Send + Sync,
+    R: Threads + Wait + Clock + Sync,
+>(rt: &R, alloc: Global, book: Book<D>, starts: Blank, finishes: Blank) -> Result<u32, Fail>
+    requires starts { (starts.name ≡ S.name) × (starts.parts ≡ S.parts) × (1 < S.parts) }
+    requires finishes { (finishes.name ≡ F.name) × (finishes.parts ≡ F.parts)
+        × (1 < F.parts) }
+{
+    let (desk, mut seat) = Desk::<D, S, F>::new(book, starts, finishes);
+    let shared = Mutex::new(desk);
+    let gate = Told {
+        rt,
+        shared: &shared,
+        found: AtomicU32::new(0),
+    };
+    let mut jobs: Vec<Vec<Box<dyn Job + Send>>> = Vec::new(alloc);
+    jobs.push(plain(alloc)?)?;
+    let _ = run_night(rt, alloc, &shared, &mut seat, jobs, &gate)?;
+    Ok(gate.found.load(Ordering::SeqCst))
+}
+
+#[test]
+fn a_gate_is_told_behind_the_lock(rt: HostRuntime) -> Result<(), Fail> {
+    let tasks = [(b"copy".as_slice(), b"a".as_slice()); 2];
+    let book = opened(rt.alloc(), stored(&rt, rt.alloc(), None, &tasks)?)?;
+    let found = ended_when_told::<MemoryDisk, Brand, Brand, HostRuntime>(
+        &rt,
+        rt.alloc(),
+        book,
+        Blank::new(2),
+        Blank::new(2),
+    )?;
+    assert!(&rt; found == 2);
     Ok(())
 }

@@ -1,0 +1,250 @@
+//! Which job makes a task's turns, how many it makes, and what each is told of the scope.
+
+use crate::crews::{Fixed, night, plain_night};
+use crate::gates::is_set_in_time;
+use crate::stores::{Now, Task, assert_tasks, opened, stored};
+use run_crew::{Gate, Job, Note, Turn};
+use run_disk::{FailOnce, MemoryDisk};
+use run_model::{Fault, Name, Outcome, TaskInfo, Text};
+use std::alloc::Global;
+use std::process::Abort;
+use std::sync::atomic::{AtomicBool, AtomicU32, Ordering};
+use std::sync::{Arc, Wait};
+use std::test::Fail;
+use std::thread::Threads;
+use std::time::Clock;
+
+fn failed(error: &[u8]) -> Turn {
+    Text::read(error).map_or(Turn::More, |error| Turn::Failed(error))
+}
+
+/// Does the jobs of one name: wants so many turns more, and then ends with this error, or without
+/// one where it has no bytes.
+#[derive(Drop)]
+struct Says {
+    name: &'static [u8],
+    more: u32,
+    error: &'static [u8],
+}
+
+impl Job for Says {
+    fn handles(&self, job: &Name) -> bool {
+        job.as_bytes() == self.name
+    }
+
+    fn turn(&mut self, _info: &TaskInfo, turn: u32, _done: bool) -> Turn {
+        if turn < self.more {
+            Turn::More
+        } else if self.error.is_empty() {
+            Turn::Finished
+        } else {
+            failed(self.error)
+        }
+    }
+}
+
+/// The lists of jobs of a night, from what each of them says.
+fn lists_of(
+    alloc: Global,
+    rows: &[&'static [Says]],
+) -> Result<Vec<Vec<Box<dyn Job + Send>>>, Fail> {
+    let mut lists: Vec<Vec<Box<dyn Job + Send>>> = Vec::new(alloc);
+    for row in rows.iter() {
+        let mut list: Vec<Box<dyn Job + Send>> = Vec::new(alloc);
+        for says in row.iter() {
+            let job = Says {
+                name: says.name,
+                more: says.more,
+                error: says.error,
+            };
+            list.push(Box::new(alloc, job)?)?;
+        }
+        lists.push(list)?;
+    }
+    Ok(lists)
+}
+
+static TWO_OF_A_NAME: [Says; 3] = [
+    Says {
+        name: b"b",
+        more: 0,
+        error: b"other",
+    },
+    Says {
+        name: b"a",
+        more: 0,
+        error: b"first",
+    },
+    Says {
+        name: b"a",
+        more: 0,
+        error: b"second",
+    },
+];
+
+#[test]
+fn the_first_job_that_handles_a_name_is_taken(rt: HostRuntime) -> Result<(), Fail> {
+    let disk = stored(&rt, rt.alloc(), None, &[(b"a", b"x")])?;
+    let jobs = lists_of(rt.alloc(), &[TWO_OF_A_NAME.as_slice()])?;
+    let gate = Fixed(true);
+    let night = night(&rt, rt.alloc(), opened(rt.alloc(), disk)?, jobs, &gate)?;
+    assert_tasks(&rt, night.book.state(), &[Now::Failure(b"first")]);
+    Ok(())
+}
+
+static LONG: [Says; 2] = [
+    Says {
+        name: b"a",
+        more: 999,
+        error: b"",
+    },
+    Says {
+        name: b"b",
+        more: 1_000,
+        error: b"",
+    },
+];
+
+/// The last turn that a task has is turn 999.
+static TURNS: [(Task, Now<'static>); 2] = [
+    ((b"a", b"x"), Now::Success),
+    ((b"b", b"x"), Now::Failure(b"turn limit")),
+];
+
+#[test]
+fn a_task_has_a_thousand_turns(rt: HostRuntime) -> Result<(), Fail> {
+    for row in TURNS.iter() {
+        let disk = stored(&rt, rt.alloc(), None, &[row.0])?;
+        let jobs = lists_of(rt.alloc(), &[LONG.as_slice()])?;
+        let gate = Fixed(true);
+        let night = night(&rt, rt.alloc(), opened(rt.alloc(), disk)?, jobs, &gate)?;
+        assert_tasks(&rt, night.book.state(), &[row.1]);
+    }
+    Ok(())
+}
+
+static ONLY_A: [Says; 1] = [Says {
+    name: b"a",
+    more: 0,
+    error: b"",
+}];
+
+static ONLY_B: [Says; 1] = [Says {
+    name: b"b",
+    more: 0,
+    error: b"",
+}];
+
+/// Asserts of the notes of one list that just the tasks of this parity ended without an error.
+fn assert_notes(rt: &impl Abort, list: usize, notes: &[Note], parity: u16) {
+    for note in notes.iter() {
+        let own = note.task % 2 == parity;
+        let done = note.outcome == Outcome::Success;
+        assert!(rt; done == own, "task {} in list {list}", note.task);
+    }
+}
+
+// Who takes a task is left to the threads, but what becomes of it tells whose notes these are.
+#[test]
+fn notes_stand_in_the_order_of_the_lists(rt: HostRuntime) -> Result<(), Fail> {
+    let tasks: [Task; 4] = [(b"a", b"x"), (b"b", b"x"), (b"a", b"x"), (b"b", b"x")];
+    let disk = stored(&rt, rt.alloc(), None, &tasks)?;
+    let jobs = lists_of(rt.alloc(), &[ONLY_A.as_slice(), ONLY_B.as_slice()])?;
+    let gate = Fixed(true);
+    let night = night(&rt, rt.alloc(), opened(rt.alloc(), disk)?, jobs, &gate)?;
+    assert!(&rt; night.settled == (4, 4));
+    for (list, notes) in night.lists.iter().enumerate() {
+        assert_notes(&rt, list, notes.as_slice(), (list % 2) as u16);
+    }
+    Ok(())
+}
+
+/// Counts its turns.
+#[derive(Drop)]
+struct Counts {
+    turns: Arc<AtomicU32>,
+}
+
+impl Job for Counts {
+    fn handles(&self, _job: &Name) -> bool {
+        true
+    }
+
+    fn turn(&mut self, _info: &TaskInfo, _turn: u32, _done: bool) -> Turn {
+        self.turns.fetch_add(1, Ordering::SeqCst);
+        Turn::Finished
+    }
+}
+
+/// How many turns one worker makes over a disk that fails at this call.
+fn turns_made<R: Threads + Wait + Sync + Abort>(
+    rt: &R,
+    alloc: Global,
+    call: u64,
+) -> Result<u32, Fail> {
+    let disk = stored(rt, alloc, None, &[(b"a", b"x")])?;
+    let book = opened(alloc, FailOnce::new(disk, call))?;
+    let turns = Arc::new(alloc, AtomicU32::new(0))?;
+    let mut list: Vec<Box<dyn Job + Send>> = Vec::new(alloc);
+    let job = Counts {
+        turns: Arc::try_clone(&turns)?,
+    };
+    list.push(Box::new(alloc, job)?)?;
+    let mut jobs: Vec<Vec<Box<dyn Job + Send>>> = Vec::new(alloc);
+    jobs.push(list)?;
+    let _ = night(rt, alloc, book, jobs, &Fixed(true))?;
+    Ok(turns.load(Ordering::SeqCst))
+}
+
+// The opening makes ten calls, and the flush of the first start the six behind them.
+#[test]
+fn no_turn_is_made_where_the_flush_of_the_start_fails(rt: HostRuntime) -> Result<(), Fail> {
+    for call in 11..=16_u64 {
+        let turns = turns_made(&rt, rt.alloc(), call)?;
+        assert!(&rt; turns == 0, "turns at call {call}");
+    }
+    let turns = turns_made(&rt, rt.alloc(), 17)?;
+    assert!(&rt; turns == 1, "turns behind the flush");
+    Ok(())
+}
+
+/// Lets task 1 begin once task 0 has made a turn, and task 0 go on once task 1 was finished.
+#[derive(Drop)]
+struct Cancels<C: Clock + Drop> {
+    clock: C,
+    begun: AtomicBool,
+    finished: AtomicBool,
+}
+
+impl<C: Clock + Drop> Gate for Cancels<C> {
+    fn before(&self, task: u16, turn: u32) -> bool {
+        match (task, turn) {
+            (0, 1) => {
+                self.begun.store(true, Ordering::SeqCst);
+                is_set_in_time(&self.clock, &self.finished)
+            }
+            (1, 0) => is_set_in_time(&self.clock, &self.begun),
+            _ => true,
+        }
+    }
+
+    fn finished(&self, task: u16) {
+        if task == 1 {
+            self.finished.store(true, Ordering::SeqCst);
+        }
+    }
+}
+
+#[test]
+fn a_turn_is_told_that_another_task_failed(rt: HostRuntime) -> Result<(), Fail> {
+    let disk = stored(&rt, rt.alloc(), None, &[(b"spin", b"3"), (b"fail", b"x")])?;
+    let gate = Cancels {
+        clock: rt,
+        begun: AtomicBool::new(false),
+        finished: AtomicBool::new(false),
+    };
+    let night = plain_night(&rt, rt.alloc(), opened(rt.alloc(), disk)?, 2, &gate)?;
+    let ends = [Now::Failure(b"canceled"), Now::Failure(b"x")];
+    assert_tasks(&rt, night.book.state(), &ends);
+    Ok(())
+}
