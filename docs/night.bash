@@ -14,7 +14,8 @@ _night() {
         format) flags="--new --help" ;;
         script) flags="--strict --help" ;;
         crew) flags="--workers --known --help" ;;
-        inspect | migrate) flags="--help" ;;
+        inspect) flags="--tasks --help" ;;
+        migrate) flags="--help" ;;
         help) mapfile -t COMPREPLY < <(compgen -W "$words" -- "$current") && return ;;
         *) return ;;
     esac

@@ -13,12 +13,12 @@ use Rattle.book_model.specs.Stores.{Stores, StoresFront, StoresOpened, restarted
 use Rattle.book_model.proofs.HoldingLemmas.{stores_fewer}
 use Rattle.book_model.proofs.Storing.{stores_one}
 use Rattle.console_lines.specs.declared.faults.RunFault.{RunFault}
-use Rattle.console_lines.specs.Inspected.{inspected}
 use Rattle.run_crew.specs.Desks.{history_of}
 use Rattle.run_console.specs.Crews.{CrewEnds, StoresNight}
 use Rattle.run_console.proofs.Nights.{opened_night}
 use Rattle.night_program.specs.Lasting.{FindsLeft, StoresWork}
-use Rattle.night_program.specs.Stores.{InspectEnds}
+use Rattle.night_words.specs.declared.asked.View.{View}
+use Rattle.night_program.specs.Stores.{InspectEnds, view_text}
 
 module _ {D : Type 0} (state : D → DiskState) where
   pub formatted_is_found : (given left next : D) (made : HasFormatted (state given) (state left))
@@ -102,11 +102,11 @@ module _ {D : Type 0} (state : D → DiskState) where
         stores = kept.any_moment.each (state next).now finds.content;
       }
 
-  pub found_is_printed : (found read : D) (p : State) (done : ⊤) (w0 w1 : Option (List ℕ))
-      → LiesWith state found p → InspectEnds state found (Ok done) read w0 w1
-      → Appends w0 w1 (inspected p)
-  found_is_printed found read p done w0 w1 lies (inl (q, recovered, prints)) =
-      subst (λ s. Appends w0 w1 (inspected s))
+  pub found_is_printed : (view : View) (found read : D) (p : State) (done : ⊤)
+      (w0 w1 : Option (List ℕ)) → LiesWith state found p
+      → InspectEnds view state found (Ok done) read w0 w1 → Appends w0 w1 (view_text view p)
+  found_is_printed view found read p done w0 w1 lies (inl (q, recovered, prints)) =
+      subst (λ s. Appends w0 w1 (view_text view s))
       (stores_one (state found).now q p (recovered.stores lies.honest) lies.stores) prints
-  found_is_printed found read p done w0 w1 lies (inr (why, answer, none, quiet)) =
+  found_is_printed view found read p done w0 w1 lies (inr (why, answer, none, quiet)) =
       absurd (cc)

@@ -9,6 +9,7 @@ use Rattle.run_disk.specs.Disk.{Begins, DiskState}
 use Rattle.run_disk.specs.MemoryDisks.{state_of}
 use Rattle.console_lines.specs.declared.faults.RunFault.{RunFault}
 use Rattle.run_console.specs.Troubles.{stopped}
+use Rattle.night_words.specs.declared.asked.View.{View}
 use Rattle.night_program.specs.declared.endings.Done.{Done}
 use Rattle.night_program.specs.declared.failures.Failure.{Failure}
 use Rattle.night_program.specs.Failures.{AnswersOver, FailsBy, HasNoFile, Names}
@@ -25,21 +26,21 @@ abbrev pub IsUnread : Fault → Type 0
 IsUnread why = (why ≡ DiskFailed) ⊎ (why ≡ Memory)
 
 -- What it holds was looked at, as in a disk in memory with the bytes that two readings gave.
-pub record LooksAt {T D : Type 0} (state : D → DiskState) (given : D) (done : Result T RunFault)
-    (w0 w1 : Option (List ℕ)) : Type 0 where
+pub record LooksAt {T D : Type 0} (view : View) (state : D → DiskState) (given : D)
+    (done : Result T RunFault) (w0 w1 : Option (List ℕ)) : Type 0 where
   pub copy : MemoryDisk Global
   pub left : MemoryDisk Global
   pub is_copy : IsCopy (state given) (state_of copy)
-  pub inspects : InspectEnds state_of copy done left w0 w1
+  pub inspects : InspectEnds view state_of copy done left w0 w1
 
 -- It has no store's size, which is told. Or what it holds was looked at. Or nothing was printed: it
 -- wasn't read, or no two readings in a row agreed, and it is in use.
-abbrev pub LookEnds : {D : Type 0} → (D → DiskState) → (store : List ℕ) → (given : D)
+abbrev pub LookEnds : {D : Type 0} → View → (D → DiskState) → (store : List ℕ) → (given : D)
     → Result Done Failure → (left : D) → (w0 w1 : Option (List ℕ)) → Type 0
-LookEnds state store given answer left w0 w1 =
+LookEnds view state store given answer left w0 w1 =
     ((done : Result ⊤ RunFault) × (layout_of (state given).size ≡ None)
-    × InspectEnds state given done left w0 w1 × AnswersOver (Names store) done answer)
-    ⊎ (((done : Result ⊤ RunFault) × LooksAt state given done w0 w1
+    × InspectEnds view state given done left w0 w1 × AnswersOver (Names store) done answer)
+    ⊎ (((done : Result ⊤ RunFault) × LooksAt view state given done w0 w1
     × AnswersOver (Names store) done answer)
     ⊎ ((w1 ≡ w0) × (HasNoFile store answer
     ⊎ ((why : Fault) × IsUnread why × FailsBy (Names store) (stopped why) answer))))

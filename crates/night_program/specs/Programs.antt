@@ -15,6 +15,7 @@ use Rattle.night_words.specs.Commands.{AsksFor, IsAnswer, IsCausedBy, faults_of}
 use Rattle.night_words.specs.declared.asked.Asked.{Asked}
 use Rattle.night_words.specs.declared.asked.Asked.TheVariants.{Demo, Format, Script, Inspect, Help}
 use Rattle.night_words.specs.declared.asked.Asked.TheVariants.{Crew, Migrate}
+use Rattle.night_words.specs.declared.asked.View.{View}
 use Rattle.night_words.specs.declared.asked.WordsFault.{WordsFault}
 use Rattle.night_program.specs.declared.endings.Done.{Done}
 use Rattle.night_program.specs.declared.endings.Ended.{Ended}
@@ -98,31 +99,32 @@ module _ {F D : Type 0} (state : D → DiskState) (seen : FilesView F D) where
 
   -- ---- inspect
 
-  -- The file of this name was opened for reading alone, and the state in it printed.
-  pub record Inspects (store : List ℕ) (answer : Result Done Failure)
+  -- The file of this name was opened for reading alone, and what the view shows of the state in it
+  -- printed.
+  pub record Inspects (view : View) (store : List ℕ) (answer : Result Done Failure)
       (f0 : F) (w0 w1 : Option (List ℕ)) : Type 0 where
     pub given : D
     pub left : D
     pub done : Result ⊤ RunFault
     pub shown : seen.shows f0 store given
     pub settled : IsSettled (state given)
-    pub inspects : InspectEnds state given done left w0 w1
+    pub inspects : InspectEnds view state given done left w0 w1
     pub answers : AnswersOver (Names store) done answer
 
   -- Another program has it open. It was opened for reading alone, and what two readings of it gave
   -- was looked at. Or no two in a row agreed, and nothing was printed.
-  pub record Looks (store : List ℕ) (answer : Result Done Failure)
+  pub record Looks (view : View) (store : List ℕ) (answer : Result Done Failure)
       (f0 : F) (w0 w1 : Option (List ℕ)) : Type 0 where
     pub given : D
     pub left : D
     pub shown : seen.shows f0 store given
-    pub looks : LookEnds state store given answer left w0 w1
+    pub looks : LookEnds view state store given answer left w0 w1
 
-  abbrev pub DoesInspect : List ℕ → Result Done Failure → (f0 f1 : F)
+  abbrev pub DoesInspect : View → List ℕ → Result Done Failure → (f0 f1 : F)
       → (w0 w1 : Option (List ℕ)) → Type 0
-  DoesInspect store answer f0 f1 w0 w1 =
+  DoesInspect view store answer f0 f1 w0 w1 =
       (f1 ≡ f0) × ((HasNoFile store answer × (w1 ≡ w0))
-      ⊎ (Inspects store answer f0 w0 w1 ⊎ Looks store answer f0 w0 w1))
+      ⊎ (Inspects view store answer f0 w0 w1 ⊎ Looks view store answer f0 w0 w1))
 
   -- ---- migrate
 
@@ -216,8 +218,8 @@ module _ {F D : Type 0} (state : D → DiskState) (seen : FilesView F D) where
       DoesFormat store.now only_new answer f0 f1 w0 w1 × (r1 ≡ r0)
   Does (Script store strict) lists answer f0 f1 r0 r1 w0 w1 =
       DoesScript store.now strict answer f0 f1 r0 r1 w0 w1
-  Does (Inspect store) lists answer f0 f1 r0 r1 w0 w1 =
-      DoesInspect store.now answer f0 f1 w0 w1 × (r1 ≡ r0)
+  Does (Inspect store view) lists answer f0 f1 r0 r1 w0 w1 =
+      DoesInspect view store.now answer f0 f1 w0 w1 × (r1 ≡ r0)
   Does (Crew store workers known) lists answer f0 f1 r0 r1 w0 w1 =
       DoesCrew store.now workers lists known answer f0 f1 w0 w1 × (r1 ≡ r0)
   Does (Migrate old new) lists answer f0 f1 r0 r1 w0 w1 =

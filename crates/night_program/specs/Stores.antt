@@ -1,5 +1,5 @@
 -- What each word does to a store, by what its disk was and what is left of it.
-use Rattle.std.specs.Prelude.{◌≡◌, ◌⊎◌, ◌++◌, ℕ, List, Option, Result, Ok, Err, codes}
+use Rattle.std.specs.Prelude.{◌≡◌, ◌⊎◌, ◌++◌, ℕ, List, Option, None, Result, Ok, Err, codes}
 use Rattle.std.specs.Fmt.{decimal}
 use Rattle.std.specs.Io.KnownBytes.{Appends}
 use Rattle.run_model.specs.declared.faults.Fault.{Fault}
@@ -17,10 +17,13 @@ use Rattle.console_lines.specs.declared.faults.RunFault.{RunFault}
 use Rattle.console_lines.specs.declared.faults.RunFault.TheVariants.{Memory, Output}
 use Rattle.console_lines.specs.declared.strays.StrayLine.{StrayLine}
 use Rattle.console_lines.specs.Inspected.{inspected}
+use Rattle.console_lines.specs.Listed.{listed}
 use Rattle.console_lines.specs.Progress.{WritesPart}
 use Rattle.run_console.specs.Progress.{BeginsScript, Lasts, RunStops, RunsAll}
 use Rattle.run_console.specs.Strict.{RunsStrictly, StopsStrictly}
 use Rattle.run_console.specs.Troubles.{Accounts, stopped}
+use Rattle.night_words.specs.declared.asked.View.{View}
+use Rattle.night_words.specs.declared.asked.View.TheVariants.{Whole, Tasks}
 
 -- A text was printed whole, or as much of it as the output took.
 abbrev pub Prints : {T : Type 0} → List ℕ → Result T RunFault → (w0 w1 : Option (List ℕ)) → Type 0
@@ -106,10 +109,15 @@ Shows text state old answer new w0 w1 =
     ⊎ ((why : Fault) × (answer ≡ Err (stopped why)) × RecoversNone state old why new
     × (w1 ≡ w0))
 
--- The whole state is shown.
-abbrev pub InspectEnds : {T D : Type 0} → (D → DiskState) → (old : D)
+-- What a view shows of a state: all that it holds, or the lines of its tasks alone.
+abbrev pub view_text : View → State → List ℕ
+view_text Whole p = inspected p
+view_text Tasks p = listed None None p
+
+-- What the view shows of it was printed.
+abbrev pub InspectEnds : {T D : Type 0} → View → (D → DiskState) → (old : D)
     → Result T RunFault → (new : D) → (w0 w1 : Option (List ℕ)) → Type 0
-InspectEnds state old answer new w0 w1 = Shows inspected state old answer new w0 w1
+InspectEnds view state old answer new w0 w1 = Shows (view_text view) state old answer new w0 w1
 
 -- ---- migrate
 

@@ -8,10 +8,10 @@ ghost use Rattle.book_model.specs.Openings.{HasFormatted, Opens};
 ghost use Rattle.book_model.specs.Standing.{LiesWith};
 ghost use Rattle.book_model.specs.Stores.{Stores, StoresFront, restarted};
 ghost use Rattle.console_lines.specs.declared.faults.RunFault.{RunFault};
-ghost use Rattle.console_lines.specs.Inspected.{inspected};
 ghost use Rattle.run_console.specs.Crews.{CrewEnds, StoresNight};
 ghost use Rattle.night_program.specs.Lasting.{FindsLeft, StoresWork};
-ghost use Rattle.night_program.specs.Stores.{InspectEnds};
+ghost use Rattle.night_words.specs.declared.asked.View.{View};
+ghost use Rattle.night_program.specs.Stores.{InspectEnds, view_text};
 
 use run_disk::RunDisk;
 
@@ -20,7 +20,7 @@ use run_disk::RunDisk;
 /// behind a script that was cut at any moment the state that was there, or what a restart of it and
 /// some first ones of the accepted events lead to; where it was cut from some place of its row on,
 /// all that was acknowledged there; behind a crew the same, of starts and finishes. And an
-/// inspection that is done prints the state that it finds.
+/// inspection that is done prints what its view shows of the state that it finds.
 pub fn a_store_lasts_from_run_to_run<D: RunDisk>()
     ensures format { (given left next : D) → (made : HasFormatted (D.state given) (D.state left))
         → (D.state given).honest → FindsLeft D.state left left next
@@ -38,7 +38,8 @@ pub fn a_store_lasts_from_run_to_run<D: RunDisk>()
         → CrewEnds D.state given workers answer left w0 w1
         → FindsLeft D.state given left next
         → StoresWork p (D.state next).now }
-    ensures inspect { (found read : D) (p : State) (done : ⊤) (w0 w1 : Option (List ℕ))
-        → LiesWith D.state found p → InspectEnds D.state found (Ok done) read w0 w1
-        → Appends w0 w1 (inspected p) }
+    ensures inspect { (view : View) (found read : D) (p : State) (done : ⊤)
+        (w0 w1 : Option (List ℕ)) → LiesWith D.state found p
+        → InspectEnds view D.state found (Ok done) read w0 w1
+        → Appends w0 w1 (view_text view p) }
 {}

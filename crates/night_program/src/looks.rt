@@ -8,6 +8,7 @@ use crate::failures::{Failure, done_over, failed_over, no_file};
 use crate::files::{Files, Opened};
 use crate::reasons::Reason;
 use crate::stores::inspect;
+use night_words::View;
 use run_console::stopped;
 use run_disk::{MemoryDisk, RunDisk};
 use run_model::{Fault, Layout};
@@ -17,25 +18,26 @@ use std::io::Write;
 /// So many readings are made at most.
 const MOST_READINGS: usize = 100;
 
-/// Prints what a store holds that another program may be writing. It is read until two readings in
-/// a row agree in each byte, with a pause between them; where no two do, it is in use.
+/// Prints what the view shows of a store that another program may be writing. It is read until two
+/// readings in a row agree in each byte, with a pause between them; where no two do, it is in use.
 pub fn look<'a, F: Files, W: Write>(
     alloc: Global,
     files: &F,
     opened: Opened<F::Disk, F::Why>,
     store: &'a str,
+    view: View,
     output: &mut W,
 ) -> (Result<Done, Failure<'a>>, F::Disk)
-    ensures { LookEnds F.Disk.state store.now opened.disk result.0 result.1
+    ensures { LookEnds view F.Disk.state store.now opened.disk result.0 result.1
         (W.contents output.old) (W.contents output.new) }
 {
     let Opened { mut disk, why } = opened;
     if Layout::of(disk.size()).is_none() {
-        let done = inspect(alloc, &mut disk, output);
+        let done = inspect(alloc, &mut disk, view, output);
         return (done_over(done, store, &why), disk);
     }
     let answer = match steady_copy(alloc, files, &mut disk) {
-        Ok(Some(mut copy)) => done_over(inspect(alloc, &mut copy, output), store, &why),
+        Ok(Some(mut copy)) => done_over(inspect(alloc, &mut copy, view, output), store, &why),
         Ok(None) => Err(no_file(store, Reason::InUse)),
         Err(fault) => Err(failed_over(stopped(fault), store, &why)),
     };

@@ -17,7 +17,7 @@ use crate::migrations::migrate;
 use crate::reasons::Reason;
 use crate::stores::{format, inspect, script, script_strict};
 use console_lines::RunFault;
-use night_words::{Asked, WordsFault, read_words};
+use night_words::{Asked, View, WordsFault, read_words};
 use run_console::write_whole;
 use run_crew::Job;
 use run_model::Layout;
@@ -31,7 +31,8 @@ use std::thread::Threads;
 ///
 /// `demo` runs the input over a book in memory; `format STORE` makes a large store of the file, and
 /// with `--new` only where there is none; `script STORE` runs the input over the store; `inspect
-/// STORE` prints what it holds, also where another program has it open, and writes nothing to it;
+/// STORE` prints what it holds, also where another program has it open, and writes nothing to it,
+/// and with `--tasks` the lines of its tasks alone;
 /// `crew STORE` works off its ready tasks by threads, one for each of the first of these lists of
 /// jobs, and with `--known` only where it knows the jobs of all tasks that aren't ended; `migrate
 /// OLD NEW` opens OLD for reading alone, and only then makes of NEW a large store with the state of
@@ -94,7 +95,7 @@ fn answer<'a, F: Files, I: Read, O: Write, R: Threads + Wait + Sync>(
         Asked::Script { store, strict } => {
             script_file(alloc, store, *strict, files, input, output)
         }
-        Asked::Inspect(store) => inspect_file(alloc, store, files, output),
+        Asked::Inspect { store, view } => inspect_file(alloc, store, *view, files, output),
         Asked::Crew {
             store,
             workers,
@@ -177,38 +178,42 @@ fn script_file<'a, F: Files, I: Read, O: Write>(
     }
 }
 
-/// Prints what the store in the file of this name holds, also where another program has it open.
+/// Prints what the view shows of the store in the file of this name, also where another program has
+/// it open.
 fn inspect_file<'a, F: Files, O: Write>(
     alloc: Global,
     store: &'a str,
+    view: View,
     files: &mut F,
     output: &mut O,
 ) -> Result<Done, Failure<'a>>
-    ensures { DoesInspect F.Disk.state F.seen store.now result files.old files.new
+    ensures { DoesInspect F.Disk.state F.seen view store.now result files.old files.new
         (O.contents output.old) (O.contents output.new) }
 {
     match files.open_to_read(store) {
         Ok(Opened { mut disk, why }) => {
-            let done = inspect(alloc, &mut disk, output);
+            let done = inspect(alloc, &mut disk, view, output);
             done_over(done, store, &why)
         }
-        Err(Reason::InUse) => look_file(alloc, store, files, output),
+        Err(Reason::InUse) => look_file(alloc, store, view, files, output),
         Err(reason) => Err(no_file(store, reason)),
     }
 }
 
-/// Prints what the store in the file of this name holds, which another program has open.
+/// Prints what the view shows of the store in the file of this name, which another program has
+/// open.
 fn look_file<'a, F: Files, O: Write>(
     alloc: Global,
     store: &'a str,
+    view: View,
     files: &mut F,
     output: &mut O,
 ) -> Result<Done, Failure<'a>>
-    ensures { DoesInspect F.Disk.state F.seen store.now result files.old files.new
+    ensures { DoesInspect F.Disk.state F.seen view store.now result files.old files.new
         (O.contents output.old) (O.contents output.new) }
 {
     match files.look(store) {
-        Ok(opened) => look(alloc, files, opened, store, output).0,
+        Ok(opened) => look(alloc, files, opened, store, view, output).0,
         Err(reason) => Err(no_file(store, reason)),
     }
 }

@@ -1,11 +1,17 @@
 //! What the words do to a store, over the disk that holds it.
 
+ghost use Rattle.std.specs.Io.KnownBytes.{Appends};
+ghost use Rattle.std.specs.Prelude.{◌≡◌, IfErr, OnErr, OnOk};
+ghost use Rattle.console_lines.specs.Progress.{WritesPart};
 ghost use Rattle.night_program.specs.Stores.{FormatEnds, InspectEnds, ScriptEnds, StrictEnds};
+ghost use Rattle.night_program.specs.Stores.{view_text};
 
 use console_lines::{RunFault, StrayLine};
-use run_console::{Book, run, run_strict, stopped, write_whole};
+use night_words::View;
+use run_console::{Book, list_tasks, run, run_strict, stopped, write_whole};
 use run_disk::RunDisk;
-use std::alloc::Global;
+use run_state::State;
+use std::alloc::{Allocator, Global};
 use std::io::{Read, Write};
 
 /// Makes a store of a disk, and prints `formatted`. All that the disk held is lost. The disk is
@@ -61,17 +67,36 @@ pub fn script_strict<D: RunDisk, R: Read, W: Write>(
     }
 }
 
-/// Prints the state that the store on a disk holds. The disk is read alone.
+/// Prints what the view shows of the state that the store on a disk holds. The disk is read alone.
 pub fn inspect<D: RunDisk, W: Write>(
     alloc: Global,
     disk: &mut D,
+    view: View,
     output: &mut W,
 ) -> Result<(), RunFault>
-    ensures { InspectEnds D.state disk.old result disk.new
+    ensures { InspectEnds view D.state disk.old result disk.new
         (W.contents output.old) (W.contents output.new) }
 {
     match Book::recover(alloc, disk) {
-        Ok(state) => run_console::inspect(&state, output),
+        Ok(state) => show(&state, view, output),
         Err(fault) => Err(stopped(fault)),
+    }
+}
+
+/// Prints what the view shows of a state.
+fn show<W: Write, B: Allocator>(
+    state: &State<B>,
+    view: View,
+    output: &mut W,
+) -> Result<(), RunFault>
+    ensures whole { OnOk result (Appends (W.contents output.old) (W.contents output.new)
+        (view_text view state.now)) }
+    ensures cut { OnErr result (WritesPart (W.contents output.old) (W.contents output.new)
+        (view_text view state.now)) }
+    ensures fault { IfErr result (λ fault. fault ≡ RunFault.Output) }
+{
+    match view {
+        View::Whole => run_console::inspect(state, output),
+        View::Tasks => list_tasks(state, None, None, output),
     }
 }

@@ -39,7 +39,7 @@ shown_is_answer : (kind : ErrorKind) (kinds : Kinds) (r : Result Asked WordsFaul
 shown_is_answer kind kinds (Ok (Demo strict)) found shown = absurd shown
 shown_is_answer kind kinds (Ok (Format store is_new)) found shown = absurd shown
 shown_is_answer kind kinds (Ok (Script store strict)) found shown = absurd shown
-shown_is_answer kind kinds (Ok (Inspect store)) found shown = absurd shown
+shown_is_answer kind kinds (Ok (Inspect store view)) found shown = absurd shown
 shown_is_answer kind kinds (Ok (Crew store workers known)) found shown = absurd shown
 shown_is_answer kind kinds (Ok (Migrate old new)) found shown = absurd shown
 shown_is_answer kind kinds (Ok (Help text)) (inl e) shown = absurd (no_help kind e shown)
@@ -66,7 +66,7 @@ pub error_asks_nothing : (kind : ErrorKind) (words : List Text) (r : Result Aske
 error_asks_nothing kind words (Ok (Demo strict)) shown = absurd shown
 error_asks_nothing kind words (Ok (Format store is_new)) shown = absurd shown
 error_asks_nothing kind words (Ok (Script store strict)) shown = absurd shown
-error_asks_nothing kind words (Ok (Inspect store)) shown = absurd shown
+error_asks_nothing kind words (Ok (Inspect store view)) shown = absurd shown
 error_asks_nothing kind words (Ok (Crew store workers known)) shown = absurd shown
 error_asks_nothing kind words (Ok (Migrate old new)) shown = absurd shown
 error_asks_nothing kind words (Ok (Help text)) shown = tt
@@ -128,7 +128,7 @@ module _ (a : App) (words : List Text) (m : ArgMatches) (is_night : a ≡ night)
   command_is_answer (Ok (Demo strict)) asks = finds_nothing
   command_is_answer (Ok (Format store is_new)) asks = finds_nothing
   command_is_answer (Ok (Script store strict)) asks = finds_nothing
-  command_is_answer (Ok (Inspect store)) asks = finds_nothing
+  command_is_answer (Ok (Inspect store view)) asks = finds_nothing
   command_is_answer (Ok (Crew store workers known)) asks = finds_nothing
   command_is_answer (Ok (Migrate old new)) asks = finds_nothing
   command_is_answer (Ok (Help text)) asks = absurd asks

@@ -170,7 +170,7 @@ crew_here m command inner store count workers known r name rows is read whole gi
     go (Ok (Demo strict)) made = absurd made
     go (Ok (Format s n)) made = absurd made
     go (Ok (Script s strict)) made = absurd made
-    go (Ok (Inspect s)) made = absurd made
+    go (Ok (Inspect s view)) made = absurd made
     go (Ok (Crew s n k)) made = (
       which,
       stored ∙ sym made.0,
@@ -185,13 +185,6 @@ crew_here m command inner store count workers known r name rows is read whole gi
         (store, (known, (which, stored, ap (λ o. workers_of o) working ∙ made, knowing)))
     go (Err NotText) made = absurd made
     go (Err Memory) made = absurd made
-
--- the same of a command and a store that are known
-pub named_as : (named : Named) (name command store : Text) (first : Option Text)
-    → named ≡ Some (name, first) → name ≡ command → Some store ≡ first
-    → named ≡ Some (command, Some store)
-named_as named name command store first at is read =
-    at ∙ ap₂ (λ n s. Some (n, s)) is (sym read)
 
 -- a comparison of two texts, and what it says
 pub same : (a b : Text) (r : Bool) → r ≡ bytes_eq a b → r ≡ true → a ≡ b
@@ -272,7 +265,7 @@ pub migration_asks : (named : Named) (new : Option Text) (store given : Text)
 migration_asks named new store given entered (Ok (Demo strict)) is fresh made = absurd made
 migration_asks named new store given entered (Ok (Format s b)) is fresh made = absurd made
 migration_asks named new store given entered (Ok (Script s b)) is fresh made = absurd made
-migration_asks named new store given entered (Ok (Inspect s)) is fresh made = absurd made
+migration_asks named new store given entered (Ok (Inspect s view)) is fresh made = absurd made
 migration_asks named new store given entered (Ok (Crew s n b)) is fresh made = absurd made
 migration_asks named new store given entered (Ok (Help text)) is fresh made = absurd made
 migration_asks named new store given entered (Ok (Migrate o n)) is fresh made = (

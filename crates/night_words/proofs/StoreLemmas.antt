@@ -19,19 +19,22 @@ use Rattle.night_words.proofs.TurnLemmas.{ShortFails, above, first_none, flag_of
 use Rattle.night_words.proofs.TurnLemmas.{found_of_two, has_letter, has_name, held, help_is_found}
 use Rattle.night_words.proofs.TurnLemmas.{mark}
 
--- the two commands: `format` and `script`
+-- the three commands: `format`, `script` and `inspect`
 pub data Command : Type 0 where
   formats : Command
   scripts : Command
+  inspects : Command
 
 abbrev pub shape : Command → Shape
 shape formats = slice_index_or (built night).subs 1 above
 shape scripts = slice_index_or (built night).subs 2 above
+shape inspects = slice_index_or (built night).subs 3 above
 
 -- the flag of each
 abbrev pub name_of : Command → Text
 name_of formats = codes "new"
 name_of scripts = codes "strict"
+name_of inspects = codes "tasks"
 
 abbrev rule : Command → Rule
 rule c = flag_of (shape c) 1
@@ -76,6 +79,9 @@ store_longs c name v h = go c v
     search_by scripts v none meant help = found_of_two (has_name name)
         (LongMeets (shape scripts) (rule scripts) v h) (rule scripts) (flag_of (shape scripts) 2)
         none meant help
+    search_by inspects v none meant help = found_of_two (has_name name)
+        (LongMeets (shape inspects) (rule inspects) v h) (rule inspects)
+        (flag_of (shape inspects) 2) none meant help
 
     go : (c : Command) (v : Option Text)
         → LongMeets (shape c) (rule c) v h (arg_by_long (shape c).rules name)
@@ -85,6 +91,9 @@ store_longs c name v h = go c v
     go scripts None = search_by scripts None (λ none. cc) (λ none. (refl, none))
         (λ none. absurd (help_is_found _ _ _ none))
     go scripts (Some v) = search_by scripts (Some v) (λ none. cc) (λ none. cc) (λ none. cc)
+    go inspects None = search_by inspects None (λ none. cc) (λ none. (refl, none))
+        (λ none. absurd (help_is_found _ _ _ none))
+    go inspects (Some v) = search_by inspects (Some v) (λ none. cc) (λ none. cc) (λ none. cc)
 
 store_shorts : (c : Command) (x : ℕ) (rest : Text) (h : Held) (next : Held → Kinds)
     → ShortFails (shape c) rest h next (arg_by_short (shape c).rules x)
@@ -100,6 +109,12 @@ store_shorts scripts x rest h next =
     help_is_found _ _ _ (first_none _ _ none) in
     found_of_one (has_letter x) (ShortFails (shape scripts) rest h next)
     (flag_of (shape scripts) 2) no help
+store_shorts inspects x rest h next =
+    let no : ShortFails (shape inspects) rest h next None = λ none. cc in
+    let help : ShortFails (shape inspects) rest h next (Some (flag_of (shape inspects) 2)) = λ none.
+    help_is_found _ _ _ (first_none _ _ none) in
+    found_of_one (has_letter x) (ShortFails (shape inspects) rest h next)
+    (flag_of (shape inspects) 2) no help
 
 is_flagged : (c : Command) → IsFlagged (shape c) (rule c)
 is_flagged c = record { longs = store_longs c; shorts = store_shorts c }
@@ -112,29 +127,34 @@ twice : (c : Command)
     ≡ [] → ⊥
 twice formats none = cc
 twice scripts none = cc
+twice inspects none = cc
 
 twice_before : (c : Command) (x : Text)
     → react_fault (shape c).rules (shape c).args_override_self (rule c) []
     (held (set_rows c) (stored x)) ≡ [] → ⊥
 twice_before formats x none = cc
 twice_before scripts x none = cc
+twice_before inspects x none = cc
 
 twice_around : (c : Command) (x : Text)
     → react_fault (shape c).rules (shape c).args_override_self (rule c) []
     (held (rows_behind c x) None) ≡ [] → ⊥
 twice_around formats x none = cc
 twice_around scripts x none = cc
+twice_around inspects x none = cc
 
 -- no second store is taken
 stray : (c : Command) (r : List Row) (p : Option (Text × List Text))
     → step_fault (shape c) 2 (held r p) value ≡ [] → ⊥
 stray formats r p none = cc
 stray scripts r p none = cc
+stray inspects r p none = cc
 
 stray_behind : (c : Command) (r : List Row) (p : Option (Text × List Text)) (word : Text)
     → turn_fault (shape c) [] (stands r p 2 true) word ≡ [] → ⊥
 stray_behind formats r p word none = cc
 stray_behind scripts r p word none = cc
+stray_behind inspects r p word none = cc
 
 -- a first one is
 takes : (c : Command) (r : List Row) (word : Text)
@@ -142,18 +162,21 @@ takes : (c : Command) (r : List Row) (word : Text)
     (held r None) ≡ stands r (stored word) 2 false
 takes formats r word = refl
 takes scripts r word = refl
+takes inspects r word = refl
 
 takes_behind : (c : Command) (r : List Row) (word : Text)
     → walked (shape c).rules [] (stands r None 1 true) word ≡ stands r (stored word) 2 true
 unfolding walked
 takes_behind formats r word = refl
 takes_behind scripts r word = refl
+takes_behind inspects r word = refl
 
 -- the flag behind a store
 sets : (c : Command) (x : Text)
     → used (rule c) [] (settled_rows (shape c).rules (stored x) []) ≡ rows_behind c x
 sets formats x = refl
 sets scripts x = refl
+sets inspects x = refl
 
 module _ (c : Command) (seen : List Text) (w : Walk) (word : Text) where
   abbrev Next : Type 0
@@ -254,30 +277,35 @@ wants_store : (c : Command) (is_behind : Bool) → EndPasses c (stands [] None 1
 unfolding clap_on_literals
 wants_store formats is_behind none = cc
 wants_store scripts is_behind none = cc
+wants_store inspects is_behind none = cc
 
 flag_is_no_store : (c : Command) (is_behind : Bool)
     → EndPasses c (stands (set_rows c) None 1 is_behind) → ⊥
 unfolding clap_on_literals
 flag_is_no_store formats is_behind none = cc
 flag_is_no_store scripts is_behind none = cc
+flag_is_no_store inspects is_behind none = cc
 
 -- what is read where it stands
 reads_named : (c : Command) (x : Text) (t : Bool)
     → store_of c (stands [] (stored x) 2 t) ≡ Some x
 reads_named formats x t = refl
 reads_named scripts x t = refl
+reads_named inspects x t = refl
 
 reads_set_named : (c : Command) (x : Text) (t : Bool)
     → (store_of c (stands (set_rows c) (stored x) 2 t) ≡ Some x)
     × (set_of c (stands (set_rows c) (stored x) 2 t) ≡ true)
 reads_set_named formats x t = (refl, refl)
 reads_set_named scripts x t = (refl, refl)
+reads_set_named inspects x t = (refl, refl)
 
 reads_named_set : (c : Command) (x : Text) (t : Bool)
     → (store_of c (stands (rows_behind c x) None 2 t) ≡ Some x)
     × (set_of c (stands (rows_behind c x) None 2 t) ≡ true)
 reads_named_set formats x t = (refl, refl)
 reads_named_set scripts x t = (refl, refl)
+reads_named_set inspects x t = (refl, refl)
 
 module _ (c : Command) (rest : List Text) (w : Walk) where
   alone_behind : (x : Text) (u : Walk) → w ≡ u → store_of c u ≡ Some x → NamesAlone x rest
@@ -324,6 +352,7 @@ ReadsAlone c x w = (store_of c w ≡ Some x) × (set_of c w ≡ false)
 reads_alone : (c : Command) (x : Text) (t : Bool) → ReadsAlone c x (stands [] (stored x) 2 t)
 reads_alone formats x t = (refl, refl)
 reads_alone scripts x t = (refl, refl)
+reads_alone inspects x t = (refl, refl)
 
 marks : (c : Command) (r : List Row) (p : Option (Text × List Text)) (n : ℕ)
     → walked (shape c).rules [] (stands r p n false) mark ≡ stands r p n true

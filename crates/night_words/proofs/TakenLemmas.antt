@@ -9,21 +9,23 @@ use Rattle.std.specs.Option.{option_map_or}
 use Rattle.std.specs.Str.{bytes_eq}
 use Rattle.std.proofs.lemmas.Slice.Eq.{bytes_eq-Decides}
 use Rattle.clap.specs.Kinds.{Kinds, or_else}
-use Rattle.clap.specs.Simple.{Shape, built, entered, names_of, rows_at, subcommand_of}
-use Rattle.clap.specs.Faults.{built_fault, entered_fault, level_fault, other_fault}
-use Rattle.clap.specs.Faults.{step_fault, turn_fault, walk_fault}
-use Rattle.clap.specs.Walk.{Held, Names, Row, Step, Text, Walk, after_step, finished, first_of}
+use Rattle.clap.specs.Simple.{Shape, built, entered, names_of, subcommand_of}
+use Rattle.clap.specs.Faults.{built_fault, entered_fault, other_fault}
+use Rattle.clap.specs.Faults.{step_fault, turn_fault}
+use Rattle.clap.specs.Walk.{Held, Names, Row, Step, Text, Walk}
 use Rattle.clap.specs.Walk.{idle}
 use Rattle.clap.specs.Walk.{nothing_held, subcommand_or_other, value, walk, walked}
 use Rattle.clap.specs.Walk.{walked_from}
 use Rattle.clap.proofs.OnLiterals.{clap_on_literals}
 use Rattle.night_words.specs.Commands.{night, Asks, AsksAlone, AsksFor, AsksForDemo}
-use Rattle.night_words.specs.Commands.{AsksForFormat, AsksForScript, AsksOver, AsksToMigrate}
+use Rattle.night_words.specs.Commands.{AsksForFormat, AsksForInspect, AsksForScript, AsksOver}
+use Rattle.night_words.specs.Commands.{AsksToMigrate, is_tasks}
 use Rattle.night_words.specs.Commands.{IsCausedBy, IsNamed, Named, NamesCrew, NamesDemo, NamesStore}
 use Rattle.night_words.specs.Commands.{command_in, faults_of, has_flag, named_in, new_in, word_in}
 use Rattle.night_words.specs.declared.asked.Asked.{Asked}
 use Rattle.night_words.specs.declared.asked.Asked.TheVariants.{Demo, Format, Script, Inspect, Help}
 use Rattle.night_words.specs.declared.asked.Asked.TheVariants.{Crew, Migrate}
+use Rattle.night_words.specs.declared.asked.View.TheVariants.{Whole}
 use Rattle.night_words.specs.declared.asked.WordsFault.{WordsFault}
 use Rattle.night_words.specs.declared.asked.WordsFault.TheVariants.{Memory, Mistake, NotText}
 use Rattle.night_words.specs.declared.asked.WordsFault.TheVariants.{SameStores, Workers}
@@ -31,10 +33,10 @@ use Rattle.night_words.proofs.DemoLemmas.{demo_alone}
 use Rattle.night_words.proofs.LevelLemmas.{first_passes, lower_passes, rest_passes, start}
 use Rattle.night_words.proofs.LevelLemmas.{words_pass}
 use Rattle.night_words.proofs.PairLemmas.{behind_both, migrate}
-use Rattle.night_words.proofs.StoreLemmas.{NamesAlone, behind_store, formats, names_alone}
-use Rattle.night_words.proofs.StoreLemmas.{scripts}
-use Rattle.night_words.proofs.TurnLemmas.{above, above_is_strict, first_none, held, mark}
-use Rattle.night_words.proofs.TurnLemmas.{mark_or_value, second_none, store_is_strict, store_shape}
+use Rattle.night_words.proofs.StoreLemmas.{NamesAlone, behind_store, formats, inspects}
+use Rattle.night_words.proofs.StoreLemmas.{names_alone, scripts}
+use Rattle.night_words.proofs.TurnLemmas.{above, above_is_strict, first_none, mark}
+use Rattle.night_words.proofs.TurnLemmas.{mark_or_value, second_none}
 
 -- the names that the parser knows
 abbrev names : Names
@@ -164,157 +166,6 @@ new_at : (name command : Text) (rest : List Text)
     ≡ new_in (entered (built night) (Some (command, rest)))
 new_at name command rest met = ap (λ o. new_in (entered (built night) o)) met
 
--- ---- behind a command over a store
-
-module _ (command : Text) where
-  abbrev pub over : Shape
-  over = store_shape command
-
-  -- where the walk stands behind the mark, and behind a store
-  abbrev marked : Walk
-  marked = walked over.rules [] start mark
-
-  abbrev stored : Text → Walk
-  stored store = after_step over.rules store start nothing_held value
-
-  -- what the parser read as the store
-  abbrev pub store_in : List Text → Option Text
-  store_in rest = first_of (codes "STORE") (rows_at over rest).1
-
-  -- the words behind the command name this store, and the parser reads it
-  pub record Behind (rest : List Text) : Type 0 where
-    pub store : Text
-    pub words : (rest ≡ store ∷ []) ⊎ ((rest ≡ mark ∷ store ∷ []) ⊎ (rest ≡ store ∷ mark ∷ []))
-    pub read : store_in rest ≡ Some store
-
-  abbrev pub Passes : List Text → Type 0
-  Passes rest = level_fault over [] nothing_held rest false [] ≡ []
-
-  -- the store is wanted
-  wants_store : Passes [] → ⊥
-  unfolding clap_on_literals
-  wants_store none = cc
-
-  mark_is_no_store : Passes (mark ∷ []) → ⊥
-  unfolding clap_on_literals
-  mark_is_no_store none = cc
-
-  -- the first word is the mark or the store
-  first_behind : (x : Text) (rest : List Text) → Passes (x ∷ rest)
-      → (x ≡ mark) ⊎ (walked over.rules [] start x ≡ stored x)
-  unfolding walked
-  first_behind x rest none = go (mark_or_value over (store_is_strict command) 1 x [] None
-      (first_none _ _ (first_passes over [] start x rest
-      (words_pass over [] (x ∷ rest) false [] none))))
-    where
-      go : (x ≡ mark)
-          ⊎ (subcommand_or_other over.rules None idle 1 x nothing_held ≡ (nothing_held, value))
-          → (x ≡ mark) ⊎ (walked over.rules [] start x ≡ stored x)
-      go (inl is) = inl is
-      go (inr is) = inr (ap (λ (m : Held × Step). after_step over.rules x start m.0 m.1) is)
-
-  -- the word behind a store is the mark
-  second_behind : (x y : Text) → turn_fault over [] (stored x) y ≡ [] → y ≡ mark
-  second_behind x y none = go (mark_or_value over (store_is_strict command) 2 y []
-      (Some (codes "STORE", x ∷ [])) (first_none _ _ none))
-    where
-      met : Held × Step
-      met = subcommand_or_other over.rules None idle 2 y (held [] (Some (codes "STORE", x ∷ [])))
-
-      go : (y ≡ mark) ⊎ (met ≡ (held [] (Some (codes "STORE", x ∷ [])), value)) → y ≡ mark
-      go (inl is) = is
-      go (inr is) =
-          let stored_held = held [] (Some (codes "STORE", x ∷ [])) in
-          let bad : step_fault over 2 stored_held value ≡ [] =
-          subst (λ (m : Held × Step). step_fault over 2 m.0 m.1 ≡ []) is
-          (second_none _ _ none) in
-          cc
-
-  -- a third word is one that nothing takes
-  third_behind_mark : (y z : Text)
-      → turn_fault over [] (walked over.rules [] marked y) z ≡ [] → ⊥
-  unfolding walked
-  third_behind_mark y z none = cc
-
-  third_behind_store : (x z : Text)
-      → turn_fault over [] (walked over.rules [] (stored x) mark) z ≡ [] → ⊥
-  unfolding walked
-  third_behind_store x z none = cc
-
-  -- what is read of each
-  reads_alone : (x : Text) → walked over.rules [] start x ≡ stored x
-      → store_in (x ∷ []) ≡ Some x
-  reads_alone x is = ap (λ (w : Walk). first_of (codes "STORE") (finished over.rules w.held)) is
-
-  reads_behind_mark : (y : Text) → store_in (mark ∷ y ∷ []) ≡ Some y
-  unfolding clap_on_literals
-  reads_behind_mark y = refl
-
-  reads_before_mark : (x : Text) → walked over.rules [] start x ≡ stored x
-      → store_in (x ∷ mark ∷ []) ≡ Some x
-  unfolding clap_on_literals
-  reads_before_mark x is = ap (λ (w : Walk). first_of (codes "STORE")
-      (finished over.rules (walked over.rules [] w mark).held)) is
-
-  -- all the words behind the command
-  walks : (rest : List Text) → Passes rest → walk_fault over [] start rest ≡ []
-  walks rest none = words_pass over [] rest false [] none
-
-  second_passes : (x y : Text) (rest : List Text) → Passes (x ∷ y ∷ rest)
-      → walk_fault over [] (walked over.rules [] start x) (y ∷ rest) ≡ []
-  second_passes x y rest none = rest_passes over [] start x (y ∷ rest)
-      (walks (x ∷ y ∷ rest) none)
-
-  pub behind : (rest : List Text) → Passes rest → Behind rest
-  behind [] none = absurd (wants_store none)
-  behind (x ∷ []) none = go (first_behind x [] none)
-    where
-      go : (x ≡ mark) ⊎ (walked over.rules [] start x ≡ stored x) → Behind (x ∷ [])
-      go (inl is) = absurd (mark_is_no_store (subst (λ t. Passes (t ∷ [])) is none))
-      go (inr is) = record { store = x; words = inl refl; read = reads_alone x is }
-  behind (x ∷ y ∷ []) none = go (first_behind x (y ∷ []) none)
-    where
-      Second : Walk → Type 0
-      Second w = turn_fault over [] w y ≡ []
-
-      turn : Second (walked over.rules [] start x)
-      turn = first_passes over [] _ y [] (second_passes x y [] none)
-
-      go : (x ≡ mark) ⊎ (walked over.rules [] start x ≡ stored x) → Behind (x ∷ y ∷ [])
-      go (inl is) = record {
-        store = y;
-        words = inr (inl (ap (λ t. t ∷ y ∷ []) is));
-        read = subst (λ t. store_in (t ∷ y ∷ []) ≡ Some y) (sym is) (reads_behind_mark y);
-      }
-      go (inr is) =
-          let last = second_behind x y (subst Second is turn) in
-          record {
-            store = x;
-            words = inr (inr (ap (λ t. x ∷ t ∷ []) last));
-            read = subst (λ t. store_in (x ∷ t ∷ []) ≡ Some x) (sym last)
-                (reads_before_mark x is);
-          }
-  behind (x ∷ y ∷ z ∷ rest) none = go (first_behind x (y ∷ z ∷ rest) none)
-    where
-      Walks : Walk → Text → Type 0
-      Walks w t = walk_fault over [] w (t ∷ z ∷ rest) ≡ []
-
-      from : Walks (walked over.rules [] start x) y
-      from = second_passes x y (z ∷ rest) none
-
-      third : (w : Walk) (t : Text) → Walks w t
-          → turn_fault over [] (walked over.rules [] w t) z ≡ []
-      third w t fine = first_passes over [] _ z rest (rest_passes over [] w t (z ∷ rest) fine)
-
-      go : (x ≡ mark) ⊎ (walked over.rules [] start x ≡ stored x) → Behind (x ∷ y ∷ z ∷ rest)
-      go (inl is) = absurd (third_behind_mark y z (third marked y
-          (subst (λ t. Walks (walked over.rules [] start t) y) is from)))
-      go (inr is) =
-          let here = subst (λ w. Walks w y) is from in
-          let last = second_behind x y (first_passes over [] (stored x) y (z ∷ rest) here) in
-          absurd (third_behind_store x z (third (stored x) mark
-          (subst (λ t. Walks (stored x) t) last here)))
-
 -- ---- all of the words
 
 -- the words without their flag ask for this
@@ -329,8 +180,8 @@ pub data IsTaken (words : List Text) (named : Named) (new : Option Text) : Type 
       → Without (codes "new") words (AsksOver format store words) → IsTaken words named new
   takes_script : (store : Text) → named ≡ Some (script, Some store)
       → Without (codes "strict") words (AsksOver script store words) → IsTaken words named new
-  takes_inspect : (store : Text) → AsksOver inspect store words
-      → named ≡ Some (inspect, Some store) → IsTaken words named new
+  takes_inspect : (store : Text) → named ≡ Some (inspect, Some store)
+      → Without (codes "tasks") words (AsksOver inspect store words) → IsTaken words named new
   takes_migrate : (store given : Text) → AsksToMigrate store given words
       → named ≡ Some (migrate, Some store) → new ≡ Some given → IsTaken words named new
   takes_crew : (first : Option Text) → named ≡ Some (crew, first) → IsTaken words named new
@@ -403,9 +254,10 @@ inspect_taken : (name : Text) (rest : List Text) → Finds (inspect ∷ rest)
 unfolding walked
 inspect_taken name rest none =
     let met = keeps_words inspect [] rest (walked above.rules names start inspect) refl in
-    let b = behind inspect rest (below_passes inspect rest met none) in
-    takes_inspect b.store (asks_over name inspect b.store rest b.words)
-    (named_at name inspect rest met ∙ ap (λ s. Some (inspect, s)) b.read)
+    let b = behind_store inspects rest (below_passes inspect rest met none) in
+    takes_inspect b.store (named_at name inspect rest met ∙ ap (λ s. Some (inspect, s)) b.read)
+    (λ unset. asks_over name inspect b.store rest
+    (b.alone (sym (flag_at (codes "tasks") name inspect rest met) ∙ unset)))
 
 -- so do those behind `migrate` that name two
 asks_both : (name store given : Text) (rest : List Text)
@@ -492,7 +344,7 @@ pub taken_is_named : (words : List Text) (named : Named) (new : Option Text)
 taken_is_named words named new (takes_demo first e a) = inl (first, e)
 taken_is_named words named new (takes_format store e a) = inr (inr (store, inl e))
 taken_is_named words named new (takes_script store e a) = inr (inr (store, inr (inl e)))
-taken_is_named words named new (takes_inspect store a e) = inr (inr (store, inr (inr (inl e))))
+taken_is_named words named new (takes_inspect store e a) = inr (inr (store, inr (inr (inl e))))
 taken_is_named words named new (takes_migrate store given a e n) =
     inr (inr (store, inr (inr (inr (given, e, n)))))
 taken_is_named words named new (takes_crew first e) = inr (inl (first, e))
@@ -530,29 +382,13 @@ migrates words named new old given (takes_format s e a) is fresh =
     absurd (clash format migrate _ _ named refl e is)
 migrates words named new old given (takes_script s e a) is fresh =
     absurd (clash script migrate _ _ named refl e is)
-migrates words named new old given (takes_inspect s a e) is fresh =
+migrates words named new old given (takes_inspect s e a) is fresh =
     absurd (clash inspect migrate _ _ named refl e is)
 migrates words named new old given (takes_crew first e) is fresh =
     absurd (clash crew migrate _ _ named refl e is)
 migrates words named new old given (takes_migrate s t a e n) is fresh =
     subst (λ (u : Text). AsksToMigrate u given words) (store_is migrate s old named e is)
     (subst (λ (u : Text). AsksToMigrate s u words) (text_is t given new n fresh) a)
-
--- and so is one that is named behind `inspect`
-inspects : (words : List Text) (named : Named) (new : Option Text) (store : Text)
-    → IsTaken words named new → named ≡ Some (inspect, Some store) → AsksOver inspect store words
-inspects words named new store (takes_demo first e a) is =
-    absurd (clash demo inspect _ _ named refl e is)
-inspects words named new store (takes_format s e a) is =
-    absurd (clash format inspect _ _ named refl e is)
-inspects words named new store (takes_script s e a) is =
-    absurd (clash script inspect _ _ named refl e is)
-inspects words named new store (takes_crew first e) is =
-    absurd (clash crew inspect _ _ named refl e is)
-inspects words named new store (takes_migrate s g a e n) is =
-    absurd (clash migrate inspect _ _ named refl e is)
-inspects words named new store (takes_inspect s a e) is =
-    subst (λ (u : Text). AsksOver inspect u words) (store_is inspect s store named e is) a
 
 -- and what asks for it is asked for
 pub taken_asks : (words : List Text) (named : Named) (new : Option Text)
@@ -563,8 +399,8 @@ taken_asks words named new entered (Format store n) same t is =
     subst (NamesStore format (codes "new") store.now n) same is
 taken_asks words named new entered (Script store strict) same t is =
     subst (NamesStore script (codes "strict") store.now strict) same is
-taken_asks words named new entered (Inspect store) same t is =
-    inspects words named new store.now t is
+taken_asks words named new entered (Inspect store view) same t is =
+    subst (NamesStore inspect (codes "tasks") store.now (is_tasks view)) same is
 taken_asks words named new entered (Crew store n known) same t is =
     subst (NamesCrew store.now (Some n) known) same is
 taken_asks words named new entered (Migrate o g) same t is =
@@ -621,7 +457,7 @@ module _ (words : List Text) where
       go (takes_demo first e a) = a asks.1
       go (takes_format s e a) = absurd (other format _ refl e)
       go (takes_script s e a) = absurd (other script _ refl e)
-      go (takes_inspect s a e) = absurd (other inspect _ refl e)
+      go (takes_inspect s e a) = absurd (other inspect _ refl e)
       go (takes_migrate s g a e n) = absurd (other migrate _ refl e)
       go (takes_crew first e) = absurd (other crew _ refl e)
 
@@ -638,7 +474,7 @@ module _ (words : List Text) where
       go (takes_format s e a) = subst (λ (u : Text). AsksOver format u words)
           (store_read entry format s store e asks.1) (a asks.2)
       go (takes_script s e a) = absurd (other script _ refl e)
-      go (takes_inspect s a e) = absurd (other inspect _ refl e)
+      go (takes_inspect s e a) = absurd (other inspect _ refl e)
       go (takes_migrate s g a e n) = absurd (other migrate _ refl e)
       go (takes_crew first e) = absurd (other crew _ refl e)
 
@@ -655,7 +491,24 @@ module _ (words : List Text) where
       go (takes_format s e a) = absurd (other format _ refl e)
       go (takes_script s e a) = subst (λ (u : Text). AsksOver script u words)
           (store_read entry script s store e asks.1) (a asks.2)
-      go (takes_inspect s a e) = absurd (other inspect _ refl e)
+      go (takes_inspect s e a) = absurd (other inspect _ refl e)
+      go (takes_migrate s g a e n) = absurd (other migrate _ refl e)
+      go (takes_crew first e) = absurd (other crew _ refl e)
+
+  pub inspect_without : (store : Text) → faults_of words ≡ [] → AsksForInspect store Whole words
+      → AsksOver inspect store words
+  inspect_without store none asks = go (taken words none)
+    where
+      other : (c : Text) (first : Option Text) → bytes_eq c inspect ≡ false
+          → named_of words ≡ Some (c, first) → ⊥
+      other c first differ named = not_named entry c inspect first differ named asks.0
+
+      go : Taken words → AsksOver inspect store words
+      go (takes_demo first e a) = absurd (other demo _ refl e)
+      go (takes_format s e a) = absurd (other format _ refl e)
+      go (takes_script s e a) = absurd (other script _ refl e)
+      go (takes_inspect s e a) = subst (λ (u : Text). AsksOver inspect u words)
+          (store_read entry inspect s store e asks.1) (a asks.2)
       go (takes_migrate s g a e n) = absurd (other migrate _ refl e)
       go (takes_crew first e) = absurd (other crew _ refl e)
 
@@ -681,6 +534,17 @@ script_rest name store rest none alone =
       ap (λ o. command_in (entered (built night) o)) met,
       ap (λ o. word_in (codes "STORE") (entered (built night) o)) met ∙ b.0,
       flag_at (codes "strict") name script rest met ∙ b.1,
+    )
+
+inspect_rest : (name store : Text) (rest : List Text) → Finds (inspect ∷ rest)
+    → NamesAlone store rest → AsksForInspect store Whole (name ∷ inspect ∷ rest)
+unfolding walked
+inspect_rest name store rest none alone =
+    let met = keeps_words inspect [] rest (walked above.rules names start inspect) refl in
+    let b = names_alone inspects store rest alone (below_passes inspect rest met none) in (
+      ap (λ o. command_in (entered (built night) o)) met,
+      ap (λ o. word_in (codes "STORE") (entered (built night) o)) met ∙ b.0,
+      flag_at (codes "tasks") name inspect rest met ∙ b.1,
     )
 
 pub format_alone : (store : Text) (words : List Text) → faults_of words ≡ []
@@ -709,4 +573,18 @@ script_alone store words none (name, inr (inl e)) =
 script_alone store words none (name, inr (inr e)) =
     subst (AsksForScript store false) (sym e)
     (script_rest name store (store ∷ mark ∷ []) (subst (λ w. faults_of w ≡ []) e none)
+    (inr (inr refl)))
+
+pub inspect_alone : (store : Text) (words : List Text) → faults_of words ≡ []
+    → AsksOver inspect store words → AsksForInspect store Whole words
+inspect_alone store words none (name, inl e) =
+    subst (AsksForInspect store Whole) (sym e)
+    (inspect_rest name store (store ∷ []) (subst (λ w. faults_of w ≡ []) e none) (inl refl))
+inspect_alone store words none (name, inr (inl e)) =
+    subst (AsksForInspect store Whole) (sym e)
+    (inspect_rest name store (mark ∷ store ∷ []) (subst (λ w. faults_of w ≡ []) e none)
+    (inr (inl refl)))
+inspect_alone store words none (name, inr (inr e)) =
+    subst (AsksForInspect store Whole) (sym e)
+    (inspect_rest name store (store ∷ mark ∷ []) (subst (λ w. faults_of w ≡ []) e none)
     (inr (inr refl)))

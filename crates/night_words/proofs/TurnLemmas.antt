@@ -123,10 +123,6 @@ mark_or_value s strict position word r p none = go (bytes_eq word mark) refl non
 abbrev pub above : Shape
 above = (built night).top
 
--- a command over a store that takes no flag, by its name
-abbrev pub store_shape : Text → Shape
-store_shape name = record (slice_index_or (built night).subs 3 above) { name = name }
-
 -- `migrate`
 abbrev pub migrate_shape : Shape
 migrate_shape = slice_index_or (built night).subs 4 above
@@ -186,35 +182,7 @@ above_shorts x rest h next =
 pub above_is_strict : IsStrict above
 above_is_strict = record { longs = above_longs; shorts = above_shorts }
 
-module _ (command : Text) where
-  -- a command over a store: its word has a place, so no flag is searched there
-  abbrev over : Shape
-  over = store_shape command
-
-  store_longs : (name : Text) (v : Option Text) (h : Held)
-      → LongFails over v h (arg_by_long over.rules name)
-  store_longs name None h =
-      let no : LongFails over None h None = λ none. cc in
-      let help : LongFails over None h (Some (flag_of over 1)) = λ none.
-      help_is_found _ _ _ none in
-      found_of_one (has_name name) (LongFails over None h) (flag_of over 1) no help
-  store_longs name (Some v) h =
-      let no : LongFails over (Some v) h None = λ none. cc in
-      let help : LongFails over (Some v) h (Some (flag_of over 1)) = λ none. cc in
-      found_of_one (has_name name) (LongFails over (Some v) h) (flag_of over 1) no help
-
-  store_shorts : (x : ℕ) (rest : Text) (h : Held) (next : Held → Kinds)
-      → ShortFails over rest h next (arg_by_short over.rules x)
-  store_shorts x rest h next =
-      let no : ShortFails over rest h next None = λ none. cc in
-      let help : ShortFails over rest h next (Some (flag_of over 1)) = λ none.
-      help_is_found _ _ _ (first_none _ _ none) in
-      found_of_one (has_letter x) (ShortFails over rest h next) (flag_of over 1) no help
-
-  pub store_is_strict : IsStrict over
-  store_is_strict = record { longs = store_longs; shorts = store_shorts }
-
--- the two words of `migrate` have places, too
+-- the two words of `migrate` have places, so no flag is searched there
 migrate_longs : (name : Text) (v : Option Text) (h : Held)
     → LongFails migrate_shape v h (arg_by_long migrate_shape.rules name)
 migrate_longs name None h =

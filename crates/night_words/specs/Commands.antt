@@ -16,6 +16,8 @@ use Rattle.clap.specs.declared.parser.matches.ArgMatches.{ArgMatches}
 use Rattle.night_words.specs.declared.asked.Asked.{Asked}
 use Rattle.night_words.specs.declared.asked.Asked.TheVariants.{Demo, Format, Script, Inspect, Help}
 use Rattle.night_words.specs.declared.asked.Asked.TheVariants.{Crew, Migrate}
+use Rattle.night_words.specs.declared.asked.View.{View}
+use Rattle.night_words.specs.declared.asked.View.TheVariants.{Whole, Tasks}
 use Rattle.night_words.specs.declared.asked.WordsFault.{WordsFault}
 use Rattle.night_words.specs.declared.asked.WordsFault.TheVariants.{Mistake, NotText, Memory}
 use Rattle.night_words.specs.declared.asked.WordsFault.TheVariants.{SameStores, Workers}
@@ -46,12 +48,15 @@ wanted id = record (new_rule id) { action = Some Set; required = true; value_nam
 abbrev pub store_line : Text → App
 store_line name = with_rule (new_app name) (wanted (codes "STORE"))
 
--- two that take a flag, too
+-- three that take a flag, too
 abbrev pub format_line : App
 format_line = with_rule (store_line (codes "format")) (flag (codes "new"))
 
 abbrev pub script_line : App
 script_line = with_rule (store_line (codes "script")) (flag (codes "strict"))
+
+abbrev pub inspect_line : App
+inspect_line = with_rule (store_line (codes "inspect")) (flag (codes "tasks"))
 
 -- a command that takes the names of two stores, the old one first
 abbrev pub migrate_line : App
@@ -70,8 +75,8 @@ abbrev pub crew_line : App
 crew_line = with_rule (with_rule (store_line (codes "crew")) workers_option) (flag (codes "known"))
 
 -- the command line of `night`: the commands are `demo`, over a store `format`, `script` and
--- `inspect`, over two `migrate`, and over a store and with an option `crew`; all but `inspect` and
--- `migrate` take a flag
+-- `inspect`, over two `migrate`, and over a store and with an option `crew`; all but `migrate` take
+-- a flag
 abbrev pub night : App
 night =
     with_subcommand
@@ -82,7 +87,7 @@ night =
     (with_subcommand (record { top = night_alone; subs = [] }) demo_line.top)
     format_line.top)
     script_line.top)
-    (store_line (codes "inspect")).top)
+    inspect_line.top)
     migrate_line.top)
     crew_line.top
 
@@ -172,6 +177,17 @@ abbrev pub AsksForScript : Text → Bool → List Text → Type 0
 AsksForScript store strict words =
     NamesStore (codes "script") (codes "strict") store strict (subcommand_of night words)
 
+-- whether this is what is printed by `--tasks`
+abbrev pub is_tasks : View → Bool
+is_tasks Whole = false
+is_tasks Tasks = true
+
+-- the words ask for what this view shows of the store, as the parser reads them: the store stands
+-- behind the program's own name and `inspect`, and `--tasks` may stand before or behind it
+abbrev pub AsksForInspect : Text → View → List Text → Type 0
+AsksForInspect store view words =
+    NamesStore (codes "inspect") (codes "tasks") store (is_tasks view) (subcommand_of night words)
+
 -- the words ask for a crew of so many workers over this store, as the parser reads them: the store
 -- stands behind the program's own name and `crew`, and before or behind it may stand `--workers N`
 -- or `--workers=N`, and `--known`
@@ -184,7 +200,7 @@ abbrev pub AsksFor : Asked → List Text → Type 0
 AsksFor (Demo strict) words = AsksForDemo strict words
 AsksFor (Format store is_new) words = AsksForFormat store.now is_new words
 AsksFor (Script store strict) words = AsksForScript store.now strict words
-AsksFor (Inspect store) words = AsksOver (codes "inspect") store.now words
+AsksFor (Inspect store view) words = AsksForInspect store.now view words
 AsksFor (Crew store workers known) words = AsksForCrew store.now workers known words
 AsksFor (Migrate old new) words =
     AsksToMigrate old.now new.now words × (old.now ≢ new.now)
@@ -274,7 +290,8 @@ Asks named new entered (Ok (Format store is_new)) =
     NamesStore (codes "format") (codes "new") store.now is_new entered
 Asks named new entered (Ok (Script store strict)) =
     NamesStore (codes "script") (codes "strict") store.now strict entered
-Asks named new entered (Ok (Inspect store)) = named ≡ Some (codes "inspect", Some store.now)
+Asks named new entered (Ok (Inspect store view)) =
+    NamesStore (codes "inspect") (codes "tasks") store.now (is_tasks view) entered
 Asks named new entered (Ok (Crew store workers known)) =
     NamesCrew store.now (Some workers) known entered
 Asks named new entered (Ok (Migrate old given)) =

@@ -25,8 +25,11 @@ pub enum Asked<'a> {
         store: &'a str,
         strict: bool,
     },
-    /// `inspect STORE`: what the store holds is printed.
-    Inspect(&'a str),
+    /// `inspect STORE`: what the view shows of the store is printed.
+    Inspect {
+        store: &'a str,
+        view: View,
+    },
     /// `crew STORE --workers N`: so many threads, 1 to 8, work off the ready tasks of the store;
     /// with `--known` only where they know the job of each task that isn't ended.
     Crew {
@@ -39,6 +42,15 @@ pub enum Asked<'a> {
     Migrate(&'a str, &'a str),
     /// A text for the output: help, or the version.
     Help(String),
+}
+
+/// What of a store is printed.
+#[derive(Clone, Copy, Debug)]
+pub enum View {
+    /// All that it holds.
+    Whole,
+    /// `--tasks`: the lines of its tasks alone.
+    Tasks,
 }
 
 /// Why words ask for nothing. It is printed whole, with its LF, on standard error; `Memory` as the

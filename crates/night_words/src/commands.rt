@@ -1,10 +1,10 @@
 //! The command line, as its parser takes it.
 
-ghost use Rattle.std.specs.Prelude.{◌≡◌, [], false, IfOk, codes};
+ghost use Rattle.std.specs.Prelude.{◌≡◌, [], false, IfOk};
 ghost use Rattle.clap.specs.Words.{app_of, rule_of, with_subcommand};
-ghost use Rattle.night_words.specs.Commands.{crew_line, demo_line, flag, format_line, migrate_line};
-ghost use Rattle.night_words.specs.Commands.{night, night_alone, script_line, store_line, wanted};
-ghost use Rattle.night_words.specs.Commands.{workers_option};
+ghost use Rattle.night_words.specs.Commands.{crew_line, demo_line, flag, format_line, inspect_line};
+ghost use Rattle.night_words.specs.Commands.{migrate_line, night, night_alone, script_line};
+ghost use Rattle.night_words.specs.Commands.{store_line, wanted, workers_option};
 
 use clap::{Arg, ArgAction, Command};
 use std::alloc::{AllocError, Global};
@@ -112,7 +112,7 @@ fn with_script<'a>(alloc: Global, night: Command<'a>) -> Result<Command<'a>, All
 /// The command line with the command that reads a store.
 fn with_inspect<'a>(alloc: Global, night: Command<'a>) -> Result<Command<'a>, AllocError>
     ensures { IfOk result (λ command. app_of command
-        ≡ with_subcommand (app_of night.entry) (store_line (codes "inspect")).top) }
+        ≡ with_subcommand (app_of night.entry) inspect_line.top) }
 {
     let inspect = inspect_command(alloc)?;
     night.subcommand(inspect)
@@ -174,14 +174,15 @@ fn script_command<'a>(alloc: Global) -> Result<Command<'a>, AllocError>
 
 /// The command that reads a store.
 fn inspect_command<'a>(alloc: Global) -> Result<Command<'a>, AllocError>
-    ensures { IfOk result (λ command. app_of command ≡ store_line (codes "inspect")) }
+    ensures { IfOk result (λ command. app_of command ≡ inspect_line) }
 {
-    store_command(
+    let store = store_command(
         alloc,
         "inspect",
         "Prints what a store holds, and writes nothing to it",
         ending!("Example: night inspect jobs.store"),
-    )
+    )?;
+    store.arg(flag_word(alloc, "tasks", "Prints the lines of its tasks alone"))
 }
 
 /// A command over a store.

@@ -5,7 +5,8 @@
 ghost use Rattle.std.specs.Prelude.{◌≡◌, ◌∷◌, ℕ, List, [], codes, false, true};
 ghost use Rattle.clap.specs.declared.error.kind.ErrorKind.TheVariants as kind;
 ghost use Rattle.night_words.specs.Commands.{AsksForCrew, AsksForDemo, AsksForFormat};
-ghost use Rattle.night_words.specs.Commands.{AsksForScript, IsCausedBy, faults_of};
+ghost use Rattle.night_words.specs.Commands.{AsksForInspect, AsksForScript, IsCausedBy, faults_of};
+ghost use Rattle.night_words.specs.declared.asked.View.TheVariants.{Tasks, Whole};
 ghost use Rattle.night_words.specs.declared.asked.WordsFault.TheVariants.{Workers};
 
 /// `demo` is a command, and the mark behind which no flag stands is no word of it.
@@ -65,7 +66,19 @@ pub fn a_script_may_be_strict()
         (name ∷ codes "script" ∷ codes "a" ∷ codes "--strict" ∷ []) }
 {}
 
-/// The words of both are taken.
+/// `inspect` prints all that a store holds, and with its flag the lines of its tasks alone.
+pub fn tasks_may_be_inspected()
+    ensures alone { (name : List ℕ)
+        → AsksForInspect (codes "a") Whole (name ∷ codes "inspect" ∷ codes "a" ∷ []) }
+    ensures before { (name : List ℕ) → AsksForInspect (codes "a") Tasks
+        (name ∷ codes "inspect" ∷ codes "--tasks" ∷ codes "a" ∷ []) }
+    ensures behind { (name : List ℕ) → AsksForInspect (codes "a") Tasks
+        (name ∷ codes "inspect" ∷ codes "a" ∷ codes "--tasks" ∷ []) }
+    ensures marked { (name : List ℕ) → AsksForInspect (codes "--tasks") Whole
+        (name ∷ codes "inspect" ∷ codes "--" ∷ codes "--tasks" ∷ []) }
+{}
+
+/// The words of all three are taken.
 pub fn flags_are_taken()
     ensures new { (name : List ℕ)
         → faults_of (name ∷ codes "format" ∷ codes "--new" ∷ codes "a" ∷ []) ≡ [] }
@@ -75,6 +88,8 @@ pub fn flags_are_taken()
         → faults_of (name ∷ codes "script" ∷ codes "--strict" ∷ codes "a" ∷ []) ≡ [] }
     ensures strict_behind { (name : List ℕ)
         → faults_of (name ∷ codes "script" ∷ codes "a" ∷ codes "--strict" ∷ []) ≡ [] }
+    ensures tasks { (name : List ℕ)
+        → faults_of (name ∷ codes "inspect" ∷ codes "--tasks" ∷ codes "a" ∷ []) ≡ [] }
     ensures known { (name : List ℕ)
         → faults_of (name ∷ codes "crew" ∷ codes "--known" ∷ codes "a" ∷ []) ≡ [] }
 {}

@@ -2,8 +2,9 @@
 //! of them, told word by word.
 
 ghost use Rattle.std.specs.Prelude.{◌≡◌, ℕ, List, [], codes, false};
-ghost use Rattle.night_words.specs.Commands.{AsksAlone, AsksForDemo, AsksForFormat, AsksForScript};
-ghost use Rattle.night_words.specs.Commands.{AsksOver, faults_of};
+ghost use Rattle.night_words.specs.Commands.{AsksAlone, AsksForDemo, AsksForFormat};
+ghost use Rattle.night_words.specs.Commands.{AsksForInspect, AsksForScript, AsksOver, faults_of};
+ghost use Rattle.night_words.specs.declared.asked.View.TheVariants.{Whole};
 
 /// `demo` that isn't strict stands alone.
 pub fn demo_stands_alone()
@@ -11,19 +12,24 @@ pub fn demo_stands_alone()
         → AsksAlone (codes "demo") words }
 {}
 
-/// A store that needn't be new stands alone behind `format`, and one whose run isn't strict behind
-/// `script`.
+/// A store that needn't be new stands alone behind `format`, one whose run isn't strict behind
+/// `script`, and one of which all is printed behind `inspect`.
 pub fn a_store_stands_alone()
     ensures format { (store : List ℕ) (words : List (List ℕ)) → faults_of words ≡ []
         → AsksForFormat store false words → AsksOver (codes "format") store words }
     ensures script { (store : List ℕ) (words : List (List ℕ)) → faults_of words ≡ []
         → AsksForScript store false words → AsksOver (codes "script") store words }
+    ensures inspect { (store : List ℕ) (words : List (List ℕ)) → faults_of words ≡ []
+        → AsksForInspect store Whole words → AsksOver (codes "inspect") store words }
 {}
 
-/// And where it stands alone there, it needn't be new, and its run isn't strict.
+/// And where it stands alone there, it needn't be new, its run isn't strict, and all of it is
+/// printed.
 pub fn a_store_alone_has_no_flag()
     ensures format { (store : List ℕ) (words : List (List ℕ)) → faults_of words ≡ []
         → AsksOver (codes "format") store words → AsksForFormat store false words }
     ensures script { (store : List ℕ) (words : List (List ℕ)) → faults_of words ≡ []
         → AsksOver (codes "script") store words → AsksForScript store false words }
+    ensures inspect { (store : List ℕ) (words : List (List ℕ)) → faults_of words ≡ []
+        → AsksOver (codes "inspect") store words → AsksForInspect store Whole words }
 {}

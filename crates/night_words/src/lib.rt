@@ -10,5 +10,5 @@ pub mod examples;
 pub mod laws;
 mod readers;
 
-pub use asked::{Asked, WordsFault};
+pub use asked::{Asked, View, WordsFault};
 pub use readers::{own_words, read_words};

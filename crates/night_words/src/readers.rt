@@ -8,9 +8,9 @@ ghost use Rattle.std.specs.declared.io.ErrorKind.TheVariants as system;
 ghost use Rattle.clap.specs.Words.{first_value, found_of, kind_of, subcommand_rows_of};
 ghost use Rattle.night_words.specs.Commands.{Asks, AsksFor, IsAnswer, IsCausedBy, IsCrew};
 ghost use Rattle.night_words.specs.Commands.{IsMigration, IsNamed, IsOfSystem, IsShown, faults_of};
-ghost use Rattle.night_words.specs.Commands.{is_true, named_by, new_by, workers_of};
+ghost use Rattle.night_words.specs.Commands.{is_tasks, is_true, named_by, new_by, workers_of};
 
-use crate::asked::{Asked, WordsFault};
+use crate::asked::{Asked, View, WordsFault};
 use crate::commands::night_command;
 use clap::error::ErrorKind;
 use clap::{ArgMatches, Error};
@@ -103,7 +103,8 @@ fn asked_of<'a>(matches: &ArgMatches<'a>) -> Result<Asked<'a>, WordsFault>
     }
     let inspects = command == "inspect";
     if inspects {
-        return Ok(Asked::Inspect(store));
+        let view = view_of(is_set(inner, "tasks"));
+        return Ok(Asked::Inspect { store, view });
     }
     let Some(new) = inner.get_str("NEW") else {
         unreachable!();
@@ -119,6 +120,13 @@ fn is_set(inner: &ArgMatches, id: &str) -> bool
         Some(text) => text == "true",
         None => false,
     }
+}
+
+/// What of a store is printed: the lines of its tasks alone, or all that it holds.
+fn view_of(tasks: bool) -> View
+    ensures { is_tasks result ≡ tasks }
+{
+    if tasks { View::Tasks } else { View::Whole }
 }
 
 /// A crew over a store. Another number of workers than 1 to 8 is a mistake.

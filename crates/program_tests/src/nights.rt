@@ -20,6 +20,9 @@ const INSPECTED: &str = "events 6; clock 0\n\
      task 0 g copy a running\n\
      task 1 g copy b held\n";
 
+/// The lines of its tasks alone.
+const TASKS: &str = "task 0 g copy a running\ntask 1 g copy b held\n";
+
 /// What is typed behind the stop, and what is printed.
 const AGAIN: (&str, &str) = (
     "task 0\ntask 1\nresult g\nscope g\n",
@@ -66,12 +69,21 @@ fn stopped(alloc: Global) -> Result<Shelf, Fail> {
     Ok(Shelf::new(alloc, "jobs.store", left(alloc, &disk)?))
 }
 
+/// Words that inspect it, and what is printed.
+static VIEWS: [(&[&str], &str); 3] = [
+    (&["inspect", "jobs.store"], INSPECTED),
+    (&["inspect", "--tasks", "jobs.store"], TASKS),
+    (&["inspect", "jobs.store", "--tasks"], TASKS),
+];
+
 #[test]
 fn a_stopped_night_is_inspected(rt: HostRuntime) -> Result<(), Fail> {
-    let mut shelf = stopped(rt.alloc())?;
-    let printed = run_words(&rt, rt.alloc(), &["inspect", "jobs.store"], &mut shelf, "")?;
-    assert_eq!(&rt; printed.output.as_str(), INSPECTED);
-    assert_eq!(&rt; printed.ended.status, 0);
+    for (words, wanted) in VIEWS {
+        let mut shelf = stopped(rt.alloc())?;
+        let printed = run_words(&rt, rt.alloc(), words, &mut shelf, "")?;
+        assert!(&rt; printed.output.as_str() == wanted, "{printed:?}");
+        assert!(&rt; printed.ended.status == 0, "{printed:?}");
+    }
     Ok(())
 }
 
@@ -189,8 +201,9 @@ fn a_crew_works_off_a_stopped_night(rt: HostRuntime) -> Result<(), Fail> {
 const IN_USE: &str = "night: fault 2 DiskFailed\nnight: jobs.store: in use by another program\n";
 
 /// Words over the stopped night while another program has it open: what is printed, and told.
-static USED: [(&[&str], &str, &str); 4] = [
+static USED: [(&[&str], &str, &str); 5] = [
     (&["inspect", "jobs.store"], INSPECTED, ""),
+    (&["inspect", "--tasks", "jobs.store"], TASKS, ""),
     (&["script", "jobs.store"], "", IN_USE),
     (&["crew", "jobs.store", "--workers=1"], "", IN_USE),
     (&["migrate", "jobs.store", "new.store"], "", IN_USE),

@@ -1,7 +1,7 @@
 //! Tests of the words of the command line: what each asks for, and which are mistakes.
 
 use crate::asserts::{done, holds};
-use night_words::{Asked, WordsFault, own_words, read_words};
+use night_words::{Asked, View, WordsFault, own_words, read_words};
 use std::alloc::{AllocError, Global};
 use std::env::{Env, FillError};
 use std::process::Abort;
@@ -59,7 +59,23 @@ static STORES: [Case; 8] = [
 ];
 
 /// A flag before and behind the store; behind `--` it is the name of a store.
-static FLAGS: [Case; 12] = [
+static FLAGS: [Case; 16] = [
+    (
+        &["inspect", "--tasks", "a"],
+        Told::Store("inspect", "a", true),
+    ),
+    (
+        &["inspect", "a", "--tasks"],
+        Told::Store("inspect", "a", true),
+    ),
+    (
+        &["inspect", "--tasks", "--", "--tasks"],
+        Told::Store("inspect", "--tasks", true),
+    ),
+    (
+        &["inspect", "--", "--tasks"],
+        Told::Store("inspect", "--tasks", false),
+    ),
     (&["format", "--new", "a"], Told::Store("format", "a", true)),
     (&["format", "a", "--new"], Told::Store("format", "a", true)),
     (
@@ -398,6 +414,14 @@ fn is_store(told: &Told, word: &str, store: &str, is_set: bool) -> bool {
     }
 }
 
+/// Says whether a view is that of the tasks alone.
+fn is_tasks(view: View) -> bool {
+    match view {
+        View::Tasks => true,
+        View::Whole => false,
+    }
+}
+
 /// Says whether a demo is told, strict or not.
 fn is_demo(told: &Told, strict: bool) -> bool {
     match told {
@@ -437,7 +461,7 @@ fn is_asked(asked: &Asked, told: &Told) -> bool {
         Asked::Demo { strict } => is_demo(told, *strict),
         Asked::Format { store, is_new } => is_store(told, "format", store, *is_new),
         Asked::Script { store, strict } => is_store(told, "script", store, *strict),
-        Asked::Inspect(store) => is_store(told, "inspect", store, false),
+        Asked::Inspect { store, view } => is_store(told, "inspect", store, is_tasks(*view)),
         Asked::Crew {
             store,
             workers,

@@ -1,7 +1,7 @@
 use Rattle.std.proofs.Common.{ap, inl, inr, refl}
 use Rattle.std.specs.Prelude.{Err}
-use Rattle.console_lines.specs.Inspected.{inspected}
 use Rattle.night_program.proofs.EndLemmas.{printed}
+use Rattle.night_program.specs.Stores.{view_text}
 use Rattle.night_program.proofs.stores.inspect.Goals as goal
 
 pub returns-in-Ok : goal.returns-in-Ok
@@ -9,8 +9,8 @@ returns-in-Ok g c =
     inl (
       c.in-Ok.state,
       c.in-Ok.ensures,
-      printed c.inspect.result (inspected c.in-Ok.state) _ _
-          c.inspect.ensures.whole c.inspect.ensures.cut c.inspect.ensures.fault,
+      printed c.show.result (view_text c.args.view c.in-Ok.state) _ _
+          c.show.ensures.whole c.show.ensures.cut c.show.ensures.fault,
     )
 
 pub returns-in-Err : goal.returns-in-Err

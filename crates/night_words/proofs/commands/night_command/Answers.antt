@@ -1,8 +1,8 @@
-use Rattle.std.proofs.Common.{◌∙◌, ap, codes}
+use Rattle.std.proofs.Common.{◌∙◌, ap}
 use Rattle.std.proofs.lemmas.Result.{IfOk-weaker}
 use Rattle.clap.specs.Words.{App, with_subcommand}
-use Rattle.night_words.specs.Commands.{crew_line, format_line, migrate_line, script_line}
-use Rattle.night_words.specs.Commands.{store_line}
+use Rattle.night_words.specs.Commands.{crew_line, format_line, inspect_line, migrate_line}
+use Rattle.night_words.specs.Commands.{script_line}
 use Rattle.night_words.proofs.commands.night_command.Goals as goal
 
 pub returns : goal.returns
@@ -12,7 +12,7 @@ returns c =
     let three = c.in_ok-script.ensures
     ∙ ap (λ (a : App). with_subcommand a script_line.top) two in
     let four = c.in_ok-inspect.ensures
-    ∙ ap (λ (a : App). with_subcommand a (store_line (codes "inspect")).top) three in
+    ∙ ap (λ (a : App). with_subcommand a inspect_line.top) three in
     let five = c.in_ok-migrate.ensures
     ∙ ap (λ (a : App). with_subcommand a migrate_line.top) four in
     IfOk-weaker c.with_crew.result _ _

@@ -21,3 +21,7 @@ returns-clause-strict_behind c = λ name. refl
 pub returns-clause-known : goal.returns-clause-known
 unfolding clap_on_literals
 returns-clause-known c = λ name. refl
+
+pub returns-clause-tasks : goal.returns-clause-tasks
+unfolding clap_on_literals
+returns-clause-tasks c = λ name. refl

@@ -1,4 +1,4 @@
-use Rattle.night_words.proofs.TakenLemmas.{format_alone, script_alone}
+use Rattle.night_words.proofs.TakenLemmas.{format_alone, inspect_alone, script_alone}
 use Rattle.night_words.proofs.laws.a_store_alone_has_no_flag.Goals as goal
 
 pub returns-clause-format : goal.returns-clause-format
@@ -6,3 +6,6 @@ returns-clause-format c = format_alone
 
 pub returns-clause-script : goal.returns-clause-script
 returns-clause-script c = script_alone
+
+pub returns-clause-inspect : goal.returns-clause-inspect
+returns-clause-inspect c = inspect_alone

@@ -1,4 +1,4 @@
-use Rattle.night_words.proofs.TakenLemmas.{format_without, script_without}
+use Rattle.night_words.proofs.TakenLemmas.{format_without, inspect_without, script_without}
 use Rattle.night_words.proofs.laws.a_store_stands_alone.Goals as goal
 
 pub returns-clause-format : goal.returns-clause-format
@@ -6,3 +6,6 @@ returns-clause-format c = λ store words. format_without words store
 
 pub returns-clause-script : goal.returns-clause-script
 returns-clause-script c = λ store words. script_without words store
+
+pub returns-clause-inspect : goal.returns-clause-inspect
+returns-clause-inspect c = λ store words. inspect_without words store
