@@ -6,6 +6,7 @@
  *   HURT_ROOM   so many bytes can be written; the write that goes past them is short, and each one
  *               behind it fails with ENOSPC
  *   HURT_FAIL   the number of a call, from 1: it and each one behind it fail with EIO
+ *   HURT_ONCE   the number of a call, from 1: it alone fails with EIO
  *   HURT_TRIM   the number of a call, from 1: before it the file is cut short to HURT_TO bytes
  *   HURT_CUT    the number of a call, from 1: the power is cut there
  *   HURT_KEEP   what then becomes of the bytes that were written since the last sync: none is
@@ -23,8 +24,8 @@
  *   HURT_LOCK   the number of an error: each lock of the file is answered so
  *   HURT_NAME   a name: each opening of it fails, with the error of the number HURT_ERROR
  *   HURT_WRONG  makes the program one whose disk is wrong: its sync makes no call (sync), it takes
- *               a short write as whole (short), it reads from another place (place), or nothing is
- *               wrong (none)
+ *               a short write as whole (short), it reads from another place (place), it makes a
+ *               call that failed once more (again), or nothing is wrong (none)
  *
  * Reads, writes, syncs and the close are counted, by the number of the call. A cut at a write comes
  * while it is made, one at any other call before it. A positioned write that is torn may leave
@@ -57,7 +58,7 @@ struct unsynced {
 
 static const char *path, *keep, *wrong, *left, *refused, *stop;
 static int file = -1, told = -1, is_short, is_full;
-static long calls, cut, failing, trim, killing, touches;
+static long calls, cut, failing, once, trim, killing, touches;
 static unsigned long long room;
 static uint64_t dice, short_dice;
 static struct unsynced *row;
@@ -130,6 +131,7 @@ __attribute__((constructor)) static void begin(void)
     wrong = getenv("HURT_WRONG") ? getenv("HURT_WRONG") : "";
     cut = number_of("HURT_CUT");
     failing = number_of("HURT_FAIL");
+    once = number_of("HURT_ONCE");
     trim = number_of("HURT_TRIM");
     killing = number_of("HURT_KILL");
     touches = number_of("HURT_TOUCH");
@@ -244,11 +246,17 @@ static int counted(const char *what, off_t at, size_t count)
     }
     if (calls == trim && syscall(SYS_truncate, path, number_of("HURT_TO")))
         give_up("it can't be cut short");
-    if (failing && calls >= failing) {
+    if ((failing && calls >= failing) || calls == once) {
         errno = EIO;
         return 1;
     }
     return 0;
+}
+
+/* Says whether a call fails; a wrong disk makes it once more. */
+static int fails(const char *what, off_t at, size_t count)
+{
+    return counted(what, at, count) && (strcmp(wrong, "again") || counted(what, at, count));
 }
 
 /* Where a read or a write without a place begins, where that is asked for. */
@@ -273,7 +281,7 @@ static ssize_t get(int fd, void *bytes, size_t count, off_t at, int placed)
 {
     if (count && is_short)
         count = 1 + thrown(&short_dice, count);
-    if (counted("read", at, count))
+    if (fails("read", at, count))
         return -1;
     if (calls == cut)
         cut_power();
@@ -305,7 +313,7 @@ static ssize_t put(int fd, const void *bytes, size_t whole, off_t at, int placed
         count = 1 + thrown(&short_dice, count);
     if (is_full && count > room)
         count = (size_t)room;
-    if (counted("write", at, count))
+    if (fails("write", at, count))
         return -1;
     if (is_full && whole && !count) {
         errno = ENOSPC;
@@ -327,7 +335,7 @@ static int synced(int fd, int number)
 {
     if (!strcmp(wrong, "sync"))
         return 0;
-    if (counted("sync", 0, 0))
+    if (fails("sync", 0, 0))
         return -1;
     if (calls == cut)
         cut_power();
