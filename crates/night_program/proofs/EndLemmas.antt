@@ -9,7 +9,7 @@ use Rattle.run_model.specs.Session.{opened}
 use Rattle.run_disk.specs.declared.memory_disks.MemoryDisk.{MemoryDisk}
 use Rattle.run_disk.specs.Disk.{DiskState}
 use Rattle.run_disk.specs.MemoryDisks.{state_of}
-use Rattle.run_book.specs.Views.{BookView, holding}
+use Rattle.run_book.specs.Views.{BookView}
 use Rattle.console_lines.specs.declared.faults.RunFault.{RunFault}
 use Rattle.console_lines.specs.declared.faults.RunFault.TheVariants.{Output}
 use Rattle.console_lines.specs.declared.strays.StrayLine.{StrayLine}
@@ -17,7 +17,6 @@ use Rattle.console_lines.specs.Progress.{WritesPart}
 use Rattle.run_console.specs.Progress.{BeginsScript, RunStops, RunsAll}
 use Rattle.run_console.specs.SessionLines.{plain}
 use Rattle.run_console.specs.Strict.{RunsStrictly, StopsStrictly}
-use Rattle.run_console.specs.Troubles.{Accounts}
 use Rattle.night_program.specs.Demos.{DemoEnds, IsRun, IsUnrun, StrictDemoEnds}
 use Rattle.night_program.specs.Stores.{Prints, Runs, RunsStrict}
 
@@ -32,23 +31,20 @@ printed (Err why) text w0 w1 whole cut fault = (fault, cut)
 pub ran : {T D : Type 0} (state : D → DiskState) (r : Result T RunFault)
     (r0 r1 w0 w1 : Option (List ℕ)) (b c : BookView D)
     → OnOk r (RunsAll state b c r0 r1 w0 w1)
-    → OnOk r (c.durable ≡ c.session.state.count)
     → IfErr r (λ why. RunStops state why b c r0 r1 w0 w1)
     → IfErr r (λ why. BeginsScript why b.session r0 r1 w0 w1)
-    → IfErr r (λ why. Accounts state (holding b) why (holding c))
     → Runs state r r0 r1 w0 w1 b c
-ran state (Ok done) r0 r1 w0 w1 b c all saved stops begins accounts = (all, saved)
-ran state (Err why) r0 r1 w0 w1 b c all saved stops begins accounts = (stops, begins, accounts)
+ran state (Ok done) r0 r1 w0 w1 b c all stops begins = all
+ran state (Err why) r0 r1 w0 w1 b c all stops begins = (stops, begins)
 
 -- So of a strict run.
 pub ran_strict : {D : Type 0} (state : D → DiskState) (r : Result (Option StrayLine) RunFault)
     (r0 r1 w0 w1 : Option (List ℕ)) (b c : BookView D)
     → IfOk r (λ stray. RunsStrictly state stray b c r0 r1 w0 w1)
     → IfErr r (λ why. StopsStrictly state why b c r0 r1 w0 w1)
-    → IfErr r (λ why. Accounts state (holding b) why (holding c))
     → RunsStrict state r r0 r1 w0 w1 b c
-ran_strict state (Ok stray) r0 r1 w0 w1 b c runs stops accounts = runs
-ran_strict state (Err why) r0 r1 w0 w1 b c runs stops accounts = (stops, accounts)
+ran_strict state (Ok stray) r0 r1 w0 w1 b c runs stops = runs
+ran_strict state (Err why) r0 r1 w0 w1 b c runs stops = stops
 
 -- So of a strict run over a book in memory that was just opened.
 pub strict_demo_ends : (r : Result (Option StrayLine) RunFault)

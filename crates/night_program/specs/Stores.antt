@@ -21,7 +21,7 @@ use Rattle.console_lines.specs.Listed.{listed}
 use Rattle.console_lines.specs.Progress.{WritesPart}
 use Rattle.run_console.specs.Progress.{BeginsScript, Lasts, RunStops, RunsAll}
 use Rattle.run_console.specs.Strict.{RunsStrictly, StopsStrictly}
-use Rattle.run_console.specs.Troubles.{Accounts, stopped}
+use Rattle.run_console.specs.Troubles.{stopped}
 use Rattle.night_words.specs.declared.asked.View.{View}
 use Rattle.night_words.specs.declared.asked.View.TheVariants.{Whole, Tasks}
 
@@ -49,21 +49,16 @@ FormatEnds state given answer left w0 w1 =
 -- run.
 abbrev pub Runs : {T D : Type 0} → (D → DiskState) → Result T RunFault
     → (r0 r1 w0 w1 : Option (List ℕ)) → BookView D → BookView D → Type 0
-Runs state (Ok done) r0 r1 w0 w1 b c =
-    RunsAll state b c r0 r1 w0 w1 × (c.durable ≡ c.session.state.count)
+Runs state (Ok done) r0 r1 w0 w1 b c = RunsAll state b c r0 r1 w0 w1
 Runs state (Err why) r0 r1 w0 w1 b c =
-    RunStops state why b c r0 r1 w0 w1
-    × BeginsScript why b.session r0 r1 w0 w1
-    × Accounts state (holding b) why (holding c)
+    RunStops state why b c r0 r1 w0 w1 × BeginsScript why b.session r0 r1 w0 w1
 
 -- The lines up to the first that strays were run, and at the end all events are durable; or a fault
 -- stopped the run.
 abbrev pub RunsStrict : {D : Type 0} → (D → DiskState) → Result (Option StrayLine) RunFault
     → (r0 r1 w0 w1 : Option (List ℕ)) → BookView D → BookView D → Type 0
 RunsStrict state (Ok stray) r0 r1 w0 w1 b c = RunsStrictly state stray b c r0 r1 w0 w1
-RunsStrict state (Err why) r0 r1 w0 w1 b c =
-    StopsStrictly state why b c r0 r1 w0 w1
-    × Accounts state (holding b) why (holding c)
+RunsStrict state (Err why) r0 r1 w0 w1 b c = StopsStrictly state why b c r0 r1 w0 w1
 
 -- A book was opened over the disk, the input was run over it so, and the disk is left as it held
 -- it.

@@ -1,6 +1,6 @@
 -- Why the store stopped a run, by the row of its steps.
 use Rattle.std.specs.Prelude.{◌≡◌, ◌≤◌, Bool, true, false, ℕ, List, [], ◌∷◌}
-use Rattle.std.specs.Prelude.{Option, Result, Ok, Err}
+use Rattle.std.specs.Prelude.{IfErr, Option, Result, Ok, Err}
 use Rattle.std.specs.List.{list_any}
 use Rattle.std.proofs.Common.{inl, inr, arith, sym, ◌∙◌, ap, subst, refl}
 use Rattle.run_model.specs.declared.answers.Reply.{Reply}
@@ -10,7 +10,7 @@ use Rattle.run_model.specs.declared.faults.Fault.TheVariants.{DiskFailed}
 use Rattle.run_model.specs.declared.faults.Trouble.{Trouble}
 use Rattle.run_model.specs.declared.faults.Trouble.TheVariants as trouble
 use Rattle.run_disk.specs.Disk.{DiskState}
-use Rattle.book_model.specs.Holdings.{Holding, Saves}
+use Rattle.book_model.specs.Holdings.{Holding, IsUnsaved, Saves}
 use Rattle.book_model.specs.Plays.{is_fault}
 use Rattle.book_model.specs.Steps.{AnswersSound, AnswersStep, AnswersWhere, StepsOn, Takes}
 use Rattle.book_model.specs.Steps.{reply_of_save}
@@ -29,7 +29,6 @@ use Rattle.run_console.specs.Rows.{Tries, TriesLine, next_steps, steps_asked}
 use Rattle.run_console.specs.SessionLines.{IsSaving}
 use Rattle.run_console.specs.Strict.{StopsStrictly}
 use Rattle.run_console.specs.Troubles.{Accounts, DeviceFails, Tells}
-use Rattle.run_console.proofs.Troubles.{told_saving}
 
 true_false : (b : Bool) → b ≡ true → b ≡ false → ⊥
 true_false b is not = cc
@@ -163,11 +162,35 @@ module _ {D : Type 0} (state : D → DiskState) where
 
   -- ---- the step that was next
 
+  -- What a call told of a book that wasn't broken.
+  told_unsaved : (b d : Holding D) (why : Trouble)
+      → b.journal.broken ≡ false
+      → IsUnsaved state b why d
+      → Tells state b why d
+  told_unsaved b d why sound (inl refused) = absurd (grind (arith, sound, refused.was))
+  told_unsaved b d why sound (inr (inl spent)) = inl (record {
+    told = spent.told;
+    sound = ap (λ (h : Holding D). h.journal.broken) spent.same ∙ spent.was;
+    last = ap (λ (h : Holding D). h.journal.generation) spent.same ∙ spent.last;
+  })
+  told_unsaved b d why sound (inr (inr failed)) = inr (record {
+    told = failed.told;
+    broken = failed.broken;
+    cause = failed.cause;
+  })
+
+  told_saving : (b d : Holding D) (r : Result ℕ Trouble)
+      → b.journal.broken ≡ false
+      → Saves state b r d
+      → IfErr r (λ why. Tells state b why d)
+  told_saving b d (Ok n) sound saves = tt
+  told_saving b d (Err why) sound saves = told_unsaved b d why sound saves.answer
+
   save_tells : (old new : Holding D) (result : Result ℕ Trouble) (why : Trouble)
       → old.journal.broken ≡ false → reply_of_save (Err why) ≡ reply_of_save result
       → Saves state old result new → Tells state old why new
   save_tells old new result why sound same saves =
-      told_saving state old new (Err why) sound
+      told_saving old new (Err why) sound
       (subst (λ r. Saves state old r new) (why_told why result same) saves)
 
   flush_tells : (old new : Holding D) (why : Trouble) → old.journal.broken ≡ false

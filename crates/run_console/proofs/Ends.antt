@@ -121,8 +121,9 @@ pub line_runs : {D : Type 0} (state : D → DiskState) (line : List ℕ) (b c : 
     (w0 w1 w2 : Option (List ℕ))
     → Ran state (line ∷ []) b c [] h w0 w1
     → Appends w1 w2 h
+    → (IsSaving (asked_of line) → c.durable ≡ c.session.state.count)
     → LineRuns state line b c w0 w2
-line_runs state line b c h w0 w1 w2 ran all =
+line_runs state line b c h w0 w1 w2 ran all saved =
     let P : List ℕ → Type 0 = λ t. Appends w0 w2 t in
     record {
       session = ran.session;
@@ -130,6 +131,7 @@ line_runs state line b c h w0 w1 w2 ran all =
       written =
           subst P (sym ran.replied ∙ append-nil (reply (plain b.session) line))
           (appends_then w0 w1 w2 ran.out h ran.written all);
+      saved = saved;
     }
 
 -- One line falls into none and one, or into one and none.

@@ -1,4 +1,5 @@
 pub mod Accounting
+pub mod Carrying
 pub mod Counting
 pub mod Ends
 pub mod Fronts
@@ -13,6 +14,5 @@ pub mod Rows
 pub mod Saving
 pub mod Sizes
 pub mod StrictLemmas
-pub mod Troubles
 pub mod Wholes
 pub mod Working

@@ -283,8 +283,9 @@ pub runs_all : {D : Type 0} (state : D → DiskState)
     → e.session ≡ d.session
     → Told (closing (plain d.session)) g [] w2 w3
     → TakesAll state (holding d) (step.Flush ∷ []) (holding e)
+    → e.durable ≡ e.session.state.count
     → RunsAll state b e r0 r1 w0 w3
-runs_all state b c d e tail g r0 r1 w0 w1 w2 w3 reads last same told flushed =
+runs_all state b c d e tail g r0 r1 w0 w1 w2 w3 reads last same told flushed saved =
     let ran = all_ran state b c d tail g r0 r1 w0 w1 w2 reads last in
     record {
       bytes = reads.bytes;
@@ -296,6 +297,7 @@ runs_all state b c d e tail g r0 r1 w0 w1 w2 w3 reads last same told flushed =
           takes_join state (holding b) (holding d) (holding e) (steps_of (lines_of reads.bytes))
           (step.Flush ∷ []) ran.taken flushed;
       written = end_told state b d (lines_of reads.bytes) g w0 w2 w3 ran told;
+      saved = saved;
     }
 
 -- A line that stopped stops a run.

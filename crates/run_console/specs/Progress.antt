@@ -37,7 +37,7 @@ WritesTrouble why text old new =
 -- ---- a whole input, by what the reader had left and what the writer had taken
 
 -- The input was read to its end and all of its lines were run, and its script was written: the
--- steps of its lines were taken, and then the closing flush.
+-- steps of its lines were taken, and then the closing flush, so that all events are durable.
 pub record RunsAll {D : Type 0} (state : D → DiskState) (b c : BookView D)
     (r0 r1 w0 w1 : Option (List ℕ)) : Type 0 where
   pub bytes : List ℕ
@@ -48,6 +48,7 @@ pub record RunsAll {D : Type 0} (state : D → DiskState) (b c : BookView D)
   pub taken : TakesAll state (holding b) (steps_of (lines_of bytes) ++ step.Flush ∷ [])
       (holding c)
   pub written : Appends w0 w1 (script (plain b.session) bytes)
+  pub saved : c.durable ≡ c.session.state.count
 
 -- What is replied to the lines that were run; where no line is left, the closing line is behind.
 abbrev pub said_of : Session → (ran left : List (List ℕ)) → List ℕ
@@ -132,12 +133,14 @@ pub record BeginsScript
 
 -- ---- one line
 
--- A line was run, its step taken where it asks for one, and its reply was written.
+-- A line was run, its step taken where it asks for one, and its reply was written. All events are
+-- durable behind a flush and a checkpoint.
 pub record LineRuns {D : Type 0} (state : D → DiskState) (line : List ℕ) (b c : BookView D)
     (w0 w1 : Option (List ℕ)) : Type 0 where
   pub session : c.session ≡ logged_after b.session line
   pub taken : TakesAll state (holding b) (steps_of (line ∷ [])) (holding c)
   pub written : Appends w0 w1 (reply (plain b.session) line)
+  pub saved : IsSaving (asked_of line) → c.durable ≡ c.session.state.count
 
 -- A line stopped. Where the writer failed, it was run, and a front of its reply was written, and
 -- not all. Where the store failed in a flush or a checkpoint, that is what the step was answered,

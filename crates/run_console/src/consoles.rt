@@ -15,7 +15,6 @@ ghost use Rattle.run_console.specs.Progress.{BeginsScript, Cut, EndStops, IsOfLi
 ghost use Rattle.run_console.specs.Progress.{LineRuns, LineStops, Ran, RunStops, RunsAll, Told};
 ghost use Rattle.run_console.specs.Rows.{TakesAll, Tries};
 ghost use Rattle.run_console.specs.SessionLines.{IsSaving, is_tally, plain};
-ghost use Rattle.run_console.specs.Troubles.{Accounts};
 
 use crate::answers::{flush, reply_to};
 use crate::inputs::{OpenLine, run_whole_lines};
@@ -61,12 +60,9 @@ pub fn run<A: Allocator + Copy, R: Read, W: Write, D: RunDisk, B: Allocator>(
         → IfErr result (λ fault. BeginsScript fault book.old.session
         (R.remaining input.old) (R.remaining input.new)
         (W.contents output.old) (W.contents output.new)) }
-    ensures accounts { book.old.journal.broken ≡ false → IfErr result (λ fault.
-        Accounts D.state (holding book.old) fault (holding book.new)) }
     ensures refused { book.old.journal.broken ≡ true
         → (result ≡ Err (RunFault.Store (Refused Broken))) × (book.new ≡ book.old)
         × (input.new ≡ input.old) × (output.new ≡ output.old) }
-    ensures saved { OnOk result (book.new.durable ≡ book.new.session.state.count) }
     ensures lasts { Lasts book.old.session book.new.session }
     ensures carries_on { CarriesOn D.state (holding book.old) (holding book.new) }
 {
@@ -95,13 +91,9 @@ pub fn line<A: Allocator + Copy, W: Write, D: RunDisk, B: Allocator>(
     ensures stops { book.old.journal.broken ≡ false
         → IfErr result (λ fault. LineStops D.state fault bytes.now book.old book.new
         (W.contents output.old) (W.contents output.new)) }
-    ensures accounts { book.old.journal.broken ≡ false → IfErr result (λ fault.
-        Accounts D.state (holding book.old) fault (holding book.new)) }
     ensures refused { book.old.journal.broken ≡ true
         → (result ≡ Err (RunFault.Store (Refused Broken))) × (book.new ≡ book.old)
         × (output.new ≡ output.old) }
-    ensures saved { IsSaving (asked_of bytes.now)
-        → OnOk result (book.new.durable ≡ book.new.session.state.count) }
     ensures lasts { Lasts book.old.session book.new.session }
     ensures carries_on { CarriesOn D.state (holding book.old) (holding book.new) }
 {
@@ -128,11 +120,7 @@ fn run_sound<A: Allocator + Copy, R: Read, W: Write, D: RunDisk, B: Allocator>(
     ensures stops { IfErr result (λ fault. RunStops D.state fault book.old book.new
         (R.remaining input.old) (R.remaining input.new)
         (W.contents output.old) (W.contents output.new)) }
-    ensures accounts { IfErr result (λ fault.
-        Accounts D.state (holding book.old) fault (holding book.new)) }
-    ensures saved { OnOk result (book.new.durable ≡ book.new.session.state.count) }
     ensures lasts { Lasts book.old.session book.new.session }
-    ensures carries_on { CarriesOn D.state (holding book.old) (holding book.new) }
 {
     let mut tail = OpenLine::new();
     let mut gathered = Gathered::new();
@@ -158,13 +146,9 @@ pub fn close<W: Write, D: RunDisk, B: Allocator>(
         (holding book.new)) }
     ensures tried { IfErr result (λ fault. Tries D.state (holding book.old) fault
         (step.Flush ∷ []) (holding book.new)) }
-    ensures accounts { IfErr result (λ fault.
-        Accounts D.state (holding book.old) fault (holding book.new)) }
     ensures saved { OnOk result (book.new.durable ≡ book.new.session.state.count) }
     ensures lasts { Lasts book.old.session book.new.session }
-    ensures carries_on { CarriesOn D.state (holding book.old) (holding book.new) }
 {
-    let _durable = book.durable();
     make_room(gathered, output)?;
     match flush(book) {
         Ok(count) => Reply::Acked(count).gather(gathered),
@@ -195,14 +179,10 @@ pub fn gather_line<A: Allocator + Copy, W: Write, D: RunDisk, B: Allocator>(
         → IfOk result (λ why. why ≡ stray_at (plain book.old.session) line) }
     ensures fault { IfErr result IsOfLine }
     ensures sound { OnOk result (book.new.journal.broken ≡ false) }
-    ensures accounts { IfErr result (λ fault.
-        Accounts D.state (holding book.old) fault (holding book.new)) }
     ensures saved { IsSaving (asked_of bytes.now)
         → OnOk result (book.new.durable ≡ book.new.session.state.count) }
     ensures lasts { Lasts book.old.session book.new.session }
-    ensures carries_on { CarriesOn D.state (holding book.old) (holding book.new) }
 {
-    let _durable = book.durable();
     let asked = read_line(bytes);
     if is_tally(&asked) {
         gather_tally(alloc, book.state(), gathered, output)?;

@@ -6,12 +6,9 @@
 ghost use Rattle.std.specs.Io.{ReadsAtMost};
 ghost use Rattle.std.specs.Io.KnownBytes.{ReadConsumes};
 ghost use Rattle.std.specs.Prelude.{◌≡◌, [], false, List, ℕ, OnOk, IfErr};
-ghost use Rattle.book_model.specs.Holdings.{CarriesOn};
-ghost use Rattle.run_book.specs.Views.{holding};
 ghost use Rattle.console_lines.specs.Lines.{whole_lines};
 ghost use Rattle.console_lines.specs.Progress.{kept};
 ghost use Rattle.run_console.specs.Progress.{Cut, IsOfLine, Lasts, PartRan, ReadsAll, RunStops};
-ghost use Rattle.run_console.specs.Troubles.{Accounts};
 
 use crate::consoles::gather_line;
 use crate::writings::{Gathered, write_gathered};
@@ -51,13 +48,9 @@ pub fn run_whole_lines<A: Allocator + Copy, R: Read, W: Write, D: RunDisk, B: Al
         (R.remaining input.old) (R.remaining input.new)
         (W.contents output.old) (W.contents output.new)) }
     ensures none { OnOk result (gathered.new.items ≡ []) }
-    ensures accounts { IfErr result (λ fault.
-        Accounts D.state (holding book.old) fault (holding book.new)) }
     ensures sound { OnOk result (book.new.journal.broken ≡ false) }
     ensures lasts { Lasts book.old.session book.new.session }
-    ensures carries_on { CarriesOn D.state (holding book.old) (holding book.new) }
 {
-    let _durable = book.durable();
     let mut room = [0u8; PART];
     let mut total = 0usize;
     while total <= LONGEST_INPUT {
@@ -93,13 +86,9 @@ fn run_part<A: Allocator + Copy, W: Write, D: RunDisk, B: Allocator>(
         book.old book.new gathered.old.items
         (W.contents output.old) (W.contents output.new)) }
     ensures fault { IfErr result IsOfLine }
-    ensures accounts { IfErr result (λ fault.
-        Accounts D.state (holding book.old) fault (holding book.new)) }
     ensures sound { OnOk result (book.new.journal.broken ≡ false) }
     ensures lasts { Lasts book.old.session book.new.session }
-    ensures carries_on { CarriesOn D.state (holding book.old) (holding book.new) }
 {
-    let _durable = book.durable();
     for byte in part {
         if *byte == b'\n' {
             gather_line(alloc, tail.as_slice(), gathered, output, book)?;

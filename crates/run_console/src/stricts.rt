@@ -10,7 +10,6 @@ ghost use Rattle.console_lines.specs.Progress.{kept};
 ghost use Rattle.run_console.specs.Progress.{IsOfLine, Lasts};
 ghost use Rattle.run_console.specs.Strict.{PartCut, PartRuns, RanStrictly, ReadsStrictly};
 ghost use Rattle.run_console.specs.Strict.{RunsStrictly, StopsStrictly};
-ghost use Rattle.run_console.specs.Troubles.{Accounts};
 
 use crate::consoles::{close, gather_line};
 use crate::inputs::{OpenLine, PART, read_some};
@@ -47,8 +46,6 @@ pub fn run_strict<A: Allocator + Copy, R: Read, W: Write, D: RunDisk, B: Allocat
         → IfErr result (λ fault. StopsStrictly D.state fault book.old book.new
         (R.remaining input.old) (R.remaining input.new)
         (W.contents output.old) (W.contents output.new)) }
-    ensures accounts { book.old.journal.broken ≡ false → IfErr result (λ fault.
-        Accounts D.state (holding book.old) fault (holding book.new)) }
     ensures refused { book.old.journal.broken ≡ true
         → (result ≡ Err (RunFault.Store (Refused Broken))) × (book.new ≡ book.old)
         × (input.new ≡ input.old) × (output.new ≡ output.old) }
@@ -76,10 +73,7 @@ fn run_sound<A: Allocator + Copy, R: Read, W: Write, D: RunDisk, B: Allocator>(
     ensures stops { IfErr result (λ fault. StopsStrictly D.state fault book.old book.new
         (R.remaining input.old) (R.remaining input.new)
         (W.contents output.old) (W.contents output.new)) }
-    ensures accounts { IfErr result (λ fault.
-        Accounts D.state (holding book.old) fault (holding book.new)) }
     ensures lasts { Lasts book.old.session book.new.session }
-    ensures carries_on { CarriesOn D.state (holding book.old) (holding book.new) }
 {
     let mut gathered = Gathered::new();
     let stray = run_lines(alloc, input, output, book, &mut gathered)?;
@@ -104,11 +98,8 @@ fn run_lines<A: Allocator + Copy, R: Read, W: Write, D: RunDisk, B: Allocator>(
     ensures stops { IfErr result (λ fault. StopsStrictly D.state fault book.old book.new
         (R.remaining input.old) (R.remaining input.new)
         (W.contents output.old) (W.contents output.new)) }
-    ensures accounts { IfErr result (λ fault.
-        Accounts D.state (holding book.old) fault (holding book.new)) }
     ensures sound { OnOk result (book.new.journal.broken ≡ false) }
     ensures lasts { Lasts book.old.session book.new.session }
-    ensures carries_on { CarriesOn D.state (holding book.old) (holding book.new) }
 {
     let mut tail = OpenLine::new();
     let mut number = 1;
@@ -144,13 +135,9 @@ fn run_whole_lines<A: Allocator + Copy, R: Read, W: Write, D: RunDisk, B: Alloca
     ensures stops { IfErr result (λ fault. StopsStrictly D.state fault book.old book.new
         (R.remaining input.old) (R.remaining input.new)
         (W.contents output.old) (W.contents output.new)) }
-    ensures accounts { IfErr result (λ fault.
-        Accounts D.state (holding book.old) fault (holding book.new)) }
     ensures sound { OnOk result (book.new.journal.broken ≡ false) }
     ensures lasts { Lasts book.old.session book.new.session }
-    ensures carries_on { CarriesOn D.state (holding book.old) (holding book.new) }
 {
-    let _durable = book.durable();
     let mut room = [0u8; PART];
     let mut total = 0usize;
     while total <= LONGEST_INPUT {
@@ -192,13 +179,9 @@ fn run_part<A: Allocator + Copy, W: Write, D: RunDisk, B: Allocator>(
         book.old book.new gathered.old.items
         (W.contents output.old) (W.contents output.new)) }
     ensures fault { IfErr result IsOfLine }
-    ensures accounts { IfErr result (λ fault.
-        Accounts D.state (holding book.old) fault (holding book.new)) }
     ensures sound { OnOk result (book.new.journal.broken ≡ false) }
     ensures lasts { Lasts book.old.session book.new.session }
-    ensures carries_on { CarriesOn D.state (holding book.old) (holding book.new) }
 {
-    let _durable = book.durable();
     for byte in part {
         if *byte == b'\n' {
             if let Some(why) = gather_line(alloc, tail.as_slice(), gathered, output, book)? {

@@ -13,9 +13,8 @@ returns-in-Ok g c =
       opened = opens;
       begun = c.in-Ok.ensures.session;
       runs = ran g.D.RunDisk.state c.run-answer.result _ _ _ _ c.in-Ok.book
-          c.run-answer.new.book c.run-answer.ensures.all c.run-answer.ensures.saved
-          (c.run-answer.ensures.stops sound) (c.run-answer.ensures.begins sound)
-          (c.run-answer.ensures.accounts sound);
+          c.run-answer.new.book c.run-answer.ensures.all
+          (c.run-answer.ensures.stops sound) (c.run-answer.ensures.begins sound);
       lasts = c.run-answer.ensures.lasts;
       carries_on = c.run-answer.ensures.carries_on;
       disk = c.into_disk.ensures;

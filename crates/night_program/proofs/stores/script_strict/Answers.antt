@@ -13,8 +13,7 @@ returns-in-Ok g c =
       begun = c.in-Ok.ensures.session;
       runs = ran_strict g.D.RunDisk.state c.run_strict-answer.result _ _ _ _ c.in-Ok.book
           c.run_strict-answer.new.book c.run_strict-answer.ensures.runs
-          (c.run_strict-answer.ensures.stops sound)
-          (c.run_strict-answer.ensures.accounts sound);
+          (c.run_strict-answer.ensures.stops sound);
       lasts = c.run_strict-answer.ensures.lasts;
       carries_on = c.run_strict-answer.ensures.carries_on;
       disk = c.into_disk.ensures;

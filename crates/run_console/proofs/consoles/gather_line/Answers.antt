@@ -22,7 +22,6 @@ use Rattle.run_console.specs.Rows.{TakesAll, steps_asked}
 use Rattle.run_console.proofs.Rows.{takes_none, takes_tally}
 use Rattle.run_console.proofs.consoles.gather_line.Goals as goal
 use Rattle.run_book.specs.Views.{holding}
-use Rattle.run_console.proofs.Troubles.{accounts_sound, accounts_told, accounts_untold}
 
 -- ---- a tally
 
@@ -167,30 +166,3 @@ returns-in-Ok-clause-strays g c = λ line e.
     c.stray_of-why.ensures
     ∙ line_strays (plain c.args.book.now.session) line c.read_line-asked.result
     (option_to_list c.in-Ok.reply) (c.read_line-asked.ensures ∙ sym e) c.in-Ok.ensures.reply
-
--- ---- the store
-
-pub returns-in_err-gather_tally-clause-accounts : goal.returns-in_err-gather_tally-clause-accounts
-returns-in_err-gather_tally-clause-accounts g c =
-    let p = err_from_is_err_and c.from_residual.result c.from_residual.ensures.1 in
-    rw (p.1, p.2) (
-    accounts_untold g.D.RunDisk.state (holding c.args.book.now) c.in_err-gather_tally.field-0.0
-    (reply_lines (map said.Tally (tallies_of c.state.result.now.work.tasks)))
-    c.args.gathered.now.items (g.W.Write.contents c.args.output.now)
-    (g.W.Write.contents c.gather_tally.new.output) c.requires.sound
-    c.in_err-gather_tally.ensures.untold)
-
-pub returns-in_err-make_room-clause-accounts : goal.returns-in_err-make_room-clause-accounts
-returns-in_err-make_room-clause-accounts g c =
-    let p = err_from_is_err_and c.from_residual-in_err-make_room.result
-    c.from_residual-in_err-make_room.ensures.1 in
-    let b = holding c.args.book.now in
-    rw (p.1, p.2, c.in_err-make_room.ensures.fault) (
-    accounts_sound g.D.RunDisk.state b b c.requires.sound)
-
-pub returns-in-Err-clause-accounts : goal.returns-in-Err-clause-accounts
-returns-in-Err-clause-accounts g c =
-    accounts_told g.D.RunDisk.state (holding c.args.book.now) (holding c.reply_to.new.book)
-    c.stop.result c.in-Err.trouble c.make_room.new.gathered.items
-    (g.W.Write.contents c.make_room.new.output) (g.W.Write.contents c.stop.new.output)
-    c.in-Err.ensures.told c.stop.ensures

@@ -3,13 +3,11 @@ use Rattle.std.proofs.lemmas.Result.{err_from_is_err_and, on_ok_weaker}
 use Rattle.console_lines.specs.declared.faults.RunFault.{RunFault}
 use Rattle.console_lines.specs.declared.faults.RunFault.TheVariants as fault
 use Rattle.run_console.specs.Progress.{Cut, LineStops, Ran}
+use Rattle.run_console.proofs.Carrying.{cut_carries, ran_carries}
 use Rattle.run_console.proofs.Ends.{line_runs, line_stops}
 use Rattle.run_console.proofs.LineSteps.{fault_known}
 use Rattle.run_console.proofs.Lines.{cut_written}
 use Rattle.run_console.proofs.consoles.line.Goals as goal
-use Rattle.run_book.specs.Views.{holding}
-use Rattle.run_console.proofs.Troubles.{accounts_sound}
-use Rattle.run_console.specs.Troubles.{Accounts}
 
 pub returns-in_err-gather_line-clause-stops : goal.returns-in_err-gather_line-clause-stops
 returns-in_err-gather_line-clause-stops g c = λ sound.
@@ -33,7 +31,8 @@ returns-clause-runs g c =
     (subst (λ f. Ran g.D.RunDisk.state (c.args.bytes.now ∷ [])
     c.args.book.now c.gather_line.new.book f c.gather_line.new.gathered.items
     (g.W.Write.contents c.args.output.now) (g.W.Write.contents c.gather_line.new.output))
-    c.new-gathered.ensures (c.in_ok-gather_line.ensures.ran c.args.bytes.now refl)) h)
+    c.new-gathered.ensures (c.in_ok-gather_line.ensures.ran c.args.bytes.now refl)) h
+    c.in_ok-gather_line.ensures.saved)
     c.write_gathered.ensures.whole
 
 pub returns-clause-stops : goal.returns-clause-stops
@@ -52,16 +51,19 @@ returns-clause-stops g c = λ sound.
     c.new-gathered.ensures (c.in_ok-gather_line.ensures.ran line refl)) h))
     c.write_gathered.ensures.fault c.write_gathered.ensures.cut
 
-pub returns-in_err-gather_line-clause-accounts : goal.returns-in_err-gather_line-clause-accounts
-returns-in_err-gather_line-clause-accounts g c = λ sound.
-    let p = err_from_is_err_and c.from_residual.result c.from_residual.ensures.1 in
-    rw (p.1, p.2) c.in_err-gather_line.ensures.accounts
+-- ---- the book
 
-pub returns-clause-accounts : goal.returns-clause-accounts
-returns-clause-accounts g c = λ sound.
-    let b = holding c.args.book.now in
-    let d = holding c.gather_line.new.book in
-    let Says : RunFault → Type 0 = λ why. Accounts g.D.RunDisk.state b why d in
-    fault_known c.write_gathered.result fault.Output _ Says
-    (λ h. accounts_sound g.D.RunDisk.state b d c.in_ok-gather_line.ensures.sound)
-    c.write_gathered.ensures.fault c.write_gathered.ensures.cut
+pub returns-in_err-gather_line-clause-carries_on :
+    goal.returns-in_err-gather_line-clause-carries_on
+returns-in_err-gather_line-clause-carries_on g c =
+    cut_carries g.D.RunDisk.state g.met.D.RunDisk.is_disk c.in_err-gather_line.field-0.0
+    (c.args.bytes.now ∷ []) c.args.book.now c.gather_line.new.book _
+    (g.W.Write.contents c.args.output.now) (g.W.Write.contents c.gather_line.new.output)
+    c.durable-durable.ensures.images (c.in_err-gather_line.ensures.cut c.args.bytes.now refl)
+
+pub returns-clause-carries_on : goal.returns-clause-carries_on
+returns-clause-carries_on g c =
+    ran_carries g.D.RunDisk.state g.met.D.RunDisk.is_disk (c.args.bytes.now ∷ [])
+    c.args.book.now c.gather_line.new.book _ c.gather_line.new.gathered.items
+    (g.W.Write.contents c.args.output.now) (g.W.Write.contents c.gather_line.new.output)
+    c.durable-durable.ensures.images (c.in_ok-gather_line.ensures.ran c.args.bytes.now refl)

@@ -1,21 +1,19 @@
-use Rattle.std.proofs.Common.{ℕ, List, [], ◌∷◌, subst}
+use Rattle.std.proofs.Common.{◌≡◌, ℕ, List, [], ◌∷◌, subst}
 use Rattle.std.proofs.lemmas.Result.{err_from_is_err_and}
 use Rattle.run_model.specs.declared.commands.Step.TheVariants as step
 use Rattle.console_lines.specs.Lines.{open_line}
 use Rattle.console_lines.specs.Script.{closing}
 use Rattle.console_lines.specs.declared.faults.RunFault.{RunFault}
 use Rattle.run_console.specs.Progress.{Cut, EndStops, Ran, RunStops}
-use Rattle.run_console.specs.Rows.{Tries}
+use Rattle.run_console.specs.Rows.{TakesAll, Tries}
 use Rattle.run_console.specs.SessionLines.{plain}
-use Rattle.run_console.proofs.Going.{Lives, lives_then}
+use Rattle.run_console.proofs.Going.{lasts_then}
 use Rattle.run_console.proofs.LineSteps.{both_ok, both_then, fault_then, same_asked}
 use Rattle.run_console.proofs.Wholes.{runs_all, stops_closing, stops_in_the_last}
 use Rattle.run_console.proofs.consoles.run_sound.Given.{Over}
 use Rattle.run_console.proofs.consoles.run_sound.Goals as goal
 use Rattle.run_console.proofs.consoles.run_sound.Goals.{After-close}
 use Rattle.run_book.specs.Views.{holding}
-use Rattle.run_console.proofs.Troubles.{accounts_earlier}
-use Rattle.run_console.specs.Troubles.{Accounts}
 
 -- ---- the last line
 
@@ -62,15 +60,21 @@ last_ran g c =
 
 pub returns-clause-all : goal.returns-clause-all
 returns-clause-all g c =
+    let state = g.D.RunDisk.state in
+    let d = c.gather_line.new.book in
+    let e = c.close.new.book in
+    let Taken : Type 0 = TakesAll state (holding d) (step.Flush ∷ []) (holding e) in
+    let Saved : Type 0 = e.durable ≡ e.session.state.count in
     both_ok c.close.result
-    (λ h flushed. runs_all g.D.RunDisk.state c.args.book.now c.run_whole_lines.new.book
-    c.gather_line.new.book c.close.new.book c.run_whole_lines.new.tail.items
-    c.gather_line.new.gathered.items
+    (λ h (then : Taken × Saved). runs_all state c.args.book.now c.run_whole_lines.new.book d e
+    c.run_whole_lines.new.tail.items c.gather_line.new.gathered.items
     (g.R.Read.remaining c.args.input.now) (g.R.Read.remaining c.run_whole_lines.new.input)
     (g.W.Write.contents c.args.output.now) (g.W.Write.contents c.run_whole_lines.new.output)
     (g.W.Write.contents c.gather_line.new.output) (g.W.Write.contents c.close.new.output)
-    c.in_ok-run_whole_lines.ensures.read (last_ran g c) c.close.ensures.session h flushed)
-    c.close.ensures.whole c.close.ensures.taken
+    c.in_ok-run_whole_lines.ensures.read (last_ran g c) c.close.ensures.session h then.0 then.1)
+    c.close.ensures.whole
+    (both_ok c.close.result (λ (taken : Taken) (saved : Saved). (taken, saved))
+    c.close.ensures.taken c.close.ensures.saved)
 
 pub returns-clause-stops : goal.returns-clause-stops
 returns-clause-stops g c =
@@ -97,73 +101,15 @@ returns-clause-stops g c =
 
 -- ---- the book
 
-lives : (g : Over) (c : After-close g)
-    → Lives g.D.RunDisk.state c.args.book.now c.close.new.book
-lives g c =
-    let state = g.D.RunDisk.state in
-    lives_then state c.args.book.now c.gather_line.new.book c.close.new.book
-    (lives_then state c.args.book.now c.run_whole_lines.new.book c.gather_line.new.book
-    (record {
-      lasts = c.run_whole_lines.ensures.lasts;
-      carries_on = c.run_whole_lines.ensures.carries_on;
-    })
-    c.gather_line.ensures.lasts c.gather_line.ensures.carries_on)
-    c.close.ensures.lasts c.close.ensures.carries_on
-
 pub returns-clause-lasts : goal.returns-clause-lasts
-returns-clause-lasts g c = (lives g c).lasts
-
-pub returns-clause-carries_on : goal.returns-clause-carries_on
-returns-clause-carries_on g c = (lives g c).carries_on
+returns-clause-lasts g c =
+    let b = c.args.book.now.session in
+    let d = c.gather_line.new.book.session in
+    lasts_then b d c.close.new.book.session
+    (lasts_then b c.run_whole_lines.new.book.session d c.run_whole_lines.ensures.lasts
+    c.gather_line.ensures.lasts) c.close.ensures.lasts
 
 pub returns-in_err-gather_line-clause-lasts : goal.returns-in_err-gather_line-clause-lasts
 returns-in_err-gather_line-clause-lasts g c =
-    (lives_then g.D.RunDisk.state c.args.book.now c.run_whole_lines.new.book
-    c.gather_line.new.book
-    (record {
-      lasts = c.run_whole_lines.ensures.lasts;
-      carries_on = c.run_whole_lines.ensures.carries_on;
-    })
-    c.gather_line.ensures.lasts c.gather_line.ensures.carries_on).lasts
-
-pub returns-in_err-gather_line-clause-carries_on :
-    goal.returns-in_err-gather_line-clause-carries_on
-returns-in_err-gather_line-clause-carries_on g c =
-    (lives_then g.D.RunDisk.state c.args.book.now c.run_whole_lines.new.book
-    c.gather_line.new.book
-    (record {
-      lasts = c.run_whole_lines.ensures.lasts;
-      carries_on = c.run_whole_lines.ensures.carries_on;
-    })
-    c.gather_line.ensures.lasts c.gather_line.ensures.carries_on).carries_on
-
--- ---- the store
-
-pub returns-in_err-gather_line-clause-accounts : goal.returns-in_err-gather_line-clause-accounts
-returns-in_err-gather_line-clause-accounts g c =
-    let p = err_from_is_err_and c.from_residual-in_err-gather_line.result
-    c.from_residual-in_err-gather_line.ensures.1 in
-    rw (p.1, p.2) (
-    accounts_earlier g.D.RunDisk.state (holding c.args.book.now)
-    (holding c.run_whole_lines.new.book) (holding c.gather_line.new.book)
-    c.in_err-gather_line.field-0.0 c.run_whole_lines.ensures.carries_on.passed
-    c.in_err-gather_line.ensures.accounts)
-
-pub returns-clause-accounts : goal.returns-clause-accounts
-returns-clause-accounts g c =
-    let state = g.D.RunDisk.state in
-    let b = holding c.args.book.now in
-    let d = holding c.gather_line.new.book in
-    let e = holding c.close.new.book in
-    let Since : RunFault → Type 0 = λ why. Accounts state d why e in
-    let Says : RunFault → Type 0 = λ why. Accounts state b why e in
-    let before = lives_then state c.args.book.now c.run_whole_lines.new.book
-    c.gather_line.new.book
-    (record {
-      lasts = c.run_whole_lines.ensures.lasts;
-      carries_on = c.run_whole_lines.ensures.carries_on;
-    })
-    c.gather_line.ensures.lasts c.gather_line.ensures.carries_on in
-    fault_then c.close.result Since Says
-    (λ why h. accounts_earlier state b d e why before.carries_on.passed h)
-    c.close.ensures.accounts
+    lasts_then c.args.book.now.session c.run_whole_lines.new.book.session
+    c.gather_line.new.book.session c.run_whole_lines.ensures.lasts c.gather_line.ensures.lasts

@@ -6,7 +6,7 @@ use Rattle.std.proofs.lemmas.Result.{err_from_is_err_and}
 use Rattle.std.proofs.Math.Seq.{split_at}
 use Rattle.console_lines.specs.Lines.{open_line}
 use Rattle.run_console.specs.Progress.{PartRan}
-use Rattle.run_console.proofs.Going.{goes_none, lives_then}
+use Rattle.run_console.proofs.Going.{goes_none, lasts_then}
 use Rattle.run_console.proofs.LineSteps.{same_asked}
 use Rattle.run_console.proofs.Parts.{part_begins, part_cut, part_ends, part_full, part_more}
 use Rattle.run_console.proofs.inputs.run_part.Goals as goal
@@ -14,12 +14,11 @@ use Rattle.run_console.proofs.inputs.run_part.Goals.{then-byte-eq10+in_ok-gather
 use Rattle.run_console.proofs.inputs.run_part.Goals.{else-byte-eq10+then-not-is_full}
 use Rattle.run_console.proofs.inputs.run_part.Goals.{else-byte-eq10+else-not-is_full}
 use Rattle.run_book.specs.Views.{holding}
-use Rattle.run_console.proofs.Troubles.{accounts_earlier}
 
 pub loop-byte-init : goal.loop-byte-init
 loop-byte-init g c = (
   λ begun e. part_begins g.D.RunDisk.state begun _ _ _ _ e,
-  goes_none g.D.RunDisk.state c.args.book.now c.requires.sound c.durable-durable.ensures.carries_on,
+  goes_none c.args.book.now c.requires.sound,
 )
 
 pub returns-in_err-gather_line-clause-cut : goal.returns-in_err-gather_line-clause-cut
@@ -50,15 +49,8 @@ returns-in_err-gather_line-clause-cut g c = λ begun e.
 
 pub returns-in_err-gather_line-clause-lasts : goal.returns-in_err-gather_line-clause-lasts
 returns-in_err-gather_line-clause-lasts g c =
-    (lives_then g.D.RunDisk.state c.args.book.now c.loop-byte.book c.gather_line.new.book
-    c.loop-byte.invariant.1.lives c.gather_line.ensures.lasts
-    c.gather_line.ensures.carries_on).lasts
-
-pub returns-in_err-gather_line-clause-carries_on : goal.returns-in_err-gather_line-clause-carries_on
-returns-in_err-gather_line-clause-carries_on g c =
-    (lives_then g.D.RunDisk.state c.args.book.now c.loop-byte.book c.gather_line.new.book
-    c.loop-byte.invariant.1.lives c.gather_line.ensures.lasts
-    c.gather_line.ensures.carries_on).carries_on
+    lasts_then c.args.book.now.session c.loop-byte.book.session
+    c.gather_line.new.book.session c.loop-byte.invariant.1.lasts c.gather_line.ensures.lasts
 
 other : {b : ℕ} → (b ≡ 10 → ⊥) → (b == 10) ≡ false
 other h = grind (arith, nat_tests, h)
@@ -99,10 +91,7 @@ loop-byte-preserved g c =
                 w.clear.ensures),
             record {
               sound = w.in_ok-gather_line.ensures.sound;
-              lives =
-                  lives_then g.D.RunDisk.state c.args.book.now c.loop-byte.book
-                  w.gather_line.new.book c.loop-byte.invariant.1.lives
-                  w.gather_line.ensures.lasts w.gather_line.ensures.carries_on;
+              lasts = lasts_then c.args.book.now.session c.loop-byte.book.session w.gather_line.new.book.session c.loop-byte.invariant.1.lasts w.gather_line.ensures.lasts;
             },
           )
       | else-byte-eq10+then-not-is_full w ↦
@@ -138,12 +127,4 @@ returns-clause-ran g c = λ begun e.
     (c.loop-byte.invariant.0 begun e)
 
 pub returns-clause-lasts : goal.returns-clause-lasts
-returns-clause-lasts g c = c.loop-byte.invariant.1.lives.lasts
-
-pub returns-in_err-gather_line-clause-accounts : goal.returns-in_err-gather_line-clause-accounts
-returns-in_err-gather_line-clause-accounts g c =
-    let p = err_from_is_err_and c.from_residual.result c.from_residual.ensures.1 in
-    rw (p.1, p.2) (
-    accounts_earlier g.D.RunDisk.state (holding c.args.book.now) (holding c.loop-byte.book)
-    (holding c.gather_line.new.book) c.in_err-gather_line.field-0.0
-    c.loop-byte.invariant.1.lives.carries_on.passed c.in_err-gather_line.ensures.accounts)
+returns-clause-lasts g c = c.loop-byte.invariant.1.lasts

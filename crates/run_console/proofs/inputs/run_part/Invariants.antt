@@ -11,4 +11,4 @@ invariant-loop-byte g l =
     PartRan g.D.RunDisk.state begun (take l.byte-index l.part) l.initial.book l.book l.tail.items
     l.initial.gathered.items l.gathered.items
     (g.W.Write.contents l.initial.output) (g.W.Write.contents l.output))
-    × Goes g.D.RunDisk.state l.initial.book l.book
+    × Goes l.initial.book l.book

@@ -15,7 +15,7 @@ invariant-loop-total g l =
     × PartRan g.D.RunDisk.state [] bytes l.initial.book l.book l.tail.items [] []
     (g.W.Write.contents l.initial.output) (g.W.Write.contents l.output)
     × (l.gathered.items ≡ [])
-    × Goes g.D.RunDisk.state l.initial.book l.book
+    × Goes l.initial.book l.book
 
 abbrev pub decreases-loop-total : goal.decreases-loop-total
 decreases-loop-total g l = LONGEST_INPUT + 1 - l.total

@@ -4,10 +4,9 @@ use Rattle.std.proofs.lemmas.Result.{err_from_is_err_and}
 use Rattle.console_lines.specs.Lines.{open_line}
 use Rattle.run_book.specs.Views.{holding}
 use Rattle.run_console.specs.Progress.{Cut, Ran}
-use Rattle.run_console.proofs.Going.{lives_then}
+use Rattle.run_console.proofs.Going.{lasts_then}
 use Rattle.run_console.proofs.LineSteps.{same_asked}
 use Rattle.run_console.proofs.StrictLemmas.{ran_to_end, ran_with_stray, reads_clean, stops_at_last}
-use Rattle.run_console.proofs.Troubles.{accounts_earlier}
 use Rattle.run_console.proofs.stricts.run_lines.Goals as goal
 
 pub returns-then-is_some-clause-ran : goal.returns-then-is_some-clause-ran
@@ -107,70 +106,15 @@ returns-in-None-clause-ran g c =
 
 pub returns-in_err-why-clause-lasts : goal.returns-in_err-why-clause-lasts
 returns-in_err-why-clause-lasts g c =
-    (lives_then g.D.RunDisk.state c.args.book.now c.run_whole_lines.new.book
-    c.gather_line.new.book
-    (record {
-      lasts = c.run_whole_lines.ensures.lasts;
-      carries_on = c.run_whole_lines.ensures.carries_on;
-    })
-    c.gather_line.ensures.lasts c.gather_line.ensures.carries_on).lasts
-
-pub returns-in_err-why-clause-carries_on : goal.returns-in_err-why-clause-carries_on
-returns-in_err-why-clause-carries_on g c =
-    (lives_then g.D.RunDisk.state c.args.book.now c.run_whole_lines.new.book
-    c.gather_line.new.book
-    (record {
-      lasts = c.run_whole_lines.ensures.lasts;
-      carries_on = c.run_whole_lines.ensures.carries_on;
-    })
-    c.gather_line.ensures.lasts c.gather_line.ensures.carries_on).carries_on
+    lasts_then c.args.book.now.session c.run_whole_lines.new.book.session
+    c.gather_line.new.book.session c.run_whole_lines.ensures.lasts c.gather_line.ensures.lasts
 
 pub returns-in-Some-clause-lasts : goal.returns-in-Some-clause-lasts
 returns-in-Some-clause-lasts g c =
-    (lives_then g.D.RunDisk.state c.args.book.now c.run_whole_lines.new.book
-    c.gather_line.new.book
-    (record {
-      lasts = c.run_whole_lines.ensures.lasts;
-      carries_on = c.run_whole_lines.ensures.carries_on;
-    })
-    c.gather_line.ensures.lasts c.gather_line.ensures.carries_on).lasts
-
-pub returns-in-Some-clause-carries_on : goal.returns-in-Some-clause-carries_on
-returns-in-Some-clause-carries_on g c =
-    (lives_then g.D.RunDisk.state c.args.book.now c.run_whole_lines.new.book
-    c.gather_line.new.book
-    (record {
-      lasts = c.run_whole_lines.ensures.lasts;
-      carries_on = c.run_whole_lines.ensures.carries_on;
-    })
-    c.gather_line.ensures.lasts c.gather_line.ensures.carries_on).carries_on
+    lasts_then c.args.book.now.session c.run_whole_lines.new.book.session
+    c.gather_line.new.book.session c.run_whole_lines.ensures.lasts c.gather_line.ensures.lasts
 
 pub returns-in-None-clause-lasts : goal.returns-in-None-clause-lasts
 returns-in-None-clause-lasts g c =
-    (lives_then g.D.RunDisk.state c.args.book.now c.run_whole_lines.new.book
-    c.gather_line.new.book
-    (record {
-      lasts = c.run_whole_lines.ensures.lasts;
-      carries_on = c.run_whole_lines.ensures.carries_on;
-    })
-    c.gather_line.ensures.lasts c.gather_line.ensures.carries_on).lasts
-
-pub returns-in-None-clause-carries_on : goal.returns-in-None-clause-carries_on
-returns-in-None-clause-carries_on g c =
-    (lives_then g.D.RunDisk.state c.args.book.now c.run_whole_lines.new.book
-    c.gather_line.new.book
-    (record {
-      lasts = c.run_whole_lines.ensures.lasts;
-      carries_on = c.run_whole_lines.ensures.carries_on;
-    })
-    c.gather_line.ensures.lasts c.gather_line.ensures.carries_on).carries_on
-
-pub returns-in_err-why-clause-accounts : goal.returns-in_err-why-clause-accounts
-returns-in_err-why-clause-accounts g c =
-    let p = err_from_is_err_and c.from_residual-in_err-why.result
-    c.from_residual-in_err-why.ensures.1 in
-    rw (p.1, p.2) (
-    accounts_earlier g.D.RunDisk.state (holding c.args.book.now)
-    (holding c.run_whole_lines.new.book) (holding c.gather_line.new.book)
-    c.in_err-why.field-0.0 c.run_whole_lines.ensures.carries_on.passed
-    c.in_err-why.ensures.accounts)
+    lasts_then c.args.book.now.session c.run_whole_lines.new.book.session
+    c.gather_line.new.book.session c.run_whole_lines.ensures.lasts c.gather_line.ensures.lasts

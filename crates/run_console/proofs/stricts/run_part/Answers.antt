@@ -6,7 +6,7 @@ use Rattle.std.proofs.lemmas.Result.{err_from_is_err_and}
 use Rattle.std.proofs.Math.Seq.{split_at}
 use Rattle.console_lines.specs.Lines.{open_line}
 use Rattle.run_console.specs.Strict.{PartClean}
-use Rattle.run_console.proofs.Going.{goes_none, lives_then}
+use Rattle.run_console.proofs.Going.{goes_none, lasts_then}
 use Rattle.run_console.proofs.LineSteps.{same_asked}
 use Rattle.run_console.proofs.Parts.{part_begins}
 use Rattle.run_console.proofs.StrictLemmas.{clean_begins, clean_ends, clean_full, clean_more}
@@ -16,14 +16,13 @@ use Rattle.run_console.proofs.stricts.run_part.Goals.{then-byte-eq10+in_ok-why+i
 use Rattle.run_console.proofs.stricts.run_part.Goals.{else-byte-eq10+then-not-is_full}
 use Rattle.run_console.proofs.stricts.run_part.Goals.{else-byte-eq10+else-not-is_full}
 use Rattle.run_book.specs.Views.{holding}
-use Rattle.run_console.proofs.Troubles.{accounts_earlier}
 
 pub loop-byte-init : goal.loop-byte-init
 loop-byte-init g c = (
   λ begun e. clean_begins g.D.RunDisk.state _ _ begun _ _ _ _ refl
       (part_begins g.D.RunDisk.state begun _ _ _ _ e),
   omega arith,
-  goes_none g.D.RunDisk.state c.args.book.now c.requires.sound c.durable-durable.ensures.carries_on,
+  goes_none c.args.book.now c.requires.sound,
 )
 
 pub returns-in_err-why-clause-cut : goal.returns-in_err-why-clause-cut
@@ -51,23 +50,8 @@ returns-in_err-why-clause-cut g c = λ begun e.
 
 pub returns-in_err-why-clause-lasts : goal.returns-in_err-why-clause-lasts
 returns-in_err-why-clause-lasts g c =
-    (lives_then g.D.RunDisk.state c.args.book.now c.loop-byte.book c.gather_line.new.book
-    c.loop-byte.invariant.2.lives c.gather_line.ensures.lasts
-    c.gather_line.ensures.carries_on).lasts
-
-pub returns-in_err-why-clause-carries_on : goal.returns-in_err-why-clause-carries_on
-returns-in_err-why-clause-carries_on g c =
-    (lives_then g.D.RunDisk.state c.args.book.now c.loop-byte.book c.gather_line.new.book
-    c.loop-byte.invariant.2.lives c.gather_line.ensures.lasts
-    c.gather_line.ensures.carries_on).carries_on
-
-pub returns-in_err-why-clause-accounts : goal.returns-in_err-why-clause-accounts
-returns-in_err-why-clause-accounts g c =
-    let p = err_from_is_err_and c.from_residual.result c.from_residual.ensures.1 in
-    rw (p.1, p.2) (
-    accounts_earlier g.D.RunDisk.state (holding c.args.book.now) (holding c.loop-byte.book)
-    (holding c.gather_line.new.book) c.in_err-why.field-0.0
-    c.loop-byte.invariant.2.lives.carries_on.passed c.in_err-why.ensures.accounts)
+    lasts_then c.args.book.now.session c.loop-byte.book.session
+    c.gather_line.new.book.session c.loop-byte.invariant.2.lasts c.gather_line.ensures.lasts
 
 pub returns-clause-ran : goal.returns-clause-ran
 returns-clause-ran g c = λ begun e.
@@ -80,7 +64,7 @@ returns-clause-ran g c = λ begun e.
     (c.loop-byte.invariant.0 begun e)
 
 pub returns-clause-lasts : goal.returns-clause-lasts
-returns-clause-lasts g c = c.loop-byte.invariant.2.lives.lasts
+returns-clause-lasts g c = c.loop-byte.invariant.2.lasts
 
 -- ---- a line strays
 
@@ -107,15 +91,8 @@ returns-in-Some-clause-ran g c = λ begun e.
 
 pub returns-in-Some-clause-lasts : goal.returns-in-Some-clause-lasts
 returns-in-Some-clause-lasts g c =
-    (lives_then g.D.RunDisk.state c.args.book.now c.loop-byte.book c.gather_line.new.book
-    c.loop-byte.invariant.2.lives c.gather_line.ensures.lasts
-    c.gather_line.ensures.carries_on).lasts
-
-pub returns-in-Some-clause-carries_on : goal.returns-in-Some-clause-carries_on
-returns-in-Some-clause-carries_on g c =
-    (lives_then g.D.RunDisk.state c.args.book.now c.loop-byte.book c.gather_line.new.book
-    c.loop-byte.invariant.2.lives c.gather_line.ensures.lasts
-    c.gather_line.ensures.carries_on).carries_on
+    lasts_then c.args.book.now.session c.loop-byte.book.session
+    c.gather_line.new.book.session c.loop-byte.invariant.2.lasts c.gather_line.ensures.lasts
 
 -- ---- another byte
 
@@ -163,10 +140,7 @@ loop-byte-preserved g c =
             omega (arith, c.loop-byte.invariant.1),
             record {
               sound = w.in_ok-why.ensures.sound;
-              lives =
-                  lives_then g.D.RunDisk.state c.args.book.now c.loop-byte.book
-                  w.gather_line.new.book c.loop-byte.invariant.2.lives
-                  w.gather_line.ensures.lasts w.gather_line.ensures.carries_on;
+              lasts = lasts_then c.args.book.now.session c.loop-byte.book.session w.gather_line.new.book.session c.loop-byte.invariant.2.lasts w.gather_line.ensures.lasts;
             },
           )
       | else-byte-eq10+then-not-is_full w ↦

@@ -13,4 +13,4 @@ invariant-loop-byte g l =
     l.initial.gathered.items l.gathered.items
     (g.W.Write.contents l.initial.output) (g.W.Write.contents l.output))
     × (l.number ≤ l.initial.number + l.byte-index)
-    × Goes g.D.RunDisk.state l.initial.book l.book
+    × Goes l.initial.book l.book

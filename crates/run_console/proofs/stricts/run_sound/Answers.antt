@@ -1,8 +1,7 @@
 use Rattle.std.proofs.lemmas.Result.{err_from_is_err_and}
 use Rattle.run_book.specs.Views.{holding}
-use Rattle.run_console.proofs.Going.{lives_then}
+use Rattle.run_console.proofs.Going.{lasts_then}
 use Rattle.run_console.proofs.StrictLemmas.{runs_strictly, stops_closing_strictly}
-use Rattle.run_console.proofs.Troubles.{accounts_earlier}
 use Rattle.run_console.proofs.stricts.run_sound.Goals as goal
 
 pub returns-clause-runs : goal.returns-clause-runs
@@ -29,49 +28,14 @@ returns-in_err-close-clause-stops g c =
     c.in_ok-stray.ensures.ran c.close.ensures.session c.in_err-close.ensures.stops
     c.in_err-close.ensures.tried)
 
-pub returns-in_err-close-clause-accounts : goal.returns-in_err-close-clause-accounts
-returns-in_err-close-clause-accounts g c =
-    let p = err_from_is_err_and c.from_residual-in_err-close.result
-    c.from_residual-in_err-close.ensures.1 in
-    rw (p.1, p.2) (
-    accounts_earlier g.D.RunDisk.state (holding c.args.book.now) (holding c.run_lines.new.book)
-    (holding c.close.new.book) c.in_err-close.field-0.0
-    c.run_lines.ensures.carries_on.passed c.in_err-close.ensures.accounts)
-
 -- ---- the book
 
 pub returns-in_err-close-clause-lasts : goal.returns-in_err-close-clause-lasts
 returns-in_err-close-clause-lasts g c =
-    (lives_then g.D.RunDisk.state c.args.book.now c.run_lines.new.book c.close.new.book
-    (record {
-      lasts = c.run_lines.ensures.lasts;
-      carries_on = c.run_lines.ensures.carries_on;
-    })
-    c.close.ensures.lasts c.close.ensures.carries_on).lasts
-
-pub returns-in_err-close-clause-carries_on : goal.returns-in_err-close-clause-carries_on
-returns-in_err-close-clause-carries_on g c =
-    (lives_then g.D.RunDisk.state c.args.book.now c.run_lines.new.book c.close.new.book
-    (record {
-      lasts = c.run_lines.ensures.lasts;
-      carries_on = c.run_lines.ensures.carries_on;
-    })
-    c.close.ensures.lasts c.close.ensures.carries_on).carries_on
+    lasts_then c.args.book.now.session c.run_lines.new.book.session
+    c.close.new.book.session c.run_lines.ensures.lasts c.close.ensures.lasts
 
 pub returns-clause-lasts : goal.returns-clause-lasts
 returns-clause-lasts g c =
-    (lives_then g.D.RunDisk.state c.args.book.now c.run_lines.new.book c.close.new.book
-    (record {
-      lasts = c.run_lines.ensures.lasts;
-      carries_on = c.run_lines.ensures.carries_on;
-    })
-    c.close.ensures.lasts c.close.ensures.carries_on).lasts
-
-pub returns-clause-carries_on : goal.returns-clause-carries_on
-returns-clause-carries_on g c =
-    (lives_then g.D.RunDisk.state c.args.book.now c.run_lines.new.book c.close.new.book
-    (record {
-      lasts = c.run_lines.ensures.lasts;
-      carries_on = c.run_lines.ensures.carries_on;
-    })
-    c.close.ensures.lasts c.close.ensures.carries_on).carries_on
+    lasts_then c.args.book.now.session c.run_lines.new.book.session
+    c.close.new.book.session c.run_lines.ensures.lasts c.close.ensures.lasts

@@ -7,7 +7,7 @@ use Rattle.console_lines.specs.declared.faults.RunFault.TheVariants as fault
 use Rattle.console_lines.specs.Lines.{open_line}
 use Rattle.console_lines.proofs.Written.{consumes_kept, consumes_nothing, consumes_then}
 use Rattle.run_console.specs.Strict.{PartCut, PartRuns}
-use Rattle.run_console.proofs.Going.{goes_none, lives_then}
+use Rattle.run_console.proofs.Going.{goes_none, lasts_then}
 use Rattle.run_console.proofs.Parts.{part_begins, part_then}
 use Rattle.run_console.proofs.StrictLemmas.{clean_begins, clean_parts, ends_clean, few_before}
 use Rattle.run_console.proofs.StrictLemmas.{is_clean, part_few, part_here}
@@ -16,7 +16,6 @@ use Rattle.run_console.proofs.StrictLemmas.{stops_reading_strictly}
 use Rattle.run_console.proofs.Wholes.{part_read}
 use Rattle.run_console.proofs.stricts.run_whole_lines.Goals as goal
 use Rattle.run_book.specs.Views.{holding}
-use Rattle.run_console.proofs.Troubles.{accounts_earlier, accounts_sound}
 
 pub loop-total-init : goal.loop-total-init
 loop-total-init g c = (
@@ -27,8 +26,7 @@ loop-total-init g c = (
   clean_begins g.D.RunDisk.state 1 _ [] _ [] c.args.book.now _ c.requires.number
       (part_begins g.D.RunDisk.state [] _ [] c.args.book.now _ c.requires.tail),
   c.requires.gathered,
-  goes_none g.D.RunDisk.state c.args.book.now c.requires.sound
-      c.durable-durable.ensures.carries_on,
+  goes_none c.args.book.now c.requires.sound,
 )
 
 -- ---- the input is read
@@ -130,9 +128,7 @@ loop-total-preserved g c =
       c.in_ok-write_gathered.ensures.none,
       record {
         sound = c.in_ok-found.ensures.sound;
-        lives =
-            lives_then g.D.RunDisk.state c.args.book.now c.loop-total.book c.run_part.new.book
-            inv.6.lives c.run_part.ensures.lasts c.run_part.ensures.carries_on;
+        lasts = lasts_then c.args.book.now.session c.loop-total.book.session c.run_part.new.book.session inv.6.lasts c.run_part.ensures.lasts;
       },
     )
 
@@ -239,75 +235,30 @@ returns-in_err-write_gathered-clause-stops g c =
 -- ---- the book
 
 pub returns-then-count-eq0-clause-lasts : goal.returns-then-count-eq0-clause-lasts
-returns-then-count-eq0-clause-lasts g c = c.loop-total.invariant.6.lives.lasts
+returns-then-count-eq0-clause-lasts g c = c.loop-total.invariant.6.lasts
 
 pub returns-in_err-count-clause-lasts : goal.returns-in_err-count-clause-lasts
-returns-in_err-count-clause-lasts g c = c.loop-total.invariant.6.lives.lasts
+returns-in_err-count-clause-lasts g c = c.loop-total.invariant.6.lasts
 
 pub returns-clause-lasts : goal.returns-clause-lasts
-returns-clause-lasts g c = c.loop-total.invariant.6.lives.lasts
+returns-clause-lasts g c = c.loop-total.invariant.6.lasts
 
 pub returns-in_err-found-clause-lasts : goal.returns-in_err-found-clause-lasts
 returns-in_err-found-clause-lasts g c =
-    (lives_then g.D.RunDisk.state c.args.book.now c.loop-total.book c.run_part.new.book
-    c.loop-total.invariant.6.lives c.run_part.ensures.lasts c.run_part.ensures.carries_on).lasts
-
-pub returns-in_err-found-clause-carries_on : goal.returns-in_err-found-clause-carries_on
-returns-in_err-found-clause-carries_on g c =
-    (lives_then g.D.RunDisk.state c.args.book.now c.loop-total.book c.run_part.new.book
-    c.loop-total.invariant.6.lives c.run_part.ensures.lasts
-    c.run_part.ensures.carries_on).carries_on
+    lasts_then c.args.book.now.session c.loop-total.book.session
+    c.run_part.new.book.session c.loop-total.invariant.6.lasts c.run_part.ensures.lasts
 
 pub returns-in_err-write_gathered-clause-lasts : goal.returns-in_err-write_gathered-clause-lasts
 returns-in_err-write_gathered-clause-lasts g c =
-    (lives_then g.D.RunDisk.state c.args.book.now c.loop-total.book c.run_part.new.book
-    c.loop-total.invariant.6.lives c.run_part.ensures.lasts c.run_part.ensures.carries_on).lasts
-
-pub returns-in_err-write_gathered-clause-carries_on :
-    goal.returns-in_err-write_gathered-clause-carries_on
-returns-in_err-write_gathered-clause-carries_on g c =
-    (lives_then g.D.RunDisk.state c.args.book.now c.loop-total.book c.run_part.new.book
-    c.loop-total.invariant.6.lives c.run_part.ensures.lasts
-    c.run_part.ensures.carries_on).carries_on
+    lasts_then c.args.book.now.session c.loop-total.book.session
+    c.run_part.new.book.session c.loop-total.invariant.6.lasts c.run_part.ensures.lasts
 
 -- ---- the store
 
-pub returns-in_err-count-clause-accounts : goal.returns-in_err-count-clause-accounts
-returns-in_err-count-clause-accounts g c =
-    let p = err_from_is_err_and c.from_residual.result c.from_residual.ensures.1 in
-    rw (p.1, p.2, c.in_err-count.ensures.fault) c.loop-total.invariant.6.sound
-
-pub returns-clause-accounts : goal.returns-clause-accounts
-returns-clause-accounts g c = c.loop-total.invariant.6.sound
-
-pub returns-in_err-found-clause-accounts : goal.returns-in_err-found-clause-accounts
-returns-in_err-found-clause-accounts g c =
-    let p = err_from_is_err_and c.from_residual-in_err-found.result
-    c.from_residual-in_err-found.ensures.1 in
-    rw (p.1, p.2) (
-    accounts_earlier g.D.RunDisk.state (holding c.args.book.now) (holding c.loop-total.book)
-    (holding c.run_part.new.book) c.in_err-found.field-0.0
-    c.loop-total.invariant.6.lives.carries_on.passed c.in_err-found.ensures.accounts)
-
-pub returns-in_err-write_gathered-clause-accounts :
-    goal.returns-in_err-write_gathered-clause-accounts
-returns-in_err-write_gathered-clause-accounts g c =
-    let p = err_from_is_err_and c.from_residual-in_err-write_gathered.result
-    c.from_residual-in_err-write_gathered.ensures.1 in
-    rw (p.1, p.2, c.in_err-write_gathered.ensures.fault) (
-    accounts_sound g.D.RunDisk.state (holding c.args.book.now) (holding c.run_part.new.book)
-    c.in_ok-found.ensures.sound)
-
 pub returns-then-is_some-clause-lasts : goal.returns-then-is_some-clause-lasts
 returns-then-is_some-clause-lasts g c =
-    (lives_then g.D.RunDisk.state c.args.book.now c.loop-total.book c.run_part.new.book
-    c.loop-total.invariant.6.lives c.run_part.ensures.lasts c.run_part.ensures.carries_on).lasts
-
-pub returns-then-is_some-clause-carries_on : goal.returns-then-is_some-clause-carries_on
-returns-then-is_some-clause-carries_on g c =
-    (lives_then g.D.RunDisk.state c.args.book.now c.loop-total.book c.run_part.new.book
-    c.loop-total.invariant.6.lives c.run_part.ensures.lasts
-    c.run_part.ensures.carries_on).carries_on
+    lasts_then c.args.book.now.session c.loop-total.book.session
+    c.run_part.new.book.session c.loop-total.invariant.6.lasts c.run_part.ensures.lasts
 
 pub run_part-requires-clause-number : goal.run_part-requires-clause-number
 run_part-requires-clause-number g c =
