@@ -12,3 +12,9 @@ pub mod AllowedKept
 pub mod AllowedBefore
 pub mod Numbering
 pub mod Raising
+pub mod Flagging
+pub mod Hosting
+pub mod Leaving
+pub mod Needing
+pub mod Marked
+pub mod Layouts

@@ -24,6 +24,24 @@ number_at_most keeps zero = omega arith
 number_at_most keeps (suc n) =
     more_at_least (keeps n) n (new_number keeps n) (number_at_most keeps n)
 
+-- A row further behind has no lesser new number.
+pub number_up : (keeps : ℕ → Bool) (n m : ℕ) → n ≤ m → new_number keeps n ≤ new_number keeps m
+number_up keeps n zero less =
+    let none : n ≡ zero = omega (arith, less) in
+    subst (λ k. new_number keeps k ≤ zero) (sym none) (omega arith)
+number_up keeps n (suc m) less =
+    by_order (cases_order n (suc m)) (λ below. number_up keeps n m below)
+  where
+    by_order : (n ≡ suc m) ⊎ ((n < suc m) ⊎ (suc m < n))
+        → (n ≤ m → new_number keeps n ≤ new_number keeps m)
+        → new_number keeps n ≤ one_more_if (keeps m) (new_number keeps m)
+    by_order (inl e) up = subst (λ k. new_number keeps n ≤ new_number keeps k) e (omega arith)
+    by_order (inr (inl below)) up =
+        let lesser = up (omega (arith, below)) in
+        let more = more_at_most (keeps m) (new_number keeps m) in
+        omega (arith, lesser, more)
+    by_order (inr (inr above)) up = absurd (omega (arith, less, above))
+
 -- A row that is kept has a lesser new number than each row behind it.
 pub number_less : (keeps : ℕ → Bool) (n m : ℕ) → keeps n ≡ true → n < m
     → new_number keeps n < new_number keeps m

@@ -1,11 +1,13 @@
 -- What is left of a state that is renewed: all that isn't finished, and what that stands on.
 use Rattle.std.specs.Prelude.{ℕ, zero, suc, ◌==◌, Bool, true, false, not, ◌&&◌, ◌||◌, List, [], ◌∷◌}
-use Rattle.std.specs.Prelude.{length, map, slice_get}
+use Rattle.std.specs.Prelude.{length, map, nat_le, slice_get}
 use Rattle.std.specs.List.{list_any, range_with_len}
 use Rattle.std.specs.Option.{option_map, option_map_or}
 use Rattle.run_model.specs.declared.scopes.Scope.{Scope}
 use Rattle.run_model.specs.declared.groups.Group.{Group}
 use Rattle.run_model.specs.declared.tasks.Task.{Task}
+use Rattle.run_model.specs.declared.layouts.Layout.{Layout}
+use Rattle.run_model.specs.Layouts.{most_scopes, most_tasks}
 use Rattle.run_model.specs.State.{State, TreeState, WorkState}
 use Rattle.run_model.specs.Scopes.{line, is_done}
 use Rattle.scope_laws.specs.Hits.{is_on}
@@ -90,3 +92,17 @@ renewed p = record {
     tasks = map (task_told p) (kept (keeps_task p) p.work.tasks);
   };
 }
+
+-- The renewed state in this layout.
+abbrev pub renewed_in : Layout → State → State
+renewed_in layout p = record (renewed p) {
+  tree = record (renewed p).tree { layout = layout };
+  work = record (renewed p).work { layout = layout };
+}
+
+-- A store of this layout has room for the scopes and the tasks of the state. Every layout has for
+-- the groups.
+abbrev pub fits_in : Layout → State → Bool
+fits_in layout p =
+    nat_le (length p.tree.scopes) (most_scopes layout)
+    && nat_le (length p.work.tasks) (most_tasks layout)

@@ -1,13 +1,22 @@
 //! The image of a renewed state.
 
-ghost use Rattle.std.specs.Prelude.{ℕ, List};
+ghost use Rattle.std.specs.Prelude.{◌≡◌, ℕ, true, List};
 ghost use Rattle.run_model.specs.declared.layouts.Layout.{Layout};
+ghost use Rattle.run_model.specs.Rules.{IsConsistent};
 ghost use Rattle.run_model.specs.State.{State};
 ghost use Rattle.record_view.specs.declared.heads.ImageVersion.{ImageVersion};
 ghost use Rattle.record_view.specs.declared.heads.ImageVersion.TheVariants.{Two};
 ghost use Rattle.record_view.specs.Image.{image};
 ghost use Rattle.record_view.specs.Keeping.{IsImage};
-ghost use Rattle.state_renewal.specs.Renewed.{renewed};
+ghost use Rattle.state_renewal.specs.Renewed.{fits_in, renewed, renewed_in};
+
+/// A renewed state meets the rules in each layout that has room for it, and its image is the same.
+pub fn a_renewed_state_goes_into_each_layout_with_room()
+    ensures rules { (layout : Layout) (p : State) → IsConsistent p
+        → fits_in layout (renewed p) ≡ true → IsConsistent (renewed_in layout p) }
+    ensures image { (layout : Layout) (p : State) → image (renewed_in layout p)
+        ≡ image (renewed p) }
+{}
 
 /// A state that has an image has one renewed, of the same layout, which is read again.
 pub fn a_renewed_state_has_an_image()

@@ -3,12 +3,14 @@
 //! Each function of [`examples`], [`images`] and [`renewals`] has an empty body, and its clauses
 //! are the law or the example. They speak of the definitions of `run_model` and of `Renewed` alone.
 //!
-//! [`marks`] is the beginning of the code that renews: it flags the scopes that are kept above
-//! those that are needed, and counts the new numbers. Which rows are needed, and the image of what
-//! is kept, no code says yet.
+//! The code that renews stands behind the laws: [`marks`] are flags of the rows that are kept, with
+//! their new numbers; [`flags`] says which rows those are; and [`rows`] puts them, told anew, into
+//! an image.
 #![tactic(auto)]
 
 pub mod examples;
+pub mod flags;
 pub mod images;
 pub mod marks;
 pub mod renewals;
+pub mod rows;

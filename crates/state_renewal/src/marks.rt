@@ -1,5 +1,5 @@
-//! The marks of a renewal: flags, one for each row, which say whether the row is kept, and the new
-//! numbers of the rows by them.
+//! The [`Marks`] of a renewal: flags, one for each row, which say whether the row is kept, and the
+//! new numbers of the rows by them.
 
 ghost use Rattle.std.specs.Prelude.{◌≡◌, ◌<◌, ◌≤◌, ◌^◌, ℕ, IfOk, IfErr, Some, length, slice_get};
 ghost use Rattle.run_model.specs.declared.faults.Fault.TheVariants.{Memory};
@@ -8,7 +8,56 @@ ghost use Rattle.state_renewal.specs.Marks.{is_above_flagged, is_flagged};
 ghost use Rattle.state_renewal.specs.Renewed.{new_number};
 
 use run_model::{Fault, Kind, Scope};
-use std::alloc::Allocator;
+use std::alloc::{Allocator, Global};
+use std::marker::Model;
+
+/// Which rows of one kind are kept, by a flag for each, and the new number of each.
+#[derive(Drop)]
+pub struct Marks<A: Allocator = Global> {
+    flags: Vec<bool, A>,
+    /// The new number of each row, and behind them how many are kept.
+    numbers: Vec<u16, A>,
+}
+
+impl<A: Allocator> Model for Marks<A> {
+    ghost use Rattle.std.specs.Prelude.{Bool, List};
+    ghost use Rattle.state_renewal.specs.Marks.{AreNewNumbers};
+
+    ghost Value = { List Bool };
+
+    ghost view = { λ m. m.flags.items };
+
+    ghost invariant = { λ m. AreNewNumbers m.flags.items m.numbers.items };
+}
+
+impl<A: Allocator + Copy> Marks<A> {
+    /// The marks by these flags. `Memory` where the memory for the numbers is refused.
+    pub fn new(alloc: A, flags: Vec<bool, A>) -> Result<Marks<A>, Fault>
+        requires few { length flags.items < 2 ^ 16 }
+        ensures flags { IfOk result (λ marks. marks ≡ flags.items) }
+        ensures fault { IfErr result (λ fault. fault ≡ Memory) }
+    {
+        let numbers = new_numbers(alloc, &flags)?;
+        Ok(Marks { flags, numbers })
+    }
+}
+
+impl<A: Allocator> Marks<A> {
+    /// The flags, one for each row.
+    pub fn flags(&self) -> &[bool]
+        ensures { result.now ≡ self.now }
+    {
+        self.flags.as_slice()
+    }
+
+    /// The new number of a row: how many before it are kept. Behind all rows it is how many are.
+    pub fn number(&self, n: u16) -> u16
+        requires known { n ≤ length self.now }
+        ensures value { result ≡ new_number (is_flagged self.now) n }
+    {
+        self.numbers[n as usize]
+    }
+}
 
 /// Flags each scope that is above a flagged one, too. There is a flag for each scope; where those
 /// that are needed are flagged, all that are kept are then. Takes no memory.

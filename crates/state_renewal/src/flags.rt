@@ -1,0 +1,147 @@
+//! Flags of the rows of a state, one for each: which scopes are needed, and which groups and tasks
+//! are kept by the flags of what they live in.
+
+ghost use Rattle.std.specs.Prelude.{◌≡◌, ◌<◌, ◌||◌, ℕ, not, IfOk, IfErr, Some, length, slice_get};
+ghost use Rattle.run_model.specs.declared.faults.Fault.TheVariants.{Memory};
+ghost use Rattle.run_model.specs.declared.groups.Group.{Group as GroupOf};
+ghost use Rattle.run_model.specs.declared.tasks.Task.{Task as TaskOf};
+ghost use Rattle.run_model.specs.Rules.{HasGroup, HasTask};
+ghost use Rattle.run_model.specs.Scopes.{is_done, AreOrdered};
+ghost use Rattle.state_renewal.specs.Marks.{AreFlags, group_stays, group_stays_at, is_flagged};
+ghost use Rattle.state_renewal.specs.Marks.{task_stays_at, with_rows};
+ghost use Rattle.state_renewal.specs.Renewed.{hosts_unwaited, keeps_scope};
+
+use crate::marks::flag_above;
+use crate::rows::{group_at, task_at};
+use run_model::{Fault, Group};
+use scope_tree::Tree;
+use std::alloc::Allocator;
+use task_group::Groups;
+
+/// A flag for each scope, which says whether it is kept: whether it is needed, or above one that
+/// is. `Memory` where the memory for them is refused.
+pub fn flag_scopes<A: Allocator, B: Allocator>(
+    alloc: A,
+    tree: &Tree<B>,
+    groups: &Groups<B>,
+) -> Result<Vec<bool, A>, Fault>
+    requires ordered { AreOrdered tree.now.scopes }
+    requires known { (g : ℕ) (row : GroupOf) → HasGroup groups.now g row
+        → row.scope < length tree.now.scopes }
+    ensures flags { IfOk result (λ flags. (s : ℕ)
+        → is_flagged flags.items s ≡ keeps_scope (with_rows tree.now groups.now) s) }
+    ensures each { IfOk result (λ flags. length flags.items ≡ length tree.now.scopes) }
+    ensures fault { IfErr result (λ fault. fault ≡ Memory) }
+{
+    let mut flags = flag_live(alloc, tree)?;
+    flag_rest(tree, groups, &mut flags);
+    Ok(flags)
+}
+
+/// A flag for each scope, which says whether it isn't done. `Memory` where the memory for them is
+/// refused.
+pub fn flag_live<A: Allocator, B: Allocator>(
+    alloc: A,
+    tree: &Tree<B>,
+) -> Result<Vec<bool, A>, Fault>
+    ensures flags { IfOk result (λ flags. AreFlags (λ s. not (is_done tree.now.scopes s))
+        (length tree.now.scopes) flags.items) }
+    ensures fault { IfErr result (λ fault. fault ≡ Memory) }
+{
+    let Ok(mut flags) = Vec::with_capacity(alloc, tree.len()) else {
+        return Err(Fault::Memory);
+    };
+    for s in 0..tree.len() {
+        flags.push_reserved(is_live(tree, s as u16));
+    }
+    Ok(flags)
+}
+
+/// Flags each scope in which a group lives that wasn't waited for, too. Takes no memory.
+pub fn flag_hosts<A: Allocator>(groups: &Groups<A>, flags: &mut [bool])
+    requires known { (g : ℕ) (row : GroupOf) → HasGroup groups.now g row
+        → row.scope < length flags.old }
+    ensures flags { (s : ℕ)
+        → is_flagged flags.new s ≡ (is_flagged flags.old s || hosts_unwaited groups.now s) }
+    ensures each { length flags.new ≡ length flags.old }
+{
+    for g in 0..groups.group_count() {
+        let row = group_at(groups, g);
+        if !row.waited {
+            flags[row.scope as usize] = true;
+        }
+    }
+}
+
+/// A flag for each group, which says whether it stays where these scopes do. `Memory` where the
+/// memory for them is refused.
+pub fn flag_groups<A: Allocator, B: Allocator>(
+    alloc: A,
+    groups: &Groups<B>,
+    scopes: &[bool],
+) -> Result<Vec<bool, A>, Fault>
+    requires known { (g : ℕ) (row : GroupOf) → HasGroup groups.now g row
+        → row.scope < length scopes.now }
+    ensures flags { IfOk result (λ flags. AreFlags (group_stays_at scopes.now groups.now.groups)
+        (length groups.now.groups) flags.items) }
+    ensures fault { IfErr result (λ fault. fault ≡ Memory) }
+{
+    let Ok(mut flags) = Vec::with_capacity(alloc, groups.group_count()) else {
+        return Err(Fault::Memory);
+    };
+    for g in 0..groups.group_count() {
+        flags.push_reserved(group_stays(group_at(groups, g), scopes));
+    }
+    Ok(flags)
+}
+
+/// A flag for each task, which says whether its group stays. `Memory` where the memory for them is
+/// refused.
+pub fn flag_tasks<A: Allocator, B: Allocator>(
+    alloc: A,
+    groups: &Groups<B>,
+    stay: &[bool],
+) -> Result<Vec<bool, A>, Fault>
+    requires known { (n : ℕ) (row : TaskOf) → HasTask groups.now n row
+        → row.group < length stay.now }
+    ensures flags { IfOk result (λ flags. AreFlags (task_stays_at stay.now groups.now.tasks)
+        (length groups.now.tasks) flags.items) }
+    ensures fault { IfErr result (λ fault. fault ≡ Memory) }
+{
+    let Ok(mut flags) = Vec::with_capacity(alloc, groups.task_count()) else {
+        return Err(Fault::Memory);
+    };
+    for n in 0..groups.task_count() {
+        flags.push_reserved(stay[task_at(groups, n).group as usize]);
+    }
+    Ok(flags)
+}
+
+/// Flags, beside the live scopes, the others that are kept.
+fn flag_rest<A: Allocator>(tree: &Tree<A>, groups: &Groups<A>, flags: &mut [bool])
+    requires ordered { AreOrdered tree.now.scopes }
+    requires known { (g : ℕ) (row : GroupOf) → HasGroup groups.now g row
+        → row.scope < length tree.now.scopes }
+    requires live { AreFlags (λ s. not (is_done tree.now.scopes s)) (length tree.now.scopes)
+        flags.old }
+    ensures flags { (s : ℕ)
+        → is_flagged flags.new s ≡ keeps_scope (with_rows tree.now groups.now) s }
+    ensures each { length flags.new ≡ length flags.old }
+{
+    flag_hosts(groups, flags);
+    flag_above(tree.rows(), flags);
+}
+
+fn is_live<A: Allocator>(tree: &Tree<A>, s: u16) -> bool
+    requires { s < length tree.now.scopes }
+    ensures { result ≡ not (is_done tree.now.scopes s) }
+{
+    tree.err(s).is_none()
+}
+
+fn group_stays(row: &Group, scopes: &[bool]) -> bool
+    requires { row.now.scope < length scopes.now }
+    ensures { result ≡ group_stays scopes.now row.now }
+{
+    !row.waited || !row.bare && scopes[row.scope as usize]
+}
