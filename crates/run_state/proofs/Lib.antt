@@ -6,3 +6,4 @@ pub mod Keeping
 pub mod Restarting
 pub mod Starting
 pub mod Staying
+pub mod Renewing

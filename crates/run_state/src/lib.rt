@@ -12,7 +12,9 @@ mod asking;
 mod copies;
 mod hits;
 mod questions;
+mod renewals;
 mod states;
 mod wishes;
 
+pub use renewals::Renewal;
 pub use states::State;
