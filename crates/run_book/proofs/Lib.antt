@@ -12,3 +12,4 @@ pub mod Restoring
 pub mod Rooting
 pub mod Saving
 pub mod Stepping
+pub mod Renewing

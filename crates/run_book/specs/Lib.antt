@@ -4,3 +4,4 @@ pub mod Kept
 pub mod Migrating
 pub mod Opened
 pub mod Views
+pub mod Renewals

@@ -10,8 +10,10 @@ mod books;
 mod images;
 mod migrations;
 mod openings;
+mod renewals;
 
 pub use book_model::MigrateFault;
 pub use books::Book;
 pub use migrations::migrate;
+pub use renewals::renew;
 pub use run_state::State;

@@ -117,7 +117,7 @@ fn read_small<D: RunDisk, A: Allocator + Copy>(
 }
 
 /// What a migration tells of a fault of the old disk's recovery.
-fn of_old(fault: Fault) -> MigrateFault
+pub fn of_old(fault: Fault) -> MigrateFault
     ensures { result ≡ of_old fault }
 {
     match fault {

@@ -1,0 +1,115 @@
+-- What a renewal answers, and what it leaves of its two disks: a store is read, and another one is
+-- made of what is left of its state where that is renewed.
+--
+-- Its faults come in this order, and the first whose cause holds is told: Old(WrongSize), where the
+-- old disk has no store's size; New(WrongSize), where the new one has none; Memory; those of a
+-- recovery of the old disk, from DiskFailed on, as Old; Old(NumbersSpent), where 2^62 events or more
+-- were found; Memory, for the marks of what is kept; New(WrongSize), where a store of the new disk's
+-- size has no room for what is kept; New(DiskFailed).
+use Rattle.std.specs.Prelude.{◌≡◌, ◌⊎◌, ◌<◌, ◌≤◌, ◌+◌, ℕ, false, List, None, Result, Ok, Err, IfOk}
+use Rattle.std.specs.Prelude.{MatchResult}
+use Rattle.run_model.specs.declared.faults.Fault.TheVariants.{DiskFailed, WrongSize}
+use Rattle.run_model.specs.declared.layouts.Layout.{Layout}
+use Rattle.run_model.specs.Layouts.{layout_of, store_len}
+use Rattle.run_model.specs.State.{State}
+use Rattle.run_disk.specs.Disk.{DiskState, IsAtRest, last_moment}
+use Rattle.run_disk.specs.Runs.{LeavesOnly, OnlyReads, Passed}
+use Rattle.run_journal.specs.Pairs.{AreZeros}
+use Rattle.run_store.specs.Recoveries.{Made}
+use Rattle.state_renewal.specs.Renewed.{fits_in, renewed, renewed_in}
+use Rattle.book_model.specs.declared.migrations.MigrateFault.{MigrateFault}
+use Rattle.book_model.specs.declared.migrations.MigrateFault.TheVariants as why
+use Rattle.book_model.specs.Migrations.{AreUncalled, HasReadSmall, ReadsNot, new_disk}
+use Rattle.book_model.specs.Stores.{Stores, StoresFresh, StoresNothingOr}
+
+-- ---- the new disk, which is written
+
+-- Where the new disk held zeros, and whatever a crash had left of it too, a crash at any moment
+-- since leaves a disk that stores nothing, or the renewed state in the layout of its size.
+abbrev pub StopsRenewal : State → DiskState → DiskState → Type 0
+StopsRenewal p given new =
+    given.honest → ((x : List ℕ) → given.images x → AreZeros x) → (layout : Layout)
+    → given.size ≡ store_len layout
+    → LeavesOnly (StoresNothingOr (renewed_in layout p)) given new
+
+-- The new store was made, by eight calls of which none failed: every crash now leaves a fresh store
+-- of the renewed state, in generation 0; and the disk is at rest where it was.
+pub record HasWrittenRenewed (layout : Layout) (p : State) (given new : DiskState) : Type 0 where
+  pub made : Made 8 given new
+  pub passed : Passed given new
+  pub stores : given.honest → (x : List ℕ) → new.images x → Stores x (renewed_in layout p)
+  pub fresh : given.honest → (x : List ℕ) → new.images x
+      → StoresFresh layout 0 (renewed_in layout p) x
+  pub rest : given.honest → IsAtRest given → IsAtRest new
+  pub stops : StopsRenewal p given new
+
+-- A call failed, or the disk is spent: it may be no store.
+pub record HasFailedRenewed (p : State) (given new : DiskState) : Type 0 where
+  pub most : new.clock ≤ given.clock + 8
+  pub cause : (given.failures < new.failures) ⊎ (new.clock ≡ last_moment)
+  pub passed : Passed given new
+  pub stops : StopsRenewal p given new
+
+-- A store of the new disk's size has no room for what is kept of the state.
+pub record HasNoRoom (p : State) (given : DiskState) : Type 0 where
+  pub layout : Layout
+  pub size : given.size ≡ store_len layout
+  pub full : fits_in layout (renewed p) ≡ false
+
+-- Why no store was made of a state, by the fault that tells it, and what is left of the new disk.
+abbrev pub WritesNot : {E : Type 0} → (E → DiskState) → State → E → MigrateFault → E → Type 0
+WritesNot to p given why.Memory new = new ≡ given
+WritesNot to p given (why.New WrongSize) new = HasNoRoom p (to given) × (new ≡ given)
+WritesNot to p given (why.New DiskFailed) new = HasFailedRenewed p (to given) (to new)
+WritesNot to p given fault new = ⊥
+
+-- ---- a renewal
+
+-- The old store was read, and the new one made of what is left of its state.
+pub record HasRenewed (old read given new : DiskState) : Type 0 where
+  pub layout : Layout
+  pub size : given.size ≡ store_len layout
+  pub state : State
+  pub found : HasReadSmall state old read
+  pub written : HasWrittenRenewed layout state given new
+
+-- The old store was read, and no new one is made of its state.
+pub record HasNotRenewed
+    {E : Type 0} (to : E → DiskState) (old read : DiskState) (given : E) (fault : MigrateFault)
+    (new : E) : Type 0 where
+  pub state : State
+  pub found : HasReadSmall state old read
+  pub none : WritesNot to state given fault new
+
+-- Why no store was made, by the fault that tells it, and what is left of the two disks: one of them
+-- has no store's size, and neither was called; or the old one wasn't read; or it was, and none was
+-- made of its state.
+abbrev pub RenewsNot : {D E : Type 0} → (D → DiskState) → (E → DiskState) → D → E → MigrateFault
+    → D → E → Type 0
+RenewsNot from to old given fault read new =
+    ((fault ≡ why.Old WrongSize) × (layout_of (from old).size ≡ None)
+    × AreUncalled old given read new)
+    ⊎ ((fault ≡ why.New WrongSize) × (layout_of (to given).size ≡ None)
+    × AreUncalled old given read new)
+    ⊎ (ReadsNot from old fault read × (new ≡ given))
+    ⊎ HasNotRenewed to (from old) (from read) given fault new
+
+-- What a renewal answers: the new disk, and at a fault the fault too.
+abbrev pub AnswersRenewal : {D E : Type 0} → (D → DiskState) → (E → DiskState) → D → E
+    → Result E (MigrateFault × E) → D → Type 0
+AnswersRenewal from to old given result read =
+    MatchResult result (λ new. HasRenewed (from old) (from read) (to given) (to new))
+    (λ e. RenewsNot from to old given e.0 read e.1)
+
+-- What a renewal answers and leaves. The old disk is read alone. Where it is honest and stores a
+-- state: at Ok every crash of an honest new disk leaves that state, renewed; and where the new disk
+-- held zeros, a crash at any moment since the start leaves nothing or that.
+pub record Renews {D E : Type 0} (from : D → DiskState) (to : E → DiskState) (old : D)
+    (given : E) (result : Result E (MigrateFault × E)) (read : D) : Type 0 where
+  pub answer : AnswersRenewal from to old given result read
+  pub reads : (from old).honest → OnlyReads (from old) (from read)
+  pub now : (from old).honest → (to given).honest → (p : State) → Stores (from old).now p
+      → IfOk result (λ new. (layout : Layout) → (to given).size ≡ store_len layout
+      → (x : List ℕ) → (to new).images x → Stores x (renewed_in layout p))
+  pub any_moment : (from old).honest → (p : State) → Stores (from old).now p
+      → StopsRenewal p (to given) (to (new_disk result))

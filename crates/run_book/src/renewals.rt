@@ -1,0 +1,196 @@
+//! A renewal: a store is made of what isn't finished in another. [`renew`] reads the one, and makes
+//! the other.
+
+ghost use Rattle.std.specs.Prelude.{◌≡◌, ◌≤◌, ◌<◌, ◌+◌, ◌^◌, drop, length, take, true, IfOk, IfErr};
+ghost use Rattle.std.specs.Prelude.{OnOk, OnErr};
+ghost use Rattle.run_model.specs.declared.faults.Fault.TheVariants.{DiskFailed};
+ghost use Rattle.run_model.specs.Layouts.{store_len};
+ghost use Rattle.run_model.specs.Session.{opened};
+ghost use Rattle.record_view.specs.declared.heads.ImageVersion.TheVariants.{Two};
+ghost use Rattle.record_view.specs.Image.{greatest_image, image};
+ghost use Rattle.record_view.specs.Keeping.{IsImage};
+ghost use Rattle.state_renewal.specs.Marks.{AreMarks};
+ghost use Rattle.state_renewal.specs.Renewed.{fits_in, renewed, renewed_in};
+ghost use Rattle.book_model.specs.declared.migrations.MigrateFault.TheVariants as why;
+ghost use Rattle.book_model.specs.Migrations.{HasReadSmall, ReadsNot};
+ghost use Rattle.run_book.specs.Renewals.{HasFailedRenewed, HasRenewed, HasWrittenRenewed, Renews};
+ghost use Rattle.run_book.specs.Renewals.{RenewsNot, WritesNot};
+
+use crate::images::HEAD;
+use crate::migrations::of_old;
+use crate::openings::{body_len, read_state};
+use book_model::MigrateFault;
+use run_disk::RunDisk;
+use run_journal::Journal;
+use run_model::{Fault, Layout};
+use run_state::{Renewal, State};
+use std::alloc::Allocator;
+
+/// Makes a store of what isn't finished in another one, and of what that stands on: of a disk of a
+/// store's size, which is given back, with what a renewal leaves of the state that the old disk
+/// stores, its number of events and its running tasks included. Either may be small or large, where
+/// the new one has room for what is left. No restart is applied. The old disk is read by three
+/// calls, and nothing is written to it; the new one takes the eight calls of a format.
+///
+/// Its faults, of which the first that holds is told: `Old(WrongSize)` where the old disk has no
+/// store's size; `New(WrongSize)` where the new one has none; `Memory`; the other faults of
+/// [`Book::recover`](crate::Book::recover), as `Old`; `Old(NumbersSpent)` where there were 2^62
+/// events or more; `Memory` once more; `New(WrongSize)` where the new store has no room for what is
+/// left; and `New(DiskFailed)` where a call of the new disk failed: then it may be no store. It is
+/// handed back at each fault, and was not called before the last. Where it held zeros, a renewal
+/// that stops leaves nothing stored in it, or the new store.
+pub fn renew<D: RunDisk, E: RunDisk, A: Allocator + Copy>(
+    alloc: A,
+    old: &mut D,
+    new: E,
+) -> Result<E, (MigrateFault, E)>
+    ensures renews { Renews D.state E.state old.old new result old.new }
+{
+    let mut new = new;
+    let Some(from) = Layout::of(old.size()) else {
+        return Err((MigrateFault::Old(Fault::WrongSize), new));
+    };
+    let Some(to) = Layout::of(new.size()) else {
+        return Err((MigrateFault::New(Fault::WrongSize), new));
+    };
+    match renew_sized(alloc, old, from, &mut new, to) {
+        Ok(()) => Ok(new),
+        Err(fault) => Err((fault, new)),
+    }
+}
+
+/// Makes a store of what is left of another, on disks of their layouts.
+fn renew_sized<D: RunDisk, E: RunDisk, A: Allocator + Copy>(
+    alloc: A,
+    old: &mut D,
+    from: Layout,
+    new: &mut E,
+    to: Layout,
+) -> Result<(), MigrateFault>
+    requires from { (D.state old.old).size ≡ store_len from }
+    requires to { (E.state new.old).size ≡ store_len to }
+    ensures renewed { OnOk result (HasRenewed (D.state old.old) (D.state old.new)
+        (E.state new.old) (E.state new.new)) }
+    ensures not { IfErr result (λ fault.
+        RenewsNot D.state E.state old.old new.old fault old.new new.new) }
+{
+    let Rooms { state, mut body } = make_rooms(alloc, from, to)?;
+    let stored = read_stored(alloc, old, state)?;
+    write_left(alloc, new, &stored, to, &mut body)
+}
+
+/// The room of a renewal: for the old state, and an image of the new one.
+#[derive(Drop)]
+struct Rooms<A: Allocator> {
+    state: State<A>,
+    body: Vec<u8, A>,
+}
+
+fn make_rooms<A: Allocator + Copy>(
+    alloc: A,
+    from: Layout,
+    to: Layout,
+) -> Result<Rooms<A>, MigrateFault>
+    ensures state { IfOk result (λ rooms. rooms.state ≡ (opened from).state) }
+    ensures body { IfOk result (λ rooms.
+        length rooms.body.items ≡ 12 + greatest_image Two to) }
+    ensures fault { IfErr result (λ fault. fault ≡ why.Memory) }
+{
+    let Ok(state) = State::new(alloc, from) else {
+        return Err(MigrateFault::Memory);
+    };
+    let Ok(body) = vec![in alloc; 0u8; body_len(to)] else {
+        return Err(MigrateFault::Memory);
+    };
+    Ok(Rooms { state, body })
+}
+
+/// The state that a store holds, which is made in a new one of its layout.
+fn read_stored<D: RunDisk, A: Allocator + Copy>(
+    alloc: A,
+    old: &mut D,
+    state: State<A>,
+) -> Result<State<A>, MigrateFault>
+    requires new { state ≡ (opened state.tree.layout).state }
+    requires size { (D.state old.old).size ≡ store_len state.tree.layout }
+    ensures found { IfOk result (λ p. HasReadSmall p (D.state old.old) (D.state old.new)) }
+    ensures none { IfErr result (λ fault. ReadsNot D.state old.old fault old.new) }
+{
+    let (_stored, state) = match read_state(alloc, old, state) {
+        Ok(read) => read,
+        Err(fault) => return Err(of_old(fault)),
+    };
+    if state.count() >= 1 << 62 {
+        return Err(MigrateFault::Old(Fault::NumbersSpent));
+    }
+    Ok(state)
+}
+
+/// Makes a store of what is left of a state. The buffer takes the journal's head and an image.
+fn write_left<E: RunDisk, A: Allocator + Copy>(
+    alloc: A,
+    new: &mut E,
+    state: &State<A>,
+    to: Layout,
+    body: &mut [u8],
+) -> Result<(), MigrateFault>
+    requires size { (E.state new.old).size ≡ store_len to }
+    requires few { state.now.count < 2 ^ 62 }
+    requires room { length body.old ≡ 12 + greatest_image Two to }
+    ensures written { OnOk result (HasWrittenRenewed to state.now (E.state new.old)
+        (E.state new.new)) }
+    ensures not { IfErr result (λ fault. WritesNot E.state state.now new.old fault new.new) }
+{
+    let Ok(renewal) = state.renewal(alloc) else {
+        return Err(MigrateFault::Memory);
+    };
+    if !state.fits_renewed(&renewal, to) {
+        return Err(MigrateFault::New(Fault::WrongSize));
+    }
+    match write_fitting(new, state, &renewal, to, body) {
+        Ok(()) => Ok(()),
+        Err(fault) => Err(MigrateFault::New(fault)),
+    }
+}
+
+/// Makes a store of what is left of a state, for which it has room.
+fn write_fitting<E: RunDisk, A: Allocator>(
+    new: &mut E,
+    state: &State<A>,
+    renewal: &Renewal<A>,
+    to: Layout,
+    body: &mut [u8],
+) -> Result<(), Fault>
+    requires size { (E.state new.old).size ≡ store_len to }
+    requires marks { AreMarks state.now renewal.now.scopes renewal.now.groups renewal.now.tasks }
+    requires few { state.now.count < 2 ^ 62 }
+    requires fits { fits_in to (renewed state.now) ≡ true }
+    requires room { length body.old ≡ 12 + greatest_image Two to }
+    ensures written { OnOk result (HasWrittenRenewed to state.now (E.state new.old)
+        (E.state new.new)) }
+    ensures failed { OnErr result (HasFailedRenewed state.now (E.state new.old) (E.state new.new)) }
+    ensures fault { IfErr result (λ fault. fault ≡ DiskFailed) }
+{
+    let count = fill_renewed(state, renewal, to, body);
+    Journal::format(new, &mut body[..HEAD + count])
+}
+
+/// Writes the image of the renewed state behind the place of the journal's head, and gives its
+/// length.
+fn fill_renewed<A: Allocator>(
+    state: &State<A>,
+    renewal: &Renewal<A>,
+    to: Layout,
+    body: &mut [u8],
+) -> usize
+    requires marks { AreMarks state.now renewal.now.scopes renewal.now.groups renewal.now.tasks }
+    requires few { state.now.count < 2 ^ 63 }
+    requires fits { fits_in to (renewed state.now) ≡ true }
+    requires size { length body.old ≡ 12 + greatest_image Two to }
+    ensures size { length body.new ≡ length body.old }
+    ensures most { result ≤ greatest_image Two to }
+    ensures image { take result (drop 12 body.new) ≡ image (renewed state.now) }
+    ensures is_image { IsImage Two to (image (renewed state.now)) (renewed_in to state.now) }
+{
+    state.write_renewed(renewal, to, &mut body[HEAD..])
+}
