@@ -6,7 +6,7 @@
 -- recovery of the old disk, from DiskFailed on, as Old; Old(NumbersSpent), where 2^62 events or more
 -- were found; Memory, for the marks of what is kept; New(WrongSize), where a store of the new disk's
 -- size has no room for what is kept; New(DiskFailed).
-use Rattle.std.specs.Prelude.{◌≡◌, ◌⊎◌, ◌<◌, ◌≤◌, ◌+◌, ℕ, false, List, None, Result, Ok, Err, IfOk}
+use Rattle.std.specs.Prelude.{◌≡◌, ◌⊎◌, ◌<◌, ◌≤◌, ◌+◌, ℕ, false, List, None, Result, IfOk}
 use Rattle.std.specs.Prelude.{MatchResult}
 use Rattle.run_model.specs.declared.faults.Fault.TheVariants.{DiskFailed, WrongSize}
 use Rattle.run_model.specs.declared.layouts.Layout.{Layout}

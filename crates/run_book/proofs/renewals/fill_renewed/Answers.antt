@@ -1,4 +1,4 @@
-use Rattle.std.proofs.Common.{◌∙◌, arith, ap}
+use Rattle.std.proofs.Common.{arith}
 use Rattle.record_view.specs.declared.heads.ImageVersion.TheVariants.{Two}
 use Rattle.record_view.specs.Image.{image}
 use Rattle.record_view.proofs.ImageLengths.{image_most}

@@ -1,4 +1,4 @@
-use Rattle.run_book.proofs.Renewing.{new_size, new_state, written_done, written_not}
+use Rattle.run_book.proofs.Renewing.{written_done, written_not}
 use Rattle.run_book.proofs.renewals.renew_sized.Goals as goal
 
 pub returns-clause-renewed : goal.returns-clause-renewed

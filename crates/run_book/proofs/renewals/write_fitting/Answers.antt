@@ -1,4 +1,4 @@
-use Rattle.std.proofs.Common.{◌∙◌, arith}
+use Rattle.std.proofs.Common.{◌∙◌}
 use Rattle.std.proofs.lemmas.List.{drop-take}
 use Rattle.run_book.proofs.Renewing.{fits_slot, renewed_failed, renewed_written}
 use Rattle.run_book.proofs.renewals.write_fitting.Goals as goal
