@@ -2,7 +2,7 @@
 use Rattle.std.proofs.Common.{◌≡◌, ℕ, ◌+◌, ◌<◌, List, [], ◌∷◌, ◌++◌, length, Bool, true, false}
 use Rattle.std.proofs.Common.{Option, None, Some, suc, arith, ◌∙◌, append-nil, append_assoc, ap}
 use Rattle.std.proofs.Common.{inl, inr, refl, subst, sym}
-use Rattle.std.specs.Prelude.{Result, Ok, Err, codes}
+use Rattle.std.specs.Prelude.{Result, Ok, Err, IfOk, IfSome, codes, ◌≤◌}
 use Rattle.run_model.specs.declared.answers.Started.{Started}
 use Rattle.run_model.specs.declared.answers.TaskInfo.{TaskInfo}
 use Rattle.run_model.specs.declared.bounds.TheConstants.{MOST_TASKS}
@@ -13,7 +13,7 @@ use Rattle.run_model.specs.declared.tasks.Outcome.TheVariants as outcome
 use Rattle.run_crew.specs.declared.jobs.Turn.{Turn}
 use Rattle.run_crew.specs.declared.jobs.Turn.TheVariants as turn
 use Rattle.run_crew.specs.declared.notes.Note.{Note}
-use Rattle.run_crew.specs.Courses.{AreCourses, AreFlushes, AreRounds, AreTurns, Call, EndsAt}
+use Rattle.run_crew.specs.Courses.{AreCourses, AreRounds, AreSaves, AreTurns, Call, EndsAt}
 use Rattle.run_crew.specs.Courses.{IsBegun, IsCourse, IsRun, IsShift, IsWatch, Path}
 use Rattle.run_crew.specs.Courses.{TakesTask, Went, declined, most_turns, round, task_calls}
 use Rattle.run_crew.specs.Courses as call
@@ -151,12 +151,12 @@ run_by_none step jobs info job how a b is as_none before =
 run_and :
     {A : Type 0} (step : A → Call → A → Type 0) (started : Started) (durable : ℕ)
     (begun run calls : List Call) (a b c d : A)
-    → begun ≡ call.Start (Ok started) ∷ call.Flush (Ok durable) ∷ []
+    → begun ≡ call.Start (Ok started) ∷ call.Save started.event (Ok durable) ∷ []
     → Path step a begun b → Path step b run c → Path step c calls d
     → Path step a (task_calls started durable run calls) d
 run_and step started durable begun run calls a b c d is first behind last =
-    path-append step (call.Start (Ok started) ∷ call.Flush (Ok durable) ∷ []) (run ++ calls) a b d
-    (subst (λ l. Path step a l b) is first)
+    path-append step (call.Start (Ok started) ∷ call.Save started.event (Ok durable) ∷ [])
+    (run ++ calls) a b d (subst (λ l. Path step a l b) is first)
     (path-append step run calls b c d behind last)
 
 pub refused_start :
@@ -168,33 +168,34 @@ refused_start step answer why a b is start = (
   (b, subst (λ x. step a (call.Start x) b) is start, refl),
 )
 
-pub failed_flush :
+pub failed_save :
     {A : Type 0} (step : A → Call → A → Type 0) (answer : Result Started Refusal)
-    (started : Started) (flushed : Result ℕ Trouble) (trouble : Trouble) (a b c : A)
-    → answer ≡ Ok started → flushed ≡ Err trouble → step a (call.Start answer) b
-    → step b (call.Flush flushed) c → Went step (IsBegun None) a c
-failed_flush step answer started flushed trouble a b c is was start flush = (
-  call.Start (Ok started) ∷ call.Flush (Err trouble) ∷ [],
+    (started : Started) (saved : Result ℕ Trouble) (trouble : Trouble) (a b c : A)
+    → answer ≡ Ok started → saved ≡ Err trouble → step a (call.Start answer) b
+    → step b (call.Save started.event saved) c → Went step (IsBegun None) a c
+failed_save step answer started saved trouble a b c is was start save = (
+  call.Start (Ok started) ∷ call.Save started.event (Err trouble) ∷ [],
   inr (started, trouble, refl),
   (
     b,
     subst (λ x. step a (call.Start x) b) is start,
-    (c, subst (λ x. step b (call.Flush x) c) was flush, refl),
+    (c, subst (λ x. step b (call.Save started.event x) c) was save, refl),
   ),
 )
 
 pub begun_task :
     {A : Type 0} (step : A → Call → A → Type 0) (answer : Result Started Refusal)
-    (started : Started) (flushed : Result ℕ Trouble) (durable : ℕ) (a b c : A)
-    → answer ≡ Ok started → flushed ≡ Ok durable → step a (call.Start answer) b
-    → step b (call.Flush flushed) c → Went step (IsBegun (Some started)) a c
-begun_task step answer started flushed durable a b c is was start flush = (
-  call.Start (Ok started) ∷ call.Flush (Ok durable) ∷ [],
-  (durable, refl),
+    (started : Started) (saved : Result ℕ Trouble) (durable : ℕ) (a b c : A)
+    → answer ≡ Ok started → saved ≡ Ok durable → IfOk saved (λ n. started.event ≤ n)
+    → step a (call.Start answer) b → step b (call.Save started.event saved) c
+    → Went step (IsBegun (Some started)) a c
+begun_task step answer started saved durable a b c is was reached start save = (
+  call.Start (Ok started) ∷ call.Save started.event (Ok durable) ∷ [],
+  (durable, subst (λ x. IfOk x (λ n. started.event ≤ n)) was reached, refl),
   (
     b,
     subst (λ x. step a (call.Start x) b) is start,
-    (c, subst (λ x. step b (call.Flush x) c) was flush, refl),
+    (c, subst (λ x. step b (call.Save started.event x) c) was save, refl),
   ),
 )
 
@@ -212,8 +213,8 @@ not_finished step jobs had answered started how answer why notes a b c d same so
     let run = subst (λ n. Went step (λ calls. IsRun n started.info calls how) b c) same behind in
     let last : List Call = call.Finish started.info.task how (Err why) ∷ [] in (
       task_calls started begun.1.0 run.0 last,
-      (refl, inr (room, inr (started, begun.1.0, run.0, how, why, run.1, refl))),
-      run_and step started begun.1.0 begun.0 run.0 last a b c d begun.1.1 begun.2 run.2
+      (refl, inr (room, inr (started, begun.1.0, run.0, how, why, begun.1.1, run.1, refl))),
+      run_and step started begun.1.0 begun.0 run.0 last a b c d begun.1.2 begun.2 run.2
           (d, subst (λ x. step c (call.Finish started.info.task how x) d) is finish, refl),
     )
 
@@ -226,7 +227,7 @@ pub finished :
     → Went step (IsBegun answered) a b
     → Went step (λ calls. IsRun had started.info calls how) b c
     → step c (call.Finish started.info.task how answer) d
-    → step d (call.Tell started.info.task) e → step e call.Ring f
+    → step d (call.Tell started.info.task) e → step e (call.Ring event) f
     → Went step (TakesTask jobs true notes after) a f
 finished step jobs had answered started how answer event notes after a b c d e f same some is
     noted first behind finish tell ring =
@@ -234,14 +235,14 @@ finished step jobs had answered started how answer event notes after a b c d e f
     let run = subst (λ n. Went step (λ calls. IsRun n started.info calls how) b c) same behind in
     let task = started.info.task in
     let last : List Call =
-    call.Finish task how (Ok event) ∷ call.Tell task ∷ call.Ring ∷ [] in (
+    call.Finish task how (Ok event) ∷ call.Tell task ∷ call.Ring event ∷ [] in (
       task_calls started begun.1.0 run.0 last,
       (
         record { event = event; task = task; outcome = how },
-        (started, begun.1.0, run.0, run.1, refl, refl),
+        (started, begun.1.0, run.0, begun.1.1, run.1, refl, refl),
         noted,
       ),
-      run_and step started begun.1.0 begun.0 run.0 last a b c f begun.1.1 begun.2 run.2
+      run_and step started begun.1.0 begun.0 run.0 last a b c f begun.1.2 begun.2 run.2
           (d, subst (λ x. step c (call.Finish task how x) d) is finish, (e, tell, (f, ring, refl))),
     )
 
@@ -294,26 +295,28 @@ ended_shift step jobs had came notes after a b c same is before more =
 
 -- ---- the flusher
 
--- What holds of a flusher that has heard this number of rings: some rounds were made.
+-- What holds of a flusher that has heard of this event: some rounds were made.
 abbrev pub Watched : {A : Type 0} (step : A → Call → A → Type 0) → ℕ → A → A → Type 0
-Watched step heard a b = (rounds : ℕ) × Went step (AreFlushes rounds heard) a b
+Watched step heard a b = (rounds : ℕ) × Went step (AreSaves rounds heard) a b
 
-pub no_flush : {A : Type 0} (step : A → Call → A → Type 0) (a : A) → Watched step 0 a a
-no_flush step a = (0, ([], (refl, refl), refl))
+pub no_save : {A : Type 0} (step : A → Call → A → Type 0) (a : A) → Watched step 0 a a
+no_save step a = (0, ([], (refl, refl), refl))
 
-pub next_flush :
+pub next_save :
     {A : Type 0} (step : A → Call → A → Type 0) (was heard : ℕ) (answer : Option ℕ)
-    (r : Result ℕ Trouble) (a b c d : A) → answer ≡ Some heard → Watched step was a b
-    → step b (call.Wait was answer) c → step c (call.Flush r) d → Watched step heard a d
-next_flush step was heard answer r a b c d is watched wait flush =
-    let went : Went step (AreFlushes watched.0 was) a b = watched.1 in
-    let last : List Call = call.Wait was (Some heard) ∷ call.Flush r ∷ [] in
+    (r : Result ℕ Trouble) (a b c d : A) → answer ≡ Some heard
+    → IfSome answer (λ event. was < event) → Watched step was a b
+    → step b (call.Wait was answer) c → step c (call.Save heard r) d → Watched step heard a d
+next_save step was heard answer r a b c d is later watched wait save =
+    let went : Went step (AreSaves watched.0 was) a b = watched.1 in
+    let last : List Call = call.Wait was (Some heard) ∷ call.Save heard r ∷ [] in
+    let below : was < heard = subst (λ x. IfSome x (λ event. was < event)) is later in
     let waited : step b (call.Wait was (Some heard)) c =
     subst (λ x. step b (call.Wait was x) c) is wait in
-    let all : Went step (AreFlushes (suc watched.0) heard) a d = (
+    let all : Went step (AreSaves (suc watched.0) heard) a d = (
       went.0 ++ last,
-      (went.0, was, r, went.1, refl),
-      path-append step went.0 last a b d went.2 (c, waited, (d, flush, refl)),
+      (went.0, was, r, went.1, below, refl),
+      path-append step went.0 last a b d went.2 (c, waited, (d, save, refl)),
     ) in
     (suc watched.0, all)
 
@@ -322,7 +325,7 @@ pub ended_watch :
     → answer ≡ None → Watched step heard a b → step b (call.Wait heard answer) c
     → Went step IsWatch a c
 ended_watch step heard answer a b c is watched wait =
-    let went : Went step (AreFlushes watched.0 heard) a b = watched.1 in
+    let went : Went step (AreSaves watched.0 heard) a b = watched.1 in
     let last : List Call = call.Wait heard None ∷ [] in
     let waited : step b (call.Wait heard None) c =
     subst (λ x. step b (call.Wait heard x) c) is wait in (

@@ -1,6 +1,6 @@
 -- The course of a task: what a worker calls, in order, and what each call is answered; and what the
 -- flusher calls beside it.
-use Rattle.std.specs.Prelude.{ℕ, zero, suc, ◌<◌, ◌≡◌, ◌⊎◌, Bool, true, false, codes}
+use Rattle.std.specs.Prelude.{ℕ, zero, suc, ◌<◌, ◌≤◌, ◌≡◌, ◌⊎◌, Bool, true, false, codes}
 use Rattle.std.specs.Prelude.{List, [], ◌∷◌, ◌++◌, length, Result, Ok, Err, Option, None, Some, ⊤}
 use Rattle.run_model.specs.declared.answers.Started.{Started}
 use Rattle.run_model.specs.declared.answers.TaskInfo.{TaskInfo}
@@ -17,8 +17,8 @@ use Rattle.run_crew.specs.declared.notes.Note.{Note}
 pub data Call : Type 0 where
   -- under the lock, a task is started
   Start : Result Started Refusal → Call
-  -- under the lock, all events are made durable
-  Flush : Result ℕ Trouble → Call
+  -- it is waited until all events up to this one are durable, and told how many are
+  Save : ℕ → Result ℕ Trouble → Call
   -- the job of this place is asked whether it handles this name
   Handles : ℕ → List ℕ → Bool → Call
   -- the gate is asked whether this turn of this task may be made
@@ -31,10 +31,10 @@ pub data Call : Type 0 where
   Finish : ℕ → Outcome → Result ℕ Refusal → Call
   -- the gate is told that this task was finished
   Tell : ℕ → Call
-  -- the bell is rung
-  Ring : Call
-  -- it is waited until the bell has rung another number of times than this, and told how many;
-  -- nothing where it is closed
+  -- the bell is rung for this event
+  Ring : ℕ → Call
+  -- it is waited until the bell has rung for a later event than this, and told which; nothing where
+  -- it is closed
   Wait : ℕ → Option ℕ → Call
 
 -- ---- what was called between two moments
@@ -101,33 +101,36 @@ IsRun jobs info calls how =
     ⊎ ((job : ℕ) × (turns : List Call) × (job < jobs) × AreTurns info job turns how
     × (calls ≡ declined info.job job ++ Handles job info.job true ∷ turns))
 
--- A start that is made durable, the run of its task, and what comes behind.
+-- A start, the word that it is among so many durable events, the run of its task, and what comes
+-- behind.
 abbrev pub task_calls : Started → ℕ → List Call → List Call → List Call
-task_calls started durable run calls = Start (Ok started) ∷ Flush (Ok durable) ∷ (run ++ calls)
+task_calls started durable run calls =
+    Start (Ok started) ∷ Save started.event (Ok durable) ∷ (run ++ calls)
 
--- The start of a task and its flush; none where one of the two isn't done.
+-- The start of a task, and the word that it is durable; none where one of the two isn't so.
 abbrev pub IsBegun : Option Started → List Call → Type 0
 IsBegun (Some started) calls =
-    (durable : ℕ) × (calls ≡ Start (Ok started) ∷ Flush (Ok durable) ∷ [])
+    (durable : ℕ) × (started.event ≤ durable)
+    × (calls ≡ Start (Ok started) ∷ Save started.event (Ok durable) ∷ [])
 IsBegun None calls =
     ((why : Refusal) × (calls ≡ Start (Err why) ∷ []))
     ⊎ ((started : Started) × (trouble : Trouble)
-    × (calls ≡ Start (Ok started) ∷ Flush (Err trouble) ∷ []))
+    × (calls ≡ Start (Ok started) ∷ Save started.event (Err trouble) ∷ []))
 
 -- The whole course of a task, by so many jobs, and the note of its finish.
 abbrev pub IsCourse : ℕ → List Call → Note → Type 0
 IsCourse jobs calls note =
-    (started : Started) × (durable : ℕ) × (run : List Call)
+    (started : Started) × (durable : ℕ) × (run : List Call) × (started.event ≤ durable)
     × IsRun jobs started.info run note.outcome × (note.task ≡ started.info.task)
     × (calls ≡ task_calls started durable run
-    (Finish note.task note.outcome (Ok note.event) ∷ Tell note.task ∷ Ring ∷ []))
+    (Finish note.task note.outcome (Ok note.event) ∷ Tell note.task ∷ Ring note.event ∷ []))
 
--- A course that ends where its start, the flush of that or its finish isn't done.
+-- A course that ends where its start isn't done or isn't durable, or its finish isn't done.
 abbrev pub IsCutShort : ℕ → List Call → Type 0
 IsCutShort jobs calls =
     IsBegun None calls
     ⊎ ((started : Started) × (durable : ℕ) × (run : List Call) × (how : Outcome)
-    × (why : Refusal) × IsRun jobs started.info run how
+    × (why : Refusal) × (started.event ≤ durable) × IsRun jobs started.info run how
     × (calls ≡ task_calls started durable run
     (Finish started.info.task how (Err why) ∷ [])))
 
@@ -162,32 +165,40 @@ IsShift jobs notes calls =
 
 -- ---- the flusher
 
--- So many rounds of the flusher, behind which it has heard this number of rings: each waits for
--- another number of them than was heard before, and then flushes.
-abbrev pub AreFlushes : ℕ → ℕ → List Call → Type 0
-AreFlushes zero heard calls = (heard ≡ 0) × (calls ≡ [])
-AreFlushes (suc rounds) heard calls =
-    (before : List Call) × (was : ℕ) × (r : Result ℕ Trouble) × AreFlushes rounds was before
-    × (calls ≡ before ++ Wait was (Some heard) ∷ Flush r ∷ [])
+-- So many rounds of the flusher, the last of which heard of this event: each waits until the bell
+-- has rung for a later event than the round before heard of, and then until that is durable.
+abbrev pub AreSaves : ℕ → ℕ → List Call → Type 0
+AreSaves zero heard calls = (heard ≡ 0) × (calls ≡ [])
+AreSaves (suc rounds) heard calls =
+    (before : List Call) × (was : ℕ) × (r : Result ℕ Trouble) × AreSaves rounds was before
+    × (was < heard) × (calls ≡ before ++ Wait was (Some heard) ∷ Save heard r ∷ [])
 
 -- All that the flusher calls: rounds, until the bell is closed.
 abbrev pub IsWatch : List Call → Type 0
 IsWatch calls =
-    (rounds : ℕ) × (heard : ℕ) × (before : List Call) × AreFlushes rounds heard before
+    (rounds : ℕ) × (heard : ℕ) × (before : List Call) × AreSaves rounds heard before
     × (calls ≡ before ++ Wait heard None ∷ [])
 
 -- ---- what the others answered
 
--- The call was answered by the one that it is of: a value of the lock, by what it starts, flushes,
+-- What a wait for durable events is told: that a value of the lock holds so many, or that a flush
+-- of one was refused.
+abbrev pub IsTold
+    : {T : Type 0} → (T → ℕ → Type 0) → (T → Result ℕ Trouble → T → Type 0) → Result ℕ Trouble
+    → Type 0
+IsTold holds flushes (Ok durable) = (d : _) × holds d durable
+IsTold holds flushes (Err why) = (d : _) × (e : _) × flushes d (Err why) e
+
+-- The call was answered by the one that it is of: a value of the lock, by what it starts, holds,
 -- tells and finishes, or the gate, by what it lets pass and what it was told.
 abbrev pub IsAnswered
     : (Result Started Refusal → Type 0) → (Result ℕ Trouble → Type 0) → (ℕ → Bool → Type 0)
     → (ℕ → Outcome → Result ℕ Refusal → Type 0) → (ℕ → ℕ → Bool → Type 0) → (ℕ → Type 0)
     → Call → Type 0
-IsAnswered starts flushes tells finishes lets told (Start r) = starts r
-IsAnswered starts flushes tells finishes lets told (Flush r) = flushes r
-IsAnswered starts flushes tells finishes lets told (Scope task answer) = tells task answer
-IsAnswered starts flushes tells finishes lets told (Finish task how r) = finishes task how r
-IsAnswered starts flushes tells finishes lets told (Gate task turn answer) = lets task turn answer
-IsAnswered starts flushes tells finishes lets told (Tell task) = told task
-IsAnswered starts flushes tells finishes lets told _ = ⊤
+IsAnswered starts saves tells finishes lets told (Start r) = starts r
+IsAnswered starts saves tells finishes lets told (Save event r) = saves r
+IsAnswered starts saves tells finishes lets told (Scope task answer) = tells task answer
+IsAnswered starts saves tells finishes lets told (Finish task how r) = finishes task how r
+IsAnswered starts saves tells finishes lets told (Gate task turn answer) = lets task turn answer
+IsAnswered starts saves tells finishes lets told (Tell task) = told task
+IsAnswered starts saves tells finishes lets told _ = ⊤

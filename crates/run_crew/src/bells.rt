@@ -1,13 +1,13 @@
 //! A [`Bell`] is what the flusher waits at. Workers ring it, and it is closed at the end.
 
-ghost use Rattle.std.specs.Prelude.{◌≡◌, ◌≢◌, IfSome};
+ghost use Rattle.std.specs.Prelude.{◌<◌, IfSome};
 
 use std::sync::{Condvar, Mutex, Wait};
 
-/// How many times the bell rang, modulo 2^64, and whether it is closed.
+/// The last event that the bell rang for, and whether it is closed.
 #[derive(Drop)]
 struct Marks {
-    rings: u64,
+    event: u64,
     closed: bool,
 }
 
@@ -22,7 +22,7 @@ impl Bell {
     /// A bell that didn't ring yet.
     pub fn new() -> Bell {
         let marks = Marks {
-            rings: 0,
+            event: 0,
             closed: false,
         };
         Bell {
@@ -31,10 +31,10 @@ impl Bell {
         }
     }
 
-    /// Wakes the flusher.
-    pub fn ring<R: Wait>(&self, rt: &R) {
+    /// Wakes the flusher for an event. Workers may ring in another order than that of their events.
+    pub fn ring<R: Wait>(&self, rt: &R, event: u64) {
         let mut marks = self.marks.lock(rt);
-        marks.rings = marks.rings.wrapping_add(1);
+        marks.event = marks.event.max(event);
         self.moved.notify_all();
     }
 
@@ -45,18 +45,18 @@ impl Bell {
         self.moved.notify_all();
     }
 
-    /// Waits until the bell has rung another number of times than was heard before, and says that
-    /// number; `None` where it is closed. Nothing is cleared, so a ring is heard whenever it comes.
+    /// Waits until the bell has rung for a later event than was heard before, and says which;
+    /// `None` where it is closed. Nothing is cleared, so a ring is heard whenever it comes.
     pub fn wait<R: Wait>(&self, rt: &R, heard: u64) -> Option<u64>
-        ensures another { IfSome result (λ rings. rings ≢ heard) }
+        ensures later { IfSome result (λ event. heard < event) }
     {
         let mut marks = self.marks.lock(rt);
         for _ in rt.forever() {
             if marks.closed {
                 return None;
             }
-            if marks.rings != heard {
-                return Some(marks.rings);
+            if marks.event > heard {
+                return Some(marks.event);
             }
             marks = self.moved.wait(rt, marks);
         }

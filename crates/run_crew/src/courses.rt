@@ -72,7 +72,7 @@ pub fn take_task<S: Ledger, F: Ledger, W: Floor<S, F>>(
         outcome,
     });
     floor.tell(task);
-    floor.ring();
+    floor.ring(event);
     true
 }
 
@@ -91,7 +91,7 @@ fn start<S: Ledger, F: Ledger, W: Floor<S, F>>(
     let Ok(started) = floor.start(seat) else {
         return None;
     };
-    match floor.flush() {
+    match floor.save(started.event) {
         Ok(_) => Some(started),
         Err(_) => None,
     }

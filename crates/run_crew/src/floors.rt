@@ -1,7 +1,7 @@
 //! A [`Floor`] is what a worker works on: all that it asks and tells while it takes a task, one
 //! call after another.
 
-ghost use Rattle.std.specs.Prelude.{◌≡◌, ◌<◌, ℕ, MatchResult};
+ghost use Rattle.std.specs.Prelude.{◌≡◌, ◌<◌, ◌≤◌, ℕ, IfOk, MatchResult};
 ghost use Rattle.run_crew.specs.Courses.{Call};
 ghost use Rattle.run_crew.specs.Courses as call;
 ghost use Rattle.run_crew.specs.Seats.{one_finish, one_start};
@@ -32,9 +32,10 @@ pub trait Floor<S: Ledger, F: Ledger> {
         ensures seat { MatchResult result (λ _. seat.new ≡ one_start seat.old)
             (λ _. seat.new ≡ seat.old) };
 
-    /// Makes all events so far durable, under the lock.
-    fn flush(&mut self) -> Result<u64, Trouble>
-        ensures step { step self.old (call.Flush result) self.new }
+    /// Waits until all events up to this one are durable, whoever flushes, and says how many are.
+    fn save(&mut self, event: u64) -> Result<u64, Trouble>
+        ensures step { step self.old (call.Save event result) self.new }
+        ensures reached { IfOk result (λ durable. event ≤ durable) }
         ensures jobs { jobs self.new ≡ jobs self.old };
 
     /// Asks the job of this place whether it handles this name.
@@ -77,8 +78,8 @@ pub trait Floor<S: Ledger, F: Ledger> {
         ensures step { step self.old (call.Tell task) self.new }
         ensures jobs { jobs self.new ≡ jobs self.old };
 
-    /// Rings the bell.
-    fn ring(&mut self)
-        ensures step { step self.old call.Ring self.new }
+    /// Rings the bell for an event.
+    fn ring(&mut self, event: u64)
+        ensures step { step self.old (call.Ring event) self.new }
         ensures jobs { jobs self.new ≡ jobs self.old };
 }

@@ -6,6 +6,7 @@
 //! and [`audit`] compares the notes with the book's history.
 #![tactic(auto)]
 
+mod arrivals;
 mod audits;
 mod bells;
 mod counts;
@@ -18,6 +19,7 @@ mod nights;
 mod notes;
 mod openings;
 mod places;
+mod saves;
 mod seats;
 mod watches;
 mod workers;
@@ -32,4 +34,4 @@ pub use nights::run_night;
 pub use notes::{Note, WorkerNotes};
 pub use openings::{AnyBook, Obeys, Opening};
 pub use seats::Seat;
-pub use watches::{Watch, flush_rings};
+pub use watches::{Watch, save_rings};

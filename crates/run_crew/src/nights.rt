@@ -5,6 +5,7 @@ ghost use Rattle.std.specs.Prelude.{IfOk, IfErr, OnOk};
 ghost use Rattle.run_model.specs.declared.faults.Fault.TheVariants.{Memory};
 ghost use Rattle.run_crew.specs.Notes.{noted};
 
+use crate::arrivals::Arrivals;
 use crate::bells::Bell;
 use crate::desks::Desk;
 use crate::jobs::{Gate, Job};
@@ -12,7 +13,7 @@ use crate::notes::WorkerNotes;
 use crate::openings::Opening;
 use crate::places::{CountedPlace, Place};
 use crate::seats::Seat;
-use crate::watches::{Lookout, flush_rings};
+use crate::watches::{Lookout, save_rings};
 use crate::workers::{Shift, Station};
 use run_disk::RunDisk;
 use run_model::{Fault, Trouble};
@@ -29,8 +30,8 @@ use std::thread::Threads;
 /// Each worker starts the ready task with the least number and makes the start durable, makes the
 /// turns by the first of its jobs that handles the task, finishes it and notes it, until it finds
 /// no task ready, its start or its finish is refused, its flush isn't done, or its notes are full.
-/// A thread more flushes whenever a task was finished. No lock is held while a job or the gate
-/// runs.
+/// A thread more makes each finish durable. A flush is of all that is under way, so starts share
+/// it. No lock is held while a job or the gate runs.
 ///
 /// `Memory` where a growth or the start of a thread was refused. Every thread that was started has
 /// been joined then, too; the seat may lack some parts.
@@ -126,6 +127,8 @@ fn shifts_of<
     let mut shifts = Vec::with_capacity(alloc, count)?;
     let bell = Bell::new();
     let bell = &bell;
+    let arrivals = Arrivals::new();
+    let arrivals = &arrivals;
     thread::scope(
         thread::scope_env(),
         rt,
@@ -135,10 +138,10 @@ fn shifts_of<
             requires shifts { (vec_len shifts ≡ 0) × (count ≤ vec_capacity shifts) }
             ensures { IfOk result (λ v. vec_len v ≡ count) }
         {
-            let flusher = scope.spawn(move || flush_at(rt, shared, bell))?;
+            let flusher = scope.spawn(move || save_at(rt, shared, arrivals, bell))?;
             let mut refused = false;
             for station in stations {
-                match scope.spawn(move || station.work(rt, shared, bell, gate)) {
+                match scope.spawn(move || station.work(rt, shared, arrivals, bell, gate)) {
                     Ok(handle) => handles.push_reserved(handle),
                     Err(_) => refused = true,
                 }
@@ -158,9 +161,15 @@ fn shifts_of<
     )
 }
 
-/// Flushes whenever the bell rings, until it is closed.
-fn flush_at<T: Place, R: Wait>(rt: &R, shared: &Mutex<T>, bell: &Bell) {
-    flush_rings(rt, &mut Lookout { rt, shared, bell });
+/// Makes durable whatever the bell rings for, until it is closed.
+fn save_at<T: Place, R: Wait>(rt: &R, shared: &Mutex<T>, arrivals: &Arrivals, bell: &Bell) {
+    let mut watch = Lookout {
+        rt,
+        shared,
+        arrivals,
+        bell,
+    };
+    save_rings(rt, &mut watch);
 }
 
 /// Takes the parts back, and puts the notes of the shifts into a list that has room for them.

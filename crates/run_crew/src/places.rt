@@ -6,7 +6,7 @@ ghost use Rattle.run_model.specs.declared.faults.Trouble.{Trouble};
 ghost use Rattle.run_model.specs.declared.refusals.Refusal.{Refusal};
 ghost use Rattle.run_model.specs.declared.tasks.Outcome.{Outcome};
 ghost use Rattle.run_model.specs.Replies.{reply_finish, reply_start};
-ghost use Rattle.book_model.specs.Holdings.{Flushes};
+ghost use Rattle.book_model.specs.Holdings.{Flushes, IsDurable};
 ghost use Rattle.run_book.specs.Views.{holding, unless_broken};
 ghost use Rattle.run_crew.specs.Desks.{is_done_for};
 ghost use Rattle.run_crew.specs.Seats.{one_finish, one_start};
@@ -20,11 +20,18 @@ use std::sync::ledger::Ledger;
 
 /// Steps that move no seat, and what a turn is told.
 pub trait Place {
+    /// That so many events are durable.
+    ghost holds: { Self → ℕ → Type 0 };
+
     /// What a flush may answer and leave.
     ghost flushes: { Self → Result ℕ Trouble → Self → Type 0 };
 
     /// What it may tell of the scope of a task.
     ghost tells: { Self → ℕ → Bool → Type 0 };
+
+    /// How many events are durable.
+    fn durable(&self) -> u64
+        ensures { holds self.now result };
 
     /// Makes all events so far durable.
     fn flush(&mut self) -> Result<u64, Trouble>
@@ -64,9 +71,15 @@ pub trait CountedPlace<S: Ledger, F: Ledger>: Place {
 }
 
 impl<D: RunDisk, S: Ledger, F: Ledger, O: Opening> Place for Desk<D, S, F, O> {
+    ghost holds = { λ d n. (n ≡ d.book.durable) × IsDurable D.state (holding d.book) };
+
     ghost flushes = { λ d r e. Flushes D.state (holding d.book) r (holding e.book) };
 
     ghost tells = { λ d task answer. answer ≡ is_done_for d.book.session.state task };
+
+    fn durable(&self) -> u64 {
+        self.book().durable()
+    }
 
     fn flush(&mut self) -> Result<u64, Trouble> {
         Desk::flush(self)

@@ -4,6 +4,7 @@
 ghost use Rattle.std.specs.Prelude.{◌≡◌, ◌+◌, ◌≤◌, [], length};
 ghost use Rattle.run_crew.specs.Seats.{one_part};
 
+use crate::arrivals::Arrivals;
 use crate::bells::Bell;
 use crate::courses::take_tasks;
 use crate::jobs::{Gate, Job};
@@ -58,6 +59,7 @@ impl<S: Ledger, F: Ledger> Station<S, F> {
         self,
         rt: &R,
         shared: &Mutex<T>,
+        arrivals: &Arrivals,
         bell: &Bell,
         gate: &G,
     ) -> Shift<S, F> {
@@ -69,6 +71,7 @@ impl<S: Ledger, F: Ledger> Station<S, F> {
         let mut place = Workplace {
             rt,
             shared,
+            arrivals,
             bell,
             gate,
             jobs,

@@ -2,12 +2,14 @@
 //! worker's own jobs.
 
 ghost use Rattle.std.specs.Prelude.{vec_len};
-ghost use Rattle.run_crew.specs.Courses.{IsAnswered};
+ghost use Rattle.run_crew.specs.Courses.{IsAnswered, IsTold};
 
+use crate::arrivals::Arrivals;
 use crate::bells::Bell;
 use crate::floors::Floor;
 use crate::jobs::{Gate, Job, Turn};
 use crate::places::CountedPlace;
+use crate::saves::save;
 use crate::seats::Seat;
 use run_model::{Name, Outcome, Refusal, Started, TaskInfo, Trouble};
 use std::sync::ledger::Ledger;
@@ -19,6 +21,7 @@ use std::sync::{Mutex, Wait};
 pub struct Workplace<'a, T, G, R> {
     pub rt: &'a R,
     pub shared: &'a Mutex<T>,
+    pub arrivals: &'a Arrivals,
     pub bell: &'a Bell,
     pub gate: &'a G,
     pub jobs: Vec<Box<dyn Job + Send>>,
@@ -28,7 +31,7 @@ impl<'a, S: Ledger, F: Ledger, T: CountedPlace<S, F>, G: Gate, R: Wait> Floor<S,
     for Workplace<'a, T, G, R> {
     ghost step = { λ from call to. IsAnswered
         (λ r. (d : T) × (e : T) × T.starts d r e)
-        (λ r. (d : T) × (e : T) × T.flushes d r e)
+        (λ r. IsTold T.holds T.flushes r)
         (λ task answer. (d : T) × T.tells d task answer)
         (λ task how r. (d : T) × (e : T) × T.finishes d task how r e)
         (G.lets from.gate.now) (G.told from.gate.now) call };
@@ -40,11 +43,17 @@ impl<'a, S: Ledger, F: Ledger, T: CountedPlace<S, F>, G: Gate, R: Wait> Floor<S,
     }
 
     fn start(&mut self, seat: &mut Seat<S, F>) -> Result<Started, Refusal> {
-        self.shared.lock(self.rt).start_as(seat)
+        self.arrivals.come();
+        let mut place = self.shared.lock(self.rt);
+        let started = place.start_as(seat);
+        if started.is_err() {
+            self.arrivals.go();
+        }
+        started
     }
 
-    fn flush(&mut self) -> Result<u64, Trouble> {
-        self.shared.lock(self.rt).flush()
+    fn save(&mut self, event: u64) -> Result<u64, Trouble> {
+        save(self.rt, self.shared, self.arrivals, event)
     }
 
     fn handles(&mut self, job: usize, name: &Name) -> bool {
@@ -69,14 +78,18 @@ impl<'a, S: Ledger, F: Ledger, T: CountedPlace<S, F>, G: Gate, R: Wait> Floor<S,
         task: u16,
         outcome: &Outcome,
     ) -> Result<u64, Refusal> {
-        self.shared.lock(self.rt).finish_as(seat, task, outcome)
+        self.arrivals.come();
+        let mut place = self.shared.lock(self.rt);
+        let finished = place.finish_as(seat, task, outcome);
+        self.arrivals.go();
+        finished
     }
 
     fn tell(&mut self, task: u16) {
         self.gate.finished(task);
     }
 
-    fn ring(&mut self) {
-        self.bell.ring(self.rt);
+    fn ring(&mut self, event: u64) {
+        self.bell.ring(self.rt, event);
     }
 }
