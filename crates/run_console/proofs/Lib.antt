@@ -2,6 +2,7 @@ pub mod Accounting
 pub mod Carrying
 pub mod Counting
 pub mod Ends
+pub mod EntryTexts
 pub mod Fronts
 pub mod Going
 pub mod Inspecting

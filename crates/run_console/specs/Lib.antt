@@ -1,4 +1,5 @@
 pub mod Crews
+pub mod Entries
 pub mod Inspecting
 pub mod Progress
 pub mod Rows

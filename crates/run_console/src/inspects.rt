@@ -41,7 +41,7 @@ pub enum Rows {
 
 impl Rows {
     /// How many there are.
-    fn count<B: Allocator>(self, state: &State<B>) -> usize
+    pub(crate) fn count<B: Allocator>(self, state: &State<B>) -> usize
         ensures count { result ≡ count_of self state.now }
         ensures few { result ≤ 65535 }
     {

@@ -1,13 +1,15 @@
 //! The console: it reads lines, runs each over a book, and writes its reply.
 //!
 //! [`run`] runs a whole input, and [`line`] one line. What is written for a whole input is its
-//! script, as `console_lines` defines it. [`inspect`] prints a state, and [`list_tasks`] the lines
-//! of its tasks alone. [`crew`] works off the tasks of a store, and tells how that ended.
+//! script, as `console_lines` defines it. [`inspect`] prints a state, [`list_tasks`] the lines of
+//! its tasks alone, and [`print_json`] all of it as one object of JSON. [`crew`] works off the
+//! tasks of a store, and tells how that ended.
 #![tactic(auto)]
 
 mod answers;
 mod consoles;
 mod crews;
+mod entries;
 mod faults;
 mod inputs;
 mod inspects;
@@ -20,6 +22,7 @@ mod writings;
 pub use console_lines::{RunFault, Stray, StrayLine};
 pub use consoles::{line, run};
 pub use crews::{crew, crew_over};
+pub use entries::print_json;
 pub use faults::stopped;
 pub use inspects::inspect;
 pub use listings::list_tasks;
