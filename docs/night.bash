@@ -14,7 +14,7 @@ _night() {
         format) flags="--new --help" ;;
         script) flags="--strict --help" ;;
         crew) flags="--workers --known --help" ;;
-        inspect) flags="--tasks --help" ;;
+        inspect) flags="--tasks --json --help" ;;
         migrate) flags="--help" ;;
         help) mapfile -t COMPREPLY < <(compgen -W "$words" -- "$current") && return ;;
         *) return ;;

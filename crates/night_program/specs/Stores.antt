@@ -16,6 +16,7 @@ use Rattle.run_book.specs.Views.{BookView, holding}
 use Rattle.console_lines.specs.declared.faults.RunFault.{RunFault}
 use Rattle.console_lines.specs.declared.faults.RunFault.TheVariants.{Memory, Output}
 use Rattle.console_lines.specs.declared.strays.StrayLine.{StrayLine}
+use Rattle.console_lines.specs.Entries.{json_text}
 use Rattle.console_lines.specs.Inspected.{inspected}
 use Rattle.console_lines.specs.Listed.{listed}
 use Rattle.console_lines.specs.Progress.{WritesPart}
@@ -23,7 +24,7 @@ use Rattle.run_console.specs.Progress.{BeginsScript, Lasts, RunStops, RunsAll}
 use Rattle.run_console.specs.Strict.{RunsStrictly, StopsStrictly}
 use Rattle.run_console.specs.Troubles.{stopped}
 use Rattle.night_words.specs.declared.asked.View.{View}
-use Rattle.night_words.specs.declared.asked.View.TheVariants.{Whole, Tasks}
+use Rattle.night_words.specs.declared.asked.View.TheVariants.{Whole, Tasks, Json}
 
 -- A text was printed whole, or as much of it as the output took.
 abbrev pub Prints : {T : Type 0} → List ℕ → Result T RunFault → (w0 w1 : Option (List ℕ)) → Type 0
@@ -104,10 +105,12 @@ Shows text state old answer new w0 w1 =
     ⊎ ((why : Fault) × (answer ≡ Err (stopped why)) × RecoversNone state old why new
     × (w1 ≡ w0))
 
--- What a view shows of a state: all that it holds, or the lines of its tasks alone.
+-- What a view shows of a state: all that it holds, the lines of its tasks alone, or all of it as
+-- one object of JSON.
 abbrev pub view_text : View → State → List ℕ
 view_text Whole p = inspected p
 view_text Tasks p = listed None None p
+view_text Json p = json_text p
 
 -- What the view shows of it was printed.
 abbrev pub InspectEnds : {T D : Type 0} → View → (D → DiskState) → (old : D)

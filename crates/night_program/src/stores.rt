@@ -8,7 +8,7 @@ ghost use Rattle.night_program.specs.Stores.{view_text};
 
 use console_lines::{RunFault, StrayLine};
 use night_words::View;
-use run_console::{Book, list_tasks, run, run_strict, stopped, write_whole};
+use run_console::{Book, list_tasks, print_json, run, run_strict, stopped, write_whole};
 use run_disk::RunDisk;
 use run_state::State;
 use std::alloc::{Allocator, Global};
@@ -98,5 +98,6 @@ fn show<W: Write, B: Allocator>(
     match view {
         View::Whole => run_console::inspect(state, output),
         View::Tasks => list_tasks(state, None, None, output),
+        View::Json => print_json(state, output),
     }
 }

@@ -17,7 +17,7 @@ use Rattle.night_words.specs.declared.asked.Asked.TheVariants.{Demo, Format, Scr
 use Rattle.night_words.specs.declared.asked.Asked.TheVariants.{Crew, Migrate}
 use Rattle.night_words.specs.declared.asked.WordsFault.{WordsFault}
 use Rattle.night_words.specs.declared.asked.WordsFault.TheVariants.{Mistake, NotText, Memory}
-use Rattle.night_words.specs.declared.asked.WordsFault.TheVariants.{SameStores, Workers}
+use Rattle.night_words.specs.declared.asked.WordsFault.TheVariants.{SameStores, Views, Workers}
 
 -- the parser's statements on simple commands are about `night`
 night_is_simple : is_simple_and_free night ≡ true
@@ -48,6 +48,7 @@ shown_is_answer kind kinds (Err (Mistake text)) (inl e) shown = absurd (shown.2 
 shown_is_answer kind kinds (Err (Mistake text)) (inr among) shown = (kind, among, shown)
 shown_is_answer kind kinds (Err SameStores) found shown = absurd shown
 shown_is_answer kind kinds (Err Workers) found shown = absurd shown
+shown_is_answer kind kinds (Err Views) found shown = absurd shown
 shown_is_answer kind kinds (Err NotText) found shown = absurd shown
 shown_is_answer kind kinds (Err Memory) found shown = tt
 
@@ -79,6 +80,7 @@ error_is_no_clash kind words (Ok asked) shown = tt
 error_is_no_clash kind words (Err (Mistake text)) shown = tt
 error_is_no_clash kind words (Err SameStores) shown = absurd shown
 error_is_no_clash kind words (Err Workers) shown = absurd shown
+error_is_no_clash kind words (Err Views) shown = absurd shown
 error_is_no_clash kind words (Err NotText) shown = absurd shown
 error_is_no_clash kind words (Err Memory) shown = tt
 
@@ -134,6 +136,7 @@ module _ (a : App) (words : List Text) (m : ArgMatches) (is_night : a ≡ night)
   command_is_answer (Ok (Help text)) asks = absurd asks
   command_is_answer (Err SameStores) asks = finds_nothing
   command_is_answer (Err Workers) asks = finds_nothing
+  command_is_answer (Err Views) asks = finds_nothing
   command_is_answer (Err (Mistake text)) asks = absurd asks
   command_is_answer (Err NotText) asks = absurd asks
   command_is_answer (Err Memory) asks = absurd asks

@@ -10,7 +10,7 @@ use Rattle.clap.specs.Walk.{Held, Row, Rule, Text, Walk, arg_by_long, arg_by_sho
 use Rattle.clap.specs.Walk.{first_of, nothing_held, used, walk, walked}
 use Rattle.night_words.specs.Commands.{is_true, night}
 use Rattle.night_words.proofs.FlagLemmas.{Comes, IsFlagged, LongMeets, by_flag, by_mark, by_value}
-use Rattle.night_words.proofs.FlagLemmas.{comes, stands}
+use Rattle.night_words.proofs.FlagLemmas.{comes, only, stands}
 use Rattle.night_words.proofs.LevelLemmas.{start, walk_keeps, words_pass}
 use Rattle.night_words.proofs.TurnLemmas.{ShortFails, above, first_none, flag_of, found_of_one}
 use Rattle.night_words.proofs.TurnLemmas.{found_of_two, has_letter, has_name, help_is_found, mark}
@@ -22,19 +22,20 @@ abbrev strict : Rule
 strict = flag_of demo_shape 0
 
 demo_longs : (name : Text) (v : Option Text) (h : Held)
-    → LongMeets demo_shape strict v h (arg_by_long demo_shape.rules name)
+    → LongMeets demo_shape (only strict) v h (arg_by_long demo_shape.rules name)
 demo_longs name None h =
-    let no : LongMeets demo_shape strict None h None = λ none. cc in
-    let set : LongMeets demo_shape strict None h (Some strict) = λ none. (refl, none) in
-    let help : LongMeets demo_shape strict None h (Some (flag_of demo_shape 1)) = λ none.
+    let no : LongMeets demo_shape (only strict) None h None = λ none. cc in
+    let set : LongMeets demo_shape (only strict) None h (Some strict) = λ none. (tt, refl, none) in
+    let help : LongMeets demo_shape (only strict) None h (Some (flag_of demo_shape 1)) = λ none.
     absurd (help_is_found _ _ _ none) in
-    found_of_two (has_name name) (LongMeets demo_shape strict None h) strict
+    found_of_two (has_name name) (LongMeets demo_shape (only strict) None h) strict
     (flag_of demo_shape 1) no set help
 demo_longs name (Some v) h =
-    let no : LongMeets demo_shape strict (Some v) h None = λ none. cc in
-    let set : LongMeets demo_shape strict (Some v) h (Some strict) = λ none. cc in
-    let help : LongMeets demo_shape strict (Some v) h (Some (flag_of demo_shape 1)) = λ none. cc in
-    found_of_two (has_name name) (LongMeets demo_shape strict (Some v) h) strict
+    let no : LongMeets demo_shape (only strict) (Some v) h None = λ none. cc in
+    let set : LongMeets demo_shape (only strict) (Some v) h (Some strict) = λ none. cc in
+    let help : LongMeets demo_shape (only strict) (Some v) h (Some (flag_of demo_shape 1)) =
+    λ none. cc in
+    found_of_two (has_name name) (LongMeets demo_shape (only strict) (Some v) h) strict
     (flag_of demo_shape 1) no set help
 
 demo_shorts : (x : ℕ) (rest : Text) (h : Held) (next : Held → Kinds)
@@ -45,7 +46,7 @@ demo_shorts x rest h next =
     help_is_found _ _ _ (first_none _ _ none) in
     found_of_one (has_letter x) (ShortFails demo_shape rest h next) (flag_of demo_shape 1) no help
 
-is_flagged : IsFlagged demo_shape strict
+is_flagged : IsFlagged demo_shape (only strict)
 is_flagged = record { longs = demo_longs; shorts = demo_shorts }
 
 -- what is read of the flag
@@ -66,34 +67,35 @@ stray rows word none = cc
 step : (seen : List Text) (w : Walk) (word : Text) → At seen w
     → turn_fault demo_shape [] w word ≡ []
     → At (seen ++ word ∷ []) (walked demo_shape.rules [] w word)
-step seen w word (begun es ew) none = go (comes demo_shape strict is_flagged [] None 1 word
+step seen w word (begun es ew) none = go (comes demo_shape (only strict) is_flagged [] None 1 word
     (subst (λ (v : Walk). turn_fault demo_shape [] v word ≡ []) ew none))
   where
     at : (v : Walk) → walked demo_shape.rules [] (stands [] None 1 false) word ≡ v
         → walked demo_shape.rules [] w word ≡ v
     at v is = ap (λ (u : Walk). walked demo_shape.rules [] u word) ew ∙ is
 
-    go : Comes demo_shape strict [] None 1 word
+    go : Comes demo_shape (only strict) [] None 1 word
         → At (seen ++ word ∷ []) (walked demo_shape.rules [] w word)
     go (by_mark m is) =
         behind (ap (λ (l : List Text). l ++ word ∷ []) es ∙ ap (λ (t : Text). t ∷ []) m) (at _ is)
-    go (by_flag fine is) = set false (at _ is)
+    go (by_flag one fine is) = set false (at _ is)
     go (by_value fine is) = cc
 step seen w word (behind es ew) none =
     absurd (stray [] word (subst (λ (v : Walk). turn_fault demo_shape [] v word ≡ []) ew none))
 step seen w word (set true ew) none = absurd (stray set_rows word
     (subst (λ (v : Walk). turn_fault demo_shape [] v word ≡ []) ew none))
-step seen w word (set false ew) none = go (comes demo_shape strict is_flagged set_rows None 1 word
+step seen w word (set false ew) none = go
+    (comes demo_shape (only strict) is_flagged set_rows None 1 word
     (subst (λ (v : Walk). turn_fault demo_shape [] v word ≡ []) ew none))
   where
     at : (v : Walk) → walked demo_shape.rules [] (stands set_rows None 1 false) word ≡ v
         → walked demo_shape.rules [] w word ≡ v
     at v is = ap (λ (u : Walk). walked demo_shape.rules [] u word) ew ∙ is
 
-    go : Comes demo_shape strict set_rows None 1 word
+    go : Comes demo_shape (only strict) set_rows None 1 word
         → At (seen ++ word ∷ []) (walked demo_shape.rules [] w word)
     go (by_mark m is) = set true (at _ is)
-    go (by_flag fine is) = cc
+    go (by_flag one fine is) = cc
     go (by_value fine is) = cc
 
 -- whether the words have the flag

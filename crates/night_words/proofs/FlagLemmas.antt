@@ -1,8 +1,8 @@
--- The parser's look at a word behind a command that takes a flag: it is the mark `--`, the flag, or
--- a value.
+-- The parser's look at a word behind a command that takes flags: it is the mark `--`, a flag, or a
+-- value.
 use Rattle.std.proofs.Common.{◌≡◌, ◌∙◌, ◌⊎◌, ℕ, Bool, List, Option, Some, None, [], ap}
 use Rattle.std.proofs.Common.{false, inl, inr, refl, subst, true}
-use Rattle.std.specs.Prelude.{if◌then◌else◌}
+use Rattle.std.specs.Prelude.{⊤, if◌then◌else◌}
 use Rattle.std.specs.Str.{bytes_eq}
 use Rattle.std.proofs.lemmas.Slice.Eq.{bytes_eq-Decides}
 use Rattle.clap.specs.Lexer.{long_of, short_of}
@@ -16,17 +16,22 @@ use Rattle.clap.specs.Walk.{used, value, walked}
 use Rattle.night_words.proofs.TurnLemmas.{ShortsFail, first_none, held, mark, second_none}
 use Rattle.night_words.proofs.TurnLemmas.{short_is_value}
 
--- what a long flag, found or not, comes to: this flag is used, and any other is a mistake
-abbrev pub LongMeets : Shape → Rule → Option Text → Held → Option Rule → Type 0
-LongMeets s f v h o = long_fault s.rules s.args_override_self o v h ≡ []
-    → (long_met s.rules o v h ≡ (reacted s.rules f [] h, done))
-    × (react_fault s.rules s.args_override_self f [] h ≡ [])
+-- what a long flag, found or not, comes to: one of these flags is used, and any other is a mistake
+abbrev pub LongMeets : {I : Type 0} → Shape → (I → Rule) → Option Text → Held → Option Rule
+    → Type 0
+LongMeets {I} s f v h o = long_fault s.rules s.args_override_self o v h ≡ []
+    → (i : I) × (long_met s.rules o v h ≡ (reacted s.rules (f i) [] h, done))
+    × (react_fault s.rules s.args_override_self (f i) [] h ≡ [])
 
--- a command's flags are this one, and that which asks for help
-pub record IsFlagged (s : Shape) (f : Rule) : Type 0 where
+-- a command's flags are these, and that which asks for help
+pub record IsFlagged {I : Type 0} (s : Shape) (f : I → Rule) : Type 0 where
   pub longs : (name : Text) (v : Option Text) (h : Held)
       → LongMeets s f v h (arg_by_long s.rules name)
   pub shorts : ShortsFail s
+
+-- the one flag of a command
+abbrev pub only : Rule → ⊤ → Rule
+only f one = f
 
 -- the walk between two words, where nothing waits for a value
 abbrev pub stands : List Row → Option (Text × List Text) → ℕ → Bool → Walk
@@ -39,27 +44,28 @@ stands rows pending position behind = record {
 }
 
 -- what a word comes to, and where the walk stands behind it
-pub data Comes (s : Shape) (f : Rule) (r : List Row) (p : Option (Text × List Text)) (n : ℕ)
+pub data Comes {I : Type 0} (s : Shape) (f : I → Rule) (r : List Row)
+    (p : Option (Text × List Text)) (n : ℕ)
     (word : Text) : Type 0 where
   by_mark : word ≡ mark → walked s.rules [] (stands r p n false) word ≡ stands r p n true
       → Comes s f r p n word
-  by_flag : react_fault s.rules s.args_override_self f [] (held r p) ≡ []
+  by_flag : (i : I) → react_fault s.rules s.args_override_self (f i) [] (held r p) ≡ []
       → walked s.rules [] (stands r p n false) word
-      ≡ stands (used f [] (settled_rows s.rules p r)) None n false → Comes s f r p n word
+      ≡ stands (used (f i) [] (settled_rows s.rules p r)) None n false → Comes s f r p n word
   by_value : step_fault s n (held r p) value ≡ []
       → walked s.rules [] (stands r p n false) word
       ≡ to_positional s.rules (arg_by_index s.rules n) word (stands r p n false) (held r p)
       → Comes s f r p n word
 
-module _ (s : Shape) (f : Rule) (flagged : IsFlagged s f) (r : List Row)
+module _ {I : Type 0} (s : Shape) (f : I → Rule) (flagged : IsFlagged s f) (r : List Row)
     (p : Option (Text × List Text)) (n : ℕ) (word : Text) where
   -- what the word comes to
   abbrev met : Held × Step
   met = subcommand_or_other s.rules None idle n word (held r p)
 
   abbrev IsUsed : Held × Step → Type 0
-  IsUsed m = (m ≡ (reacted s.rules f [] (held r p), next idle))
-      × (react_fault s.rules s.args_override_self f [] (held r p) ≡ [])
+  IsUsed m = (i : I) × (m ≡ (reacted s.rules (f i) [] (held r p), next idle))
+      × (react_fault s.rules s.args_override_self (f i) [] (held r p) ≡ [])
 
   long_is_flag : (long : Option (Text × Option Text))
       → flag_word_fault s.rules s.args_override_self long word (held r p) ≡ []
@@ -69,7 +75,7 @@ module _ (s : Shape) (f : Rule) (flagged : IsFlagged s f) (r : List Row)
       inr (short_is_value s flagged.shorts word (short_of word) r p none)
   long_is_flag (Some q) none =
       let is = flagged.longs q.0 q.1 (held r p) none in
-      inl (ap (λ (m : Held × Outcome). after_flag s.rules idle word m.0 m.1) is.0, is.1)
+      inl (is.0, ap (λ (m : Held × Outcome). after_flag s.rules idle word m.0 m.1) is.1, is.2)
 
   mark_flag_or_value : other_fault s None word (held r p) ≡ []
       → (word ≡ mark) ⊎ (IsUsed met ⊎ (met ≡ (held r p, value)))
@@ -105,6 +111,6 @@ module _ (s : Shape) (f : Rule) (flagged : IsFlagged s f) (r : List Row)
       go : (word ≡ mark) ⊎ (IsUsed met ⊎ (met ≡ (held r p, value))) → Comes s f r p n word
       go (inl is) = by_mark is
           (ap (λ w. walked s.rules [] (stands r p n false) w) is ∙ after_mark)
-      go (inr (inl is)) = by_flag is.1 (after_met _ is.0)
+      go (inr (inl is)) = by_flag is.0 is.2 (after_met _ is.1)
       go (inr (inr is)) = by_value (subst (λ (m : Held × Step). step_fault s n m.0 m.1 ≡ []) is
           (second_none _ _ none)) (after_met _ is)

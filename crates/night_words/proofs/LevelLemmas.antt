@@ -4,7 +4,7 @@ use Rattle.std.proofs.Common.{false, subst, sym}
 use Rattle.std.specs.Prelude.{fold}
 use Rattle.clap.specs.Kinds.{Kinds}
 use Rattle.clap.specs.Simple.{Shape}
-use Rattle.clap.specs.Faults.{check_fault, level_fault, turn_fault, walk_fault}
+use Rattle.clap.specs.Faults.{check_fault, level_fault, settle_fault, turn_fault, walk_fault}
 use Rattle.clap.specs.Walk.{Names, Text, Walk, finished, nothing_held, walk, walk_from, walked}
 use Rattle.night_words.proofs.TurnLemmas.{first_none, second_none}
 
@@ -37,6 +37,11 @@ pub end_passes : (s : Shape) (words : List Text) → level_fault s [] nothing_he
     → check_fault s (finished s.rules (walk s.rules [] nothing_held words).held) false ≡ []
 end_passes s words none =
     second_none _ _ (second_none _ _ (second_none (walk_fault s [] start words) _ none))
+
+pub end_settles : (s : Shape) (words : List Text)
+    → level_fault s [] nothing_held words false [] ≡ []
+    → settle_fault s.rules s.args_override_self (walk s.rules [] nothing_held words).held ≡ []
+end_settles s words none = first_none _ _ (second_none (walk_fault s [] start words) _ none)
 
 -- what each word keeps, of the words so far and of where the walk stands, all of them keep
 pub walk_keeps : (s : Shape) (P : List Text → Walk → Type 0)

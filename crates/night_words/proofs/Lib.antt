@@ -5,6 +5,8 @@ mod LevelLemmas
 mod LineLemmas
 mod NamedLemmas
 mod PairLemmas
+mod RowLemmas
 mod StoreLemmas
 mod TakenLemmas
 mod TurnLemmas
+mod ViewLemmas

@@ -15,15 +15,16 @@ use Rattle.clap.specs.Walk.{Row, Text, first_of, rows_of}
 use Rattle.clap.specs.declared.parser.matches.ArgMatches.{ArgMatches}
 use Rattle.clap.specs.declared.parser.matches.ArgMatches.TheViews.{out-ArgMatches, out-SubCommand}
 use Rattle.clap.specs.declared.parser.matches.SubCommand.{SubCommand}
-use Rattle.night_words.specs.Commands.{Asks, IsCrew, IsMigration, IsNamed, Named}
+use Rattle.night_words.specs.Commands.{Asks, IsCrew, IsInspect, IsMigration, IsNamed, Named}
 use Rattle.night_words.specs.Commands.{NamesDemo, NamesStore, command_in, has_flag, is_true}
-use Rattle.night_words.specs.Commands.{named_by, named_in, new_by, word_in, workers_of}
+use Rattle.night_words.specs.Commands.{named_by, named_in, new_by, view_in, view_of, word_in}
+use Rattle.night_words.specs.Commands.{workers_of}
 use Rattle.night_words.specs.declared.asked.Asked.{Asked}
 use Rattle.night_words.specs.declared.asked.Asked.TheVariants.{Demo, Format, Script, Inspect, Help}
 use Rattle.night_words.specs.declared.asked.Asked.TheVariants.{Crew, Migrate}
 use Rattle.night_words.specs.declared.asked.WordsFault.{WordsFault}
 use Rattle.night_words.specs.declared.asked.WordsFault.TheVariants.{Memory, Mistake, NotText}
-use Rattle.night_words.specs.declared.asked.WordsFault.TheVariants.{SameStores, Workers}
+use Rattle.night_words.specs.declared.asked.WordsFault.TheVariants.{SameStores, Views, Workers}
 use Rattle.night_words.proofs.PairLemmas.{migrate}
 use Rattle.night_words.proofs.TakenLemmas.{crew, demo, format, inspect, script}
 
@@ -183,6 +184,46 @@ crew_here m command inner store count workers known r name rows is read whole gi
     go (Err SameStores) made = absurd made
     go (Err Workers) made =
         (store, (known, (which, stored, ap (λ o. workers_of o) working ∙ made, knowing)))
+    go (Err Views) made = absurd made
+    go (Err NotText) made = absurd made
+    go (Err Memory) made = absurd made
+
+-- and where it is `inspect`
+pub inspect_here : (m : ArgMatches) (command : Bor Text) (inner : Bor ArgMatches)
+    (store : Text) (only_tasks as_json : Bool) (r : Result Asked WordsFault)
+    → Some command.now ≡ subcommand_name_of m
+    → Some (rows_of (found_of inner.now)) ≡ option_map (λ p. p.1) (subcommand_rows_of m)
+    → command.now ≡ inspect → Some store ≡ first_value (found_of inner.now) (codes "STORE")
+    → only_tasks ≡ is_true (first_value (found_of inner.now) (codes "tasks"))
+    → as_json ≡ is_true (first_value (found_of inner.now) (codes "json"))
+    → IsInspect store (view_of only_tasks as_json) r
+    → Asks (named_by m) (new_by m) (subcommand_rows_of m) r
+inspect_here m command inner store only_tasks as_json r name rows is stored one two made =
+    go r made
+  where
+    which : command_in (subcommand_rows_of m) ≡ Some inspect
+    which = command_here m command inspect name is
+
+    over : word_in (codes "STORE") (subcommand_rows_of m) ≡ Some store
+    over = word_here (codes "STORE") m command inner rows ∙ sym stored
+
+    seen : view_in (subcommand_rows_of m) ≡ view_of only_tasks as_json
+    seen = ap₂ view_of (flag_here (codes "tasks") m command inner only_tasks rows one)
+        (flag_here (codes "json") m command inner as_json rows two)
+
+    go : (r : Result Asked WordsFault) → IsInspect store (view_of only_tasks as_json) r
+        → Asks (named_by m) (new_by m) (subcommand_rows_of m) r
+    go (Ok (Demo strict)) made = absurd made
+    go (Ok (Format s n)) made = absurd made
+    go (Ok (Script s strict)) made = absurd made
+    go (Ok (Inspect s view)) made = (which, over ∙ ap Some (sym made.0), seen ∙ made.1)
+    go (Ok (Crew s n k)) made = absurd made
+    go (Ok (Migrate o n)) made = absurd made
+    go (Ok (Help text)) made = absurd made
+    go (Err (Mistake text)) made = absurd made
+    go (Err SameStores) made = absurd made
+    go (Err Workers) made = absurd made
+    go (Err Views) made = (store, (which, over, seen ∙ made))
     go (Err NotText) made = absurd made
     go (Err Memory) made = absurd made
 
@@ -276,6 +317,7 @@ migration_asks named new store given entered (Ok (Migrate o n)) is fresh made = 
 migration_asks named new store given entered (Err SameStores) is fresh made =
     (store, is, fresh ∙ ap Some (sym made))
 migration_asks named new store given entered (Err Workers) is fresh made = absurd made
+migration_asks named new store given entered (Err Views) is fresh made = absurd made
 migration_asks named new store given entered (Err (Mistake text)) is fresh made = absurd made
 migration_asks named new store given entered (Err NotText) is fresh made = absurd made
 migration_asks named new store given entered (Err Memory) is fresh made = absurd made

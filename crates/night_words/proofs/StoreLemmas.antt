@@ -12,29 +12,26 @@ use Rattle.clap.specs.Walk.{value, walk, walked}
 use Rattle.clap.proofs.OnLiterals.{clap_on_literals}
 use Rattle.night_words.specs.Commands.{is_true, night}
 use Rattle.night_words.proofs.FlagLemmas.{Comes, IsFlagged, LongMeets, by_flag, by_mark, by_value}
-use Rattle.night_words.proofs.FlagLemmas.{comes, stands}
+use Rattle.night_words.proofs.FlagLemmas.{comes, only, stands}
 use Rattle.night_words.proofs.LevelLemmas.{end_passes, first_passes, start, walk_keeps}
 use Rattle.night_words.proofs.LevelLemmas.{words_pass}
 use Rattle.night_words.proofs.TurnLemmas.{ShortFails, above, first_none, flag_of, found_of_one}
 use Rattle.night_words.proofs.TurnLemmas.{found_of_two, has_letter, has_name, held, help_is_found}
 use Rattle.night_words.proofs.TurnLemmas.{mark}
 
--- the three commands: `format`, `script` and `inspect`
+-- the two commands: `format` and `script`
 pub data Command : Type 0 where
   formats : Command
   scripts : Command
-  inspects : Command
 
 abbrev pub shape : Command → Shape
 shape formats = slice_index_or (built night).subs 1 above
 shape scripts = slice_index_or (built night).subs 2 above
-shape inspects = slice_index_or (built night).subs 3 above
 
 -- the flag of each
 abbrev pub name_of : Command → Text
 name_of formats = codes "new"
 name_of scripts = codes "strict"
-name_of inspects = codes "tasks"
 
 abbrev rule : Command → Rule
 rule c = flag_of (shape c) 1
@@ -47,7 +44,7 @@ abbrev rows_behind : Command → Text → List Row
 rows_behind c x = used (rule c) [] (used (flag_of (shape c) 0) (x ∷ []) [])
 
 -- a store whose place was met
-abbrev stored : Text → Option (Text × List Text)
+abbrev pub stored : Text → Option (Text × List Text)
 stored x = Some (codes "STORE", x ∷ [])
 
 -- where the walk stands behind these words
@@ -66,34 +63,28 @@ data At (c : Command) (seen : List Text) (w : Walk) : Type 0 where
 -- ---- the command's flags
 
 store_longs : (c : Command) (name : Text) (v : Option Text) (h : Held)
-    → LongMeets (shape c) (rule c) v h (arg_by_long (shape c).rules name)
+    → LongMeets (shape c) (only (rule c)) v h (arg_by_long (shape c).rules name)
 store_longs c name v h = go c v
   where
-    search_by : (c : Command) (v : Option Text) → LongMeets (shape c) (rule c) v h None
-        → LongMeets (shape c) (rule c) v h (Some (rule c))
-        → LongMeets (shape c) (rule c) v h (Some (flag_of (shape c) 2))
-        → LongMeets (shape c) (rule c) v h (arg_by_long (shape c).rules name)
+    search_by : (c : Command) (v : Option Text) → LongMeets (shape c) (only (rule c)) v h None
+        → LongMeets (shape c) (only (rule c)) v h (Some (rule c))
+        → LongMeets (shape c) (only (rule c)) v h (Some (flag_of (shape c) 2))
+        → LongMeets (shape c) (only (rule c)) v h (arg_by_long (shape c).rules name)
     search_by formats v none meant help = found_of_two (has_name name)
-        (LongMeets (shape formats) (rule formats) v h) (rule formats) (flag_of (shape formats) 2)
-        none meant help
+        (LongMeets (shape formats) (only (rule formats)) v h) (rule formats)
+        (flag_of (shape formats) 2) none meant help
     search_by scripts v none meant help = found_of_two (has_name name)
-        (LongMeets (shape scripts) (rule scripts) v h) (rule scripts) (flag_of (shape scripts) 2)
-        none meant help
-    search_by inspects v none meant help = found_of_two (has_name name)
-        (LongMeets (shape inspects) (rule inspects) v h) (rule inspects)
-        (flag_of (shape inspects) 2) none meant help
+        (LongMeets (shape scripts) (only (rule scripts)) v h) (rule scripts)
+        (flag_of (shape scripts) 2) none meant help
 
     go : (c : Command) (v : Option Text)
-        → LongMeets (shape c) (rule c) v h (arg_by_long (shape c).rules name)
-    go formats None = search_by formats None (λ none. cc) (λ none. (refl, none))
+        → LongMeets (shape c) (only (rule c)) v h (arg_by_long (shape c).rules name)
+    go formats None = search_by formats None (λ none. cc) (λ none. (tt, refl, none))
         (λ none. absurd (help_is_found _ _ _ none))
     go formats (Some v) = search_by formats (Some v) (λ none. cc) (λ none. cc) (λ none. cc)
-    go scripts None = search_by scripts None (λ none. cc) (λ none. (refl, none))
+    go scripts None = search_by scripts None (λ none. cc) (λ none. (tt, refl, none))
         (λ none. absurd (help_is_found _ _ _ none))
     go scripts (Some v) = search_by scripts (Some v) (λ none. cc) (λ none. cc) (λ none. cc)
-    go inspects None = search_by inspects None (λ none. cc) (λ none. (refl, none))
-        (λ none. absurd (help_is_found _ _ _ none))
-    go inspects (Some v) = search_by inspects (Some v) (λ none. cc) (λ none. cc) (λ none. cc)
 
 store_shorts : (c : Command) (x : ℕ) (rest : Text) (h : Held) (next : Held → Kinds)
     → ShortFails (shape c) rest h next (arg_by_short (shape c).rules x)
@@ -109,14 +100,8 @@ store_shorts scripts x rest h next =
     help_is_found _ _ _ (first_none _ _ none) in
     found_of_one (has_letter x) (ShortFails (shape scripts) rest h next)
     (flag_of (shape scripts) 2) no help
-store_shorts inspects x rest h next =
-    let no : ShortFails (shape inspects) rest h next None = λ none. cc in
-    let help : ShortFails (shape inspects) rest h next (Some (flag_of (shape inspects) 2)) = λ none.
-    help_is_found _ _ _ (first_none _ _ none) in
-    found_of_one (has_letter x) (ShortFails (shape inspects) rest h next)
-    (flag_of (shape inspects) 2) no help
 
-is_flagged : (c : Command) → IsFlagged (shape c) (rule c)
+is_flagged : (c : Command) → IsFlagged (shape c) (only (rule c))
 is_flagged c = record { longs = store_longs c; shorts = store_shorts c }
 
 -- ---- one more word
@@ -127,34 +112,29 @@ twice : (c : Command)
     ≡ [] → ⊥
 twice formats none = cc
 twice scripts none = cc
-twice inspects none = cc
 
 twice_before : (c : Command) (x : Text)
     → react_fault (shape c).rules (shape c).args_override_self (rule c) []
     (held (set_rows c) (stored x)) ≡ [] → ⊥
 twice_before formats x none = cc
 twice_before scripts x none = cc
-twice_before inspects x none = cc
 
 twice_around : (c : Command) (x : Text)
     → react_fault (shape c).rules (shape c).args_override_self (rule c) []
     (held (rows_behind c x) None) ≡ [] → ⊥
 twice_around formats x none = cc
 twice_around scripts x none = cc
-twice_around inspects x none = cc
 
 -- no second store is taken
 stray : (c : Command) (r : List Row) (p : Option (Text × List Text))
     → step_fault (shape c) 2 (held r p) value ≡ [] → ⊥
 stray formats r p none = cc
 stray scripts r p none = cc
-stray inspects r p none = cc
 
 stray_behind : (c : Command) (r : List Row) (p : Option (Text × List Text)) (word : Text)
     → turn_fault (shape c) [] (stands r p 2 true) word ≡ [] → ⊥
 stray_behind formats r p word none = cc
 stray_behind scripts r p word none = cc
-stray_behind inspects r p word none = cc
 
 -- a first one is
 takes : (c : Command) (r : List Row) (word : Text)
@@ -162,21 +142,18 @@ takes : (c : Command) (r : List Row) (word : Text)
     (held r None) ≡ stands r (stored word) 2 false
 takes formats r word = refl
 takes scripts r word = refl
-takes inspects r word = refl
 
 takes_behind : (c : Command) (r : List Row) (word : Text)
     → walked (shape c).rules [] (stands r None 1 true) word ≡ stands r (stored word) 2 true
 unfolding walked
 takes_behind formats r word = refl
 takes_behind scripts r word = refl
-takes_behind inspects r word = refl
 
 -- the flag behind a store
 sets : (c : Command) (x : Text)
     → used (rule c) [] (settled_rows (shape c).rules (stored x) []) ≡ rows_behind c x
 sets formats x = refl
 sets scripts x = refl
-sets inspects x = refl
 
 module _ (c : Command) (seen : List Text) (w : Walk) (word : Text) where
   abbrev Next : Type 0
@@ -194,44 +171,45 @@ module _ (c : Command) (seen : List Text) (w : Walk) (word : Text) where
   more l is = ap (λ (m : List Text). m ++ word ∷ []) is
 
   from_begun : seen ≡ [] → w ≡ stands [] None 1 false
-      → Comes (shape c) (rule c) [] None 1 word → Next
+      → Comes (shape c) (only (rule c)) [] None 1 word → Next
   from_begun es ew (by_mark m at) =
       begun_behind (more [] es ∙ ap (λ (t : Text). t ∷ []) m) (from _ _ ew at)
-  from_begun es ew (by_flag fine at) = set false (from _ _ ew at)
+  from_begun es ew (by_flag one fine at) = set false (from _ _ ew at)
   from_begun es ew (by_value fine at) =
       named word (more [] es) (from _ _ ew (at ∙ takes c [] word))
 
   from_named : (x : Text) → seen ≡ x ∷ [] → w ≡ stands [] (stored x) 2 false
-      → Comes (shape c) (rule c) [] (stored x) 2 word → Next
+      → Comes (shape c) (only (rule c)) [] (stored x) 2 word → Next
   from_named x es ew (by_mark m at) = named_behind x
       (inr (more (x ∷ []) es ∙ ap (λ (t : Text). x ∷ t ∷ []) m)) (from _ _ ew at)
-  from_named x es ew (by_flag fine at) = named_set x false
+  from_named x es ew (by_flag one fine at) = named_set x false
       (from _ _ ew (at ∙ ap (λ (r : List Row). stands r None 2 false) (sets c x)))
   from_named x es ew (by_value fine at) = absurd (stray c [] (stored x) fine)
 
   from_set : w ≡ stands (set_rows c) None 1 false
-      → Comes (shape c) (rule c) (set_rows c) None 1 word → Next
+      → Comes (shape c) (only (rule c)) (set_rows c) None 1 word → Next
   from_set ew (by_mark m at) = set true (from _ _ ew at)
-  from_set ew (by_flag fine at) = absurd (twice c fine)
+  from_set ew (by_flag one fine at) = absurd (twice c fine)
   from_set ew (by_value fine at) =
       set_named word false (from _ _ ew (at ∙ takes c (set_rows c) word))
 
   from_set_named : (x : Text) → w ≡ stands (set_rows c) (stored x) 2 false
-      → Comes (shape c) (rule c) (set_rows c) (stored x) 2 word → Next
+      → Comes (shape c) (only (rule c)) (set_rows c) (stored x) 2 word → Next
   from_set_named x ew (by_mark m at) = set_named x true (from _ _ ew at)
-  from_set_named x ew (by_flag fine at) = absurd (twice_before c x fine)
+  from_set_named x ew (by_flag one fine at) = absurd (twice_before c x fine)
   from_set_named x ew (by_value fine at) = absurd (stray c (set_rows c) (stored x) fine)
 
   from_named_set : (x : Text) → w ≡ stands (rows_behind c x) None 2 false
-      → Comes (shape c) (rule c) (rows_behind c x) None 2 word → Next
+      → Comes (shape c) (only (rule c)) (rows_behind c x) None 2 word → Next
   from_named_set x ew (by_mark m at) = named_set x true (from _ _ ew at)
-  from_named_set x ew (by_flag fine at) = absurd (twice_around c x fine)
+  from_named_set x ew (by_flag one fine at) = absurd (twice_around c x fine)
   from_named_set x ew (by_value fine at) = absurd (stray c (rows_behind c x) None fine)
 
   -- a word that comes before the mark
   came : (r : List Row) (p : Option (Text × List Text)) (n : ℕ) → w ≡ stands r p n false → Turns w
-      → Comes (shape c) (rule c) r p n word
-  came r p n ew none = comes (shape c) (rule c) (is_flagged c) r p n word (subst Turns ew none)
+      → Comes (shape c) (only (rule c)) r p n word
+  came r p n ew none =
+      comes (shape c) (only (rule c)) (is_flagged c) r p n word (subst Turns ew none)
 
   stray_at : (r : List Row) (p : Option (Text × List Text)) → w ≡ stands r p 2 true → Turns w → ⊥
   stray_at r p ew none = stray_behind c r p word (subst Turns ew none)
@@ -277,35 +255,30 @@ wants_store : (c : Command) (is_behind : Bool) → EndPasses c (stands [] None 1
 unfolding clap_on_literals
 wants_store formats is_behind none = cc
 wants_store scripts is_behind none = cc
-wants_store inspects is_behind none = cc
 
 flag_is_no_store : (c : Command) (is_behind : Bool)
     → EndPasses c (stands (set_rows c) None 1 is_behind) → ⊥
 unfolding clap_on_literals
 flag_is_no_store formats is_behind none = cc
 flag_is_no_store scripts is_behind none = cc
-flag_is_no_store inspects is_behind none = cc
 
 -- what is read where it stands
 reads_named : (c : Command) (x : Text) (t : Bool)
     → store_of c (stands [] (stored x) 2 t) ≡ Some x
 reads_named formats x t = refl
 reads_named scripts x t = refl
-reads_named inspects x t = refl
 
 reads_set_named : (c : Command) (x : Text) (t : Bool)
     → (store_of c (stands (set_rows c) (stored x) 2 t) ≡ Some x)
     × (set_of c (stands (set_rows c) (stored x) 2 t) ≡ true)
 reads_set_named formats x t = (refl, refl)
 reads_set_named scripts x t = (refl, refl)
-reads_set_named inspects x t = (refl, refl)
 
 reads_named_set : (c : Command) (x : Text) (t : Bool)
     → (store_of c (stands (rows_behind c x) None 2 t) ≡ Some x)
     × (set_of c (stands (rows_behind c x) None 2 t) ≡ true)
 reads_named_set formats x t = (refl, refl)
 reads_named_set scripts x t = (refl, refl)
-reads_named_set inspects x t = (refl, refl)
 
 module _ (c : Command) (rest : List Text) (w : Walk) where
   alone_behind : (x : Text) (u : Walk) → w ≡ u → store_of c u ≡ Some x → NamesAlone x rest
@@ -352,7 +325,6 @@ ReadsAlone c x w = (store_of c w ≡ Some x) × (set_of c w ≡ false)
 reads_alone : (c : Command) (x : Text) (t : Bool) → ReadsAlone c x (stands [] (stored x) 2 t)
 reads_alone formats x t = (refl, refl)
 reads_alone scripts x t = (refl, refl)
-reads_alone inspects x t = (refl, refl)
 
 marks : (c : Command) (r : List Row) (p : Option (Text × List Text)) (n : ℕ)
     → walked (shape c).rules [] (stands r p n false) mark ≡ stands r p n true
@@ -368,8 +340,8 @@ module _ (c : Command) where
 
   -- the first word
   comes_first : (x : Text) (rest : List Text) → Passes (x ∷ rest)
-      → Comes (shape c) (rule c) [] None 1 x
-  comes_first x rest none = comes (shape c) (rule c) (is_flagged c) [] None 1 x
+      → Comes (shape c) (only (rule c)) [] None 1 x
+  comes_first x rest none = comes (shape c) (only (rule c)) (is_flagged c) [] None 1 x
       (first_passes (shape c) [] start x rest (words_pass (shape c) [] (x ∷ rest) false [] none))
 
   by_itself : (x : Text) → Passes (x ∷ []) → ReadsAlone c x (over (x ∷ []))
@@ -378,9 +350,9 @@ module _ (c : Command) where
       finds : EndPasses c (over (x ∷ []))
       finds = end_passes (shape c) (x ∷ []) none
 
-      go : Comes (shape c) (rule c) [] None 1 x → ReadsAlone c x (over (x ∷ []))
+      go : Comes (shape c) (only (rule c)) [] None 1 x → ReadsAlone c x (over (x ∷ []))
       go (by_mark m at) = absurd (wants_store c true (subst (EndPasses c) at finds))
-      go (by_flag fine at) = absurd (flag_is_no_store c false (subst (EndPasses c) at finds))
+      go (by_flag one fine at) = absurd (flag_is_no_store c false (subst (EndPasses c) at finds))
       go (by_value fine at) =
           subst (ReadsAlone c x) (sym (at ∙ takes c [] x)) (reads_alone c x false)
 
@@ -401,10 +373,10 @@ module _ (c : Command) where
           → walked (shape c).rules [] w mark ≡ v → over (x ∷ mark ∷ []) ≡ v
       last w v is at = ap (λ (u : Walk). walked (shape c).rules [] u mark) is ∙ at
 
-      go : Comes (shape c) (rule c) [] None 1 x → ReadsAlone c x (over (x ∷ mark ∷ []))
+      go : Comes (shape c) (only (rule c)) [] None 1 x → ReadsAlone c x (over (x ∷ mark ∷ []))
       go (by_mark m at) =
           subst (λ (t : Text). ReadsAlone c t (over (t ∷ mark ∷ []))) (sym m) (behind_mark mark)
-      go (by_flag fine at) = absurd (flag_is_no_store c true (subst (EndPasses c)
+      go (by_flag one fine at) = absurd (flag_is_no_store c true (subst (EndPasses c)
           (last _ _ at (marks c (set_rows c) None 1)) finds))
       go (by_value fine at) = subst (ReadsAlone c x)
           (sym (last _ _ (at ∙ takes c [] x) (marks c [] (stored x) 2))) (reads_alone c x true)

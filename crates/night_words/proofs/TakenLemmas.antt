@@ -1,6 +1,6 @@
 -- The words that are taken: a command, and the words behind it that it takes.
 use Rattle.std.proofs.Common.{◌≡◌, ◌∙◌, ◌∷◌, ◌++◌, ◌⊎◌, Bool, List, Option, Some, None, [], ap}
-use Rattle.std.proofs.Common.{append-nil, append_assoc, cond, false, inl, inr, refl, subst}
+use Rattle.std.proofs.Common.{ap₂, append-nil, append_assoc, cond, false, inl, inr, refl, subst}
 use Rattle.std.proofs.Common.{sym}
 use Rattle.std.proofs.Common.{true}
 use Rattle.std.specs.Prelude.{◌||◌, codes, fold, option_map}
@@ -19,7 +19,7 @@ use Rattle.clap.specs.Walk.{walked_from}
 use Rattle.clap.proofs.OnLiterals.{clap_on_literals}
 use Rattle.night_words.specs.Commands.{night, Asks, AsksAlone, AsksFor, AsksForDemo}
 use Rattle.night_words.specs.Commands.{AsksForFormat, AsksForInspect, AsksForScript, AsksOver}
-use Rattle.night_words.specs.Commands.{AsksToMigrate, is_tasks}
+use Rattle.night_words.specs.Commands.{AsksToMigrate, NamesInspect, view_in, view_of}
 use Rattle.night_words.specs.Commands.{IsCausedBy, IsNamed, Named, NamesCrew, NamesDemo, NamesStore}
 use Rattle.night_words.specs.Commands.{command_in, faults_of, has_flag, named_in, new_in, word_in}
 use Rattle.night_words.specs.declared.asked.Asked.{Asked}
@@ -28,15 +28,16 @@ use Rattle.night_words.specs.declared.asked.Asked.TheVariants.{Crew, Migrate}
 use Rattle.night_words.specs.declared.asked.View.TheVariants.{Whole}
 use Rattle.night_words.specs.declared.asked.WordsFault.{WordsFault}
 use Rattle.night_words.specs.declared.asked.WordsFault.TheVariants.{Memory, Mistake, NotText}
-use Rattle.night_words.specs.declared.asked.WordsFault.TheVariants.{SameStores, Workers}
+use Rattle.night_words.specs.declared.asked.WordsFault.TheVariants.{SameStores, Views, Workers}
 use Rattle.night_words.proofs.DemoLemmas.{demo_alone}
 use Rattle.night_words.proofs.LevelLemmas.{first_passes, lower_passes, rest_passes, start}
 use Rattle.night_words.proofs.LevelLemmas.{words_pass}
 use Rattle.night_words.proofs.PairLemmas.{behind_both, migrate}
-use Rattle.night_words.proofs.StoreLemmas.{NamesAlone, behind_store, formats, inspects}
+use Rattle.night_words.proofs.StoreLemmas.{NamesAlone, behind_store, formats}
 use Rattle.night_words.proofs.StoreLemmas.{names_alone, scripts}
 use Rattle.night_words.proofs.TurnLemmas.{above, above_is_strict, first_none, mark}
 use Rattle.night_words.proofs.TurnLemmas.{mark_or_value, second_none}
+use Rattle.night_words.proofs.ViewLemmas.{Flag, behind_view, json, name_of, tasks, view_alone}
 
 -- the names that the parser knows
 abbrev names : Names
@@ -181,7 +182,8 @@ pub data IsTaken (words : List Text) (named : Named) (new : Option Text) : Type 
   takes_script : (store : Text) → named ≡ Some (script, Some store)
       → Without (codes "strict") words (AsksOver script store words) → IsTaken words named new
   takes_inspect : (store : Text) → named ≡ Some (inspect, Some store)
-      → Without (codes "tasks") words (AsksOver inspect store words) → IsTaken words named new
+      → (((f : Flag) → has_flag (name_of f) (subcommand_of night words) ≡ false)
+      → AsksOver inspect store words) → IsTaken words named new
   takes_migrate : (store given : Text) → AsksToMigrate store given words
       → named ≡ Some (migrate, Some store) → new ≡ Some given → IsTaken words named new
   takes_crew : (first : Option Text) → named ≡ Some (crew, first) → IsTaken words named new
@@ -254,10 +256,10 @@ inspect_taken : (name : Text) (rest : List Text) → Finds (inspect ∷ rest)
 unfolding walked
 inspect_taken name rest none =
     let met = keeps_words inspect [] rest (walked above.rules names start inspect) refl in
-    let b = behind_store inspects rest (below_passes inspect rest met none) in
+    let b = behind_view rest (below_passes inspect rest met none) in
     takes_inspect b.store (named_at name inspect rest met ∙ ap (λ s. Some (inspect, s)) b.read)
     (λ unset. asks_over name inspect b.store rest
-    (b.alone (sym (flag_at (codes "tasks") name inspect rest met) ∙ unset)))
+    (b.alone (λ f. sym (flag_at (name_of f) name inspect rest met) ∙ unset f)))
 
 -- so do those behind `migrate` that name two
 asks_both : (name store given : Text) (rest : List Text)
@@ -400,7 +402,7 @@ taken_asks words named new entered (Format store n) same t is =
 taken_asks words named new entered (Script store strict) same t is =
     subst (NamesStore script (codes "strict") store.now strict) same is
 taken_asks words named new entered (Inspect store view) same t is =
-    subst (NamesStore inspect (codes "tasks") store.now (is_tasks view)) same is
+    subst (NamesInspect store.now (Some view)) same is
 taken_asks words named new entered (Crew store n known) same t is =
     subst (NamesCrew store.now (Some n) known) same is
 taken_asks words named new entered (Migrate o g) same t is =
@@ -415,6 +417,8 @@ taken_fails words named new entered SameStores same t is =
     (is.0, migrates words named new is.0 is.0 t is.1 is.2)
 taken_fails words named new entered Workers same t is =
     (is.0, (is.1.0, subst (NamesCrew is.0 None is.1.0) same is.1.1))
+taken_fails words named new entered Views same t is =
+    (is.0, subst (NamesInspect is.0 None) same is.1)
 taken_fails words named new entered (Mistake text) same t is = absurd is
 taken_fails words named new entered NotText same t is = absurd is
 taken_fails words named new entered Memory same t is = absurd is
@@ -495,6 +499,18 @@ module _ (words : List Text) where
       go (takes_migrate s g a e n) = absurd (other migrate _ refl e)
       go (takes_crew first e) = absurd (other crew _ refl e)
 
+  -- where all of it is shown there is no flag
+  no_flag : (only_tasks as_json : Bool) → view_of only_tasks as_json ≡ Some Whole
+      → (only_tasks ≡ false) × (as_json ≡ false)
+  no_flag false false e = (refl, refl)
+  no_flag true false e = cc
+  no_flag false true e = cc
+  no_flag true true e = cc
+
+  unflagged : view_in entry ≡ Some Whole → (f : Flag) → has_flag (name_of f) entry ≡ false
+  unflagged e tasks = (no_flag (has_flag (codes "tasks") entry) (has_flag (codes "json") entry) e).0
+  unflagged e json = (no_flag (has_flag (codes "tasks") entry) (has_flag (codes "json") entry) e).1
+
   pub inspect_without : (store : Text) → faults_of words ≡ [] → AsksForInspect store Whole words
       → AsksOver inspect store words
   inspect_without store none asks = go (taken words none)
@@ -508,7 +524,7 @@ module _ (words : List Text) where
       go (takes_format s e a) = absurd (other format _ refl e)
       go (takes_script s e a) = absurd (other script _ refl e)
       go (takes_inspect s e a) = subst (λ (u : Text). AsksOver inspect u words)
-          (store_read entry inspect s store e asks.1) (a asks.2)
+          (store_read entry inspect s store e asks.1) (a (unflagged asks.2))
       go (takes_migrate s g a e n) = absurd (other migrate _ refl e)
       go (takes_crew first e) = absurd (other crew _ refl e)
 
@@ -541,10 +557,11 @@ inspect_rest : (name store : Text) (rest : List Text) → Finds (inspect ∷ res
 unfolding walked
 inspect_rest name store rest none alone =
     let met = keeps_words inspect [] rest (walked above.rules names start inspect) refl in
-    let b = names_alone inspects store rest alone (below_passes inspect rest met none) in (
+    let b = view_alone store rest alone (below_passes inspect rest met none) in (
       ap (λ o. command_in (entered (built night) o)) met,
       ap (λ o. word_in (codes "STORE") (entered (built night) o)) met ∙ b.0,
-      flag_at (codes "tasks") name inspect rest met ∙ b.1,
+      ap₂ view_of (flag_at (codes "tasks") name inspect rest met ∙ b.1 tasks)
+          (flag_at (codes "json") name inspect rest met ∙ b.1 json),
     )
 
 pub format_alone : (store : Text) (words : List Text) → faults_of words ≡ []

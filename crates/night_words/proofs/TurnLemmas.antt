@@ -46,6 +46,15 @@ found_of_two p P a b none first second = go (p a) (p b)
     go false true = second
     go false false = none
 
+-- the same of three
+pub found_of_three : (p : Rule → Bool) (P : Option Rule → Type 0) (a b c : Rule) → P None
+    → P (Some a) → P (Some b) → P (Some c) → P (find p (a ∷ b ∷ c ∷ []))
+found_of_three p P a b c none first second third = go (p a)
+  where
+    go : (x : Bool) → P (cond x (Some a) (find p (b ∷ c ∷ [])))
+    go true = first
+    go false = found_of_two p P b c none second third
+
 -- the same of one
 pub found_of_one : (p : Rule → Bool) (P : Option Rule → Type 0) (a : Rule) → P None → P (Some a)
     → P (find p (a ∷ []))

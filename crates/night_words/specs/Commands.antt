@@ -17,10 +17,10 @@ use Rattle.night_words.specs.declared.asked.Asked.{Asked}
 use Rattle.night_words.specs.declared.asked.Asked.TheVariants.{Demo, Format, Script, Inspect, Help}
 use Rattle.night_words.specs.declared.asked.Asked.TheVariants.{Crew, Migrate}
 use Rattle.night_words.specs.declared.asked.View.{View}
-use Rattle.night_words.specs.declared.asked.View.TheVariants.{Whole, Tasks}
+use Rattle.night_words.specs.declared.asked.View.TheVariants.{Whole, Tasks, Json}
 use Rattle.night_words.specs.declared.asked.WordsFault.{WordsFault}
 use Rattle.night_words.specs.declared.asked.WordsFault.TheVariants.{Mistake, NotText, Memory}
-use Rattle.night_words.specs.declared.asked.WordsFault.TheVariants.{SameStores, Workers}
+use Rattle.night_words.specs.declared.asked.WordsFault.TheVariants.{SameStores, Views, Workers}
 
 -- ---- the command line
 
@@ -48,15 +48,18 @@ wanted id = record (new_rule id) { action = Some Set; required = true; value_nam
 abbrev pub store_line : Text → App
 store_line name = with_rule (new_app name) (wanted (codes "STORE"))
 
--- three that take a flag, too
+-- two that take a flag, too
 abbrev pub format_line : App
 format_line = with_rule (store_line (codes "format")) (flag (codes "new"))
 
 abbrev pub script_line : App
 script_line = with_rule (store_line (codes "script")) (flag (codes "strict"))
 
+-- and one that takes two
 abbrev pub inspect_line : App
-inspect_line = with_rule (store_line (codes "inspect")) (flag (codes "tasks"))
+inspect_line = with_rule
+    (with_rule (store_line (codes "inspect")) (flag (codes "tasks")))
+    (flag (codes "json"))
 
 -- a command that takes the names of two stores, the old one first
 abbrev pub migrate_line : App
@@ -76,7 +79,7 @@ crew_line = with_rule (with_rule (store_line (codes "crew")) workers_option) (fl
 
 -- the command line of `night`: the commands are `demo`, over a store `format`, `script` and
 -- `inspect`, over two `migrate`, and over a store and with an option `crew`; all but `migrate` take
--- a flag
+-- a flag, or flags
 abbrev pub night : App
 night =
     with_subcommand
@@ -153,6 +156,21 @@ abbrev pub NamesStore : Text → Text → Text → Bool → Option (Text × List
 NamesStore command id store is_set entered = (command_in entered ≡ Some command)
     × (word_in (codes "STORE") entered ≡ Some store) × (has_flag id entered ≡ is_set)
 
+-- which view these flags ask for, `--tasks` and `--json`: none where both are there
+abbrev pub view_of : (tasks json : Bool) → Option View
+view_of false false = Some Whole
+view_of true false = Some Tasks
+view_of false true = Some Json
+view_of true true = None
+
+abbrev pub view_in : Option (Text × List Row) → Option View
+view_in entered = view_of (has_flag (codes "tasks") entered) (has_flag (codes "json") entered)
+
+-- the parser entered `inspect` with this store, and with the flags of this view
+abbrev pub NamesInspect : Text → Option View → Option (Text × List Row) → Type 0
+NamesInspect store view entered = (command_in entered ≡ Some (codes "inspect"))
+    × (word_in (codes "STORE") entered ≡ Some store) × (view_in entered ≡ view)
+
 -- the parser entered `crew` with this store, with this number of workers, and of known jobs or not
 abbrev pub NamesCrew : Text → Option ℕ → Bool → Option (Text × List Row) → Type 0
 NamesCrew store workers known entered = (command_in entered ≡ Some (codes "crew"))
@@ -177,16 +195,12 @@ abbrev pub AsksForScript : Text → Bool → List Text → Type 0
 AsksForScript store strict words =
     NamesStore (codes "script") (codes "strict") store strict (subcommand_of night words)
 
--- whether this is what is printed by `--tasks`
-abbrev pub is_tasks : View → Bool
-is_tasks Whole = false
-is_tasks Tasks = true
-
 -- the words ask for what this view shows of the store, as the parser reads them: the store stands
--- behind the program's own name and `inspect`, and `--tasks` may stand before or behind it
+-- behind the program's own name and `inspect`, and the flag of the view may stand before or behind
+-- it
 abbrev pub AsksForInspect : Text → View → List Text → Type 0
 AsksForInspect store view words =
-    NamesStore (codes "inspect") (codes "tasks") store (is_tasks view) (subcommand_of night words)
+    NamesInspect store (Some view) (subcommand_of night words)
 
 -- the words ask for a crew of so many workers over this store, as the parser reads them: the store
 -- stands behind the program's own name and `crew`, and before or behind it may stand `--workers N`
@@ -207,12 +221,13 @@ AsksFor (Migrate old new) words =
 AsksFor (Help text) words = Unit {0}
 
 -- the words lead to this fault: to that of equal names where a migration is asked for from a store
--- to itself, and to that of the workers where a crew of none, of more than 8 or of no number is; of
--- the others `IsAnswer` tells
+-- to itself, to that of the workers where a crew of none, of more than 8 or of no number is, and to
+-- that of the views where more than one is; of the others `IsAnswer` tells
 abbrev pub IsCausedBy : WordsFault → List Text → Type 0
 IsCausedBy SameStores words = (store : Text) × AsksToMigrate store store words
 IsCausedBy Workers words = (store : Text) × ((known : Bool)
     × NamesCrew store None known (subcommand_of night words))
+IsCausedBy Views words = (store : Text) × NamesInspect store None (subcommand_of night words)
 IsCausedBy why words = Unit {0}
 
 -- ---- what is answered
@@ -226,13 +241,14 @@ abbrev pub IsMistake : ErrorKind → Type 0
 IsMistake kind = (kind ≢ DisplayHelp) × (kind ≢ DisplayVersion) × (kind ≢ OutOfMemory)
 
 -- what is answered where the parser may find these: a command exactly where it finds nothing, but
--- for equal names and a wrong number of workers
+-- for equal names, a wrong number of workers and several views
 abbrev pub IsAnswer : Kinds → Result Asked WordsFault → Type 0
 IsAnswer kinds (Ok (Help text)) = (kind : ErrorKind) × IsAmong kind kinds × IsHelp kind
 IsAnswer kinds (Ok command) = kinds ≡ []
 IsAnswer kinds (Err (Mistake text)) = (kind : ErrorKind) × IsAmong kind kinds × IsMistake kind
 IsAnswer kinds (Err SameStores) = kinds ≡ []
 IsAnswer kinds (Err Workers) = kinds ≡ []
+IsAnswer kinds (Err Views) = kinds ≡ []
 IsAnswer kinds (Err NotText) = ⊥
 IsAnswer kinds (Err Memory) = Unit {0}
 
@@ -241,6 +257,7 @@ abbrev pub IsOfSystem : WordsFault → Type 0
 IsOfSystem (Mistake text) = ⊥
 IsOfSystem SameStores = ⊥
 IsOfSystem Workers = ⊥
+IsOfSystem Views = ⊥
 IsOfSystem NotText = Unit {0}
 IsOfSystem Memory = Unit {0}
 
@@ -249,6 +266,7 @@ abbrev pub fault_text : WordsFault → List ℕ
 fault_text (Mistake text) = string_bytes text
 fault_text SameStores = codes "error: OLD and NEW name the same file\n"
 fault_text Workers = codes "error: --workers takes a number from 1 to 8\n"
+fault_text Views = codes "error: inspect takes one of --tasks and --json\n"
 fault_text NotText = codes "error: a word is no text in UTF-8\n"
 fault_text Memory = codes "night: fault 1 Memory\n"
 
@@ -261,6 +279,7 @@ IsShown kind (Ok command) = ⊥
 IsShown kind (Err (Mistake text)) = IsMistake kind
 IsShown kind (Err SameStores) = ⊥
 IsShown kind (Err Workers) = ⊥
+IsShown kind (Err Views) = ⊥
 IsShown kind (Err NotText) = ⊥
 IsShown kind (Err Memory) = Unit {0}
 
@@ -291,7 +310,7 @@ Asks named new entered (Ok (Format store is_new)) =
 Asks named new entered (Ok (Script store strict)) =
     NamesStore (codes "script") (codes "strict") store.now strict entered
 Asks named new entered (Ok (Inspect store view)) =
-    NamesStore (codes "inspect") (codes "tasks") store.now (is_tasks view) entered
+    NamesInspect store.now (Some view) entered
 Asks named new entered (Ok (Crew store workers known)) =
     NamesCrew store.now (Some workers) known entered
 Asks named new entered (Ok (Migrate old given)) =
@@ -302,6 +321,7 @@ Asks named new entered (Err SameStores) = (store : Text)
     × (named ≡ Some (codes "migrate", Some store)) × (new ≡ Some store)
 Asks named new entered (Err Workers) = (store : Text) × ((known : Bool)
     × NamesCrew store None known entered)
+Asks named new entered (Err Views) = (store : Text) × NamesInspect store None entered
 Asks named new entered (Err why) = ⊥
 
 -- a command is named, and the stores that it wants
@@ -322,6 +342,13 @@ IsCrew store workers known (Ok (Crew s n k)) =
 IsCrew store workers known (Ok asked) = ⊥
 IsCrew store workers known (Err Workers) = workers_of workers ≡ None
 IsCrew store workers known (Err why) = ⊥
+
+-- what this view shows of this store, or the fault of several views
+abbrev pub IsInspect : Text → Option View → Result Asked WordsFault → Type 0
+IsInspect store view (Ok (Inspect s v)) = (s.now ≡ store) × (view ≡ Some v)
+IsInspect store view (Ok asked) = ⊥
+IsInspect store view (Err Views) = view ≡ None
+IsInspect store view (Err why) = ⊥
 
 -- a migration between two names that differ, or the fault of equal ones
 abbrev pub IsMigration : Text → Text → Result Asked WordsFault → Type 0

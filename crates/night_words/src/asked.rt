@@ -51,6 +51,8 @@ pub enum View {
     Whole,
     /// `--tasks`: the lines of its tasks alone.
     Tasks,
+    /// `--json`: all that it holds, as one object of JSON.
+    Json,
 }
 
 /// Why words ask for nothing. It is printed whole, with its LF, on standard error; `Memory` as the
@@ -64,6 +66,8 @@ pub enum WordsFault {
     SameStores,
     /// A crew is asked for, but of another number of workers than 1 to 8.
     Workers,
+    /// More than one view of a store is asked for.
+    Views,
     /// A word is no text in UTF-8.
     NotText,
     /// There was no memory to read the words.
@@ -78,6 +82,7 @@ impl fmt::Display for WordsFault {
             WordsFault::Mistake(text) => f.write_str(text.as_str()),
             WordsFault::SameStores => f.write_str("error: OLD and NEW name the same file\n"),
             WordsFault::Workers => f.write_str("error: --workers takes a number from 1 to 8\n"),
+            WordsFault::Views => f.write_str("error: inspect takes one of --tasks and --json\n"),
             WordsFault::NotText => f.write_str("error: a word is no text in UTF-8\n"),
             WordsFault::Memory => f.write_str("night: fault 1 Memory\n"),
         }

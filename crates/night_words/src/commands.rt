@@ -182,7 +182,9 @@ fn inspect_command<'a>(alloc: Global) -> Result<Command<'a>, AllocError>
         "Prints what a store holds, and writes nothing to it",
         ending!("Example: night inspect jobs.store"),
     )?;
-    store.arg(flag_word(alloc, "tasks", "Prints the lines of its tasks alone"))
+    store
+        .arg(flag_word(alloc, "tasks", "Prints the lines of its tasks alone"))?
+        .arg(flag_word(alloc, "json", "Prints all of it as one object of JSON"))
 }
 
 /// A command over a store.

@@ -6,8 +6,8 @@ ghost use Rattle.std.specs.Prelude.{◌≡◌, ◌∷◌, ℕ, List, [], codes, 
 ghost use Rattle.clap.specs.declared.error.kind.ErrorKind.TheVariants as kind;
 ghost use Rattle.night_words.specs.Commands.{AsksForCrew, AsksForDemo, AsksForFormat};
 ghost use Rattle.night_words.specs.Commands.{AsksForInspect, AsksForScript, IsCausedBy, faults_of};
-ghost use Rattle.night_words.specs.declared.asked.View.TheVariants.{Tasks, Whole};
-ghost use Rattle.night_words.specs.declared.asked.WordsFault.TheVariants.{Workers};
+ghost use Rattle.night_words.specs.declared.asked.View.TheVariants.{Json, Tasks, Whole};
+ghost use Rattle.night_words.specs.declared.asked.WordsFault.TheVariants.{Views, Workers};
 
 /// `demo` is a command, and the mark behind which no flag stands is no word of it.
 pub fn demo_is_a_command()
@@ -78,6 +78,16 @@ pub fn tasks_may_be_inspected()
         (name ∷ codes "inspect" ∷ codes "--" ∷ codes "--tasks" ∷ []) }
 {}
 
+/// With its other flag it prints all of it as JSON, and with both it is a mistake.
+pub fn json_may_be_printed()
+    ensures before { (name : List ℕ) → AsksForInspect (codes "a") Json
+        (name ∷ codes "inspect" ∷ codes "--json" ∷ codes "a" ∷ []) }
+    ensures behind { (name : List ℕ) → AsksForInspect (codes "a") Json
+        (name ∷ codes "inspect" ∷ codes "a" ∷ codes "--json" ∷ []) }
+    ensures both { (name : List ℕ) → IsCausedBy Views
+        (name ∷ codes "inspect" ∷ codes "--json" ∷ codes "a" ∷ codes "--tasks" ∷ []) }
+{}
+
 /// The words of all three are taken.
 pub fn flags_are_taken()
     ensures new { (name : List ℕ)
@@ -90,6 +100,8 @@ pub fn flags_are_taken()
         → faults_of (name ∷ codes "script" ∷ codes "a" ∷ codes "--strict" ∷ []) ≡ [] }
     ensures tasks { (name : List ℕ)
         → faults_of (name ∷ codes "inspect" ∷ codes "--tasks" ∷ codes "a" ∷ []) ≡ [] }
+    ensures json { (name : List ℕ)
+        → faults_of (name ∷ codes "inspect" ∷ codes "a" ∷ codes "--json" ∷ []) ≡ [] }
     ensures known { (name : List ℕ)
         → faults_of (name ∷ codes "crew" ∷ codes "--known" ∷ codes "a" ∷ []) ≡ [] }
 {}

@@ -7,8 +7,9 @@ ghost use Rattle.std.specs.Vec.Iter.{into_iter_steps};
 ghost use Rattle.std.specs.declared.io.ErrorKind.TheVariants as system;
 ghost use Rattle.clap.specs.Words.{first_value, found_of, kind_of, subcommand_rows_of};
 ghost use Rattle.night_words.specs.Commands.{Asks, AsksFor, IsAnswer, IsCausedBy, IsCrew};
+ghost use Rattle.night_words.specs.Commands.{IsInspect};
 ghost use Rattle.night_words.specs.Commands.{IsMigration, IsNamed, IsOfSystem, IsShown, faults_of};
-ghost use Rattle.night_words.specs.Commands.{is_tasks, is_true, named_by, new_by, workers_of};
+ghost use Rattle.night_words.specs.Commands.{is_true, named_by, new_by, view_of, workers_of};
 
 use crate::asked::{Asked, View, WordsFault};
 use crate::commands::night_command;
@@ -103,8 +104,7 @@ fn asked_of<'a>(matches: &ArgMatches<'a>) -> Result<Asked<'a>, WordsFault>
     }
     let inspects = command == "inspect";
     if inspects {
-        let view = view_of(is_set(inner, "tasks"));
-        return Ok(Asked::Inspect { store, view });
+        return inspect(store, is_set(inner, "tasks"), is_set(inner, "json"));
     }
     let Some(new) = inner.get_str("NEW") else {
         unreachable!();
@@ -122,11 +122,26 @@ fn is_set(inner: &ArgMatches, id: &str) -> bool
     }
 }
 
-/// What of a store is printed: the lines of its tasks alone, or all that it holds.
-fn view_of(tasks: bool) -> View
-    ensures { is_tasks result ≡ tasks }
+/// What is shown of a store. More than one view is a mistake.
+fn inspect<'a>(store: &'a str, tasks: bool, json: bool) -> Result<Asked<'a>, WordsFault>
+    ensures { IsInspect store.now (view_of tasks json) result }
 {
-    if tasks { View::Tasks } else { View::Whole }
+    match view_of(tasks, json) {
+        Some(view) => Ok(Asked::Inspect { store, view }),
+        None => Err(WordsFault::Views),
+    }
+}
+
+/// Which view the flags ask for, if they don't ask for more than one.
+fn view_of(tasks: bool, json: bool) -> Option<View>
+    ensures { result ≡ view_of tasks json }
+{
+    match (tasks, json) {
+        (false, false) => Some(View::Whole),
+        (true, false) => Some(View::Tasks),
+        (false, true) => Some(View::Json),
+        (true, true) => None,
+    }
 }
 
 /// A crew over a store. Another number of workers than 1 to 8 is a mistake.

@@ -23,6 +23,23 @@ const INSPECTED: &str = "events 6; clock 0\n\
 /// The lines of its tasks alone.
 const TASKS: &str = "task 0 g copy a running\ntask 1 g copy b held\n";
 
+/// All of it as one object of JSON.
+const JSON: &str = "{\"count\":6,\"clock\":0,\"layout\":\"small\",\
+     \"room\":{\"scopes\":1024,\"groups\":128,\"tasks\":2048},\n\
+     \"scopes\":[\n\
+     {\"number\":0,\"name\":\"root\",\"parent\":null,\"kind\":\"root\",\"key\":null,\
+     \"value\":null,\"deadline\":null,\"done\":false,\"reason\":null,\"cause\":null},\n\
+     {\"number\":1,\"name\":\"g\",\"parent\":0,\"kind\":\"group\",\"key\":null,\
+     \"value\":null,\"deadline\":null,\"done\":false,\"reason\":null,\"cause\":null}],\n\
+     \"groups\":[\n\
+     {\"number\":0,\"name\":\"g\",\"scope\":1,\"limit\":1,\"waited\":false,\
+     \"unfinished\":2,\"error\":null}],\n\
+     \"tasks\":[\n\
+     {\"number\":0,\"group\":0,\"job\":\"copy\",\"argument\":\"a\",\"phase\":\"running\",\
+     \"error\":null,\"retry_of\":null},\n\
+     {\"number\":1,\"group\":0,\"job\":\"copy\",\"argument\":\"b\",\"phase\":\"held\",\
+     \"error\":null,\"retry_of\":null}]}\n";
+
 /// What is typed behind the stop, and what is printed.
 const AGAIN: (&str, &str) = (
     "task 0\ntask 1\nresult g\nscope g\n",
@@ -70,10 +87,12 @@ fn stopped(alloc: Global) -> Result<Shelf, Fail> {
 }
 
 /// Words that inspect it, and what is printed.
-static VIEWS: [(&[&str], &str); 3] = [
+static VIEWS: [(&[&str], &str); 5] = [
     (&["inspect", "jobs.store"], INSPECTED),
     (&["inspect", "--tasks", "jobs.store"], TASKS),
     (&["inspect", "jobs.store", "--tasks"], TASKS),
+    (&["inspect", "--json", "jobs.store"], JSON),
+    (&["inspect", "jobs.store", "--json"], JSON),
 ];
 
 #[test]
@@ -201,9 +220,10 @@ fn a_crew_works_off_a_stopped_night(rt: HostRuntime) -> Result<(), Fail> {
 const IN_USE: &str = "night: fault 2 DiskFailed\nnight: jobs.store: in use by another program\n";
 
 /// Words over the stopped night while another program has it open: what is printed, and told.
-static USED: [(&[&str], &str, &str); 5] = [
+static USED: [(&[&str], &str, &str); 6] = [
     (&["inspect", "jobs.store"], INSPECTED, ""),
     (&["inspect", "--tasks", "jobs.store"], TASKS, ""),
+    (&["inspect", "--json", "jobs.store"], JSON, ""),
     (&["script", "jobs.store"], "", IN_USE),
     (&["crew", "jobs.store", "--workers=1"], "", IN_USE),
     (&["migrate", "jobs.store", "new.store"], "", IN_USE),

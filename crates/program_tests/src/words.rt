@@ -14,7 +14,7 @@ type Case = (&'static [&'static str], u8, &'static str, &'static str);
 /// What is told of a file that isn't there.
 const NO_FILE: &str = "night: fault 2 DiskFailed\nnight: none: no such file\n";
 
-static CASES: [Case; 36] = [
+static CASES: [Case; 37] = [
     (&[], 2, "", "Usage: night <COMMAND>"),
     (&[""], 2, "", "unrecognized subcommand ''"),
     (&["work", "a"], 2, "", "unrecognized subcommand 'work'"),
@@ -24,6 +24,12 @@ static CASES: [Case; 36] = [
         2,
         "",
         "error: --workers takes a number from 1 to 8\n",
+    ),
+    (
+        &["inspect", "--json", "--tasks", "a"],
+        2,
+        "",
+        "error: inspect takes one of --tasks and --json\n",
     ),
     (
         &["crew", "--help"],

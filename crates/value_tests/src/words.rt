@@ -12,6 +12,8 @@ enum Told {
     Demo(bool),
     /// They ask for this word over this store, with its flag or without one.
     Store(&'static str, &'static str, bool),
+    /// They ask for this view of this store.
+    Inspect(&'static str, View),
     /// They ask for a migration from this store to that one.
     Migration(&'static str, &'static str),
     /// A text for help that has this part.
@@ -24,6 +26,8 @@ enum Told {
     SameStores,
     /// Another number of workers than a crew may have.
     Workers,
+    /// More than one view.
+    Views,
     /// A mistake whose text has this part, and ends with a line feed.
     Mistake(&'static str),
 }
@@ -47,10 +51,7 @@ static STORES: [Case; 8] = [
         &["script", "a.disk"],
         Told::Store("script", "a.disk", false),
     ),
-    (
-        &["inspect", "a.disk"],
-        Told::Store("inspect", "a.disk", false),
-    ),
+    (&["inspect", "a.disk"], Told::Inspect("a.disk", View::Whole)),
     (&["format", "--", "-a"], Told::Store("format", "-a", false)),
     (&["format", "a", "--"], Told::Store("format", "a", false)),
     (&["script", "--", "-a"], Told::Store("script", "-a", false)),
@@ -59,23 +60,7 @@ static STORES: [Case; 8] = [
 ];
 
 /// A flag before and behind the store; behind `--` it is the name of a store.
-static FLAGS: [Case; 16] = [
-    (
-        &["inspect", "--tasks", "a"],
-        Told::Store("inspect", "a", true),
-    ),
-    (
-        &["inspect", "a", "--tasks"],
-        Told::Store("inspect", "a", true),
-    ),
-    (
-        &["inspect", "--tasks", "--", "--tasks"],
-        Told::Store("inspect", "--tasks", true),
-    ),
-    (
-        &["inspect", "--", "--tasks"],
-        Told::Store("inspect", "--tasks", false),
-    ),
+static FLAGS: [Case; 12] = [
     (&["format", "--new", "a"], Told::Store("format", "a", true)),
     (&["format", "a", "--new"], Told::Store("format", "a", true)),
     (
@@ -112,6 +97,34 @@ static FLAGS: [Case; 16] = [
         &["crew", "--workers=2", "--known", "--", "-a"],
         Told::Crew("-a", 2, true),
     ),
+];
+
+/// The flags of a view, one alone; behind `--` each is the name of a store.
+static VIEWS: [Case; 9] = [
+    (
+        &["inspect", "--tasks", "a"],
+        Told::Inspect("a", View::Tasks),
+    ),
+    (
+        &["inspect", "a", "--tasks"],
+        Told::Inspect("a", View::Tasks),
+    ),
+    (
+        &["inspect", "--tasks", "--", "--tasks"],
+        Told::Inspect("--tasks", View::Tasks),
+    ),
+    (
+        &["inspect", "--", "--tasks"],
+        Told::Inspect("--tasks", View::Whole),
+    ),
+    (&["inspect", "--json", "a"], Told::Inspect("a", View::Json)),
+    (&["inspect", "a", "--json"], Told::Inspect("a", View::Json)),
+    (
+        &["inspect", "--json", "--", "--tasks"],
+        Told::Inspect("--tasks", View::Json),
+    ),
+    (&["inspect", "--json", "--tasks", "a"], Told::Views),
+    (&["inspect", "--tasks", "a", "--json"], Told::Views),
 ];
 
 static MIGRATIONS: [Case; 7] = [
@@ -414,11 +427,21 @@ fn is_store(told: &Told, word: &str, store: &str, is_set: bool) -> bool {
     }
 }
 
-/// Says whether a view is that of the tasks alone.
-fn is_tasks(view: View) -> bool {
-    match view {
-        View::Tasks => true,
-        View::Whole => false,
+/// Says whether two views are one.
+fn is_view(view: View, other: View) -> bool {
+    match (view, other) {
+        (View::Whole, View::Whole) => true,
+        (View::Tasks, View::Tasks) => true,
+        (View::Json, View::Json) => true,
+        _ => false,
+    }
+}
+
+/// Says whether this view of this store is told.
+fn is_inspect(told: &Told, store: &str, view: View) -> bool {
+    match told {
+        Told::Inspect(name, its) => *name == store && is_view(*its, view),
+        _ => false,
     }
 }
 
@@ -461,7 +484,7 @@ fn is_asked(asked: &Asked, told: &Told) -> bool {
         Asked::Demo { strict } => is_demo(told, *strict),
         Asked::Format { store, is_new } => is_store(told, "format", store, *is_new),
         Asked::Script { store, strict } => is_store(told, "script", store, *strict),
-        Asked::Inspect { store, view } => is_store(told, "inspect", store, is_tasks(*view)),
+        Asked::Inspect { store, view } => is_inspect(told, store, *view),
         Asked::Crew {
             store,
             workers,
@@ -482,6 +505,7 @@ fn is_mistake(alloc: Global, fault: &WordsFault, told: &Told) -> Result<bool, Al
     match (fault, told) {
         (WordsFault::SameStores, Told::SameStores) => Ok(true),
         (WordsFault::Workers, Told::Workers) => Ok(true),
+        (WordsFault::Views, Told::Views) => Ok(true),
         (WordsFault::Mistake(_), Told::Mistake(part)) => {
             Ok(has_part(&fault.to_string(alloc)?, part))
         }
@@ -519,6 +543,11 @@ fn a_store_is_named(rt: HostRuntime) {
 #[test]
 fn a_flag_may_stand_there(rt: HostRuntime) {
     assert_told(&rt, rt.alloc(), &FLAGS);
+}
+
+#[test]
+fn a_view_may_be_asked_for(rt: HostRuntime) {
+    assert_told(&rt, rt.alloc(), &VIEWS);
 }
 
 #[test]

@@ -18,6 +18,10 @@ pub returns-clause-strict_behind : goal.returns-clause-strict_behind
 unfolding clap_on_literals
 returns-clause-strict_behind c = λ name. refl
 
+pub returns-clause-json : goal.returns-clause-json
+unfolding clap_on_literals
+returns-clause-json c = λ name. refl
+
 pub returns-clause-known : goal.returns-clause-known
 unfolding clap_on_literals
 returns-clause-known c = λ name. refl

@@ -3,11 +3,11 @@ use Rattle.std.specs.Prelude.{codes, option_map}
 use Rattle.std.specs.Borrow.{Bor}
 use Rattle.clap.specs.Walk.{Text}
 use Rattle.night_words.proofs.TakenLemmas.{crew, demo, format, inspect, script}
-use Rattle.night_words.proofs.NamedLemmas.{crew_here, demo_here, differ, migrate_left}
+use Rattle.night_words.proofs.NamedLemmas.{crew_here, demo_here, differ, inspect_here, migrate_left}
 use Rattle.night_words.proofs.NamedLemmas.{migration_asks, named_here, new_here}
 use Rattle.night_words.proofs.NamedLemmas.{new_is_there, no_store, same, store_here, unwrapped}
 use Rattle.clap.specs.Words.{subcommand_rows_of}
-use Rattle.night_words.specs.Commands.{is_tasks, named_by, new_by}
+use Rattle.night_words.specs.Commands.{named_by, new_by}
 use Rattle.night_words.proofs.readers.asked_of.Goals as goal
 
 pub returns-then-demos : goal.returns-then-demos
@@ -56,12 +56,13 @@ returns-then-scripts c =
 
 pub returns-then-inspects : goal.returns-then-inspects
 returns-then-inspects c =
-    store_here c.args.matches.now c.in-Some.command c.in-Some.inner inspect (codes "tasks")
-    c.in-Some-get_str.store.now (is_tasks c.view_of-view.result)
-    c.in-Some.ensures.name c.in-Some.ensures.rows
+    inspect_here c.args.matches.now c.in-Some.command c.in-Some.inner
+    c.in-Some-get_str.store.now c.is_set-then-inspects.result c.is_set-then-inspects-2.result
+    c.inspect.result c.in-Some.ensures.name c.in-Some.ensures.rows
     (same c.in-Some.command.now inspect c.eq-inspects.result c.eq-inspects.ensures
     c.if-inspects.true)
-    c.in-Some-get_str.ensures (c.view_of-view.ensures ∙ c.is_set-then-inspects.ensures)
+    c.in-Some-get_str.ensures c.is_set-then-inspects.ensures c.is_set-then-inspects-2.ensures
+    c.inspect.ensures
 
 pub unreachable-requires-in_default-get_str-2 : goal.unreachable-requires-in_default-get_str-2
 unreachable-requires-in_default-get_str-2 c =

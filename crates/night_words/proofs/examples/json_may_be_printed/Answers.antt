@@ -1,0 +1,15 @@
+use Rattle.std.proofs.Common.{codes, refl}
+use Rattle.clap.proofs.OnLiterals.{clap_on_literals}
+use Rattle.night_words.proofs.examples.json_may_be_printed.Goals as goal
+
+pub returns-clause-before : goal.returns-clause-before
+unfolding clap_on_literals
+returns-clause-before c = λ name. (refl, refl, refl)
+
+pub returns-clause-behind : goal.returns-clause-behind
+unfolding clap_on_literals
+returns-clause-behind c = λ name. (refl, refl, refl)
+
+pub returns-clause-both : goal.returns-clause-both
+unfolding clap_on_literals
+returns-clause-both c = λ name. (codes "a", (refl, refl, refl))
