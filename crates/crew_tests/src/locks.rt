@@ -112,17 +112,22 @@ struct Flushed<'a, T: Acknowledges, R: Wait + Clock> {
     seen: AtomicBool,
 }
 
-impl<'a, T: Acknowledges, R: Wait + Clock> Flushed<'a, T, R> {
-    fn is_durable_in_time(&self) -> bool {
-        for _ in 0..10_000 {
-            if self.finish <= self.shared.lock(self.rt).durable() {
-                self.seen.store(true, Ordering::SeqCst);
-                return true;
-            }
-            thread::sleep(self.rt, Duration::from_millis(1));
+/// Looks until this event is durable, 10,000 times at most, a millisecond apart, and then sets the
+/// flag.
+fn is_durable_in_time<T: Acknowledges, R: Wait + Clock>(
+    rt: &R,
+    shared: &Mutex<T>,
+    event: u64,
+    seen: &AtomicBool,
+) -> bool {
+    for _ in 0..10_000 {
+        if event <= shared.lock(rt).durable() {
+            seen.store(true, Ordering::SeqCst);
+            return true;
         }
-        false
+        thread::sleep(rt, Duration::from_millis(1));
     }
+    false
 }
 
 impl<'a, T: Acknowledges, R: Wait + Clock> Gate for Flushed<'a, T, R> {
@@ -133,7 +138,7 @@ impl<'a, T: Acknowledges, R: Wait + Clock> Gate for Flushed<'a, T, R> {
                 self.begun.store(true, Ordering::SeqCst);
                 true
             }
-            (1, 1) => self.is_durable_in_time(),
+            (1, 1) => is_durable_in_time(self.rt, self.shared, self.finish, &self.seen),
             _ => true,
         }
     }

@@ -2,7 +2,7 @@
 
 use run_book::{Book, State};
 use run_disk::{MemoryDisk, RunDisk};
-use run_model::{Command, Fault, Limit, Name, Outcome, Phase, Text};
+use run_model::{Command, Fault, Limit, Name, Outcome, Phase, Text, Wish};
 use std::alloc::Global;
 use std::process::Abort;
 
@@ -78,6 +78,42 @@ pub fn stored(
         };
         obey(rt, &mut book, &go);
     }
+    flush(rt, &mut book);
+    Ok(book.into_disk())
+}
+
+/// A small store with task 0 in root, and task 1 in a group below a scope that was cancelled.
+pub fn with_a_cancelled_group(rt: &impl Abort, alloc: Global) -> Result<MemoryDisk, Fault> {
+    let mut book = fresh(alloc)?;
+    let bare = Command::Bare {
+        name: name(rt, b"b"),
+        scope: name(rt, b"root"),
+    };
+    obey(rt, &mut book, &bare);
+    let derive = Command::Derive {
+        name: name(rt, b"s"),
+        parent: name(rt, b"root"),
+        wish: Wish::Cancel,
+    };
+    obey(rt, &mut book, &derive);
+    let group = Command::Group {
+        name: name(rt, b"g"),
+        parent: name(rt, b"s"),
+    };
+    obey(rt, &mut book, &group);
+    for group in [b"b".as_slice(), b"g"] {
+        let go = Command::Go {
+            group: name(rt, group),
+            job: name(rt, b"a"),
+            argument: name(rt, b"x"),
+        };
+        obey(rt, &mut book, &go);
+    }
+    let cancel = Command::Cancel {
+        scope: name(rt, b"s"),
+        cause: None,
+    };
+    obey(rt, &mut book, &cancel);
     flush(rt, &mut book);
     Ok(book.into_disk())
 }

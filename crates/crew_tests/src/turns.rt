@@ -2,7 +2,7 @@
 
 use crate::crews::{Fixed, night, plain_night};
 use crate::gates::is_set_in_time;
-use crate::stores::{Now, Task, assert_tasks, opened, stored};
+use crate::stores::{Now, Task, assert_tasks, opened, stored, with_a_cancelled_group};
 use run_crew::{Gate, Job, Note, Turn};
 use run_disk::{FailOnce, MemoryDisk};
 use run_model::{Fault, Name, Outcome, TaskInfo, Text};
@@ -246,5 +246,49 @@ fn a_turn_is_told_that_another_task_failed(rt: HostRuntime) -> Result<(), Fail> 
     let night = plain_night(&rt, rt.alloc(), opened(rt.alloc(), disk)?, 2, &gate)?;
     let ends = [Now::Failure(b"canceled"), Now::Failure(b"x")];
     assert_tasks(&rt, night.book.state(), &ends);
+    Ok(())
+}
+
+/// Adds up, over the tasks that are told that their scope is done, 1 for task 0 and 2 for task 1.
+#[derive(Drop)]
+struct Hears {
+    told: Arc<AtomicU32>,
+}
+
+impl Job for Hears {
+    fn handles(&self, _job: &Name) -> bool {
+        true
+    }
+
+    fn turn(&mut self, info: &TaskInfo, _turn: u32, done: bool) -> Turn {
+        if done {
+            self.told
+                .fetch_add(u32::from(info.task) + 1, Ordering::SeqCst);
+        }
+        Turn::Finished
+    }
+}
+
+#[test]
+fn a_turn_is_told_of_its_own_scope(rt: HostRuntime) -> Result<(), Fail> {
+    let disk = with_a_cancelled_group(&rt, rt.alloc())?;
+    let told = Arc::new(rt.alloc(), AtomicU32::new(0))?;
+    let mut list: Vec<Box<dyn Job + Send>> = Vec::new(rt.alloc());
+    let job = Hears {
+        told: Arc::try_clone(&told)?,
+    };
+    list.push(Box::new(rt.alloc(), job)?)?;
+    let mut jobs: Vec<Vec<Box<dyn Job + Send>>> = Vec::new(rt.alloc());
+    jobs.push(list)?;
+    let night = night(
+        &rt,
+        rt.alloc(),
+        opened(rt.alloc(), disk)?,
+        jobs,
+        &Fixed(true),
+    )?;
+    assert_tasks(&rt, night.book.state(), &[Now::Success, Now::Success]);
+    let told = told.load(Ordering::SeqCst);
+    assert!(&rt; told == 2, "told {told}");
     Ok(())
 }
