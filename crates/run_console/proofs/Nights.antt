@@ -1,5 +1,5 @@
 -- What a night leaves of a disk.
-use Rattle.std.proofs.Common.{◌≡◌, ◌≤◌, ◌-◌, ◌+◌, ◌++◌, ℕ, List, [], true, length, Some, Ok}
+use Rattle.std.proofs.Common.{◌≡◌, ◌-◌, ◌++◌, ℕ, List, true, Ok}
 use Rattle.std.proofs.Common.{arith, ap, inl, inr, refl, subst, sym, ◌∙◌}
 use Rattle.std.specs.List.{list_all}
 use Rattle.std.specs.Prelude.{Result, Err, IfOk}
@@ -13,7 +13,7 @@ use Rattle.run_disk.proofs.RunLemmas.{leaves_only_more}
 use Rattle.run_session.specs.Logged.{Replays, begun_at}
 use Rattle.run_session.proofs.Replaying.{count_is}
 use Rattle.book_model.specs.Holdings.{Holding, IsDurable, IsSafe}
-use Rattle.book_model.specs.Openings.{HasOpened, Opens}
+use Rattle.book_model.specs.Openings.{Opens}
 use Rattle.book_model.specs.Stores.{Stores, StoresFront, StoresOpened, restarted}
 use Rattle.book_model.proofs.HoldingLemmas.{saved_stores, stores_fewer}
 use Rattle.book_model.proofs.Storing.{stores_one}

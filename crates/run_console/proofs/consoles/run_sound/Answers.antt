@@ -8,7 +8,7 @@ use Rattle.run_console.specs.Progress.{Cut, EndStops, Ran, RunStops}
 use Rattle.run_console.specs.Rows.{TakesAll, Tries}
 use Rattle.run_console.specs.SessionLines.{plain}
 use Rattle.run_console.proofs.Going.{lasts_then}
-use Rattle.run_console.proofs.LineSteps.{both_ok, both_then, fault_then, same_asked}
+use Rattle.run_console.proofs.LineSteps.{both_ok, both_then, same_asked}
 use Rattle.run_console.proofs.Wholes.{runs_all, stops_closing, stops_in_the_last}
 use Rattle.run_console.proofs.consoles.run_sound.Given.{Over}
 use Rattle.run_console.proofs.consoles.run_sound.Goals as goal

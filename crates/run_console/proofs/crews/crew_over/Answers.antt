@@ -1,5 +1,5 @@
 use Rattle.std.proofs.Common.{◌≡◌, ◌∙◌, Err, ap, inl, inr, refl, subst}
-use Rattle.std.specs.Prelude.{IfErr, IfOk, Result, vec_len}
+use Rattle.std.specs.Prelude.{IfErr, IfOk, vec_len}
 use Rattle.run_model.specs.declared.faults.Fault.TheVariants as fault
 use Rattle.run_book.specs.Views.{holding}
 use Rattle.run_crew.specs.Openings.{From, opened_of}

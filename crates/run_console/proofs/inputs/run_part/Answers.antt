@@ -13,7 +13,6 @@ use Rattle.run_console.proofs.inputs.run_part.Goals as goal
 use Rattle.run_console.proofs.inputs.run_part.Goals.{then-byte-eq10+in_ok-gather_line}
 use Rattle.run_console.proofs.inputs.run_part.Goals.{else-byte-eq10+then-not-is_full}
 use Rattle.run_console.proofs.inputs.run_part.Goals.{else-byte-eq10+else-not-is_full}
-use Rattle.run_book.specs.Views.{holding}
 
 pub loop-byte-init : goal.loop-byte-init
 loop-byte-init g c = (

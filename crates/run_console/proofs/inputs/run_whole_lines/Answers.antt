@@ -11,7 +11,6 @@ use Rattle.run_console.proofs.Lines.{cut_written}
 use Rattle.run_console.proofs.Parts.{part_begins, part_then}
 use Rattle.run_console.proofs.Wholes.{part_read, reads_all, stops_in_a_part, stops_reading}
 use Rattle.run_console.proofs.inputs.run_whole_lines.Goals as goal
-use Rattle.run_book.specs.Views.{holding}
 
 pub loop-total-init : goal.loop-total-init
 loop-total-init g c = (

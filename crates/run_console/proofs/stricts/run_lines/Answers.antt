@@ -2,7 +2,6 @@ use Rattle.std.proofs.Common.{ℕ, List, [], ◌∷◌, ◌∙◌, refl, sym, su
 use Rattle.std.specs.Prelude.{Some, None}
 use Rattle.std.proofs.lemmas.Result.{err_from_is_err_and}
 use Rattle.console_lines.specs.Lines.{open_line}
-use Rattle.run_book.specs.Views.{holding}
 use Rattle.run_console.specs.Progress.{Cut, Ran}
 use Rattle.run_console.proofs.Going.{lasts_then}
 use Rattle.run_console.proofs.LineSteps.{same_asked}

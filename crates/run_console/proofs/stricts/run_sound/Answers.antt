@@ -1,5 +1,4 @@
 use Rattle.std.proofs.lemmas.Result.{err_from_is_err_and}
-use Rattle.run_book.specs.Views.{holding}
 use Rattle.run_console.proofs.Going.{lasts_then}
 use Rattle.run_console.proofs.StrictLemmas.{runs_strictly, stops_closing_strictly}
 use Rattle.run_console.proofs.stricts.run_sound.Goals as goal

@@ -15,7 +15,6 @@ use Rattle.run_console.proofs.StrictLemmas.{reads_stray, stops_behind_part, stop
 use Rattle.run_console.proofs.StrictLemmas.{stops_reading_strictly}
 use Rattle.run_console.proofs.Wholes.{part_read}
 use Rattle.run_console.proofs.stricts.run_whole_lines.Goals as goal
-use Rattle.run_book.specs.Views.{holding}
 
 pub loop-total-init : goal.loop-total-init
 loop-total-init g c = (
