@@ -3,9 +3,9 @@
 --
 -- Its faults come in this order, and the first whose cause holds is told: Old(WrongSize), where the
 -- old disk has no store's size; New(WrongSize), where the new one has none; Memory; those of a
--- recovery of the old disk, from DiskFailed on, as Old; Old(NumbersSpent), where 2^62 events or more
--- were found; Memory, for the marks of what is kept; New(WrongSize), where a store of the new disk's
--- size has no room for what is kept; New(DiskFailed).
+-- recovery of the old disk, from DiskFailed on, as Old; Old(NumbersSpent), where 2^62 events or
+-- more were found; Memory, for the marks of what is kept; New(WrongSize), where a store of the new
+-- disk's size has no room for what is kept; New(DiskFailed).
 use Rattle.std.specs.Prelude.{◌≡◌, ◌⊎◌, ◌<◌, ◌≤◌, ◌+◌, ℕ, false, List, None, Result, IfOk}
 use Rattle.std.specs.Prelude.{MatchResult}
 use Rattle.run_model.specs.declared.faults.Fault.TheVariants.{DiskFailed, WrongSize}

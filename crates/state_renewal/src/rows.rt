@@ -3,7 +3,8 @@
 
 ghost use Rattle.std.specs.List.{flat_map, AllByRecursion};
 ghost use Rattle.std.specs.Option.{option_map};
-ghost use Rattle.std.specs.Prelude.{◌≡◌, ◌+◌, ◌*◌, ◌<◌, ◌≤◌, ℕ, false, IfSome, IsTrue, Some, length};
+ghost use Rattle.std.specs.Prelude.{◌≡◌, ◌+◌, ◌*◌, ◌<◌, ◌≤◌, ℕ, false, length};
+ghost use Rattle.std.specs.Prelude.{IfSome, IsTrue, Some};
 ghost use Rattle.std.specs.Prelude.{slice_get};
 ghost use Rattle.run_model.specs.declared.groups.Group.{Group as GroupOf};
 ghost use Rattle.run_model.specs.declared.scopes.Scope.{Scope as ScopeOf};

@@ -90,7 +90,10 @@ loop-byte-preserved g c =
                 w.clear.ensures),
             record {
               sound = w.in_ok-gather_line.ensures.sound;
-              lasts = lasts_then c.args.book.now.session c.loop-byte.book.session w.gather_line.new.book.session c.loop-byte.invariant.1.lasts w.gather_line.ensures.lasts;
+              lasts =
+                  lasts_then c.args.book.now.session c.loop-byte.book.session
+                  w.gather_line.new.book.session c.loop-byte.invariant.1.lasts
+                  w.gather_line.ensures.lasts;
             },
           )
       | else-byte-eq10+then-not-is_full w ↦

@@ -100,7 +100,9 @@ loop-total-preserved g c =
       c.in_ok-write_gathered.ensures.none,
       record {
         sound = c.in_ok-run_part.ensures.sound;
-        lasts = lasts_then c.args.book.now.session c.loop-total.book.session c.run_part.new.book.session inv.6.lasts c.run_part.ensures.lasts;
+        lasts =
+            lasts_then c.args.book.now.session c.loop-total.book.session
+            c.run_part.new.book.session inv.6.lasts c.run_part.ensures.lasts;
       },
     )
 

@@ -20,7 +20,9 @@ put_group-end-requires-clause-room g c =
     let room = left_room group_bytes is_kept_group 103 c.args.flags.now
     (group_by c.args.scopes.now) c.args.groups.now.groups c.loop-g.g c.args.at
     c.loop-g.end c.args.out.now c.loop-g.out row c.loop-g.invariant found
-    c.if-flags-g.true (group_len_most (group_by c.args.scopes.now row) c.group_anew.ensures.kept) c.requires.room in
+    c.if-flags-g.true
+    (group_len_most (group_by c.args.scopes.now row) c.group_anew.ensures.kept)
+    c.requires.room in
     let size = ap (λ r. length (group_bytes r)) c.group_anew.ensures.value in
     omega (arith, size, room)
 

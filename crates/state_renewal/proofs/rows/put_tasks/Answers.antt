@@ -21,8 +21,9 @@ put_task-end-requires-clause-room g c =
     let room = left_room (task_bytes Two) (is_kept_task Two) 136 c.args.tasks.now
     (task_by c.args.stay.now c.args.tasks.now) c.args.groups.now.tasks c.loop-n.n c.args.at
     c.loop-n.end c.args.out.now c.loop-n.out row c.loop-n.invariant found
-    (ap (λ l. is_flagged l c.loop-n.n) (sym c.flags-flags.ensures) ∙ c.if-flags-n.true) (task_len_most Two (task_by c.args.stay.now c.args.tasks.now row)
-    c.task_anew.ensures.kept) c.requires.room in
+    (ap (λ l. is_flagged l c.loop-n.n) (sym c.flags-flags.ensures) ∙ c.if-flags-n.true)
+    (task_len_most Two (task_by c.args.stay.now c.args.tasks.now row) c.task_anew.ensures.kept)
+    c.requires.room in
     let size = ap (λ r. length ((task_bytes Two) r)) c.task_anew.ensures.value in
     omega (arith, size, room)
 
@@ -35,19 +36,24 @@ loop-n-preserved g c =
           left_next (task_bytes Two) (is_kept_task Two) 136 c.args.tasks.now
           (task_by c.args.stay.now c.args.tasks.now) c.args.groups.now.tasks c.loop-n.n c.args.at
           c.loop-n.end c.if-flags-n.end c.args.out.now c.loop-n.out c.if-flags-n.out row
-          c.loop-n.invariant found (ap (λ l. is_flagged l c.loop-n.n) (sym c.flags-flags.ensures) ∙ w.if-flags-n.true) w.task_anew.ensures.kept
+          c.loop-n.invariant found
+          (ap (λ l. is_flagged l c.loop-n.n) (sym c.flags-flags.ensures) ∙ w.if-flags-n.true)
+          w.task_anew.ensures.kept
           (task_len_most Two (task_by c.args.stay.now c.args.tasks.now row)
           w.task_anew.ensures.kept)
           (w.end-is ∙ w.put_task-end.ensures.end
           ∙ ap (λ r. c.loop-n.end + length ((task_bytes Two) r)) w.task_anew.ensures.value)
           (w.out-is ∙ w.put_task-end.ensures.written
-          ∙ ap (λ r. put_at c.loop-n.out c.loop-n.end ((task_bytes Two) r)) w.task_anew.ensures.value)
+          ∙ ap (λ r. put_at c.loop-n.out c.loop-n.end ((task_bytes Two) r))
+          w.task_anew.ensures.value)
           c.requires.room (ap (λ b. length b) w.out-is ∙ omega (arith, w.put_task-end.auto.out))
       | else-flags-n w ↦
           left_same (task_bytes Two) (is_kept_task Two) 136 c.args.tasks.now
           (task_by c.args.stay.now c.args.tasks.now) c.args.groups.now.tasks c.loop-n.n c.args.at
           c.loop-n.end c.if-flags-n.end c.args.out.now c.loop-n.out c.if-flags-n.out
-          c.loop-n.invariant (ap (λ l. is_flagged l c.loop-n.n) (sym c.flags-flags.ensures) ∙ w.if-flags-n.false) w.end-is w.out-is
+          c.loop-n.invariant
+          (ap (λ l. is_flagged l c.loop-n.n) (sym c.flags-flags.ensures) ∙ w.if-flags-n.false)
+          w.end-is w.out-is
     ]
 
 pub returns : goal.returns
