@@ -21,5 +21,5 @@ pub fn done<T, E: Drop>(rt: &impl Abort, it: Result<T, E>, what: &str) -> T {
 
 /// Asserts that something holds. The message names the row.
 pub fn holds(rt: &impl Abort, it: bool, what: &str, row: usize) {
-    assert!(rt; it, "{what}, row {row}");
+    assert!(rt; it, "{what}: {row}");
 }

@@ -1,5 +1,6 @@
-//! Tests of a book over what nobody wrote for it: stores that were cut or changed, random bytes,
-//! openings that are stopped again and again, and numbers and sessions at their ends.
+//! Tests of hostile use: stores that were cut or changed, random bytes, openings that are stopped
+//! again and again, numbers and sessions at their ends, devices that damage what they fail to write,
+//! and want of memory.
 #![tactic(auto)]
 
 #[cfg(test)]
@@ -7,11 +8,15 @@ mod answers;
 #[cfg(test)]
 mod asserts;
 #[cfg(test)]
+mod books;
+#[cfg(test)]
 mod calls;
 #[cfg(test)]
 mod changes;
 #[cfg(test)]
 mod cuts;
+#[cfg(test)]
+mod damages;
 #[cfg(test)]
 mod dice;
 #[cfg(test)]
@@ -20,6 +25,8 @@ mod disks;
 mod fulls;
 #[cfg(test)]
 mod heads;
+#[cfg(test)]
+mod hurting;
 #[cfg(test)]
 mod looks;
 #[cfg(test)]
@@ -34,3 +41,7 @@ mod randoms;
 mod stores;
 #[cfg(test)]
 mod trials;
+#[cfg(test)]
+mod wants;
+#[cfg(test)]
+mod wrappers;

@@ -3,7 +3,7 @@
 //! It is honest where the disk below is: a write that fails leaves its range unknown, and no more.
 
 ghost use Rattle.std.specs.Prelude.{◌≡◌, ◌≤◌, ◌<◌, ◌+◌, OnOk, is_ok, if◌then◌else◌};
-ghost use Rattle.hurt_tests.specs.Hurting.{failing, failing_is_disk};
+ghost use Rattle.hostile_tests.specs.Hurting.{failing, failing_is_disk};
 
 use run_disk::{DiskFailed, RunDisk};
 
