@@ -14,7 +14,7 @@ use Rattle.night_words.specs.Commands.{IsShown, faults_of, named_by, named_in, n
 use Rattle.night_words.proofs.TakenLemmas.{IsTaken, taken, taken_asks, taken_fails, taken_is_named}
 use Rattle.night_words.specs.declared.asked.Asked.{Asked}
 use Rattle.night_words.specs.declared.asked.Asked.TheVariants.{Demo, Format, Script, Inspect, Help}
-use Rattle.night_words.specs.declared.asked.Asked.TheVariants.{Crew, Migrate}
+use Rattle.night_words.specs.declared.asked.Asked.TheVariants.{Crew, Migrate, Renew}
 use Rattle.night_words.specs.declared.asked.WordsFault.{WordsFault}
 use Rattle.night_words.specs.declared.asked.WordsFault.TheVariants.{Mistake, NotText, Memory}
 use Rattle.night_words.specs.declared.asked.WordsFault.TheVariants.{SameStores, Views, Workers}
@@ -42,6 +42,7 @@ shown_is_answer kind kinds (Ok (Script store strict)) found shown = absurd shown
 shown_is_answer kind kinds (Ok (Inspect store view)) found shown = absurd shown
 shown_is_answer kind kinds (Ok (Crew store workers known)) found shown = absurd shown
 shown_is_answer kind kinds (Ok (Migrate old new)) found shown = absurd shown
+shown_is_answer kind kinds (Ok (Renew old new)) found shown = absurd shown
 shown_is_answer kind kinds (Ok (Help text)) (inl e) shown = absurd (no_help kind e shown)
 shown_is_answer kind kinds (Ok (Help text)) (inr among) shown = (kind, among, shown)
 shown_is_answer kind kinds (Err (Mistake text)) (inl e) shown = absurd (shown.2 e)
@@ -70,6 +71,7 @@ error_asks_nothing kind words (Ok (Script store strict)) shown = absurd shown
 error_asks_nothing kind words (Ok (Inspect store view)) shown = absurd shown
 error_asks_nothing kind words (Ok (Crew store workers known)) shown = absurd shown
 error_asks_nothing kind words (Ok (Migrate old new)) shown = absurd shown
+error_asks_nothing kind words (Ok (Renew old new)) shown = absurd shown
 error_asks_nothing kind words (Ok (Help text)) shown = tt
 error_asks_nothing kind words (Err fault) shown = tt
 
@@ -133,6 +135,7 @@ module _ (a : App) (words : List Text) (m : ArgMatches) (is_night : a ≡ night)
   command_is_answer (Ok (Inspect store view)) asks = finds_nothing
   command_is_answer (Ok (Crew store workers known)) asks = finds_nothing
   command_is_answer (Ok (Migrate old new)) asks = finds_nothing
+  command_is_answer (Ok (Renew old new)) asks = finds_nothing
   command_is_answer (Ok (Help text)) asks = absurd asks
   command_is_answer (Err SameStores) asks = finds_nothing
   command_is_answer (Err Workers) asks = finds_nothing

@@ -1,5 +1,6 @@
 -- What the parser's matches name, as their caller reads it.
-use Rattle.std.proofs.Common.{◌≡◌, ◌∙◌, Bool, List, Option, Some, None, [], ap, ap₂, false, inl}
+use Rattle.std.proofs.Common.{◌≡◌, ◌∙◌, ◌⊎◌, Bool, List, Option, Some, None, [], ap, ap₂}
+use Rattle.std.proofs.Common.{false, inl}
 use Rattle.std.proofs.Common.{inr, refl, sym, true}
 use Rattle.std.specs.Prelude.{Box, codes, option_and_then, option_map, unwrap_or}
 use Rattle.std.specs.Prelude.{Result, Ok, Err}
@@ -15,17 +16,17 @@ use Rattle.clap.specs.Walk.{Row, Text, first_of, rows_of}
 use Rattle.clap.specs.declared.parser.matches.ArgMatches.{ArgMatches}
 use Rattle.clap.specs.declared.parser.matches.ArgMatches.TheViews.{out-ArgMatches, out-SubCommand}
 use Rattle.clap.specs.declared.parser.matches.SubCommand.{SubCommand}
-use Rattle.night_words.specs.Commands.{Asks, IsCrew, IsInspect, IsMigration, IsNamed, Named}
-use Rattle.night_words.specs.Commands.{NamesDemo, NamesStore, command_in, has_flag, is_true}
+use Rattle.night_words.specs.Commands.{Asks, IsCrew, IsForTwo, IsInspect, IsNamed, Named}
+use Rattle.night_words.specs.Commands.{NamesDemo, NamesStore, NamesTwo, command_in, has_flag, is_true}
 use Rattle.night_words.specs.Commands.{named_by, named_in, new_by, view_in, view_of, word_in}
 use Rattle.night_words.specs.Commands.{workers_of}
 use Rattle.night_words.specs.declared.asked.Asked.{Asked}
 use Rattle.night_words.specs.declared.asked.Asked.TheVariants.{Demo, Format, Script, Inspect, Help}
-use Rattle.night_words.specs.declared.asked.Asked.TheVariants.{Crew, Migrate}
+use Rattle.night_words.specs.declared.asked.Asked.TheVariants.{Crew, Migrate, Renew}
 use Rattle.night_words.specs.declared.asked.WordsFault.{WordsFault}
 use Rattle.night_words.specs.declared.asked.WordsFault.TheVariants.{Memory, Mistake, NotText}
 use Rattle.night_words.specs.declared.asked.WordsFault.TheVariants.{SameStores, Views, Workers}
-use Rattle.night_words.proofs.PairLemmas.{migrate}
+use Rattle.night_words.proofs.PairLemmas.{migrate, renew}
 use Rattle.night_words.proofs.TakenLemmas.{crew, demo, format, inspect, script}
 
 -- what is read of a subcommand and of its matches
@@ -179,6 +180,7 @@ crew_here m command inner store count workers known r name rows is read whole gi
       knowing ∙ sym made.2,
     )
     go (Ok (Migrate o n)) made = absurd made
+    go (Ok (Renew o n)) made = absurd made
     go (Ok (Help text)) made = absurd made
     go (Err (Mistake text)) made = absurd made
     go (Err SameStores) made = absurd made
@@ -219,6 +221,7 @@ inspect_here m command inner store only_tasks as_json r name rows is stored one 
     go (Ok (Inspect s view)) made = (which, over ∙ ap Some (sym made.0), seen ∙ made.1)
     go (Ok (Crew s n k)) made = absurd made
     go (Ok (Migrate o n)) made = absurd made
+    go (Ok (Renew o n)) made = absurd made
     go (Ok (Help text)) made = absurd made
     go (Err (Mistake text)) made = absurd made
     go (Err SameStores) made = absurd made
@@ -264,33 +267,37 @@ no_store named new name (inr (inr (store, inr (inl e)))) is no_demo no_crew =
     store_clash named name script store is e
 no_store named new name (inr (inr (store, inr (inr (inl e))))) is no_demo no_crew =
     store_clash named name inspect store is e
-no_store named new name (inr (inr (store, inr (inr (inr (given, e, n)))))) is no_demo no_crew =
-    store_clash named name migrate store is e
+no_store named new name (inr (inr (store, inr (inr (inr (given, inl n)))))) is no_demo no_crew =
+    store_clash named name migrate store is n.0
+no_store named new name (inr (inr (store, inr (inr (inr (given, inr n)))))) is no_demo no_crew =
+    store_clash named name renew store is n.0
 
 -- a command over a store that is neither `demo` nor `crew` nor `format` nor `script` nor `inspect`
--- is `migrate`
-pub migrate_left : (named : Named) (new : Option Text) (name store : Text) → IsNamed named new
+-- is `migrate` or `renew`
+pub two_left : (named : Named) (new : Option Text) (name store : Text) → IsNamed named new
     → named ≡ Some (name, Some store) → (name ≡ demo → ⊥) → (name ≡ crew → ⊥)
     → (name ≡ format → ⊥) → (name ≡ script → ⊥) → (name ≡ inspect → ⊥)
-    → (named ≡ Some (migrate, Some store)) × ((given : Text) × (new ≡ Some given))
-migrate_left named new name store (inl (first, e)) is no_demo no_crew no_format no_script
-    no_inspect =
+    → ((name ≡ migrate) ⊎ (name ≡ renew)) × ((given : Text) × (new ≡ Some given))
+two_left named new name store (inl (first, e)) is no_demo no_crew no_format no_script no_inspect =
     absurd (no_demo (ap name_in (sym is ∙ e)))
-migrate_left named new name store (inr (inl (first, e))) is no_demo no_crew no_format no_script
+two_left named new name store (inr (inl (first, e))) is no_demo no_crew no_format no_script
     no_inspect =
     absurd (no_crew (ap name_in (sym is ∙ e)))
-migrate_left named new name store (inr (inr (s, inl e))) is no_demo no_crew no_format no_script
+two_left named new name store (inr (inr (s, inl e))) is no_demo no_crew no_format no_script
     no_inspect =
     absurd (no_format (ap name_in (sym is ∙ e)))
-migrate_left named new name store (inr (inr (s, inr (inl e)))) is no_demo no_crew no_format
+two_left named new name store (inr (inr (s, inr (inl e)))) is no_demo no_crew no_format
     no_script no_inspect =
     absurd (no_script (ap name_in (sym is ∙ e)))
-migrate_left named new name store (inr (inr (s, inr (inr (inl e))))) is no_demo no_crew no_format
+two_left named new name store (inr (inr (s, inr (inr (inl e))))) is no_demo no_crew no_format
     no_script no_inspect =
     absurd (no_inspect (ap name_in (sym is ∙ e)))
-migrate_left named new name store (inr (inr (s, inr (inr (inr (given, e, n)))))) is no_demo
-    no_crew no_format no_script no_inspect =
-    (is ∙ ap (λ m. Some (m, Some store)) (ap name_in (sym is ∙ e)), (given, n))
+two_left named new name store (inr (inr (s, inr (inr (inr (given, inl n)))))) is no_demo no_crew
+    no_format no_script no_inspect =
+    (inl (ap name_in (sym is ∙ n.0)), (given, n.1))
+two_left named new name store (inr (inr (s, inr (inr (inr (given, inr n)))))) is no_demo no_crew
+    no_format no_script no_inspect =
+    (inr (ap name_in (sym is ∙ n.0)), (given, n.1))
 
 -- a new store is there
 pub new_is_there : (new : Option Text) (given : Text) → new ≡ Some given → new ≡ None → ⊥
@@ -298,26 +305,55 @@ new_is_there new given some none =
     let bad : Some given ≡ None = sym some ∙ none in
     cc
 
--- a migration is what is named
-pub migration_asks : (named : Named) (new : Option Text) (store given : Text)
+-- a migration or a renewal is what is named
+pub two_asked : (named : Named) (new : Option Text) (name store given : Text) (renewing : Bool)
     (entered : Option (Text × List Row)) (r : Result Asked WordsFault)
-    → named ≡ Some (migrate, Some store) → new ≡ Some given
-    → IsMigration store given r → Asks named new entered r
-migration_asks named new store given entered (Ok (Demo strict)) is fresh made = absurd made
-migration_asks named new store given entered (Ok (Format s b)) is fresh made = absurd made
-migration_asks named new store given entered (Ok (Script s b)) is fresh made = absurd made
-migration_asks named new store given entered (Ok (Inspect s view)) is fresh made = absurd made
-migration_asks named new store given entered (Ok (Crew s n b)) is fresh made = absurd made
-migration_asks named new store given entered (Ok (Help text)) is fresh made = absurd made
-migration_asks named new store given entered (Ok (Migrate o n)) is fresh made = (
-  is ∙ ap (λ t. Some (migrate, Some t)) (sym made.0),
-  fresh ∙ ap Some (sym made.1),
-  λ same. made.2 (sym made.0 ∙ (same ∙ made.1)),
-)
-migration_asks named new store given entered (Err SameStores) is fresh made =
-    (store, is, fresh ∙ ap Some (sym made))
-migration_asks named new store given entered (Err Workers) is fresh made = absurd made
-migration_asks named new store given entered (Err Views) is fresh made = absurd made
-migration_asks named new store given entered (Err (Mistake text)) is fresh made = absurd made
-migration_asks named new store given entered (Err NotText) is fresh made = absurd made
-migration_asks named new store given entered (Err Memory) is fresh made = absurd made
+    → (name ≡ migrate) ⊎ (name ≡ renew) → renewing ≡ bytes_eq name renew
+    → named ≡ Some (name, Some store) → new ≡ Some given
+    → IsForTwo renewing store given r → Asks named new entered r
+two_asked named new name store given renewing entered r which compared is fresh made =
+    go which r made
+  where
+    -- the name is compared with `renew`
+    no_renewal : name ≡ migrate → renewing ≡ true → ⊥
+    no_renewal at set =
+        let bad : true ≡ false = sym set ∙ compared ∙ ap (λ t. bytes_eq t renew) at in
+        cc
+
+    no_migration : name ≡ renew → renewing ≡ false → ⊥
+    no_migration at unset =
+        let bad : true ≡ false = sym (compared ∙ ap (λ t. bytes_eq t renew) at) ∙ unset in
+        cc
+
+    names : (command old new_one : Text) → name ≡ command → old ≡ store → new_one ≡ given
+        → NamesTwo command old new_one named new
+    names command old new_one at from to = (
+      is ∙ ap₂ (λ c t. Some (c, Some t)) at (sym from),
+      fresh ∙ ap Some (sym to),
+    )
+
+    go : (name ≡ migrate) ⊎ (name ≡ renew) → (r : Result Asked WordsFault)
+        → IsForTwo renewing store given r → Asks named new entered r
+    go which (Ok (Demo strict)) made = absurd made
+    go which (Ok (Format s b)) made = absurd made
+    go which (Ok (Script s b)) made = absurd made
+    go which (Ok (Inspect s view)) made = absurd made
+    go which (Ok (Crew s n b)) made = absurd made
+    go which (Ok (Help text)) made = absurd made
+    go (inl at) (Ok (Migrate o n)) made = (
+      names migrate o.now n.now at made.1.0 made.1.1.0,
+      λ same. made.1.1.1 (sym made.1.0 ∙ (same ∙ made.1.1.0)),
+    )
+    go (inr at) (Ok (Migrate o n)) made = absurd (no_migration at made.0)
+    go (inl at) (Ok (Renew o n)) made = absurd (no_renewal at made.0)
+    go (inr at) (Ok (Renew o n)) made = (
+      names renew o.now n.now at made.1.0 made.1.1.0,
+      λ same. made.1.1.1 (sym made.1.0 ∙ (same ∙ made.1.1.0)),
+    )
+    go (inl at) (Err SameStores) made = (store, inl (names migrate store store at refl made))
+    go (inr at) (Err SameStores) made = (store, inr (names renew store store at refl made))
+    go which (Err Workers) made = absurd made
+    go which (Err Views) made = absurd made
+    go which (Err (Mistake text)) made = absurd made
+    go which (Err NotText) made = absurd made
+    go which (Err Memory) made = absurd made

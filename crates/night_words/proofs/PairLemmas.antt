@@ -1,18 +1,36 @@
--- The words behind `migrate`: they name two stores, and the parser reads them.
+-- The words behind `migrate` or `renew`: they name two stores, and the parser reads them.
 use Rattle.std.proofs.Common.{◌≡◌, ◌∙◌, ◌∷◌, ◌⊎◌, List, Some, None, [], ap, ap₂, inl, inr}
 use Rattle.std.proofs.Common.{false, refl, subst, sym}
 use Rattle.std.specs.Prelude.{codes}
 use Rattle.clap.specs.Faults.{check_fault, level_fault, step_fault}
 use Rattle.clap.specs.Faults.{turn_fault, walk_fault}
+use Rattle.clap.specs.Kinds.{or_else}
+use Rattle.clap.specs.Simple.{Shape}
 use Rattle.clap.specs.Walk.{Held, Step, Text, Walk, after_step, finished, first_of, idle}
 use Rattle.clap.specs.Walk.{nothing_held, subcommand_or_other, value, walk, walked}
 use Rattle.clap.proofs.OnLiterals.{clap_on_literals}
 use Rattle.night_words.proofs.LevelLemmas.{first_passes, rest_passes, start, words_pass}
 use Rattle.night_words.proofs.TurnLemmas.{first_none, mark, mark_or_value, migrate_is_strict}
-use Rattle.night_words.proofs.TurnLemmas.{migrate_shape as pair, second_none}
+use Rattle.night_words.proofs.TurnLemmas.{migrate_shape as pair, renew_shape, second_none}
+
+-- the two commands
+pub data Pair : Type 0 where
+  migrates : Pair
+  renews : Pair
 
 abbrev pub migrate : Text
 migrate = codes "migrate"
+
+abbrev pub renew : Text
+renew = codes "renew"
+
+abbrev pub word_of : Pair → Text
+word_of migrates = migrate
+word_of renews = renew
+
+abbrev pub shape_of : Pair → Shape
+shape_of migrates = pair
+shape_of renews = renew_shape
 
 -- ---- where the walk stands
 
@@ -288,8 +306,27 @@ more_words x y z rest none = first (first_word x
     first (inr is) = second is (second_word x y
         (first_passes pair [] (one x) y (z ∷ rest) (subst (λ w. From w y) is from)))
 
-pub behind_both : (rest : List Text) → PassesBoth rest → BehindBoth rest
-behind_both [] none = absurd (wants_both none)
-behind_both (x ∷ []) none = absurd (not_one x none)
-behind_both (x ∷ y ∷ []) none = only_two x y none
-behind_both (x ∷ y ∷ z ∷ rest) none = more_words x y z rest none
+both_passed : (rest : List Text) → PassesBoth rest → BehindBoth rest
+both_passed [] none = absurd (wants_both none)
+both_passed (x ∷ []) none = absurd (not_one x none)
+both_passed (x ∷ y ∷ []) none = only_two x y none
+both_passed (x ∷ y ∷ z ∷ rest) none = more_words x y z rest none
+
+-- the name of a command isn't read behind it
+walked_alike : (w : Walk) (rest : List Text)
+    → walk_fault renew_shape [] w rest ≡ walk_fault pair [] w rest
+unfolding walk_fault
+walked_alike w [] = refl
+walked_alike w (x ∷ rest) =
+    ap (λ k. or_else (turn_fault pair [] w x) k) (walked_alike (then w x) rest)
+
+passed_alike : (p : Pair) (rest : List Text)
+    → level_fault (shape_of p) [] nothing_held rest false [] ≡ [] → PassesBoth rest
+passed_alike migrates rest none = none
+passed_alike renews rest none =
+    let below = second_none (walk_fault renew_shape [] start rest) _ none in
+    ap₂ or_else (sym (walked_alike start rest) ∙ first_none _ _ none) below
+
+pub behind_both : (p : Pair) (rest : List Text)
+    → level_fault (shape_of p) [] nothing_held rest false [] ≡ [] → BehindBoth rest
+behind_both p rest none = both_passed rest (passed_alike p rest none)

@@ -19,12 +19,12 @@ use Rattle.clap.specs.Walk.{walked_from}
 use Rattle.clap.proofs.OnLiterals.{clap_on_literals}
 use Rattle.night_words.specs.Commands.{night, Asks, AsksAlone, AsksFor, AsksForDemo}
 use Rattle.night_words.specs.Commands.{AsksForFormat, AsksForInspect, AsksForScript, AsksOver}
-use Rattle.night_words.specs.Commands.{AsksToMigrate, NamesInspect, view_in, view_of}
+use Rattle.night_words.specs.Commands.{AsksForTwo, NamesInspect, NamesTwo, view_in, view_of}
 use Rattle.night_words.specs.Commands.{IsCausedBy, IsNamed, Named, NamesCrew, NamesDemo, NamesStore}
 use Rattle.night_words.specs.Commands.{command_in, faults_of, has_flag, named_in, new_in, word_in}
 use Rattle.night_words.specs.declared.asked.Asked.{Asked}
 use Rattle.night_words.specs.declared.asked.Asked.TheVariants.{Demo, Format, Script, Inspect, Help}
-use Rattle.night_words.specs.declared.asked.Asked.TheVariants.{Crew, Migrate}
+use Rattle.night_words.specs.declared.asked.Asked.TheVariants.{Crew, Migrate, Renew}
 use Rattle.night_words.specs.declared.asked.View.TheVariants.{Whole}
 use Rattle.night_words.specs.declared.asked.WordsFault.{WordsFault}
 use Rattle.night_words.specs.declared.asked.WordsFault.TheVariants.{Memory, Mistake, NotText}
@@ -32,7 +32,8 @@ use Rattle.night_words.specs.declared.asked.WordsFault.TheVariants.{SameStores, 
 use Rattle.night_words.proofs.DemoLemmas.{demo_alone}
 use Rattle.night_words.proofs.LevelLemmas.{first_passes, lower_passes, rest_passes, start}
 use Rattle.night_words.proofs.LevelLemmas.{words_pass}
-use Rattle.night_words.proofs.PairLemmas.{behind_both, migrate}
+use Rattle.night_words.proofs.PairLemmas.{Pair, behind_both, migrate, migrates, renew, renews}
+use Rattle.night_words.proofs.PairLemmas.{word_of}
 use Rattle.night_words.proofs.StoreLemmas.{NamesAlone, behind_store, formats}
 use Rattle.night_words.proofs.StoreLemmas.{names_alone, scripts}
 use Rattle.night_words.proofs.TurnLemmas.{above, above_is_strict, first_none, mark}
@@ -84,49 +85,52 @@ only_the_mark s word fails (inr is) none = absurd (stray s _ nothing_held is fai
 abbrev IsFirst : Text → Type 0
 IsFirst word = (word ≡ demo)
     ⊎ ((word ≡ format) ⊎ ((word ≡ script) ⊎ ((word ≡ inspect) ⊎ ((word ≡ migrate)
-    ⊎ ((word ≡ crew) ⊎ (word ≡ mark))))))
+    ⊎ ((word ≡ crew) ⊎ ((word ≡ renew) ⊎ (word ≡ mark)))))))
 
 first_word : (word : Text) → turn_fault above names start word ≡ [] → IsFirst word
 first_word word none =
     go (bytes_eq demo word) (bytes_eq format word) (bytes_eq script word) (bytes_eq inspect word)
-    (bytes_eq migrate word) (bytes_eq crew word) (bytes_eq (codes "help") word)
-    refl refl refl refl refl refl none
+    (bytes_eq migrate word) (bytes_eq crew word) (bytes_eq renew word)
+    (bytes_eq (codes "help") word) refl refl refl refl refl refl refl none
   where
-    met : (d f s i m c h : Bool) → Option Text
-    met d f s i m c h = option_map (λ (n : Text × List Text). n.0)
+    met : (d f s i m c r h : Bool) → Option Text
+    met d f s i m c r h = option_map (λ (n : Text × List Text). n.0)
         (cond (d || false) (Some (demo, []))
         (cond (f || false) (Some (format, []))
         (cond (s || false) (Some (script, []))
         (cond (i || false) (Some (inspect, []))
         (cond (m || false) (Some (migrate, []))
         (cond (c || false) (Some (crew, []))
-        (cond (h || false) (Some (codes "help", [])) None)))))))
+        (cond (r || false) (Some (renew, []))
+        (cond (h || false) (Some (codes "help", [])) None))))))))
 
     is : (command : Text) → bytes_eq command word ≡ true → word ≡ command
     is command same = sym ((bytes_eq-Decides command word).0 same)
 
-    go : (d f s i m c h : Bool) → bytes_eq demo word ≡ d → bytes_eq format word ≡ f
+    go : (d f s i m c r h : Bool) → bytes_eq demo word ≡ d → bytes_eq format word ≡ f
         → bytes_eq script word ≡ s → bytes_eq inspect word ≡ i → bytes_eq migrate word ≡ m
-        → bytes_eq crew word ≡ c
-        → or_else (other_fault above (met d f s i m c h) word nothing_held)
+        → bytes_eq crew word ≡ c → bytes_eq renew word ≡ r
+        → or_else (other_fault above (met d f s i m c r h) word nothing_held)
         (stepped above
-        (subcommand_or_other above.rules (met d f s i m c h) idle 1 word nothing_held))
+        (subcommand_or_other above.rules (met d f s i m c r h) idle 1 word nothing_held))
         ≡ [] → IsFirst word
-    go true f s i m c h same e1 e2 e3 e4 e5 none = inl (is demo same)
-    go false true s i m c h e0 same e2 e3 e4 e5 none = inr (inl (is format same))
-    go false false true i m c h e0 e1 same e3 e4 e5 none = inr (inr (inl (is script same)))
-    go false false false true m c h e0 e1 e2 same e4 e5 none =
+    go true f s i m c r h same e1 e2 e3 e4 e5 e6 none = inl (is demo same)
+    go false true s i m c r h e0 same e2 e3 e4 e5 e6 none = inr (inl (is format same))
+    go false false true i m c r h e0 e1 same e3 e4 e5 e6 none = inr (inr (inl (is script same)))
+    go false false false true m c r h e0 e1 e2 same e4 e5 e6 none =
         inr (inr (inr (inl (is inspect same))))
-    go false false false false true c h e0 e1 e2 e3 same e5 none =
+    go false false false false true c r h e0 e1 e2 e3 same e5 e6 none =
         inr (inr (inr (inr (inl (is migrate same)))))
-    go false false false false false true h e0 e1 e2 e3 e4 same none =
+    go false false false false false true r h e0 e1 e2 e3 e4 same e6 none =
         inr (inr (inr (inr (inr (inl (is crew same))))))
-    go false false false false false false true e0 e1 e2 e3 e4 e5 none = cc
-    go false false false false false false false e0 e1 e2 e3 e4 e5 none =
+    go false false false false false false true h e0 e1 e2 e3 e4 e5 same none =
+        inr (inr (inr (inr (inr (inr (inl (is renew same)))))))
+    go false false false false false false false true e0 e1 e2 e3 e4 e5 e6 none = cc
+    go false false false false false false false false e0 e1 e2 e3 e4 e5 e6 none =
         let fails : step_fault above 1 nothing_held value ≡ [] → ⊥ = λ bad. cc in
-        inr (inr (inr (inr (inr (inr (only_the_mark above word fails
+        inr (inr (inr (inr (inr (inr (inr (only_the_mark above word fails
         (mark_or_value above above_is_strict 1 word [] None (first_none _ _ none))
-        (second_none _ _ none)))))))
+        (second_none _ _ none))))))))
 
 -- ---- the words behind a command
 
@@ -184,8 +188,8 @@ pub data IsTaken (words : List Text) (named : Named) (new : Option Text) : Type 
   takes_inspect : (store : Text) → named ≡ Some (inspect, Some store)
       → (((f : Flag) → has_flag (name_of f) (subcommand_of night words) ≡ false)
       → AsksOver inspect store words) → IsTaken words named new
-  takes_migrate : (store given : Text) → AsksToMigrate store given words
-      → named ≡ Some (migrate, Some store) → new ≡ Some given → IsTaken words named new
+  takes_two : (p : Pair) (store given : Text) → AsksForTwo (word_of p) store given words
+      → NamesTwo (word_of p) store given named new → IsTaken words named new
   takes_crew : (first : Option Text) → named ≡ Some (crew, first) → IsTaken words named new
 
 abbrev named_of : List Text → Named
@@ -261,28 +265,38 @@ inspect_taken name rest none =
     (λ unset. asks_over name inspect b.store rest
     (b.alone (λ f. sym (flag_at (name_of f) name inspect rest met) ∙ unset f)))
 
--- so do those behind `migrate` that name two
-asks_both : (name store given : Text) (rest : List Text)
+-- so do those that name two
+asks_both : (name command store given : Text) (rest : List Text)
     → (rest ≡ store ∷ given ∷ []) ⊎ ((rest ≡ mark ∷ store ∷ given ∷ [])
     ⊎ ((rest ≡ store ∷ mark ∷ given ∷ []) ⊎ (rest ≡ store ∷ given ∷ mark ∷ [])))
-    → AsksToMigrate store given (name ∷ migrate ∷ rest)
-asks_both name store given rest (inl e) = (name, inl (ap (λ r. name ∷ migrate ∷ r) e))
-asks_both name store given rest (inr (inl e)) =
-    (name, inr (inl (ap (λ r. name ∷ migrate ∷ r) e)))
-asks_both name store given rest (inr (inr (inl e))) =
-    (name, inr (inr (inl (ap (λ r. name ∷ migrate ∷ r) e))))
-asks_both name store given rest (inr (inr (inr e))) =
-    (name, inr (inr (inr (ap (λ r. name ∷ migrate ∷ r) e))))
+    → AsksForTwo command store given (name ∷ command ∷ rest)
+asks_both name command store given rest (inl e) = (name, inl (ap (λ r. name ∷ command ∷ r) e))
+asks_both name command store given rest (inr (inl e)) =
+    (name, inr (inl (ap (λ r. name ∷ command ∷ r) e)))
+asks_both name command store given rest (inr (inr (inl e))) =
+    (name, inr (inr (inl (ap (λ r. name ∷ command ∷ r) e))))
+asks_both name command store given rest (inr (inr (inr e))) =
+    (name, inr (inr (inr (ap (λ r. name ∷ command ∷ r) e))))
 
 migrate_taken : (name : Text) (rest : List Text) → Finds (migrate ∷ rest)
     → Taken (name ∷ migrate ∷ rest)
 unfolding walked
 migrate_taken name rest none =
     let met = keeps_words migrate [] rest (walked above.rules names start migrate) refl in
-    let b = behind_both rest (below_passes migrate rest met none) in
-    takes_migrate b.store b.given (asks_both name b.store b.given rest b.words)
-    (named_at name migrate rest met ∙ ap (λ s. Some (migrate, s)) b.read.0)
-    (new_at name migrate rest met ∙ b.read.1)
+    let b = behind_both migrates rest (below_passes migrate rest met none) in
+    takes_two migrates b.store b.given (asks_both name migrate b.store b.given rest b.words)
+    (named_at name migrate rest met ∙ ap (λ s. Some (migrate, s)) b.read.0,
+    new_at name migrate rest met ∙ b.read.1)
+
+renew_taken : (name : Text) (rest : List Text) → Finds (renew ∷ rest)
+    → Taken (name ∷ renew ∷ rest)
+unfolding walked
+renew_taken name rest none =
+    let met = keeps_words renew [] rest (walked above.rules names start renew) refl in
+    let b = behind_both renews rest (below_passes renew rest met none) in
+    takes_two renews b.store b.given (asks_both name renew b.store b.given rest b.words)
+    (named_at name renew rest met ∙ ap (λ s. Some (renew, s)) b.read.0,
+    new_at name renew rest met ∙ b.read.1)
 
 -- behind `crew` the parser may have read a store
 crew_taken : (name : Text) (rest : List Text) → Taken (name ∷ crew ∷ rest)
@@ -335,7 +349,8 @@ taken (name ∷ word ∷ rest) none = go (first_word word (first_passes above na
     go (inr (inr (inr (inl is)))) = at inspect is (inspect_taken name rest)
     go (inr (inr (inr (inr (inl is))))) = at migrate is (migrate_taken name rest)
     go (inr (inr (inr (inr (inr (inl is)))))) = at crew is (λ finds. crew_taken name rest)
-    go (inr (inr (inr (inr (inr (inr is)))))) =
+    go (inr (inr (inr (inr (inr (inr (inl is))))))) = at renew is (renew_taken name rest)
+    go (inr (inr (inr (inr (inr (inr (inr is))))))) =
         absurd (with_mark rest (subst (λ w. Finds (w ∷ rest)) is none))
 
 -- ---- what the parser names
@@ -347,8 +362,10 @@ taken_is_named words named new (takes_demo first e a) = inl (first, e)
 taken_is_named words named new (takes_format store e a) = inr (inr (store, inl e))
 taken_is_named words named new (takes_script store e a) = inr (inr (store, inr (inl e)))
 taken_is_named words named new (takes_inspect store e a) = inr (inr (store, inr (inr (inl e))))
-taken_is_named words named new (takes_migrate store given a e n) =
-    inr (inr (store, inr (inr (inr (given, e, n)))))
+taken_is_named words named new (takes_two migrates store given a n) =
+    inr (inr (store, inr (inr (inr (given, inl n)))))
+taken_is_named words named new (takes_two renews store given a n) =
+    inr (inr (store, inr (inr (inr (given, inr n)))))
 taken_is_named words named new (takes_crew first e) = inr (inl (first, e))
 
 -- two commands that differ
@@ -374,23 +391,46 @@ text_is s t new one other =
     let text : Option Text → Text = λ o. option_map_or (λ (u : Text). u) o [] in
     ap text (sym one ∙ other)
 
--- two stores that are named behind `migrate` are those that the words ask for
-migrates : (words : List Text) (named : Named) (new : Option Text) (old given : Text)
-    → IsTaken words named new → named ≡ Some (migrate, Some old) → new ≡ Some given
-    → AsksToMigrate old given words
-migrates words named new old given (takes_demo first e a) is fresh =
-    absurd (clash demo migrate _ _ named refl e is)
-migrates words named new old given (takes_format s e a) is fresh =
-    absurd (clash format migrate _ _ named refl e is)
-migrates words named new old given (takes_script s e a) is fresh =
-    absurd (clash script migrate _ _ named refl e is)
-migrates words named new old given (takes_inspect s e a) is fresh =
-    absurd (clash inspect migrate _ _ named refl e is)
-migrates words named new old given (takes_crew first e) is fresh =
-    absurd (clash crew migrate _ _ named refl e is)
-migrates words named new old given (takes_migrate s t a e n) is fresh =
-    subst (λ (u : Text). AsksToMigrate u given words) (store_is migrate s old named e is)
-    (subst (λ (u : Text). AsksToMigrate s u words) (text_is t given new n fresh) a)
+-- a command over two stores is no other one
+is_pair : (p : Pair) (P : Text → Type 0) → P migrate → P renew → P (word_of p)
+is_pair migrates P one two = one
+is_pair renews P one two = two
+
+other_than_two : (p : Pair) (c : Text) (x : Option Text) (store : Text) (named : Named)
+    → bytes_eq c migrate ≡ false → bytes_eq c renew ≡ false
+    → named ≡ Some (c, x) → named ≡ Some (word_of p, Some store) → ⊥
+other_than_two p c x store named one two e is =
+    clash c (word_of p) x (Some store) named (is_pair p (λ d. bytes_eq c d ≡ false) one two) e is
+
+-- two stores that are named behind such a command are those that the words ask for
+asks_two : (words : List Text) (named : Named) (new : Option Text) (old given : Text) (p : Pair)
+    → IsTaken words named new → NamesTwo (word_of p) old given named new
+    → AsksForTwo (word_of p) old given words
+asks_two words named new old given p (takes_demo first e a) is =
+    absurd (other_than_two p demo _ _ named refl refl e is.0)
+asks_two words named new old given p (takes_format s e a) is =
+    absurd (other_than_two p format _ _ named refl refl e is.0)
+asks_two words named new old given p (takes_script s e a) is =
+    absurd (other_than_two p script _ _ named refl refl e is.0)
+asks_two words named new old given p (takes_inspect s e a) is =
+    absurd (other_than_two p inspect _ _ named refl refl e is.0)
+asks_two words named new old given p (takes_crew first e) is =
+    absurd (other_than_two p crew _ _ named refl refl e is.0)
+asks_two words named new old given p (takes_two q s t a n) is = go p q a n is
+  where
+    same : (r : Pair) → AsksForTwo (word_of r) s t words → NamesTwo (word_of r) s t named new
+        → NamesTwo (word_of r) old given named new → AsksForTwo (word_of r) old given words
+    same r a n is =
+        subst (λ (u : Text). AsksForTwo (word_of r) u given words)
+        (store_is (word_of r) s old named n.0 is.0)
+        (subst (λ (u : Text). AsksForTwo (word_of r) s u words) (text_is t given new n.1 is.1) a)
+
+    go : (p q : Pair) → AsksForTwo (word_of q) s t words → NamesTwo (word_of q) s t named new
+        → NamesTwo (word_of p) old given named new → AsksForTwo (word_of p) old given words
+    go migrates migrates a n is = same migrates a n is
+    go migrates renews a n is = absurd (clash renew migrate _ _ named refl n.0 is.0)
+    go renews migrates a n is = absurd (clash migrate renew _ _ named refl n.0 is.0)
+    go renews renews a n is = same renews a n is
 
 -- and what asks for it is asked for
 pub taken_asks : (words : List Text) (named : Named) (new : Option Text)
@@ -406,15 +446,19 @@ taken_asks words named new entered (Inspect store view) same t is =
 taken_asks words named new entered (Crew store n known) same t is =
     subst (NamesCrew store.now (Some n) known) same is
 taken_asks words named new entered (Migrate o g) same t is =
-    (migrates words named new o.now g.now t is.0 is.1, is.2)
+    (asks_two words named new o.now g.now migrates t is.0, is.1)
+taken_asks words named new entered (Renew o g) same t is =
+    (asks_two words named new o.now g.now renews t is.0, is.1)
 taken_asks words named new entered (Help text) same t is = absurd is
 
 -- and two equal names are those of the words, and so is a wrong number of workers
 pub taken_fails : (words : List Text) (named : Named) (new : Option Text)
     (entered : Option (Text × List Row)) (why : WordsFault) → entered ≡ subcommand_of night words
     → IsTaken words named new → Asks named new entered (Err why) → IsCausedBy why words
-taken_fails words named new entered SameStores same t is =
-    (is.0, migrates words named new is.0 is.0 t is.1 is.2)
+taken_fails words named new entered SameStores same t (store, inl is) =
+    (store, inl (asks_two words named new store store migrates t is))
+taken_fails words named new entered SameStores same t (store, inr is) =
+    (store, inr (asks_two words named new store store renews t is))
 taken_fails words named new entered Workers same t is =
     (is.0, (is.1.0, subst (NamesCrew is.0 None is.1.0) same is.1.1))
 taken_fails words named new entered Views same t is =
@@ -462,7 +506,8 @@ module _ (words : List Text) where
       go (takes_format s e a) = absurd (other format _ refl e)
       go (takes_script s e a) = absurd (other script _ refl e)
       go (takes_inspect s e a) = absurd (other inspect _ refl e)
-      go (takes_migrate s g a e n) = absurd (other migrate _ refl e)
+      go (takes_two migrates s g a n) = absurd (other migrate _ refl n.0)
+      go (takes_two renews s g a n) = absurd (other renew _ refl n.0)
       go (takes_crew first e) = absurd (other crew _ refl e)
 
   pub format_without : (store : Text) → faults_of words ≡ [] → AsksForFormat store false words
@@ -479,7 +524,8 @@ module _ (words : List Text) where
           (store_read entry format s store e asks.1) (a asks.2)
       go (takes_script s e a) = absurd (other script _ refl e)
       go (takes_inspect s e a) = absurd (other inspect _ refl e)
-      go (takes_migrate s g a e n) = absurd (other migrate _ refl e)
+      go (takes_two migrates s g a n) = absurd (other migrate _ refl n.0)
+      go (takes_two renews s g a n) = absurd (other renew _ refl n.0)
       go (takes_crew first e) = absurd (other crew _ refl e)
 
   pub script_without : (store : Text) → faults_of words ≡ [] → AsksForScript store false words
@@ -496,7 +542,8 @@ module _ (words : List Text) where
       go (takes_script s e a) = subst (λ (u : Text). AsksOver script u words)
           (store_read entry script s store e asks.1) (a asks.2)
       go (takes_inspect s e a) = absurd (other inspect _ refl e)
-      go (takes_migrate s g a e n) = absurd (other migrate _ refl e)
+      go (takes_two migrates s g a n) = absurd (other migrate _ refl n.0)
+      go (takes_two renews s g a n) = absurd (other renew _ refl n.0)
       go (takes_crew first e) = absurd (other crew _ refl e)
 
   -- where all of it is shown there is no flag
@@ -525,7 +572,8 @@ module _ (words : List Text) where
       go (takes_script s e a) = absurd (other script _ refl e)
       go (takes_inspect s e a) = subst (λ (u : Text). AsksOver inspect u words)
           (store_read entry inspect s store e asks.1) (a (unflagged asks.2))
-      go (takes_migrate s g a e n) = absurd (other migrate _ refl e)
+      go (takes_two migrates s g a n) = absurd (other migrate _ refl n.0)
+      go (takes_two renews s g a n) = absurd (other renew _ refl n.0)
       go (takes_crew first e) = absurd (other crew _ refl e)
 
 -- ---- and back

@@ -136,6 +136,10 @@ above = (built night).top
 abbrev pub migrate_shape : Shape
 migrate_shape = slice_index_or (built night).subs 4 above
 
+-- `renew`, which differs from it by its name alone
+abbrev pub renew_shape : Shape
+renew_shape = slice_index_or (built night).subs 6 above
+
 abbrev pub flag_of : Shape → ℕ → Rule
 flag_of s i = slice_index_or s.rules i help_rule
 

@@ -15,7 +15,7 @@ use Rattle.clap.specs.declared.error.kind.ErrorKind.TheVariants.{OutOfMemory}
 use Rattle.clap.specs.declared.parser.matches.ArgMatches.{ArgMatches}
 use Rattle.night_words.specs.declared.asked.Asked.{Asked}
 use Rattle.night_words.specs.declared.asked.Asked.TheVariants.{Demo, Format, Script, Inspect, Help}
-use Rattle.night_words.specs.declared.asked.Asked.TheVariants.{Crew, Migrate}
+use Rattle.night_words.specs.declared.asked.Asked.TheVariants.{Crew, Migrate, Renew}
 use Rattle.night_words.specs.declared.asked.View.{View}
 use Rattle.night_words.specs.declared.asked.View.TheVariants.{Whole, Tasks, Json}
 use Rattle.night_words.specs.declared.asked.WordsFault.{WordsFault}
@@ -61,9 +61,12 @@ inspect_line = with_rule
     (with_rule (store_line (codes "inspect")) (flag (codes "tasks")))
     (flag (codes "json"))
 
--- a command that takes the names of two stores, the old one first
+-- two that take the names of two stores, the old one first
 abbrev pub migrate_line : App
 migrate_line = with_rule (store_line (codes "migrate")) (wanted (codes "NEW"))
+
+abbrev pub renew_line : App
+renew_line = with_rule (store_line (codes "renew")) (wanted (codes "NEW"))
 
 -- an option that takes a number of workers
 abbrev pub workers_option : Rule
@@ -78,11 +81,12 @@ abbrev pub crew_line : App
 crew_line = with_rule (with_rule (store_line (codes "crew")) workers_option) (flag (codes "known"))
 
 -- the command line of `night`: the commands are `demo`, over a store `format`, `script` and
--- `inspect`, over two `migrate`, and over a store and with an option `crew`; all but `migrate` take
--- a flag, or flags
+-- `inspect`, over two `migrate`, over a store and with an option `crew`, and over two `renew`; all
+-- but those over two take a flag, or flags
 abbrev pub night : App
 night =
     with_subcommand
+    (with_subcommand
     (with_subcommand
     (with_subcommand
     (with_subcommand
@@ -92,7 +96,8 @@ night =
     script_line.top)
     inspect_line.top)
     migrate_line.top)
-    crew_line.top
+    crew_line.top)
+    renew_line.top
 
 -- what the parser finds in these words, the program's own name first: nothing where they ask for a
 -- command; help and the version are found like mistakes
@@ -114,14 +119,14 @@ AsksOver command store words = (name : Text) × ((words ≡ name ∷ command ∷
     ⊎ ((words ≡ name ∷ command ∷ codes "--" ∷ store ∷ [])
     ⊎ (words ≡ name ∷ command ∷ store ∷ codes "--" ∷ [])))
 
--- the words ask for a migration from this store to that one: the two stand behind the program's own
+-- the words ask for this command from this store to that one: the two stand behind the program's own
 -- name and the command, and the mark `--` may stand before, between or behind them
-abbrev pub AsksToMigrate : Text → Text → List Text → Type 0
-AsksToMigrate old new words = (name : Text)
-    × ((words ≡ name ∷ codes "migrate" ∷ old ∷ new ∷ [])
-    ⊎ ((words ≡ name ∷ codes "migrate" ∷ codes "--" ∷ old ∷ new ∷ [])
-    ⊎ ((words ≡ name ∷ codes "migrate" ∷ old ∷ codes "--" ∷ new ∷ [])
-    ⊎ (words ≡ name ∷ codes "migrate" ∷ old ∷ new ∷ codes "--" ∷ []))))
+abbrev pub AsksForTwo : (command old new : Text) → List Text → Type 0
+AsksForTwo command old new words = (name : Text)
+    × ((words ≡ name ∷ command ∷ old ∷ new ∷ [])
+    ⊎ ((words ≡ name ∷ command ∷ codes "--" ∷ old ∷ new ∷ [])
+    ⊎ ((words ≡ name ∷ command ∷ old ∷ codes "--" ∷ new ∷ [])
+    ⊎ (words ≡ name ∷ command ∷ old ∷ new ∷ codes "--" ∷ []))))
 
 -- the command that the parser entered
 abbrev pub command_in : Option (Text × List Row) → Option Text
@@ -217,14 +222,18 @@ AsksFor (Script store strict) words = AsksForScript store.now strict words
 AsksFor (Inspect store view) words = AsksForInspect store.now view words
 AsksFor (Crew store workers known) words = AsksForCrew store.now workers known words
 AsksFor (Migrate old new) words =
-    AsksToMigrate old.now new.now words × (old.now ≢ new.now)
+    AsksForTwo (codes "migrate") old.now new.now words × (old.now ≢ new.now)
+AsksFor (Renew old new) words =
+    AsksForTwo (codes "renew") old.now new.now words × (old.now ≢ new.now)
 AsksFor (Help text) words = Unit {0}
 
--- the words lead to this fault: to that of equal names where a migration is asked for from a store
--- to itself, to that of the workers where a crew of none, of more than 8 or of no number is, and to
--- that of the views where more than one is; of the others `IsAnswer` tells
+-- the words lead to this fault: to that of equal names where a migration or a renewal is asked for
+-- from a store to itself, to that of the workers where a crew of none, of more than 8 or of no
+-- number is, and to that of the views where more than one is; of the others `IsAnswer` tells
 abbrev pub IsCausedBy : WordsFault → List Text → Type 0
-IsCausedBy SameStores words = (store : Text) × AsksToMigrate store store words
+IsCausedBy SameStores words = (store : Text)
+    × (AsksForTwo (codes "migrate") store store words
+    ⊎ AsksForTwo (codes "renew") store store words)
 IsCausedBy Workers words = (store : Text) × ((known : Bool)
     × NamesCrew store None known (subcommand_of night words))
 IsCausedBy Views words = (store : Text) × NamesInspect store None (subcommand_of night words)
@@ -294,15 +303,20 @@ named_in entered = option_map (λ s. (s.0, first_of (codes "STORE") s.1)) entere
 abbrev pub named_by : ArgMatches → Named
 named_by matches = named_in (subcommand_rows_of matches)
 
--- the new store of a migration
+-- the new store of a migration or a renewal
 abbrev pub new_in : Option (Text × List Row) → Option Text
 new_in entered = word_in (codes "NEW") entered
 
 abbrev pub new_by : ArgMatches → Option Text
 new_by matches = new_in (subcommand_rows_of matches)
 
--- what is named is asked for, or the two stores of a migration are one; of a command that takes a
--- flag it is said what the parser entered
+-- this command is named, with these two stores
+abbrev pub NamesTwo : (command old given : Text) → Named → Option Text → Type 0
+NamesTwo command old given named new =
+    (named ≡ Some (command, Some old)) × (new ≡ Some given)
+
+-- what is named is asked for, or the two stores of a migration or a renewal are one; of a command
+-- that takes a flag it is said what the parser entered
 abbrev pub Asks : Named → Option Text → Option (Text × List Row) → Result Asked WordsFault → Type 0
 Asks named new entered (Ok (Demo strict)) = NamesDemo strict entered
 Asks named new entered (Ok (Format store is_new)) =
@@ -314,11 +328,13 @@ Asks named new entered (Ok (Inspect store view)) =
 Asks named new entered (Ok (Crew store workers known)) =
     NamesCrew store.now (Some workers) known entered
 Asks named new entered (Ok (Migrate old given)) =
-    (named ≡ Some (codes "migrate", Some old.now)) × (new ≡ Some given.now)
-    × (old.now ≢ given.now)
+    NamesTwo (codes "migrate") old.now given.now named new × (old.now ≢ given.now)
+Asks named new entered (Ok (Renew old given)) =
+    NamesTwo (codes "renew") old.now given.now named new × (old.now ≢ given.now)
 Asks named new entered (Ok (Help text)) = ⊥
 Asks named new entered (Err SameStores) = (store : Text)
-    × (named ≡ Some (codes "migrate", Some store)) × (new ≡ Some store)
+    × (NamesTwo (codes "migrate") store store named new
+    ⊎ NamesTwo (codes "renew") store store named new)
 Asks named new entered (Err Workers) = (store : Text) × ((known : Bool)
     × NamesCrew store None known entered)
 Asks named new entered (Err Views) = (store : Text) × NamesInspect store None entered
@@ -331,8 +347,8 @@ IsNamed named new = ((first : Option Text) × (named ≡ Some (codes "demo", fir
     ⊎ ((store : Text) × ((named ≡ Some (codes "format", Some store))
     ⊎ ((named ≡ Some (codes "script", Some store))
     ⊎ ((named ≡ Some (codes "inspect", Some store))
-    ⊎ ((given : Text) × (named ≡ Some (codes "migrate", Some store))
-    × (new ≡ Some given)))))))
+    ⊎ ((given : Text) × (NamesTwo (codes "migrate") store given named new
+    ⊎ NamesTwo (codes "renew") store given named new)))))))
 
 -- a crew over this store, of as many workers as this word says and of known jobs or not, or the
 -- fault of a wrong number
@@ -350,9 +366,12 @@ IsInspect store view (Ok asked) = ⊥
 IsInspect store view (Err Views) = view ≡ None
 IsInspect store view (Err why) = ⊥
 
--- a migration between two names that differ, or the fault of equal ones
-abbrev pub IsMigration : Text → Text → Result Asked WordsFault → Type 0
-IsMigration old new (Ok (Migrate o n)) = (o.now ≡ old) × (n.now ≡ new) × (old ≢ new)
-IsMigration old new (Ok asked) = ⊥
-IsMigration old new (Err SameStores) = old ≡ new
-IsMigration old new (Err why) = ⊥
+-- a renewal or a migration between two names that differ, or the fault of equal ones
+abbrev pub IsForTwo : (renews : Bool) (old new : Text) → Result Asked WordsFault → Type 0
+IsForTwo renews old new (Ok (Migrate o n)) =
+    (renews ≡ false) × (o.now ≡ old) × (n.now ≡ new) × (old ≢ new)
+IsForTwo renews old new (Ok (Renew o n)) =
+    (renews ≡ true) × (o.now ≡ old) × (n.now ≡ new) × (old ≢ new)
+IsForTwo renews old new (Ok asked) = ⊥
+IsForTwo renews old new (Err SameStores) = old ≡ new
+IsForTwo renews old new (Err why) = ⊥

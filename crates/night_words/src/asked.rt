@@ -40,6 +40,9 @@ pub enum Asked<'a> {
     /// `migrate OLD NEW`: the file NEW becomes a large store with the state of the small store OLD.
     /// The two names differ.
     Migrate(&'a str, &'a str),
+    /// `renew OLD NEW`: the file NEW becomes a store of what the store OLD still needs. The two
+    /// names differ.
+    Renew(&'a str, &'a str),
     /// A text for the output: help, or the version.
     Help(String),
 }
@@ -62,7 +65,7 @@ pub enum WordsFault {
     /// The words are no command of the program; the text says what is wrong, and what would be
     /// right.
     Mistake(String),
-    /// A migration is asked for, but OLD and NEW are one name.
+    /// A migration or a renewal is asked for, but OLD and NEW are one name.
     SameStores,
     /// A crew is asked for, but of another number of workers than 1 to 8.
     Workers,

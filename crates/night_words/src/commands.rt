@@ -3,8 +3,8 @@
 ghost use Rattle.std.specs.Prelude.{◌≡◌, [], false, IfOk};
 ghost use Rattle.clap.specs.Words.{app_of, rule_of, with_subcommand};
 ghost use Rattle.night_words.specs.Commands.{crew_line, demo_line, flag, format_line, inspect_line};
-ghost use Rattle.night_words.specs.Commands.{migrate_line, night, night_alone, script_line};
-ghost use Rattle.night_words.specs.Commands.{store_line, wanted, workers_option};
+ghost use Rattle.night_words.specs.Commands.{migrate_line, night, night_alone, renew_line};
+ghost use Rattle.night_words.specs.Commands.{script_line, store_line, wanted, workers_option};
 
 use clap::{Arg, ArgAction, Command};
 use std::alloc::{AllocError, Global};
@@ -67,7 +67,8 @@ pub fn night_command<'a>(alloc: Global) -> Result<Command<'a>, AllocError>
     let script = with_script(alloc, format)?;
     let inspect = with_inspect(alloc, script)?;
     let migrate = with_migrate(alloc, inspect)?;
-    with_crew(alloc, migrate)
+    let crew = with_crew(alloc, migrate)?;
+    with_renew(alloc, crew)
 }
 
 /// The command line without its commands.
@@ -118,7 +119,7 @@ fn with_inspect<'a>(alloc: Global, night: Command<'a>) -> Result<Command<'a>, Al
     night.subcommand(inspect)
 }
 
-/// The command line with the command over two stores.
+/// The command line with the command that makes a large store of a small one.
 fn with_migrate<'a>(alloc: Global, night: Command<'a>) -> Result<Command<'a>, AllocError>
     ensures { IfOk result (λ command. app_of command
         ≡ with_subcommand (app_of night.entry) migrate_line.top) }
@@ -134,6 +135,15 @@ fn with_crew<'a>(alloc: Global, night: Command<'a>) -> Result<Command<'a>, Alloc
 {
     let crew = crew_command(alloc)?;
     night.subcommand(crew)
+}
+
+/// The command line with the command that makes a store of what another one still needs.
+fn with_renew<'a>(alloc: Global, night: Command<'a>) -> Result<Command<'a>, AllocError>
+    ensures { IfOk result (λ command. app_of command
+        ≡ with_subcommand (app_of night.entry) renew_line.top) }
+{
+    let renew = renew_command(alloc)?;
+    night.subcommand(renew)
 }
 
 /// The command over a book in memory.
@@ -202,7 +212,7 @@ fn store_command<'a>(
         .arg(store_word(alloc, "STORE", "STORE", "The file of the store"))
 }
 
-/// The command over two stores.
+/// The command that makes a large store of a small one.
 fn migrate_command<'a>(alloc: Global) -> Result<Command<'a>, AllocError>
     ensures { IfOk result (λ command. app_of command ≡ migrate_line) }
 {
@@ -236,6 +246,22 @@ fn crew_command<'a>(alloc: Global) -> Result<Command<'a>, AllocError>
             alloc,
             "known",
             "Starts nothing where the crew doesn't know the job of a task that isn't ended",
+        ))
+}
+
+/// The command that makes a store of what another one still needs.
+fn renew_command<'a>(alloc: Global) -> Result<Command<'a>, AllocError>
+    ensures { IfOk result (λ command. app_of command ≡ renew_line) }
+{
+    Command::new(alloc, "renew")
+        .about("Makes a store NEW of what a store OLD still needs; what NEW held is lost")
+        .after_help(ending!("Example: night renew old.store new.store"))
+        .arg(store_word(alloc, "STORE", "OLD", "The old store, which is only read"))?
+        .arg(store_word(
+            alloc,
+            "NEW",
+            "NEW",
+            "The new file; one that is there is emptied",
         ))
 }
 

@@ -7,7 +7,8 @@ ghost use Rattle.clap.specs.declared.error.kind.ErrorKind.TheVariants as kind;
 ghost use Rattle.night_words.specs.Commands.{AsksForCrew, AsksForDemo, AsksForFormat};
 ghost use Rattle.night_words.specs.Commands.{AsksForInspect, AsksForScript, IsCausedBy, faults_of};
 ghost use Rattle.night_words.specs.declared.asked.View.TheVariants.{Json, Tasks, Whole};
-ghost use Rattle.night_words.specs.declared.asked.WordsFault.TheVariants.{Views, Workers};
+ghost use Rattle.night_words.specs.declared.asked.WordsFault.TheVariants.{SameStores, Views};
+ghost use Rattle.night_words.specs.declared.asked.WordsFault.TheVariants.{Workers};
 
 /// `demo` is a command, and the mark behind which no flag stands is no word of it.
 pub fn demo_is_a_command()
@@ -151,6 +152,18 @@ pub fn two_stores_are_named()
         → faults_of (name ∷ codes "migrate" ∷ codes "a" ∷ codes "--" ∷ codes "-b" ∷ []) ≡ [] }
     ensures behind { (name : List ℕ)
         → faults_of (name ∷ codes "migrate" ∷ codes "a" ∷ codes "b" ∷ codes "--" ∷ []) ≡ [] }
+{}
+
+/// `renew` is one, too.
+pub fn two_stores_may_be_renewed()
+    ensures alone { (name : List ℕ)
+        → faults_of (name ∷ codes "renew" ∷ codes "a" ∷ codes "b" ∷ []) ≡ [] }
+    ensures between { (name : List ℕ)
+        → faults_of (name ∷ codes "renew" ∷ codes "a" ∷ codes "--" ∷ codes "-b" ∷ []) ≡ [] }
+    ensures same { (name : List ℕ)
+        → IsCausedBy SameStores (name ∷ codes "renew" ∷ codes "a" ∷ codes "a" ∷ []) }
+    ensures one { (name : List ℕ) → faults_of (name ∷ codes "renew" ∷ codes "a" ∷ [])
+        ≡ kind.MissingRequiredArgument ∷ [] }
 {}
 
 /// Two stores are wanted.

@@ -7,9 +7,9 @@ ghost use Rattle.std.specs.Vec.Iter.{into_iter_steps};
 ghost use Rattle.std.specs.declared.io.ErrorKind.TheVariants as system;
 ghost use Rattle.clap.specs.Words.{first_value, found_of, kind_of, subcommand_rows_of};
 ghost use Rattle.night_words.specs.Commands.{Asks, AsksFor, IsAnswer, IsCausedBy, IsCrew};
-ghost use Rattle.night_words.specs.Commands.{IsInspect};
-ghost use Rattle.night_words.specs.Commands.{IsMigration, IsNamed, IsOfSystem, IsShown, faults_of};
-ghost use Rattle.night_words.specs.Commands.{is_true, named_by, new_by, view_of, workers_of};
+ghost use Rattle.night_words.specs.Commands.{IsForTwo, IsInspect, IsNamed, IsOfSystem, IsShown};
+ghost use Rattle.night_words.specs.Commands.{faults_of, is_true, named_by, new_by, view_of};
+ghost use Rattle.night_words.specs.Commands.{workers_of};
 
 use crate::asked::{Asked, View, WordsFault};
 use crate::commands::night_command;
@@ -109,7 +109,8 @@ fn asked_of<'a>(matches: &ArgMatches<'a>) -> Result<Asked<'a>, WordsFault>
     let Some(new) = inner.get_str("NEW") else {
         unreachable!();
     };
-    migration(store, new)
+    let renews = command == "renew";
+    for_two(store, new, renews)
 }
 
 /// Says whether the words have this flag of the command that was used.
@@ -171,12 +172,14 @@ fn workers_of(text: Option<&str>) -> Option<u8>
     }
 }
 
-/// A migration between two stores. Two equal names are a mistake.
-fn migration<'a>(old: &'a str, new: &'a str) -> Result<Asked<'a>, WordsFault>
-    ensures { IsMigration old.now new.now result }
+/// A migration or a renewal, from one store to another. Two equal names are a mistake.
+fn for_two<'a>(old: &'a str, new: &'a str, renews: bool) -> Result<Asked<'a>, WordsFault>
+    ensures { IsForTwo renews old.now new.now result }
 {
     if old == new {
         Err(WordsFault::SameStores)
+    } else if renews {
+        Ok(Asked::Renew(old, new))
     } else {
         Ok(Asked::Migrate(old, new))
     }

@@ -3,9 +3,9 @@ use Rattle.std.specs.Prelude.{codes, option_map}
 use Rattle.std.specs.Borrow.{Bor}
 use Rattle.clap.specs.Walk.{Text}
 use Rattle.night_words.proofs.TakenLemmas.{crew, demo, format, inspect, script}
-use Rattle.night_words.proofs.NamedLemmas.{crew_here, demo_here, differ, inspect_here, migrate_left}
-use Rattle.night_words.proofs.NamedLemmas.{migration_asks, named_here, new_here}
-use Rattle.night_words.proofs.NamedLemmas.{new_is_there, no_store, same, store_here, unwrapped}
+use Rattle.night_words.proofs.NamedLemmas.{crew_here, demo_here, differ, inspect_here, named_here}
+use Rattle.night_words.proofs.NamedLemmas.{new_here, new_is_there, no_store, same, store_here}
+use Rattle.night_words.proofs.NamedLemmas.{two_asked, two_left, unwrapped}
 use Rattle.clap.specs.Words.{subcommand_rows_of}
 use Rattle.night_words.specs.Commands.{named_by, new_by}
 use Rattle.night_words.proofs.readers.asked_of.Goals as goal
@@ -69,7 +69,7 @@ unreachable-requires-in_default-get_str-2 c =
     let command = c.in-Some.command.now in
     let at = named_here c.args.matches.now c.in-Some.command c.in-Some.inner
     c.in-Some.ensures.name c.in-Some.ensures.rows in
-    let left = migrate_left (named_by c.args.matches.now) (new_by c.args.matches.now) command
+    let left = two_left (named_by c.args.matches.now) (new_by c.args.matches.now) command
     c.in-Some-get_str.store.now c.requires
     (at ∙ ap (λ s. Some (command, s)) (sym c.in-Some-get_str.ensures))
     (differ command demo c.eq-demos.result c.eq-demos.ensures c.if-demos.false)
@@ -86,7 +86,7 @@ returns c =
     let command = c.in-Some.command.now in
     let at = named_here c.args.matches.now c.in-Some.command c.in-Some.inner
     c.in-Some.ensures.name c.in-Some.ensures.rows in
-    let left = migrate_left (named_by c.args.matches.now) (new_by c.args.matches.now) command
+    let left = two_left (named_by c.args.matches.now) (new_by c.args.matches.now) command
     c.in-Some-get_str.store.now c.requires
     (at ∙ ap (λ s. Some (command, s)) (sym c.in-Some-get_str.ensures))
     (differ command demo c.eq-demos.result c.eq-demos.ensures c.if-demos.false)
@@ -94,9 +94,10 @@ returns c =
     (differ command format c.eq-formats.result c.eq-formats.ensures c.if-formats.false)
     (differ command script c.eq-scripts.result c.eq-scripts.ensures c.if-scripts.false)
     (differ command inspect c.eq-inspects.result c.eq-inspects.ensures c.if-inspects.false) in
-    migration_asks (named_by c.args.matches.now) (new_by c.args.matches.now)
-    c.in-Some-get_str.store.now c.in-Some-get_str-2.new.now
-    (subcommand_rows_of c.args.matches.now) c.migration.result left.0
+    two_asked (named_by c.args.matches.now) (new_by c.args.matches.now) command
+    c.in-Some-get_str.store.now c.in-Some-get_str-2.new.now c.eq-renews.result
+    (subcommand_rows_of c.args.matches.now) c.for_two.result left.0 c.eq-renews.ensures
+    (at ∙ ap (λ s. Some (command, s)) (sym c.in-Some-get_str.ensures))
     (new_here c.args.matches.now c.in-Some.command c.in-Some.inner c.in-Some.ensures.rows
     ∙ sym c.in-Some-get_str-2.ensures)
-    c.migration.ensures
+    c.for_two.ensures
