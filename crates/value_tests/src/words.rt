@@ -16,13 +16,15 @@ enum Told {
     Inspect(&'static str, View),
     /// They ask for a migration from this store to that one.
     Migration(&'static str, &'static str),
+    /// They ask for a renewal, likewise.
+    Renewal(&'static str, &'static str),
     /// A text for help that has this part.
     Help(&'static str),
     /// This text for help.
     Text(&'static str),
     /// They ask for a crew of so many workers over this store, of known jobs or not.
     Crew(&'static str, u8, bool),
-    /// A migration from a store to itself.
+    /// A migration or a renewal from a store to itself.
     SameStores,
     /// Another number of workers than a crew may have.
     Workers,
@@ -140,6 +142,19 @@ static MIGRATIONS: [Case; 7] = [
     (&["migrate", "--", "-a", "-a"], Told::SameStores),
 ];
 
+static RENEWALS: [Case; 7] = [
+    (
+        &["renew", "a.disk", "b.disk"],
+        Told::Renewal("a.disk", "b.disk"),
+    ),
+    (&["renew", "--", "-a", "-b"], Told::Renewal("-a", "-b")),
+    (&["renew", "a", "--", "-b"], Told::Renewal("a", "-b")),
+    (&["renew", "a", "b", "--"], Told::Renewal("a", "b")),
+    (&["renew", "a", ""], Told::Renewal("a", "")),
+    (&["renew", "a.disk", "a.disk"], Told::SameStores),
+    (&["renew", "--", "-a", "-a"], Told::SameStores),
+];
+
 static CREWS: [Case; 13] = [
     (&["crew", "a.disk"], Told::Crew("a.disk", 4, false)),
     (
@@ -171,7 +186,7 @@ static CREWS: [Case; 13] = [
     (&["crew", "a", "--workers", "two"], Told::Workers),
 ];
 
-static HELP: [Case; 19] = [
+static HELP: [Case; 20] = [
     (&["--help"], Told::Help("Usage: night <COMMAND>")),
     (&["--help"], Told::Help("A line asks one thing of a book")),
     (&["--help"], Told::Help("docs/formats/console.md and")),
@@ -209,6 +224,10 @@ static HELP: [Case; 19] = [
     (
         &["migrate", "--help"],
         Told::Help("Usage: night migrate <OLD> <NEW>"),
+    ),
+    (
+        &["renew", "--help"],
+        Told::Help("Usage: night renew <OLD> <NEW>"),
     ),
     (
         &["crew", "--help"],
@@ -266,7 +285,7 @@ static VERSION: [Case; 2] = [
     (&["-V"], Told::Text("night 0.2.0\n")),
 ];
 
-static MISTAKES: [Case; 19] = [
+static MISTAKES: [Case; 21] = [
     (&[], Told::Mistake("Usage: night <COMMAND>")),
     (&[""], Told::Mistake("unrecognized subcommand ''")),
     (
@@ -322,6 +341,14 @@ static MISTAKES: [Case; 19] = [
         Told::Mistake("unexpected argument 'c.disk' found"),
     ),
     (
+        &["renew", "a.disk"],
+        Told::Mistake("required arguments were not provided"),
+    ),
+    (
+        &["renew", "a.disk", "b.disk", "c.disk"],
+        Told::Mistake("unexpected argument 'c.disk' found"),
+    ),
+    (
         &["--demo"],
         Told::Mistake("unexpected argument '--demo' found"),
     ),
@@ -337,7 +364,7 @@ static MISTAKES: [Case; 19] = [
 ];
 
 /// Flags that stand twice, have a value, or stand where their command doesn't take them.
-static STRAY_FLAGS: [Case; 16] = [
+static STRAY_FLAGS: [Case; 17] = [
     (
         &["demo", "--strict", "--strict"],
         Told::Mistake("'--strict' cannot be used multiple times"),
@@ -396,6 +423,10 @@ static STRAY_FLAGS: [Case; 16] = [
     ),
     (
         &["migrate", "--new", "a", "b"],
+        Told::Mistake("unexpected argument '--new' found"),
+    ),
+    (
+        &["renew", "--new", "a", "b"],
         Told::Mistake("unexpected argument '--new' found"),
     ),
     (
@@ -469,6 +500,14 @@ fn is_migration(told: &Told, old: &str, new: &str) -> bool {
     }
 }
 
+/// Says whether a renewal of this store to that one is told.
+fn is_renewal(told: &Told, old: &str, new: &str) -> bool {
+    match told {
+        Told::Renewal(from, to) => *from == old && *to == new,
+        _ => false,
+    }
+}
+
 /// Says whether this text for help is told, or a part of it.
 fn is_help(told: &Told, text: &str) -> bool {
     match told {
@@ -491,6 +530,7 @@ fn is_asked(asked: &Asked, told: &Told) -> bool {
             known,
         } => is_crew(told, store, *workers, *known),
         Asked::Migrate(old, new) => is_migration(told, old, new),
+        Asked::Renew(old, new) => is_renewal(told, old, new),
         Asked::Help(text) => is_help(told, text),
     }
 }
@@ -553,6 +593,7 @@ fn a_view_may_be_asked_for(rt: HostRuntime) {
 #[test]
 fn two_stores_are_named(rt: HostRuntime) {
     assert_told(&rt, rt.alloc(), &MIGRATIONS);
+    assert_told(&rt, rt.alloc(), &RENEWALS);
 }
 
 #[test]
