@@ -3,7 +3,7 @@
 
 _night() {
     local current=${COMP_WORDS[COMP_CWORD]} before=${COMP_WORDS[COMP_CWORD - 1]} flags=""
-    local words="demo format script inspect crew migrate help"
+    local words="demo format script inspect crew migrate renew help"
     COMPREPLY=()
     if ((COMP_CWORD == 1)); then
         mapfile -t COMPREPLY < <(compgen -W "$words --help --version" -- "$current")
@@ -15,7 +15,7 @@ _night() {
         script) flags="--strict --help" ;;
         crew) flags="--workers --known --help" ;;
         inspect) flags="--tasks --json --help" ;;
-        migrate) flags="--help" ;;
+        migrate | renew) flags="--help" ;;
         help) mapfile -t COMPREPLY < <(compgen -W "$words" -- "$current") && return ;;
         *) return ;;
     esac
