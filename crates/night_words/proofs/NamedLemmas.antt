@@ -17,9 +17,9 @@ use Rattle.clap.specs.declared.parser.matches.ArgMatches.{ArgMatches}
 use Rattle.clap.specs.declared.parser.matches.ArgMatches.TheViews.{out-ArgMatches, out-SubCommand}
 use Rattle.clap.specs.declared.parser.matches.SubCommand.{SubCommand}
 use Rattle.night_words.specs.Commands.{Asks, IsCrew, IsForTwo, IsInspect, IsNamed, Named}
-use Rattle.night_words.specs.Commands.{NamesDemo, NamesStore, NamesTwo, command_in, has_flag, is_true}
-use Rattle.night_words.specs.Commands.{named_by, named_in, new_by, view_in, view_of, word_in}
-use Rattle.night_words.specs.Commands.{workers_of}
+use Rattle.night_words.specs.Commands.{NamesDemo, NamesStore, NamesTwo, command_in, has_flag}
+use Rattle.night_words.specs.Commands.{is_true, named_by, named_in, new_by, view_in, view_of}
+use Rattle.night_words.specs.Commands.{word_in, workers_of}
 use Rattle.night_words.specs.declared.asked.Asked.{Asked}
 use Rattle.night_words.specs.declared.asked.Asked.TheVariants.{Demo, Format, Script, Inspect, Help}
 use Rattle.night_words.specs.declared.asked.Asked.TheVariants.{Crew, Migrate, Renew}
@@ -341,14 +341,14 @@ two_asked named new name store given renewing entered r which compared is fresh 
     go which (Ok (Crew s n b)) made = absurd made
     go which (Ok (Help text)) made = absurd made
     go (inl at) (Ok (Migrate o n)) made = (
-      names migrate o.now n.now at made.1.0 made.1.1.0,
-      λ same. made.1.1.1 (sym made.1.0 ∙ (same ∙ made.1.1.0)),
+      names migrate o.now n.now at made.1 made.2,
+      λ same. made.3 (sym made.1 ∙ (same ∙ made.2)),
     )
     go (inr at) (Ok (Migrate o n)) made = absurd (no_migration at made.0)
     go (inl at) (Ok (Renew o n)) made = absurd (no_renewal at made.0)
     go (inr at) (Ok (Renew o n)) made = (
-      names renew o.now n.now at made.1.0 made.1.1.0,
-      λ same. made.1.1.1 (sym made.1.0 ∙ (same ∙ made.1.1.0)),
+      names renew o.now n.now at made.1 made.2,
+      λ same. made.3 (sym made.1 ∙ (same ∙ made.2)),
     )
     go (inl at) (Err SameStores) made = (store, inl (names migrate store store at refl made))
     go (inr at) (Err SameStores) made = (store, inr (names renew store store at refl made))

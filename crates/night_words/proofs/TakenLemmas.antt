@@ -284,9 +284,10 @@ unfolding walked
 migrate_taken name rest none =
     let met = keeps_words migrate [] rest (walked above.rules names start migrate) refl in
     let b = behind_both migrates rest (below_passes migrate rest met none) in
-    takes_two migrates b.store b.given (asks_both name migrate b.store b.given rest b.words)
-    (named_at name migrate rest met ∙ ap (λ s. Some (migrate, s)) b.read.0,
-    new_at name migrate rest met ∙ b.read.1)
+    takes_two migrates b.store b.given (asks_both name migrate b.store b.given rest b.words) (
+      named_at name migrate rest met ∙ ap (λ s. Some (migrate, s)) b.read.0,
+      new_at name migrate rest met ∙ b.read.1,
+    )
 
 renew_taken : (name : Text) (rest : List Text) → Finds (renew ∷ rest)
     → Taken (name ∷ renew ∷ rest)
@@ -294,9 +295,10 @@ unfolding walked
 renew_taken name rest none =
     let met = keeps_words renew [] rest (walked above.rules names start renew) refl in
     let b = behind_both renews rest (below_passes renew rest met none) in
-    takes_two renews b.store b.given (asks_both name renew b.store b.given rest b.words)
-    (named_at name renew rest met ∙ ap (λ s. Some (renew, s)) b.read.0,
-    new_at name renew rest met ∙ b.read.1)
+    takes_two renews b.store b.given (asks_both name renew b.store b.given rest b.words) (
+      named_at name renew rest met ∙ ap (λ s. Some (renew, s)) b.read.0,
+      new_at name renew rest met ∙ b.read.1,
+    )
 
 -- behind `crew` the parser may have read a store
 crew_taken : (name : Text) (rest : List Text) → Taken (name ∷ crew ∷ rest)

@@ -119,8 +119,8 @@ AsksOver command store words = (name : Text) × ((words ≡ name ∷ command ∷
     ⊎ ((words ≡ name ∷ command ∷ codes "--" ∷ store ∷ [])
     ⊎ (words ≡ name ∷ command ∷ store ∷ codes "--" ∷ [])))
 
--- the words ask for this command from this store to that one: the two stand behind the program's own
--- name and the command, and the mark `--` may stand before, between or behind them
+-- the words ask for this command from this store to that one: the two stand behind the program's
+-- own name and the command, and the mark `--` may stand before, between or behind them
 abbrev pub AsksForTwo : (command old new : Text) → List Text → Type 0
 AsksForTwo command old new words = (name : Text)
     × ((words ≡ name ∷ command ∷ old ∷ new ∷ [])
