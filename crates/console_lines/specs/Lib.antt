@@ -18,4 +18,6 @@ pub mod Strict
 pub mod StrictNights
 pub mod Tallies
 pub mod TaskLines
+pub mod TreeNights
+pub mod Trees
 pub mod Words

@@ -250,7 +250,7 @@ fn push_parent<const N: usize>(out: &mut ArrayVec<u8, N>, parent: u16, kind: &Ki
     }
 }
 
-fn kind_word(kind: &Kind) -> &'static str
+pub(crate) fn kind_word(kind: &Kind) -> &'static str
     ensures word { result.now ≡ kind_word kind.now }
     ensures few { length result.now ≤ 32 }
 {

@@ -394,7 +394,7 @@ pub(crate) fn push_count<const N: usize>(out: &mut ArrayVec<u8, N>, count: u16)
 }
 
 /// A text.
-fn push_text<const N: usize>(out: &mut ArrayVec<u8, N>, text: &Text)
+pub(crate) fn push_text<const N: usize>(out: &mut ArrayVec<u8, N>, text: &Text)
     requires { array_vec_len out.old + 64 ≤ N }
     ensures { Gathers out.old.items out.new.items text.now 64 }
 {

@@ -25,6 +25,8 @@ mod strays;
 pub mod strict_nights;
 mod tallies;
 mod task_lines;
+pub mod tree_nights;
+mod trees;
 mod wishes;
 mod words;
 
@@ -37,3 +39,4 @@ pub use replies::{Reply, ShownName, ShownTrouble};
 pub use rows::{LONGEST_ROW, Row};
 pub use strays::{Stray, StrayLine};
 pub use tallies::{Counts, Tally};
+pub use trees::{LONGEST_TREE_SCOPE, gather_tree_scope};

@@ -1,0 +1,136 @@
+-- What is drawn of a whole state as a tree: a line for each scope, each group and each task, below
+-- that of what it belongs to.
+use Rattle.std.specs.Prelude.{ℕ, zero, suc, ◌+◌, ◌-◌, nat_eq, nat_lt, if◌then◌else◌}
+use Rattle.std.specs.Prelude.{List, [], ◌∷◌, ◌++◌, length, drop, map, reverse}
+use Rattle.std.specs.Prelude.{codes, Option, slice_get}
+use Rattle.std.specs.List.{flat_map}
+use Rattle.std.specs.Option.{option_map_or}
+use Rattle.run_model.specs.declared.answers.Look.{Look}
+use Rattle.run_model.specs.declared.scopes.Kind.{Kind}
+use Rattle.run_model.specs.declared.scopes.Kind.TheVariants as kind
+use Rattle.run_model.specs.Questions.{look_of}
+use Rattle.run_model.specs.State.{State}
+use Rattle.console_lines.specs.Entries.{kind_word}
+use Rattle.console_lines.specs.Inspected.{group_line, named, task_line}
+use Rattle.console_lines.specs.Replies.{scope_text}
+
+-- ---- nodes
+
+-- The nodes are the scopes, then the groups, then the tasks, each in order of number. A node's
+-- parent is the scope that it was derived from, the scope that it lives in, or its group; root's
+-- own is root.
+abbrev pub parents_of : State → List ℕ
+parents_of p =
+    map (λ row. row.parent) p.tree.scopes
+    ++ (map (λ row. row.scope) p.work.groups
+    ++ map (λ row. length p.tree.scopes + row.group) p.work.tasks)
+
+-- A node's parent.
+abbrev pub parent_of : List ℕ → ℕ → ℕ
+parent_of parents n = option_map_or (λ parent. parent) (slice_get parents n) 0
+
+-- The places in this row that have this parent, where its first place has this number.
+abbrev pub places_of : (parent place : ℕ) → List ℕ → List ℕ
+places_of parent place [] = []
+places_of parent place (first ∷ rest) =
+    if nat_eq first parent
+    then place ∷ places_of parent (suc place) rest
+    else places_of parent (suc place) rest
+
+-- The nodes behind a node that have this parent.
+abbrev pub behind : List ℕ → (n parent : ℕ) → List ℕ
+behind parents n parent = places_of parent (suc n) (drop (suc n) parents)
+
+-- A node's children stand behind it, and its later siblings too.
+abbrev pub children : List ℕ → ℕ → List ℕ
+children parents n = behind parents n n
+
+abbrev pub later_siblings : List ℕ → ℕ → List ℕ
+later_siblings parents n = behind parents n (parent_of parents n)
+
+-- A node and all below it, in the order in which they are drawn: the node, and then each child with
+-- all below it. No more levels are drawn than this number.
+abbrev pub drawn_below : ℕ → List ℕ → ℕ → List ℕ
+drawn_below zero parents n = []
+drawn_below (suc levels) parents n =
+    n ∷ flat_map (drawn_below levels parents) (children parents n)
+
+-- All nodes in this order. A child has a greater number, so there are no more levels than nodes.
+abbrev pub drawn : List ℕ → List ℕ
+drawn parents = drawn_below (length parents) parents 0
+
+-- ---- what leads a line
+
+-- The nodes from this one upwards, root left out, and no more than so many.
+abbrev pub upwards : ℕ → List ℕ → ℕ → List ℕ
+upwards zero parents n = []
+upwards (suc most) parents n =
+    if nat_eq n 0 then [] else n ∷ upwards most parents (parent_of parents n)
+
+-- In UTF-8: `│ `, `├─` and `└─`.
+abbrev pub bar : List ℕ
+bar = 226 ∷ 148 ∷ 130 ∷ 32 ∷ []
+
+abbrev pub branch : List ℕ
+branch = 226 ∷ 148 ∷ 156 ∷ 226 ∷ 148 ∷ 128 ∷ []
+
+abbrev pub corner : List ℕ
+corner = 226 ∷ 148 ∷ 148 ∷ 226 ∷ 148 ∷ 128 ∷ []
+
+-- The first of two texts where siblings of the node follow, and the second where none does.
+abbrev pub by_siblings : (more last : List ℕ) → List ℕ → ℕ → List ℕ
+by_siblings more last parents n =
+    if nat_eq (length (later_siblings parents n)) 0 then last else more
+
+-- What is drawn for a node in the lines of those below it, and in its own.
+abbrev pub passing : List ℕ → ℕ → List ℕ
+passing = by_siblings bar (codes "  ")
+
+abbrev pub mark : List ℕ → ℕ → List ℕ
+mark = by_siblings branch corner
+
+-- A line is led by what is drawn for each node above its own, from the top on, and by its own mark.
+-- Nothing is drawn for root.
+abbrev pub lead : List ℕ → ℕ → List ℕ
+lead parents n =
+    if nat_eq n 0 then []
+    else (flat_map (passing parents) (reverse (upwards n parents (parent_of parents n)))
+    ++ mark parents n)
+
+-- ---- lines
+
+-- What a scope is; of one that holds a value its key and text follow.
+abbrev pub kind_text : Kind → List ℕ
+kind_text (kind.Value key text) = codes "value " ++ (key ++ (codes " " ++ text))
+kind_text kind = kind_word kind
+
+-- A scope: its number, its name, what it is, and then whether it is done, as its question says it.
+abbrev pub kind_line : ℕ → Kind → Look → List ℕ
+kind_line s kind look =
+    named (codes "scope") s look.name
+    ++ (kind_text kind ++ (codes "; " ++ (scope_text look.done look.deadline ++ 10 ∷ [])))
+
+abbrev pub tree_scope : State → ℕ → List ℕ
+tree_scope p s = option_map_or (λ row. option_map_or (kind_line s row.kind) (look_of p s) [])
+    (slice_get p.tree.scopes s) []
+
+-- A group and a task have the lines that they have where a whole state is printed.
+abbrev pub work_line : State → ℕ → List ℕ
+work_line p n =
+    if nat_lt n (length p.work.groups)
+    then group_line p n
+    else task_line p (n - length p.work.groups)
+
+abbrev pub own_line : State → ℕ → List ℕ
+own_line p n =
+    if nat_lt n (length p.tree.scopes)
+    then tree_scope p n
+    else work_line p (n - length p.tree.scopes)
+
+-- A node's line.
+abbrev pub node_line : State → ℕ → List ℕ
+node_line p n = lead (parents_of p) n ++ own_line p n
+
+-- All that is drawn of a state: the line of each node, in their order.
+abbrev pub tree_text : State → List ℕ
+tree_text p = flat_map (node_line p) (drawn (parents_of p))
