@@ -54,12 +54,12 @@ tasks_drawn =
     ∷ (s 1 ++ l, "task 2 h mail c error no room")
     ∷ []
 
--- A night of a copy that took too long, below a backup that was cancelled; its report goes on.
+-- A night of a copy that was too slow, below a backup that was cancelled; its report goes on.
 abbrev pub cancelled_backup : Night
 cancelled_backup =
     ("derive night root value region eu", "scope 1")
     ∷ ("derive backup night cause", "scope 2")
-    ∷ ("derive copy backup deadline 3600 copy took too long", "scope 3")
+    ∷ ("derive copy backup deadline 3600 too slow", "scope 3")
     ∷ ("derive report backup detached", "scope 4")
     ∷ ("derive mail report cancel", "scope 5")
     ∷ ("advance 3600", "ok")
@@ -76,8 +76,14 @@ abbrev pub backup_drawn : List (List ℕ × String)
 backup_drawn =
     ([], "scope 0 root root; live; deadline none")
     ∷ (l, "scope 1 night value region eu; live; deadline none")
-    ∷ (s 1 ++ l, "scope 2 backup cause; done; deadline none; err context canceled; cause disk full")
-    ∷ (s 2 ++ t, "scope 3 copy deadline; done; deadline 3600; err context deadline exceeded; cause copy took too long")
+    ∷ (
+      s 1 ++ l,
+      "scope 2 backup cause; done; deadline none; err context canceled; cause disk full",
+    )
+    ∷ (
+      s 2 ++ t,
+      "scope 3 copy deadline; done; deadline 3600; err context deadline exceeded; cause too slow",
+    )
     ∷ (s 2 ++ l, "scope 4 report detached; live; deadline none")
     ∷ (s 3 ++ t, "scope 5 mail cancel; live; deadline none")
     ∷ (s 3 ++ l, "scope 6 disks group; done; deadline none; err context canceled; cause no room")

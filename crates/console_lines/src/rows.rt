@@ -76,7 +76,12 @@ fn push_counts<const N: usize>(out: &mut ArrayVec<u8, N>, count: u64, clock: Mom
 }
 
 /// A word, a number and a name, as in `scope 1 a `.
-pub(crate) fn push_named<const N: usize>(out: &mut ArrayVec<u8, N>, word: &[u8], number: u16, name: &Name)
+pub(crate) fn push_named<const N: usize>(
+    out: &mut ArrayVec<u8, N>,
+    word: &[u8],
+    number: u16,
+    name: &Name,
+)
     requires word { length word.now ≤ 5 }
     requires room { array_vec_len out.old + 60 ≤ N }
     ensures { Gathers out.old.items out.new.items (named word.now number name.now) 60 }

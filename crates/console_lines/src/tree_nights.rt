@@ -17,7 +17,7 @@ pub fn groups_and_tasks_are_drawn()
     ensures { IsDrawn three_tasks tasks_drawn }
 {}
 
-/// A night that README tells.
+/// A done scope with a live one below it, which is detached, and a group that was waited for.
 pub fn a_cancelled_backup_is_drawn()
     ensures { IsDrawn cancelled_backup backup_drawn }
 {}
