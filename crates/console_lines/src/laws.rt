@@ -4,8 +4,8 @@
 
 ghost use Rattle.std.specs.List.{slice_split, list_all};
 ghost use Rattle.std.specs.Option.{option_to_list};
-ghost use Rattle.std.specs.Prelude.{◌≡◌, ◌==◌, ◌++◌, ◌∷◌, [], List, ℕ, true, false, Option};
-ghost use Rattle.std.specs.Prelude.{Some, None, Ok, codes};
+ghost use Rattle.std.specs.Prelude.{◌≡◌, ◌≤◌, ◌==◌, ◌++◌, ◌∷◌, [], List, ℕ, true, false, Option};
+ghost use Rattle.std.specs.Prelude.{Some, None, Ok, codes, length};
 ghost use Rattle.run_model.specs.Session.{Session, session_after};
 ghost use Rattle.run_model.specs.Texts.{is_name, is_text};
 ghost use Rattle.written_moment.specs.Moments.{moment_of};
@@ -17,6 +17,7 @@ ghost use Rattle.console_lines.specs.Progress.{IsFront, kept};
 ghost use Rattle.console_lines.specs.Script.{after_line, after_lines, replies, reply, script};
 ghost use Rattle.console_lines.specs.Script.{steps_of};
 ghost use Rattle.console_lines.specs.Strict.{stray_in, strict_script};
+ghost use Rattle.console_lines.specs.Trees.{drawn, drawn_below};
 
 use crate::asked::Asked;
 use crate::strays::StrayLine;
@@ -92,4 +93,10 @@ pub fn a_strict_run_doesnt_see_what_is_behind_its_stray_line()
 pub fn a_strict_run_without_a_stray_line_is_a_run()
     ensures { (s : Session) (bytes : List ℕ) → stray_in s bytes ≡ None
         → strict_script s bytes ≡ script s bytes }
+{}
+
+/// A tree has no more levels than nodes: to draw more of them would draw the same.
+pub fn a_tree_has_no_more_levels_than_nodes()
+    ensures { (levels : ℕ) (parents : List ℕ) → 1 ≤ length parents → length parents ≤ levels
+        → drawn_below levels parents 0 ≡ drawn parents }
 {}
