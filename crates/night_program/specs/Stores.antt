@@ -1,5 +1,6 @@
 -- What each word does to a store, by what its disk was and what is left of it.
 use Rattle.std.specs.Prelude.{◌≡◌, ◌⊎◌, ◌++◌, ℕ, List, Option, None, Result, Ok, Err, codes}
+use Rattle.std.specs.Prelude.{length}
 use Rattle.std.specs.Fmt.{decimal}
 use Rattle.std.specs.Io.KnownBytes.{Appends}
 use Rattle.run_model.specs.declared.faults.Fault.{Fault}
@@ -12,6 +13,7 @@ use Rattle.book_model.specs.declared.migrations.MigrateFault.{MigrateFault}
 use Rattle.book_model.specs.declared.migrations.MigrateFault.TheVariants as of_two
 use Rattle.book_model.specs.Migrations.{Migrates}
 use Rattle.run_session.specs.Logged.{begun_at}
+use Rattle.run_book.specs.Renewals.{Renews}
 use Rattle.run_book.specs.Views.{BookView, holding}
 use Rattle.console_lines.specs.declared.faults.RunFault.{RunFault}
 use Rattle.console_lines.specs.declared.faults.RunFault.TheVariants.{Memory, Output}
@@ -25,6 +27,7 @@ use Rattle.run_console.specs.Strict.{RunsStrictly, StopsStrictly}
 use Rattle.run_console.specs.Troubles.{stopped}
 use Rattle.night_words.specs.declared.asked.View.{View}
 use Rattle.night_words.specs.declared.asked.View.TheVariants.{Whole, Tasks, Json}
+use Rattle.night_program.specs.declared.renewals.Sizes.{Sizes}
 
 -- A text was printed whole, or as much of it as the output took.
 abbrev pub Prints : {T : Type 0} → List ℕ → Result T RunFault → (w0 w1 : Option (List ℕ)) → Type 0
@@ -132,13 +135,62 @@ unmigrated of_two.Memory = Memory
 unmigrated (of_two.Old why) = stopped why
 unmigrated (of_two.New why) = stopped why
 
--- The small store was migrated, and the number of events shown that the new one stores. Or it was
--- not, and nothing was printed: the fault tells why. What is left of the two disks `Migrates` says.
+-- A store was made of another one, and this text shown of it. Or it was not, and nothing was
+-- printed: the fault tells why. What is left of the two disks `Made` says.
+abbrev pub MakesShown : {T D E : Type 0} → (State → List ℕ)
+    → (Made : Result E (MigrateFault × E) → D → Type 0) → (to : E → DiskState)
+    → Result T RunFault → (read : D) → (left : E) → (w0 w1 : Option (List ℕ)) → Type 0
+MakesShown {E = E} text Made to answer read left w0 w1 =
+    ((made : E) × Made (Ok made) read × Shows text to made answer left w0 w1)
+    ⊎ ((why : MigrateFault) × (answer ≡ Err (unmigrated why))
+    × Made (Err (why, left)) read × (w1 ≡ w0))
+
+-- The small store was migrated, and the number of events shown that the new one stores.
 abbrev pub MigrateEnds : {T D E : Type 0} → (D → DiskState) → (E → DiskState) → (old : D)
     → (given : E) → Result T RunFault → (read : D) → (left : E)
     → (w0 w1 : Option (List ℕ)) → Type 0
-MigrateEnds {E = E} from to old given answer read left w0 w1 =
-    ((made : E) × Migrates from to old given (Ok made) read
-    × Shows counted to made answer left w0 w1)
-    ⊎ ((why : MigrateFault) × (answer ≡ Err (unmigrated why))
-    × Migrates from to old given (Err (why, left)) read × (w1 ≡ w0))
+MigrateEnds from to old given answer read left w0 w1 =
+    MakesShown counted (Migrates from to old given) to answer read left w0 w1
+
+-- ---- renew
+
+-- How many events, scopes, groups and tasks a state has.
+abbrev pub sizes : State → Sizes
+sizes p = record {
+  events = p.count;
+  scopes = length p.tree.scopes;
+  groups = length p.work.groups;
+  tasks = length p.work.tasks;
+}
+
+-- A state was recovered, and has these sizes.
+abbrev pub HasSizes : (found : Sizes) → (old read : DiskState) → Type 0
+HasSizes found old read = (p : State) × HasRecovered p old read × (found ≡ sizes p)
+
+-- So many rows of so many, as in `; tasks 3 of 8`.
+abbrev pub of_text : (word : List ℕ) → (left were : ℕ) → List ℕ
+of_text word left were = word ++ (decimal left ++ (codes " of " ++ decimal were))
+
+-- What is left of what there was before, as in `renewed; events 9; scopes 2 of 4; groups 1 of 3;
+-- tasks 3 of 8`.
+abbrev pub sizes_line : (before left : Sizes) → List ℕ
+sizes_line before left =
+    codes "renewed; events " ++ (decimal left.events
+    ++ (of_text (codes "; scopes ") left.scopes before.scopes
+    ++ (of_text (codes "; groups ") left.groups before.groups
+    ++ (of_text (codes "; tasks ") left.tasks before.tasks ++ codes "\n"))))
+
+-- What is left in the store that was made.
+abbrev pub renewed_line : (before : Sizes) → State → List ℕ
+renewed_line before q = sizes_line before (sizes q)
+
+-- The old store was read, then renewed, and shown how much of it the new one stores. Or the old one
+-- wasn't read, and nothing was printed or made: the fault tells why.
+abbrev pub RenewEnds : {T D E : Type 0} → (D → DiskState) → (E → DiskState) → (old : D)
+    → (given : E) → Result T RunFault → (read : D) → (left : E)
+    → (w0 w1 : Option (List ℕ)) → Type 0
+RenewEnds {D = D} from to old given answer read left w0 w1 =
+    ((p : State) × (seen : D) × HasRecovered p (from old) (from seen)
+    × MakesShown (renewed_line (sizes p)) (Renews from to seen given) to answer read left w0 w1)
+    ⊎ ((why : Fault) × (answer ≡ Err (stopped why)) × RecoversNone from old why read
+    × (left ≡ given) × (w1 ≡ w0))

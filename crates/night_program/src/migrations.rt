@@ -56,7 +56,7 @@ fn show_count<D: RunDisk, W: Write>(
 fn print_count<W: Write>(count: u64, output: &mut W) -> Result<(), RunFault>
     ensures { Prints (migrated_line count) result (W.contents output.old) (W.contents output.new) }
 {
-    let mut line = ArrayVec::new();
+    let mut line: ArrayVec<u8, 38> = ArrayVec::new();
     push(&mut line, b"migrated; events ");
     let mut digits = Buffer::new();
     push(&mut line, digits.format(count).as_bytes());
@@ -65,8 +65,8 @@ fn print_count<W: Write>(count: u64, output: &mut W) -> Result<(), RunFault>
 }
 
 /// All of these bytes.
-fn push(line: &mut ArrayVec<u8, 38>, bytes: &[u8])
-    requires { array_vec_len line.old + length bytes.now ≤ 38 }
+pub(crate) fn push<const N: usize>(line: &mut ArrayVec<u8, N>, bytes: &[u8])
+    requires { array_vec_len line.old + length bytes.now ≤ N }
     ensures { Gathers line.old.items line.new.items bytes.now (length bytes.now) }
 {
     match line.try_extend_from_slice(bytes) {
@@ -76,7 +76,7 @@ fn push(line: &mut ArrayVec<u8, 38>, bytes: &[u8])
 }
 
 /// What a fault of a migration is to the program. It doesn't tell which store failed.
-fn unmigrated(fault: MigrateFault) -> RunFault
+pub(crate) fn unmigrated(fault: MigrateFault) -> RunFault
     ensures { result ≡ unmigrated fault }
 {
     match fault {
