@@ -1,16 +1,19 @@
 -- What the program does by its words.
-use Rattle.std.specs.Prelude.{◌≡◌, ◌⊎◌, ◌<◌, ℕ, Bool, true, false, List, Option, None, ⊤}
+use Rattle.std.specs.Prelude.{◌≡◌, ◌⊎◌, ◌<◌, ℕ, Bool, true, false, List, Option, Some, None, ⊤}
 use Rattle.std.specs.Prelude.{Result, Ok, Err}
 use Rattle.std.specs.Prelude.{IfErr, IfOk}
 use Rattle.std.specs.String.{string_bytes}
+use Rattle.run_model.specs.declared.faults.Fault.TheVariants.{WrongSize}
+use Rattle.run_model.specs.declared.layouts.Layout.{Layout}
 use Rattle.run_model.specs.declared.layouts.Layout.TheVariants.{Large}
-use Rattle.run_model.specs.Layouts.{store_len}
+use Rattle.run_model.specs.Layouts.{layout_of, store_len}
 use Rattle.run_disk.specs.Disk.{DiskState}
 use Rattle.run_journal.specs.Pairs.{AreZeros}
 use Rattle.console_lines.specs.declared.faults.RunFault.{RunFault}
 use Rattle.console_lines.specs.declared.faults.RunFault.TheVariants.{Memory}
 use Rattle.console_lines.specs.declared.strays.StrayLine.{StrayLine}
 use Rattle.run_console.specs.Crews.{CrewEnds}
+use Rattle.run_console.specs.Troubles.{stopped}
 use Rattle.night_words.specs.Commands.{AsksFor, IsAnswer, IsCausedBy, faults_of}
 use Rattle.night_words.specs.declared.asked.Asked.{Asked}
 use Rattle.night_words.specs.declared.asked.Asked.TheVariants.{Demo, Format, Script, Inspect, Help}
@@ -23,12 +26,12 @@ use Rattle.night_program.specs.declared.failures.Failure.{Failure}
 use Rattle.night_program.specs.Crews.{AnswersCrew, IsLooked, StopsAt}
 use Rattle.night_program.specs.Demos.{DemoEnds, StrictDemoEnds}
 use Rattle.night_program.specs.Endings.{EndsBy, Refuses}
-use Rattle.night_program.specs.Failures.{AnswersAlone, AnswersOver, AnswersStrict, HasNoFile}
-use Rattle.night_program.specs.Failures.{Names, NamesOne}
+use Rattle.night_program.specs.Failures.{AnswersAlone, AnswersOver, AnswersStrict, FailsBy}
+use Rattle.night_program.specs.Failures.{HasNoFile, Names, NamesOne}
 use Rattle.night_program.specs.Files.{FilesView, IsSettled}
 use Rattle.night_program.specs.Looks.{LookEnds}
-use Rattle.night_program.specs.Stores.{FormatEnds, InspectEnds, MigrateEnds, Prints, ScriptEnds}
-use Rattle.night_program.specs.Stores.{StrictEnds}
+use Rattle.night_program.specs.Stores.{FormatEnds, InspectEnds, MigrateEnds, Prints, RenewEnds}
+use Rattle.night_program.specs.Stores.{ScriptEnds, StrictEnds}
 
 -- What is left of the files behind what a file was made for: where that failed, a file that wasn't
 -- there before is taken away again.
@@ -38,12 +41,13 @@ IsLeft seen true (Err why) name f0 f1 = seen.removes f0 name f1
 IsLeft seen _ _ name f0 f1 = f1 ≡ f0
 
 module _ {F D : Type 0} (state : D → DiskState) (seen : FilesView F D) where
-  -- The file of this name was made anew with the size of a large store, and is settled. An honest
-  -- one has zeros. It says whether there was none of its name before, and one that is asked for as
-  -- new was not there.
-  pub record Makes (name : List ℕ) (only_new is_new : Bool) (made : D) (f0 f1 : F) : Type 0 where
+  -- The file of this name was made anew with the size of a store of this layout, and is settled. An
+  -- honest one has zeros. It says whether there was none of its name before, and one that is asked
+  -- for as new was not there.
+  pub record Makes (name : List ℕ) (layout : Layout) (only_new is_new : Bool) (made : D)
+      (f0 f1 : F) : Type 0 where
     pub held : seen.holds f1 name made
-    pub sized : (state made).size ≡ store_len Large
+    pub sized : (state made).size ≡ store_len layout
     pub zeros : (state made).honest → (x : List ℕ) → (state made).images x → AreZeros x
     pub settled : IsSettled (state made)
     pub only : only_new ≡ true → is_new ≡ true
@@ -59,7 +63,7 @@ module _ {F D : Type 0} (state : D → DiskState) (seen : FilesView F D) where
     pub given : D
     pub left : D
     pub done : Result ⊤ RunFault
-    pub makes : Makes store only_new is_new given f0 made
+    pub makes : Makes store Large only_new is_new given f0 made
     pub formats : FormatEnds state given done left w0 w1
     pub answers : AnswersOver (Names store) done answer
     pub files : IsLeft seen is_new done store made f1
@@ -126,13 +130,17 @@ module _ {F D : Type 0} (state : D → DiskState) (seen : FilesView F D) where
       (f1 ≡ f0) × ((HasNoFile store answer × (w1 ≡ w0))
       ⊎ (Inspects view store answer f0 w0 w1 ⊎ Looks view store answer f0 w0 w1))
 
-  -- ---- migrate
+  -- ---- a store of another one
 
-  -- The file of the old name was opened for reading alone, then that of the new one made anew, and
-  -- the store in the one migrated to the other.
-  pub record MigratesFiles (old new : List ℕ) (answer : Result Done Failure)
-      (f0 f1 : F) (w0 w1 : Option (List ℕ)) : Type 0 where
+  -- The file of the old name was opened for reading alone, then that of the new one made anew, of
+  -- the layout that goes with the old store, and a store made of it so (Ends).
+  pub record MakesOf (of : D → Option Layout)
+      (Ends : (source given : D) → Result ⊤ RunFault → (read left : D)
+      → (w0 w1 : Option (List ℕ)) → Type 0)
+      (old new : List ℕ) (answer : Result Done Failure) (f0 f1 : F) (w0 w1 : Option (List ℕ))
+      : Type 0 where
     pub source : D
+    pub layout : Layout
     pub made : F
     pub is_new : Bool
     pub given : D
@@ -141,16 +149,40 @@ module _ {F D : Type 0} (state : D → DiskState) (seen : FilesView F D) where
     pub done : Result ⊤ RunFault
     pub shown : seen.shows f0 old source
     pub settled : IsSettled (state source)
-    pub makes : Makes new false is_new given f0 made
-    pub migrates : MigrateEnds state state source given done read left w0 w1
+    pub fits : of source ≡ Some layout
+    pub makes : Makes new layout false is_new given f0 made
+    pub ends : Ends source given done read left w0 w1
     pub answers : AnswersOver (NamesOne old new) done answer
     pub files : IsLeft seen is_new done new made f1
 
+  -- ---- migrate
+
+  -- The small store in the file of the old name was migrated to a large one.
   abbrev pub DoesMigrate : (old new : List ℕ) → Result Done Failure → (f0 f1 : F)
       → (w0 w1 : Option (List ℕ)) → Type 0
   DoesMigrate old new answer f0 f1 w0 w1 =
       (HasNoFile old answer × (f1 ≡ f0) × (w1 ≡ w0))
-      ⊎ ((HasNoFile new answer × (w1 ≡ w0)) ⊎ MigratesFiles old new answer f0 f1 w0 w1)
+      ⊎ ((HasNoFile new answer × (w1 ≡ w0))
+      ⊎ MakesOf (λ source. Some Large) (MigrateEnds state state) old new answer f0 f1 w0 w1)
+
+  -- ---- renew
+
+  -- The file of this name was opened for reading alone, and has not the size of a store.
+  pub record HasNoSize (store : List ℕ) (answer : Result Done Failure) (f0 : F) : Type 0 where
+    pub source : D
+    pub shown : seen.shows f0 store source
+    pub none : layout_of (state source).size ≡ None
+    pub answers : FailsBy (Names store) (stopped WrongSize) answer
+
+  -- The store in the file of the old name was renewed: the new one is of its layout.
+  abbrev pub DoesRenew : (old new : List ℕ) → Result Done Failure → (f0 f1 : F)
+      → (w0 w1 : Option (List ℕ)) → Type 0
+  DoesRenew old new answer f0 f1 w0 w1 =
+      (HasNoFile old answer × (f1 ≡ f0) × (w1 ≡ w0))
+      ⊎ ((HasNoSize old answer f0 × (f1 ≡ f0) × (w1 ≡ w0))
+      ⊎ ((HasNoFile new answer × (w1 ≡ w0))
+      ⊎ MakesOf (λ source. layout_of (state source).size) (RenewEnds state state)
+      old new answer f0 f1 w0 w1))
 
   -- ---- crew
 

@@ -3,24 +3,27 @@
 ghost use Rattle.std.specs.Prelude.{◌≡◌, map, vec_len, IfErr, IfOk};
 ghost use Rattle.std.specs.String.{string_bytes};
 ghost use Rattle.night_program.specs.Programs.{Does, DoesFormat, DoesInspect, DoesMigrate};
-ghost use Rattle.night_program.specs.Programs.{DoesScript, IsLeft, IsRefused, Makes, RunsWords};
+ghost use Rattle.night_program.specs.Programs.{DoesRenew, DoesScript, IsLeft, IsRefused, Makes};
+ghost use Rattle.night_program.specs.Programs.{RunsWords};
 
 use crate::crews::crew_file;
 use crate::demos::{demo, demo_strict};
 use crate::endings::{Done, Ended, end, refuse};
 use crate::failures::{
-    Failure, done_alone, done_over, done_over_two, no_file, strict_alone, strict_over,
+    Failure, done_alone, done_over, done_over_two, failed_over, no_file, strict_alone, strict_over,
 };
 use crate::files::{Files, Made, Opened};
 use crate::looks::look;
 use crate::migrations::migrate;
 use crate::reasons::Reason;
+use crate::renewals::renew;
 use crate::stores::{format, inspect, script, script_strict};
 use console_lines::RunFault;
 use night_words::{Asked, View, WordsFault, read_words};
-use run_console::write_whole;
+use run_console::{stopped, write_whole};
 use run_crew::Job;
-use run_model::Layout;
+use run_disk::RunDisk;
+use run_model::{Fault, Layout};
 use std::alloc::Global;
 use std::io::{Read, Write};
 use std::sync::Wait;
@@ -117,7 +120,7 @@ fn format_file<'a, F: Files, O: Write>(
     ensures { DoesFormat F.Disk.state F.seen store.now only_new result files.old files.new
         (O.contents output.old) (O.contents output.new) }
 {
-    match make(store, only_new, files) {
+    match make(store, Layout::Large, only_new, files) {
         Ok(Made { disk, why, is_new }) => {
             let (done, _disk) = format(disk, output);
             leave(files, store, is_new, &done);
@@ -127,16 +130,18 @@ fn format_file<'a, F: Files, O: Write>(
     }
 }
 
-/// The file of this name, with the size of a large store: created or emptied, or created alone.
+/// The file of this name, with the size of a store of this layout: created or emptied, or created
+/// alone.
 fn make<F: Files>(
     name: &str,
+    layout: Layout,
     only_new: bool,
     files: &mut F,
 ) -> Result<Made<F::Disk, F::Why>, Reason>
-    ensures { IfOk result (λ made. Makes F.Disk.state F.seen name.now only_new made.is_new
-        made.disk files.old files.new) }
+    ensures { IfOk result (λ made. Makes F.Disk.state F.seen name.now layout only_new
+        made.is_new made.disk files.old files.new) }
 {
-    let size = Layout::Large.store_len();
+    let size = layout.store_len();
     if only_new {
         files.create_new(name, size)
     } else {
@@ -234,11 +239,40 @@ fn migrate_file<'a, F: Files, O: Write>(
         Ok(opened) => opened,
         Err(reason) => return Err(no_file(old, reason)),
     };
-    match make(new, false, files) {
+    match make(new, Layout::Large, false, files) {
         Ok(Made { disk, why, is_new }) => {
             let (done, _disk) = migrate(alloc, &mut source.disk, disk, output);
             leave(files, new, is_new, &done);
             done_over_two(done, old, &source.why, new, &why)
+        }
+        Err(reason) => Err(no_file(new, reason)),
+    }
+}
+
+/// Opens the store in the file of the old name for reading alone, creates that of the new name or
+/// empties it, and makes of it a store of the same size with what isn't finished in the old one.
+fn renew_file<'a, F: Files, O: Write>(
+    alloc: Global,
+    old: &'a str,
+    new: &'a str,
+    files: &mut F,
+    output: &mut O,
+) -> Result<Done, Failure<'a>>
+    ensures { DoesRenew F.Disk.state F.seen old.now new.now result files.old files.new
+        (O.contents output.old) (O.contents output.new) }
+{
+    let mut stored = match files.open_to_read(old) {
+        Ok(opened) => opened,
+        Err(reason) => return Err(no_file(old, reason)),
+    };
+    let Some(layout) = Layout::of(stored.disk.size()) else {
+        return Err(failed_over(stopped(Fault::WrongSize), old, &stored.why));
+    };
+    match make(new, layout, false, files) {
+        Ok(Made { disk, why, is_new }) => {
+            let (done, _disk) = renew(alloc, &mut stored.disk, disk, output);
+            leave(files, new, is_new, &done);
+            done_over_two(done, old, &stored.why, new, &why)
         }
         Err(reason) => Err(no_file(new, reason)),
     }
