@@ -17,7 +17,7 @@ use Rattle.run_console.specs.Troubles.{stopped}
 use Rattle.night_words.specs.Commands.{AsksFor, IsAnswer, IsCausedBy, faults_of}
 use Rattle.night_words.specs.declared.asked.Asked.{Asked}
 use Rattle.night_words.specs.declared.asked.Asked.TheVariants.{Demo, Format, Script, Inspect, Help}
-use Rattle.night_words.specs.declared.asked.Asked.TheVariants.{Crew, Migrate}
+use Rattle.night_words.specs.declared.asked.Asked.TheVariants.{Crew, Migrate, Renew}
 use Rattle.night_words.specs.declared.asked.View.{View}
 use Rattle.night_words.specs.declared.asked.WordsFault.{WordsFault}
 use Rattle.night_program.specs.declared.endings.Done.{Done}
@@ -256,6 +256,8 @@ module _ {F D : Type 0} (state : D → DiskState) (seen : FilesView F D) where
       DoesCrew store.now workers lists known answer f0 f1 w0 w1 × (r1 ≡ r0)
   Does (Migrate old new) lists answer f0 f1 r0 r1 w0 w1 =
       DoesMigrate old.now new.now answer f0 f1 w0 w1 × (r1 ≡ r0)
+  Does (Renew old new) lists answer f0 f1 r0 r1 w0 w1 =
+      DoesRenew old.now new.now answer f0 f1 w0 w1 × (r1 ≡ r0)
   Does (Help text) lists answer f0 f1 r0 r1 w0 w1 =
       DoesPrint (string_bytes text) answer w0 w1 × (f1 ≡ f0) × (r1 ≡ r0)
 

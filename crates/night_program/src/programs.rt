@@ -39,7 +39,8 @@ use std::thread::Threads;
 /// `crew STORE` works off its ready tasks by threads, one for each of the first of these lists of
 /// jobs, and with `--known` only where it knows the jobs of all tasks that aren't ended; `migrate
 /// OLD NEW` opens OLD for reading alone, and only then makes of NEW a large store with the state of
-/// OLD's small one. Help and the version go to the output. Why words ask for nothing, and a fault
+/// OLD's small one; `renew OLD NEW` likewise makes of NEW a store of OLD's size with what isn't
+/// finished in OLD. Help and the version go to the output. Why words ask for nothing, and a fault
 /// that ended the rest, go to `errors`: any call of a file that fails is told as `fault 2
 /// DiskFailed`, and behind it which file it was, and why. A file that was made for a store which
 /// then isn't made is taken away again. A crew with fewer lists than it has workers is want of
@@ -105,6 +106,7 @@ fn answer<'a, F: Files, I: Read, O: Write, R: Threads + Wait + Sync>(
             known,
         } => crew_file(rt, alloc, store, *workers, *known, jobs, files, output),
         Asked::Migrate(old, new) => migrate_file(alloc, old, new, files, output),
+        Asked::Renew(old, new) => renew_file(alloc, old, new, files, output),
         Asked::Help(text) => done_alone(write_whole(output, text.as_bytes())),
     }
 }
