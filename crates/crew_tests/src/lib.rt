@@ -19,6 +19,8 @@ mod nights;
 #[cfg(test)]
 mod seated;
 #[cfg(test)]
+mod slow_syncs;
+#[cfg(test)]
 mod stores;
 #[cfg(test)]
 mod turns;

@@ -21,7 +21,7 @@ use std::thread::Threads;
 use std::time::{Clock, Duration};
 
 /// What tells how many events are durable.
-trait Acknowledges {
+pub trait Acknowledges {
     fn durable(&self) -> u64;
 }
 
@@ -114,7 +114,7 @@ struct Flushed<'a, T: Acknowledges, R: Wait + Clock> {
 
 /// Looks until this event is durable, 10,000 times at most, a millisecond apart, and then sets the
 /// flag.
-fn is_durable_in_time<T: Acknowledges, R: Wait + Clock>(
+pub fn is_durable_in_time<T: Acknowledges, R: Wait + Clock>(
     rt: &R,
     shared: &Mutex<T>,
     event: u64,
