@@ -5,7 +5,8 @@ use Rattle.std.specs.List.{flat_map}
 use Rattle.std.proofs.Common.{refl, sym, ap, ◌∙◌, arith}
 use Rattle.std.proofs.lemmas.Bool.{eqb-true}
 use Rattle.std.proofs.lemmas.List.{length-drop}
-use Rattle.console_lines.specs.Trees.{behind, children, drawn_below, later_siblings, parent_of, places_of}
+use Rattle.console_lines.specs.Trees.{behind, children, drawn_below, later_siblings, parent_of}
+use Rattle.console_lines.specs.Trees.{places_of}
 
 -- These numbers are all from one up to below another.
 abbrev pub AreWithin : ℕ → ℕ → List ℕ → Type 0
@@ -95,7 +96,8 @@ abbrev pub after : ℕ → List ℕ → ℕ → List ℕ
 after zero parents n = []
 after (suc most) parents zero = []
 after (suc most) parents (suc n) =
-    forest parents (later_siblings parents (suc n)) ++ after most parents (parent_of parents (suc n))
+    forest parents (later_siblings parents (suc n))
+    ++ after most parents (parent_of parents (suc n))
 
 -- Each node but root has a parent of a lesser number.
 abbrev pub AreRising : List ℕ → Type 0

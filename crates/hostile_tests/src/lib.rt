@@ -1,6 +1,6 @@
 //! Tests of hostile use: stores that were cut or changed, random bytes, openings that are stopped
-//! again and again, numbers and sessions at their ends, devices that damage what they fail to write,
-//! and want of memory.
+//! again and again, numbers and sessions at their ends, devices that damage what they fail to
+//! write, and want of memory.
 #![tactic(auto)]
 
 #[cfg(test)]

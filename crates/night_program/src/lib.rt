@@ -1,9 +1,9 @@
 //! All that the program `night` does, over whatever words, files, input and outputs it is given.
 //!
 //! [`night`] reads the words and does what they ask for. Each word over a store is a function of
-//! its own over a disk: [`format`], [`script`] and [`inspect`], and over two [`migrate`] and [`renew`]; [`demo`]
-//! runs over a disk in memory. A crew's night is `run_console`'s; its jobs are [`SpinJob`],
-//! [`FailJob`] and [`CopyJob`], which the caller boxes.
+//! its own over a disk: [`format`], [`script`] and [`inspect`], and over two [`migrate`] and
+//! [`renew`]; [`demo`] runs over a disk in memory. A crew's night is `run_console`'s; its jobs are
+//! [`SpinJob`], [`FailJob`] and [`CopyJob`], which the caller boxes.
 #![tactic(auto)]
 
 mod crews;
