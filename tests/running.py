@@ -31,6 +31,15 @@ SECOND = ["retry 1", "bare h root", "try h spin 3", "flush", "derive d root dead
           "derive e d detached", "checkpoint", "advance 200", "start", "flush",
           "finish 2 error no room", "wait g", "checkpoint", "start"]
 
+# The night of README that a reader types.
+README = [
+    "derive night root value region eu", "derive backup night cause",
+    "derive copy backup deadline 3600 copy took too long", "derive report backup detached",
+    "derive mail report cancel", "advance 3600", "cancel backup disk full", "group disks report",
+    "go disks copy a", "start", "finish 0 error no room", "wait disks"]
+# Among the lines of a night: the store is opened anew.
+RESTART = "restart"
+
 
 def environment(wrong="", **hurts):
     """The library's variables, by their names without HURT_."""
@@ -205,6 +214,26 @@ def steps(store, lines):
         made.append(Step(line, f"{reply}\n", calls, before, store.acked))
     made[-1].typed = None
     return made
+
+
+def step(store, line):
+    """Runs a line over a store by hand, or opens it anew."""
+    if line == RESTART:
+        store.checkpoint()
+        store.opened()
+    else:
+        store.line(line)
+
+
+def made(lines, is_large):
+    """A store by hand over which these lines were run."""
+    store = Store(is_large)
+    store.made()
+    store.opened()
+    for line in lines:
+        step(store, line)
+    store.checkpoint()
+    return store
 
 
 def replies(made):

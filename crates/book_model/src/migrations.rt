@@ -66,7 +66,7 @@ pub fn a_migration_leaves_the_old_store_as_it_was<D: RunDisk, E: RunDisk>()
 {}
 
 /// That a device failed is told only where a call of that disk failed or it is spent.
-pub fn a_failed_disk_of_a_migration_is_the_one_that_is_told<D: RunDisk, E: RunDisk>()
+pub fn a_migration_tells_which_disk_failed<D: RunDisk, E: RunDisk>()
     ensures old { (old read : D) (given : E) (result : Result E (WhyNot × E))
         → Migrates D.state E.state old given result read
         → MatchResult result (λ new. Unit {0}) (λ e. e.0 ≡ why.Old DiskFailed

@@ -81,7 +81,7 @@ pub fn a_long_line_may_be_cut()
 {}
 
 /// What is behind the first line that strays changes nothing of a strict run.
-pub fn a_strict_run_doesnt_see_what_is_behind_its_stray_line()
+pub fn a_strict_run_doesnt_see_behind_its_stray_line()
     ensures stray { (s : Session) (front behind : List ℕ) (stray : StrayLine)
         → stray_in s front ≡ Some stray → stray_in s (front ++ 10 ∷ behind) ≡ Some stray }
     ensures script { (s : Session) (front behind : List ℕ) (stray : StrayLine)

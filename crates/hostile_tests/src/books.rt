@@ -3,36 +3,15 @@
 use crate::asserts::done;
 use run_book::{Book, MigrateFault, State, migrate};
 use run_console::{RunFault, line, run};
-use run_disk::{MemoryDisk, RunDisk, Torn};
+use run_disk::{MemoryDisk, RunDisk};
 use run_model::Fault;
 use std::alloc::{Allocator, Global};
 use std::io::{Read, Write};
 use std::process::Abort;
 
-/// How many bytes a small store has.
-pub const SMALL: usize = 1_572_864;
-
-/// And a large one.
-pub const LARGE: usize = 6_291_456;
-
-/// How a crash may tear what was not synced.
-pub const TEARS: [Torn; 6] = [
-    Torn::Keep,
-    Torn::Take,
-    Torn::Fill(0),
-    Torn::Fill(0xA7),
-    Torn::Front(0),
-    Torn::Front(1),
-];
-
 /// A disk of so many zeros.
 pub fn zeros(rt: &impl Abort, alloc: Global, size: usize) -> MemoryDisk {
     done(rt, MemoryDisk::new(alloc, size), "memory")
-}
-
-/// A disk at rest with these bytes.
-pub fn disk_of(rt: &impl Abort, alloc: Global, bytes: Vec<u8>) -> MemoryDisk {
-    done(rt, MemoryDisk::from_bytes(alloc, bytes), "memory")
 }
 
 /// Why a disk isn't formatted, if it isn't, and the disk.
@@ -93,15 +72,4 @@ pub fn said<A: Allocator + Copy, W: Write, D: RunDisk, B: Allocator>(
     book: &mut Book<D, B>,
 ) -> Result<(), RunFault> {
     line(alloc, typed, output, book)
-}
-
-/// What a crash behind so many calls leaves, torn in this way.
-pub fn left(rt: &impl Abort, alloc: Global, disk: &MemoryDisk, calls: u64, torn: Torn) -> Vec<u8> {
-    assert!(rt; calls <= disk.calls());
-    done(rt, disk.image(alloc, calls, torn), "memory")
-}
-
-/// What a crash leaves now, torn in this way.
-pub fn left_now(rt: &impl Abort, alloc: Global, disk: &MemoryDisk, torn: Torn) -> Vec<u8> {
-    left(rt, alloc, disk, disk.calls(), torn)
 }

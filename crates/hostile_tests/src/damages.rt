@@ -7,9 +7,8 @@
 //! else.
 
 use crate::asserts::holds;
-use crate::books::{
-    SMALL, TEARS, disk_of, format, formatted, left, left_now, open, ran, recover, said, zeros,
-};
+use crate::books::{format, formatted, open, ran, recover, said, zeros};
+use crate::disks::{SMALL_LEN, TEARS, disk_of, left, left_behind};
 use crate::hurting::{DAMAGE, Hurt, HurtingDisk};
 use run_console::RunFault;
 use run_disk::{MemoryDisk, RunDisk, Torn};
@@ -110,7 +109,7 @@ type Left = (u64, usize, MemoryDisk);
 /// Runs the night over a new store, one of whose calls damages and fails, and asserts how it ends
 /// and what is printed.
 fn hurt_night(rt: &impl Abort, alloc: Global, row: &Row, call: u64, hurt: Hurt) -> Left {
-    let disk = HurtingDisk::new(formatted(rt, alloc, SMALL), call, hurt);
+    let disk = HurtingDisk::new(formatted(rt, alloc, SMALL_LEN), call, hurt);
     let mut printed = Vec::new(alloc);
     let (end, disk) = night(alloc, disk, &mut printed);
     let wanted = if call < 11 { NOT_OPENED } else { BROKEN };
@@ -140,9 +139,9 @@ fn stored(rt: &impl Abort, alloc: Global, bytes: Vec<u8>) -> Result<Stored, Faul
 
 /// Asserts that what a crash leaves, torn in each way, is a store of what was acknowledged, or of
 /// all that was asked for, and can be opened.
-fn assert_stored(rt: &impl Abort, alloc: Global, left: &Left, row: &Row, call: u64, hurt: Hurt) {
+fn assert_stored(rt: &impl Abort, alloc: Global, ended: &Left, row: &Row, call: u64, hurt: Hurt) {
     for torn in TEARS {
-        let found = stored(rt, alloc, left_now(rt, alloc, &left.2, torn));
+        let found = stored(rt, alloc, left(rt, alloc, &ended.2, torn));
         assert!(rt;
             found == Ok(stored_behind(row.3)) || found == Ok(stored_behind(row.4)),
             "where call {call} fails, {hurt:?}, {torn:?}"
@@ -168,18 +167,18 @@ fn is_damaged(bytes: &[u8], at: usize, count: usize) -> bool {
 
 /// Asserts that reads give what they gave before the call that failed, but for its range, which is
 /// damaged there if it is a write's, as far as the write reached.
-fn assert_unharmed(rt: &impl Abort, alloc: Global, left: &Left, before: &[u8], call: u64) {
-    let now = left_now(rt, alloc, &left.2, Torn::Take);
-    let at = left.0.min(now.len() as u64) as usize;
+fn assert_unharmed(rt: &impl Abort, alloc: Global, ended: &Left, before: &[u8], call: u64) {
+    let now = left(rt, alloc, &ended.2, Torn::Take);
+    let at = ended.0.min(now.len() as u64) as usize;
     holds(
         rt,
-        are_same_outside(&now, before, at, left.1),
+        are_same_outside(&now, before, at, ended.1),
         "bytes outside, call",
         call as usize,
     );
     holds(
         rt,
-        left.1 < 2 || is_damaged(&now, at, left.1),
+        ended.1 < 2 || is_damaged(&now, at, ended.1),
         "damage, call",
         call as usize,
     );
@@ -187,7 +186,7 @@ fn assert_unharmed(rt: &impl Abort, alloc: Global, left: &Left, before: &[u8], c
 
 /// The disk of a night that no call failed.
 fn whole_night(rt: &impl Abort, alloc: Global) -> MemoryDisk {
-    let (end, disk) = night(alloc, formatted(rt, alloc, SMALL), &mut Vec::new(alloc));
+    let (end, disk) = night(alloc, formatted(rt, alloc, SMALL_LEN), &mut Vec::new(alloc));
     assert!(rt; end == (None, Ok(()), Ok(())) && disk.calls() == 43);
     disk
 }
@@ -209,7 +208,7 @@ fn a_call_that_damages_its_range_loses_nothing_acknowledged(rt: HostRuntime) {
     for row in ROWS.iter() {
         for call in row.0..row.1 {
             let behind = call.saturating_add(7);
-            let before = left(&rt, rt.alloc(), &whole, behind, Torn::Take);
+            let before = left_behind(&rt, rt.alloc(), &whole, behind, Torn::Take);
             assert_hurt(&rt, rt.alloc(), row, call, &before);
         }
     }
@@ -234,13 +233,13 @@ fn may_be_left(found: Result<u64, Fault>) -> bool {
 /// Asserts what a format of zeros leaves one of whose calls damages and fails: what it may leave,
 /// and a disk that can be formatted.
 fn assert_format(rt: &impl Abort, alloc: Global, call: u64, hurt: Hurt) {
-    let disk = HurtingDisk::new(zeros(rt, alloc, SMALL), call, hurt);
+    let disk = HurtingDisk::new(zeros(rt, alloc, SMALL_LEN), call, hurt);
     let (fault, disk) = format(disk);
     assert!(rt; fault == Some(Fault::DiskFailed), "where call {call} fails");
     let (at, count, disk) = disk.into_parts();
     assert!(rt; disk.calls() == call, "where call {call} fails");
     for torn in TEARS {
-        let found = counted(rt, alloc, left_now(rt, alloc, &disk, torn));
+        let found = counted(rt, alloc, left(rt, alloc, &disk, torn));
         assert!(rt;
             may_be_left(found),
             "where call {call} fails, {hurt:?}, {torn:?}"
@@ -249,7 +248,7 @@ fn assert_format(rt: &impl Abort, alloc: Global, call: u64, hurt: Hurt) {
     let _range = (at, count);
     let (fault, disk) = format(disk);
     assert!(rt; fault.is_none());
-    let found = counted(rt, alloc, left_now(rt, alloc, &disk, Torn::Keep));
+    let found = counted(rt, alloc, left(rt, alloc, &disk, Torn::Keep));
     assert!(rt; found == Ok(0), "formatted behind call {call}");
 }
 

@@ -6,9 +6,8 @@
 //! checkpoints have no answer for want of memory, their types say.
 
 use crate::asserts::{done, holds};
-use crate::books::{
-    LARGE, SMALL, disk_of, format, formatted, left_now, migrated, open, ran, recover, said, zeros,
-};
+use crate::books::{format, formatted, migrated, open, ran, recover, said, zeros};
+use crate::disks::{LARGE_LEN, SMALL_LEN, disk_of, left};
 use linked_list_allocator::LocalHeap;
 use run_book::{Book, MigrateFault};
 use run_console::RunFault;
@@ -66,11 +65,11 @@ fn recovered_at_last(rt: &impl Abort, alloc: Global, disk: &mut MemoryDisk, step
 /// Asserts that each growth of a recovery can be refused, and that none writes.
 fn assert_recovers(rt: &impl Abort, alloc: Global, size: usize, step: usize, least: usize) {
     let mut disk = formatted(rt, alloc, size);
-    let before = left_now(rt, alloc, &disk, Torn::Keep);
+    let before = left(rt, alloc, &disk, Torn::Keep);
     let bytes = recovered_at_last(rt, alloc, &mut disk, step);
     holds(rt, bytes > least, "bytes above", least);
     for torn in [Torn::Keep, Torn::Take] {
-        let now = left_now(rt, alloc, &disk, torn);
+        let now = left(rt, alloc, &disk, torn);
         holds(rt, now == before, "bytes of a disk of", size);
     }
 }
@@ -78,8 +77,8 @@ fn assert_recovers(rt: &impl Abort, alloc: Global, size: usize, step: usize, lea
 #[test]
 fn each_growth_of_a_recovery_can_be_refused(rt: HostRuntime) {
     // Both slots' buffers and the segment's are behind the state.
-    assert_recovers(&rt, rt.alloc(), SMALL, 512, 1_310_720);
-    assert_recovers(&rt, rt.alloc(), LARGE, 8_192, 5_242_880);
+    assert_recovers(&rt, rt.alloc(), SMALL_LEN, 512, 1_310_720);
+    assert_recovers(&rt, rt.alloc(), LARGE_LEN, 8_192, 5_242_880);
 }
 
 /// Migrates an old disk to a new one with so many bytes of memory. Gives why it did not, and the
@@ -99,8 +98,8 @@ fn migrate_with(
 
 #[test]
 fn each_growth_of_a_migration_can_be_refused(rt: HostRuntime) {
-    let mut old = formatted(&rt, rt.alloc(), SMALL);
-    let mut new = zeros(&rt, rt.alloc(), LARGE);
+    let mut old = formatted(&rt, rt.alloc(), SMALL_LEN);
+    let mut new = zeros(&rt, rt.alloc(), LARGE_LEN);
     let mut bytes = 0;
     for _ in 0..100_000 {
         let (fault, back) = migrate_with(&rt, rt.alloc(), &mut old, new, bytes);
@@ -118,13 +117,13 @@ fn each_growth_of_a_migration_can_be_refused(rt: HostRuntime) {
 /// A disk's own heap without memory fails the first write of a format, and nothing is written.
 fn assert_format_fails(rt: &impl Abort, alloc: Global) {
     let heap = heap(rt, alloc, 4_000_000);
-    let Ok(disk) = MemoryDisk::new(&heap, SMALL) else {
+    let Ok(disk) = MemoryDisk::new(&heap, SMALL_LEN) else {
         panic!(rt; "no disk");
     };
     let _rest = rest_of(rt, &heap);
     let (fault, disk) = format(disk);
     assert!(rt; fault == Some(Fault::DiskFailed) && disk.calls() == 1);
-    assert!(rt; disk.size() == SMALL as u64);
+    assert!(rt; disk.size() == SMALL_LEN as u64);
 }
 
 #[test]
@@ -283,7 +282,7 @@ fn assert_nights(rt: &impl Abort, alloc: Global, size: usize) {
     let mut printed = Vec::new(alloc);
     let disk = night_without_memory(rt, alloc, disk, &mut printed);
     holds(rt, printed.as_slice() == SECOND.1, "night over", size);
-    let mut left = disk_of(rt, alloc, left_now(rt, alloc, &disk, Torn::Keep));
+    let mut left = disk_of(rt, alloc, left(rt, alloc, &disk, Torn::Keep));
     let count = match recover(alloc, &mut left) {
         Ok(state) => state.count(),
         Err(_) => panic!(rt; "no store"),
@@ -293,15 +292,15 @@ fn assert_nights(rt: &impl Abort, alloc: Global, size: usize) {
 
 #[test]
 fn a_whole_night_takes_no_memory(rt: HostRuntime) {
-    assert_nights(&rt, rt.alloc(), SMALL);
-    assert_nights(&rt, rt.alloc(), LARGE);
+    assert_nights(&rt, rt.alloc(), SMALL_LEN);
+    assert_nights(&rt, rt.alloc(), LARGE_LEN);
 }
 
 /// How many bytes a tally's line is given, from none up to enough: nothing is printed for less.
 fn assert_tally(rt: &impl Abort, alloc: Global, spared: usize) -> bool {
     let heap = heap(rt, alloc, spared);
     let mut output = Vec::new(alloc);
-    let result = match open(alloc, night(rt, alloc, SMALL)) {
+    let result = match open(alloc, night(rt, alloc, SMALL_LEN)) {
         Ok(mut book) => said(&heap, b"tally", &mut output, &mut book),
         Err(_) => panic!(rt; "no book"),
     };

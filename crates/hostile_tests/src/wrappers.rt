@@ -5,7 +5,7 @@
 //! as a sync, no clause says: a disk may leave less than its contract allows.
 
 use crate::asserts::{done, holds};
-use crate::books::left;
+use crate::disks::left_behind;
 use run_disk::{DiskFailed, FailOnce, Fuse, MemoryDisk, RunDisk, Torn};
 use std::alloc::Global;
 use std::process::Abort;
@@ -60,7 +60,7 @@ static LEFT: [(Torn, u8); 4] = [
 fn assert_unsynced(rt: &impl Abort, alloc: Global, disk: &MemoryDisk) {
     holds(rt, disk.calls() == 2, "calls", 2);
     for (row, (torn, first)) in LEFT.iter().enumerate() {
-        let bytes = left(rt, alloc, disk, 2, *torn);
+        let bytes = left_behind(rt, alloc, disk, 2, *torn);
         holds(
             rt,
             bytes.as_slice() == [*first, 0, 0, 0].as_slice(),

@@ -29,6 +29,8 @@ mod rules;
 #[cfg(test)]
 mod values;
 #[cfg(test)]
+mod word_mistakes;
+#[cfg(test)]
 mod words;
 #[cfg(test)]
 mod worked;

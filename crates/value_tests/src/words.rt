@@ -1,13 +1,14 @@
 //! Tests of the words of the command line: what each asks for, and which are mistakes.
 
 use crate::asserts::{done, holds};
+use crate::word_mistakes::{MISTAKES, STRAY_FLAGS};
 use night_words::{Asked, View, WordsFault, own_words, read_words};
 use std::alloc::{AllocError, Global};
 use std::env::{Env, FillError};
 use std::process::Abort;
 
 /// What words are answered.
-enum Told {
+pub enum Told {
     /// They ask for the demo, strict or not.
     Demo(bool),
     /// They ask for this word over this store, with its flag or without one.
@@ -35,7 +36,7 @@ enum Told {
 }
 
 /// The words that follow the program's own name, and what they are answered.
-type Case = (&'static [&'static str], Told);
+pub type Case = (&'static [&'static str], Told);
 
 static DEMO: [Case; 4] = [
     (&["demo"], Told::Demo(false)),
@@ -283,156 +284,6 @@ static LINES: [&str; 22] = [
 static VERSION: [Case; 2] = [
     (&["--version"], Told::Text("night 0.2.0\n")),
     (&["-V"], Told::Text("night 0.2.0\n")),
-];
-
-static MISTAKES: [Case; 21] = [
-    (&[], Told::Mistake("Usage: night <COMMAND>")),
-    (&[""], Told::Mistake("unrecognized subcommand ''")),
-    (
-        &["dem"],
-        Told::Mistake("a similar subcommand exists: 'demo'"),
-    ),
-    (
-        &["format"],
-        Told::Mistake("required arguments were not provided"),
-    ),
-    (
-        &["script", "--"],
-        Told::Mistake("required arguments were not provided"),
-    ),
-    (
-        &["script", "a.disk", "b.disk"],
-        Told::Mistake("unexpected argument 'b.disk' found"),
-    ),
-    (
-        &["work", "a.disk"],
-        Told::Mistake("unrecognized subcommand 'work'"),
-    ),
-    (
-        &["crew"],
-        Told::Mistake("required arguments were not provided"),
-    ),
-    (
-        &["crew", "--workers", "2"],
-        Told::Mistake("required arguments were not provided"),
-    ),
-    (
-        &["crew", "a.disk", "--workers"],
-        Told::Mistake("a value is required for '--workers <N>'"),
-    ),
-    (
-        &["crew", "a", "--workers=1", "--workers=2"],
-        Told::Mistake("cannot be used multiple times"),
-    ),
-    (
-        &["inspect", "-a"],
-        Told::Mistake("unexpected argument '-a' found"),
-    ),
-    (
-        &["migrate", "a.disk"],
-        Told::Mistake("required arguments were not provided"),
-    ),
-    (
-        &["migrate", "--", "a.disk"],
-        Told::Mistake("required arguments were not provided"),
-    ),
-    (
-        &["migrate", "a.disk", "b.disk", "c.disk"],
-        Told::Mistake("unexpected argument 'c.disk' found"),
-    ),
-    (
-        &["renew", "a.disk"],
-        Told::Mistake("required arguments were not provided"),
-    ),
-    (
-        &["renew", "a.disk", "b.disk", "c.disk"],
-        Told::Mistake("unexpected argument 'c.disk' found"),
-    ),
-    (
-        &["--demo"],
-        Told::Mistake("unexpected argument '--demo' found"),
-    ),
-    (
-        &["demo", "a.disk"],
-        Told::Mistake("unexpected argument 'a.disk' found"),
-    ),
-    (&["demo", ""], Told::Mistake("unexpected argument '' found")),
-    (
-        &["demo", "--version"],
-        Told::Mistake("unexpected argument '--version' found"),
-    ),
-];
-
-/// Flags that stand twice, have a value, or stand where their command doesn't take them.
-static STRAY_FLAGS: [Case; 17] = [
-    (
-        &["demo", "--strict", "--strict"],
-        Told::Mistake("'--strict' cannot be used multiple times"),
-    ),
-    (
-        &["format", "--new", "a", "--new"],
-        Told::Mistake("'--new' cannot be used multiple times"),
-    ),
-    (
-        &["script", "--strict", "--strict", "a"],
-        Told::Mistake("'--strict' cannot be used multiple times"),
-    ),
-    (
-        &["crew", "--known", "a", "--known"],
-        Told::Mistake("'--known' cannot be used multiple times"),
-    ),
-    (
-        &["demo", "--strict=true"],
-        Told::Mistake("unexpected value 'true' for '--strict'"),
-    ),
-    (
-        &["format", "--new"],
-        Told::Mistake("required arguments were not provided"),
-    ),
-    (
-        &["demo", "--new"],
-        Told::Mistake("unexpected argument '--new' found"),
-    ),
-    (
-        &["demo", "--known"],
-        Told::Mistake("unexpected argument '--known' found"),
-    ),
-    (
-        &["format", "--strict", "a"],
-        Told::Mistake("unexpected argument '--strict' found"),
-    ),
-    (
-        &["script", "a", "--new"],
-        Told::Mistake("unexpected argument '--new' found"),
-    ),
-    (
-        &["inspect", "--new", "a"],
-        Told::Mistake("unexpected argument '--new' found"),
-    ),
-    (
-        &["inspect", "a", "--strict"],
-        Told::Mistake("unexpected argument '--strict' found"),
-    ),
-    (
-        &["inspect", "--known", "a"],
-        Told::Mistake("unexpected argument '--known' found"),
-    ),
-    (
-        &["crew", "a", "--strict"],
-        Told::Mistake("unexpected argument '--strict' found"),
-    ),
-    (
-        &["migrate", "--new", "a", "b"],
-        Told::Mistake("unexpected argument '--new' found"),
-    ),
-    (
-        &["renew", "--new", "a", "b"],
-        Told::Mistake("unexpected argument '--new' found"),
-    ),
-    (
-        &["--strict", "demo"],
-        Told::Mistake("unexpected argument '--strict' found"),
-    ),
 ];
 
 fn push_text(alloc: Global, texts: &mut Vec<String>, word: &str) -> Result<(), AllocError> {

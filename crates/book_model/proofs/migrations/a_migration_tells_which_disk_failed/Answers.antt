@@ -1,5 +1,5 @@
 use Rattle.book_model.proofs.MigrationLemmas.{migrates_new_cause, migrates_old_cause}
-use Rattle.book_model.proofs.migrations.a_failed_disk_of_a_migration_is_the_one_that_is_told.Goals as goal
+use Rattle.book_model.proofs.migrations.a_migration_tells_which_disk_failed.Goals as goal
 
 pub returns-clause-old : goal.returns-clause-old
 returns-clause-old g c old read given result is =

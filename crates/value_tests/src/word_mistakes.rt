@@ -1,0 +1,154 @@
+//! Words of the command line that are mistakes, and what is told of each.
+
+use crate::words::{Case, Told};
+
+/// Words that ask for nothing.
+pub static MISTAKES: [Case; 21] = [
+    (&[], Told::Mistake("Usage: night <COMMAND>")),
+    (&[""], Told::Mistake("unrecognized subcommand ''")),
+    (
+        &["dem"],
+        Told::Mistake("a similar subcommand exists: 'demo'"),
+    ),
+    (
+        &["format"],
+        Told::Mistake("required arguments were not provided"),
+    ),
+    (
+        &["script", "--"],
+        Told::Mistake("required arguments were not provided"),
+    ),
+    (
+        &["script", "a.disk", "b.disk"],
+        Told::Mistake("unexpected argument 'b.disk' found"),
+    ),
+    (
+        &["work", "a.disk"],
+        Told::Mistake("unrecognized subcommand 'work'"),
+    ),
+    (
+        &["crew"],
+        Told::Mistake("required arguments were not provided"),
+    ),
+    (
+        &["crew", "--workers", "2"],
+        Told::Mistake("required arguments were not provided"),
+    ),
+    (
+        &["crew", "a.disk", "--workers"],
+        Told::Mistake("a value is required for '--workers <N>'"),
+    ),
+    (
+        &["crew", "a", "--workers=1", "--workers=2"],
+        Told::Mistake("cannot be used multiple times"),
+    ),
+    (
+        &["inspect", "-a"],
+        Told::Mistake("unexpected argument '-a' found"),
+    ),
+    (
+        &["migrate", "a.disk"],
+        Told::Mistake("required arguments were not provided"),
+    ),
+    (
+        &["migrate", "--", "a.disk"],
+        Told::Mistake("required arguments were not provided"),
+    ),
+    (
+        &["migrate", "a.disk", "b.disk", "c.disk"],
+        Told::Mistake("unexpected argument 'c.disk' found"),
+    ),
+    (
+        &["renew", "a.disk"],
+        Told::Mistake("required arguments were not provided"),
+    ),
+    (
+        &["renew", "a.disk", "b.disk", "c.disk"],
+        Told::Mistake("unexpected argument 'c.disk' found"),
+    ),
+    (
+        &["--demo"],
+        Told::Mistake("unexpected argument '--demo' found"),
+    ),
+    (
+        &["demo", "a.disk"],
+        Told::Mistake("unexpected argument 'a.disk' found"),
+    ),
+    (&["demo", ""], Told::Mistake("unexpected argument '' found")),
+    (
+        &["demo", "--version"],
+        Told::Mistake("unexpected argument '--version' found"),
+    ),
+];
+
+/// Flags that stand twice, have a value, or stand where their command doesn't take them.
+pub static STRAY_FLAGS: [Case; 17] = [
+    (
+        &["demo", "--strict", "--strict"],
+        Told::Mistake("'--strict' cannot be used multiple times"),
+    ),
+    (
+        &["format", "--new", "a", "--new"],
+        Told::Mistake("'--new' cannot be used multiple times"),
+    ),
+    (
+        &["script", "--strict", "--strict", "a"],
+        Told::Mistake("'--strict' cannot be used multiple times"),
+    ),
+    (
+        &["crew", "--known", "a", "--known"],
+        Told::Mistake("'--known' cannot be used multiple times"),
+    ),
+    (
+        &["demo", "--strict=true"],
+        Told::Mistake("unexpected value 'true' for '--strict'"),
+    ),
+    (
+        &["format", "--new"],
+        Told::Mistake("required arguments were not provided"),
+    ),
+    (
+        &["demo", "--new"],
+        Told::Mistake("unexpected argument '--new' found"),
+    ),
+    (
+        &["demo", "--known"],
+        Told::Mistake("unexpected argument '--known' found"),
+    ),
+    (
+        &["format", "--strict", "a"],
+        Told::Mistake("unexpected argument '--strict' found"),
+    ),
+    (
+        &["script", "a", "--new"],
+        Told::Mistake("unexpected argument '--new' found"),
+    ),
+    (
+        &["inspect", "--new", "a"],
+        Told::Mistake("unexpected argument '--new' found"),
+    ),
+    (
+        &["inspect", "a", "--strict"],
+        Told::Mistake("unexpected argument '--strict' found"),
+    ),
+    (
+        &["inspect", "--known", "a"],
+        Told::Mistake("unexpected argument '--known' found"),
+    ),
+    (
+        &["crew", "a", "--strict"],
+        Told::Mistake("unexpected argument '--strict' found"),
+    ),
+    (
+        &["migrate", "--new", "a", "b"],
+        Told::Mistake("unexpected argument '--new' found"),
+    ),
+    (
+        &["renew", "--new", "a", "b"],
+        Told::Mistake("unexpected argument '--new' found"),
+    ),
+    (
+        &["--strict", "demo"],
+        Told::Mistake("unexpected argument '--strict' found"),
+    ),
+];
