@@ -1,0 +1,257 @@
+-- What is asked of a scope that goes on is answered alike.
+use Rattle.std.proofs.Common.{◌≡◌, ◌⊎◌, ◌<◌, ◌==◌, ℕ, zero, suc, Bool, true, false, cond, List}
+use Rattle.std.proofs.Common.{[], ◌∷◌, map, Option, Some, None, slice_get, inl, inr, refl}
+use Rattle.std.proofs.Common.{sym, ap, subst, ◌∙◌, arith, Less, Equal, Greater}
+use Rattle.std.specs.List.{filter_map, cons_option, AllByRecursion}
+use Rattle.std.specs.Option.{option_map}
+use Rattle.std.specs.Ordering.{nat_cmp, ordering_then, is_lt}
+use Rattle.std.specs.Prelude.{nat_lt}
+use Rattle.std.proofs.lemmas.Bool.{cases_order, lt-ltb, le-ltb}
+use Rattle.run_model.specs.declared.scopes.Hit.{Hit}
+use Rattle.run_model.specs.declared.scopes.Scope.{Scope}
+use Rattle.run_model.specs.Scopes.{Numbered, is_root, is_detached, line, before_detached, chain}
+use Rattle.run_model.specs.Scopes.{hit_at, comes_before, first_of, least_hit, first_hit, ending}
+use Rattle.run_model.specs.Scopes.{own_deadline, least_moment, deadline_of, text_under, value_of}
+use Rattle.run_model.specs.Scopes.{AreOrdered}
+use Rattle.scope_laws.proofs.Lines.{line_up}
+use Rattle.state_renewal.specs.Renewed.{new_number}
+use Rattle.state_renewal.proofs.Numbers.{number_less}
+use Rattle.state_renewal.proofs.Keeps.{parent_there}
+use Rattle.state_renewal.proofs.Works.{same_number}
+use Rattle.renewal_laws.specs.GoingOn.{Part, rows_anew, scope_anew}
+use Rattle.renewal_laws.proofs.Goes.{ScopesGo}
+use Rattle.renewal_laws.proofs.Rows.{anew_get}
+
+-- The scopes that go on, told anew.
+abbrev pub scopes_anew : Part → List Scope → List Scope
+scopes_anew part rows = rows_anew part.scopes (scope_anew part) rows
+
+-- ---- the line
+
+-- A row of a line, told anew.
+abbrev told_at : Part → Numbered → Numbered
+told_at part r = (new_number part.scopes r.0, scope_anew part r.1)
+
+-- All scopes of these rows go on.
+abbrev AllGo : Part → List Numbered → Type 0
+AllGo part rows = AllByRecursion (λ r. part.scopes r.0 ≡ true) rows
+
+-- The line of a scope that goes on is the old one, told anew, and all on it goes on.
+pub record IsLineTold (part : Part) (old : List Scope) (s : ℕ) : Type 0 where
+  pub is : line (scopes_anew part old) (new_number part.scopes s)
+      ≡ map (told_at part) (line old s)
+  pub all : AllGo part (line old s)
+
+told_above : (part : Part) (old : List Scope) (row : Scope) (b : Bool)
+    → (b ≡ false → IsLineTold part old row.parent)
+    → (cond b [] (line (scopes_anew part old) (new_number part.scopes row.parent))
+    ≡ map (told_at part) (cond b [] (line old row.parent)))
+    × AllGo part (cond b [] (line old row.parent))
+told_above part old row true up = (refl, tt)
+told_above part old row false up = ((up refl).is, (up refl).all)
+
+line_told_below : (part : Part) (old : List Scope) → AreOrdered old
+    → AreOrdered (scopes_anew part old) → ScopesGo part old → (t s : ℕ) (row : Scope) → s < t
+    → slice_get old s ≡ Some row → part.scopes s ≡ true → IsLineTold part old s
+line_told_below part old ordered anew go zero s row less found is = absurd (omega (arith, less))
+line_told_below part old ordered anew go (suc t) s row less found is =
+    let was = line_up old s row ordered found in
+    let now =
+    line_up (scopes_anew part old) (new_number part.scopes s) (scope_anew part row) anew
+    (anew_get part.scopes (scope_anew part) old s is ∙ ap (option_map (scope_anew part)) found) in
+    let above =
+    told_above part old row (is_root row.kind)
+    (λ below.
+    let lower = ordered s row found below in
+    let up = parent_there old ordered s row found below in
+    line_told_below part old ordered anew go t row.parent up.0 (omega (arith, less, lower)) up.1
+    (go.each s row found below is)) in
+    record {
+      is =
+          now
+          ∙ ap (λ rest. (new_number part.scopes s, scope_anew part row) ∷ rest) above.0
+          ∙ sym (ap (map (told_at part)) was);
+      all = subst (AllGo part) (sym was) (is, above.1);
+    }
+
+pub line_told : (part : Part) (old : List Scope) → AreOrdered old
+    → AreOrdered (scopes_anew part old) → ScopesGo part old → (s : ℕ) (row : Scope)
+    → slice_get old s ≡ Some row → part.scopes s ≡ true → IsLineTold part old s
+line_told part old ordered anew go s row found is =
+    line_told_below part old ordered anew go (suc s) s row (omega arith) found is
+
+-- ---- the chain
+
+cut_told : (part : Part) (rows : List Numbered)
+    → before_detached (map (told_at part) rows) ≡ map (told_at part) (before_detached rows)
+cut_told part [] = refl
+cut_told part (r ∷ rows) = by_kind (is_detached r.1.kind) (cut_told part rows)
+  where
+    by_kind : (b : Bool)
+        → before_detached (map (told_at part) rows) ≡ map (told_at part) (before_detached rows)
+        → cond b [] (told_at part r ∷ before_detached (map (told_at part) rows))
+        ≡ map (told_at part) (cond b [] (r ∷ before_detached rows))
+    by_kind true rest = refl
+    by_kind false rest = ap (λ rs. told_at part r ∷ rs) rest
+
+cut_all : (P : Numbered → Type 0) (rows : List Numbered) → AllByRecursion P rows
+    → AllByRecursion P (before_detached rows)
+cut_all P [] all = tt
+cut_all P (r ∷ rows) all = by_kind (is_detached r.1.kind) (cut_all P rows all.1)
+  where
+    by_kind : (b : Bool) → AllByRecursion P (before_detached rows)
+        → AllByRecursion P (cond b [] (r ∷ before_detached rows))
+    by_kind true rest = tt
+    by_kind false rest = (all.0, rest)
+
+chain_told : (part : Part) (old : List Scope) (s : ℕ) → IsLineTold part old s
+    → chain (scopes_anew part old) (new_number part.scopes s)
+    ≡ map (told_at part) (chain old s)
+chain_told part old s told = ap before_detached told.is ∙ cut_told part (line old s)
+
+-- ---- the first hit
+
+-- A hit with its scope's new number.
+abbrev hit_told : Part → ℕ × Hit → ℕ × Hit
+hit_told part a = (new_number part.scopes a.0, a.1)
+
+less_same : (keeps : ℕ → Bool) (a b : ℕ) → keeps a ≡ true → keeps b ≡ true
+    → nat_lt (new_number keeps a) (new_number keeps b) ≡ nat_lt a b
+less_same keeps a b is_a is_b = by_order (cases_order a b)
+  where
+    by_order : (a ≡ b) ⊎ ((a < b) ⊎ (b < a))
+        → nat_lt (new_number keeps a) (new_number keeps b) ≡ nat_lt a b
+    by_order (inl e) =
+        let same : new_number keeps a ≡ new_number keeps b = ap (new_number keeps) e in
+        le-ltb (new_number keeps a) (new_number keeps b) (omega (arith, same))
+        ∙ sym (le-ltb a b (omega (arith, e)))
+    by_order (inr (inl less)) =
+        lt-ltb (new_number keeps a) (new_number keeps b) (number_less keeps a b is_a less)
+        ∙ sym (lt-ltb a b less)
+    by_order (inr (inr more)) =
+        let apart = number_less keeps b a is_b more in
+        le-ltb (new_number keeps a) (new_number keeps b) (omega (arith, apart))
+        ∙ sym (le-ltb a b (omega (arith, more)))
+
+before_same : (part : Part) (a b : ℕ × Hit) → part.scopes a.0 ≡ true → part.scopes b.0 ≡ true
+    → comes_before (hit_told part a) (hit_told part b) ≡ comes_before a b
+before_same part a b is_a is_b =
+    ap (λ c. is_lt (ordering_then (nat_cmp a.1.event b.1.event)
+    (ordering_then (nat_cmp a.1.moment b.1.moment) (cond c Less
+    (cond (new_number part.scopes a.0 == new_number part.scopes b.0) Equal Greater)))))
+    (less_same part.scopes a.0 b.0 is_a is_b)
+    ∙ ap (λ c. is_lt (ordering_then (nat_cmp a.1.event b.1.event)
+    (ordering_then (nat_cmp a.1.moment b.1.moment)
+    (cond (nat_lt a.0 b.0) Less (cond c Equal Greater)))))
+    (same_number part.scopes a.0 b.0 is_a is_b)
+
+-- There is no hit, or its scope is kept.
+abbrev IsOfPart : Part → Option (ℕ × Hit) → Type 0
+IsOfPart part None = Unit
+IsOfPart part (Some a) = part.scopes a.0 ≡ true
+
+-- The least of these hits, told anew, is the least of them told anew.
+record IsLeastTold (part : Part) (hits : List (ℕ × Hit)) : Type 0 where
+  told : least_hit (map (hit_told part) hits) ≡ option_map (hit_told part) (least_hit hits)
+  of_part : IsOfPart part (least_hit hits)
+
+first_told : (part : Part) (o : Option (ℕ × Hit)) (a : ℕ × Hit) → IsOfPart part o
+    → part.scopes a.0 ≡ true
+    → (first_of (option_map (hit_told part) o) (hit_told part a) ≡ hit_told part (first_of o a))
+    × (part.scopes (first_of o a).0 ≡ true)
+first_told part None a of is = (refl, is)
+first_told part (Some b) a of is = by_order (comes_before a b) (before_same part a b is of)
+  where
+    by_order : (c : Bool) → comes_before (hit_told part a) (hit_told part b) ≡ c
+        → (cond (comes_before (hit_told part a) (hit_told part b)) (hit_told part a)
+        (hit_told part b)
+        ≡ hit_told part (cond c a b))
+        × (part.scopes (cond c a b).0 ≡ true)
+    by_order true e = (ap (λ d. cond d (hit_told part a) (hit_told part b)) e, is)
+    by_order false e = (ap (λ d. cond d (hit_told part a) (hit_told part b)) e, of)
+
+least_told : (part : Part) (hits : List (ℕ × Hit))
+    → AllByRecursion (λ a. part.scopes a.0 ≡ true) hits → IsLeastTold part hits
+least_told part [] all = record { told = refl; of_part = tt }
+least_told part (a ∷ hits) all =
+    let rest = least_told part hits all.1 in
+    let first = first_told part (least_hit hits) a rest.of_part all.0 in
+    record {
+      told = ap (λ o. Some (first_of o (hit_told part a))) rest.told ∙ ap Some first.0;
+      of_part = first.1;
+    }
+
+hits_told : (part : Part) (rows : List Numbered)
+    → filter_map hit_at (map (told_at part) rows) ≡ map (hit_told part) (filter_map hit_at rows)
+hits_told part [] = refl
+hits_told part (r ∷ rows) = by_hit r.1.hit (hits_told part rows)
+  where
+    by_hit : (o : Option Hit)
+        → filter_map hit_at (map (told_at part) rows)
+        ≡ map (hit_told part) (filter_map hit_at rows)
+        → cons_option (option_map (λ hit. (new_number part.scopes r.0, hit)) o)
+        (filter_map hit_at (map (told_at part) rows))
+        ≡ map (hit_told part)
+        (cons_option (option_map (λ hit. (r.0, hit)) o) (filter_map hit_at rows))
+    by_hit None rest = rest
+    by_hit (Some hit) rest = ap (λ hits. (new_number part.scopes r.0, hit) ∷ hits) rest
+
+hits_go : (part : Part) (rows : List Numbered) → AllGo part rows
+    → AllByRecursion (λ a. part.scopes a.0 ≡ true) (filter_map hit_at rows)
+hits_go part [] all = tt
+hits_go part (r ∷ rows) all = by_hit r.1.hit (hits_go part rows all.1)
+  where
+    by_hit : (o : Option Hit)
+        → AllByRecursion (λ a. part.scopes a.0 ≡ true) (filter_map hit_at rows)
+        → AllByRecursion (λ a. part.scopes a.0 ≡ true)
+        (cons_option (option_map (λ hit. (r.0, hit)) o) (filter_map hit_at rows))
+    by_hit None rest = rest
+    by_hit (Some hit) rest = (all.0, rest)
+
+untold : (part : Part) (o : Option (ℕ × Hit))
+    → option_map (λ a. a.1) (option_map (hit_told part) o) ≡ option_map (λ a. a.1) o
+untold part None = refl
+untold part (Some a) = refl
+
+pub ending_told : (part : Part) (old : List Scope) (s : ℕ) → IsLineTold part old s
+    → ending (scopes_anew part old) (new_number part.scopes s) ≡ ending old s
+ending_told part old s told =
+    let rows = chain old s in
+    let all = cut_all (λ r. part.scopes r.0 ≡ true) (line old s) told.all in
+    ap (λ rs. option_map (λ a. a.1) (least_hit (filter_map hit_at rs)))
+    (chain_told part old s told)
+    ∙ ap (λ hits. option_map (λ a. a.1) (least_hit hits)) (hits_told part rows)
+    ∙ ap (option_map (λ a. a.1))
+    (least_told part (filter_map hit_at rows) (hits_go part rows all)).told
+    ∙ untold part (first_hit old s)
+
+-- ---- deadlines and values
+
+deadlines_told : (part : Part) (rows : List Numbered)
+    → filter_map (λ r. own_deadline r.1.kind) (map (told_at part) rows)
+    ≡ filter_map (λ r. own_deadline r.1.kind) rows
+deadlines_told part [] = refl
+deadlines_told part (r ∷ rows) =
+    ap (cons_option (own_deadline r.1.kind)) (deadlines_told part rows)
+
+pub deadline_told : (part : Part) (old : List Scope) (s : ℕ) → IsLineTold part old s
+    → deadline_of (scopes_anew part old) (new_number part.scopes s)
+    ≡ deadline_of old s
+deadline_told part old s told =
+    ap (λ rs. least_moment (filter_map (λ r. own_deadline r.1.kind) rs))
+    (chain_told part old s told)
+    ∙ ap least_moment (deadlines_told part (chain old s))
+
+texts_told : (part : Part) (key : List ℕ) (rows : List Numbered)
+    → filter_map (λ r. text_under key r.1.kind) (map (told_at part) rows)
+    ≡ filter_map (λ r. text_under key r.1.kind) rows
+texts_told part key [] = refl
+texts_told part key (r ∷ rows) =
+    ap (cons_option (text_under key r.1.kind)) (texts_told part key rows)
+
+pub value_told : (part : Part) (old : List Scope) (s : ℕ) (key : List ℕ) → IsLineTold part old s
+    → value_of (scopes_anew part old) (new_number part.scopes s) key
+    ≡ value_of old s key
+value_told part old s key told =
+    ap (λ rs. slice_get (filter_map (λ r. text_under key r.1.kind) rs) 0) told.is
+    ∙ ap (λ texts. slice_get texts 0) (texts_told part key (line old s))

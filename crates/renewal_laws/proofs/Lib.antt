@@ -1,0 +1,13 @@
+pub mod Rows
+pub mod Goes
+pub mod Begins
+pub mod GoesStill
+pub mod Squares
+pub mod Numbers
+pub mod Works
+pub mod Steps
+pub mod Chains
+pub mod Alike
+pub mod Allowed
+pub mod Runs
+pub mod Over

@@ -1,0 +1,171 @@
+-- Rows of which some go on, told anew: what is done to the rows is done to those that go on.
+use Rattle.std.proofs.Common.{◌≡◌, ◌<◌, ℕ, zero, suc, Bool, true, false, List}
+use Rattle.std.proofs.Common.{[], ◌∷◌, ◌++◌, length, map, Some, slice_get}
+use Rattle.std.proofs.Common.{refl, sym, ap, ◌∙◌, arith}
+use Rattle.std.specs.Option.{option_map}
+use Rattle.std.proofs.lemmas.List.{length-map}
+use Rattle.std.proofs.lemmas.Option.{slice_get-map}
+use Rattle.run_model.specs.Rows.{at_row}
+use Rattle.state_renewal.specs.Renewed.{in_front_if, kept, new_number, one_more_if}
+use Rattle.state_renewal.proofs.Numbers.{length-kept, number_behind}
+use Rattle.renewal_laws.specs.GoingOn.{rows_anew}
+
+-- ---- a row at the end
+
+front_push : {X : Type 0} (b : Bool) (r : X) (rows : List X) (row : X)
+    → in_front_if b r (rows ++ row ∷ []) ≡ in_front_if b r rows ++ row ∷ []
+front_push true r rows row = refl
+front_push false r rows row = refl
+
+kept_push : {X : Type 0} (goes : ℕ → Bool) (rows : List X) (row : X)
+    → goes (length rows) ≡ true → kept goes (rows ++ row ∷ []) ≡ kept goes rows ++ row ∷ []
+kept_push goes [] row is = ap (λ b. in_front_if b row []) is
+kept_push goes (r ∷ rows) row is =
+    ap (in_front_if (goes zero) r) (kept_push (λ n. goes (suc n)) rows row is)
+    ∙ front_push (goes zero) r (kept (λ n. goes (suc n)) rows) row
+
+map_push : {X Y : Type 0} (f : X → Y) (rows : List X) (row : X)
+    → map f (rows ++ row ∷ []) ≡ map f rows ++ f row ∷ []
+map_push f [] row = refl
+map_push f (r ∷ rows) row = ap (λ rs. f r ∷ rs) (map_push f rows row)
+
+pub anew_push : {X : Type 0} (goes : ℕ → Bool) (tell : X → X) (rows : List X) (row : X)
+    → goes (length rows) ≡ true
+    → rows_anew goes tell rows ++ tell row ∷ [] ≡ rows_anew goes tell (rows ++ row ∷ [])
+anew_push goes tell rows row is =
+    sym (ap (map tell) (kept_push goes rows row is) ∙ map_push tell (kept goes rows) row)
+
+-- ---- a row that is changed
+
+front_at : {X : Type 0} (change : X → X) (b : Bool) (r : X) (n : ℕ) (rows : List X)
+    → in_front_if b r (at_row change n rows)
+    ≡ at_row change (one_more_if b n) (in_front_if b r rows)
+front_at change true r n rows = refl
+front_at change false r n rows = refl
+
+kept_at : {X : Type 0} (goes : ℕ → Bool) (change : X → X) (n : ℕ) (rows : List X)
+    → goes n ≡ true
+    → kept goes (at_row change n rows) ≡ at_row change (new_number goes n) (kept goes rows)
+kept_at goes change n [] is = refl
+kept_at goes change zero (r ∷ rows) is =
+    ap (λ b. in_front_if b (change r) (kept (λ n. goes (suc n)) rows)) is
+    ∙ ap (λ b. at_row change zero (in_front_if b r (kept (λ n. goes (suc n)) rows))) (sym is)
+kept_at goes change (suc n) (r ∷ rows) is =
+    ap (in_front_if (goes zero) r) (kept_at (λ n. goes (suc n)) change n rows is)
+    ∙ front_at change (goes zero) r (new_number (λ n. goes (suc n)) n)
+    (kept (λ n. goes (suc n)) rows)
+    ∙ ap (λ k. at_row change k (kept goes (r ∷ rows))) (sym (number_behind goes n))
+
+map_at : {X : Type 0} (tell change : X → X) (n : ℕ) (rows : List X)
+    → ((x : X) → tell (change x) ≡ change (tell x))
+    → map tell (at_row change n rows) ≡ at_row change n (map tell rows)
+map_at tell change n [] same = refl
+map_at tell change zero (r ∷ rows) same = ap (λ x. x ∷ map tell rows) (same r)
+map_at tell change (suc n) (r ∷ rows) same =
+    ap (λ rs. tell r ∷ rs) (map_at tell change n rows same)
+
+pub anew_at : {X : Type 0} (goes : ℕ → Bool) (tell change : X → X) (n : ℕ) (rows : List X)
+    → goes n ≡ true → ((x : X) → tell (change x) ≡ change (tell x))
+    → at_row change (new_number goes n) (rows_anew goes tell rows)
+    ≡ rows_anew goes tell (at_row change n rows)
+anew_at goes tell change n rows is same =
+    sym (ap (map tell) (kept_at goes change n rows is)
+    ∙ map_at tell change (new_number goes n) (kept goes rows) same)
+
+-- ---- rows that are all changed alike
+
+front_map : {X : Type 0} (f : X → X) (b : Bool) (r : X) (rows : List X)
+    → in_front_if b (f r) (map f rows) ≡ map f (in_front_if b r rows)
+front_map f true r rows = refl
+front_map f false r rows = refl
+
+kept_map : {X : Type 0} (goes : ℕ → Bool) (f : X → X) (rows : List X)
+    → kept goes (map f rows) ≡ map f (kept goes rows)
+kept_map goes f [] = refl
+kept_map goes f (r ∷ rows) =
+    ap (in_front_if (goes zero) (f r)) (kept_map (λ n. goes (suc n)) f rows)
+    ∙ front_map f (goes zero) r (kept (λ n. goes (suc n)) rows)
+
+map_swapped : {X : Type 0} (f g : X → X) (rows : List X) → ((x : X) → f (g x) ≡ g (f x))
+    → map f (map g rows) ≡ map g (map f rows)
+map_swapped f g [] same = refl
+map_swapped f g (r ∷ rows) same =
+    ap (λ x. x ∷ map f (map g rows)) (same r)
+    ∙ ap (λ rs. g (f r) ∷ rs) (map_swapped f g rows same)
+
+pub anew_map : {X : Type 0} (goes : ℕ → Bool) (tell change : X → X) (rows : List X)
+    → ((x : X) → tell (change x) ≡ change (tell x))
+    → map change (rows_anew goes tell rows) ≡ rows_anew goes tell (map change rows)
+anew_map goes tell change rows same =
+    sym (ap (map tell) (kept_map goes change rows)
+    ∙ map_swapped tell change (kept goes rows) same)
+
+-- ---- rows by number
+
+front_get : {X : Type 0} (b : Bool) (r : X) (rows : List X) (n : ℕ)
+    → slice_get (in_front_if b r rows) (one_more_if b n) ≡ slice_get rows n
+front_get true r rows n = refl
+front_get false r rows n = refl
+
+kept_get : {X : Type 0} (goes : ℕ → Bool) (rows : List X) (n : ℕ) → goes n ≡ true
+    → slice_get (kept goes rows) (new_number goes n) ≡ slice_get rows n
+kept_get goes [] n is = refl
+kept_get goes (r ∷ rows) zero is =
+    ap (λ b. slice_get (in_front_if b r (kept (λ n. goes (suc n)) rows)) zero) is
+kept_get goes (r ∷ rows) (suc n) is =
+    ap (slice_get (kept goes (r ∷ rows))) (number_behind goes n)
+    ∙ front_get (goes zero) r (kept (λ n. goes (suc n)) rows)
+    (new_number (λ n. goes (suc n)) n)
+    ∙ kept_get (λ n. goes (suc n)) rows n is
+
+-- The row of the new number is the old one told anew, and there is none where there was none.
+pub anew_get : {X : Type 0} (goes : ℕ → Bool) (tell : X → X) (rows : List X) (n : ℕ)
+    → goes n ≡ true
+    → slice_get (rows_anew goes tell rows) (new_number goes n)
+    ≡ option_map tell (slice_get rows n)
+anew_get goes tell rows n is =
+    slice_get-map tell (kept goes rows) (new_number goes n)
+    ∙ ap (option_map tell) (kept_get goes rows n is)
+
+pub length-anew : {X : Type 0} (goes : ℕ → Bool) (tell : X → X) (rows : List X)
+    → length (rows_anew goes tell rows) ≡ new_number goes (length rows)
+length-anew goes tell rows = length-map (kept goes rows) tell ∙ length-kept goes rows
+
+-- ---- rows that agree
+
+-- Two tests that agree on the rows keep the same rows.
+pub kept_same : {X : Type 0} (f g : ℕ → Bool) (rows : List X)
+    → ((n : ℕ) → n < length rows → f n ≡ g n) → kept f rows ≡ kept g rows
+kept_same f g [] same = refl
+kept_same f g (r ∷ rows) same =
+    ap (λ b. in_front_if b r (kept (λ n. f (suc n)) rows)) (same zero (omega arith))
+    ∙ ap (in_front_if (g zero) r)
+    (kept_same (λ n. f (suc n)) (λ n. g (suc n)) rows
+    (λ n less. same (suc n) (omega (arith, less))))
+
+-- Two tests that agree below a number give it the same new number.
+pub number_agrees : (f g : ℕ → Bool) (n : ℕ) → ((k : ℕ) → k < n → f k ≡ g k)
+    → new_number f n ≡ new_number g n
+number_agrees f g zero same = refl
+number_agrees f g (suc n) same =
+    ap (λ b. one_more_if b (new_number f n)) (same n (omega arith))
+    ∙ ap (one_more_if (g n))
+    (number_agrees f g n (λ k less. same k (omega (arith, less))))
+
+-- Rows that are told the same are the same.
+pub told_same : {X : Type 0} (goes : ℕ → Bool) (f g : X → X) (rows : List X)
+    → ((n : ℕ) (row : X) → slice_get rows n ≡ Some row → f row ≡ g row)
+    → map f (kept goes rows) ≡ map g (kept goes rows)
+told_same goes f g [] same = refl
+told_same goes f g (r ∷ rows) same =
+    by_first (goes zero)
+    (told_same (λ n. goes (suc n)) f g rows (λ n row found. same (suc n) row found))
+  where
+    by_first : (b : Bool)
+        → map f (kept (λ n. goes (suc n)) rows) ≡ map g (kept (λ n. goes (suc n)) rows)
+        → map f (in_front_if b r (kept (λ n. goes (suc n)) rows))
+        ≡ map g (in_front_if b r (kept (λ n. goes (suc n)) rows))
+    by_first true rest =
+        ap (λ x. x ∷ map f (kept (λ n. goes (suc n)) rows)) (same zero r refl)
+        ∙ ap (λ rs. g r ∷ rs) rest
+    by_first false rest = rest

@@ -1,0 +1,333 @@
+-- What is asked of groups and tasks that go on is answered alike.
+use Rattle.std.proofs.Common.{◌≡◌, ◌+◌, ◌≤◌, ◌==◌, ◌&&◌, ℕ, zero, suc, Bool, true, false, not}
+use Rattle.std.proofs.Common.{List, [], ◌∷◌, cond, length, map, take, Option, Some, None}
+use Rattle.std.proofs.Common.{slice_get}
+use Rattle.std.proofs.Common.{refl, sym, ap, ◌∙◌, arith}
+use Rattle.std.specs.List.{AllByRecursion, filter, find, range_with_len}
+use Rattle.std.specs.Option.{option_and_then, option_map, option_map_or}
+use Rattle.std.specs.Prelude.{count_by, if◌then◌else◌}
+use Rattle.std.proofs.lemmas.Bool.{and_from, and_left, and_parts, both_ways, eq-eqb, eqb-true}
+use Rattle.std.proofs.lemmas.Bool.{false_from_ne_true, false≢true, true_from_ne_false}
+use Rattle.std.proofs.lemmas.Option.{none-some, same_Some}
+use Rattle.run_model.specs.declared.groups.Group.{Group}
+use Rattle.run_model.specs.declared.tasks.Stage.{Stage}
+use Rattle.run_model.specs.declared.tasks.Stage.TheVariants as stage
+use Rattle.run_model.specs.declared.tasks.Task.{Task}
+use Rattle.run_model.specs.Allowed.{admits_one_more, is_idle, is_open}
+use Rattle.run_model.specs.Rules.{HasTask, IsConsistent}
+use Rattle.run_model.specs.State.{State, WorkState}
+use Rattle.run_model.specs.Tasks.{admits, first_ready, is_admitted, is_fresh, is_ready, is_retried}
+use Rattle.run_model.specs.Tasks.{is_retry_of, is_running, is_running_task, is_unfinished}
+use Rattle.run_model.specs.Tasks.{limit_of}
+use Rattle.run_model.specs.Tasks.{running_tasks, task_numbers, unfinished_in}
+use Rattle.state_renewal.specs.Renewed.{new_number}
+use Rattle.state_renewal.proofs.Keeps.{count_cons, there}
+use Rattle.state_renewal.proofs.Works.{same_number}
+use Rattle.renewal_laws.specs.GoingOn.{Part, group_anew, task_anew, work_anew}
+use Rattle.renewal_laws.proofs.Goes.{TasksGo, WorkGoes}
+use Rattle.renewal_laws.proofs.Numbers.{PassesAnew, RowsPass, any_anew, count_all_anew, count_anew}
+use Rattle.renewal_laws.proofs.Numbers.{find_anew, picks_anew}
+use Rattle.renewal_laws.proofs.Rows.{anew_get, length-anew}
+
+-- ---- groups
+
+pub open_anew : (part : Part) (w : WorkState) (g : ℕ) → part.groups g ≡ true
+    → is_open (work_anew part w) (new_number part.groups g) ≡ is_open w g
+open_anew part w g is =
+    ap (λ o. option_map_or (λ group. not group.waited) o false)
+    (anew_get part.groups (group_anew part) w.groups g is)
+    ∙ by_row (slice_get w.groups g)
+  where
+    by_row : (o : Option Group)
+        → option_map_or (λ group. not group.waited) (option_map (group_anew part) o) false
+        ≡ option_map_or (λ group. not group.waited) o false
+    by_row None = refl
+    by_row (Some row) = refl
+
+pub limit_same : (part : Part) (w : WorkState) (g : ℕ) → part.groups g ≡ true
+    → limit_of (work_anew part w) (new_number part.groups g) ≡ limit_of w g
+limit_same part w g is =
+    ap (option_and_then (λ group. group.limit))
+    (anew_get part.groups (group_anew part) w.groups g is)
+    ∙ by_row (slice_get w.groups g)
+  where
+    by_row : (o : Option Group)
+        → option_and_then (λ group. group.limit) (option_map (group_anew part) o)
+        ≡ option_and_then (λ group. group.limit) o
+    by_row None = refl
+    by_row (Some row) = refl
+
+-- ---- unfinished tasks
+
+-- Of a group that goes on, tasks pass as they did.
+of_group : (part : Part) (w : WorkState) (g : ℕ) → TasksGo part w.tasks → part.groups g ≡ true
+    → RowsPass part.tasks (task_anew part)
+    (λ task. task.group == g && is_unfinished task.stage)
+    (λ task. task.group == new_number part.groups g && is_unfinished task.stage) w.tasks
+of_group part w g go is = record {
+  on =
+      λ n x found goes.
+      ap (λ b. b && is_unfinished x.stage)
+      (same_number part.groups x.group g (sym (go.each n x found) ∙ goes) is);
+  gone =
+      λ n x found goes.
+      and_left (x.group == g) (is_unfinished x.stage)
+      (false_from_ne_true (x.group == g)
+      (λ same.
+      both_ways (part.groups x.group) (sym (go.each n x found) ∙ goes)
+      (ap part.groups (eqb-true x.group g same) ∙ is)));
+}
+
+pub unfinished_before : (part : Part) (w : WorkState) (g n : ℕ) → TasksGo part w.tasks
+    → part.groups g ≡ true
+    → unfinished_in (new_number part.groups g)
+    (take (new_number part.tasks n) (work_anew part w).tasks)
+    ≡ unfinished_in g (take n w.tasks)
+unfinished_before part w g n go is =
+    count_anew part.tasks (task_anew part)
+    (λ task. task.group == g && is_unfinished task.stage)
+    (λ task. task.group == new_number part.groups g && is_unfinished task.stage) w.tasks n
+    (of_group part w g go is)
+
+pub unfinished_same : (part : Part) (w : WorkState) (g : ℕ) → TasksGo part w.tasks
+    → part.groups g ≡ true
+    → unfinished_in (new_number part.groups g) (work_anew part w).tasks
+    ≡ unfinished_in g w.tasks
+unfinished_same part w g go is =
+    count_all_anew part.tasks (task_anew part)
+    (λ task. task.group == g && is_unfinished task.stage)
+    (λ task. task.group == new_number part.groups g && is_unfinished task.stage) w.tasks
+    (of_group part w g go is)
+
+pub idle_anew : (part : Part) (w : WorkState) (g : ℕ) → TasksGo part w.tasks
+    → part.groups g ≡ true
+    → is_idle (work_anew part w) (new_number part.groups g) ≡ is_idle w g
+idle_anew part w g go is = ap (λ k. k == 0) (unfinished_same part w g go is)
+
+pub seat_anew : (part : Part) (w : WorkState) (g : ℕ) → TasksGo part w.tasks
+    → part.groups g ≡ true
+    → admits_one_more (work_anew part w) (new_number part.groups g) ≡ admits_one_more w g
+seat_anew part w g go is =
+    ap (λ limit. admits limit
+    (unfinished_in (new_number part.groups g) (work_anew part w).tasks)) (limit_same part w g is)
+    ∙ ap (admits (limit_of w g)) (unfinished_same part w g go is)
+
+pub admitted_anew : (part : Part) (w : WorkState) (n : ℕ) (row : Task) → TasksGo part w.tasks
+    → HasTask w n row → part.tasks n ≡ true
+    → is_admitted (work_anew part w) (new_number part.tasks n) (task_anew part row)
+    ≡ is_admitted w n row
+admitted_anew part w n row go found is =
+    let goes : part.groups row.group ≡ true = sym (go.each n row found) ∙ is in
+    ap (λ limit. is_unfinished row.stage && admits limit
+    (unfinished_in (new_number part.groups row.group)
+    (take (new_number part.tasks n) (work_anew part w).tasks))) (limit_same part w row.group goes)
+    ∙ ap (λ k. is_unfinished row.stage && admits (limit_of w row.group) k)
+    (unfinished_before part w row.group n go goes)
+
+-- ---- what doesn't go on has ended
+
+count_first : (b : Bool) (n : ℕ) → b ≡ true → 1 ≤ (if b then 1 else 0) + n
+count_first true n is = omega arith
+count_first false n is = absurd (both_ways false refl is)
+
+count_found : {X : Type 0} (test : X → Bool) (rows : List X) (n : ℕ) (x : X)
+    → slice_get rows n ≡ Some x → test x ≡ true → 1 ≤ count_by test rows
+count_found test [] n x found is = absurd (none-some x found)
+count_found test (row ∷ rows) zero x found is =
+    rw (count_cons test row rows)
+    (count_first (test row) (count_by test rows) (ap test (same_Some row x found) ∙ is))
+count_found test (row ∷ rows) (suc n) x found is =
+    let rest = count_found test rows n x found is in
+    rw (count_cons test row rows) (omega (arith, rest))
+
+-- A task that doesn't go on has ended.
+pub gone_ended : (part : Part) (p : State) (n : ℕ) (row : Task) → IsConsistent p
+    → WorkGoes part p.work → HasTask p.work n row → part.tasks n ≡ false
+    → is_unfinished row.stage ≡ false
+gone_ended part p n row consistent go found goes =
+    false_from_ne_true (is_unfinished row.stage)
+    (λ is.
+    let group = there p.work.groups row.group (consistent.numbered.groups n row found) in
+    let waited =
+    (go.groups.each row.group group.0 group.1).gone (sym (go.tasks.each n row found) ∙ goes) in
+    let none = consistent.admitted.waited row.group group.0 group.1 waited in
+    let some =
+    count_found (λ task. task.group == row.group && is_unfinished task.stage) p.work.tasks n row
+    found
+    (and_from (row.group == row.group) (is_unfinished row.stage)
+    (eq-eqb row.group row.group refl) is) in
+    absurd (omega (arith, some, none)))
+
+-- ---- running tasks
+
+running_unfinished : (s : Stage) → is_running s ≡ true → is_unfinished s ≡ true
+running_unfinished stage.Fresh is = refl
+running_unfinished stage.Running is = refl
+running_unfinished stage.Success is = is
+running_unfinished (stage.Failure text) is = is
+running_unfinished stage.Interrupted is = is
+
+fresh_unfinished : (s : Stage) → is_fresh s ≡ true → is_unfinished s ≡ true
+fresh_unfinished stage.Fresh is = refl
+fresh_unfinished stage.Running is = refl
+fresh_unfinished stage.Success is = is
+fresh_unfinished (stage.Failure text) is = is
+fresh_unfinished stage.Interrupted is = is
+
+pub stage_same : (test : Stage → Bool) (part : Part) (w : WorkState) (n : ℕ)
+    → part.tasks n ≡ true
+    → option_map_or (λ task. test task.stage)
+    (slice_get (work_anew part w).tasks (new_number part.tasks n)) false
+    ≡ option_map_or (λ task. test task.stage) (slice_get w.tasks n) false
+stage_same test part w n is =
+    ap (λ o. option_map_or (λ task. test task.stage) o false)
+    (anew_get part.tasks (task_anew part) w.tasks n is)
+    ∙ by_row (slice_get w.tasks n)
+  where
+    by_row : (o : Option Task)
+        → option_map_or (λ task. test task.stage) (option_map (task_anew part) o) false
+        ≡ option_map_or (λ task. test task.stage) o false
+    by_row None = refl
+    by_row (Some row) = refl
+
+-- A task that runs goes on.
+running_goes : (part : Part) (p : State) (n : ℕ) → IsConsistent p → WorkGoes part p.work
+    → is_running_task p.work n ≡ true → part.tasks n ≡ true
+running_goes part p n consistent go is = by_row (slice_get p.work.tasks n) refl is
+  where
+    by_row : (o : Option Task) → slice_get p.work.tasks n ≡ o
+        → option_map_or (λ task. is_running task.stage) o false ≡ true → part.tasks n ≡ true
+    by_row None at none = absurd (false≢true none)
+    by_row (Some row) at runs =
+        true_from_ne_false (part.tasks n)
+        (λ goes.
+        both_ways (is_unfinished row.stage) (gone_ended part p n row consistent go at goes)
+        (running_unfinished row.stage runs))
+
+running_pass : (part : Part) (p : State) → IsConsistent p → WorkGoes part p.work
+    → PassesAnew part.tasks (is_running_task p.work) (is_running_task (work_anew part p.work))
+    (length p.work.tasks)
+running_pass part p consistent go = record {
+  on = λ n less goes. stage_same is_running part p.work n goes;
+  gone =
+      λ n less goes.
+      false_from_ne_true (is_running_task p.work n)
+      (λ is. both_ways (part.tasks n) goes (running_goes part p n consistent go is));
+}
+
+pub running_anew : (part : Part) (p : State) → IsConsistent p → WorkGoes part p.work
+    → running_tasks (work_anew part p.work)
+    ≡ map (new_number part.tasks) (running_tasks p.work)
+running_anew part p consistent go =
+    ap (λ many. filter (is_running_task (work_anew part p.work)) (range_with_len 0 many))
+    (length-anew part.tasks (task_anew part) p.work.tasks)
+    ∙ picks_anew part.tasks (is_running_task p.work) (is_running_task (work_anew part p.work))
+    (length p.work.tasks) (running_pass part p consistent go)
+
+all_filtered : (P : ℕ → Type 0) (test : ℕ → Bool) (ns : List ℕ)
+    → ((n : ℕ) → test n ≡ true → P n) → AllByRecursion P (filter test ns)
+all_filtered P test [] is = tt
+all_filtered P test (n ∷ ns) is = by_test (test n) refl (all_filtered P test ns is)
+  where
+    by_test : (b : Bool) → test n ≡ b → AllByRecursion P (filter test ns)
+        → AllByRecursion P (cond b (n ∷ filter test ns) (filter test ns))
+    by_test true passes rest = (is n passes, rest)
+    by_test false passes rest = rest
+
+pub all_running_go : (part : Part) (p : State) → IsConsistent p → WorkGoes part p.work
+    → AllByRecursion (λ n. part.tasks n ≡ true) (running_tasks p.work)
+all_running_go part p consistent go =
+    all_filtered (λ n. part.tasks n ≡ true) (is_running_task p.work) (task_numbers p.work)
+    (λ n is. running_goes part p n consistent go is)
+
+-- ---- the task that is started next
+
+ready_same : (part : Part) (p : State) (n : ℕ) → TasksGo part p.work.tasks
+    → part.tasks n ≡ true
+    → is_ready (work_anew part p.work) (new_number part.tasks n) ≡ is_ready p.work n
+ready_same part p n go is =
+    ap (λ o. option_map_or (λ task. is_fresh task.stage
+    && is_admitted (work_anew part p.work) (new_number part.tasks n) task) o false)
+    (anew_get part.tasks (task_anew part) p.work.tasks n is)
+    ∙ by_row (slice_get p.work.tasks n) refl
+  where
+    by_row : (o : Option Task) → slice_get p.work.tasks n ≡ o
+        → option_map_or (λ task. is_fresh task.stage
+        && is_admitted (work_anew part p.work) (new_number part.tasks n) task)
+        (option_map (task_anew part) o) false
+        ≡ option_map_or (λ task. is_fresh task.stage && is_admitted p.work n task) o false
+    by_row None at = refl
+    by_row (Some row) at =
+        ap (λ b. is_fresh row.stage && b) (admitted_anew part p.work n row go at is)
+
+pub ready_goes : (part : Part) (p : State) (n : ℕ) → IsConsistent p → WorkGoes part p.work
+    → is_ready p.work n ≡ true → part.tasks n ≡ true
+ready_goes part p n consistent go is = by_row (slice_get p.work.tasks n) refl is
+  where
+    by_row : (o : Option Task) → slice_get p.work.tasks n ≡ o
+        → option_map_or (λ task. is_fresh task.stage && is_admitted p.work n task) o false ≡ true
+        → part.tasks n ≡ true
+    by_row None at none = absurd (false≢true none)
+    by_row (Some row) at ready =
+        let parts = and_parts (is_fresh row.stage) (is_admitted p.work n row) ready in
+        true_from_ne_false (part.tasks n)
+        (λ goes.
+        both_ways (is_unfinished row.stage) (gone_ended part p n row consistent go at goes)
+        (fresh_unfinished row.stage parts.0))
+
+pub first_anew : (part : Part) (p : State) → IsConsistent p → WorkGoes part p.work
+    → first_ready (work_anew part p.work)
+    ≡ option_map (new_number part.tasks) (first_ready p.work)
+first_anew part p consistent go =
+    ap (λ many. find (is_ready (work_anew part p.work)) (range_with_len 0 many))
+    (length-anew part.tasks (task_anew part) p.work.tasks)
+    ∙ find_anew part.tasks (is_ready p.work) (is_ready (work_anew part p.work))
+    (length p.work.tasks)
+    (record {
+      on = λ n less goes. ready_same part p n go.tasks goes;
+      gone =
+          λ n less goes.
+          false_from_ne_true (is_ready p.work n)
+          (λ is. both_ways (part.tasks n) goes (ready_goes part p n consistent go is));
+    })
+
+-- ---- retries
+
+-- A task goes on exactly where the one that it is a retry of does.
+link_goes : (part : Part) (p : State) (k m : ℕ) (row : Task) → IsConsistent p
+    → TasksGo part p.work.tasks → HasTask p.work k row → row.retry_of ≡ Some m
+    → part.tasks m ≡ part.tasks k
+link_goes part p k m row consistent go found link =
+    let was = consistent.links.linked k m row found link in
+    go.each m was.0 was.1 ∙ ap part.groups (sym was.2.group) ∙ sym (go.each k row found)
+
+pub retried_anew : (part : Part) (p : State) (n : ℕ) → IsConsistent p
+    → TasksGo part p.work.tasks → part.tasks n ≡ true
+    → is_retried (work_anew part p.work) (new_number part.tasks n) ≡ is_retried p.work n
+retried_anew part p n consistent go is =
+    any_anew part.tasks (task_anew part) (is_retry_of n) (is_retry_of (new_number part.tasks n))
+    p.work.tasks
+    (record {
+      on = λ k x found goes. on k x found goes x.retry_of refl;
+      gone = λ k x found goes. gone k x found goes x.retry_of refl;
+    })
+  where
+    on : (k : ℕ) (x : Task) → HasTask p.work k x → part.tasks k ≡ true → (o : Option ℕ)
+        → x.retry_of ≡ o
+        → option_map_or (λ m. m == new_number part.tasks n)
+        (option_map (new_number part.tasks) o) false
+        ≡ option_map_or (λ m. m == n) o false
+    on k x found goes None at = refl
+    on k x found goes (Some m) at =
+        same_number part.tasks m n (link_goes part p k m x consistent go found at ∙ goes) is
+
+    gone : (k : ℕ) (x : Task) → HasTask p.work k x → part.tasks k ≡ false → (o : Option ℕ)
+        → x.retry_of ≡ o → option_map_or (λ m. m == n) o false ≡ false
+    gone k x found goes None at = refl
+    gone k x found goes (Some m) at =
+        false_from_ne_true (m == n)
+        (λ same.
+        both_ways (part.tasks n)
+        (ap part.tasks (sym (eqb-true m n same))
+        ∙ link_goes part p k m x consistent go found at
+        ∙ goes) is)

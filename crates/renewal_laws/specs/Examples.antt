@@ -1,0 +1,58 @@
+-- The examples: what is done to a store after it was renewed, and what is left of it then.
+use Rattle.std.specs.Prelude.{List, [], ◌∷◌, Some, None, codes}
+use Rattle.run_model.specs.declared.layouts.Layout.TheVariants.{Small}
+use Rattle.run_model.specs.declared.scopes.Kind.TheVariants as kind
+use Rattle.run_model.specs.declared.scopes.Reason.TheVariants.{DeadlineExceeded}
+use Rattle.run_model.specs.declared.tasks.Stage.TheVariants as stage
+use Rattle.run_model.specs.Event.{Event}
+use Rattle.run_model.specs.Event as event
+use Rattle.run_model.specs.Rows.{root}
+use Rattle.run_model.specs.State.{State}
+use Rattle.state_renewal.specs.Examples.{ended, task, unwaited}
+
+-- ---- a day behind a renewal, in which group 1 goes on, and task 4
+
+-- Task 4 runs, and is cut off by a restart; it is submitted anew, and another task behind it. A
+-- deadline is set, and passes.
+abbrev pub day : List Event
+day =
+    event.Start 4 ∷ event.Derive (codes "t") 2 (kind.Deadline 9 None) ∷ event.Restart
+    ∷ event.Retry 4 ∷ event.Advance 9 ∷ event.Go 1 (codes "copy") (codes "d") ∷ []
+
+-- Group 0 went with its scope 1 and its tasks 0 and 2.
+abbrev pub day_anew : List Event
+day_anew =
+    event.Start 2 ∷ event.Derive (codes "t") 1 (kind.Deadline 9 None) ∷ event.Restart
+    ∷ event.Retry 2 ∷ event.Advance 9 ∷ event.Go 0 (codes "copy") (codes "d") ∷ []
+
+-- The deadline is scope 2, and passed with event 14; the new tasks are 3 and 4.
+abbrev pub day_left : State
+day_left = record {
+  count = 15;
+  tree = record {
+    layout = Small;
+    clock = 9;
+    scopes =
+        root ∷ ended "g" 0 kind.Group "interrupted"
+        ∷ record {
+          name = codes "t";
+          parent = 1;
+          kind = kind.Deadline 9 None;
+          hit = Some (record {
+            event = 14;
+            moment = 9;
+            reason = DeadlineExceeded;
+            cause = codes "context deadline exceeded";
+          });
+        }
+        ∷ [];
+  };
+  work = record {
+    layout = Small;
+    groups = unwaited "g" 1 (Some "interrupted") ∷ [];
+    tasks =
+        task 0 "b" stage.Interrupted None ∷ task 0 "b" stage.Interrupted (Some 0)
+        ∷ task 0 "b" stage.Interrupted (Some 1) ∷ task 0 "b" stage.Fresh (Some 2)
+        ∷ task 0 "d" stage.Fresh None ∷ [];
+  };
+}

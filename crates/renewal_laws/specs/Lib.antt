@@ -1,0 +1,3 @@
+pub mod GoingOn
+pub mod Alike
+pub mod Examples

@@ -1,0 +1,28 @@
+//! Examples of what goes on behind a renewal, computed row by row.
+
+ghost use Rattle.std.specs.Option.{option_map};
+ghost use Rattle.std.specs.Prelude.{◌≡◌, None, Some, codes, false, map, true};
+ghost use Rattle.run_model.specs.declared.scopes.Kind.TheVariants.{Cancel};
+ghost use Rattle.run_model.specs.Allowed.{allowed, run};
+ghost use Rattle.run_model.specs.Event.{Derive};
+ghost use Rattle.state_renewal.specs.Examples.{detached_part, retried};
+ghost use Rattle.state_renewal.specs.Renewed.{renewed};
+ghost use Rattle.renewal_laws.specs.Examples.{day, day_anew, day_left};
+ghost use Rattle.renewal_laws.specs.GoingOn.{all_name_part, event_anew, going_on, names_part};
+ghost use Rattle.renewal_laws.specs.GoingOn.{state_anew};
+
+/// A day's events name what goes on, and are told by the new numbers. They lead the renewed store
+/// to what goes on of the old one; what is made on that day has the next numbers.
+pub fn a_day_behind_a_renewal()
+    ensures names { all_name_part (going_on retried) day ≡ true }
+    ensures events { map (event_anew (going_on retried)) day ≡ day_anew }
+    ensures renewed { run (renewed retried) day_anew ≡ Some day_left }
+    ensures old { option_map (state_anew (going_on retried)) (run retried day) ≡ Some day_left }
+{}
+
+/// A name that went is free again in the renewed store alone.
+pub fn a_name_that_went_is_free_in_the_renewed_store()
+    ensures names { names_part (going_on detached_part) (Derive (codes "y") 1 Cancel) ≡ true }
+    ensures old { allowed detached_part (Derive (codes "y") 1 Cancel) ≡ false }
+    ensures renewed { allowed (renewed detached_part) (Derive (codes "y") 1 Cancel) ≡ true }
+{}
