@@ -110,7 +110,7 @@ both_asked p event.Restart = refl
 
 -- ---- scopes
 
-less_anew : (goes : ℕ → Bool) (n many : ℕ) → goes n ≡ true
+pub less_anew : (goes : ℕ → Bool) (n many : ℕ) → goes n ≡ true
     → nat_lt (new_number goes n) (new_number goes many) ≡ nat_lt n many
 less_anew goes n many is = by_order (cases_lt n many)
   where
@@ -129,7 +129,7 @@ has_scope_anew part t s is =
     ap (nat_lt (new_number part.scopes s)) (length-anew part.scopes (scope_anew part) t.scopes)
     ∙ less_anew part.scopes s (length t.scopes) is
 
-kind_anew : (test : Kind → Bool) (part : Part) (t : TreeState) (s : ℕ) → part.scopes s ≡ true
+pub kind_anew : (test : Kind → Bool) (part : Part) (t : TreeState) (s : ℕ) → part.scopes s ≡ true
     → has_kind test (tree_anew part t) (new_number part.scopes s) ≡ has_kind test t s
 kind_anew test part t s is =
     ap (λ o. option_map_or (λ row. test row.kind) o false)
@@ -147,7 +147,7 @@ not_done rows s at =
     ap (λ o. is_some (option_map (λ a. a.1)
     (least_hit (filter_map hit_at (before_detached (upwards (line_within s rows) s o)))))) at
 
-done_anew : (part : Part) (p : State) → IsConsistent p → IsConsistent (state_anew part p)
+pub done_anew : (part : Part) (p : State) → IsConsistent p → IsConsistent (state_anew part p)
     → Goes part p → (s : ℕ) → part.scopes s ≡ true
     → is_done (state_anew part p).tree.scopes (new_number part.scopes s)
     ≡ is_done p.tree.scopes s
@@ -254,12 +254,12 @@ free_anew d name goes tell wanted rows same free =
     ∙ ap name (sym old.2)
     ∙ sym ((bytes_eq-Decides wanted (name row)).0 passes)))
 
-scope_free : (part : Part) (t : TreeState) (name : List ℕ)
+pub scope_free : (part : Part) (t : TreeState) (name : List ℕ)
     → is_scope_name_free t name ≡ true → is_scope_name_free (tree_anew part t) name ≡ true
 scope_free part t name free =
     free_anew root (λ row. row.name) part.scopes (scope_anew part) name t.scopes (λ row. refl) free
 
-group_free : (part : Part) (w : WorkState) (name : List ℕ)
+pub group_free : (part : Part) (w : WorkState) (name : List ℕ)
     → is_group_name_free w name ≡ true → is_group_name_free (work_anew part w) name ≡ true
 group_free part w name free =
     free_anew (new_group [] 0 false) (λ row. row.name) part.groups (group_anew part) name w.groups
@@ -272,16 +272,16 @@ room_anew goes tell rows most room =
     let less = ltb-true (length rows) most room in
     lt-ltb (length (rows_anew goes tell rows)) most (omega (arith, few, less))
 
-scope_room : (part : Part) (t : TreeState) → has_scope_room t ≡ true
+pub scope_room : (part : Part) (t : TreeState) → has_scope_room t ≡ true
     → has_scope_room (tree_anew part t) ≡ true
 scope_room part t room =
     room_anew part.scopes (scope_anew part) t.scopes (most_scopes t.layout) room
 
-group_room : (part : Part) (w : WorkState) → has_group_room w ≡ true
+pub group_room : (part : Part) (w : WorkState) → has_group_room w ≡ true
     → has_group_room (work_anew part w) ≡ true
 group_room part w room = room_anew part.groups (group_anew part) w.groups MOST_GROUPS room
 
-task_room : (part : Part) (w : WorkState) → has_task_room w ≡ true
+pub task_room : (part : Part) (w : WorkState) → has_task_room w ≡ true
     → has_task_room (work_anew part w) ≡ true
 task_room part w room =
     room_anew part.tasks (task_anew part) w.tasks (most_tasks w.layout) room

@@ -1,6 +1,5 @@
 -- What goes on hangs together: each scope with its parent, each group with its scope, each task
--- with
--- its group; and only groups that were waited for don't go on. So it is at a renewal.
+-- with its group; and only groups that were waited for don't go on. So it is at a renewal.
 use Rattle.std.proofs.Common.{◌≡◌, ◌<◌, ◌≤◌, ◌||◌, ℕ, Bool, true, false, List, length, Some}
 use Rattle.std.proofs.Common.{slice_get, refl, sym, ap, ◌∙◌}
 use Rattle.std.specs.Prelude.{nat_le}

@@ -10,4 +10,8 @@ pub mod Chains
 pub mod Alike
 pub mod Allowed
 pub mod Runs
+pub mod Names
+pub mod Named
+pub mod Refused
+pub mod Replies
 pub mod Over

@@ -160,7 +160,7 @@ gone_ended part p n row consistent go found goes =
 
 -- ---- running tasks
 
-running_unfinished : (s : Stage) → is_running s ≡ true → is_unfinished s ≡ true
+pub running_unfinished : (s : Stage) → is_running s ≡ true → is_unfinished s ≡ true
 running_unfinished stage.Fresh is = refl
 running_unfinished stage.Running is = refl
 running_unfinished stage.Success is = is

@@ -1,12 +1,15 @@
 -- What goes on of a state from its renewal on, at any later time: the later states and events of
 -- the old store, told by the numbers that the renewed one has.
-use Rattle.std.specs.Prelude.{ℕ, Bool, true, ◌&&◌, ◌||◌, List, [], ◌∷◌, length, map, nat_le}
+use Rattle.std.specs.Prelude.{◌≡◌, ℕ, Bool, true, ◌&&◌, ◌||◌, List, [], ◌∷◌, length, map, nat_le}
+use Rattle.std.specs.Prelude.{Some}
 use Rattle.std.specs.Option.{option_map}
 use Rattle.run_model.specs.declared.groups.Group.{Group}
 use Rattle.run_model.specs.declared.scopes.Scope.{Scope}
 use Rattle.run_model.specs.declared.tasks.Task.{Task}
+use Rattle.run_model.specs.Allowed.{run}
 use Rattle.run_model.specs.Event.{Event}
 use Rattle.run_model.specs.Event as event
+use Rattle.run_model.specs.Rules.{IsConsistent}
 use Rattle.run_model.specs.State.{State, TreeState, WorkState}
 use Rattle.state_renewal.specs.Renewed.{kept, keeps_group, keeps_scope, keeps_task, new_number}
 
@@ -109,3 +112,10 @@ event_anew part event.Restart = event.Restart
 abbrev pub all_name_part : Part → List Event → Bool
 all_name_part part [] = true
 all_name_part part (e ∷ events) = names_part part e && all_name_part part events
+
+-- A store goes on from state p, of which it could be renewed, to state q: by events that name what
+-- goes on alone, each allowed at its place.
+pub record GoesOn (p : State) (events : List Event) (q : State) : Type 0 where
+  pub rules : IsConsistent p
+  pub names : all_name_part (going_on p) events ≡ true
+  pub run : run p events ≡ Some q

@@ -1,3 +1,4 @@
 pub mod GoingOn
 pub mod Alike
+pub mod Answered
 pub mod Examples

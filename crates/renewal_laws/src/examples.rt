@@ -1,10 +1,14 @@
 //! Examples of what goes on behind a renewal, computed row by row.
 
 ghost use Rattle.std.specs.Option.{option_map};
-ghost use Rattle.std.specs.Prelude.{◌≡◌, None, Some, codes, false, map, true};
+ghost use Rattle.std.specs.Prelude.{◌≡◌, None, Ok, Some, codes, false, map, true};
+ghost use Rattle.run_model.specs.declared.answers.Answer.TheVariants as answer;
+ghost use Rattle.run_model.specs.declared.commands.Command.TheVariants as command;
 ghost use Rattle.run_model.specs.declared.scopes.Kind.TheVariants.{Cancel};
+ghost use Rattle.run_model.specs.declared.tasks.Phase.TheVariants as phase;
 ghost use Rattle.run_model.specs.Allowed.{allowed, run};
 ghost use Rattle.run_model.specs.Event.{Derive};
+ghost use Rattle.run_model.specs.Replies.{reply};
 ghost use Rattle.state_renewal.specs.Examples.{detached_part, retried};
 ghost use Rattle.state_renewal.specs.Renewed.{renewed};
 ghost use Rattle.renewal_laws.specs.Examples.{day, day_anew, day_left};
@@ -18,6 +22,15 @@ pub fn a_day_behind_a_renewal()
     ensures events { map (event_anew (going_on retried)) day ≡ day_anew }
     ensures renewed { run (renewed retried) day_anew ≡ Some day_left }
     ensures old { option_map (state_anew (going_on retried)) (run retried day) ≡ Some day_left }
+{}
+
+/// At the end of that day a third task of the group is held in both stores. It is the task with
+/// the next number: 7, of which tasks 0 and 2 went, and so 5.
+pub fn a_command_at_the_end_of_that_day()
+    ensures old { option_map (λ q. reply q 0 (command.Go (codes "g") (codes "copy") (codes "e")))
+        (run retried day) ≡ Some (Ok (answer.Task 7 phase.Held)) }
+    ensures renewed { reply day_left 0 (command.Go (codes "g") (codes "copy") (codes "e"))
+        ≡ Ok (answer.Task 5 phase.Held) }
 {}
 
 /// A name that went is free again in the renewed store alone.
