@@ -21,6 +21,7 @@
  *               the file is locked
  *   HURT_TOUCH  so many reads: before each of the first ones the file's last byte is changed, as by
  *               another program
+ *   HURT_SLOW   each sync takes so many milliseconds longer
  *   HURT_LOCK   the number of an error: each lock of the file is answered so
  *   HURT_NAME   a name: each opening of it fails, with the error of the number HURT_ERROR
  *   HURT_WRONG  makes the program one whose disk is wrong: its sync makes no call (sync), it takes
@@ -43,6 +44,7 @@
 #include <sys/file.h>
 #include <sys/stat.h>
 #include <sys/syscall.h>
+#include <time.h>
 #include <unistd.h>
 
 /* A write since the last sync: the bytes of its range before and behind it, and the file's length
@@ -58,7 +60,7 @@ struct unsynced {
 
 static const char *path, *keep, *wrong, *left, *refused, *stop;
 static int file = -1, told = -1, is_short, is_full;
-static long calls, cut, failing, once, trim, killing, touches;
+static long calls, cut, failing, once, trim, killing, touches, slow;
 static unsigned long long room;
 static uint64_t dice, short_dice;
 static struct unsynced *row;
@@ -135,6 +137,7 @@ __attribute__((constructor)) static void begin(void)
     trim = number_of("HURT_TRIM");
     killing = number_of("HURT_KILL");
     touches = number_of("HURT_TOUCH");
+    slow = number_of("HURT_SLOW");
     is_short = getenv("HURT_SHORT") != NULL;
     is_full = getenv("HURT_ROOM") != NULL;
     room = (unsigned long long)number_of("HURT_ROOM");
@@ -333,6 +336,8 @@ static ssize_t put(int fd, const void *bytes, size_t whole, off_t at, int placed
 
 static int synced(int fd, int number)
 {
+    struct timespec longer = {slow / 1000, slow % 1000 * 1000000};
+    nanosleep(&longer, NULL);
     if (!strcmp(wrong, "sync"))
         return 0;
     if (fails("sync", 0, 0))

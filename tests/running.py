@@ -124,9 +124,9 @@ class Tries:
     def run(self, *words, lines=(), text="", hurt=None, before=(), **how):
         """Runs the program; a file that is hurt is named by `hurt`."""
         text = text or "".join(f"{it}\n" for it in lines)
-        done = subprocess.run([*before, self.program, *words], input=text, text=True, timeout=60,
-                              stdout=how.pop("stdout", subprocess.PIPE), stderr=subprocess.PIPE,
-                              env=self.given(hurt), **how)
+        how = {"timeout": 60, "stdout": subprocess.PIPE, **how}
+        done = subprocess.run([*before, self.program, *words], input=text, text=True,
+                              stderr=subprocess.PIPE, env=self.given(hurt), **how)
         return Ended(done.returncode, done.stdout, done.stderr)
 
     def shown(self, store):
