@@ -13,6 +13,9 @@
  *               there, all is, or some (a write whole, not at all, or torn); or a row of 0 and 1,
  *               one for each write, in their order: it is not there, or it is
  *   HURT_SEED   which part that is
+ *   HURT_WAY    the one way in which each of some is torn: 0 nothing of it is there, 1 all, 2 its
+ *               front, 3 its end, 4 some of its bytes, 5 any bytes, 6 those of open gates; a write
+ *               at the file's end has the first three
  *   HURT_KILL   the number of a call, from 1: the program is killed before it. What was written
  *               stays in the system's memory, and isn't on the device
  *   HURT_LEFT   where that is kept: as the program is killed, the writes since the last sync are
@@ -60,7 +63,7 @@ struct unsynced {
 
 static const char *path, *keep, *wrong, *left, *refused, *stop;
 static int file = -1, told = -1, is_short, is_full;
-static long calls, cut, failing, once, trim, killing, touches, slow;
+static long calls, cut, failing, once, trim, killing, touches, slow, one_way;
 static unsigned long long room;
 static uint64_t dice, short_dice;
 static struct unsynced *row;
@@ -138,6 +141,7 @@ __attribute__((constructor)) static void begin(void)
     killing = number_of("HURT_KILL");
     touches = number_of("HURT_TOUCH");
     slow = number_of("HURT_SLOW");
+    one_way = getenv("HURT_WAY") ? number_of("HURT_WAY") : -1;
     is_short = getenv("HURT_SHORT") != NULL;
     is_full = getenv("HURT_ROOM") != NULL;
     room = (unsigned long long)number_of("HURT_ROOM");
@@ -187,7 +191,8 @@ static void put_back(const unsigned char *bytes, size_t count, off_t at)
 /* Puts back a part of a write. */
 static void tear(const struct unsynced *it)
 {
-    uint64_t way = thrown(&dice, it->placed ? 7 : 3);
+    uint64_t ways = it->placed ? 7 : 3;
+    uint64_t way = one_way < 0 ? thrown(&dice, ways) : (uint64_t)one_way % ways;
     size_t part = thrown(&dice, it->count + 1);
     switch (way) {
     case 0: /* nothing of it */
