@@ -2,7 +2,9 @@
 
 `words` reads the command line and `jobs` the file of commands; `driver` is the loop, over `plan`
 (what is submitted), `night` (the program), `store` (the files and their locks), `commands`,
-`cancels` and `log`. docs/driver.md has the rules that keep it safe, and what it can't keep.
+`cancels` and `log`. Before it come `leftovers` (commands of a driver that was killed) and `renewal`
+(of a store that is nearly full, over `past`). docs/driver.md has the rules that keep it safe, and
+what it can't keep.
 """
 
 import sys
@@ -17,6 +19,11 @@ class Mistake(Exception):
 
 class Fault(Exception):
     """What no run can go on behind. Status 3."""
+
+
+def base_of(group):
+    """The group of the file of commands of which this is a round, as `disks` of `disks--2`."""
+    return group.partition("--")[0]
 
 
 def tell(text):

@@ -8,13 +8,13 @@ import re
 import time
 
 from . import Fault, Mistake
-from .night import CLOCK_NOT_FORWARD, Night
+from .night import ALREADY_DONE, CLOCK_NOT_FORWARD, Night
 from .store import cause_of
 
 SECONDS = 10
 WANTED = re.compile(r"[a-z0-9_-]{1,32} [ -~]{1,64}")
 # (no such scope, one that can't be cancelled so, and one that is done)
-REFUSED = ("1", "10", "11", "12")
+REFUSED = ("1", "10", "11", ALREADY_DONE)
 
 
 @contextlib.contextmanager
@@ -25,11 +25,15 @@ def opened(path):
         yield file
 
 
+def is_asked(path):
+    return os.path.exists(f"{path}.cancel") and os.path.getsize(f"{path}.cancel")
+
+
 def obey(path, night):
-    """Cancels what the file asks for."""
-    if not os.path.exists(path) or not os.path.getsize(path):
+    """Cancels what the file of the store of this path asks for."""
+    if not is_asked(path):
         return
-    with opened(path) as file:
+    with opened(f"{path}.cancel") as file:
         lines = [it for it in file.read().splitlines() if WANTED.fullmatch(it)]
         night.ask(*(f"cancel {it}" for it in lines), "flush", may=REFUSED)
         file.truncate(0)
@@ -44,7 +48,7 @@ def cancel(store, group, why, is_ours):
     if is_ours:
         night = Night(store.path, store.own)
         night.ask(f"advance {int(time.time())}", may=[CLOCK_NOT_FORWARD])
-        night.ask(f"cancel {scope} {why}", may=["12"])
+        night.ask(f"cancel {scope} {why}", may=[ALREADY_DONE])
         night.end()
         return store.state().scopes[scope]
     path = f"{store.path}.cancel"
@@ -53,7 +57,9 @@ def cancel(store, group, why, is_ours):
     end = time.monotonic() + SECONDS
     while time.monotonic() < end:
         time.sleep(0.1)
-        look = store.state().scopes[scope]
+        look = store.state().scopes.get(scope)
+        if look is None:
+            raise Mistake(f"{store.path} has no group {group} any more")
         if cause_of(look) is not None:
             return look
     raise Fault(f"no driver has taken {path} yet; the next one will")

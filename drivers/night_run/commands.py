@@ -17,8 +17,8 @@ def text_of(words):
 class Command:
     """A command with a process group and a session of its own; what it prints is in a file."""
 
-    def __init__(self, number, text, output, held):
-        self.number, self.text = number, text
+    def __init__(self, name, text, output, held, pids):
+        self.text = text
         self.began, self.since = time.time(), time.monotonic()
         self.took = self.failure = self.why = self.stopped = self.it = None
         self.is_killed = False
@@ -26,8 +26,9 @@ class Command:
             with open(output, "wb") as file:
                 self.it = subprocess.Popen(
                     [SHELL, "-c", text], stdin=subprocess.DEVNULL, stdout=file,
-                    stderr=subprocess.STDOUT, start_new_session=True, pass_fds=[held])
-        except (OSError, ValueError) as error:
+                    stderr=subprocess.STDOUT, start_new_session=True, pass_fds=[held],
+                    preexec_fn=lambda: os.write(pids, f"{os.getpid()} {' '.join(name)}\n".encode()))
+        except (OSError, ValueError, subprocess.SubprocessError) as error:
             self.failure = getattr(error, "strerror", None) or str(error)
 
     def has_ended(self):

@@ -3,6 +3,7 @@ try of it. Whenever a run of `night` ends too early, or its log is full, another
 interrupts the tasks that ran, each of them is submitted anew, and the commands, which run on, are
 found by their names as their tasks are started again."""
 
+import collections
 import contextlib
 import os
 import select
@@ -10,27 +11,25 @@ import signal
 import sys
 import time
 
-from . import CLEAR, Fault, cancels, tell
+from . import CLEAR, Fault, base_of, cancels, tell
 from .commands import Command, text_of
-from .log import Log
-from .night import (CLOCK_NOT_FORWARD, NOTHING_READY, TOO_MANY_TASKS, Night, NightEnded,
+from .night import (CLOCK_NOT_FORWARD, MOST_BUSY, NOTHING_READY, TOO_MANY_TASKS, Night, NightEnded,
                     SessionFull, refusal)
 from .plan import make_groups, submissions
-from .store import base_of, cause_of
+from .store import cause_of
 
 # So often in a row `night` may end by a signal with no end of a task recorded between.
 MOST_LOST = 5
-# So often in a row the store may be in use, a tenth of a second each, as it is opened.
-MOST_BUSY = 100
 
 
 class Driver:
-    def __init__(self, store, jobs, most, grace, runs_failed, held):
-        self.store, self.jobs, self.held = store, jobs, held
-        self.most, self.grace, self.runs_failed = most, grace, runs_failed
-        self.log = Log(f"{store.path}.log")
+    def __init__(self, store, jobs, log, words, held, pids):
+        self.store, self.jobs, self.log, self.held, self.pids = store, jobs, log, held, pids
+        self.most, self.grace, self.runs_failed = words.most, words.grace, words.failed
         self.commands = {}  # those that were begun and whose end isn't recorded, by name
         self.names = {}     # of each task's number
+        self.tries = {}     # of each task's number, which one of its name it is
+        self.counts = collections.Counter()  # of the tasks of each name
         self.running = {}   # the names of the tasks that run in this session, by number
         self.ends = {}      # how the last task of each job ended
         self.limits = {}
@@ -85,14 +84,19 @@ class Driver:
 
     def note_ends(self, state):
         """Notes what the store has as ended: also an end whose reply didn't come."""
-        last = {(it.group, it.key): it for it in state.tasks}
-        for name in [it for it in self.commands if last[it].has_ended()]:
-            self.note(last[name].number, name, last[name].error or "ok", self.commands.pop(name))
+        last = {it.name(): it for it in state.tasks}
         for it in state.tasks:
-            self.names[it.number] = it.group, it.key
-            if it.has_ended() or it.phase == "interrupted":
-                self.note(it.number, (it.group, it.key), it.error or
-                          ("ok" if it.phase == "success" else "interrupted"))
+            self.know(it.number, it.name())
+        for name in [it for it in self.commands if last[it].has_ended()]:
+            self.note(last[name].number, name, last[name].end(), self.commands.pop(name))
+        self.ends = {job: it.end() for job, it in state.last().items() if it.end()}
+        self.log.note_all(state, self.jobs)
+
+    def know(self, number, name):
+        """Keeps what this task is."""
+        if number not in self.names:
+            self.names[number], self.tries[number] = name, self.counts[name]
+            self.counts[name] += 1
 
     def submit(self, state):
         """Submits what the file asks for and the store doesn't have."""
@@ -104,12 +108,12 @@ class Driver:
             if refusal(reply):
                 left_out += 1
             else:
-                self.names[int(reply.split()[1])] = name
+                self.know(int(reply.split()[1]), name)
                 self.ends.pop(job_of(name), None)
         self.runs_failed = False
         if left_out:
-            tell(f"{self.store.path} is full: no place for {left_out} tasks; make another store for"
-                 " them")
+            tell(f"{self.store.path} is full: no place for {left_out} tasks; run this again for"
+                 " them, behind the others")
 
     # --- the loop
 
@@ -132,7 +136,7 @@ class Driver:
         """Moves the clock, obeys those who cancel, and stops the commands of scopes that are
         done."""
         self.advance()
-        cancels.obey(f"{self.store.path}.cancel", self.night)
+        cancels.obey(self.store.path, self.night)
         causes = {group: self.cause(group) for group in {it for it, _ in self.commands}}
         for (group, _), command in self.commands.items():
             if causes[group] is not None:
@@ -196,8 +200,8 @@ class Driver:
             del self.running[number]
             self.note(number, name, end)
         elif not self.asked_to_end:
-            output = self.store.output_of(number, name)
-            self.commands[name] = Command(number, text, output, self.held)
+            output = self.store.output_of(name, self.tries[number])
+            self.commands[name] = Command(name, text, output, self.held, self.pids)
 
     def is_free(self):
         return sum(not it.has_ended() for it in self.commands.values()) < self.most
@@ -227,7 +231,8 @@ class Driver:
 
     def note(self, number, name, end, command=None):
         self.ends[job_of(name)] = end
-        self.log.ended(number, name, end, command, self.jobs.commands.get(job_of(name), "-"))
+        text = self.jobs.commands.get(job_of(name), "-")
+        self.log.ended(self.tries[number], name, end, command, text)
 
     # --- signals and the terminal
 

@@ -5,6 +5,7 @@ import re
 import shutil
 import subprocess
 import tempfile
+import time
 
 from . import Fault
 
@@ -13,7 +14,9 @@ from . import Fault
 BATCH = 16
 # Refusals, by their numbers (docs/formats.md).
 SESSION_FULL, CLOCK_NOT_FORWARD, NOTHING_READY, LIMIT_WHILE_ACTIVE = "21", "17", "19", "13"
-TOO_MANY_TASKS = "9"
+TOO_MANY_TASKS, ALREADY_DONE = "9", "12"
+# So often in a row the store may be in use, a tenth of a second each.
+MOST_BUSY = 100
 
 
 class NightEnded(Exception):
@@ -53,6 +56,22 @@ def printed(*words):
     if done.returncode:
         raise Fault(f"`night {' '.join(words)}` ended with status {done.returncode}")
     return done.stdout
+
+
+def renew(store, lock):
+    """Renews a store in its place; what is printed of it. The lock is inherited, so that a renewal
+    that outlives its driver is seen."""
+    for _ in range(MOST_BUSY):
+        done = subprocess.run([program(), "renew", "--in-place", store], stdin=subprocess.DEVNULL,
+                              capture_output=True, text=True, pass_fds=[lock],
+                              start_new_session=True)
+        ended = NightEnded(done.returncode, done.stderr)
+        if not done.returncode:
+            return done.stdout.rstrip("\n")
+        if not ended.is_in_use():
+            break
+        time.sleep(0.1)
+    raise Fault(str(ended))
 
 
 def refusal(reply):

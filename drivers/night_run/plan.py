@@ -5,15 +5,18 @@ import time
 from . import tell
 from .jobs import OF_ALL
 from .night import LIMIT_WHILE_ACTIVE, refusal
-from .store import JOB, cause_of, next_round
+from .store import JOB, cause_of
 
 
 def make_groups(night, jobs, state, runs_failed):
     """Makes the scopes and groups that aren't there, and sets the limits that are other ones."""
     make_scope(night, jobs, state, OF_ALL, "root", OF_ALL)
+    asked = {base for base, _ in wanted(jobs, state, runs_failed)}
     for base in jobs.groups():
         group = group_of(state, base, runs_failed)
         if group not in state.limits:
+            if base not in asked:
+                continue
             make_scope(night, jobs, state, group, OF_ALL, base)
             night.ask(f"bare {group} {group}")
         limit = jobs.settings[base].limit
@@ -24,11 +27,14 @@ def make_groups(night, jobs, state, runs_failed):
 
 
 def group_of(state, base, runs_failed):
-    """The last round of a group; the next one, where what failed in one that is done runs again."""
-    group = state.round_of(base) or base
+    """The last round of a group; the next one, where that takes no more tasks, and where what
+    failed in one that is done runs again."""
+    group = state.round_of(base)
+    if not group:
+        return state.next_round(base)
     is_done = cause_of(state.scopes.get(group, "")) is not None
     failed = [it for (its, _), it in state.last().items() if its == base and it.phase == "error"]
-    return next_round(group) if runs_failed and is_done and failed else group
+    return state.next_round(base) if runs_failed and is_done and failed else group
 
 
 def make_scope(night, jobs, state, name, parent, base):
@@ -45,15 +51,19 @@ def make_scope(night, jobs, state, name, parent, base):
     night.ask(f"derive {name} {parent} cause")
 
 
+def wanted(jobs, state, runs_failed):
+    """The commands that have no task yet, and if asked for those that failed."""
+    last = state.last()
+    return [it for it in jobs.commands
+            if it not in last or runs_failed and last[it].phase == "error"]
+
+
 def submissions(jobs, state, runs_failed):
     """The lines that submit what isn't there, what was interrupted and, if asked for, what failed,
     each with the name of its command."""
-    last = state.last()
-    made = [(f"retry {it.number}", (it.group, it.key)) for it in last.values()
+    made = [(f"retry {it.number}", it.name()) for it in state.last().values()
             if it.phase == "interrupted"]
-    for base, key in jobs.commands:
-        there = last.get((base, key))
-        if not there or runs_failed and there.phase == "error":
-            group = state.round_of(base)
-            made.append((f"go {group} {JOB} {key}", (group, key)))
+    for base, key in wanted(jobs, state, runs_failed):
+        group = state.round_of(base)
+        made.append((f"go {group} {JOB} {key}", (group, key)))
     return made

@@ -2,21 +2,26 @@
 
     STORE            the store
     STORE.lock       locked by the one driver that may run
-    STORE.out/       the output of each task, GROUP.KEY.NUMBER; locked by the driver, its run of
+    STORE.out/       the output of each task, GROUP.KEY.TRY; locked by the driver, its run of
                      `night` and each of its commands, so that a command that outlives a killed
                      driver is seen
+    STORE.pids       the process groups of its commands, from when they begin
     STORE.log        what ran when, how long, and how it ended
     STORE.cancel     which groups somebody wants to have cancelled
+    STORE.ended      how commands ended whose groups a renewal has given back (`renewal`)
 """
 
+import collections
 import contextlib
 import fcntl
+import json
 import os
 import re
 from typing import NamedTuple
 
-from . import Fault
+from . import Fault, base_of
 from .night import printed
+from .past import read_past, sync_folder
 
 JOB = "sh"
 
@@ -29,26 +34,44 @@ class Task(NamedTuple):
     phase: str
     error: str
 
+    def name(self):
+        return self.group, self.key
+
     def has_ended(self):
         return self.phase in ("success", "error")
 
+    def end(self):
+        """How it ended, as the log says it; None where it hasn't."""
+        if self.has_ended():
+            return self.error or "ok"
+        return "interrupted" if self.phase == "interrupted" else None
+
 
 class State:
-    """What a store holds: the looks of its scopes, the limits of its groups, its tasks."""
+    """What a store holds: the looks of its scopes, the limits of its groups, those that were waited
+    for, its tasks; and how the commands ended that it held before it was renewed."""
 
-    def __init__(self, text):
-        self.scopes, self.limits, self.tasks = {}, {}, []
+    def __init__(self, text, past=()):
+        self.events, self.scopes, self.limits, self.waited, self.tasks = 0, {}, {}, set(), []
+        self.past = {(base_of(group), key): Task(None, group, JOB, key, *phase_of(end))
+                     for group, key, end in past}
         for line in text.splitlines():
             kind, _, rest = line.partition(" ")
             getattr(self, f"read_{kind}", lambda _: None)(rest)
+
+    def read_events(self, rest):
+        self.events = int(rest.partition(";")[0])
 
     def read_scope(self, rest):
         _, name, look = rest.split(" ", 2)
         self.scopes[name] = look
 
     def read_group(self, rest):
-        name, limit = re.match(r"\d+ (\S+) unfinished \d+; limit (\w+);", rest).groups()
+        name, limit, waited = re.match(
+            r"\d+ (\S+) unfinished \d+; limit (\w+); waited (\w+);", rest).groups()
         self.limits[name] = None if limit == "none" else int(limit)
+        if waited == "yes":
+            self.waited.add(name)
 
     def read_task(self, rest):
         number, group, job, key, phase = rest.split(" ", 4)
@@ -58,21 +81,37 @@ class State:
 
     def last(self):
         """The last task of each group and key; rounds of a group (`disks--2`) are one group."""
-        return {(base_of(it.group), it.key): it for it in self.tasks}
+        return {**self.past, **{(base_of(it.group), it.key): it for it in self.tasks}}
+
+    def tries(self):
+        """Each task, and which try of its command in its group it is."""
+        counts = collections.Counter()
+        for it in self.tasks:
+            yield it, counts[it.name()]
+            counts[it.name()] += 1
 
     def round_of(self, base):
-        """The name of the last round of a group, or None."""
+        """The name of the last round of a group, or None where it takes no more tasks."""
         rounds = [it for it in self.limits if base_of(it) == base]
-        return rounds[-1] if rounds else None
+        return rounds[-1] if rounds and rounds[-1] not in self.waited else None
+
+    def next_round(self, base):
+        """The name of the next round of a group. None has the name of one that is gone, so that the
+        log and the outputs tell them apart."""
+        rounds = [*self.limits, *(it.group for it in self.past.values())]
+        numbers = [int(it.partition("--")[2] or 1) for it in rounds if base_of(it) == base]
+        return f"{base}--{max(numbers) + 1}" if numbers else base
+
+    def finished(self):
+        """The groups in which nothing is left to do, those that were waited for among them."""
+        left = {it.group for it in self.tasks if not it.has_ended() and it.phase != "interrupted"}
+        left |= {it.group for it in self.last().values() if it.phase == "interrupted"}
+        return [it for it in self.limits if it not in left]
 
 
-def base_of(group):
-    return group.partition("--")[0]
-
-
-def next_round(group):
-    base, _, number = group.partition("--")
-    return f"{base}--{int(number or 1) + 1}"
+def phase_of(end):
+    """The phase and the error of a task that ended so."""
+    return ("success", "") if end == "ok" else ("error", end)
 
 
 def cause_of(look):
@@ -89,12 +128,20 @@ class Store:
 
     def check(self):
         """Nothing but this driver's tasks may lie in the store: it would start them, too."""
-        for it in self.state().tasks:
+        state = self.state()
+        if state.events < read_past(self.path)[0]:
+            raise Fault(f"{self.path}.ended is of another store: put it aside")
+        for it in state.tasks:
             if it.job != JOB:
                 raise Fault(f"{self.path} has a task of another kind: {it.number}, {it.job}")
 
     def state(self):
-        return State(printed("inspect", self.path))
+        return State(printed("inspect", self.path), read_past(self.path)[1])
+
+    def is_nearly_full(self):
+        """Whether less than a quarter of its scopes, groups or tasks is free."""
+        shown = json.loads(printed("inspect", "--json", self.path))
+        return any(4 * len(shown[it]) > 3 * most for it, most in shown["room"].items())
 
     def lock(self):
         """Takes the store for this driver; False where another one has it."""
@@ -105,30 +152,33 @@ class Store:
         """Whether a driver runs, as far as its lock tells."""
         return os.path.exists(f"{self.path}.lock") and not self.lock()
 
-    def wait_for_commands(self, tell):
-        """The descriptor that commands inherit, once none of an earlier driver is left."""
+    def hold(self):
+        """The descriptor that commands inherit, and whether none of an earlier driver has it."""
         os.makedirs(self.out, exist_ok=True)
         held = os.open(self.out, os.O_RDONLY)
-        if not try_lock(held):
-            found = ", ".join(map(str, processes_with(self.out))) or "unknown"
-            tell(f"waiting: commands of the last run still run; processes {found}")
-            fcntl.flock(held, fcntl.LOCK_EX)
-        return held
+        return held, try_lock(held)
+
+    def open_pids(self):
+        """An empty file for the processes of commands, once none is left."""
+        return os.open(f"{self.path}.pids", os.O_WRONLY | os.O_CREAT | os.O_TRUNC | os.O_APPEND,
+                       0o666)
 
     def make(self):
-        """Makes the store under another name first, so that one that has its name is whole."""
+        """Makes the store under another name first, so that one that has its name is whole. What
+        lies there of another store is put aside before."""
         making = f"{self.path}.making"
         for it in (making, f"{self.path}.cancel"):
             if os.path.exists(it):
                 os.remove(it)
-        if os.path.exists(f"{self.path}.log"):
-            os.replace(f"{self.path}.log", f"{self.path}.log.old")
+        for it in (f"{self.path}.log", f"{self.path}.ended"):
+            if os.path.exists(it):
+                os.replace(it, f"{it}.old")
         printed("format", "--new", making)
         os.rename(making, self.path)
         sync_folder(os.path.dirname(os.path.abspath(self.path)))
 
-    def output_of(self, number, name):
-        return f"{self.out}/{name[0]}.{name[1]}.{number}"
+    def output_of(self, name, tried):
+        return f"{self.out}/{name[0]}.{name[1]}.{tried}"
 
 
 def try_lock(file):
@@ -139,21 +189,3 @@ def try_lock(file):
     except OSError as error:
         raise Fault(f"no locks: {error.strerror}") from error
     return True
-
-
-def processes_with(path):
-    """The processes that have this file open, as far as the system shows them."""
-    there = os.path.realpath(path)
-    for it in filter(str.isdigit, os.listdir("/proc") if os.path.isdir("/proc") else ()):
-        with contextlib.suppress(OSError):
-            files = [os.readlink(f"/proc/{it}/fd/{at}") for at in os.listdir(f"/proc/{it}/fd")]
-            if there in files and int(it) != os.getpid():
-                yield int(it)
-
-
-def sync_folder(path):
-    folder = os.open(path, os.O_RDONLY)
-    try:
-        os.fsync(folder)
-    finally:
-        os.close(folder)

@@ -13,7 +13,10 @@ from . import Fault, Mistake, cancels, tell
 from .commands import text_of
 from .driver import Driver
 from .jobs import Jobs
+from .leftovers import wait_for_commands
+from .log import Log
 from .night import NightEnded
+from .renewal import renew_if_nearly_full
 from .store import Store
 
 HELP = """Runs the shell commands of the file JOBS as tasks of STORE, which it makes where there is
@@ -82,12 +85,14 @@ def main():
 def run(store, jobs, words):
     if not store.lock():
         raise Fault(f"{store.path}: in use by another night-run")
-    held = store.wait_for_commands(tell)
+    held = wait_for_commands(store, words.grace)
+    pids = store.open_pids()
     if not store.exists():
         store.make()
     store.check()
-    driver = Driver(store, jobs, words.most, words.grace, words.failed, held)
-    driver.run()
+    log = Log(f"{store.path}.log")
+    renew_if_nearly_full(store, log, jobs, held)
+    Driver(store, jobs, log, words, held, pids).run()
     return summary(store, jobs)
 
 
