@@ -1,4 +1,6 @@
-//! Laws of the calls of a book: what a row of them leaves, from their clauses alone.
+//! Laws of the calls of a book, from their clauses alone: what a row of them leaves, and what a
+//! renewal answers.
 #![tactic(auto)]
 
 pub mod laws;
+pub mod renewals;

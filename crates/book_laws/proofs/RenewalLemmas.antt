@@ -1,0 +1,251 @@
+-- What renewals answer, fault by fault.
+use Rattle.std.proofs.Common.{◌≡◌, ◌⊎◌, inl, inr, ◌<◌, ◌^◌, ℕ, List, Bool, true, false, length}
+use Rattle.std.proofs.Common.{None, Ok, Err, refl, sym, ap, subst, ◌∙◌, arith}
+use Rattle.std.specs.Prelude.{MatchResult, Result}
+use Rattle.std.proofs.lemmas.Bool.{and_from, both_ways, le-leb, true≢false}
+use Rattle.std.proofs.lemmas.Option.{none-some, same_Some}
+use Rattle.run_model.specs.declared.faults.Fault.{Fault}
+use Rattle.run_model.specs.declared.faults.Fault.TheVariants as fault
+use Rattle.run_model.specs.declared.layouts.Layout.{Layout}
+use Rattle.run_model.specs.Layouts.{layout_of, most_scopes, most_tasks, store_len}
+use Rattle.run_model.specs.State.{State}
+use Rattle.run_disk.specs.Disk.{DiskState, IsDisk}
+use Rattle.run_store.proofs.LayoutLemmas.{layout_found}
+use Rattle.state_renewal.specs.Renewed.{fits_in, renewed, renewed_in}
+use Rattle.book_model.specs.declared.migrations.MigrateFault.{MigrateFault}
+use Rattle.book_model.specs.declared.migrations.MigrateFault.TheVariants as why
+use Rattle.book_model.specs.Migrations.{HasReadTooMany, ReadsNot}
+use Rattle.book_model.specs.Openings.{RecoversNone}
+use Rattle.book_model.specs.Stores.{Stores, StoresNone}
+use Rattle.book_model.proofs.OpeningLemmas.{HasCause, recovers_cause, recovers_none}
+use Rattle.book_model.proofs.OpeningLemmas.{recovers_state}
+use Rattle.book_model.proofs.Storing.{stores_not_both, stores_one, stores_rules}
+use Rattle.run_book.specs.Renewals.{Renews, WritesNot}
+use Rattle.book_laws.specs.Renewing.{AreStores}
+
+-- ---- faults
+
+-- A fault of a size isn't one of a device.
+abbrev is_size : MigrateFault → Bool
+is_size (why.Old fault.WrongSize) = true
+is_size (why.New fault.WrongSize) = true
+is_size w = false
+
+-- ---- sizes
+
+no_layout : (size : ℕ) (layout : Layout) → size ≡ store_len layout → layout_of size ≡ None → ⊥
+no_layout size layout sized none =
+    none-some layout (sym none ∙ ap (λ n. layout_of n) sized ∙ layout_found layout)
+
+same_layout : (size : ℕ) (a b : Layout) → size ≡ store_len a → size ≡ store_len b → a ≡ b
+same_layout size a b is_a is_b =
+    same_Some a b (sym (layout_found a) ∙ ap (λ n. layout_of n) (sym is_a ∙ is_b) ∙ layout_found b)
+
+-- A state that is stored in this layout has room there.
+stored_fits : (layout : Layout) (p : State) (x : List ℕ) → Stores x (renewed_in layout p)
+    → fits_in layout (renewed p) ≡ true
+stored_fits layout p x stores =
+    let rules = stores_rules x (renewed_in layout p) stores in
+    and_from _ _ (le-leb (length (renewed p).tree.scopes) (most_scopes layout)
+    rules.numbered.few_scopes)
+    (le-leb (length (renewed p).work.tasks) (most_tasks layout) rules.numbered.few_tasks)
+
+module _ {D : Type 0} (from : D → DiskState) (old read : D) (disk : IsDisk (from old)) where
+  -- What stops the reading of the old disk: too many events, or what stops a recovery.
+  old_told : (f : Fault) → ReadsNot from old (why.Old f) read
+      → ((f ≡ fault.NumbersSpent) × HasReadTooMany (from old) (from read))
+      ⊎ RecoversNone from old f read
+  old_told fault.WrongSize is = absurd is
+  old_told fault.Memory is = absurd is
+  old_told fault.NumbersSpent is = inl (refl, is)
+  old_told f is = inr is
+
+  not_memory : (f : Fault) → ReadsNot from old (why.Old f) read → f ≡ fault.Memory → ⊥
+  not_memory f is told = subst (λ g. ReadsNot from old (why.Old g) read) told is
+
+  -- A state that the old disk stores is read, but for memory and the device.
+  read_state : (w : MigrateFault) (p : State) → (from old).honest → Stores (from old).now p
+      → p.count < 2 ^ 62 → ReadsNot from old w read
+      → (w ≡ why.Memory) ⊎ (w ≡ why.Old fault.DiskFailed)
+  read_state why.Memory p honest stores few is = inl refl
+  read_state (why.Old f) p honest stores few is =
+      elim (old_told f is) [
+        | inl many ↦
+            let same = ap (λ (q : State). q.count)
+            (stores_one (from old).now many.1.state p (many.1.recovered.stores honest) stores) in
+            absurd (omega (arith, same, few, many.1.many))
+        | inr none ↦ elim (recovers_state from old read (Err f) p disk honest none stores) [
+          | inl memory ↦ absurd (not_memory f is memory)
+          | inr failed ↦ inr (ap (λ g. why.Old g) failed)
+        ]
+      ]
+  read_state (why.New f) p honest stores few is = absurd is
+
+  -- Why it stores none is told, but for memory and the device.
+  read_none : (w : MigrateFault) (other : Fault) → (from old).honest
+      → StoresNone (from old).now other → ReadsNot from old w read
+      → (w ≡ why.Old other) ⊎ (w ≡ why.Memory) ⊎ (w ≡ why.Old fault.DiskFailed)
+  read_none why.Memory other honest none is = inr (inl refl)
+  read_none (why.Old f) other honest none is =
+      elim (old_told f is) [
+        | inl many ↦
+            absurd (stores_not_both (from old).now many.1.state other
+            (many.1.recovered.stores honest) none)
+        | inr stops ↦ elim (recovers_none from old read (Err f) other disk honest stops none) [
+          | inl same ↦ inl (ap (λ g. why.Old g) same)
+          | inr (inl memory) ↦ absurd (not_memory f is memory)
+          | inr (inr failed) ↦ inr (inr (ap (λ g. why.Old g) failed))
+        ]
+      ]
+  read_none (why.New f) other honest none is = absurd is
+
+module _ {D E : Type 0} (from : D → DiskState) (to : E → DiskState) (old read : D) (given : E)
+    (disk : IsDisk (from old)) where
+  -- ---- a state that is stored
+
+  -- Of a state with room a write stops for memory or the device alone.
+  write_state : (w : MigrateFault) (new : E) (layout : Layout) (p q : State) → q ≡ p
+      → (to given).size ≡ store_len layout → fits_in layout (renewed p) ≡ true
+      → WritesNot to q given w new → (w ≡ why.Memory) ⊎ (w ≡ why.New fault.DiskFailed)
+  write_state why.Memory new layout p q same sized fits is = inl refl
+  write_state (why.New fault.WrongSize) new layout p q same sized fits is =
+      absurd (both_ways (fits_in layout (renewed p))
+      (ap (λ r. fits_in layout (renewed r)) (sym same)
+      ∙ ap (λ k. fits_in k (renewed q))
+      (same_layout (to given).size layout is.0.layout sized is.0.size)
+      ∙ is.0.full) fits)
+  write_state (why.New fault.DiskFailed) new layout p q same sized fits is = inr refl
+  write_state w new layout p q same sized fits is = absurd is
+
+  -- Why a write stops.
+  write_full : (w : MigrateFault) (new : E) (q : State) → WritesNot to q given w new
+      → (w ≡ why.Memory) ⊎ (w ≡ why.New fault.WrongSize) ⊎ (w ≡ why.New fault.DiskFailed)
+  write_full why.Memory new q is = inl refl
+  write_full (why.New fault.WrongSize) new q is = inr (inl refl)
+  write_full (why.New fault.DiskFailed) new q is = inr (inr refl)
+  write_full w new q is = absurd is
+
+  pub renews_state : (result : Result E (MigrateFault × E)) (p : State) → (from old).honest
+      → (sized : AreStores (from old) (to given)) → Renews from to old given result read
+      → Stores (from old).now p → p.count < 2 ^ 62 → fits_in sized.to (renewed p) ≡ true
+      → MatchResult result
+      (λ new. (to given).honest → (x : List ℕ) → (to new).images x
+      → Stores x (renewed_in sized.to p))
+      (λ e. (e.0 ≡ why.Memory) ⊎ (e.0 ≡ why.Old fault.DiskFailed)
+      ⊎ (e.0 ≡ why.New fault.DiskFailed))
+  renews_state (Ok new) p honest sized is stores few fits = λ new_honest x left.
+      is.now honest new_honest p stores sized.to sized.new_size x left
+  renews_state (Err e) p honest sized is stores few fits =
+      elim is.answer [
+        | inl wrong ↦ absurd (no_layout (from old).size sized.from sized.old_size wrong.1)
+        | inr (inl wrong) ↦ absurd (no_layout (to given).size sized.to sized.new_size wrong.1)
+        | inr (inr (inl none)) ↦
+            elim (read_state from old read disk e.0 p honest stores few none.0)
+            [ inl memory ↦ inl memory | inr failed ↦ inr (inl failed) ]
+        | inr (inr (inr none)) ↦
+            elim (write_state e.0 e.1 sized.to p none.state
+            (stores_one (from old).now none.state p (none.found.recovered.stores honest) stores)
+            sized.new_size fits none.none)
+            [ inl memory ↦ inl memory | inr failed ↦ inr (inr failed) ]
+      ]
+
+  pub renews_full : (result : Result E (MigrateFault × E)) (p : State)
+      → ((new : E) → IsDisk (to new)) → (from old).honest
+      → (sized : AreStores (from old) (to given)) → Renews from to old given result read
+      → Stores (from old).now p → p.count < 2 ^ 62 → fits_in sized.to (renewed p) ≡ false
+      → MatchResult result (λ new. (to given).honest → ⊥)
+      (λ e. (e.0 ≡ why.Memory) ⊎ (e.0 ≡ why.Old fault.DiskFailed)
+      ⊎ (e.0 ≡ why.New fault.WrongSize) ⊎ (e.0 ≡ why.New fault.DiskFailed))
+  renews_full (Ok new) p disks honest sized is stores few full = λ new_honest.
+      let done = is.answer in
+      let fits =
+      stored_fits done.layout done.state (to new).now
+      (done.written.stores new_honest (to new).now
+      ((disks new).now_is_image (done.written.passed.honest new_honest))) in
+      both_ways (fits_in sized.to (renewed p)) full
+      (ap (λ q. fits_in sized.to (renewed q))
+      (stores_one (from old).now p done.state stores (done.found.recovered.stores honest))
+      ∙ ap (λ k. fits_in k (renewed done.state))
+      (same_layout (to given).size sized.to done.layout sized.new_size done.size)
+      ∙ fits)
+  renews_full (Err e) p disks honest sized is stores few full =
+      elim is.answer [
+        | inl wrong ↦ absurd (no_layout (from old).size sized.from sized.old_size wrong.1)
+        | inr (inl wrong) ↦ absurd (no_layout (to given).size sized.to sized.new_size wrong.1)
+        | inr (inr (inl none)) ↦
+            elim (read_state from old read disk e.0 p honest stores few none.0)
+            [ inl memory ↦ inl memory | inr failed ↦ inr (inl failed) ]
+        | inr (inr (inr none)) ↦
+            elim (write_full e.0 e.1 none.state none.none) [
+              | inl memory ↦ inl memory
+              | inr (inl size) ↦ inr (inr (inl size))
+              | inr (inr failed) ↦ inr (inr (inr failed))
+            ]
+      ]
+
+  -- ---- causes
+
+  old_read_cause : (w : MigrateFault) → w ≡ why.Old fault.DiskFailed → ReadsNot from old w read
+      → HasCause (from old) (from read)
+  old_read_cause w told is =
+      recovers_cause from old read (Err fault.DiskFailed)
+      (subst (λ v. ReadsNot from old v read) told is) refl
+
+  unwritten_old : (w : MigrateFault) (new : E) (q : State) → w ≡ why.Old fault.DiskFailed
+      → WritesNot to q given w new → ⊥
+  unwritten_old w new q told is = subst (λ v. WritesNot to q given v new) told is
+
+  pub renews_old_cause : (result : Result E (MigrateFault × E))
+      → Renews from to old given result read
+      → MatchResult result (λ new. Unit {0})
+      (λ e. e.0 ≡ why.Old fault.DiskFailed → HasCause (from old) (from read))
+  renews_old_cause (Ok new) is = tt
+  renews_old_cause (Err e) is = λ told.
+      elim is.answer [
+        | inl wrong ↦ absurd (true≢false (ap is_size (sym wrong.0 ∙ told)))
+        | inr (inl wrong) ↦ absurd (true≢false (ap is_size (sym wrong.0 ∙ told)))
+        | inr (inr (inl unread)) ↦ old_read_cause e.0 told unread.0
+        | inr (inr (inr unwritten)) ↦
+            absurd (unwritten_old e.0 e.1 unwritten.state told unwritten.none)
+      ]
+
+  new_write_cause : (w : MigrateFault) (new : E) (q : State) → w ≡ why.New fault.DiskFailed
+      → WritesNot to q given w new → HasCause (to given) (to new)
+  new_write_cause w new q told is = (subst (λ v. WritesNot to q given v new) told is).cause
+
+  unread_new : (w : MigrateFault) → w ≡ why.New fault.DiskFailed → ReadsNot from old w read → ⊥
+  unread_new w told is = subst (λ v. ReadsNot from old v read) told is
+
+  pub renews_new_cause : (result : Result E (MigrateFault × E))
+      → Renews from to old given result read
+      → MatchResult result (λ new. Unit {0})
+      (λ e. e.0 ≡ why.New fault.DiskFailed → HasCause (to given) (to e.1))
+  renews_new_cause (Ok new) is = tt
+  renews_new_cause (Err e) is = λ told.
+      elim is.answer [
+        | inl wrong ↦ absurd (true≢false (ap is_size (sym wrong.0 ∙ told)))
+        | inr (inl wrong) ↦ absurd (true≢false (ap is_size (sym wrong.0 ∙ told)))
+        | inr (inr (inl unread)) ↦ absurd (unread_new e.0 told unread.0)
+        | inr (inr (inr unwritten)) ↦
+            new_write_cause e.0 e.1 unwritten.state told unwritten.none
+      ]
+
+  -- ---- no state
+
+  pub renews_none : (result : Result E (MigrateFault × E)) (other : Fault) → (from old).honest
+      → AreStores (from old) (to given) → Renews from to old given result read
+      → StoresNone (from old).now other
+      → MatchResult result (λ new. ⊥)
+      (λ e. (e.0 ≡ why.Old other) ⊎ (e.0 ≡ why.Memory) ⊎ (e.0 ≡ why.Old fault.DiskFailed))
+  renews_none (Ok new) other honest sized is none =
+      stores_not_both (from old).now is.answer.state other
+      (is.answer.found.recovered.stores honest) none
+  renews_none (Err e) other honest sized is none =
+      elim is.answer [
+        | inl wrong ↦ absurd (no_layout (from old).size sized.from sized.old_size wrong.1)
+        | inr (inl wrong) ↦ absurd (no_layout (to given).size sized.to sized.new_size wrong.1)
+        | inr (inr (inl unread)) ↦ read_none from old read disk e.0 other honest none unread.0
+        | inr (inr (inr unwritten)) ↦
+            absurd (stores_not_both (from old).now unwritten.state other
+            (unwritten.found.recovered.stores honest) none)
+      ]
