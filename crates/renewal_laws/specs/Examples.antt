@@ -3,6 +3,7 @@ use Rattle.std.specs.Prelude.{List, [], ◌∷◌, Some, None, codes}
 use Rattle.run_model.specs.declared.layouts.Layout.TheVariants.{Small}
 use Rattle.run_model.specs.declared.scopes.Kind.TheVariants as kind
 use Rattle.run_model.specs.declared.scopes.Reason.TheVariants.{DeadlineExceeded}
+use Rattle.run_model.specs.declared.tasks.Outcome.TheVariants as outcome
 use Rattle.run_model.specs.declared.tasks.Stage.TheVariants as stage
 use Rattle.run_model.specs.Event.{Event}
 use Rattle.run_model.specs.Event as event
@@ -56,3 +57,19 @@ day_left = record {
         ∷ task 0 "d" stage.Fresh None ∷ [];
   };
 }
+
+-- ---- a night from the beginning, and a day behind it
+
+-- Group 0 is waited for with its one task; of group 1 a task is cut off, and submitted anew.
+abbrev pub first_night : List Event
+first_night =
+    event.Group (codes "h") 0 ∷ event.Group (codes "g") 0
+    ∷ event.Go 0 (codes "copy") (codes "a") ∷ event.Go 1 (codes "copy") (codes "b")
+    ∷ event.Start 0 ∷ event.Finish 0 outcome.Success ∷ event.Start 1 ∷ event.Restart
+    ∷ event.Wait 0 ∷ event.Retry 1 ∷ []
+
+-- It is started, and fails; a group is made below the other's scope, and gets a task.
+abbrev pub second_day : List Event
+second_day =
+    event.Start 2 ∷ event.Finish 2 (outcome.Failure (codes "no room")) ∷ event.Wait 1
+    ∷ event.Group (codes "k") 2 ∷ event.Go 2 (codes "copy") (codes "c") ∷ event.Start 3 ∷ []

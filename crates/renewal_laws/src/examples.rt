@@ -1,19 +1,21 @@
 //! Examples of what goes on behind a renewal, computed row by row.
 
 ghost use Rattle.std.specs.Option.{option_map};
-ghost use Rattle.std.specs.Prelude.{◌≡◌, None, Ok, Some, codes, false, map, true};
+ghost use Rattle.std.specs.Prelude.{◌≡◌, IsSomeAnd, Ok, Some, codes, false, map, true};
 ghost use Rattle.run_model.specs.declared.answers.Answer.TheVariants as answer;
 ghost use Rattle.run_model.specs.declared.commands.Command.TheVariants as command;
+ghost use Rattle.run_model.specs.declared.layouts.Layout.TheVariants.{Small};
 ghost use Rattle.run_model.specs.declared.scopes.Kind.TheVariants.{Cancel};
 ghost use Rattle.run_model.specs.declared.tasks.Phase.TheVariants as phase;
 ghost use Rattle.run_model.specs.Allowed.{allowed, run};
 ghost use Rattle.run_model.specs.Event.{Derive};
 ghost use Rattle.run_model.specs.Replies.{reply};
+ghost use Rattle.run_model.specs.State.{formatted};
 ghost use Rattle.state_renewal.specs.Examples.{detached_part, retried};
 ghost use Rattle.state_renewal.specs.Renewed.{renewed};
-ghost use Rattle.renewal_laws.specs.Examples.{day, day_anew, day_left};
-ghost use Rattle.renewal_laws.specs.GoingOn.{all_name_part, event_anew, going_on, names_part};
-ghost use Rattle.renewal_laws.specs.GoingOn.{state_anew};
+ghost use Rattle.renewal_laws.specs.Examples.{day, day_anew, day_left, first_night, second_day};
+ghost use Rattle.renewal_laws.specs.GoingOn.{GoesOn, all_name_part, event_anew, going_on};
+ghost use Rattle.renewal_laws.specs.GoingOn.{names_part, state_anew};
 
 /// A day's events name what goes on, and are told by the new numbers. They lead the renewed store
 /// to what goes on of the old one; what is made on that day has the next numbers.
@@ -31,6 +33,13 @@ pub fn a_command_at_the_end_of_that_day()
         (run retried day) ≡ Some (Ok (answer.Task 7 phase.Held)) }
     ensures renewed { reply day_left 0 (command.Go (codes "g") (codes "copy") (codes "e"))
         ≡ Ok (answer.Task 5 phase.Held) }
+{}
+
+/// A night and a day that meet what the laws ask for. Of the day's events two name what is made on
+/// that day.
+pub fn a_night_and_a_day_meet_the_premises()
+    ensures { IsSomeAnd (run (formatted Small) first_night) (λ p. IsSomeAnd (run p second_day)
+        (λ q. GoesOn p second_day q)) }
 {}
 
 /// A name that went is free again in the renewed store alone.
