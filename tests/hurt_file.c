@@ -63,9 +63,10 @@ struct unsynced {
 
 static const char *path, *keep, *wrong, *left, *refused, *stop;
 static int file = -1, told = -1, is_short, is_full;
-static long calls, cut, failing, once, trim, killing, touches, slow, one_way;
+static long calls, cut, failing, once, trim, killing, touches;
 static unsigned long long room;
 static uint64_t dice, short_dice;
+static long slow, one_way;
 static struct unsynced *row;
 static size_t rows, space, before; /* (those of the program before come first) */
 
@@ -140,11 +141,11 @@ __attribute__((constructor)) static void begin(void)
     trim = number_of("HURT_TRIM");
     killing = number_of("HURT_KILL");
     touches = number_of("HURT_TOUCH");
-    slow = number_of("HURT_SLOW");
-    one_way = getenv("HURT_WAY") ? number_of("HURT_WAY") : -1;
     is_short = getenv("HURT_SHORT") != NULL;
     is_full = getenv("HURT_ROOM") != NULL;
     room = (unsigned long long)number_of("HURT_ROOM");
+    slow = number_of("HURT_SLOW");
+    one_way = getenv("HURT_WAY") ? number_of("HURT_WAY") : -1;
     dice = seed_of("HURT_SEED");
     short_dice = seed_of("HURT_SHORT");
     if (getenv("HURT_LOG"))
