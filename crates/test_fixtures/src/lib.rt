@@ -9,7 +9,7 @@ mod numbers;
 mod replies;
 
 pub use calls::{Ask, Call, command_of, step_of};
-pub use listings::{Listing, are_same, have_same_rows, listing_of};
-pub use looks::{GroupSeen, Seen, TaskSeen, is_group, is_task, seen_of};
+pub use listings::{Listing, are_same, going_at, have_same_rows, listing_of};
+pub use looks::{Going, GroupSeen, Seen, TaskSeen, going_of, is_group, is_task, seen_of};
 pub use numbers::{digits, numbered};
-pub use replies::{Said, said_by};
+pub use replies::{Said, answered, finished, said_by, started};

@@ -1,6 +1,7 @@
 //! All that a state shows, row by row, so that two states can be compared.
 
-use run_model::{GroupLook, Layout, Look, TaskLook};
+use crate::looks::{Going, going_of};
+use run_model::{GroupLook, Layout, Look, Name, TaskLook, Text};
 use run_state::State;
 use std::alloc::{Allocator, Global};
 
@@ -17,6 +18,8 @@ pub struct Listing {
     pub is_found: bool,
     /// Its scopes, by ascending number.
     pub scopes: Vec<Look>,
+    /// What key `region` holds in each.
+    pub regions: Vec<Option<Text>>,
     /// Its groups, by ascending number.
     pub groups: Vec<GroupLook>,
     /// Its tasks, by ascending number.
@@ -27,15 +30,17 @@ pub struct Listing {
 pub fn listing_of<A: Allocator>(alloc: Global, state: &State<A>) -> Option<Listing> {
     match (
         scopes_of(alloc, state),
+        regions_of(alloc, state),
         groups_of(alloc, state),
         tasks_of(alloc, state),
     ) {
-        (Some(scopes), Some(groups), Some(tasks)) => Some(Listing {
+        (Some(scopes), Some(regions), Some(groups), Some(tasks)) => Some(Listing {
             layout: state.layout(),
             count: state.count(),
             clock: state.clock().get(),
             is_found: has_names(state, &scopes, &groups) && has_phases(state, &tasks),
             scopes,
+            regions,
             groups,
             tasks,
         }),
@@ -55,6 +60,20 @@ fn scopes_of<A: Allocator>(alloc: Global, state: &State<A>) -> Option<Vec<Look>>
     let mut rows = Vec::new(alloc);
     for n in 0..state.scope_count() {
         if !add(&mut rows, state.look(n.min(65_535) as u16)) {
+            return None;
+        }
+    }
+    Some(rows)
+}
+
+fn regions_of<A: Allocator>(alloc: Global, state: &State<A>) -> Option<Vec<Option<Text>>> {
+    let Some(region) = Name::read(b"region") else {
+        return None;
+    };
+    let mut rows = Vec::new(alloc);
+    for n in 0..state.scope_count() {
+        let row = state.value(n.min(65_535) as u16, &region);
+        if !add(&mut rows, Some(row)) {
             return None;
         }
     }
@@ -110,6 +129,7 @@ pub fn have_same_rows(one: &Listing, other: &Listing) -> bool {
     one.layout == other.layout
         && one.clock == other.clock
         && one.scopes == other.scopes
+        && one.regions == other.regions
         && one.groups == other.groups
         && one.tasks == other.tasks
 }
@@ -117,4 +137,12 @@ pub fn have_same_rows(one: &Listing, other: &Listing) -> bool {
 /// Says whether two states show the same.
 pub fn are_same(one: &Listing, other: &Listing) -> bool {
     one.count == other.count && have_same_rows(one, other)
+}
+
+/// How far a task is, if there is one of this number.
+pub fn going_at(listing: &Listing, task: usize) -> Option<Going<'_>> {
+    match listing.tasks.get(task) {
+        Some(look) => Some(going_of(&look.phase)),
+        None => None,
+    }
 }

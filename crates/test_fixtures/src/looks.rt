@@ -42,13 +42,42 @@ pub fn is_group(look: &GroupLook, called: &[u8], seen: &GroupSeen) -> bool {
         && bytes_of(&look.error) == seen.4
 }
 
+/// How far a task is.
+#[derive(Clone, Copy, PartialEq)]
+pub enum Going<'a> {
+    /// Not started, and not admitted.
+    Held,
+    /// Not started, and admitted.
+    Ready,
+    /// Started and not finished.
+    Running,
+    /// Finished without an error.
+    Success,
+    /// Finished with this error.
+    Failure(&'a [u8]),
+    /// Cut off by a restart.
+    Interrupted,
+}
+
+/// How far a task is, by its phase.
+pub fn going_of(phase: &Phase) -> Going<'_> {
+    match phase {
+        Phase::Held => Going::Held,
+        Phase::Ready => Going::Ready,
+        Phase::Running => Going::Running,
+        Phase::Success => Going::Success,
+        Phase::Failure(error) => Going::Failure(error.as_bytes()),
+        Phase::Interrupted => Going::Interrupted,
+    }
+}
+
 /// A task's job and argument, how far it is, and which task it is a retry of.
-pub type TaskSeen = (&'static [u8], &'static [u8], Phase, Option<u16>);
+pub type TaskSeen = (&'static [u8], &'static [u8], Going<'static>, Option<u16>);
 
 /// Says whether this is seen of a task.
 pub fn is_task(look: &TaskLook, seen: &TaskSeen) -> bool {
     look.job.as_bytes() == seen.0
         && look.argument.as_bytes() == seen.1
-        && look.phase == seen.2
+        && going_of(&look.phase) == seen.2
         && look.retry_of == seen.3
 }

@@ -32,6 +32,30 @@ pub enum Said<'a> {
     Other,
 }
 
+/// The reply of a command that was answered so.
+pub fn answered(answer: Result<Answer, Refusal>) -> Reply {
+    match answer {
+        Ok(answer) => Reply::Answer(answer),
+        Err(refusal) => Reply::Refused(refusal),
+    }
+}
+
+/// The reply of a start that was answered so.
+pub fn started(answer: Result<Started, Refusal>) -> Reply {
+    match answer {
+        Ok(started) => Reply::Started(started),
+        Err(refusal) => Reply::Refused(refusal),
+    }
+}
+
+/// The reply of a finish that was answered so.
+pub fn finished(answer: Result<u64, Refusal>) -> Reply {
+    match answer {
+        Ok(event) => Reply::Finished(event),
+        Err(refusal) => Reply::Refused(refusal),
+    }
+}
+
 /// What a reply says.
 pub fn said_by(reply: &Reply) -> Said<'_> {
     match reply {

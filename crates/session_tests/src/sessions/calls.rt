@@ -1,31 +1,10 @@
 //! Calls of a session, and the first of a table that is answered otherwise.
 
-use run_model::{Answer, Refusal, Reply, Started, Step};
+use run_model::{Refusal, Reply, Step};
 use run_session::Session;
 use std::alloc::Allocator;
 use std::process::Abort;
-use test_fixtures::{Call, Said, said_by, step_of};
-
-fn answered(answer: Result<Answer, Refusal>) -> Reply {
-    match answer {
-        Ok(answer) => Reply::Answer(answer),
-        Err(refusal) => Reply::Refused(refusal),
-    }
-}
-
-fn started(answer: Result<Started, Refusal>) -> Reply {
-    match answer {
-        Ok(started) => Reply::Started(started),
-        Err(refusal) => Reply::Refused(refusal),
-    }
-}
-
-fn finished(answer: Result<u64, Refusal>) -> Reply {
-    match answer {
-        Ok(event) => Reply::Finished(event),
-        Err(refusal) => Reply::Refused(refusal),
-    }
-}
+use test_fixtures::{Call, Said, answered, finished, said_by, started, step_of};
 
 /// Makes a call, which is one of a session's.
 pub fn reply<A: Allocator>(rt: &impl Abort, session: &mut Session<A>, call: Call) -> Reply {

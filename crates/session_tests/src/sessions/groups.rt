@@ -1,13 +1,12 @@
 //! Groups and their tasks, by commands, starts and finishes.
 
-use crate::sessions::looks::Going;
 use crate::sessions::steps::Step::{Count, Refuses, Running, Says, Scopes, Tasks};
 use crate::sessions::steps::{Step, play};
 use run_model::Refusal;
 use test_fixtures::Call::{
     Advance, Bare, Cancel, Derive, Fail, Go, Group, Limit, Retry, Start, Succeed, Try, Wait,
 };
-use test_fixtures::{Ask, Said, Seen};
+use test_fixtures::{Ask, Going, Said, Seen};
 
 static LIMIT_OF_TWO: [Step; 4] = [
     Says(&[

@@ -2,12 +2,12 @@
 
 use crate::values::name;
 use record_view::EventView;
-use run_model::{Look, Phase, TaskLook};
+use run_model::{Look, TaskLook};
 use run_session::Session;
 use run_state::State;
 use std::alloc::Allocator;
 use std::process::Abort;
-use test_fixtures::{GroupSeen, Seen, is_group, seen_of};
+use test_fixtures::{Going, GroupSeen, Seen, going_of, is_group, seen_of};
 
 /// A scope by its number: how it is, and its deadline.
 pub type ScopeRow = (u16, Seen<'static>, Option<u64>);
@@ -26,34 +26,6 @@ pub fn first_scope_unlike<A: Allocator>(state: &State<A>, rows: &[ScopeRow]) -> 
         }
     }
     None
-}
-
-/// How far a task is.
-#[derive(Clone, Copy, PartialEq, Eq)]
-pub enum Going<'a> {
-    /// Not started, and not admitted.
-    Held,
-    /// Not started, and admitted.
-    Ready,
-    /// Started and not finished.
-    Running,
-    /// Finished without an error.
-    Success,
-    /// Finished with this error.
-    Failure(&'a [u8]),
-    /// Cut off by a restart.
-    Interrupted,
-}
-
-fn going_of(phase: &Phase) -> Going<'_> {
-    match phase {
-        Phase::Held => Going::Held,
-        Phase::Ready => Going::Ready,
-        Phase::Running => Going::Running,
-        Phase::Success => Going::Success,
-        Phase::Failure(error) => Going::Failure(error.as_bytes()),
-        Phase::Interrupted => Going::Interrupted,
-    }
 }
 
 /// The first task that isn't as far as this, by ascending number; or how many there are, if that

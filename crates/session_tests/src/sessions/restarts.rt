@@ -1,7 +1,6 @@
 //! Sessions that begin behind a restart: what was running is interrupted, and can be retried once.
 
 use crate::asserts::{done, holds};
-use crate::sessions::looks::Going;
 use crate::sessions::steps::Step::{Count, Records, Refuses, Running, Says, Scopes, Task, Tasks};
 use crate::sessions::steps::{Step, play, take};
 use record_view::EventView;
@@ -11,7 +10,7 @@ use run_state::State;
 use std::alloc::Global;
 use std::process::Abort;
 use test_fixtures::Call::{Bare, Go, Group, Limit, Retry, Start, Succeed, Wait};
-use test_fixtures::{Call, Said, Seen, command_of};
+use test_fixtures::{Call, Going, Said, Seen, command_of};
 
 /// Changes a state by what a command asks for.
 fn obey(state: &mut State, command: &Command) -> Result<(), Refusal> {

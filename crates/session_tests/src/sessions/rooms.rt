@@ -2,7 +2,6 @@
 
 use crate::asserts::{done, holds};
 use crate::heaps::{heap_of, is_full};
-use crate::sessions::looks::Going;
 use crate::sessions::steps::Step::{Says, Scopes, Tasks, Value};
 use crate::sessions::steps::{Step, begun, take};
 use linked_list_allocator::LocalHeap;
@@ -12,7 +11,7 @@ use run_state::State;
 use std::alloc::Global;
 use std::process::Abort;
 use test_fixtures::Call::{Advance, Bare, Cancel, Derive, Go, Group, Limit, Start, Try, Wait};
-use test_fixtures::{Ask, Call, Said, Seen};
+use test_fixtures::{Ask, Call, Going, Said, Seen};
 
 /// How many bytes a state alone takes of a heap.
 fn bytes_of_a_state(rt: &impl Abort, heap: &LocalHeap) -> usize {

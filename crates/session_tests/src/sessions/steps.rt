@@ -5,7 +5,7 @@ use crate::asserts::done;
 use crate::sessions::calls::{first_unlike, first_unrefused, reply};
 use crate::sessions::fills::{Fill, first_unfilled};
 use crate::sessions::looks::{
-    Going, ScopeRow, TaskRow, first_event_unlike, first_scope_unlike, first_task_unlike, has_group,
+    ScopeRow, TaskRow, first_event_unlike, first_scope_unlike, first_task_unlike, has_group,
     has_task, has_value,
 };
 use record_view::EventView;
@@ -13,7 +13,7 @@ use run_model::{Layout, Refusal};
 use run_session::Session;
 use std::alloc::{Allocator, Global};
 use std::process::Abort;
-use test_fixtures::{Call, GroupSeen, Said};
+use test_fixtures::{Call, Going, GroupSeen, Said};
 
 /// A step of a test.
 #[derive(Clone, Copy)]
