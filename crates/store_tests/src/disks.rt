@@ -264,6 +264,15 @@ fn shows_each_stop_of_forty_calls(rt: HostRuntime) {
     }
 }
 
+/// Says whether these bytes are left, by a write that was made and synced or by none.
+fn is_left(image: &[u8], whole: bool) -> bool {
+    if whole {
+        image == b"\0\0\x05\x06\x07\0\0\0".as_slice()
+    } else {
+        image == [0; 8].as_slice()
+    }
+}
+
 /// Says whether there is room for what a crash leaves now, which is right.
 fn leaves<'h>(
     rt: &impl Abort,
@@ -271,13 +280,8 @@ fn leaves<'h>(
     disk: &MemoryDisk<&'h LocalHeap>,
     whole: bool,
 ) -> bool {
-    let wanted: &[u8] = if whole {
-        &[0, 0, 5, 6, 7, 0, 0, 0]
-    } else {
-        &[0; 8]
-    };
     let (made, right) = match disk.image(heap, disk.calls(), Torn::Keep) {
-        Ok(image) => (true, image.as_slice() == wanted),
+        Ok(image) => (true, is_left(&image, whole)),
         Err(fault) => (false, fault == Fault::Memory),
     };
     holds(rt, right, "image", made as usize);

@@ -1,7 +1,7 @@
 //! What a store holds, a [`Pair`], and the journals that the tests of stores make it by.
 
 use crate::asserts::{done, holds};
-use crate::bytes::{disk_of, filled};
+use crate::bytes::{disk_of, filled, put};
 use run_disk::{MemoryDisk, RunDisk};
 use run_journal::{Journal, Stored};
 use run_model::Fault::DiskFailed;
@@ -98,7 +98,7 @@ pub enum Call {
 /// A body with this image from place 12 on.
 fn body_of(image: &[u8; 23]) -> [u8; 35] {
     let mut body = [0xEE; 35];
-    body[12..].copy_from_slice(image);
+    put(&mut body, 12, image);
     body
 }
 

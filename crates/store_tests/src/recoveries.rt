@@ -191,6 +191,12 @@ fn a_failed_read_comes_before_what_a_later_read_would_tell(rt: HostRuntime) {
     }
 }
 
+/// The fault of a recovery that takes its memory of a heap, if it has one.
+fn fault_within(heap: &LocalHeap, disk: FailOnce<MemoryDisk>) -> Option<Fault> {
+    let mut disk = disk;
+    Journal::recover(heap, &mut disk).err()
+}
+
 /// Sizes, and what is told where there is no memory and each call fails.
 static FIRST_TOLD: [(usize, Fault); 2] = [(1_572_864, Fault::Memory), (10, Fault::WrongSize)];
 
@@ -198,8 +204,8 @@ static FIRST_TOLD: [(usize, Fault); 2] = [(1_572_864, Fault::Memory), (10, Fault
 fn size_and_memory_are_looked_at_before_any_read(rt: HostRuntime) {
     let no_room = done(&rt, LocalHeap::new(rt.alloc(), 0), "memory");
     for (size, fault) in FIRST_TOLD.iter() {
-        let mut failing = FailOnce::new(blank(&rt, rt.alloc(), *size), 1);
-        let told = Journal::recover(&no_room, &mut failing).err();
+        let failing = FailOnce::new(blank(&rt, rt.alloc(), *size), 1);
+        let told = fault_within(&no_room, failing);
         holds(&rt, told == Some(*fault), "size", *size);
     }
 }

@@ -58,19 +58,35 @@ static STOPS: [Stop; 3] = [
     (CHECKPOINT, 31, 24, &ONE_BATCH, &CHECKPOINTED),
 ];
 
+/// Asserts that a stop behind so many calls, torn in this way, leaves this pair.
+fn assert_left(
+    rt: &impl Abort,
+    alloc: Global,
+    disk: &MemoryDisk,
+    calls: u64,
+    torn: Torn,
+    pair: &Pair,
+) {
+    let right = holds_pair(rt, alloc, left(rt, alloc, disk, calls, torn), pair);
+    holds(rt, right, "behind call", calls as usize);
+}
+
 /// A stop behind each call from this one on, torn in each way, leaves the pair from before, or once
 /// the last write may have opened its gate the pair from after.
-fn walk(rt: &impl Abort, alloc: Global, disk: &MemoryDisk, from: u64, before: &Pair, after: &Pair) {
+fn walk(
+    rt: &impl Abort,
+    alloc: Global,
+    disk: &MemoryDisk,
+    from: u64,
+    before: &'static Pair<'static>,
+    after: &'static Pair<'static>,
+) {
     let last = disk.calls();
     for calls in from..=last {
         for (torn, opens) in TEARS.iter() {
-            let bytes = left(rt, alloc, disk, calls, *torn);
-            let right = if calls == last || (*opens && calls.saturating_add(1) == last) {
-                holds_pair(rt, alloc, bytes, after)
-            } else {
-                holds_pair(rt, alloc, bytes, before)
-            };
-            holds(rt, right, "behind call", calls as usize);
+            let is_done = calls == last || (*opens && calls.saturating_add(1) == last);
+            let pair = if is_done { after } else { before };
+            assert_left(rt, alloc, disk, calls, *torn, pair);
         }
     }
 }
