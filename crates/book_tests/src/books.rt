@@ -4,26 +4,25 @@
 //! `Recovers` and `Formats`, which count the device calls, and on the clauses of `history`.
 
 use crate::asserts::{done, holds};
-use crate::calls::Call::{
-    Cancel, Cause, Checkpoint, Flush, Go, Group, Plain, Start, Succeed, Wait,
-};
-use crate::calls::{Call, Said, assert_said};
+use crate::calls::assert_said;
 use crate::disks::{
     book_of, counted_on, formatted, found_on, fresh, played, shown_by, told_by_opening,
 };
-use crate::looks::{Seen, assert_group, assert_scopes, assert_tasks, listed};
+use crate::looks::{assert_group, assert_scopes, assert_tasks, listed};
 use record_view::{EventView, Events};
 use run_book::{Book, State};
 use run_disk::MemoryDisk;
 use run_model::{Fault, Layout, Phase, Refusal};
 use std::alloc::Global;
 use std::process::Abort;
+use test_fixtures::Call::{Cancel, Checkpoint, Derive, Flush, Go, Group, Start, Succeed, Wait};
+use test_fixtures::{Ask, Call, Going, Said, Seen};
 
 /// Steps, each with its answer.
 const ROWS: [(Call, Said<'static>); 16] = [
     (Flush, Said::Acked(1)),
-    (Cause(b"a", b"root"), Said::Scope(1)),
-    (Plain(b"b", b"a"), Said::Scope(2)),
+    (Derive(b"a", b"root", Ask::Cause), Said::Scope(1)),
+    (Derive(b"b", b"a", Ask::Cancel), Said::Scope(2)),
     (Flush, Said::Acked(3)),
     (Cancel(b"a", b"disk"), Said::Done),
     (Cancel(b"a", b"disk"), Said::Refused(Refusal::AlreadyDone)),
@@ -49,7 +48,7 @@ fn assert_rows_left(rt: &impl Abort, alloc: Global, state: &State) {
     ];
     assert_scopes(rt, &listing, &scopes);
     assert_group(rt, &listing, b"g", (3, 0, None, true, None));
-    assert_tasks(rt, &listing, &[(b"a", Phase::Success, None)]);
+    assert_tasks(rt, &listing, &[(b"copy", b"a", Going::Success, None)]);
 }
 
 /// The disk of a new book behind those steps. Their records have 8, 8, 10, 7, 12, 5, 6 and 5
@@ -103,7 +102,7 @@ fn a_list_of_steps_is_answered_one_by_one(rt: HostRuntime) {
 
 /// Steps before and since the opening of the next test.
 const BEFORE: [(Call, Said<'static>); 2] = [
-    (Cause(b"old", b"root"), Said::Scope(1)),
+    (Derive(b"old", b"root", Ask::Cause), Said::Scope(1)),
     (Flush, Said::Acked(2)),
 ];
 

@@ -5,14 +5,14 @@
 //! calls); the bytes are those of docs/formats.
 
 use crate::asserts::holds;
-use crate::calls::Call::{Checkpoint, Flush};
-use crate::calls::{Call, Said};
 use crate::disks::{At, assert_bytes, formatted, now, played};
 use crate::six_events::{FIRST, FIRST_BATCH, SECOND, SECOND_BATCH};
 use run_disk::MemoryDisk;
 use run_model::Layout;
 use std::alloc::Global;
 use std::process::Abort;
+use test_fixtures::Call::{Checkpoint, Flush};
+use test_fixtures::{Call, Said};
 
 /// A slot of generation 0 with root alone, before any event.
 pub const FORMATTED: &[u8; 36] = b"\xa7\0\0\0\0\0\0\0\0\0\0\0\x17\x02\0\0\0\0\0\0\0\0\

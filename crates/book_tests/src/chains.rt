@@ -4,16 +4,16 @@
 //! This rests on `lasts` and `why` of `use_store` and of `use_new_store`.
 
 use crate::asserts::holds;
-use crate::calls::Call::{Flush, Go, Group, Start, Succeed};
-use crate::calls::{Call, Said, assert_replies, steps_of};
+use crate::calls::{assert_replies, steps_of};
 use crate::disks::{formatted, now, recovered, room};
-use crate::looks::phase_of;
 use book_laws::laws::{use_new_store_in_memory, use_store};
 use run_book::Book;
 use run_disk::{FailOnce, MemoryDisk};
-use run_model::{Fault, Layout, Phase, Refusal, Step, Trouble};
+use run_model::{Fault, Layout, Refusal, Step, Trouble};
 use std::alloc::Global;
 use std::process::Abort;
+use test_fixtures::Call::{Flush, Go, Group, Start, Succeed};
+use test_fixtures::{Call, Going, Said, going_at};
 
 /// Two tasks, flushed, and a start of the first that is not.
 const FIRST: [(Call, Said<'static>); 5] = [
@@ -59,8 +59,8 @@ fn a_row_of_calls_keeps_all_events(rt: HostRuntime) {
     for layout in [Layout::Small, Layout::Large] {
         let disk = kept(&rt, rt.alloc(), layout);
         let found = recovered(&rt, rt.alloc(), now(&rt, rt.alloc(), &disk));
-        let (first, second) = (phase_of(&found, 0), phase_of(&found, 1));
-        let are = (first, second) == (Some(&Phase::Interrupted), Some(&Phase::Success));
+        let tasks = (going_at(&found, 0), going_at(&found, 1));
+        let are = tasks == (Some(Going::Interrupted), Some(Going::Success));
         holds(&rt, are && found.count == 10, "events", found.count);
     }
 }

@@ -4,34 +4,29 @@
 //! memory.
 
 use crate::asserts::{given, holds};
-use crate::calls::Call::{Checkpoint, Flush, Start};
-use crate::calls::{Call, Said, add, add_steps, meaning, name};
+use crate::calls::{add, add_steps, name};
 use crate::disks::{formatted, now, play_without_memory, recovered};
-use crate::looks::Listing;
 use run_model::{Command, Layout, Limit, Name, Outcome, Phase, Refusal, Reply, Step};
 use std::alloc::Global;
 use std::process::Abort;
+use test_fixtures::Call::{Checkpoint, Flush, Start};
+use test_fixtures::{Call, Listing, Said, numbered, said_by};
 
-/// The last digit of a number.
-fn digit(n: u16) -> u8 {
-    b'0' + (n % 10) as u8
-}
-
-/// The name of group `n`, below 1,000: a letter and three digits.
-fn numbered(rt: &impl Abort, n: u16) -> Name {
-    name(rt, &[b'g', digit(n / 100), digit(n / 10), digit(n)])
+/// The name of group `n`: a letter and four digits.
+fn group(rt: &impl Abort, n: u16) -> Name {
+    name(rt, &numbered(b'g', n))
 }
 
 /// Adds the steps that make 128 groups of limit 1: each is made, and then limited.
 fn add_groups(rt: &impl Abort, steps: &mut Vec<Step>) {
     for n in 0..128 {
         let bare = Command::Bare {
-            name: numbered(rt, n),
+            name: group(rt, n),
             scope: name(rt, b"root"),
         };
         add(rt, steps, Step::Command(bare));
         let limit = Command::SetLimit {
-            group: numbered(rt, n),
+            group: group(rt, n),
             limit: given(rt, Limit::new(1), "limit"),
         };
         add(rt, steps, Step::Command(limit));
@@ -42,7 +37,7 @@ fn add_groups(rt: &impl Abort, steps: &mut Vec<Step>) {
 fn add_tasks(rt: &impl Abort, steps: &mut Vec<Step>) {
     for n in 0..2_048 {
         let go = Command::Go {
-            group: numbered(rt, n % 128),
+            group: group(rt, n % 128),
             job: name(rt, b"copy"),
             argument: name(rt, b"a"),
         };
@@ -99,7 +94,7 @@ fn assert_crowd(rt: &impl Abort, replies: &[Reply]) {
     holds(rt, replies.len() == 6_404, "replies", replies.len() as u64);
     for (n, reply) in replies.iter().enumerate() {
         let number = n.min(65_535) as u16;
-        holds(rt, meaning(reply) == wanted(number), "step", n as u64);
+        holds(rt, said_by(reply) == wanted(number), "step", n as u64);
     }
 }
 

@@ -3,8 +3,8 @@
 ghost use Rattle.std.specs.Prelude.{◌≡◌, ◌≤◌, [], length, vec_capacity};
 
 use crate::asserts::{done, holds};
-use crate::calls::{Call, Said, assert_replies, steps_of};
-use crate::looks::{Listing, listed};
+use crate::calls::{assert_replies, steps_of};
+use crate::looks::listed;
 use linked_list_allocator::LocalHeap;
 use record_view::Events;
 use run_book::{Book, State};
@@ -12,6 +12,7 @@ use run_disk::{MemoryDisk, RunDisk, Torn};
 use run_model::{Fault, Layout, Reply, Step};
 use std::alloc::{Allocator, Global};
 use std::process::Abort;
+use test_fixtures::{Call, Listing, Said};
 
 /// How a crash may tear what was not synced.
 pub const TEARS: [Torn; 6] = [

@@ -8,10 +8,7 @@
 //! lost.
 
 use crate::asserts::{holds, holds_behind};
-use crate::calls::Call::{
-    Cancel, Cause, Checkpoint, Flush, Go, Group, Retry, Start, Succeed, Wait,
-};
-use crate::calls::{Call, Said, assert_replies, meaning, steps_of};
+use crate::calls::{assert_replies, steps_of};
 use crate::disks::{
     Shown, TEARS, book_of, counted, counted_on, disk_of, formatted, played_on, room, shown_by,
     small_disk, torn_image,
@@ -23,6 +20,10 @@ use run_disk::{FailOnce, Fuse, MemoryDisk, RunDisk};
 use run_model::{Fault, Layout, Refusal, Reply, Step};
 use std::alloc::Global;
 use std::process::Abort;
+use test_fixtures::Call::{
+    Cancel, Checkpoint, Derive, Flush, Go, Group, Retry, Start, Succeed, Wait,
+};
+use test_fixtures::{Ask, Call, Said, said_by};
 
 const BROKEN: Said<'static> = Said::Refused(Refusal::Broken);
 
@@ -108,7 +109,7 @@ fn wanted(n: usize, failing: usize) -> Said<'static> {
 /// many there are, if there are not as many replies.
 fn first_unlike(replies: &[Reply], failing: usize) -> Option<usize> {
     for (n, reply) in replies.iter().enumerate() {
-        if meaning(reply) != wanted(n, failing) {
+        if said_by(reply) != wanted(n, failing) {
             return Some(n);
         }
     }
@@ -168,10 +169,10 @@ fn a_device_that_fails_for_good_breaks_the_book(rt: HostRuntime) {
 
 /// A flush that fails, then each kind of step, and some that would be refused by a sound book too.
 const REFUSED: [(Call, Said<'static>); 14] = [
-    (Cause(b"e", b"root"), Said::Scope(5)),
+    (Derive(b"e", b"root", Ask::Cause), Said::Scope(5)),
     (Checkpoint, FAILED),
-    (Cause(b"f", b"root"), BROKEN),
-    (Cause(b"a", b"nowhere"), BROKEN),
+    (Derive(b"f", b"root", Ask::Cause), BROKEN),
+    (Derive(b"a", b"nowhere", Ask::Cause), BROKEN),
     (Cancel(b"a", b"x"), BROKEN),
     (Group(b"g", b"root"), BROKEN),
     (Go(b"g", b"copy", b"a"), BROKEN),
@@ -270,7 +271,7 @@ fn a_recovery_that_fails_tells_so(rt: HostRuntime) {
 /// Behind a second flush that failed event 4 is durable, and events 5 and 6 are lost.
 const BEHIND: [(Call, Said<'static>); 3] = [
     (Flush, Said::Acked(5)),
-    (Cause(b"c", b"root"), Said::Scope(3)),
+    (Derive(b"c", b"root", Ask::Cause), Said::Scope(3)),
     (Flush, Said::Acked(6)),
 ];
 

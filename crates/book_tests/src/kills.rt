@@ -9,12 +9,12 @@ use crate::asserts::holds;
 use crate::calls::steps_of;
 use crate::disks::{TEARS, counted, now, opened_over, played_on, recovered, torn_image};
 use crate::failures::play_over_fuse;
-use crate::looks::{Listing, are_same};
 use crate::nights::{NIGHT, left, opens};
 use run_disk::{MemoryDisk, Torn, settle};
 use run_model::{Fault, Step};
 use std::alloc::Global;
 use std::process::Abort;
+use test_fixtures::{Listing, are_same};
 
 /// A book is killed behind so many calls of the night, the next opening is cut behind so many of
 /// its own ten, and that tears each write which no sync followed.

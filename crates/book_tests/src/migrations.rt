@@ -9,12 +9,13 @@ mod stores;
 
 use crate::asserts::{holds, holds_behind};
 use crate::disks::{counted, now, opened_over, recovered, torn_image};
-use crate::looks::{Listing, Seen, assert_group, assert_scopes, assert_tasks};
+use crate::looks::{assert_group, assert_scopes, assert_tasks};
 use crate::migrations::stores::{LARGE, LARGE_LEN, SMALL, SMALL_LEN, has, migrated, small, zeros};
 use run_disk::{MemoryDisk, Torn};
-use run_model::{Fault, Layout, Phase};
+use run_model::{Fault, Layout};
 use std::alloc::Global;
 use std::process::Abort;
+use test_fixtures::{Going, Listing, Seen, TaskSeen};
 
 /// The disk that the small store was migrated to, by eight calls; three were made of the old disk,
 /// which has the bytes that it had.
@@ -41,12 +42,15 @@ fn assert_night(
     found: &Listing,
     count: u64,
     seen: Seen<'static>,
-    phases: (Phase, Phase),
+    phases: (Going<'static>, Going<'static>),
 ) {
     let numbers = (found.layout, found.count);
     holds(rt, numbers == (Layout::Large, count), "events", count);
     assert_scopes(rt, found, &[(b"g", seen)]);
-    let tasks = [(b"a".as_slice(), phases.0, None), (b"b", phases.1, None)];
+    let tasks: [TaskSeen; 2] = [
+        (b"copy", b"a", phases.0, None),
+        (b"copy", b"b", phases.1, None),
+    ];
     assert_tasks(rt, found, &tasks);
 }
 
@@ -54,7 +58,7 @@ fn assert_night(
 fn its_running_task_is_still_running(rt: HostRuntime) {
     let new = taken_over(&rt, rt.alloc());
     let found = recovered(&rt, rt.alloc(), now(&rt, rt.alloc(), &new));
-    let phases = (Phase::Running, Phase::Held);
+    let phases = (Going::Running, Going::Held);
     assert_night(&rt, &found, 6, Seen::Live, phases);
     assert_group(&rt, &found, b"g", (1, 2, Some(1), false, None));
 }
@@ -62,7 +66,7 @@ fn its_running_task_is_still_running(rt: HostRuntime) {
 /// Asserts that the night goes on behind a restart: task 0 was interrupted, and task 1 is ready.
 fn assert_restarted(rt: &impl Abort, found: &Listing) {
     let interrupted = Seen::Canceled(b"interrupted");
-    let phases = (Phase::Interrupted, Phase::Ready);
+    let phases = (Going::Interrupted, Going::Ready);
     assert_night(rt, found, 7, interrupted, phases);
     let seen = (1, 1, Some(1), false, Some(b"interrupted".as_slice()));
     assert_group(rt, found, b"g", seen);

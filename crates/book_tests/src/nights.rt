@@ -6,23 +6,23 @@
 //! `IsTornImage` of the disk in memory. Further stops of openings are in `hostile_tests`.
 
 use crate::asserts::{holds, holds_behind};
-use crate::calls::Call::{Cancel, Cause, Checkpoint, Flush, Go, Group, Plain, Start};
-use crate::calls::{Call, Said};
 use crate::disks::{TEARS, counted, disk_of, played, played_on, small_disk, torn_image};
 use run_disk::{MemoryDisk, Torn};
 use run_model::Layout;
 use std::alloc::Global;
 use std::process::Abort;
+use test_fixtures::Call::{Cancel, Checkpoint, Derive, Flush, Go, Group, Start};
+use test_fixtures::{Ask, Call, Said};
 
 /// The steps, each with its answer. The opening makes ten device calls, each flush six, and the
 /// checkpoint seven: 35 in sum.
 pub const NIGHT: [(Call, Said<'static>); 12] = [
-    (Cause(b"a", b"root"), Said::Scope(1)),
-    (Plain(b"b", b"a"), Said::Scope(2)),
+    (Derive(b"a", b"root", Ask::Cause), Said::Scope(1)),
+    (Derive(b"b", b"a", Ask::Cancel), Said::Scope(2)),
     (Cancel(b"a", b"disk"), Said::Done),
     (Flush, Said::Acked(4)),
-    (Plain(b"c", b"root"), Said::Scope(3)),
-    (Plain(b"d", b"root"), Said::Scope(4)),
+    (Derive(b"c", b"root", Ask::Cancel), Said::Scope(3)),
+    (Derive(b"d", b"root", Ask::Cancel), Said::Scope(4)),
     (Flush, Said::Acked(6)),
     (Group(b"g", b"root"), Said::Group(0, Some(5))),
     (Go(b"g", b"copy", b"a"), Said::Ready(0)),

@@ -3,14 +3,14 @@
 //! This rests on `Opens`: a book begins behind the restart of what is stored.
 
 use crate::asserts::holds;
-use crate::calls::Call::{Bare, Checkpoint, Flush, Go, Group, Limit, Start, Succeed};
-use crate::calls::{Call, Said};
 use crate::disks::{now, played, played_over, recovered};
-use crate::looks::{Listing, Seen, assert_group, assert_scopes, phase_of};
+use crate::looks::{assert_group, assert_scopes};
 use run_disk::MemoryDisk;
-use run_model::{Layout, Phase};
+use run_model::Layout;
 use std::alloc::Global;
 use std::process::Abort;
+use test_fixtures::Call::{Bare, Checkpoint, Flush, Go, Group, Limit, Start, Succeed};
+use test_fixtures::{Call, Going, Listing, Said, Seen, going_at};
 
 /// Two tasks in a group of limit 1, flushed.
 const SUBMITTED: [(Call, Said<'static>); 5] = [
@@ -24,7 +24,7 @@ const SUBMITTED: [(Call, Said<'static>); 5] = [
 const STARTED: (Call, Said<'static>) = (Start, Said::Started(6, 0, b"copy", b"a", false));
 
 /// The event count, and how far tasks 0 and 1 are.
-type Tasks = (u64, Phase, Phase);
+type Tasks = (u64, Going<'static>, Going<'static>);
 
 /// What is done with the first task before the stop, by which steps, and what an opening makes of
 /// both.
@@ -35,21 +35,21 @@ type Stopped = (
 );
 
 const STOPPED: [Stopped; 6] = [
-    ("no start", &[&SUBMITTED], (6, Phase::Ready, Phase::Held)),
+    ("no start", &[&SUBMITTED], (6, Going::Ready, Going::Held)),
     (
         "a start",
         &[&SUBMITTED, &[STARTED]],
-        (6, Phase::Ready, Phase::Held),
+        (6, Going::Ready, Going::Held),
     ),
     (
         "a start, flushed",
         &[&SUBMITTED, &[STARTED, (Flush, Said::Acked(6))]],
-        (7, Phase::Interrupted, Phase::Ready),
+        (7, Going::Interrupted, Going::Ready),
     ),
     (
         "a start, in a checkpoint",
         &[&SUBMITTED, &[STARTED, (Checkpoint, Said::Acked(6))]],
-        (7, Phase::Interrupted, Phase::Ready),
+        (7, Going::Interrupted, Going::Ready),
     ),
     (
         "a finish behind it",
@@ -58,7 +58,7 @@ const STOPPED: [Stopped; 6] = [
             &[STARTED, (Flush, Said::Acked(6))],
             &[(Succeed(0), Said::Finished(7))],
         ],
-        (7, Phase::Interrupted, Phase::Ready),
+        (7, Going::Interrupted, Going::Ready),
     ),
     (
         "a finish, flushed",
@@ -67,15 +67,15 @@ const STOPPED: [Stopped; 6] = [
             &[STARTED, (Succeed(0), Said::Finished(7))],
             &[(Flush, Said::Acked(7))],
         ],
-        (8, Phase::Success, Phase::Ready),
+        (8, Going::Success, Going::Ready),
     ),
 ];
 
 /// Says whether so many events are stored, and both tasks are so far.
 fn are_tasks(found: &Listing, wanted: &Tasks) -> bool {
-    let is_first = phase_of(found, 0) == Some(&wanted.1);
-    let is_second = phase_of(found, 1) == Some(&wanted.2);
-    found.count == wanted.0 && is_first && is_second
+    found.count == wanted.0
+        && going_at(found, 0) == Some(wanted.1)
+        && going_at(found, 1) == Some(wanted.2)
 }
 
 /// What a disk holds behind a stop, opened again.

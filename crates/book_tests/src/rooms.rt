@@ -5,11 +5,7 @@
 //! whose allocator may refuse everything. That memory is given back no clause says.
 
 use crate::asserts::{done, given, holds};
-use crate::calls::Call::{
-    Advance, Bare, Cancel, Cause, Checkpoint, Flush, Go, Group, Limit, Plain, Retry, Start,
-    Succeed, Wait,
-};
-use crate::calls::{Call, Said, assert_replies, meaning, name, step, steps_of, take};
+use crate::calls::{assert_replies, name, step, steps_of, take};
 use crate::disks::{AMPLE, book_of, disk_of, formatted, heap, play_without_memory, played};
 use linked_list_allocator::LocalHeap;
 use run_book::Book;
@@ -17,6 +13,10 @@ use run_disk::{Fuse, MemoryDisk, RunDisk};
 use run_model::{Fault, Layout, Refusal};
 use std::alloc::{Allocator, Global};
 use std::process::Abort;
+use test_fixtures::Call::{
+    Advance, Bare, Cancel, Checkpoint, Derive, Flush, Go, Group, Limit, Retry, Start, Succeed, Wait,
+};
+use test_fixtures::{Ask, Call, Said, said_by};
 
 /// How many bytes a state has in memory.
 fn bytes_of_state(rt: &impl Abort, alloc: Global, layout: Layout) -> usize {
@@ -111,7 +111,7 @@ fn a_refused_growth_comes_before_any_device_call(rt: HostRuntime) {
 
 /// Steps of each kind, each with its answer.
 const ROWS: [(Call, Said<'static>); 15] = [
-    (Cause(b"a", b"root"), Said::Scope(1)),
+    (Derive(b"a", b"root", Ask::Cause), Said::Scope(1)),
     (Cancel(b"a", b"disk"), Said::Done),
     (Cancel(b"a", b""), Said::Refused(Refusal::AlreadyDone)),
     (Group(b"g", b"root"), Said::Group(0, Some(2))),
@@ -153,8 +153,8 @@ const FIRST: [(Call, Said<'static>); 4] = [
 /// Behind a restart, a step of each kind and each command, each with its answer.
 const SECOND: [(Call, Said<'static>); 22] = [
     (Retry(0), Said::Ready(1)),
-    (Cause(b"a", b"root"), Said::Scope(2)),
-    (Plain(b"p", b"a"), Said::Scope(3)),
+    (Derive(b"a", b"root", Ask::Cause), Said::Scope(2)),
+    (Derive(b"p", b"a", Ask::Cancel), Said::Scope(3)),
     (Cancel(b"a", b"disk"), Said::Done),
     (Cancel(b"a", b""), Said::Refused(Refusal::AlreadyDone)),
     (Advance(5), Said::Done),
@@ -206,7 +206,7 @@ fn assert_kept(rt: &impl Abort, alloc: Global, layout: Layout) {
     let used = heap.used();
     for (n, row) in SECOND.iter().enumerate() {
         let reply = take(&mut book, &step(rt, row.0));
-        let told = (meaning(&reply), heap.used());
+        let told = (said_by(&reply), heap.used());
         holds(rt, told == (row.1, used), "bytes behind row", n as u64);
     }
     let found = [true, false, true, true, true, true, true];

@@ -4,13 +4,14 @@
 //! rules of SessionFull, which `AnswersStep` takes up.
 
 use crate::asserts::holds;
-use crate::calls::Call::{Advance, Bare, Checkpoint, Flush, Go, Group, Limit, Start, Wait};
-use crate::calls::{Call, Said, add_steps, assert_last};
+use crate::calls::{add_steps, assert_last};
 use crate::disks::{At, assert_bytes, counted_on, formatted, now, play, played_on};
 use run_disk::MemoryDisk;
 use run_model::{Layout, Refusal, Step};
 use std::alloc::Global;
 use std::process::Abort;
+use test_fixtures::Call::{Advance, Bare, Checkpoint, Flush, Go, Group, Limit, Start, Wait};
+use test_fixtures::{Call, Said};
 
 /// Adds so many advances of the clock, by one second each: 11 bytes each.
 fn add_advances(rt: &impl Abort, steps: &mut Vec<Step>, advances: u64) {

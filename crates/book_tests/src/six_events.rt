@@ -1,13 +1,13 @@
 //! Six events, as steps and as bytes: the opening's, three that are flushed, and two that are
 //! pending.
 
-use crate::calls::Call::{Cancel, Cause, Flush, Plain};
-use crate::calls::{Call, Said};
+use test_fixtures::Call::{Cancel, Derive, Flush};
+use test_fixtures::{Ask, Call, Said};
 
 /// Events 2 to 4.
 pub const FIRST: [(Call, Said<'static>); 3] = [
-    (Cause(b"a", b"root"), Said::Scope(1)),
-    (Plain(b"b", b"a"), Said::Scope(2)),
+    (Derive(b"a", b"root", Ask::Cause), Said::Scope(1)),
+    (Derive(b"b", b"a", Ask::Cancel), Said::Scope(2)),
     (Cancel(b"a", b"disk"), Said::Done),
 ];
 
@@ -18,8 +18,8 @@ pub const FIRST_BATCH: &[u8; 31] = b"\xa7\0\0\0\x1a\x01\0\x05\x01a\0\0\x02\
 /// Their flush, and events 5 and 6.
 pub const SECOND: [(Call, Said<'static>); 3] = [
     (Flush, Said::Acked(4)),
-    (Plain(b"c", b"root"), Said::Scope(3)),
-    (Plain(b"d", b"root"), Said::Scope(4)),
+    (Derive(b"c", b"root", Ask::Cancel), Said::Scope(3)),
+    (Derive(b"d", b"root", Ask::Cancel), Said::Scope(4)),
 ];
 
 /// The batch of events 5 and 6.

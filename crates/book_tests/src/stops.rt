@@ -7,16 +7,16 @@
 //! What a crash may make of the bytes rests on `IsTornImage` of the disk in memory.
 
 use crate::asserts::{holds, holds_behind};
-use crate::calls::Call::{Cause, Checkpoint, Flush};
-use crate::calls::{Call, Said};
 use crate::disks::{TEARS, counted, disk_of, formatted, played, played_on, recovered, torn_image};
-use crate::looks::{Seen, assert_scopes};
+use crate::looks::assert_scopes;
 use crate::nights::opens;
 use crate::six_events::{FIRST, SECOND};
 use run_disk::{MemoryDisk, Torn};
 use run_model::{Fault, Layout};
 use std::alloc::Global;
 use std::process::Abort;
+use test_fixtures::Call::{Checkpoint, Derive, Flush};
+use test_fixtures::{Ask, Call, Said, Seen};
 
 /// A number of events, and the scopes behind them.
 type Stored = (u64, &'static [(&'static [u8], Seen<'static>)]);
@@ -102,7 +102,7 @@ fn a_stop_of_an_opening_leaves_the_store_or_its_restart(rt: HostRuntime) {
 fn assert_goes_on(rt: &impl Abort, alloc: Global, bytes: Vec<u8>, count: u64, next: u16) {
     let rows = [
         (Flush, Said::Acked(count)),
-        (Cause(b"e", b"root"), Said::Scope(next)),
+        (Derive(b"e", b"root", Ask::Cause), Said::Scope(next)),
         (Flush, Said::Acked(count.saturating_add(1))),
     ];
     played_on(rt, alloc, disk_of(rt, alloc, bytes), &[&rows]);

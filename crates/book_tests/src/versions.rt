@@ -3,17 +3,17 @@
 //! This rests on `Recovers` and `Opens`, whose `Stores` takes images of either version.
 
 use crate::asserts::{holds, holds_behind};
-use crate::calls::Call::{Flush, Retry};
-use crate::calls::Said;
 use crate::disks::{
     At, assert_bytes, counted, disk_of, now, played_on, recovered, small_disk, told_by_opening,
     torn_image,
 };
-use crate::looks::{Listing, Seen, assert_group, assert_scopes, assert_tasks};
+use crate::looks::{assert_group, assert_scopes, assert_tasks};
 use run_disk::{MemoryDisk, Torn};
-use run_model::{Fault, Phase};
+use run_model::Fault;
 use std::alloc::Global;
 use std::process::Abort;
+use test_fixtures::Call::{Flush, Retry};
+use test_fixtures::{Going, Listing, Said, Seen, TaskSeen};
 
 /// Slot 0 of generation 0 with an image of version 1, of 57 bytes: six events, group `g` of limit
 /// 1 with its scope, task 0, which runs, and task 1, which is held.
@@ -61,9 +61,9 @@ fn assert_running(rt: &impl Abort, found: &Listing) {
     holds(rt, (found.count, found.clock) == (6, 0), "events", 6);
     assert_scopes(rt, found, &[(b"g", Seen::Live)]);
     assert_group(rt, found, b"g", (1, 2, Some(1), false, None));
-    let tasks = [
-        (b"a".as_slice(), Phase::Running, None),
-        (b"b", Phase::Held, None),
+    let tasks: [TaskSeen; 2] = [
+        (b"copy", b"a", Going::Running, None),
+        (b"copy", b"b", Going::Held, None),
     ];
     assert_tasks(rt, found, &tasks);
 }
@@ -78,9 +78,9 @@ fn assert_interrupted(rt: &impl Abort, found: &Listing) {
         b"g",
         (1, 1, Some(1), false, Some(b"interrupted")),
     );
-    let tasks = [
-        (b"a".as_slice(), Phase::Interrupted, None),
-        (b"b", Phase::Ready, None),
+    let tasks: [TaskSeen; 2] = [
+        (b"copy", b"a", Going::Interrupted, None),
+        (b"copy", b"b", Going::Ready, None),
     ];
     assert_tasks(rt, found, &tasks);
 }
@@ -88,10 +88,10 @@ fn assert_interrupted(rt: &impl Abort, found: &Listing) {
 /// Asserts that task 2 retries task 0.
 fn assert_retried(rt: &impl Abort, found: &Listing) {
     holds(rt, found.count == 8, "events", 8);
-    let tasks = [
-        (b"a".as_slice(), Phase::Interrupted, None),
-        (b"b", Phase::Ready, None),
-        (b"a", Phase::Held, Some(0)),
+    let tasks: [TaskSeen; 3] = [
+        (b"copy", b"a", Going::Interrupted, None),
+        (b"copy", b"b", Going::Ready, None),
+        (b"copy", b"a", Going::Held, Some(0)),
     ];
     assert_tasks(rt, found, &tasks);
 }
