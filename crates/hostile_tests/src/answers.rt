@@ -1,46 +1,26 @@
-//! What a step is answered, in short.
+//! The first step that is answered otherwise.
 
-use run_model::{Answer, Fault, Phase, Refusal, Reply};
+use run_model::Reply;
+use test_fixtures::{Said, said_by};
 
-/// What a step is answered.
-#[derive(Clone, Copy, PartialEq)]
-pub enum Said {
-    /// The number of a scope, a group, a ready task or an event; 0 of what is done without one.
-    Number(u64),
-    /// A refusal.
-    Refused(Refusal),
-    /// A fault.
-    Faulty(Fault),
-    /// Anything else.
-    Other,
-}
-
-fn said_of_answer(answer: &Answer) -> Said {
-    match answer {
-        Answer::Scope(scope) => Said::Number(*scope as u64),
-        Answer::Group(group, _) => Said::Number(*group as u64),
-        Answer::Task(task, Phase::Ready) => Said::Number(*task as u64),
-        Answer::Done | Answer::Waited(None) => Said::Number(0),
-        _ => Said::Other,
+/// What a reply says; of a start its event alone, since the store tells which task is ready.
+fn said(reply: &Reply) -> Said<'_> {
+    match said_by(reply) {
+        Said::Started(event, ..) => start(event),
+        said => said,
     }
 }
 
-/// What a reply says.
-pub fn meaning(reply: &Reply) -> Said {
-    match reply {
-        Reply::Answer(answer) => said_of_answer(answer),
-        Reply::Started(started) => Said::Number(started.event),
-        Reply::Finished(event) | Reply::Acked(event) => Said::Number(*event),
-        Reply::Refused(refusal) => Said::Refused(*refusal),
-        Reply::Faulty(fault) => Said::Faulty(*fault),
-    }
+/// What a start says, by its event alone.
+pub fn start(event: u64) -> Said<'static> {
+    Said::Started(event, 0, b"", b"", false)
 }
 
 /// The first of some answers that isn't said by the reply at its place; or how many there are, if
 /// there are not as many replies.
 pub fn first_unlike(replies: &[Reply], answers: &[Said]) -> Option<usize> {
     for (n, (reply, answer)) in replies.iter().zip(answers.iter()).enumerate() {
-        if meaning(reply) != *answer {
+        if said(reply) != *answer {
             return Some(n);
         }
     }

@@ -1,6 +1,7 @@
 //! What a test takes for granted: one call each, so that its branch and its message are proved
 //! once.
 
+use run_disk::Torn;
 use std::process::Abort;
 
 /// What is there, and must be.
@@ -22,4 +23,9 @@ pub fn done<T, E: Drop>(rt: &impl Abort, it: Result<T, E>, what: &str) -> T {
 /// Asserts that something holds. The message names the row.
 pub fn holds(rt: &impl Abort, it: bool, what: &str, row: usize) {
     assert!(rt; it, "{what}: {row}");
+}
+
+/// Asserts that something holds where a crash tears so. The message names the row.
+pub fn holds_torn(rt: &impl Abort, it: bool, what: &str, row: u64, torn: Torn) {
+    assert!(rt; it, "{what}: {row}, {torn:?}");
 }

@@ -4,16 +4,17 @@
 //! This rests on `Recovers` and `Opens`, whose first fault is the size.
 
 use crate::asserts::holds;
-use crate::calls::Call::{Checkpoint, Flush};
-use crate::calls::{Call, add, add_calls, go, name, steps_of};
+use crate::calls::{add, add_calls, name, steps_of};
 use crate::disks::{LARGE_LEN, SMALL_LEN, copied, left};
 use crate::nights::{counted, formatted, play_over, played, told};
 use crate::stores::{TWELVE, stored};
 use crate::trials::{USES, tried};
 use run_disk::Torn;
-use run_model::{Command, Fault, Name, Step, Wish};
+use run_model::{Command, Fault, Step, Wish};
 use std::alloc::Global;
 use std::process::Abort;
+use test_fixtures::Call::{Checkpoint, Flush};
+use test_fixtures::{Call, numbered};
 
 /// The first bytes of a store, so many of them.
 fn cut(rt: &impl Abort, alloc: Global, bytes: &[u8], len: usize) -> Vec<u8> {
@@ -81,27 +82,12 @@ fn a_large_store_cut_to_a_small_size_has_its_even_image(rt: HostRuntime) {
     }
 }
 
-/// The name of number `n`, below 10,000: a letter and four digits.
-fn numbered(rt: &impl Abort, n: u16) -> Name {
-    let digit = |d: u16| b'0' + (d % 10) as u8;
-    name(
-        rt,
-        &[
-            b's',
-            digit(n / 1_000),
-            digit(n / 100),
-            digit(n / 10),
-            digit(n),
-        ],
-    )
-}
-
 /// 1,024 scopes below root, one more than a small store takes, in an image.
 fn many_scopes(rt: &impl Abort, alloc: Global) -> Vec<Step> {
     let mut steps = Vec::new(alloc);
     for n in 0..1_024 {
         let derive = Command::Derive {
-            name: numbered(rt, n),
+            name: name(rt, &numbered(b's', n)),
             parent: name(rt, b"root"),
             wish: Wish::Cancel,
         };
@@ -118,11 +104,7 @@ const LONGEST: &[u8] = b"0123456789abcdef0123456789abcdef";
 fn many_tasks(rt: &impl Abort, alloc: Global) -> Vec<Step> {
     let mut steps = steps_of(rt, alloc, &[Call::Bare(b"g", b"root")]);
     for _ in 0..8_192 {
-        add(
-            rt,
-            &mut steps,
-            Step::Command(go(rt, b"g", LONGEST, LONGEST)),
-        );
+        add_calls(rt, &mut steps, &[Call::Go(b"g", LONGEST, LONGEST)]);
     }
     add_calls(rt, &mut steps, &[Checkpoint]);
     steps

@@ -6,7 +6,7 @@
 //! them on `RunDisk`'s `writes`, by which a write that fails leaves its range unknown, and nothing
 //! else.
 
-use crate::asserts::holds;
+use crate::asserts::{holds, holds_torn};
 use crate::books::{format, formatted, open, ran, recover, said, zeros};
 use crate::disks::{SMALL_LEN, TEARS, disk_of, left, left_behind};
 use crate::hurting::{DAMAGE, Hurt, HurtingDisk};
@@ -79,6 +79,14 @@ fn stored_behind(events: u64) -> Stored {
     }
 }
 
+/// Says whether what is stored is behind so many events of the night.
+fn is_behind(found: &Result<Stored, Fault>, events: u64) -> bool {
+    match found {
+        Ok(stored) => *stored == stored_behind(events),
+        Err(_) => false,
+    }
+}
+
 /// How a night ends: why there is no book, or how the run ends and a line behind it.
 type End = (Option<Fault>, Result<(), RunFault>, Result<(), RunFault>);
 
@@ -113,11 +121,8 @@ fn hurt_night(rt: &impl Abort, alloc: Global, row: &Row, call: u64, hurt: Hurt) 
     let mut printed = Vec::new(alloc);
     let (end, disk) = night(alloc, disk, &mut printed);
     let wanted = if call < 11 { NOT_OPENED } else { BROKEN };
-    assert!(rt; end == wanted, "where call {call} fails, {hurt:?}");
-    assert!(rt;
-        printed.as_slice() == row.2,
-        "where call {call} fails, {hurt:?}"
-    );
+    let is_so = end == wanted && printed.as_slice() == row.2;
+    holds(rt, is_so, hurt.name(), call as usize);
     disk.into_parts()
 }
 
@@ -125,16 +130,29 @@ fn hurt_night(rt: &impl Abort, alloc: Global, row: &Row, call: u64, hurt: Hurt) 
 /// flush acknowledges.
 fn stored(rt: &impl Abort, alloc: Global, bytes: Vec<u8>) -> Result<Stored, Fault> {
     let mut disk = disk_of(rt, alloc, bytes);
-    let state = recover(alloc, &mut disk)?;
-    let stored = (state.count(), state.scope_count(), state.phase(0));
-    match open(alloc, disk) {
-        Ok(book) => {
-            let next = stored.0.saturating_add(1);
-            assert!(rt; (book.state().count(), book.durable()) == (next, next));
-        }
-        Err(_) => panic!(rt; "not opened"),
+    let found = found(alloc, &mut disk);
+    if let Ok((events, _, _)) = &found {
+        let next = events.saturating_add(1);
+        let is_opened = opened(alloc, disk) == Some((next, next));
+        holds(rt, is_opened, "an opening's events", next as usize);
     }
-    Ok(stored)
+    found
+}
+
+/// What is stored on a disk.
+fn found(alloc: Global, disk: &mut MemoryDisk) -> Result<Stored, Fault> {
+    match recover(alloc, disk) {
+        Ok(state) => Ok((state.count(), state.scope_count(), state.phase(0))),
+        Err(fault) => Err(fault),
+    }
+}
+
+/// How many events there are behind an opening of a disk, and how many are durable.
+fn opened(alloc: Global, disk: MemoryDisk) -> Option<(u64, u64)> {
+    match open(alloc, disk) {
+        Ok(book) => Some((book.state().count(), book.durable())),
+        Err(_) => None,
+    }
 }
 
 /// Asserts that what a crash leaves, torn in each way, is a store of what was acknowledged, or of
@@ -142,10 +160,8 @@ fn stored(rt: &impl Abort, alloc: Global, bytes: Vec<u8>) -> Result<Stored, Faul
 fn assert_stored(rt: &impl Abort, alloc: Global, ended: &Left, row: &Row, call: u64, hurt: Hurt) {
     for torn in TEARS {
         let found = stored(rt, alloc, left(rt, alloc, &ended.2, torn));
-        assert!(rt;
-            found == Ok(stored_behind(row.3)) || found == Ok(stored_behind(row.4)),
-            "where call {call} fails, {hurt:?}, {torn:?}"
-        );
+        let is_kept = is_behind(&found, row.3) || is_behind(&found, row.4);
+        holds_torn(rt, is_kept, hurt.name(), call, torn);
     }
 }
 
@@ -187,7 +203,8 @@ fn assert_unharmed(rt: &impl Abort, alloc: Global, ended: &Left, before: &[u8], 
 /// The disk of a night that no call failed.
 fn whole_night(rt: &impl Abort, alloc: Global) -> MemoryDisk {
     let (end, disk) = night(alloc, formatted(rt, alloc, SMALL_LEN), &mut Vec::new(alloc));
-    assert!(rt; end == (None, Ok(()), Ok(())) && disk.calls() == 43);
+    let is_whole = end == (None, Ok(()), Ok(())) && disk.calls() == 43;
+    holds(rt, is_whole, "calls of a whole night", 43);
     disk
 }
 
@@ -196,7 +213,8 @@ fn assert_hurt(rt: &impl Abort, alloc: Global, row: &Row, call: u64, before: &[u
     for hurt in HURTS {
         let left = hurt_night(rt, alloc, row, call, hurt);
         // A format's eight calls and those up to the one that failed: none comes behind it.
-        assert!(rt; left.2.calls() == call.saturating_add(8), "call {call}");
+        let is_last = left.2.calls() == call.saturating_add(8);
+        holds(rt, is_last, hurt.name(), call as usize);
         assert_unharmed(rt, alloc, &left, before, call);
         assert_stored(rt, alloc, &left, row, call, hurt);
     }
@@ -217,8 +235,10 @@ fn a_call_that_damages_its_range_loses_nothing_acknowledged(rt: HostRuntime) {
 /// How many events there are in bytes of a disk.
 fn counted(rt: &impl Abort, alloc: Global, bytes: Vec<u8>) -> Result<u64, Fault> {
     let mut disk = disk_of(rt, alloc, bytes);
-    let state = recover(alloc, &mut disk)?;
-    Ok(state.count())
+    match recover(alloc, &mut disk) {
+        Ok(state) => Ok(state.count()),
+        Err(fault) => Err(fault),
+    }
 }
 
 /// Says whether a format of zeros that fails may leave this: no store, an image of no bytes or
@@ -230,26 +250,27 @@ fn may_be_left(found: Result<u64, Fault>) -> bool {
     )
 }
 
+/// Asserts that a disk can be formatted, behind a call that failed.
+fn assert_formats(rt: &impl Abort, alloc: Global, disk: MemoryDisk, call: u64) {
+    let (fault, disk) = format(disk);
+    let found = counted(rt, alloc, left(rt, alloc, &disk, Torn::Keep));
+    let is_new = fault.is_none() && found == Ok(0);
+    holds(rt, is_new, "formatted behind call", call as usize);
+}
+
 /// Asserts what a format of zeros leaves one of whose calls damages and fails: what it may leave,
 /// and a disk that can be formatted.
 fn assert_format(rt: &impl Abort, alloc: Global, call: u64, hurt: Hurt) {
     let disk = HurtingDisk::new(zeros(rt, alloc, SMALL_LEN), call, hurt);
     let (fault, disk) = format(disk);
-    assert!(rt; fault == Some(Fault::DiskFailed), "where call {call} fails");
-    let (at, count, disk) = disk.into_parts();
-    assert!(rt; disk.calls() == call, "where call {call} fails");
+    let (_, _, disk) = disk.into_parts();
+    let is_told = fault == Some(Fault::DiskFailed) && disk.calls() == call;
+    holds(rt, is_told, hurt.name(), call as usize);
     for torn in TEARS {
         let found = counted(rt, alloc, left(rt, alloc, &disk, torn));
-        assert!(rt;
-            may_be_left(found),
-            "where call {call} fails, {hurt:?}, {torn:?}"
-        );
+        holds_torn(rt, may_be_left(found), hurt.name(), call, torn);
     }
-    let _range = (at, count);
-    let (fault, disk) = format(disk);
-    assert!(rt; fault.is_none());
-    let found = counted(rt, alloc, left(rt, alloc, &disk, Torn::Keep));
-    assert!(rt; found == Ok(0), "formatted behind call {call}");
+    assert_formats(rt, alloc, disk, call);
 }
 
 #[test]

@@ -3,19 +3,19 @@
 //! This rests on `reply` of `Book::command` (SessionFull behind all other refusals), on `Flushes`
 //! and `Checkpoints`, and on `Opens`: the next session begins with an empty log.
 
-use crate::answers::{Said, first_unlike, last_of};
+use crate::answers::{first_unlike, last_of};
 use crate::asserts::holds;
-use crate::calls::Call::{
-    Advance, Bare, Checkpoint, Derive, Flush, Go, Group, Limit, Retry, Start, Succeed, Wait,
-};
-use crate::calls::{Ask, Call, add_advances, add_again, add_calls, steps_of};
+use crate::calls::{add_advances, add_again, add_calls, steps_of};
 use crate::disks::{LARGE_LEN, SMALL_LEN, left};
-use crate::looks::are_same;
 use crate::nights::{Night, formatted, play, told};
 use run_disk::{MemoryDisk, Torn};
 use run_model::{Refusal, Step};
 use std::alloc::Global;
 use std::process::Abort;
+use test_fixtures::Call::{
+    Advance, Bare, Checkpoint, Derive, Flush, Go, Group, Limit, Retry, Start, Succeed, Wait,
+};
+use test_fixtures::{Ask, Call, Said, are_same};
 
 /// Records of 7, 7 and 5 bytes.
 const FRONT: [Call; 3] = [Group(b"g", b"root"), Bare(b"h", b"root"), Wait(b"h")];
@@ -26,8 +26,8 @@ const BEHIND: [Call; 16] = [
     Derive(b"a", b"root", Ask::Cause),
     Group(b"k", b"root"),
     Bare(b"k", b"root"),
-    Limit(b"g", 3),
-    Go(b"g", b"a"),
+    Limit(b"g", Some(3)),
+    Go(b"g", b"copy", b"a"),
     Wait(b"g"),
     // What else is refused is refused so still, and a repeated wait is answered.
     Advance(95_319),
@@ -57,17 +57,17 @@ const ANSWERS: [Said; 16] = [
     Said::Refused(Refusal::NoSuchTask),
     Said::Refused(Refusal::NothingReady),
     Said::Refused(Refusal::NoSuchTask),
-    Said::Number(0),
-    Said::Number(95_331),
+    Said::Waited(None),
+    Said::Acked(95_331),
     FULL,
-    Said::Number(95_331),
+    Said::Acked(95_331),
     FULL,
 ];
 
 /// Behind those records 8 limits of 6 bytes and 95,319 advances of 11 fill a log of 1,048,576.
 fn filling(rt: &impl Abort, alloc: Global) -> Vec<Step> {
     let mut steps = steps_of(rt, alloc, &FRONT);
-    add_again(rt, &mut steps, Limit(b"g", 2), 8);
+    add_again(rt, &mut steps, Limit(b"g", Some(2)), 8);
     add_advances(rt, &mut steps, 0, 95_319);
     add_calls(rt, &mut steps, &BEHIND);
     steps
@@ -98,7 +98,7 @@ fn filled(rt: &impl Abort, alloc: Global, len: usize, row: usize) -> MemoryDisk 
 /// The next opening is an event, and its log is empty.
 const NEXT: [Call; 2] = [Advance(95_320), Flush];
 
-const NEXT_ANSWERS: [Said; 2] = [Said::Number(0), Said::Number(95_333)];
+const NEXT_ANSWERS: [Said; 2] = [Said::Done, Said::Acked(95_333)];
 
 /// Asserts what the next session answers.
 fn assert_next(rt: &impl Abort, alloc: Global, disk: MemoryDisk, row: usize) {

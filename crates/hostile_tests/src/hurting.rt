@@ -8,7 +8,7 @@ ghost use Rattle.hostile_tests.specs.Hurting.{failing, failing_is_disk};
 use run_disk::{DiskFailed, RunDisk};
 
 /// How much of its range a write that fails damages.
-#[derive(Clone, Copy, Debug)]
+#[derive(Clone, Copy)]
 pub enum Hurt {
     /// All of it, or its first 512 bytes.
     Whole,
@@ -19,6 +19,15 @@ pub enum Hurt {
 }
 
 impl Hurt {
+    /// What a message calls it.
+    pub fn name(self) -> &'static str {
+        match self {
+            Hurt::Whole => "all damaged, call",
+            Hurt::First => "first byte damaged, call",
+            Hurt::Rest => "rest damaged, call",
+        }
+    }
+
     /// Where the damage begins in a range of so many bytes, and how many bytes it has.
     fn part(self, len: usize) -> (usize, usize)
         ensures inside { result.0 + result.1 ≤ len }

@@ -4,12 +4,13 @@ ghost use Rattle.std.specs.Prelude.{◌≡◌, ◌≤◌, [], length, vec_capaci
 
 use crate::asserts::done;
 use crate::disks::{copied, disk_of, left};
-use crate::looks::{Listing, listed};
+use crate::looks::listed;
 use run_book::Book;
 use run_disk::{MemoryDisk, Torn};
 use run_model::{Fault, Phase, Reply, Step};
 use std::alloc::Global;
 use std::process::Abort;
+use test_fixtures::Listing;
 
 /// What reading a disk gave.
 #[derive(Drop)]

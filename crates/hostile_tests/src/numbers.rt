@@ -4,10 +4,9 @@
 //! This rests on `Opens` and `IsSpent` (NumbersSpent changes nothing), and on `Flushes`: a flush
 //! that fits needs no generation.
 
-use crate::answers::{Said, first_unlike, last_of};
+use crate::answers::{first_unlike, last_of};
 use crate::asserts::holds;
-use crate::calls::Call::{Checkpoint, Derive, Flush, Start};
-use crate::calls::{Ask, Call, add_advances, add_calls, steps_of};
+use crate::calls::{add_advances, add_calls, steps_of};
 use crate::disks::{LARGE_LEN, Puts, SMALL_LEN, laid, left};
 use crate::nights::{Night, counted, play_over};
 use crate::trials::tried;
@@ -15,6 +14,8 @@ use run_disk::Torn;
 use run_model::{Fault, Refusal, Step};
 use std::alloc::Global;
 use std::process::Abort;
+use test_fixtures::Call::{Checkpoint, Derive, Flush, Start};
+use test_fixtures::{Ask, Call, Said};
 
 /// Slot 1 of the last generation, 2^63 - 1, with root alone behind 2^63 - 1 events.
 const MOST: &[u8; 30] = b"\xa7\x7f\xff\xff\xff\xff\xff\xff\xff\0\0\0\x17\x02\0\0\0\0\0\0\0\0\
@@ -81,7 +82,7 @@ const LAST: [Call; 3] = [Flush, Checkpoint, Start];
 
 const SPENT_NUMBERS: Said = Said::Faulty(Fault::NumbersSpent);
 
-const FIRST_ANSWERS: [Said; 3] = [Said::Number(1), SPENT_NUMBERS, Said::Number((1 << 62) + 1)];
+const FIRST_ANSWERS: [Said; 3] = [Said::Scope(1), SPENT_NUMBERS, Said::Acked((1 << 62) + 1)];
 
 const LAST_ANSWERS: [Said; 3] = [
     SPENT_NUMBERS,

@@ -6,13 +6,13 @@
 
 use crate::asserts::{done, given, holds};
 use crate::disks::{SMALL_LEN, TEARS, disk_of, left, left_behind};
-use crate::looks::{Listing, have_same_rows, phase_of};
 use crate::nights::{play, task_in, told};
 use crate::stores::{TWELVE, stored};
 use run_disk::{MemoryDisk, Torn};
 use run_model::Phase;
 use std::alloc::Global;
 use std::process::Abort;
+use test_fixtures::{Going, Listing, going_at, have_same_rows};
 
 /// An event count, and how far task 0 is.
 type Task = (u64, Option<Phase>);
@@ -55,8 +55,9 @@ fn assert_stops(
     for calls in 0..11 {
         for torn in TEARS {
             let found = task_in(rt, alloc, left_behind(rt, alloc, disk, calls, torn));
+            let is_so = found == wanted(openings, calls, torn);
             assert!(rt;
-                found == wanted(openings, calls, torn),
+                is_so,
                 "behind call {calls}, {torn:?}, and before {before:?}"
             );
         }
@@ -112,7 +113,7 @@ fn stored_last(rt: &impl Abort, alloc: Global, disk: &MemoryDisk) -> Listing {
 fn assert_kept(rt: &impl Abort, first: &Listing, last: &Listing) {
     holds(rt, first.count == 10, "events", 10);
     holds(rt, last.count == 10_009, "events", 10_009);
-    let is_interrupted = phase_of(last, 0) == Some(&Phase::Interrupted);
+    let is_interrupted = going_at(last, 0) == Some(Going::Interrupted);
     holds(rt, is_interrupted, "task", 0);
     holds(rt, have_same_rows(first, last), "rows", 10_009);
 }

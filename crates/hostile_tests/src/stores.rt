@@ -1,15 +1,16 @@
 //! Real stores: what nights leave, and one of version 1 that is kept as bytes.
 
-use crate::calls::Call::{
-    Advance, Bare, Cancel, Checkpoint, Derive, Fail, Flush, Go, Group, Limit, Retry, Start,
-    Succeed, Wait,
-};
-use crate::calls::{Ask, Call, steps_of};
+use crate::calls::steps_of;
 use crate::disks::{LARGE_LEN, Puts, SMALL_LEN, laid, left};
 use crate::nights::{formatted, played};
 use run_disk::{MemoryDisk, Torn};
 use std::alloc::Global;
 use std::process::Abort;
+use test_fixtures::Call::{
+    Advance, Bare, Cancel, Checkpoint, Derive, Fail, Flush, Go, Group, Limit, Retry, Start,
+    Succeed, Wait,
+};
+use test_fixtures::{Ask, Call};
 
 /// Slot 0 of generation 0 as it is formatted: root alone, before any event.
 pub const FORMATTED: &[u8; 14] = b"\xa7\0\0\0\0\0\0\0\0\0\0\0\x17\x02";
@@ -21,14 +22,14 @@ pub const OPENED: &[u8; 30] = b"\xa7\0\0\0\0\0\0\0\x01\0\0\0\x17\x02\0\0\0\0\0\0
 /// Twelve steps: an opening of ten device calls, three flushes of six, and a checkpoint of seven.
 pub const TWELVE: [Call; 12] = [
     Derive(b"a", b"root", Ask::Cause),
-    Derive(b"b", b"a", Ask::Plain),
+    Derive(b"b", b"a", Ask::Cancel),
     Cancel(b"a", b"disk"),
     Flush,
-    Derive(b"c", b"root", Ask::Plain),
-    Derive(b"d", b"root", Ask::Plain),
+    Derive(b"c", b"root", Ask::Cancel),
+    Derive(b"d", b"root", Ask::Cancel),
     Flush,
     Group(b"g", b"root"),
-    Go(b"g", b"a"),
+    Go(b"g", b"copy", b"a"),
     Checkpoint,
     Start,
     Flush,
@@ -37,13 +38,13 @@ pub const TWELVE: [Call; 12] = [
 /// Scopes of each kind, in two batches, and a clock.
 const SCOPES: [Call; 10] = [
     Derive(b"a", b"root", Ask::Cause),
-    Derive(b"b", b"a", Ask::Plain),
+    Derive(b"b", b"a", Ask::Cancel),
     Cancel(b"a", b"disk"),
     Flush,
-    Derive(b"c", b"root", Ask::Deadline(50)),
+    Derive(b"c", b"root", Ask::Deadline(50, b"")),
     Derive(b"v", b"c", Ask::Value(b"region", b"eu")),
     Derive(b"d", b"v", Ask::Detached),
-    Derive(b"e", b"d", Ask::Deadline(70)),
+    Derive(b"e", b"d", Ask::Deadline(70, b"")),
     Advance(60),
     Flush,
 ];
@@ -51,9 +52,9 @@ const SCOPES: [Call; 10] = [
 /// A group of limit 1 whose first task runs.
 const RUNNING: [Call; 6] = [
     Group(b"g", b"root"),
-    Limit(b"g", 1),
-    Go(b"g", b"a"),
-    Go(b"g", b"b"),
+    Limit(b"g", Some(1)),
+    Go(b"g", b"copy", b"a"),
+    Go(b"g", b"copy", b"b"),
     Start,
     Flush,
 ];
@@ -69,7 +70,7 @@ const RETRIED: [Call; 11] = [
     Start,
     Fail(2, b"disk"),
     Bare(b"i", b"g"),
-    Go(b"i", b"c"),
+    Go(b"i", b"copy", b"c"),
     Flush,
 ];
 

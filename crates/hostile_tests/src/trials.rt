@@ -6,46 +6,53 @@
 //! holds), `Opens` (`Book::open`: the restart of that state, or the same fault and an untouched
 //! disk), `AnswersStep` (each step of the book) and the law that what is stored is one state.
 
-use crate::answers::{Said, first_unlike};
-use crate::calls::Call::{Cancel, Checkpoint, Derive, Flush, Go, Group, Start};
-use crate::calls::{Ask, Call};
+use crate::answers::{first_unlike, start};
 use crate::disks::left;
-use crate::looks::{Listing, are_same, have_same_rows, running};
+use crate::looks::running;
 use crate::nights::{Night, is_same, play_over, told};
 use run_disk::Torn;
 use run_model::{Fault, Step};
 use std::alloc::Global;
 use std::process::Abort;
+use test_fixtures::Call::{Cancel, Checkpoint, Derive, Flush, Go, Group, Start};
+use test_fixtures::{Ask, Call, Listing, Said, are_same, have_same_rows};
 
 /// The steps that a store is used by. No store here has these names.
 pub static USES: [Call; 9] = [
     Derive(b"zz-a", b"root", Ask::Cause),
     Group(b"zz-g", b"root"),
-    Go(b"zz-g", b"a"),
+    Go(b"zz-g", b"copy", b"a"),
     Start,
     Flush,
     Cancel(b"zz-a", b"disk"),
     Checkpoint,
-    Derive(b"zz-b", b"zz-a", Ask::Plain),
+    Derive(b"zz-b", b"zz-a", Ask::Cancel),
     Flush,
 ];
 
 /// What each of them is answered behind a state that is opened: the opening is an event, and so is
 /// each of them but the three that save.
-fn wanted(found: &Listing) -> [Said; 9] {
-    let scopes = found.scopes.len() as u64;
+fn wanted(found: &Listing) -> [Said<'static>; 9] {
+    let scope = row(found.scopes.len());
+    let group_scope = row(found.scopes.len().saturating_add(1));
+    let last_scope = row(found.scopes.len().saturating_add(2));
     let events = found.count.saturating_add(5);
     [
-        Said::Number(scopes),
-        Said::Number(found.groups.len() as u64),
-        Said::Number(found.tasks.len() as u64),
-        Said::Number(events),
-        Said::Number(events),
-        Said::Number(0),
-        Said::Number(events.saturating_add(1)),
-        Said::Number(scopes.saturating_add(2)),
-        Said::Number(events.saturating_add(2)),
+        Said::Scope(scope),
+        Said::Group(row(found.groups.len()), Some(group_scope)),
+        Said::Ready(row(found.tasks.len())),
+        start(events),
+        Said::Acked(events),
+        Said::Done,
+        Said::Acked(events.saturating_add(1)),
+        Said::Scope(last_scope),
+        Said::Acked(events.saturating_add(2)),
     ]
+}
+
+/// The number of a row behind so many.
+fn row(count: usize) -> u16 {
+    count.min(65_535) as u16
 }
 
 /// How many calls are made until a fault is told. No other fault is one of bytes.

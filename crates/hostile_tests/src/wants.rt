@@ -24,7 +24,7 @@ fn heap(rt: &impl Abort, alloc: Global, bytes: usize) -> LocalHeap {
 /// All that is left of a heap.
 fn rest_of<'h>(rt: &impl Abort, heap: &'h LocalHeap) -> Vec<u8, &'h LocalHeap> {
     let rest = Vec::<u8, &LocalHeap>::with_capacity(heap, heap.free());
-    assert!(rt; heap.free() == 0);
+    holds(rt, heap.free() == 0, "bytes left", 0);
     done(rt, rest, "rest")
 }
 
@@ -32,16 +32,18 @@ fn rest_of<'h>(rt: &impl Abort, heap: &'h LocalHeap) -> Vec<u8, &'h LocalHeap> {
 /// not, memory was wanting, and all of it is given back.
 fn recovers(rt: &impl Abort, alloc: Global, disk: &mut MemoryDisk, bytes: usize) -> bool {
     let heap = heap(rt, alloc, bytes);
-    let found = match recover(&heap, disk) {
+    let found = counted(&heap, disk);
+    let is_told = found == Ok(0) || found == Err(Fault::Memory);
+    holds(rt, is_told && heap.used() == 0, "with bytes", bytes);
+    found.is_ok()
+}
+
+/// How many events there are in what a disk stores, by a recovery with a heap's memory.
+fn counted(heap: &LocalHeap, disk: &mut MemoryDisk) -> Result<u64, Fault> {
+    match recover(heap, disk) {
         Ok(state) => Ok(state.count()),
         Err(fault) => Err(fault),
-    };
-    assert!(rt;
-        found == Ok(0) || found == Err(Fault::Memory),
-        "with {bytes} bytes"
-    );
-    assert!(rt; heap.used() == 0, "with {bytes} bytes");
-    found.is_ok()
+    }
 }
 
 /// How many calls a disk has counted behind a recovery with each multiple of `step` bytes, up to
@@ -53,10 +55,8 @@ fn recovered_at_last(rt: &impl Abort, alloc: Global, disk: &mut MemoryDisk, step
         if recovers(rt, alloc, disk, bytes) {
             return bytes;
         }
-        assert!(rt;
-            disk.calls() <= before.saturating_add(3),
-            "with {bytes} bytes"
-        );
+        let are_few = disk.calls() <= before.saturating_add(3);
+        holds(rt, are_few, "calls with bytes", bytes);
         bytes = bytes.saturating_add(step);
     }
     panic!(rt; "no recovery")
@@ -92,7 +92,7 @@ fn migrate_with(
 ) -> (Option<MigrateFault>, MemoryDisk) {
     let heap = heap(rt, alloc, bytes);
     let (fault, new) = migrated(&heap, old, new);
-    assert!(rt; heap.used() == 0, "with {bytes} bytes");
+    holds(rt, heap.used() == 0, "in use, with bytes", bytes);
     (fault, new)
 }
 
@@ -107,11 +107,13 @@ fn each_growth_of_a_migration_can_be_refused(rt: HostRuntime) {
         let Some(fault) = fault else {
             break;
         };
-        assert!(rt; fault == MigrateFault::Memory, "with {bytes} bytes");
-        assert!(rt; (old.calls(), new.calls()) == (8, 0), "with {bytes} bytes");
+        let is_untouched = (old.calls(), new.calls()) == (8, 0);
+        let is_told = fault == MigrateFault::Memory;
+        holds(&rt, is_told && is_untouched, "with bytes", bytes);
         bytes = bytes.saturating_add(2_048);
     }
-    assert!(rt; (old.calls(), new.calls()) == (11, 8) && bytes > 1_310_720);
+    let is_done = (old.calls(), new.calls()) == (11, 8) && bytes > 1_310_720;
+    holds(&rt, is_done, "done with bytes", bytes);
 }
 
 /// A disk's own heap without memory fails the first write of a format, and nothing is written.
@@ -122,8 +124,9 @@ fn assert_format_fails(rt: &impl Abort, alloc: Global) {
     };
     let _rest = rest_of(rt, &heap);
     let (fault, disk) = format(disk);
-    assert!(rt; fault == Some(Fault::DiskFailed) && disk.calls() == 1);
-    assert!(rt; disk.size() == SMALL_LEN as u64);
+    let is_told = fault == Some(Fault::DiskFailed) && disk.calls() == 1;
+    let is_same = disk.size() == SMALL_LEN as u64;
+    holds(rt, is_told && is_same, "calls of a format", 1);
 }
 
 #[test]
@@ -257,8 +260,8 @@ fn night_without_memory(
         Err(_) => panic!(rt; "no book"),
     };
     let _rest = rest_of(rt, &heap);
-    let result = ran(&heap, &mut &SECOND.0[..], printed, &mut book);
-    assert!(rt; result.is_ok());
+    let is_run = ran(&heap, &mut &SECOND.0[..], printed, &mut book).is_ok();
+    holds(rt, is_run, "run of a night", 2);
     assert_lines(rt, alloc, &heap, &mut book);
     book.into_disk()
 }
@@ -268,8 +271,9 @@ fn night(rt: &impl Abort, alloc: Global, size: usize) -> MemoryDisk {
     let mut printed = Vec::new(alloc);
     match open(alloc, formatted(rt, alloc, size)) {
         Ok(mut book) => {
-            let result = ran(alloc, &mut &FIRST.0[..], &mut printed, &mut book);
-            assert!(rt; result.is_ok() && printed.as_slice() == FIRST.1);
+            let is_run = ran(alloc, &mut &FIRST.0[..], &mut printed, &mut book).is_ok();
+            let is_printed = printed.as_slice() == FIRST.1;
+            holds(rt, is_run && is_printed, "run of a night", 1);
             book.into_disk()
         }
         Err(_) => panic!(rt; "no book"),
@@ -283,11 +287,11 @@ fn assert_nights(rt: &impl Abort, alloc: Global, size: usize) {
     let disk = night_without_memory(rt, alloc, disk, &mut printed);
     holds(rt, printed.as_slice() == SECOND.1, "night over", size);
     let mut left = disk_of(rt, alloc, left(rt, alloc, &disk, Torn::Keep));
-    let count = match recover(alloc, &mut left) {
-        Ok(state) => state.count(),
-        Err(_) => panic!(rt; "no store"),
+    let is_stored = match recover(alloc, &mut left) {
+        Ok(state) => state.count() == 33,
+        Err(_) => false,
     };
-    holds(rt, count == 33, "events over", size);
+    holds(rt, is_stored, "events over", size);
 }
 
 #[test]
@@ -320,5 +324,5 @@ fn a_line_without_memory_prints_nothing(rt: HostRuntime) {
         let told = assert_tally(&rt, rt.alloc(), 16 * spared);
         seen = [seen[0] || !told, seen[1] || told];
     }
-    assert!(rt; seen == [true; 2]);
+    holds(&rt, seen[0] && seen[1], "both seen", 2);
 }
