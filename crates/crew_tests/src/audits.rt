@@ -2,12 +2,12 @@
 
 ghost use Rattle.std.specs.Prelude.{◌≡◌, ◌<◌};
 
+use crate::asserts::{done, holds};
 use crate::seated::{Do, Seated, Told};
-use crate::stores::{Task, opened, outcome, stored};
+use crate::stores::{Task, book_of, outcome};
 use run_book::Book;
 use run_crew::{Note, WorkerNotes};
 use run_disk::MemoryDisk;
-use run_model::Fault;
 use std::alloc::Global;
 use std::marker::Brand;
 use std::process::Abort;
@@ -98,8 +98,8 @@ static ROWS: [Row; 12] = [
     (2, 2, [&[(10, 0, b"")], &[(11, 1, b"x")]], Some((2, 3))),
 ];
 
-fn listed(rt: &impl Abort, alloc: Global, rows: &[Noted]) -> Result<WorkerNotes, Fault> {
-    let mut notes = WorkerNotes::with_room(alloc)?;
+fn listed(rt: &impl Abort, alloc: Global, rows: &[Noted]) -> WorkerNotes {
+    let mut notes = done(rt, WorkerNotes::with_room(alloc), "memory");
     for row in rows.iter() {
         if !notes.is_full() {
             notes.note(Note {
@@ -109,41 +109,34 @@ fn listed(rt: &impl Abort, alloc: Global, rows: &[Noted]) -> Result<WorkerNotes,
             });
         }
     }
-    assert!(rt; notes.as_slice().len() == rows.len());
-    Ok(notes)
+    holds(rt, notes.as_slice().len() == rows.len(), "notes", 0);
+    notes
 }
 
 /// The lists of a row's notes.
-fn lists_of(
-    rt: &impl Abort,
-    alloc: Global,
-    rows: &[&'static [Noted]],
-) -> Result<Vec<WorkerNotes>, Fault> {
+fn lists_of(rt: &impl Abort, alloc: Global, rows: &[&'static [Noted]]) -> Vec<WorkerNotes> {
     let mut lists = Vec::new(alloc);
     for notes in rows.iter() {
-        let list = listed(rt, alloc, notes)?;
-        if lists.push(list).is_err() {
-            return Err(Fault::Memory);
-        }
+        done(rt, lists.push(listed(rt, alloc, notes)), "memory");
     }
-    Ok(lists)
-}
-
-/// A book with the tasks.
-fn book_of(rt: &impl Abort, alloc: Global) -> Result<Book<MemoryDisk>, Fault> {
-    opened(alloc, stored(rt, alloc, None, &TASKS)?)
+    lists
 }
 
 /// Starts a row's tasks, and finishes them by turns.
 fn play<S: Ledger, F: Ledger>(rt: &impl Abort, desk: &mut Seated<S, F>, row: &Row) {
-    for _ in 0..row.0 {
+    for n in 0..row.0 {
         let started = desk.take(rt, Do::Start);
-        assert!(rt; matches!(started, Told::Started(..)));
+        holds(rt, matches!(started, Told::Started(..)), "start", n);
     }
     for task in 0..row.1 {
         let error: &[u8] = if task % 2 == 0 { b"" } else { b"x" };
         let finished = desk.take(rt, Do::Finish(task, error));
-        assert!(rt; matches!(finished, Told::Event(_)));
+        holds(
+            rt,
+            matches!(finished, Told::Event(_)),
+            "finish",
+            task as u64,
+        );
     }
 }
 
@@ -166,13 +159,12 @@ fn audited<S: Ledger, F: Ledger>(
 }
 
 #[test]
-fn an_audit_names_what_strays_first(rt: HostRuntime) -> Result<(), Fault> {
+fn an_audit_names_what_strays_first(rt: HostRuntime) {
     for (n, row) in ROWS.iter().enumerate() {
-        let lists = lists_of(&rt, rt.alloc(), &row.2)?;
-        let book = book_of(&rt, rt.alloc())?;
+        let lists = lists_of(&rt, rt.alloc(), &row.2);
         let lists = lists.as_slice();
+        let book = book_of(&rt, rt.alloc(), &TASKS);
         let found = audited::<Brand, Brand>(&rt, book, lists, row, Blank::new(1), Blank::new(1));
-        assert!(&rt; found == row.3, "row {n}");
+        holds(&rt, found == row.3, "row", n as u64);
     }
-    Ok(())
 }

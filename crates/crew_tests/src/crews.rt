@@ -2,12 +2,14 @@
 
 ghost use Rattle.std.specs.Prelude.{◌≡◌, ◌<◌, vec_len};
 
+use crate::asserts::done;
 use run_book::Book;
 use run_crew::{Desk, Gate, Job, Strayed, Turn, WorkerNotes, audit, run_night};
 use run_disk::RunDisk;
-use run_model::{Fault, Name, TaskInfo, Text, Trouble};
+use run_model::{Name, TaskInfo, Text, Trouble};
 use std::alloc::Global;
 use std::marker::Brand;
+use std::process::Abort;
 use std::sync::ledger::{Blank, Ledger};
 use std::sync::{Mutex, Wait};
 use std::thread::Threads;
@@ -24,13 +26,13 @@ pub struct NightEnd<D: RunDisk> {
 }
 
 /// A night over a book, with one worker for each list of jobs.
-pub fn night<D: RunDisk + Drop + Send, G: Gate + Sync, R: Threads + Wait + Sync>(
+pub fn night<D: RunDisk + Drop + Send, G: Gate + Sync, R: Threads + Wait + Sync + Abort>(
     rt: &R,
     alloc: Global,
     book: Book<D>,
     jobs: Vec<Vec<Box<dyn Job + Send>>>,
     gate: &G,
-) -> Result<NightEnd<D>, Fault> {
+) -> NightEnd<D> {
     let parts = jobs.len() as u64 + 1;
     night_in::<D, Brand, Brand, G, R>(
         rt,
@@ -49,7 +51,7 @@ fn night_in<
     S: Ledger + Send + Sync,
     F: Ledger + Send + Sync,
     G: Gate + Sync,
-    R: Threads + Wait + Sync,
+    R: Threads + Wait + Sync + Abort,
 >(
     rt: &R,
     alloc: Global,
@@ -58,7 +60,7 @@ fn night_in<
     gate: &G,
     starts: Blank,
     finishes: Blank,
-) -> Result<NightEnd<D>, Fault>
+) -> NightEnd<D>
     requires starts { (starts.name ≡ S.name) × (starts.parts ≡ S.parts)
         × (vec_len jobs < S.parts) }
     requires finishes { (finishes.name ≡ F.name) × (finishes.parts ≡ F.parts)
@@ -66,17 +68,19 @@ fn night_in<
 {
     let (desk, mut seat) = Desk::<D, S, F>::new(book, starts, finishes);
     let shared = Mutex::new(desk);
-    let (lists, last) = run_night(rt, alloc, &shared, &mut seat, jobs, gate)?;
+    let Ok((lists, last)) = run_night(rt, alloc, &shared, &mut seat, jobs, gate) else {
+        panic!(rt; "no night");
+    };
     let mut desk = shared.into_inner();
     let audited = audit(&desk, lists.as_slice());
     let settled = desk.settle(&mut seat);
-    Ok(NightEnd {
+    NightEnd {
         book: desk.into_book(),
         lists,
         last,
         audited,
         settled,
-    })
+    }
 }
 
 /// A gate that lets each turn pass, or none.
@@ -138,31 +142,30 @@ fn failed(error: &[u8]) -> Turn {
     }
 }
 
+/// The list of one plain job.
+pub fn plain_list(rt: &impl Abort, alloc: Global) -> Vec<Box<dyn Job + Send>> {
+    let mut list: Vec<Box<dyn Job + Send>> = Vec::new(alloc);
+    let job = done(rt, Box::new(alloc, Plain), "memory");
+    done(rt, list.push(job), "memory");
+    list
+}
+
 /// A list of one plain job for each worker.
-fn plain_jobs(alloc: Global, workers: usize) -> Result<Vec<Vec<Box<dyn Job + Send>>>, Fault> {
-    let Ok(jobs) = Vec::with_capacity(alloc, workers) else {
-        return Err(Fault::Memory);
-    };
-    let mut jobs: Vec<Vec<Box<dyn Job + Send>>> = jobs;
+pub fn plain_jobs(rt: &impl Abort, alloc: Global, workers: usize) -> Vec<Vec<Box<dyn Job + Send>>> {
+    let mut jobs: Vec<Vec<Box<dyn Job + Send>>> = Vec::new(alloc);
     for _ in 0..workers {
-        let mut list: Vec<Box<dyn Job + Send>> = Vec::new(alloc);
-        let Ok(job) = Box::new(alloc, Plain) else {
-            return Err(Fault::Memory);
-        };
-        if list.push(job).is_err() || jobs.push(list).is_err() {
-            return Err(Fault::Memory);
-        }
+        done(rt, jobs.push(plain_list(rt, alloc)), "memory");
     }
-    Ok(jobs)
+    jobs
 }
 
 /// A night over a book, with so many workers that have a plain job each.
-pub fn plain_night<D: RunDisk + Drop + Send, G: Gate + Sync, R: Threads + Wait + Sync>(
+pub fn plain_night<D: RunDisk + Drop + Send, G: Gate + Sync, R: Threads + Wait + Sync + Abort>(
     rt: &R,
     alloc: Global,
     book: Book<D>,
     workers: usize,
     gate: &G,
-) -> Result<NightEnd<D>, Fault> {
-    night(rt, alloc, book, plain_jobs(alloc, workers)?, gate)
+) -> NightEnd<D> {
+    night(rt, alloc, book, plain_jobs(rt, alloc, workers), gate)
 }

@@ -2,14 +2,16 @@
 
 ghost use Rattle.std.specs.Prelude.{◌≡◌, ◌<◌};
 
+use crate::asserts::holds;
 use crate::seated::{Do, Seated, Told};
-use crate::stores::{Now, Task, assert_tasks, opened, stored};
+use crate::stores::{Task, assert_tasks, book_of};
 use run_book::Book;
 use run_disk::MemoryDisk;
-use run_model::{Fault, Outcome, Refusal};
+use run_model::{Outcome, Refusal};
 use std::marker::Brand;
 use std::process::Abort;
 use std::sync::ledger::{Blank, Ledger};
+use test_fixtures::Going;
 
 /// Of two tasks, both are started, and the second one is finished. The book's opening, its group
 /// and its tasks are events 1 to 5.
@@ -52,7 +54,7 @@ fn played<S: Ledger, F: Ledger>(
     let mut desk = Seated::<S, F>::new(book, starts, finishes);
     for (n, row) in steps.iter().enumerate() {
         let told = desk.take(rt, row.0);
-        assert!(rt; told == row.1, "step {n}");
+        holds(rt, told == row.1, "step", n as u64);
     }
     desk.into_book()
 }
@@ -60,19 +62,20 @@ fn played<S: Ledger, F: Ledger>(
 const TASKS: [Task; 2] = [(b"copy", b"a"); 2];
 
 #[test]
-fn each_call_of_a_desk_is_the_books(rt: HostRuntime) -> Result<(), Fault> {
-    let book = opened(rt.alloc(), stored(&rt, rt.alloc(), None, &TASKS)?)?;
+fn each_call_of_a_desk_is_the_books(rt: HostRuntime) {
+    let book = book_of(&rt, rt.alloc(), &TASKS);
     let book = played::<Brand, Brand>(&rt, book, &STEPS, Blank::new(1), Blank::new(1));
-    assert_tasks(&rt, book.state(), &[Now::Running, Now::Success]);
-    Ok(())
+    assert_tasks(&rt, book.state(), &[Going::Running, Going::Success]);
+}
+
+/// Says whether two starts and a finish of task 1 are answered with events.
+fn begins(book: &mut Book<MemoryDisk>) -> bool {
+    book.start().is_ok() && book.start().is_ok() && book.finish(1, &Outcome::Success).is_ok()
 }
 
 #[test]
-fn a_desk_counts_the_history_of_its_book(rt: HostRuntime) -> Result<(), Fault> {
-    let mut book = opened(rt.alloc(), stored(&rt, rt.alloc(), None, &TASKS)?)?;
-    assert!(&rt; book.start().is_ok());
-    assert!(&rt; book.start().is_ok());
-    assert!(&rt; book.finish(1, &Outcome::Success).is_ok());
+fn a_desk_counts_the_history_of_its_book(rt: HostRuntime) {
+    let mut book = book_of(&rt, rt.alloc(), &TASKS);
+    holds(&rt, begins(&mut book), "history", 8);
     let _ = played::<Brand, Brand>(&rt, book, &HISTORY, Blank::new(1), Blank::new(1));
-    Ok(())
 }

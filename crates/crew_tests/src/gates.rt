@@ -1,16 +1,18 @@
 //! Gates and jobs that see the workers run beside one another, and that no lock is held meanwhile.
 
+use crate::asserts::{done, holds};
 use crate::crews::{Fixed, NightEnd, night, plain_night};
-use crate::stores::{Now, assert_tasks, opened, stored};
+use crate::stores::{assert_tasks, book_of};
 use run_crew::{Gate, Job, Turn};
 use run_disk::RunDisk;
-use run_model::{Fault, Name, TaskInfo, Text};
+use run_model::{Name, TaskInfo, Text};
+use std::alloc::Global;
 use std::process::Abort;
 use std::sync::Arc;
 use std::sync::atomic::{AtomicBool, Ordering};
-use std::test::Fail;
 use std::thread;
 use std::time::{Clock, Duration};
+use test_fixtures::Going;
 
 /// Looks at a flag until it is set, 10,000 times at most, a millisecond apart.
 pub fn is_set_in_time(clock: &impl Clock, flag: &AtomicBool) -> bool {
@@ -43,21 +45,20 @@ impl<C: Clock + Drop> Gate for Second<C> {
 }
 
 fn assert_two<D: RunDisk>(rt: &impl Abort, night: &NightEnd<D>) {
-    assert!(rt; night.audited == Ok(()));
-    assert!(rt; night.settled == (2, 2));
-    assert_tasks(rt, night.book.state(), &[Now::Success, Now::Success]);
+    holds(rt, night.audited == Ok(()), "audit", 2);
+    holds(rt, night.settled == (2, 2), "counts", 2);
+    assert_tasks(rt, night.book.state(), &[Going::Success, Going::Success]);
 }
 
 #[test]
-fn two_tasks_overlap(rt: HostRuntime) -> Result<(), Fault> {
-    let disk = stored(&rt, rt.alloc(), None, &[(b"copy", b"a"), (b"copy", b"b")])?;
+fn two_tasks_overlap(rt: HostRuntime) {
     let gate = Second {
         clock: rt,
         finished: AtomicBool::new(false),
     };
-    let night = plain_night(&rt, rt.alloc(), opened(rt.alloc(), disk)?, 2, &gate)?;
+    let book = book_of(&rt, rt.alloc(), &[(b"copy", b"a"), (b"copy", b"b")]);
+    let night = plain_night(&rt, rt.alloc(), book, 2, &gate);
     assert_two(&rt, &night);
-    Ok(())
 }
 
 /// In a turn of `set` it sets the flag. In one of `look` it looks at it, and fails where it isn't
@@ -85,27 +86,32 @@ impl<C: Clock + Drop> Job for Flag<C> {
     }
 }
 
-#[test]
-fn two_turns_overlap(rt: HostRuntime) -> Result<(), Fail> {
-    let disk = stored(
-        &rt,
-        rt.alloc(),
-        None,
-        &[(b"flag", b"look"), (b"flag", b"set")],
-    )?;
-    let flag = Arc::new(rt.alloc(), AtomicBool::new(false))?;
-    let mut jobs: Vec<Vec<Box<dyn Job + Send>>> = Vec::new(rt.alloc());
+/// The jobs of two workers over one flag.
+fn flags(rt: &impl Abort, alloc: Global, clock: HostRuntime) -> Vec<Vec<Box<dyn Job + Send>>> {
+    let flag = done(rt, Arc::new(alloc, AtomicBool::new(false)), "memory");
+    let mut jobs: Vec<Vec<Box<dyn Job + Send>>> = Vec::new(alloc);
     for _ in 0..2 {
         let job = Flag {
-            clock: rt,
-            flag: Arc::try_clone(&flag)?,
+            clock,
+            flag: done(rt, Arc::try_clone(&flag), "count"),
         };
-        let mut list: Vec<Box<dyn Job + Send>> = Vec::new(rt.alloc());
-        list.push(Box::new(rt.alloc(), job)?)?;
-        jobs.push(list)?;
+        let job = done(rt, Box::new(alloc, job), "memory");
+        let mut list: Vec<Box<dyn Job + Send>> = Vec::new(alloc);
+        done(rt, list.push(job), "memory");
+        done(rt, jobs.push(list), "memory");
     }
-    let gate = Fixed(true);
-    let night = night(&rt, rt.alloc(), opened(rt.alloc(), disk)?, jobs, &gate)?;
+    jobs
+}
+
+#[test]
+fn two_turns_overlap(rt: HostRuntime) {
+    let book = book_of(&rt, rt.alloc(), &[(b"flag", b"look"), (b"flag", b"set")]);
+    let night = night(
+        &rt,
+        rt.alloc(),
+        book,
+        flags(&rt, rt.alloc(), rt),
+        &Fixed(true),
+    );
     assert_two(&rt, &night);
-    Ok(())
 }

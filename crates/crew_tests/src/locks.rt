@@ -1,21 +1,22 @@
 //! Gates that take the lock, and so see what is durable while the workers run, and what has ended
 //! when they are told of it.
 
-ghost use Rattle.std.specs.Prelude.{◌≡◌, ◌<◌};
+ghost use Rattle.std.specs.Prelude.{◌≡◌, ◌<◌, vec_len};
 
-use crate::crews::Plain;
+use crate::asserts::holds;
+use crate::crews::plain_jobs;
 use crate::gates::is_set_in_time;
-use crate::stores::{opened, stored};
+use crate::stores::{Task, book_of};
 use run_book::Book;
 use run_crew::{Desk, Gate, Job, run_night};
 use run_disk::{MemoryDisk, RunDisk};
 use run_model::Phase;
 use std::alloc::Global;
 use std::marker::Brand;
+use std::process::Abort;
 use std::sync::atomic::{AtomicBool, AtomicU32, Ordering};
 use std::sync::ledger::{Blank, Ledger};
 use std::sync::{Mutex, Wait};
-use std::test::Fail;
 use std::thread;
 use std::thread::Threads;
 use std::time::{Clock, Duration};
@@ -53,23 +54,24 @@ impl<'a, T: Acknowledges, R: Wait> Gate for Durable<'a, T, R> {
     fn finished(&self, _task: u16) {}
 }
 
-/// The jobs of one worker.
-fn plain(alloc: Global) -> Result<Vec<Box<dyn Job + Send>>, Fail> {
-    let mut list: Vec<Box<dyn Job + Send>> = Vec::new(alloc);
-    list.push(Box::new(alloc, Plain)?)?;
-    Ok(list)
-}
-
 /// How many starts of a book are durable before their first turns, under one worker.
 fn durable_starts<
     D: RunDisk + Drop + Send,
     S: Ledger + Send + Sync,
     F: Ledger + Send + Sync,
-    R: Threads + Wait + Sync,
->(rt: &R, alloc: Global, book: Book<D>, starts: Blank, finishes: Blank) -> Result<u32, Fail>
-    requires starts { (starts.name ≡ S.name) × (starts.parts ≡ S.parts) × (1 < S.parts) }
+    R: Threads + Wait + Sync + Abort,
+>(
+    rt: &R,
+    alloc: Global,
+    book: Book<D>,
+    jobs: Vec<Vec<Box<dyn Job + Send>>>,
+    starts: Blank,
+    finishes: Blank,
+) -> u32
+    requires starts { (starts.name ≡ S.name) × (starts.parts ≡ S.parts)
+        × (vec_len jobs < S.parts) }
     requires finishes { (finishes.name ≡ F.name) × (finishes.parts ≡ F.parts)
-        × (1 < F.parts) }
+        × (vec_len jobs < F.parts) }
 {
     let first = book.durable().saturating_add(1);
     let (desk, mut seat) = Desk::<D, S, F>::new(book, starts, finishes);
@@ -80,25 +82,25 @@ fn durable_starts<
         first,
         found: AtomicU32::new(0),
     };
-    let mut jobs: Vec<Vec<Box<dyn Job + Send>>> = Vec::new(alloc);
-    jobs.push(plain(alloc)?)?;
-    let _ = run_night(rt, alloc, &shared, &mut seat, jobs, &gate)?;
-    Ok(gate.found.load(Ordering::SeqCst))
+    let ran = run_night(rt, alloc, &shared, &mut seat, jobs, &gate).is_ok();
+    holds(rt, ran, "night", 1);
+    gate.found.load(Ordering::SeqCst)
 }
 
 #[test]
-fn each_start_is_durable_before_its_first_turn(rt: HostRuntime) -> Result<(), Fail> {
-    let tasks = [(b"spin".as_slice(), b"2".as_slice()); 3];
-    let book = opened(rt.alloc(), stored(&rt, rt.alloc(), None, &tasks)?)?;
+fn each_start_is_durable_before_its_first_turn(rt: HostRuntime) {
+    let tasks: [Task; 3] = [(b"spin", b"2"); 3];
+    let jobs = plain_jobs(&rt, rt.alloc(), 1);
+    let parts = jobs.len() as u64 + 1;
     let found = durable_starts::<MemoryDisk, Brand, Brand, HostRuntime>(
         &rt,
         rt.alloc(),
-        book,
-        Blank::new(2),
-        Blank::new(2),
-    )?;
-    assert!(&rt; found == 3);
-    Ok(())
+        book_of(&rt, rt.alloc(), &tasks),
+        jobs,
+        Blank::new(parts),
+        Blank::new(parts),
+    );
+    holds(&rt, found == 3, "starts", u64::from(found));
 }
 
 /// Lets task 0 begin once task 1 has begun, and task 1 go on once the finish of task 0 is durable.
@@ -151,11 +153,19 @@ fn flushed_night<
     D: RunDisk + Drop + Send,
     S: Ledger + Send + Sync,
     F: Ledger + Send + Sync,
-    R: Threads + Wait + Clock + Sync,
->(rt: &R, alloc: Global, book: Book<D>, starts: Blank, finishes: Blank) -> Result<bool, Fail>
-    requires starts { (starts.name ≡ S.name) × (starts.parts ≡ S.parts) × (2 < S.parts) }
+    R: Threads + Wait + Clock + Sync + Abort,
+>(
+    rt: &R,
+    alloc: Global,
+    book: Book<D>,
+    jobs: Vec<Vec<Box<dyn Job + Send>>>,
+    starts: Blank,
+    finishes: Blank,
+) -> bool
+    requires starts { (starts.name ≡ S.name) × (starts.parts ≡ S.parts)
+        × (vec_len jobs < S.parts) }
     requires finishes { (finishes.name ≡ F.name) × (finishes.parts ≡ F.parts)
-        × (2 < F.parts) }
+        × (vec_len jobs < F.parts) }
 {
     // Behind two starts.
     let finish = book.durable().saturating_add(3);
@@ -168,26 +178,25 @@ fn flushed_night<
         begun: AtomicBool::new(false),
         seen: AtomicBool::new(false),
     };
-    let mut jobs: Vec<Vec<Box<dyn Job + Send>>> = Vec::new(alloc);
-    jobs.push(plain(alloc)?)?;
-    jobs.push(plain(alloc)?)?;
-    let _ = run_night(rt, alloc, &shared, &mut seat, jobs, &gate)?;
-    Ok(gate.seen.load(Ordering::SeqCst))
+    let ran = run_night(rt, alloc, &shared, &mut seat, jobs, &gate).is_ok();
+    holds(rt, ran, "night", 1);
+    gate.seen.load(Ordering::SeqCst)
 }
 
 #[test]
-fn a_finish_is_flushed_while_another_task_runs(rt: HostRuntime) -> Result<(), Fail> {
-    let tasks = [(b"copy".as_slice(), b"a".as_slice()), (b"spin", b"1")];
-    let book = opened(rt.alloc(), stored(&rt, rt.alloc(), None, &tasks)?)?;
+fn a_finish_is_flushed_while_another_task_runs(rt: HostRuntime) {
+    let tasks: [Task; 2] = [(b"copy", b"a"), (b"spin", b"1")];
+    let jobs = plain_jobs(&rt, rt.alloc(), 2);
+    let parts = jobs.len() as u64 + 1;
     let seen = flushed_night::<MemoryDisk, Brand, Brand, HostRuntime>(
         &rt,
         rt.alloc(),
-        book,
-        Blank::new(3),
-        Blank::new(3),
-    )?;
-    assert!(&rt; seen);
-    Ok(())
+        book_of(&rt, rt.alloc(), &tasks),
+        jobs,
+        Blank::new(parts),
+        Blank::new(parts),
+    );
+    holds(&rt, seen, "a durable finish", 1);
 }
 
 /// What shows whether a task ended without an error.
@@ -234,11 +243,19 @@ fn ended_when_told<
     D: RunDisk + Drop + Send,
     S: Ledger + Send + Sync,
     F: Ledger + Send + Sync,
-    R: Threads + Wait + Clock + Sync,
->(rt: &R, alloc: Global, book: Book<D>, starts: Blank, finishes: Blank) -> Result<u32, Fail>
-    requires starts { (starts.name ≡ S.name) × (starts.parts ≡ S.parts) × (1 < S.parts) }
+    R: Threads + Wait + Clock + Sync + Abort,
+>(
+    rt: &R,
+    alloc: Global,
+    book: Book<D>,
+    jobs: Vec<Vec<Box<dyn Job + Send>>>,
+    starts: Blank,
+    finishes: Blank,
+) -> u32
+    requires starts { (starts.name ≡ S.name) × (starts.parts ≡ S.parts)
+        × (vec_len jobs < S.parts) }
     requires finishes { (finishes.name ≡ F.name) × (finishes.parts ≡ F.parts)
-        × (1 < F.parts) }
+        × (vec_len jobs < F.parts) }
 {
     let (desk, mut seat) = Desk::<D, S, F>::new(book, starts, finishes);
     let shared = Mutex::new(desk);
@@ -247,23 +264,23 @@ fn ended_when_told<
         shared: &shared,
         found: AtomicU32::new(0),
     };
-    let mut jobs: Vec<Vec<Box<dyn Job + Send>>> = Vec::new(alloc);
-    jobs.push(plain(alloc)?)?;
-    let _ = run_night(rt, alloc, &shared, &mut seat, jobs, &gate)?;
-    Ok(gate.found.load(Ordering::SeqCst))
+    let ran = run_night(rt, alloc, &shared, &mut seat, jobs, &gate).is_ok();
+    holds(rt, ran, "night", 1);
+    gate.found.load(Ordering::SeqCst)
 }
 
 #[test]
-fn a_gate_is_told_behind_the_lock(rt: HostRuntime) -> Result<(), Fail> {
-    let tasks = [(b"copy".as_slice(), b"a".as_slice()); 2];
-    let book = opened(rt.alloc(), stored(&rt, rt.alloc(), None, &tasks)?)?;
+fn a_gate_is_told_behind_the_lock(rt: HostRuntime) {
+    let tasks: [Task; 2] = [(b"copy", b"a"); 2];
+    let jobs = plain_jobs(&rt, rt.alloc(), 1);
+    let parts = jobs.len() as u64 + 1;
     let found = ended_when_told::<MemoryDisk, Brand, Brand, HostRuntime>(
         &rt,
         rt.alloc(),
-        book,
-        Blank::new(2),
-        Blank::new(2),
-    )?;
-    assert!(&rt; found == 2);
-    Ok(())
+        book_of(&rt, rt.alloc(), &tasks),
+        jobs,
+        Blank::new(parts),
+        Blank::new(parts),
+    );
+    holds(&rt, found == 2, "finishes", u64::from(found));
 }

@@ -1,13 +1,15 @@
 //! Nights, by tables: how the tasks end, and what is counted.
 
-use crate::crews::{Fixed, plain_night};
-use crate::stores::{Now, Task, assert_tasks, opened, stored};
+use crate::asserts::holds;
+use crate::crews::{Fixed, NightEnd, plain_night};
+use crate::stores::{Task, assert_tasks, opened, stored};
 use run_crew::Strayed;
-use run_model::Fault;
+use run_disk::RunDisk;
 use std::alloc::Global;
 use std::process::Abort;
 use std::sync::Wait;
 use std::thread::Threads;
+use test_fixtures::Going;
 
 /// A night: the group's limit, its tasks, how many workers there are and whether the gate lets
 /// turns pass; what the audit says, what is settled, the last event; and how the tasks are then.
@@ -19,7 +21,7 @@ struct Row {
     audited: Result<(), Strayed>,
     settled: (u64, u64),
     acked: u64,
-    ends: &'static [Now<'static>],
+    ends: &'static [Going<'static>],
 }
 
 /// Three turns more.
@@ -34,7 +36,7 @@ static ROWS: [Row; 8] = [
         audited: Ok(()),
         settled: (64, 64),
         acked: 195,
-        ends: &[Now::Success; 64],
+        ends: &[Going::Success; 64],
     },
     // The first error cancels the group's scope, and the second task is told so.
     Row {
@@ -45,7 +47,7 @@ static ROWS: [Row; 8] = [
         audited: Ok(()),
         settled: (2, 2),
         acked: 10,
-        ends: &[Now::Failure(b"x"), Now::Failure(b"canceled")],
+        ends: &[Going::Failure(b"x"), Going::Failure(b"canceled")],
     },
     Row {
         limit: None,
@@ -55,7 +57,7 @@ static ROWS: [Row; 8] = [
         audited: Ok(()),
         settled: (2, 2),
         acked: 9,
-        ends: &[Now::Failure(b"no such job"), Now::Success],
+        ends: &[Going::Failure(b"no such job"), Going::Success],
     },
     Row {
         limit: None,
@@ -65,7 +67,7 @@ static ROWS: [Row; 8] = [
         audited: Ok(()),
         settled: (1, 1),
         acked: 6,
-        ends: &[Now::Failure(b"turn limit")],
+        ends: &[Going::Failure(b"turn limit")],
     },
     Row {
         limit: None,
@@ -75,7 +77,7 @@ static ROWS: [Row; 8] = [
         audited: Ok(()),
         settled: (1, 1),
         acked: 6,
-        ends: &[Now::Failure(b"gate")],
+        ends: &[Going::Failure(b"gate")],
     },
     Row {
         limit: None,
@@ -96,7 +98,7 @@ static ROWS: [Row; 8] = [
         audited: Ok(()),
         settled: (0, 0),
         acked: 5,
-        ends: &[Now::Held],
+        ends: &[Going::Held],
     },
     // Nobody works, and task 0 is left.
     Row {
@@ -107,31 +109,29 @@ static ROWS: [Row; 8] = [
         audited: Err(Strayed { worker: 0, note: 1 }),
         settled: (0, 0),
         acked: 4,
-        ends: &[Now::Ready],
+        ends: &[Going::Ready],
     },
 ];
 
-fn assert_night<R: Threads + Wait + Sync + Abort>(
-    rt: &R,
-    alloc: Global,
-    n: usize,
-    row: &Row,
-) -> Result<(), Fault> {
-    let book = opened(alloc, stored(rt, alloc, row.limit, row.tasks)?)?;
-    let night = plain_night(rt, alloc, book, row.workers, &Fixed(row.open))?;
-    assert!(rt; night.audited == row.audited, "audit of row {n}");
-    assert!(rt; night.last == Ok(row.acked), "last flush of row {n}");
-    assert!(rt; night.settled == row.settled, "counts of row {n}");
-    assert!(rt; night.lists.len() == row.workers, "lists of row {n}");
-    assert!(rt; night.book.durable() == row.acked, "durable in row {n}");
+/// Says whether a night is audited, settled and counted as its row says.
+fn is_as_told<D: RunDisk>(night: &NightEnd<D>, row: &Row) -> bool {
+    night.audited == row.audited
+        && night.last == Ok(row.acked)
+        && night.settled == row.settled
+        && night.lists.len() == row.workers
+        && night.book.durable() == row.acked
+}
+
+fn assert_night<R: Threads + Wait + Sync + Abort>(rt: &R, alloc: Global, n: usize, row: &Row) {
+    let book = opened(rt, alloc, stored(rt, alloc, row.limit, row.tasks));
+    let night = plain_night(rt, alloc, book, row.workers, &Fixed(row.open));
+    holds(rt, is_as_told(&night, row), "row", n as u64);
     assert_tasks(rt, night.book.state(), row.ends);
-    Ok(())
 }
 
 #[test]
-fn nights_end_as_their_rows_say(rt: HostRuntime) -> Result<(), Fault> {
+fn nights_end_as_their_rows_say(rt: HostRuntime) {
     for (n, row) in ROWS.iter().enumerate() {
-        assert_night(&rt, rt.alloc(), n, row)?;
+        assert_night(&rt, rt.alloc(), n, row);
     }
-    Ok(())
 }

@@ -2,19 +2,20 @@
 
 ghost use Rattle.std.specs.Prelude.{◌≡◌, ◌<◌, vec_len};
 
+use crate::asserts::{done, holds};
 use crate::gates::is_set_in_time;
 use crate::locks::{Acknowledges, is_durable_in_time};
-use crate::stores::{opened, stored};
+use crate::stores::{Task, opened, stored};
 use run_book::Book;
 use run_crew::{Desk, Gate, Job, Turn, run_night};
 use run_disk::{DiskFailed, MemoryDisk, RunDisk};
 use run_model::{Name, TaskInfo};
 use std::alloc::Global;
 use std::marker::Brand;
+use std::process::Abort;
 use std::sync::atomic::{AtomicBool, Ordering};
 use std::sync::ledger::{Blank, Ledger};
 use std::sync::{Arc, Mutex, Wait};
-use std::test::Fail;
 use std::thread::Threads;
 use std::time::Clock;
 
@@ -117,21 +118,23 @@ impl<'a, T: Acknowledges, R: Wait + Clock> Gate for Both<'a, T, R> {
 
 /// The jobs of three workers.
 fn jobs_of(
-    clock: HostRuntime,
+    rt: &impl Abort,
     alloc: Global,
+    clock: HostRuntime,
     marks: &Arc<Marks>,
-) -> Result<Vec<Vec<Box<dyn Job + Send>>>, Fail> {
+) -> Vec<Vec<Box<dyn Job + Send>>> {
     let mut jobs: Vec<Vec<Box<dyn Job + Send>>> = Vec::new(alloc);
     for _ in 0..3 {
         let job = Meanwhile {
             clock,
-            marks: Arc::try_clone(marks)?,
+            marks: done(rt, Arc::try_clone(marks), "count"),
         };
+        let job = done(rt, Box::new(alloc, job), "memory");
         let mut list: Vec<Box<dyn Job + Send>> = Vec::new(alloc);
-        list.push(Box::new(alloc, job)?)?;
-        jobs.push(list)?;
+        done(rt, list.push(job), "memory");
+        done(rt, jobs.push(list), "memory");
     }
-    Ok(jobs)
+    jobs
 }
 
 /// Says whether task 2 saw both finishes durable.
@@ -139,7 +142,7 @@ fn slow_night<
     D: RunDisk + Drop + Send,
     S: Ledger + Send + Sync,
     F: Ledger + Send + Sync,
-    R: Threads + Wait + Clock + Sync,
+    R: Threads + Wait + Clock + Sync + Abort,
 >(
     rt: &R,
     alloc: Global,
@@ -147,7 +150,7 @@ fn slow_night<
     jobs: Vec<Vec<Box<dyn Job + Send>>>,
     starts: Blank,
     finishes: Blank,
-) -> Result<bool, Fail>
+) -> bool
     requires starts { (starts.name ≡ S.name) × (starts.parts ≡ S.parts)
         × (vec_len jobs < S.parts) }
     requires finishes { (finishes.name ≡ F.name) × (finishes.parts ≡ F.parts)
@@ -164,40 +167,53 @@ fn slow_night<
         begun: AtomicBool::new(false),
         seen: AtomicBool::new(false),
     };
-    let _ = run_night(rt, alloc, &shared, &mut seat, jobs, &gate)?;
-    Ok(gate.seen.load(Ordering::SeqCst))
+    let ran = run_night(rt, alloc, &shared, &mut seat, jobs, &gate).is_ok();
+    holds(rt, ran, "night", 1);
+    gate.seen.load(Ordering::SeqCst)
 }
 
-// The turn of task 1 is over before the sync is, so its worker waits for the lock to finish it, and
-// rings just behind the flush that the first ring was for. Nobody else flushes before task 2 goes
-// on.
-#[test]
-fn a_finish_behind_a_slow_sync_becomes_durable(rt: HostRuntime) -> Result<(), Fail> {
-    let tasks = [(b"a".as_slice(), b"x".as_slice()); 3];
-    let disk = stored(&rt, rt.alloc(), None, &tasks)?;
+/// The disk of a store of three tasks, which is slow once they say so.
+fn slow_disk(
+    rt: &impl Abort,
+    alloc: Global,
+    clock: HostRuntime,
+    marks: &Arc<Marks>,
+) -> SlowDisk<MemoryDisk, HostRuntime> {
+    let tasks: [Task; 3] = [(b"a", b"x"); 3];
+    SlowDisk {
+        disk: stored(rt, alloc, None, &tasks),
+        clock,
+        marks: done(rt, Arc::try_clone(marks), "count"),
+    }
+}
+
+/// No mark is set.
+fn marks_of(rt: &impl Abort, alloc: Global) -> Arc<Marks> {
     let marks = Marks {
         begun: AtomicBool::new(false),
         slow: AtomicBool::new(false),
         syncing: AtomicBool::new(false),
         made: AtomicBool::new(false),
     };
-    let marks = Arc::new(rt.alloc(), marks)?;
-    let jobs = jobs_of(rt, rt.alloc(), &marks)?;
+    done(rt, Arc::new(alloc, marks), "memory")
+}
+
+// The turn of task 1 is over before the sync is, so its worker waits for the lock to finish it, and
+// rings just behind the flush that the first ring was for. Nobody else flushes before task 2 goes
+// on.
+#[test]
+fn a_finish_behind_a_slow_sync_becomes_durable(rt: HostRuntime) {
+    let marks = marks_of(&rt, rt.alloc());
+    let jobs = jobs_of(&rt, rt.alloc(), rt, &marks);
     let parts = jobs.len() as u64 + 1;
-    let slow = SlowDisk {
-        disk,
-        clock: rt,
-        marks: Arc::try_clone(&marks)?,
-    };
     let seen = slow_night::<SlowDisk<MemoryDisk, HostRuntime>, Brand, Brand, HostRuntime>(
         &rt,
         rt.alloc(),
-        opened(rt.alloc(), slow)?,
+        opened(&rt, rt.alloc(), slow_disk(&rt, rt.alloc(), rt, &marks)),
         jobs,
         Blank::new(parts),
         Blank::new(parts),
-    )?;
-    assert!(&rt; marks.syncing.load(Ordering::SeqCst));
-    assert!(&rt; seen);
-    Ok(())
+    );
+    holds(&rt, marks.syncing.load(Ordering::SeqCst), "a slow sync", 1);
+    holds(&rt, seen, "durable finishes", 2);
 }

@@ -1,18 +1,19 @@
 //! Which job makes a task's turns, how many it makes, and what each is told of the scope.
 
-use crate::crews::{Fixed, night, plain_night};
+use crate::asserts::{done, holds};
+use crate::crews::{Fixed, NightEnd, night, plain_night};
 use crate::gates::is_set_in_time;
-use crate::stores::{Now, Task, assert_tasks, opened, stored, with_a_cancelled_group};
+use crate::stores::{Task, assert_tasks, book_of, opened, stored, with_a_cancelled_group};
 use run_crew::{Gate, Job, Note, Turn};
 use run_disk::{FailOnce, MemoryDisk};
-use run_model::{Fault, Name, Outcome, TaskInfo, Text};
+use run_model::{Name, Outcome, TaskInfo, Text};
 use std::alloc::Global;
 use std::process::Abort;
 use std::sync::atomic::{AtomicBool, AtomicU32, Ordering};
 use std::sync::{Arc, Wait};
-use std::test::Fail;
 use std::thread::Threads;
 use std::time::Clock;
+use test_fixtures::Going;
 
 fn failed(error: &[u8]) -> Turn {
     Text::read(error).map_or(Turn::More, |error| Turn::Failed(error))
@@ -43,25 +44,44 @@ impl Job for Says {
     }
 }
 
+/// The jobs of a worker, from what each of them says.
+fn list_of(rt: &impl Abort, alloc: Global, rows: &[Says]) -> Vec<Box<dyn Job + Send>> {
+    let mut list: Vec<Box<dyn Job + Send>> = Vec::new(alloc);
+    for says in rows.iter() {
+        let job = Says {
+            name: says.name,
+            more: says.more,
+            error: says.error,
+        };
+        let job = done(rt, Box::new(alloc, job), "memory");
+        done(rt, list.push(job), "memory");
+    }
+    list
+}
+
 /// The lists of jobs of a night, from what each of them says.
 fn lists_of(
+    rt: &impl Abort,
     alloc: Global,
     rows: &[&'static [Says]],
-) -> Result<Vec<Vec<Box<dyn Job + Send>>>, Fail> {
+) -> Vec<Vec<Box<dyn Job + Send>>> {
     let mut lists: Vec<Vec<Box<dyn Job + Send>>> = Vec::new(alloc);
     for row in rows.iter() {
-        let mut list: Vec<Box<dyn Job + Send>> = Vec::new(alloc);
-        for says in row.iter() {
-            let job = Says {
-                name: says.name,
-                more: says.more,
-                error: says.error,
-            };
-            list.push(Box::new(alloc, job)?)?;
-        }
-        lists.push(list)?;
+        done(rt, lists.push(list_of(rt, alloc, row)), "memory");
     }
-    Ok(lists)
+    lists
+}
+
+/// The night over tasks, with a worker for each list of what its jobs say.
+fn night_of<R: Threads + Wait + Sync + Abort>(
+    rt: &R,
+    alloc: Global,
+    tasks: &[Task],
+    rows: &[&'static [Says]],
+) -> NightEnd<MemoryDisk> {
+    let jobs = lists_of(rt, alloc, rows);
+    let book = book_of(rt, alloc, tasks);
+    night(rt, alloc, book, jobs, &Fixed(true))
 }
 
 static TWO_OF_A_NAME: [Says; 3] = [
@@ -83,13 +103,14 @@ static TWO_OF_A_NAME: [Says; 3] = [
 ];
 
 #[test]
-fn the_first_job_that_handles_a_name_is_taken(rt: HostRuntime) -> Result<(), Fail> {
-    let disk = stored(&rt, rt.alloc(), None, &[(b"a", b"x")])?;
-    let jobs = lists_of(rt.alloc(), &[TWO_OF_A_NAME.as_slice()])?;
-    let gate = Fixed(true);
-    let night = night(&rt, rt.alloc(), opened(rt.alloc(), disk)?, jobs, &gate)?;
-    assert_tasks(&rt, night.book.state(), &[Now::Failure(b"first")]);
-    Ok(())
+fn the_first_job_that_handles_a_name_is_taken(rt: HostRuntime) {
+    let night = night_of(
+        &rt,
+        rt.alloc(),
+        &[(b"a", b"x")],
+        &[TWO_OF_A_NAME.as_slice()],
+    );
+    assert_tasks(&rt, night.book.state(), &[Going::Failure(b"first")]);
 }
 
 static LONG: [Says; 2] = [
@@ -106,21 +127,17 @@ static LONG: [Says; 2] = [
 ];
 
 /// The last turn that a task has is turn 999.
-static TURNS: [(Task, Now<'static>); 2] = [
-    ((b"a", b"x"), Now::Success),
-    ((b"b", b"x"), Now::Failure(b"turn limit")),
+static TURNS: [(Task, Going<'static>); 2] = [
+    ((b"a", b"x"), Going::Success),
+    ((b"b", b"x"), Going::Failure(b"turn limit")),
 ];
 
 #[test]
-fn a_task_has_a_thousand_turns(rt: HostRuntime) -> Result<(), Fail> {
+fn a_task_has_a_thousand_turns(rt: HostRuntime) {
     for row in TURNS.iter() {
-        let disk = stored(&rt, rt.alloc(), None, &[row.0])?;
-        let jobs = lists_of(rt.alloc(), &[LONG.as_slice()])?;
-        let gate = Fixed(true);
-        let night = night(&rt, rt.alloc(), opened(rt.alloc(), disk)?, jobs, &gate)?;
+        let night = night_of(&rt, rt.alloc(), &[row.0], &[LONG.as_slice()]);
         assert_tasks(&rt, night.book.state(), &[row.1]);
     }
-    Ok(())
 }
 
 static ONLY_A: [Says; 1] = [Says {
@@ -146,17 +163,18 @@ fn assert_notes(rt: &impl Abort, list: usize, notes: &[Note], parity: u16) {
 
 // Who takes a task is left to the threads, but what becomes of it tells whose notes these are.
 #[test]
-fn notes_stand_in_the_order_of_the_lists(rt: HostRuntime) -> Result<(), Fail> {
+fn notes_stand_in_the_order_of_the_lists(rt: HostRuntime) {
     let tasks: [Task; 4] = [(b"a", b"x"), (b"b", b"x"), (b"a", b"x"), (b"b", b"x")];
-    let disk = stored(&rt, rt.alloc(), None, &tasks)?;
-    let jobs = lists_of(rt.alloc(), &[ONLY_A.as_slice(), ONLY_B.as_slice()])?;
-    let gate = Fixed(true);
-    let night = night(&rt, rt.alloc(), opened(rt.alloc(), disk)?, jobs, &gate)?;
-    assert!(&rt; night.settled == (4, 4));
+    let night = night_of(
+        &rt,
+        rt.alloc(),
+        &tasks,
+        &[ONLY_A.as_slice(), ONLY_B.as_slice()],
+    );
+    holds(&rt, night.settled == (4, 4), "counts", 4);
     for (list, notes) in night.lists.iter().enumerate() {
         assert_notes(&rt, list, notes.as_slice(), (list % 2) as u16);
     }
-    Ok(())
 }
 
 /// Counts its turns.
@@ -176,36 +194,40 @@ impl Job for Counts {
     }
 }
 
-/// How many turns one worker makes over a disk that fails at this call.
-fn turns_made<R: Threads + Wait + Sync + Abort>(
-    rt: &R,
+/// The job of one worker that counts its turns.
+fn counting(
+    rt: &impl Abort,
     alloc: Global,
-    call: u64,
-) -> Result<u32, Fail> {
-    let disk = stored(rt, alloc, None, &[(b"a", b"x")])?;
-    let book = opened(alloc, FailOnce::new(disk, call))?;
-    let turns = Arc::new(alloc, AtomicU32::new(0))?;
-    let mut list: Vec<Box<dyn Job + Send>> = Vec::new(alloc);
+    turns: &Arc<AtomicU32>,
+) -> Vec<Vec<Box<dyn Job + Send>>> {
     let job = Counts {
-        turns: Arc::try_clone(&turns)?,
+        turns: done(rt, Arc::try_clone(turns), "count"),
     };
-    list.push(Box::new(alloc, job)?)?;
+    let job = done(rt, Box::new(alloc, job), "memory");
+    let mut list: Vec<Box<dyn Job + Send>> = Vec::new(alloc);
+    done(rt, list.push(job), "memory");
     let mut jobs: Vec<Vec<Box<dyn Job + Send>>> = Vec::new(alloc);
-    jobs.push(list)?;
-    let _ = night(rt, alloc, book, jobs, &Fixed(true))?;
-    Ok(turns.load(Ordering::SeqCst))
+    done(rt, jobs.push(list), "memory");
+    jobs
+}
+
+/// How many turns one worker makes over a disk that fails at this call.
+fn turns_made<R: Threads + Wait + Sync + Abort>(rt: &R, alloc: Global, call: u64) -> u32 {
+    let turns = done(rt, Arc::new(alloc, AtomicU32::new(0)), "memory");
+    let disk = FailOnce::new(stored(rt, alloc, None, &[(b"a", b"x")]), call);
+    let jobs = counting(rt, alloc, &turns);
+    let _ = night(rt, alloc, opened(rt, alloc, disk), jobs, &Fixed(true));
+    turns.load(Ordering::SeqCst)
 }
 
 // The opening makes ten calls, and the flush of the first start the six behind them.
 #[test]
-fn no_turn_is_made_where_the_flush_of_the_start_fails(rt: HostRuntime) -> Result<(), Fail> {
-    for call in 11..=16_u64 {
-        let turns = turns_made(&rt, rt.alloc(), call)?;
-        assert!(&rt; turns == 0, "turns at call {call}");
+fn no_turn_is_made_where_the_flush_of_the_start_fails(rt: HostRuntime) {
+    for call in 11..=17_u64 {
+        let turns = turns_made(&rt, rt.alloc(), call);
+        let wanted = if call < 17 { 0 } else { 1 };
+        holds(&rt, turns == wanted, "turns at call", call);
     }
-    let turns = turns_made(&rt, rt.alloc(), 17)?;
-    assert!(&rt; turns == 1, "turns behind the flush");
-    Ok(())
 }
 
 /// Lets task 1 begin once task 0 has made a turn, and task 0 go on once task 1 was finished.
@@ -236,17 +258,16 @@ impl<C: Clock + Drop> Gate for Cancels<C> {
 }
 
 #[test]
-fn a_turn_is_told_that_another_task_failed(rt: HostRuntime) -> Result<(), Fail> {
-    let disk = stored(&rt, rt.alloc(), None, &[(b"spin", b"3"), (b"fail", b"x")])?;
+fn a_turn_is_told_that_another_task_failed(rt: HostRuntime) {
     let gate = Cancels {
         clock: rt,
         begun: AtomicBool::new(false),
         finished: AtomicBool::new(false),
     };
-    let night = plain_night(&rt, rt.alloc(), opened(rt.alloc(), disk)?, 2, &gate)?;
-    let ends = [Now::Failure(b"canceled"), Now::Failure(b"x")];
+    let book = book_of(&rt, rt.alloc(), &[(b"spin", b"3"), (b"fail", b"x")]);
+    let night = plain_night(&rt, rt.alloc(), book, 2, &gate);
+    let ends = [Going::Failure(b"canceled"), Going::Failure(b"x")];
     assert_tasks(&rt, night.book.state(), &ends);
-    Ok(())
 }
 
 /// Adds up, over the tasks that are told that their scope is done, 1 for task 0 and 2 for task 1.
@@ -269,26 +290,26 @@ impl Job for Hears {
     }
 }
 
-#[test]
-fn a_turn_is_told_of_its_own_scope(rt: HostRuntime) -> Result<(), Fail> {
-    let disk = with_a_cancelled_group(&rt, rt.alloc())?;
-    let told = Arc::new(rt.alloc(), AtomicU32::new(0))?;
-    let mut list: Vec<Box<dyn Job + Send>> = Vec::new(rt.alloc());
+/// The job of one worker that hears of scopes that are done.
+fn hearing(rt: &impl Abort, alloc: Global, told: &Arc<AtomicU32>) -> Vec<Vec<Box<dyn Job + Send>>> {
     let job = Hears {
-        told: Arc::try_clone(&told)?,
+        told: done(rt, Arc::try_clone(told), "count"),
     };
-    list.push(Box::new(rt.alloc(), job)?)?;
-    let mut jobs: Vec<Vec<Box<dyn Job + Send>>> = Vec::new(rt.alloc());
-    jobs.push(list)?;
-    let night = night(
-        &rt,
-        rt.alloc(),
-        opened(rt.alloc(), disk)?,
-        jobs,
-        &Fixed(true),
-    )?;
-    assert_tasks(&rt, night.book.state(), &[Now::Success, Now::Success]);
+    let job = done(rt, Box::new(alloc, job), "memory");
+    let mut list: Vec<Box<dyn Job + Send>> = Vec::new(alloc);
+    done(rt, list.push(job), "memory");
+    let mut jobs: Vec<Vec<Box<dyn Job + Send>>> = Vec::new(alloc);
+    done(rt, jobs.push(list), "memory");
+    jobs
+}
+
+#[test]
+fn a_turn_is_told_of_its_own_scope(rt: HostRuntime) {
+    let told = done(&rt, Arc::new(rt.alloc(), AtomicU32::new(0)), "memory");
+    let jobs = hearing(&rt, rt.alloc(), &told);
+    let book = opened(&rt, rt.alloc(), with_a_cancelled_group(&rt, rt.alloc()));
+    let night = night(&rt, rt.alloc(), book, jobs, &Fixed(true));
+    assert_tasks(&rt, night.book.state(), &[Going::Success, Going::Success]);
     let told = told.load(Ordering::SeqCst);
-    assert!(&rt; told == 2, "told {told}");
-    Ok(())
+    holds(&rt, told == 2, "told", u64::from(told));
 }
