@@ -43,5 +43,3 @@ mod stores;
 mod trials;
 #[cfg(test)]
 mod wants;
-#[cfg(test)]
-mod wrappers;

@@ -366,3 +366,47 @@ fn one_call_fails_once(rt: HostRuntime) {
     holds(&rt, disk.calls() == 3, "calls", 3);
     play(&rt, &mut disk, "behind", &BEHIND_FAILURE);
 }
+
+/// A write of a byte, and then twice one of no byte: the second time where the disk fails.
+static NO_BYTES: [Call; 3] = [
+    Call::Write(0, &[1], true),
+    Call::Write(0, &[], true),
+    Call::Write(0, &[], false),
+];
+
+/// What crashes leave behind the two writes that are made: none of them was synced.
+static UNSYNCED: [Row; 4] = [
+    (2, Torn::Keep, &[0, 0, 0, 0]),
+    (2, Torn::Take, &[1, 0, 0, 0]),
+    (2, Torn::Fill(0xA7), &[0xA7, 0, 0, 0]),
+    (2, Torn::Front(0), &[0, 0, 0, 0]),
+];
+
+/// The disk below a fuse behind those writes.
+fn below_fuse(rt: &impl Abort, alloc: Global) -> MemoryDisk {
+    let mut fuse = Fuse::new(blank(rt, alloc, 4), 2);
+    play(rt, &mut fuse, "write", &NO_BYTES);
+    fuse.into_inner()
+}
+
+/// The disk below one that fails once.
+fn below_fail_once(rt: &impl Abort, alloc: Global) -> MemoryDisk {
+    let mut once = FailOnce::new(blank(rt, alloc, 4), 3);
+    play(rt, &mut once, "write", &NO_BYTES);
+    once.into_inner()
+}
+
+/// Asserts that the two writes came to a disk, and what crashes leave of it behind them.
+fn assert_unsynced(rt: &impl Abort, alloc: Global, disk: &MemoryDisk) {
+    holds(rt, disk.calls() == 2, "calls", 2);
+    assert_left(rt, alloc, disk, &UNSYNCED);
+}
+
+// The clauses `relays` of both say that a call that fails leaves the disk below as it is. That a
+// write of no bytes is passed on as a write, and not as a sync, no clause says: a disk may leave
+// less than its contract allows.
+#[test]
+fn a_write_of_no_bytes_makes_nothing_last(rt: HostRuntime) {
+    assert_unsynced(&rt, rt.alloc(), &below_fuse(&rt, rt.alloc()));
+    assert_unsynced(&rt, rt.alloc(), &below_fail_once(&rt, rt.alloc()));
+}
