@@ -18,14 +18,14 @@ use Rattle.renewal_laws.proofs.Goes.{goes_before}
 use Rattle.renewal_laws.proofs.Rows.{kept_same, number_agrees, told_same}
 
 -- The state with these rows in place of its own.
-abbrev with_rows : State → List Scope → List Group → List Task → State
+abbrev pub with_rows : State → List Scope → List Group → List Task → State
 with_rows p scopes groups tasks = record {
   count = p.count;
   tree = record p.tree { scopes = scopes };
   work = record p.work { groups = groups; tasks = tasks };
 }
 
-same_rows : (p : State) (scopes a : List Scope) (groups b : List Group) (tasks c : List Task)
+pub same_rows : (p : State) (scopes a : List Scope) (groups b : List Group) (tasks c : List Task)
     → scopes ≡ a → groups ≡ b → tasks ≡ c
     → with_rows p scopes groups tasks ≡ with_rows p a b c
 same_rows p scopes a groups b tasks c s g t =

@@ -29,11 +29,11 @@ scopes_anew part rows = rows_anew part.scopes (scope_anew part) rows
 -- ---- the line
 
 -- A row of a line, told anew.
-abbrev told_at : Part → Numbered → Numbered
+abbrev pub told_at : Part → Numbered → Numbered
 told_at part r = (new_number part.scopes r.0, scope_anew part r.1)
 
 -- All scopes of these rows go on.
-abbrev AllGo : Part → List Numbered → Type 0
+abbrev pub AllGo : Part → List Numbered → Type 0
 AllGo part rows = AllByRecursion (λ r. part.scopes r.0 ≡ true) rows
 
 -- The line of a scope that goes on is the old one, told anew, and all on it goes on.

@@ -12,7 +12,8 @@ use Rattle.run_model.specs.Rules.{HasGroup, IsConsistent}
 use Rattle.run_model.specs.Scopes.{is_root}
 use Rattle.run_model.specs.State.{State, WorkState}
 use Rattle.state_renewal.specs.Renewed.{keeps_group, keeps_scope, keeps_task}
-use Rattle.state_renewal.proofs.Keeps.{parent_kept, scope_kept, task_is_kept, unwaited_kept}
+use Rattle.state_renewal.proofs.Keeps.{owner_kept, parent_kept, scope_kept, task_is_kept}
+use Rattle.state_renewal.proofs.Keeps.{unwaited_kept}
 use Rattle.renewal_laws.specs.GoingOn.{Part, going_on, goes_on}
 
 -- Each row has this of its number and itself.
@@ -24,9 +25,11 @@ abbrev pub WithParent : Part → ℕ → Scope → Type 0
 WithParent part s row = is_root row.kind ≡ false → part.scopes s ≡ true
     → part.scopes row.parent ≡ true
 
--- A group's scope goes on with it, and it was waited for where it doesn't go on.
+-- A group's scope goes on with it, and it with its own scope; and it was waited for where it
+-- doesn't go on.
 pub record WithScope (part : Part) (g : ℕ) (row : Group) : Type 0 where
   pub scope : part.groups g ≡ true → part.scopes row.scope ≡ true
+  pub own : row.bare ≡ false → part.scopes row.scope ≡ true → part.groups g ≡ true
   pub gone : part.groups g ≡ false → row.waited ≡ true
 
 -- A task goes on exactly where its group does.
@@ -104,6 +107,13 @@ groups_first p consistent = record {
             goes_kept (length p.tree.scopes) (keeps_scope p) row.scope
             (scope_kept p g row found (consistent.numbered.scopes g row found)
             (sym before ∙ is));
+        own =
+            λ own is.
+            goes_kept (length p.work.groups) (keeps_group p) g
+            (owner_kept p g row found own
+            (sym (goes_before (length p.tree.scopes) (keeps_scope p) row.scope
+            (consistent.numbered.scopes g row found))
+            ∙ is));
         gone = λ goes. waited_first p g row found (sym before ∙ goes);
       };
 }

@@ -140,6 +140,7 @@ groups_push part name s b rows go is = record {
       each_push (WithScope part) rows (new_group name s b) go.each
       (record {
         scope = λ goes. is;
+        own = λ own goes. go.later (length rows) (omega arith);
         gone =
             λ goes.
             absurd (both_ways (part.groups (length rows)) goes
@@ -161,7 +162,7 @@ groups_error : (part : Part) (g : ℕ) (error : Option (List ℕ)) (rows : List 
 groups_error part g None rows go = go
 groups_error part g (Some text) rows go =
     groups_change part (with_error text) g rows
-    (λ n x is. record { scope = is.scope; gone = is.gone }) go
+    (λ n x is. record { scope = is.scope; own = is.own; gone = is.gone }) go
 
 -- ---- tasks
 
@@ -258,7 +259,7 @@ work_goes part p (event.Bare name s) go is = record {
 work_goes part p (event.SetLimit g limit) go is = record {
   groups =
       groups_change part (with_limit limit) g p.work.groups
-      (λ n x with. record { scope = with.scope; gone = with.gone }) go.work.groups;
+      (λ n x with. record { scope = with.scope; own = with.own; gone = with.gone }) go.work.groups;
   tasks = go.work.tasks;
 }
 work_goes part p (event.Go g job argument) go is = record {
@@ -279,7 +280,8 @@ work_goes part p (event.Finish n outcome) go is =
 work_goes part p (event.Wait g) go is = record {
   groups =
       groups_change part with_wait g p.work.groups
-      (λ n x with. record { scope = with.scope; gone = λ goes. refl }) go.work.groups;
+      (λ n x with. record { scope = with.scope; own = with.own; gone = λ goes. refl })
+      go.work.groups;
   tasks = go.work.tasks;
 }
 work_goes part p event.Restart go is =

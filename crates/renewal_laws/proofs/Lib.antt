@@ -14,4 +14,5 @@ pub mod Names
 pub mod Named
 pub mod Refused
 pub mod Replies
+pub mod Again
 pub mod Over

@@ -25,6 +25,7 @@ use Rattle.renewal_laws.specs.Alike.{GoOnAlike}
 use Rattle.renewal_laws.specs.Answered.{answer_anew, calls_part, command_anew, reply_anew}
 use Rattle.renewal_laws.specs.Answered.{started_anew}
 use Rattle.renewal_laws.specs.GoingOn.{GoesOn, event_anew, going_on, names_part, state_anew}
+use Rattle.renewal_laws.proofs.Again.{renewed_same}
 use Rattle.renewal_laws.proofs.Alike.{alike}
 use Rattle.renewal_laws.proofs.Allowed.{allowed_same}
 use Rattle.renewal_laws.proofs.Begins.{begins}
@@ -130,3 +131,11 @@ pub tasks_gone : (p q : State) (events : List Event) (n : ℕ) (row : Task)
 tasks_gone p q events n row goes found gone =
     let both = (led_on p q events goes).both in
     gone_ended (going_on p) q n row both.old both.go.work found gone
+
+-- ---- renewed again
+
+pub renewed_alike : (p q : State) (events : List Event) → GoesOn p events q
+    → renewed (state_anew (going_on p) q) ≡ renewed q
+renewed_alike p q events goes =
+    renewed_same (going_on p) q (led_on p q events goes).both
+    (λ s gone. scopes_gone p q events s goes gone)

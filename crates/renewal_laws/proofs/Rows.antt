@@ -79,7 +79,7 @@ front_map : {X : Type 0} (f : X → X) (b : Bool) (r : X) (rows : List X)
 front_map f true r rows = refl
 front_map f false r rows = refl
 
-kept_map : {X : Type 0} (goes : ℕ → Bool) (f : X → X) (rows : List X)
+pub kept_map : {X : Type 0} (goes : ℕ → Bool) (f : X → X) (rows : List X)
     → kept goes (map f rows) ≡ map f (kept goes rows)
 kept_map goes f [] = refl
 kept_map goes f (r ∷ rows) =

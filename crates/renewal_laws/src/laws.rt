@@ -79,3 +79,10 @@ pub fn what_does_not_go_on_is_finished()
         → GoesOn p events q → HasTask q.work n row → (going_on p).tasks n ≡ false
         → is_unfinished row.stage ≡ false }
 {}
+
+/// What a renewal leaves of a store doesn't depend on renewals before: it leaves the same of the
+/// store that was renewed and of the one that wasn't.
+pub fn earlier_renewals_leave_no_trace()
+    ensures { (p q : State) (events : List Event) → GoesOn p events q
+        → renewed (state_anew (going_on p) q) ≡ renewed q }
+{}

@@ -1,0 +1,380 @@
+-- What a renewal leaves of a store that was renewed before is what it leaves of the old one.
+use Rattle.std.proofs.Common.{◌≡◌, ◌==◌, ◌&&◌, ◌||◌, ℕ, zero, suc, Bool, true, false, not}
+use Rattle.std.proofs.Common.{List, [], ◌∷◌, length, map, Option, Some, None, slice_get, inl, inr}
+use Rattle.std.proofs.Common.{refl, sym, ap, subst, ◌∙◌}
+use Rattle.std.specs.List.{AllByRecursion}
+use Rattle.std.specs.Option.{option_map, option_map_or}
+use Rattle.std.proofs.lemmas.Bool.{and_from, and_left, and_parts, both_ways, eqb-true}
+use Rattle.std.proofs.lemmas.Bool.{false_from_ne_true, false≢true, not-true, or_cases}
+use Rattle.std.proofs.lemmas.Bool.{true_from_ne_false}
+use Rattle.std.proofs.lemmas.Option.{none-some, same_Some, slice_get_within}
+use Rattle.run_model.specs.declared.groups.Group.{Group}
+use Rattle.run_model.specs.declared.scopes.Scope.{Scope}
+use Rattle.run_model.specs.declared.tasks.Task.{Task}
+use Rattle.run_model.specs.Rules.{HasScope}
+use Rattle.run_model.specs.Scopes.{Numbered, is_done, line, line_within, upwards}
+use Rattle.run_model.specs.State.{State}
+use Rattle.scope_laws.specs.Hits.{is_on}
+use Rattle.state_laws.proofs.FirstErrors.{any_found}
+use Rattle.state_laws.proofs.Tests.{passing}
+use Rattle.state_renewal.specs.Renewed.{group_told, hosts_unwaited, in_front_if, is_needed, kept}
+use Rattle.state_renewal.specs.Renewed.{keeps_group, keeps_scope, keeps_task, new_number}
+use Rattle.state_renewal.specs.Renewed.{one_more_if, renewed, scope_numbers, scope_told, task_told}
+use Rattle.state_renewal.proofs.Keeps.{found_any, number_get}
+use Rattle.state_renewal.proofs.Numbers.{are_told, number_behind}
+use Rattle.state_renewal.proofs.Works.{same_number}
+use Rattle.renewal_laws.specs.GoingOn.{Part, group_anew, rows_anew, scope_anew, state_anew}
+use Rattle.renewal_laws.specs.GoingOn.{task_anew}
+use Rattle.renewal_laws.proofs.Allowed.{done_anew}
+use Rattle.renewal_laws.proofs.Begins.{same_rows}
+use Rattle.renewal_laws.proofs.Chains.{AllGo, line_told, told_at}
+use Rattle.renewal_laws.proofs.Numbers.{any_anew}
+use Rattle.renewal_laws.proofs.Rows.{anew_get, kept_map}
+use Rattle.renewal_laws.proofs.Runs.{Both}
+
+-- ---- rows that are kept of those that go on
+
+-- Only what goes on is kept, and of that again the same.
+record IsWithin (goes keeps again : ℕ → Bool) : Type 0 where
+  on : (n : ℕ) → goes n ≡ true → again (new_number goes n) ≡ keeps n
+  off : (n : ℕ) → goes n ≡ false → keeps n ≡ false
+
+number_twice : (goes keeps again : ℕ → Bool) → IsWithin goes keeps again → (n : ℕ)
+    → new_number again (new_number goes n) ≡ new_number keeps n
+number_twice goes keeps again within zero = refl
+number_twice goes keeps again within (suc n) =
+    by_last (goes n) refl (number_twice goes keeps again within n)
+  where
+    by_last : (b : Bool) → goes n ≡ b
+        → new_number again (new_number goes n) ≡ new_number keeps n
+        → new_number again (one_more_if b (new_number goes n))
+        ≡ one_more_if (keeps n) (new_number keeps n)
+    by_last true is before =
+        ap (λ b. one_more_if b (new_number again (new_number goes n))) (within.on n is)
+        ∙ ap (one_more_if (keeps n)) before
+    by_last false is before =
+        before ∙ ap (λ b. one_more_if b (new_number keeps n)) (sym (within.off n is))
+
+within_behind : (goes keeps again : ℕ → Bool) (b : Bool) → goes zero ≡ b
+    → IsWithin goes keeps again
+    → IsWithin (λ n. goes (suc n)) (λ n. keeps (suc n)) (λ n. again (one_more_if b n))
+within_behind goes keeps again b is within = record {
+  on =
+      λ n goes_n.
+      ap (λ c. again (one_more_if c (new_number (λ k. goes (suc k)) n))) (sym is)
+      ∙ ap again (sym (number_behind goes n))
+      ∙ within.on (suc n) goes_n;
+  off = λ n. within.off (suc n);
+}
+
+kept_twice : {X : Type 0} (goes keeps again : ℕ → Bool) (rows : List X)
+    → IsWithin goes keeps again → kept again (kept goes rows) ≡ kept keeps rows
+kept_twice goes keeps again [] within = refl
+kept_twice {X = X} goes keeps again (r ∷ rows) within =
+    by_first (goes zero) refl
+    (λ b is. kept_twice (λ n. goes (suc n)) (λ n. keeps (suc n)) (λ n. again (one_more_if b n))
+    rows (within_behind goes keeps again b is within))
+  where
+    rest : List X
+    rest = kept (λ n. goes (suc n)) rows
+
+    by_first : (b : Bool) → goes zero ≡ b
+        → ((c : Bool) → goes zero ≡ c
+        → kept (λ n. again (one_more_if c n)) rest ≡ kept (λ n. keeps (suc n)) rows)
+        → kept again (in_front_if b r rest)
+        ≡ in_front_if (keeps zero) r (kept (λ n. keeps (suc n)) rows)
+    by_first true is behind =
+        ap (λ b. in_front_if b r (kept (λ n. again (suc n)) rest)) (within.on zero is)
+        ∙ ap (in_front_if (keeps zero) r) (behind true is)
+    by_first false is behind =
+        behind false is
+        ∙ ap (λ b. in_front_if b r (kept (λ n. keeps (suc n)) rows)) (sym (within.off zero is))
+
+map_twice : {X : Type 0} (f g h : X → X) (rows : List X) → ((x : X) → f (g x) ≡ h x)
+    → map f (map g rows) ≡ map h rows
+map_twice f g h [] same = refl
+map_twice f g h (r ∷ rows) same =
+    ap (λ x. x ∷ map f (map g rows)) (same r) ∙ ap (λ rs. h r ∷ rs) (map_twice f g h rows same)
+
+rows_twice : {X : Type 0} (goes keeps again : ℕ → Bool) (f g h : X → X) (rows : List X)
+    → IsWithin goes keeps again → ((x : X) → f (g x) ≡ h x)
+    → map f (kept again (rows_anew goes g rows)) ≡ map h (kept keeps rows)
+rows_twice goes keeps again f g h rows within same =
+    ap (map f) (kept_map again g (kept goes rows))
+    ∙ ap (λ rs. map f (map g rs)) (kept_twice goes keeps again rows within)
+    ∙ map_twice f g h (kept keeps rows) same
+
+-- ---- what is needed
+
+same_bools : (a b : Bool) → (a ≡ true → b ≡ true) → (b ≡ true → a ≡ true) → a ≡ b
+same_bools true b forth back = sym (forth refl)
+same_bools false true forth back = back refl
+same_bools false false forth back = refl
+
+-- A scope on whose line another one is has a row.
+row_on : (rows : List Scope) (t s : ℕ) → is_on s (line rows t) ≡ true
+    → (row : Scope) × (slice_get rows t ≡ Some row)
+row_on rows t s on = by_row (slice_get rows t) refl
+  where
+    by_row : (o : Option Scope) → slice_get rows t ≡ o
+        → (row : Scope) × (slice_get rows t ≡ Some row)
+    by_row None at =
+        absurd (false≢true (sym (ap (λ o. is_on s (upwards (line_within t rows) t o)) at) ∙ on))
+    by_row (Some row) at = (row, at)
+
+all_at : (P : Numbered → Type 0) (rows : List Numbered) → AllByRecursion P rows → (n : ℕ)
+    (r : Numbered) → slice_get rows n ≡ Some r → P r
+all_at P [] all n r found = absurd (none-some r found)
+all_at P (x ∷ rows) all zero r found = subst P (same_Some x r found) all.0
+all_at P (x ∷ rows) all (suc n) r found = all_at P rows all.1 n r found
+
+-- A scope is on the line told anew where it was on the line.
+on_anew : (part : Part) (s : ℕ) (rows : List Numbered) → AllGo part rows → part.scopes s ≡ true
+    → is_on (new_number part.scopes s) (map (told_at part) rows) ≡ is_on s rows
+on_anew part s [] all is = refl
+on_anew part s (r ∷ rows) all is =
+    ap (λ b. b || is_on (new_number part.scopes s) (map (told_at part) rows))
+    (same_number part.scopes r.0 s all.0 is)
+    ∙ ap (λ b. (r.0 == s) || b) (on_anew part s rows all.1 is)
+
+-- Each scope that doesn't go on is done.
+abbrev pub GoneAreDone : Part → State → Type 0
+GoneAreDone part p = (s : ℕ) → part.scopes s ≡ false → is_done p.tree.scopes s ≡ true
+
+module _ (part : Part) (p : State) (both : Both part p) (done : GoneAreDone part p) where
+  hosts_go : (s : ℕ) → hosts_unwaited p.work s ≡ true → part.scopes s ≡ true
+  hosts_go s is =
+      let by = found_any (λ group. not group.waited && group.scope == s) p.work.groups is in
+      let parts = and_parts (not by.1.waited) (by.1.scope == s) by.3 in
+      let with = both.go.work.groups.each by.0 by.1 by.2 in
+      ap part.scopes (sym (eqb-true by.1.scope s parts.1))
+      ∙ with.scope (true_from_ne_false (part.groups by.0)
+      (λ gone. both_ways by.1.waited (not-true by.1.waited parts.0) (with.gone gone)))
+
+  needed_goes : (s : ℕ) → is_needed p s ≡ true → part.scopes s ≡ true
+  needed_goes s is =
+      elim (or_cases (not (is_done p.tree.scopes s)) (hosts_unwaited p.work s) is) [
+        | inl live ↦
+            true_from_ne_false (part.scopes s)
+            (λ gone. both_ways (is_done p.tree.scopes s)
+            (not-true (is_done p.tree.scopes s) live) (done s gone))
+        | inr hosts ↦ hosts_go s hosts
+      ]
+
+  hosts_same : (s : ℕ) → part.scopes s ≡ true
+      → hosts_unwaited (state_anew part p).work (new_number part.scopes s)
+      ≡ hosts_unwaited p.work s
+  hosts_same s is =
+      any_anew part.groups (group_anew part) (λ group. not group.waited && group.scope == s)
+      (λ group. not group.waited && group.scope == new_number part.scopes s) p.work.groups
+      (record {
+        on = λ g x found goes.
+            ap (λ b. not x.waited && b)
+            (same_number part.scopes x.scope s
+            ((both.go.work.groups.each g x found).scope goes) is);
+        gone = λ g x found gone.
+            and_left (not x.waited) (x.scope == s)
+            (ap not ((both.go.work.groups.each g x found).gone gone));
+      })
+
+  needed_same : (s : ℕ) → part.scopes s ≡ true
+      → is_needed (state_anew part p) (new_number part.scopes s) ≡ is_needed p s
+  needed_same s is =
+      ap (λ b. not b || hosts_unwaited (state_anew part p).work (new_number part.scopes s))
+      (done_anew part p both.old both.new both.go s is)
+      ∙ ap (λ b. not (is_done p.tree.scopes s) || b) (hosts_same s is)
+
+  -- ---- what is kept
+
+  told : (t : ℕ) (row : Scope) → HasScope p.tree t row → part.scopes t ≡ true
+      → AllGo part (line p.tree.scopes t)
+  told t row found is =
+      (line_told part p.tree.scopes both.old.numbered.ordered both.new.numbered.ordered
+      both.go.scopes t row found is).all
+
+  on_same : (t s : ℕ) (row : Scope) → HasScope p.tree t row → part.scopes t ≡ true
+      → part.scopes s ≡ true
+      → is_on (new_number part.scopes s)
+      (line (state_anew part p).tree.scopes (new_number part.scopes t))
+      ≡ is_on s (line p.tree.scopes t)
+  on_same t s row found is_t is_s =
+      let line = line_told part p.tree.scopes both.old.numbered.ordered
+      both.new.numbered.ordered both.go.scopes t row found is_t in
+      ap (is_on (new_number part.scopes s)) line.is
+      ∙ on_anew part s (Rattle.run_model.specs.Scopes.line p.tree.scopes t) line.all is_s
+
+  -- Only scopes that go on are kept.
+  scope_goes : (s : ℕ) → keeps_scope p s ≡ true → part.scopes s ≡ true
+  scope_goes s is =
+      let by = found_any (λ t. is_needed p t && is_on s (line p.tree.scopes t))
+      (scope_numbers p.tree) is in
+      let parts = and_parts (is_needed p by.1) (is_on s (line p.tree.scopes by.1)) by.3 in
+      let row = row_on p.tree.scopes by.1 s parts.1 in
+      let on = found_any (λ r. r.0 == s) (line p.tree.scopes by.1) parts.1 in
+      ap part.scopes (sym (eqb-true on.1.0 s on.3))
+      ∙ all_at (λ r. part.scopes r.0 ≡ true) (line p.tree.scopes by.1)
+      (told by.1 row.0 row.1 (needed_goes by.1 parts.0)) on.0 on.1 on.2
+
+  scope_again : (s : ℕ) → part.scopes s ≡ true → keeps_scope p s ≡ true
+      → keeps_scope (state_anew part p) (new_number part.scopes s) ≡ true
+  scope_again s is kept_p =
+      let by = found_any (λ t. is_needed p t && is_on s (line p.tree.scopes t))
+      (scope_numbers p.tree) kept_p in
+      let parts = and_parts (is_needed p by.1) (is_on s (line p.tree.scopes by.1)) by.3 in
+      let row = row_on p.tree.scopes by.1 s parts.1 in
+      let goes = needed_goes by.1 parts.0 in
+      let q : State = state_anew part p in
+      let t = new_number part.scopes by.1 in
+      let new = new_number part.scopes s in
+      any_found (λ t. is_needed q t && is_on new (line q.tree.scopes t)) (scope_numbers q.tree) t t
+      (number_get (length q.tree.scopes) t
+      (slice_get_within q.tree.scopes t (scope_anew part row.0)
+      (anew_get part.scopes (scope_anew part) p.tree.scopes by.1 goes
+      ∙ ap (option_map (scope_anew part)) row.1)))
+      (and_from (is_needed q t) (is_on new (line q.tree.scopes t))
+      (needed_same by.1 goes ∙ parts.0) (on_same by.1 s row.0 row.1 goes is ∙ parts.1))
+
+  scope_before : (s : ℕ) → part.scopes s ≡ true
+      → keeps_scope (state_anew part p) (new_number part.scopes s) ≡ true
+      → keeps_scope p s ≡ true
+  scope_before s is kept_q =
+      let q : State = state_anew part p in
+      let new = new_number part.scopes s in
+      let by = found_any (λ t. is_needed q t && is_on new (line q.tree.scopes t))
+      (scope_numbers q.tree) kept_q in
+      let parts = and_parts (is_needed q by.1) (is_on new (line q.tree.scopes by.1)) by.3 in
+      let row = row_on q.tree.scopes by.1 new parts.1 in
+      let old = (are_told part.scopes (scope_anew part) p.tree.scopes).back by.1 row.0 row.1 in
+      let t = old.1.number in
+      let at = old.1.told in
+      any_found (λ t. is_needed p t && is_on s (line p.tree.scopes t)) (scope_numbers p.tree) t t
+      (number_get (length p.tree.scopes) t
+      (slice_get_within p.tree.scopes t old.0 old.1.found))
+      (and_from (is_needed p t) (is_on s (line p.tree.scopes t))
+      (sym (needed_same t old.1.is_kept) ∙ ap (is_needed q) (sym at) ∙ parts.0)
+      (sym (on_same t s old.0 old.1.found old.1.is_kept is)
+      ∙ ap (λ k. is_on new (line q.tree.scopes k)) (sym at)
+      ∙ parts.1))
+
+  keeps_same : (s : ℕ) → part.scopes s ≡ true
+      → keeps_scope (state_anew part p) (new_number part.scopes s) ≡ keeps_scope p s
+  keeps_same s is =
+      same_bools (keeps_scope (state_anew part p) (new_number part.scopes s)) (keeps_scope p s)
+      (scope_before s is) (scope_again s is)
+
+  scopes_within : IsWithin part.scopes (keeps_scope p) (keeps_scope (state_anew part p))
+  scopes_within = record {
+    on = keeps_same;
+    off = λ s gone.
+        false_from_ne_true (keeps_scope p s)
+        (λ is. both_ways (part.scopes s) gone (scope_goes s is));
+  }
+
+  group_same : (g : ℕ) → part.groups g ≡ true
+      → keeps_group (state_anew part p) (new_number part.groups g) ≡ keeps_group p g
+  group_same g is =
+      ap (λ o. option_map_or (λ group. not group.waited
+      || not group.bare && keeps_scope (state_anew part p) group.scope) o false)
+      (anew_get part.groups (group_anew part) p.work.groups g is)
+      ∙ group_row g is (slice_get p.work.groups g) refl
+    where
+      group_row : (g : ℕ) → part.groups g ≡ true → (o : Option Group)
+          → slice_get p.work.groups g ≡ o
+          → option_map_or (λ group. not group.waited
+          || not group.bare && keeps_scope (state_anew part p) group.scope)
+          (option_map (group_anew part) o) false
+          ≡ option_map_or (λ group. not group.waited
+          || not group.bare && keeps_scope p group.scope) o false
+      group_row g is None at = refl
+      group_row g is (Some row) at =
+          ap (λ b. not row.waited || not row.bare && b)
+          (keeps_same row.scope ((both.go.work.groups.each g row at).scope is))
+
+  -- Only groups that go on are kept.
+  group_goes : (g : ℕ) → keeps_group p g ≡ true → part.groups g ≡ true
+  group_goes g is =
+      let row = passing (λ group. not group.waited || not group.bare && keeps_scope p group.scope)
+      (slice_get p.work.groups g) is in
+      let with = both.go.work.groups.each g row.0 row.1 in
+      true_from_ne_false (part.groups g)
+      (λ gone.
+      elim (or_cases (not row.0.waited) (not row.0.bare && keeps_scope p row.0.scope) row.2) [
+        | inl unwaited ↦
+            both_ways row.0.waited (not-true row.0.waited unwaited) (with.gone gone)
+        | inr own ↦
+            (let parts = and_parts (not row.0.bare) (keeps_scope p row.0.scope) own in
+            both_ways (part.groups g) gone
+            (with.own (not-true row.0.bare parts.0) (scope_goes row.0.scope parts.1)))
+      ])
+
+  groups_within : IsWithin part.groups (keeps_group p) (keeps_group (state_anew part p))
+  groups_within = record {
+    on = group_same;
+    off = λ g gone.
+        false_from_ne_true (keeps_group p g)
+        (λ is. both_ways (part.groups g) gone (group_goes g is));
+  }
+
+  task_same : (n : ℕ) → part.tasks n ≡ true
+      → keeps_task (state_anew part p) (new_number part.tasks n) ≡ keeps_task p n
+  task_same n is =
+      ap (λ o. option_map_or (λ task. keeps_group (state_anew part p) task.group) o false)
+      (anew_get part.tasks (task_anew part) p.work.tasks n is)
+      ∙ task_row n is (slice_get p.work.tasks n) refl
+    where
+      task_row : (n : ℕ) → part.tasks n ≡ true → (o : Option Task)
+          → slice_get p.work.tasks n ≡ o
+          → option_map_or (λ task. keeps_group (state_anew part p) task.group)
+          (option_map (task_anew part) o) false
+          ≡ option_map_or (λ task. keeps_group p task.group) o false
+      task_row n is None at = refl
+      task_row n is (Some row) at =
+          group_same row.group (sym (both.go.work.tasks.each n row at) ∙ is)
+
+  tasks_within : IsWithin part.tasks (keeps_task p) (keeps_task (state_anew part p))
+  tasks_within = record {
+    on = task_same;
+    off = λ n gone.
+        false_from_ne_true (keeps_task p n)
+        (λ is.
+        let row = passing (λ task. keeps_group p task.group) (slice_get p.work.tasks n) is in
+        both_ways (part.tasks n) gone
+        (both.go.work.tasks.each n row.0 row.1 ∙ group_goes row.0.group row.2));
+  }
+
+  -- ---- what is left
+
+  link_twice : (o : Option ℕ)
+      → option_map (new_number (keeps_task (state_anew part p)))
+      (option_map (new_number part.tasks) o)
+      ≡ option_map (new_number (keeps_task p)) o
+  link_twice None = refl
+  link_twice (Some m) =
+      ap Some (number_twice part.tasks (keeps_task p) (keeps_task (state_anew part p))
+      tasks_within m)
+
+  pub renewed_same : renewed (state_anew part p) ≡ renewed p
+  renewed_same =
+      let q : State = state_anew part p in
+      same_rows p (map (scope_told q) (kept (keeps_scope q) q.tree.scopes))
+      (map (scope_told p) (kept (keeps_scope p) p.tree.scopes))
+      (map (group_told q) (kept (keeps_group q) q.work.groups))
+      (map (group_told p) (kept (keeps_group p) p.work.groups))
+      (map (task_told q) (kept (keeps_task q) q.work.tasks))
+      (map (task_told p) (kept (keeps_task p) p.work.tasks))
+      (rows_twice part.scopes (keeps_scope p) (keeps_scope q) (scope_told q) (scope_anew part)
+      (scope_told p) p.tree.scopes scopes_within
+      (λ row. ap (λ n. record row { parent = n })
+      (number_twice part.scopes (keeps_scope p) (keeps_scope q) scopes_within row.parent)))
+      (rows_twice part.groups (keeps_group p) (keeps_group q) (group_told q) (group_anew part)
+      (group_told p) p.work.groups groups_within
+      (λ row. ap (λ n. record row { scope = n })
+      (number_twice part.scopes (keeps_scope p) (keeps_scope q) scopes_within row.scope)))
+      (rows_twice part.tasks (keeps_task p) (keeps_task q) (task_told q) (task_anew part)
+      (task_told p) p.work.tasks tasks_within
+      (λ row. ap (λ g. record row {
+        group = g;
+        retry_of = (task_told q (task_anew part row)).retry_of;
+      }) (number_twice part.groups (keeps_group p) (keeps_group q) groups_within row.group)
+      ∙ ap (λ o. record row { group = new_number (keeps_group p) row.group; retry_of = o })
+      (link_twice row.retry_of)))
