@@ -1,7 +1,8 @@
 -- Which words the command line takes.
 use Rattle.std.specs.Prelude.{◌≡◌, ◌≢◌, ◌⊎◌, ◌∷◌, [], ℕ, List, Option, Some, None, Result, Ok, Err}
-use Rattle.std.specs.Prelude.{◌&&◌, ◌-◌, codes, if◌then◌else◌, nat_le, option_and_then, option_map}
-use Rattle.std.specs.Prelude.{Bool, false, true, unwrap_or}
+use Rattle.std.specs.Prelude.{◌&&◌, ◌||◌, ◌-◌, codes, if◌then◌else◌, is_some, nat_le}
+use Rattle.std.specs.Prelude.{option_and_then, option_map, Bool, false, true, unwrap_or}
+use Rattle.std.specs.List.{list_any}
 use Rattle.std.specs.Option.{option_map_or}
 use Rattle.std.specs.Str.{bytes_eq}
 use Rattle.std.specs.String.{string_bytes}
@@ -15,12 +16,13 @@ use Rattle.clap.specs.declared.error.kind.ErrorKind.TheVariants.{OutOfMemory}
 use Rattle.clap.specs.declared.parser.matches.ArgMatches.{ArgMatches}
 use Rattle.night_words.specs.declared.asked.Asked.{Asked}
 use Rattle.night_words.specs.declared.asked.Asked.TheVariants.{Demo, Format, Script, Inspect, Help}
-use Rattle.night_words.specs.declared.asked.Asked.TheVariants.{Crew, Migrate, Renew}
+use Rattle.night_words.specs.declared.asked.Asked.TheVariants.{Crew, Migrate, Renew, RenewInPlace}
 use Rattle.night_words.specs.declared.asked.View.{View}
-use Rattle.night_words.specs.declared.asked.View.TheVariants.{Whole, Tasks, Json}
+use Rattle.night_words.specs.declared.asked.View.TheVariants.{Whole, Tasks, Json, Tree}
 use Rattle.night_words.specs.declared.asked.WordsFault.{WordsFault}
 use Rattle.night_words.specs.declared.asked.WordsFault.TheVariants.{Mistake, NotText, Memory}
-use Rattle.night_words.specs.declared.asked.WordsFault.TheVariants.{SameStores, Views, Workers}
+use Rattle.night_words.specs.declared.asked.WordsFault.TheVariants.{Phase, Place, SameStores}
+use Rattle.night_words.specs.declared.asked.WordsFault.TheVariants.{Views, Workers}
 
 -- ---- the command line
 
@@ -53,36 +55,49 @@ abbrev pub format_line : App
 format_line = with_rule (store_line (codes "format")) (flag (codes "new"))
 
 abbrev pub script_line : App
-script_line = with_rule (store_line (codes "script")) (flag (codes "strict"))
+script_line = with_rule
+    (with_rule (store_line (codes "script")) (flag (codes "strict")))
+    (flag (codes "now"))
 
--- and one that takes two
+-- an option, which takes one value; help has one name for it
+abbrev pub value_option : Text → Rule
+value_option id = record (new_rule id) { long = Some id; action = Some Set; value_names = 1 }
+
+-- one that takes three flags, and may be told of a phase and of a group
 abbrev pub inspect_line : App
-inspect_line = with_rule
+inspect_line =
+    with_rule
+    (with_rule
+    (with_rule
+    (with_rule
     (with_rule (store_line (codes "inspect")) (flag (codes "tasks")))
-    (flag (codes "json"))
+    (value_option (codes "phase")))
+    (value_option (codes "group")))
+    (flag (codes "json")))
+    (flag (codes "tree"))
 
--- two that take the names of two stores, the old one first
+-- one that takes the names of two stores, the old one first
 abbrev pub migrate_line : App
 migrate_line = with_rule (store_line (codes "migrate")) (wanted (codes "NEW"))
 
-abbrev pub renew_line : App
-renew_line = with_rule (store_line (codes "renew")) (wanted (codes "NEW"))
+-- a word that names a store, without which the command is taken; help has one name for it
+abbrev pub free : Text → Rule
+free id = record (new_rule id) { action = Some Set; value_names = 1 }
 
--- an option that takes a number of workers
-abbrev pub workers_option : Rule
-workers_option = record (new_rule (codes "workers")) {
-  long = Some (codes "workers");
-  action = Some Set;
-  value_names = 1;
-}
+-- one that takes the names of two stores, the new one or none, and a flag
+abbrev pub renew_line : App
+renew_line =
+    with_rule (with_rule (store_line (codes "renew")) (free (codes "NEW"))) (flag (codes "in-place"))
 
 -- a command that takes the name of a store and a flag, and may be told how many workers there are
 abbrev pub crew_line : App
-crew_line = with_rule (with_rule (store_line (codes "crew")) workers_option) (flag (codes "known"))
+crew_line = with_rule
+    (with_rule (store_line (codes "crew")) (value_option (codes "workers")))
+    (flag (codes "known"))
 
 -- the command line of `night`: the commands are `demo`, over a store `format`, `script` and
--- `inspect`, over two `migrate`, over a store and with an option `crew`, and over two `renew`; all
--- but those over two take a flag, or flags
+-- `inspect`, over two `migrate`, over a store `crew`, and over two or one `renew`; all but `migrate`
+-- take a flag, or flags, and `inspect` and `crew` options
 abbrev pub night : App
 night =
     with_subcommand
@@ -161,20 +176,62 @@ abbrev pub NamesStore : Text → Text → Text → Bool → Option (Text × List
 NamesStore command id store is_set entered = (command_in entered ≡ Some command)
     × (word_in (codes "STORE") entered ≡ Some store) × (has_flag id entered ≡ is_set)
 
--- which view these flags ask for, `--tasks` and `--json`: none where both are there
-abbrev pub view_of : (tasks json : Bool) → Option View
-view_of false false = Some Whole
-view_of true false = Some Tasks
-view_of false true = Some Json
-view_of true true = None
+-- the parser entered `script` with this store, strict or not, and by the machine's time or not
+abbrev pub NamesScript : Text → Bool → Bool → Option (Text × List Row) → Type 0
+NamesScript store strict is_timed entered =
+    NamesStore (codes "script") (codes "strict") store strict entered
+    × (has_flag (codes "now") entered ≡ is_timed)
 
-abbrev pub view_in : Option (Text × List Row) → Option View
-view_in entered = view_of (has_flag (codes "tasks") entered) (has_flag (codes "json") entered)
+-- the words of the phases of a task
+abbrev pub phases : List Text
+phases = codes "held" ∷ codes "ready" ∷ codes "running" ∷ codes "success" ∷ codes "error"
+    ∷ codes "interrupted" ∷ []
 
--- the parser entered `inspect` with this store, and with the flags of this view
-abbrev pub NamesInspect : Text → Option View → Option (Text × List Row) → Type 0
+-- a phase is asked for by its word, or none is
+abbrev pub names_phase : Option Text → Bool
+names_phase word = option_map_or (λ text. list_any (bytes_eq text) phases) word true
+
+-- the lines of tasks alone are asked for, by the flag or by one of the two options; here and below
+-- `word` says which word was found for an argument
+abbrev pub asks_tasks : (word : Text → Option Text) → Bool
+asks_tasks word = is_true (word (codes "tasks"))
+    || (is_some (word (codes "phase")) || is_some (word (codes "group")))
+
+-- these views are asked for, and no others: that of tasks, JSON and the tree
+abbrev pub AsksViews : (tasks json tree : Bool) (word : Text → Option Text) → Type 0
+AsksViews tasks json tree word = (asks_tasks word ≡ tasks)
+    × (is_true (word (codes "json")) ≡ json) × (is_true (word (codes "tree")) ≡ tree)
+
+-- two of three are true, or all are
+abbrev pub are_two : (a b c : Bool) → Bool
+are_two a b c = (a && b) || ((a && c) || (b && c))
+
+-- one view is asked for, or none and all is shown; the two options go with the view of tasks, and
+-- the phase is told by its word. More than one view is a mistake, and so is another word
+abbrev pub IsView : (word : Text → Option Text) → Result View WordsFault → Type 0
+IsView word (Ok Whole) = AsksViews false false false word
+IsView word (Ok (Tasks phase group)) = AsksViews true false false word
+    × (word (codes "phase") ≡ option_map (λ text. text.now) phase)
+    × (word (codes "group") ≡ option_map (λ text. text.now) group)
+    × (names_phase (word (codes "phase")) ≡ true)
+IsView word (Ok Json) = AsksViews false true false word
+IsView word (Ok Tree) = AsksViews false false true word
+IsView word (Err Views) = are_two (asks_tasks word) (is_true (word (codes "json")))
+    (is_true (word (codes "tree"))) ≡ true
+IsView word (Err Phase) = AsksViews true false false word
+    × (names_phase (word (codes "phase")) ≡ false)
+IsView word (Err why) = ⊥
+
+-- the parser entered `inspect` with this store, and with the words of this view
+abbrev pub NamesInspect : Text → Result View WordsFault → Option (Text × List Row) → Type 0
 NamesInspect store view entered = (command_in entered ≡ Some (codes "inspect"))
-    × (word_in (codes "STORE") entered ≡ Some store) × (view_in entered ≡ view)
+    × (word_in (codes "STORE") entered ≡ Some store) × IsView (λ id. word_in id entered) view
+
+-- the parser entered `renew` with this store, and with this new one or with none, in place or not
+abbrev pub NamesRenewal : Text → Option Text → Bool → Option (Text × List Row) → Type 0
+NamesRenewal old new in_place entered = (command_in entered ≡ Some (codes "renew"))
+    × (word_in (codes "STORE") entered ≡ Some old) × (word_in (codes "NEW") entered ≡ new)
+    × (has_flag (codes "in-place") entered ≡ in_place)
 
 -- the parser entered `crew` with this store, with this number of workers, and of known jobs or not
 abbrev pub NamesCrew : Text → Option ℕ → Bool → Option (Text × List Row) → Type 0
@@ -195,17 +252,22 @@ AsksForFormat store is_new words =
     NamesStore (codes "format") (codes "new") store is_new (subcommand_of night words)
 
 -- the words ask for a run over this store, as the parser reads them: it stands behind the program's
--- own name and `script`, and `--strict` may stand before or behind it
-abbrev pub AsksForScript : Text → Bool → List Text → Type 0
-AsksForScript store strict words =
-    NamesStore (codes "script") (codes "strict") store strict (subcommand_of night words)
+-- own name and `script`, and before or behind it may stand `--strict` and `--now`
+abbrev pub AsksForScript : Text → Bool → Bool → List Text → Type 0
+AsksForScript store strict is_timed words =
+    NamesScript store strict is_timed (subcommand_of night words)
 
 -- the words ask for what this view shows of the store, as the parser reads them: the store stands
--- behind the program's own name and `inspect`, and the flag of the view may stand before or behind
--- it
+-- behind the program's own name and `inspect`, and the flag of the view, or its options as
+-- `--phase held` or `--phase=held`, may stand before or behind it
 abbrev pub AsksForInspect : Text → View → List Text → Type 0
 AsksForInspect store view words =
-    NamesInspect store (Some view) (subcommand_of night words)
+    NamesInspect store (Ok view) (subcommand_of night words)
+
+-- the words ask for a renewal of this store in its place, as the parser reads them: it stands alone
+-- behind the program's own name and `renew`, and `--in-place` stands before or behind it
+abbrev pub AsksForRenewalInPlace : Text → List Text → Type 0
+AsksForRenewalInPlace store words = NamesRenewal store None true (subcommand_of night words)
 
 -- the words ask for a crew of so many workers over this store, as the parser reads them: the store
 -- stands behind the program's own name and `crew`, and before or behind it may stand `--workers N`
@@ -218,25 +280,33 @@ AsksForCrew store workers known words =
 abbrev pub AsksFor : Asked → List Text → Type 0
 AsksFor (Demo strict) words = AsksForDemo strict words
 AsksFor (Format store is_new) words = AsksForFormat store.now is_new words
-AsksFor (Script store strict) words = AsksForScript store.now strict words
+AsksFor (Script store strict is_timed) words = AsksForScript store.now strict is_timed words
 AsksFor (Inspect store view) words = AsksForInspect store.now view words
 AsksFor (Crew store workers known) words = AsksForCrew store.now workers known words
 AsksFor (Migrate old new) words =
     AsksForTwo (codes "migrate") old.now new.now words × (old.now ≢ new.now)
 AsksFor (Renew old new) words =
     AsksForTwo (codes "renew") old.now new.now words × (old.now ≢ new.now)
+AsksFor (RenewInPlace store) words = AsksForRenewalInPlace store.now words
 AsksFor (Help text) words = Unit {0}
 
 -- the words lead to this fault: to that of equal names where a migration or a renewal is asked for
 -- from a store to itself, to that of the workers where a crew of none, of more than 8 or of no
--- number is, and to that of the views where more than one is; of the others `IsAnswer` tells
+-- number is, to that of the views where more than one is, to that of the phase where the tasks in
+-- one are that has no such word, and to that of the place where a renewal is asked for with neither
+-- a new store nor `--in-place`, or with both; of the others `IsAnswer` tells
 abbrev pub IsCausedBy : WordsFault → List Text → Type 0
 IsCausedBy SameStores words = (store : Text)
     × (AsksForTwo (codes "migrate") store store words
     ⊎ AsksForTwo (codes "renew") store store words)
 IsCausedBy Workers words = (store : Text) × ((known : Bool)
     × NamesCrew store None known (subcommand_of night words))
-IsCausedBy Views words = (store : Text) × NamesInspect store None (subcommand_of night words)
+IsCausedBy Views words = (store : Text)
+    × NamesInspect store (Err Views) (subcommand_of night words)
+IsCausedBy Phase words = (store : Text)
+    × NamesInspect store (Err Phase) (subcommand_of night words)
+IsCausedBy Place words = (store : Text) × ((new : Option Text)
+    × NamesRenewal store new (is_some new) (subcommand_of night words))
 IsCausedBy why words = Unit {0}
 
 -- ---- what is answered
@@ -250,7 +320,7 @@ abbrev pub IsMistake : ErrorKind → Type 0
 IsMistake kind = (kind ≢ DisplayHelp) × (kind ≢ DisplayVersion) × (kind ≢ OutOfMemory)
 
 -- what is answered where the parser may find these: a command exactly where it finds nothing, but
--- for equal names, a wrong number of workers and several views
+-- for equal names, a wrong number of workers, several views, a wrong phase and a wrong place
 abbrev pub IsAnswer : Kinds → Result Asked WordsFault → Type 0
 IsAnswer kinds (Ok (Help text)) = (kind : ErrorKind) × IsAmong kind kinds × IsHelp kind
 IsAnswer kinds (Ok command) = kinds ≡ []
@@ -258,6 +328,8 @@ IsAnswer kinds (Err (Mistake text)) = (kind : ErrorKind) × IsAmong kind kinds �
 IsAnswer kinds (Err SameStores) = kinds ≡ []
 IsAnswer kinds (Err Workers) = kinds ≡ []
 IsAnswer kinds (Err Views) = kinds ≡ []
+IsAnswer kinds (Err Phase) = kinds ≡ []
+IsAnswer kinds (Err Place) = kinds ≡ []
 IsAnswer kinds (Err NotText) = ⊥
 IsAnswer kinds (Err Memory) = Unit {0}
 
@@ -267,6 +339,8 @@ IsOfSystem (Mistake text) = ⊥
 IsOfSystem SameStores = ⊥
 IsOfSystem Workers = ⊥
 IsOfSystem Views = ⊥
+IsOfSystem Phase = ⊥
+IsOfSystem Place = ⊥
 IsOfSystem NotText = Unit {0}
 IsOfSystem Memory = Unit {0}
 
@@ -275,7 +349,11 @@ abbrev pub fault_text : WordsFault → List ℕ
 fault_text (Mistake text) = string_bytes text
 fault_text SameStores = codes "error: OLD and NEW name the same file\n"
 fault_text Workers = codes "error: --workers takes a number from 1 to 8\n"
-fault_text Views = codes "error: inspect takes one of --tasks and --json\n"
+fault_text Views =
+    codes "error: inspect takes one of --tasks (or --phase, --group), --json and --tree\n"
+fault_text Phase =
+    codes "error: --phase takes held, ready, running, success, error or interrupted\n"
+fault_text Place = codes "error: renew takes one of NEW and --in-place\n"
 fault_text NotText = codes "error: a word is no text in UTF-8\n"
 fault_text Memory = codes "night: fault 1 Memory\n"
 
@@ -289,6 +367,8 @@ IsShown kind (Err (Mistake text)) = IsMistake kind
 IsShown kind (Err SameStores) = ⊥
 IsShown kind (Err Workers) = ⊥
 IsShown kind (Err Views) = ⊥
+IsShown kind (Err Phase) = ⊥
+IsShown kind (Err Place) = ⊥
 IsShown kind (Err NotText) = ⊥
 IsShown kind (Err Memory) = Unit {0}
 
@@ -321,23 +401,27 @@ abbrev pub Asks : Named → Option Text → Option (Text × List Row) → Result
 Asks named new entered (Ok (Demo strict)) = NamesDemo strict entered
 Asks named new entered (Ok (Format store is_new)) =
     NamesStore (codes "format") (codes "new") store.now is_new entered
-Asks named new entered (Ok (Script store strict)) =
-    NamesStore (codes "script") (codes "strict") store.now strict entered
+Asks named new entered (Ok (Script store strict is_timed)) =
+    NamesScript store.now strict is_timed entered
 Asks named new entered (Ok (Inspect store view)) =
-    NamesInspect store.now (Some view) entered
+    NamesInspect store.now (Ok view) entered
 Asks named new entered (Ok (Crew store workers known)) =
     NamesCrew store.now (Some workers) known entered
 Asks named new entered (Ok (Migrate old given)) =
     NamesTwo (codes "migrate") old.now given.now named new × (old.now ≢ given.now)
 Asks named new entered (Ok (Renew old given)) =
-    NamesTwo (codes "renew") old.now given.now named new × (old.now ≢ given.now)
+    NamesRenewal old.now (Some given.now) false entered × (old.now ≢ given.now)
+Asks named new entered (Ok (RenewInPlace store)) = NamesRenewal store.now None true entered
 Asks named new entered (Ok (Help text)) = ⊥
 Asks named new entered (Err SameStores) = (store : Text)
     × (NamesTwo (codes "migrate") store store named new
-    ⊎ NamesTwo (codes "renew") store store named new)
+    ⊎ NamesRenewal store (Some store) false entered)
 Asks named new entered (Err Workers) = (store : Text) × ((known : Bool)
     × NamesCrew store None known entered)
-Asks named new entered (Err Views) = (store : Text) × NamesInspect store None entered
+Asks named new entered (Err Views) = (store : Text) × NamesInspect store (Err Views) entered
+Asks named new entered (Err Phase) = (store : Text) × NamesInspect store (Err Phase) entered
+Asks named new entered (Err Place) = (store : Text)
+    × ((new_one : Option Text) × NamesRenewal store new_one (is_some new_one) entered)
 Asks named new entered (Err why) = ⊥
 
 -- a command is named, and the stores that it wants
@@ -347,8 +431,8 @@ IsNamed named new = ((first : Option Text) × (named ≡ Some (codes "demo", fir
     ⊎ ((store : Text) × ((named ≡ Some (codes "format", Some store))
     ⊎ ((named ≡ Some (codes "script", Some store))
     ⊎ ((named ≡ Some (codes "inspect", Some store))
-    ⊎ ((given : Text) × (NamesTwo (codes "migrate") store given named new
-    ⊎ NamesTwo (codes "renew") store given named new)))))))
+    ⊎ ((named ≡ Some (codes "renew", Some store))
+    ⊎ ((given : Text) × NamesTwo (codes "migrate") store given named new)))))))
 
 -- a crew over this store, of as many workers as this word says and of known jobs or not, or the
 -- fault of a wrong number
@@ -359,12 +443,19 @@ IsCrew store workers known (Ok asked) = ⊥
 IsCrew store workers known (Err Workers) = workers_of workers ≡ None
 IsCrew store workers known (Err why) = ⊥
 
--- what this view shows of this store, or the fault of several views
-abbrev pub IsInspect : Text → Option View → Result Asked WordsFault → Type 0
-IsInspect store view (Ok (Inspect s v)) = (s.now ≡ store) × (view ≡ Some v)
-IsInspect store view (Ok asked) = ⊥
-IsInspect store view (Err Views) = view ≡ None
-IsInspect store view (Err why) = ⊥
+-- what a view shows of this store, or the fault of several views or of a wrong phase
+abbrev pub IsInspect : Text → (word : Text → Option Text) → Result Asked WordsFault → Type 0
+IsInspect store word (Ok (Inspect s v)) = (s.now ≡ store) × IsView word (Ok v)
+IsInspect store word (Ok asked) = ⊥
+IsInspect store word (Err why) = IsView word (Err why)
+
+-- the tasks in this phase and of this group, or the fault of a wrong phase
+abbrev pub IsTasks : (phase group : Option Text) → Result View WordsFault → Type 0
+IsTasks phase group (Ok (Tasks p g)) = (phase ≡ option_map (λ text. text.now) p)
+    × (group ≡ option_map (λ text. text.now) g) × (names_phase phase ≡ true)
+IsTasks phase group (Ok view) = ⊥
+IsTasks phase group (Err Phase) = names_phase phase ≡ false
+IsTasks phase group (Err why) = ⊥
 
 -- a renewal or a migration between two names that differ, or the fault of equal ones
 abbrev pub IsForTwo : (renews : Bool) (old new : Text) → Result Asked WordsFault → Type 0
@@ -375,3 +466,16 @@ IsForTwo renews old new (Ok (Renew o n)) =
 IsForTwo renews old new (Ok asked) = ⊥
 IsForTwo renews old new (Err SameStores) = old ≡ new
 IsForTwo renews old new (Err why) = ⊥
+
+-- a renewal of this store, into this new one or in place, or the fault of neither or both, or that
+-- of equal names
+abbrev pub IsRenewal : (old : Text) (new : Option Text) (in_place : Bool)
+    → Result Asked WordsFault → Type 0
+IsRenewal old new in_place (Ok (Renew o n)) =
+    (o.now ≡ old) × (new ≡ Some n.now) × (in_place ≡ false) × (old ≢ n.now)
+IsRenewal old new in_place (Ok (RenewInPlace o)) =
+    (o.now ≡ old) × (new ≡ None) × (in_place ≡ true)
+IsRenewal old new in_place (Ok asked) = ⊥
+IsRenewal old new in_place (Err SameStores) = (new ≡ Some old) × (in_place ≡ false)
+IsRenewal old new in_place (Err Place) = in_place ≡ is_some new
+IsRenewal old new in_place (Err why) = ⊥

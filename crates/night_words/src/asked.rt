@@ -20,15 +20,16 @@ pub enum Asked<'a> {
         is_new: bool,
     },
     /// `script STORE`: the input runs over the store; with `--strict` up to the first line that is
-    /// no line or is refused.
+    /// no line or is refused, and with `--now` by the time of the machine.
     Script {
         store: &'a str,
         strict: bool,
+        is_timed: bool,
     },
     /// `inspect STORE`: what the view shows of the store is printed.
     Inspect {
         store: &'a str,
-        view: View,
+        view: View<'a>,
     },
     /// `crew STORE --workers N`: so many threads, 1 to 8, work off the ready tasks of the store;
     /// with `--known` only where they know the job of each task that isn't ended.
@@ -43,19 +44,28 @@ pub enum Asked<'a> {
     /// `renew OLD NEW`: the file NEW becomes a store of what the store OLD still needs. The two
     /// names differ.
     Renew(&'a str, &'a str),
+    /// `renew --in-place STORE`: the store is made anew of what it still needs.
+    RenewInPlace(&'a str),
     /// A text for the output: help, or the version.
     Help(String),
 }
 
-/// What of a store is printed.
+/// What of a store is printed. Words are lent, as the names of stores are.
 #[derive(Clone, Copy, Debug)]
-pub enum View {
+pub enum View<'a> {
     /// All that it holds.
     Whole,
-    /// `--tasks`: the lines of its tasks alone.
-    Tasks,
+    /// `--tasks`: the lines of its tasks alone; with `--phase PHASE` of those in this phase, and
+    /// with `--group GROUP` of those of the group of this name. The phase is one of `held`,
+    /// `ready`, `running`, `success`, `error` and `interrupted`; the name may be any text.
+    Tasks {
+        phase: Option<&'a str>,
+        group: Option<&'a str>,
+    },
     /// `--json`: all that it holds, as one object of JSON.
     Json,
+    /// `--tree`: its scopes as a tree, with their groups and tasks.
+    Tree,
 }
 
 /// Why words ask for nothing. It is printed whole, with its LF, on standard error; `Memory` as the
@@ -71,6 +81,10 @@ pub enum WordsFault {
     Workers,
     /// More than one view of a store is asked for.
     Views,
+    /// The tasks of a store in a phase are asked for, but by a word that names no phase.
+    Phase,
+    /// A renewal is asked for, but with neither NEW nor `--in-place`, or with both.
+    Place,
     /// A word is no text in UTF-8.
     NotText,
     /// There was no memory to read the words.
@@ -85,7 +99,13 @@ impl fmt::Display for WordsFault {
             WordsFault::Mistake(text) => f.write_str(text.as_str()),
             WordsFault::SameStores => f.write_str("error: OLD and NEW name the same file\n"),
             WordsFault::Workers => f.write_str("error: --workers takes a number from 1 to 8\n"),
-            WordsFault::Views => f.write_str("error: inspect takes one of --tasks and --json\n"),
+            WordsFault::Views => f.write_str(
+                "error: inspect takes one of --tasks (or --phase, --group), --json and --tree\n",
+            ),
+            WordsFault::Phase => f.write_str(
+                "error: --phase takes held, ready, running, success, error or interrupted\n",
+            ),
+            WordsFault::Place => f.write_str("error: renew takes one of NEW and --in-place\n"),
             WordsFault::NotText => f.write_str("error: a word is no text in UTF-8\n"),
             WordsFault::Memory => f.write_str("night: fault 1 Memory\n"),
         }

@@ -2,9 +2,10 @@
 
 ghost use Rattle.std.specs.Prelude.{◌≡◌, [], false, IfOk};
 ghost use Rattle.clap.specs.Words.{app_of, rule_of, with_subcommand};
-ghost use Rattle.night_words.specs.Commands.{crew_line, demo_line, flag, format_line, inspect_line};
-ghost use Rattle.night_words.specs.Commands.{migrate_line, night, night_alone, renew_line};
-ghost use Rattle.night_words.specs.Commands.{script_line, store_line, wanted, workers_option};
+ghost use Rattle.night_words.specs.Commands.{crew_line, demo_line, flag, format_line, free};
+ghost use Rattle.night_words.specs.Commands.{inspect_line, migrate_line, night, night_alone};
+ghost use Rattle.night_words.specs.Commands.{renew_line, script_line, store_line, value_option};
+ghost use Rattle.night_words.specs.Commands.{wanted};
 
 use clap::{Arg, ArgAction, Command};
 use std::alloc::{AllocError, Global};
@@ -57,6 +58,9 @@ const LINES: &str = "\
 
 /// What `--strict` does, of `demo` and of `script`.
 const STRICT: &str = "Ends at the first line that is no line or is refused, with status 1";
+
+/// What `--now` does, of `script`.
+const NOW: &str = "Moves the clock to the machine's time, each second in which a line comes";
 
 /// The command line of the program, with all of its commands.
 pub fn night_command<'a>(alloc: Global) -> Result<Command<'a>, AllocError>
@@ -179,7 +183,9 @@ fn script_command<'a>(alloc: Global) -> Result<Command<'a>, AllocError>
         "Opens a store, and runs standard input over it",
         LINES,
     )?;
-    store.arg(flag_word(alloc, "strict", STRICT))
+    store
+        .arg(flag_word(alloc, "strict", STRICT))?
+        .arg(flag_word(alloc, "now", NOW))
 }
 
 /// The command that reads a store.
@@ -194,7 +200,24 @@ fn inspect_command<'a>(alloc: Global) -> Result<Command<'a>, AllocError>
     )?;
     store
         .arg(flag_word(alloc, "tasks", "Prints the lines of its tasks alone"))?
-        .arg(flag_word(alloc, "json", "Prints all of it as one object of JSON"))
+        .arg(value_word(
+            alloc,
+            "phase",
+            "PHASE",
+            "Prints those alone that are held, ready, running, success, error or interrupted",
+        ))?
+        .arg(value_word(
+            alloc,
+            "group",
+            "GROUP",
+            "Prints those alone that are of this group",
+        ))?
+        .arg(flag_word(alloc, "json", "Prints all of it as one object of JSON"))?
+        .arg(flag_word(
+            alloc,
+            "tree",
+            "Draws its scopes as a tree, with their groups and tasks",
+        ))
 }
 
 /// A command over a store.
@@ -241,7 +264,12 @@ fn crew_command<'a>(alloc: Global) -> Result<Command<'a>, AllocError>
             Example: night crew jobs.store --workers 2"
         ))
         .arg(store_word(alloc, "STORE", "STORE", "The file of the store"))?
-        .arg(workers_word(alloc))?
+        .arg(value_word(
+            alloc,
+            "workers",
+            "N",
+            "How many threads run tasks, 1 to 8; 4 where it is left out",
+        ))?
         .arg(flag_word(
             alloc,
             "known",
@@ -255,26 +283,33 @@ fn renew_command<'a>(alloc: Global) -> Result<Command<'a>, AllocError>
 {
     Command::new(alloc, "renew")
         .about("Makes a store NEW of what a store OLD still needs; what NEW held is lost")
-        .after_help(ending!("Example: night renew old.store new.store"))
-        .arg(store_word(alloc, "STORE", "OLD", "The old store, which is only read"))?
+        .after_help(ending!(
+            "Examples:\n  night renew old.store new.store\n  night renew --in-place jobs.store"
+        ))
         .arg(store_word(
             alloc,
-            "NEW",
-            "NEW",
-            "The new file; one that is there is emptied",
+            "STORE",
+            "OLD",
+            "The old store, which is only read unless it is renewed in place",
+        ))?
+        .arg(other_word(alloc, "NEW", "The new file; one that is there is emptied"))?
+        .arg(flag_word(
+            alloc,
+            "in-place",
+            "Makes the new store in the place of OLD; there is no NEW then",
         ))
 }
 
-/// The option that says how many workers there are. Its value is read by `readers`.
-fn workers_word<'a>(alloc: Global) -> Arg<'a>
-    ensures rule { rule_of result ≡ workers_option }
+/// An option with a value, which `readers` reads, and what help calls the value.
+fn value_word<'a>(alloc: Global, id: &'a str, name: &'a str, help: &'a str) -> Arg<'a>
+    ensures rule { rule_of result ≡ value_option id.now }
     ensures local { result.global ≡ false }
 {
-    Arg::new(alloc, "workers")
-        .long("workers")
-        .value_name("N")
+    Arg::new(alloc, id)
+        .long(id)
+        .value_name(name)
         .action(ArgAction::Set)
-        .help("How many threads run tasks, 1 to 8; 4 where it is left out")
+        .help(help)
 }
 
 /// A flag, which stands alone.
@@ -296,6 +331,17 @@ fn store_word<'a>(alloc: Global, id: &'a str, name: &'a str, help: &'a str) -> A
     Arg::new(alloc, id)
         .value_name(name)
         .required(true)
+        .action(ArgAction::Set)
+        .help(help)
+}
+
+/// A word that names a store, which its command may do without.
+fn other_word<'a>(alloc: Global, id: &'a str, help: &'a str) -> Arg<'a>
+    ensures rule { rule_of result ≡ free id.now }
+    ensures local { result.global ≡ false }
+{
+    Arg::new(alloc, id)
+        .value_name(id)
         .action(ArgAction::Set)
         .help(help)
 }

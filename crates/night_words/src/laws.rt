@@ -18,7 +18,7 @@ pub fn a_store_stands_alone()
     ensures format { (store : List ℕ) (words : List (List ℕ)) → faults_of words ≡ []
         → AsksForFormat store false words → AsksOver (codes "format") store words }
     ensures script { (store : List ℕ) (words : List (List ℕ)) → faults_of words ≡ []
-        → AsksForScript store false words → AsksOver (codes "script") store words }
+        → AsksForScript store false false words → AsksOver (codes "script") store words }
     ensures inspect { (store : List ℕ) (words : List (List ℕ)) → faults_of words ≡ []
         → AsksForInspect store Whole words → AsksOver (codes "inspect") store words }
 {}
@@ -29,7 +29,7 @@ pub fn a_store_alone_has_no_flag()
     ensures format { (store : List ℕ) (words : List (List ℕ)) → faults_of words ≡ []
         → AsksOver (codes "format") store words → AsksForFormat store false words }
     ensures script { (store : List ℕ) (words : List (List ℕ)) → faults_of words ≡ []
-        → AsksOver (codes "script") store words → AsksForScript store false words }
+        → AsksOver (codes "script") store words → AsksForScript store false false words }
     ensures inspect { (store : List ℕ) (words : List (List ℕ)) → faults_of words ≡ []
         → AsksOver (codes "inspect") store words → AsksForInspect store Whole words }
 {}

@@ -1,15 +1,15 @@
 //! Reads the words of the command line.
 
 ghost use Rattle.std.specs.Iterator.{Drains};
-ghost use Rattle.std.specs.Prelude.{◌≡◌, ◌↔◌, IfErr, IfOk, map, option_map};
+ghost use Rattle.std.specs.Prelude.{◌≡◌, ◌↔◌, IfErr, IfOk, Some, map, option_map};
 ghost use Rattle.std.specs.String.{string_bytes};
 ghost use Rattle.std.specs.Vec.Iter.{into_iter_steps};
 ghost use Rattle.std.specs.declared.io.ErrorKind.TheVariants as system;
 ghost use Rattle.clap.specs.Words.{first_value, found_of, kind_of, subcommand_rows_of};
 ghost use Rattle.night_words.specs.Commands.{Asks, AsksFor, IsAnswer, IsCausedBy, IsCrew};
-ghost use Rattle.night_words.specs.Commands.{IsForTwo, IsInspect, IsNamed, IsOfSystem, IsShown};
-ghost use Rattle.night_words.specs.Commands.{faults_of, is_true, named_by, new_by, view_of};
-ghost use Rattle.night_words.specs.Commands.{workers_of};
+ghost use Rattle.night_words.specs.Commands.{IsForTwo, IsInspect, IsNamed, IsOfSystem, IsRenewal};
+ghost use Rattle.night_words.specs.Commands.{IsShown, IsTasks, IsView, faults_of, is_true};
+ghost use Rattle.night_words.specs.Commands.{named_by, names_phase, new_by, workers_of};
 
 use crate::asked::{Asked, View, WordsFault};
 use crate::commands::night_command;
@@ -100,17 +100,25 @@ fn asked_of<'a>(matches: &ArgMatches<'a>) -> Result<Asked<'a>, WordsFault>
     let scripts = command == "script";
     if scripts {
         let strict = is_set(inner, "strict");
-        return Ok(Asked::Script { store, strict });
+        let is_timed = is_set(inner, "now");
+        return Ok(Asked::Script {
+            store,
+            strict,
+            is_timed,
+        });
     }
     let inspects = command == "inspect";
     if inspects {
-        return inspect(store, is_set(inner, "tasks"), is_set(inner, "json"));
+        return inspect(store, inner);
+    }
+    let renews = command == "renew";
+    if renews {
+        return renewal(store, inner.get_str("NEW"), is_set(inner, "in-place"));
     }
     let Some(new) = inner.get_str("NEW") else {
         unreachable!();
     };
-    let renews = command == "renew";
-    for_two(store, new, renews)
+    for_two(store, new, false)
 }
 
 /// Says whether the words have this flag of the command that was used.
@@ -123,25 +131,50 @@ fn is_set(inner: &ArgMatches, id: &str) -> bool
     }
 }
 
-/// What is shown of a store. More than one view is a mistake.
-fn inspect<'a>(store: &'a str, tasks: bool, json: bool) -> Result<Asked<'a>, WordsFault>
-    ensures { IsInspect store.now (view_of tasks json) result }
+/// What is shown of a store.
+fn inspect<'a>(store: &'a str, inner: &ArgMatches<'a>) -> Result<Asked<'a>, WordsFault>
+    ensures { IsInspect store.now (first_value (found_of inner.now)) result }
 {
-    match view_of(tasks, json) {
-        Some(view) => Ok(Asked::Inspect { store, view }),
-        None => Err(WordsFault::Views),
+    match view_of(inner) {
+        Ok(view) => Ok(Asked::Inspect { store, view }),
+        Err(fault) => Err(fault),
     }
 }
 
-/// Which view the flags ask for, if they don't ask for more than one.
-fn view_of(tasks: bool, json: bool) -> Option<View>
-    ensures { result ≡ view_of tasks json }
+/// Which view the words ask for. More than one is a mistake.
+fn view_of<'a>(inner: &ArgMatches<'a>) -> Result<View<'a>, WordsFault>
+    ensures { IsView (first_value (found_of inner.now)) result }
 {
-    match (tasks, json) {
-        (false, false) => Some(View::Whole),
-        (true, false) => Some(View::Tasks),
-        (false, true) => Some(View::Json),
-        (true, true) => None,
+    let phase = inner.get_str("phase");
+    let group = inner.get_str("group");
+    let lists = is_set(inner, "tasks") || phase.is_some() || group.is_some();
+    match (lists, is_set(inner, "json"), is_set(inner, "tree")) {
+        (false, false, false) => Ok(View::Whole),
+        (true, false, false) => tasks(phase, group),
+        (false, true, false) => Ok(View::Json),
+        (false, false, true) => Ok(View::Tree),
+        _ => Err(WordsFault::Views),
+    }
+}
+
+/// The lines of tasks alone. A word that names no phase is a mistake.
+fn tasks<'a>(phase: Option<&'a str>, group: Option<&'a str>) -> Result<View<'a>, WordsFault>
+    ensures { IsTasks (option_map (λ word. word.now) phase.entry)
+        (option_map (λ word. word.now) group.entry) result }
+{
+    match phase {
+        Some(word) if !is_phase(word) => Err(WordsFault::Phase),
+        _ => Ok(View::Tasks { phase, group }),
+    }
+}
+
+/// Says whether a word names a phase of a task.
+fn is_phase(word: &str) -> bool
+    ensures { result ≡ names_phase (Some word.now) }
+{
+    match word {
+        "held" | "ready" | "running" | "success" | "error" | "interrupted" => true,
+        _ => false,
     }
 }
 
@@ -169,6 +202,17 @@ fn workers_of(text: Option<&str>) -> Option<u8>
     match text.as_bytes() {
         [digit @ b'1'..=b'8'] => Some(*digit - b'0'),
         _ => None,
+    }
+}
+
+/// A renewal of a store, into a new one or in place. Both at once are a mistake, and so is neither.
+fn renewal<'a>(old: &'a str, new: Option<&'a str>, in_place: bool) -> Result<Asked<'a>, WordsFault>
+    ensures { IsRenewal old.now (option_map (λ word. word.now) new.entry) in_place result }
+{
+    match (new, in_place) {
+        (Some(new), false) => for_two(old, new, true),
+        (None, true) => Ok(Asked::RenewInPlace(old)),
+        _ => Err(WordsFault::Place),
     }
 }
 

@@ -13,12 +13,16 @@ pub enum Told {
     Demo(bool),
     /// They ask for this word over this store, with its flag or without one.
     Store(&'static str, &'static str, bool),
+    /// They ask for a run over this store, strict or not, and by the machine's time or not.
+    Script(&'static str, bool, bool),
     /// They ask for this view of this store.
-    Inspect(&'static str, View),
+    Inspect(&'static str, View<'static>),
     /// They ask for a migration from this store to that one.
     Migration(&'static str, &'static str),
     /// They ask for a renewal, likewise.
     Renewal(&'static str, &'static str),
+    /// They ask for a renewal of this store in its place.
+    InPlace(&'static str),
     /// A text for help that has this part.
     Help(&'static str),
     /// This text for help.
@@ -31,6 +35,10 @@ pub enum Told {
     Workers,
     /// More than one view.
     Views,
+    /// A word that is no phase.
+    Phase,
+    /// A renewal with neither a new store nor a place, or with both.
+    Place,
     /// A mistake whose text has this part, and ends with a line feed.
     Mistake(&'static str),
 }
@@ -50,16 +58,13 @@ static STORES: [Case; 8] = [
         &["format", "a.disk"],
         Told::Store("format", "a.disk", false),
     ),
-    (
-        &["script", "a.disk"],
-        Told::Store("script", "a.disk", false),
-    ),
+    (&["script", "a.disk"], Told::Script("a.disk", false, false)),
     (&["inspect", "a.disk"], Told::Inspect("a.disk", View::Whole)),
     (&["format", "--", "-a"], Told::Store("format", "-a", false)),
     (&["format", "a", "--"], Told::Store("format", "a", false)),
-    (&["script", "--", "-a"], Told::Store("script", "-a", false)),
-    (&["script", "a", "--"], Told::Store("script", "a", false)),
-    (&["script", ""], Told::Store("script", "", false)),
+    (&["script", "--", "-a"], Told::Script("-a", false, false)),
+    (&["script", "a", "--"], Told::Script("a", false, false)),
+    (&["script", ""], Told::Script("", false, false)),
 ];
 
 /// A flag before and behind the store; behind `--` it is the name of a store.
@@ -78,17 +83,11 @@ static FLAGS: [Case; 12] = [
         &["format", "--", "--new"],
         Told::Store("format", "--new", false),
     ),
-    (
-        &["script", "--strict", "a"],
-        Told::Store("script", "a", true),
-    ),
-    (
-        &["script", "a", "--strict"],
-        Told::Store("script", "a", true),
-    ),
+    (&["script", "--strict", "a"], Told::Script("a", true, false)),
+    (&["script", "a", "--strict"], Told::Script("a", true, false)),
     (
         &["script", "--", "--strict"],
-        Told::Store("script", "--strict", false),
+        Told::Script("--strict", false, false),
     ),
     (&["crew", "--known", "a"], Told::Crew("a", 4, true)),
     (&["crew", "a", "--known"], Told::Crew("a", 4, true)),
@@ -106,15 +105,33 @@ static FLAGS: [Case; 12] = [
 static VIEWS: [Case; 9] = [
     (
         &["inspect", "--tasks", "a"],
-        Told::Inspect("a", View::Tasks),
+        Told::Inspect(
+            "a",
+            View::Tasks {
+                phase: None,
+                group: None,
+            },
+        ),
     ),
     (
         &["inspect", "a", "--tasks"],
-        Told::Inspect("a", View::Tasks),
+        Told::Inspect(
+            "a",
+            View::Tasks {
+                phase: None,
+                group: None,
+            },
+        ),
     ),
     (
         &["inspect", "--tasks", "--", "--tasks"],
-        Told::Inspect("--tasks", View::Tasks),
+        Told::Inspect(
+            "--tasks",
+            View::Tasks {
+                phase: None,
+                group: None,
+            },
+        ),
     ),
     (
         &["inspect", "--", "--tasks"],
@@ -309,12 +326,23 @@ fn is_store(told: &Told, word: &str, store: &str, is_set: bool) -> bool {
     }
 }
 
+/// Says whether a run over this store is told, strict or not, and by the machine's time or not.
+fn is_script(told: &Told, store: &str, strict: bool, is_timed: bool) -> bool {
+    match told {
+        Told::Script(name, s, t) => *name == store && *s == strict && *t == is_timed,
+        _ => false,
+    }
+}
+
 /// Says whether two views are one.
 fn is_view(view: View, other: View) -> bool {
     match (view, other) {
         (View::Whole, View::Whole) => true,
-        (View::Tasks, View::Tasks) => true,
+        (View::Tasks { phase, group }, View::Tasks { phase: p, group: g }) => {
+            phase == p && group == g
+        }
         (View::Json, View::Json) => true,
+        (View::Tree, View::Tree) => true,
         _ => false,
     }
 }
@@ -359,6 +387,14 @@ fn is_renewal(told: &Told, old: &str, new: &str) -> bool {
     }
 }
 
+/// Says whether a renewal of this store in its place is told.
+fn is_in_place(told: &Told, store: &str) -> bool {
+    match told {
+        Told::InPlace(name) => *name == store,
+        _ => false,
+    }
+}
+
 /// Says whether this text for help is told, or a part of it.
 fn is_help(told: &Told, text: &str) -> bool {
     match told {
@@ -373,7 +409,11 @@ fn is_asked(asked: &Asked, told: &Told) -> bool {
     match asked {
         Asked::Demo { strict } => is_demo(told, *strict),
         Asked::Format { store, is_new } => is_store(told, "format", store, *is_new),
-        Asked::Script { store, strict } => is_store(told, "script", store, *strict),
+        Asked::Script {
+            store,
+            strict,
+            is_timed,
+        } => is_script(told, store, *strict, *is_timed),
         Asked::Inspect { store, view } => is_inspect(told, store, *view),
         Asked::Crew {
             store,
@@ -382,6 +422,7 @@ fn is_asked(asked: &Asked, told: &Told) -> bool {
         } => is_crew(told, store, *workers, *known),
         Asked::Migrate(old, new) => is_migration(told, old, new),
         Asked::Renew(old, new) => is_renewal(told, old, new),
+        Asked::RenewInPlace(store) => is_in_place(told, store),
         Asked::Help(text) => is_help(told, text),
     }
 }
@@ -397,6 +438,8 @@ fn is_mistake(alloc: Global, fault: &WordsFault, told: &Told) -> Result<bool, Al
         (WordsFault::SameStores, Told::SameStores) => Ok(true),
         (WordsFault::Workers, Told::Workers) => Ok(true),
         (WordsFault::Views, Told::Views) => Ok(true),
+        (WordsFault::Phase, Told::Phase) => Ok(true),
+        (WordsFault::Place, Told::Place) => Ok(true),
         (WordsFault::Mistake(_), Told::Mistake(part)) => {
             Ok(has_part(&fault.to_string(alloc)?, part))
         }
