@@ -14,10 +14,11 @@ use Rattle.night_words.specs.Commands.{IsShown, faults_of, named_by, named_in, n
 use Rattle.night_words.proofs.TakenLemmas.{IsTaken, taken, taken_asks, taken_fails, taken_is_named}
 use Rattle.night_words.specs.declared.asked.Asked.{Asked}
 use Rattle.night_words.specs.declared.asked.Asked.TheVariants.{Demo, Format, Script, Inspect, Help}
-use Rattle.night_words.specs.declared.asked.Asked.TheVariants.{Crew, Migrate, Renew}
+use Rattle.night_words.specs.declared.asked.Asked.TheVariants.{Crew, Migrate, Renew, RenewInPlace}
 use Rattle.night_words.specs.declared.asked.WordsFault.{WordsFault}
 use Rattle.night_words.specs.declared.asked.WordsFault.TheVariants.{Mistake, NotText, Memory}
-use Rattle.night_words.specs.declared.asked.WordsFault.TheVariants.{SameStores, Views, Workers}
+use Rattle.night_words.specs.declared.asked.WordsFault.TheVariants.{Phase, Place, SameStores}
+use Rattle.night_words.specs.declared.asked.WordsFault.TheVariants.{Views, Workers}
 
 -- the parser's statements on simple commands are about `night`
 night_is_simple : is_simple_and_free night ≡ true
@@ -38,11 +39,12 @@ shown_is_answer : (kind : ErrorKind) (kinds : Kinds) (r : Result Asked WordsFaul
     → (kind ≡ OutOfMemory) ⊎ IsAmong kind kinds → IsShown kind r → IsAnswer kinds r
 shown_is_answer kind kinds (Ok (Demo strict)) found shown = absurd shown
 shown_is_answer kind kinds (Ok (Format store is_new)) found shown = absurd shown
-shown_is_answer kind kinds (Ok (Script store strict)) found shown = absurd shown
+shown_is_answer kind kinds (Ok (Script store strict timed)) found shown = absurd shown
 shown_is_answer kind kinds (Ok (Inspect store view)) found shown = absurd shown
 shown_is_answer kind kinds (Ok (Crew store workers known)) found shown = absurd shown
 shown_is_answer kind kinds (Ok (Migrate old new)) found shown = absurd shown
 shown_is_answer kind kinds (Ok (Renew old new)) found shown = absurd shown
+shown_is_answer kind kinds (Ok (RenewInPlace store)) found shown = absurd shown
 shown_is_answer kind kinds (Ok (Help text)) (inl e) shown = absurd (no_help kind e shown)
 shown_is_answer kind kinds (Ok (Help text)) (inr among) shown = (kind, among, shown)
 shown_is_answer kind kinds (Err (Mistake text)) (inl e) shown = absurd (shown.2 e)
@@ -50,6 +52,8 @@ shown_is_answer kind kinds (Err (Mistake text)) (inr among) shown = (kind, among
 shown_is_answer kind kinds (Err SameStores) found shown = absurd shown
 shown_is_answer kind kinds (Err Workers) found shown = absurd shown
 shown_is_answer kind kinds (Err Views) found shown = absurd shown
+shown_is_answer kind kinds (Err Phase) found shown = absurd shown
+shown_is_answer kind kinds (Err Place) found shown = absurd shown
 shown_is_answer kind kinds (Err NotText) found shown = absurd shown
 shown_is_answer kind kinds (Err Memory) found shown = tt
 
@@ -67,15 +71,16 @@ pub error_asks_nothing : (kind : ErrorKind) (words : List Text) (r : Result Aske
     → IsShown kind r → IfOk r (λ asked. AsksFor asked words)
 error_asks_nothing kind words (Ok (Demo strict)) shown = absurd shown
 error_asks_nothing kind words (Ok (Format store is_new)) shown = absurd shown
-error_asks_nothing kind words (Ok (Script store strict)) shown = absurd shown
+error_asks_nothing kind words (Ok (Script store strict timed)) shown = absurd shown
 error_asks_nothing kind words (Ok (Inspect store view)) shown = absurd shown
 error_asks_nothing kind words (Ok (Crew store workers known)) shown = absurd shown
 error_asks_nothing kind words (Ok (Migrate old new)) shown = absurd shown
 error_asks_nothing kind words (Ok (Renew old new)) shown = absurd shown
+error_asks_nothing kind words (Ok (RenewInPlace store)) shown = absurd shown
 error_asks_nothing kind words (Ok (Help text)) shown = tt
 error_asks_nothing kind words (Err fault) shown = tt
 
--- and no fault of equal names
+-- and no mistake that the parser leaves to its caller
 pub error_is_no_clash : (kind : ErrorKind) (words : List Text) (r : Result Asked WordsFault)
     → IsShown kind r → IfErr r (λ why. IsCausedBy why words)
 error_is_no_clash kind words (Ok asked) shown = tt
@@ -83,6 +88,8 @@ error_is_no_clash kind words (Err (Mistake text)) shown = tt
 error_is_no_clash kind words (Err SameStores) shown = absurd shown
 error_is_no_clash kind words (Err Workers) shown = absurd shown
 error_is_no_clash kind words (Err Views) shown = absurd shown
+error_is_no_clash kind words (Err Phase) shown = absurd shown
+error_is_no_clash kind words (Err Place) shown = absurd shown
 error_is_no_clash kind words (Err NotText) shown = absurd shown
 error_is_no_clash kind words (Err Memory) shown = tt
 
@@ -113,17 +120,17 @@ module _ (a : App) (words : List Text) (m : ArgMatches) (is_night : a ≡ night)
   pub command_is_asked : (r : Result Asked WordsFault)
       → Asks (named_by m) (new_by m) (subcommand_rows_of m) r
       → IfOk r (λ asked. AsksFor asked words)
-  command_is_asked (Ok asked) asks = taken_asks words (named_by m) (new_by m)
-      (subcommand_rows_of m) asked names_alike matches_taken asks
+  command_is_asked (Ok asked) asks =
+      taken_asks words (subcommand_rows_of m) asked names_alike matches_taken asks
   command_is_asked (Err why) asks = tt
 
-  -- or they name one store twice, or a wrong number of workers
+  -- or they are a mistake of their own
   pub command_is_cause : (r : Result Asked WordsFault)
       → Asks (named_by m) (new_by m) (subcommand_rows_of m) r
       → IfErr r (λ why. IsCausedBy why words)
   command_is_cause (Ok asked) asks = tt
-  command_is_cause (Err why) asks = taken_fails words (named_by m) (new_by m)
-      (subcommand_rows_of m) why names_alike matches_taken asks
+  command_is_cause (Err why) asks =
+      taken_fails words (subcommand_rows_of m) why names_alike matches_taken asks
 
   -- which is an answer
   pub command_is_answer : (r : Result Asked WordsFault)
@@ -131,15 +138,18 @@ module _ (a : App) (words : List Text) (m : ArgMatches) (is_night : a ≡ night)
       → IsAnswer (faults_of words) r
   command_is_answer (Ok (Demo strict)) asks = finds_nothing
   command_is_answer (Ok (Format store is_new)) asks = finds_nothing
-  command_is_answer (Ok (Script store strict)) asks = finds_nothing
+  command_is_answer (Ok (Script store strict timed)) asks = finds_nothing
   command_is_answer (Ok (Inspect store view)) asks = finds_nothing
   command_is_answer (Ok (Crew store workers known)) asks = finds_nothing
   command_is_answer (Ok (Migrate old new)) asks = finds_nothing
   command_is_answer (Ok (Renew old new)) asks = finds_nothing
+  command_is_answer (Ok (RenewInPlace store)) asks = finds_nothing
   command_is_answer (Ok (Help text)) asks = absurd asks
   command_is_answer (Err SameStores) asks = finds_nothing
   command_is_answer (Err Workers) asks = finds_nothing
   command_is_answer (Err Views) asks = finds_nothing
+  command_is_answer (Err Phase) asks = finds_nothing
+  command_is_answer (Err Place) asks = finds_nothing
   command_is_answer (Err (Mistake text)) asks = absurd asks
   command_is_answer (Err NotText) asks = absurd asks
   command_is_answer (Err Memory) asks = absurd asks

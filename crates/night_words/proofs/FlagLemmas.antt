@@ -1,116 +1,297 @@
--- The parser's look at a word behind a command that takes flags: it is the mark `--`, a flag, or a
--- value.
-use Rattle.std.proofs.Common.{◌≡◌, ◌∙◌, ◌⊎◌, ℕ, Bool, List, Option, Some, None, [], ap}
-use Rattle.std.proofs.Common.{false, inl, inr, refl, subst, true}
-use Rattle.std.specs.Prelude.{⊤, if◌then◌else◌}
-use Rattle.std.specs.Str.{bytes_eq}
+-- The parser's look at a word behind a command that takes flags and options: it is the mark `--`,
+-- one of these, or a value.
+use Rattle.std.proofs.Common.{◌≡◌, ◌∙◌, ◌∷◌, ◌⊎◌, ℕ, Bool, List, Option, Some, None, [], ap, cond}
+use Rattle.std.proofs.Common.{false, inl, inr, length, refl, subst, suc, sym, true, zero}
+use Rattle.std.specs.Prelude.{◌&&◌, find, if◌then◌else◌, is_some, not, slice_get}
+use Rattle.std.specs.Str.{bytes_eq, chars}
+use Rattle.std.specs.Option.{option_map_or}
 use Rattle.std.proofs.lemmas.Slice.Eq.{bytes_eq-Decides}
 use Rattle.clap.specs.Lexer.{long_of, short_of}
-use Rattle.clap.specs.Faults.{flag_word_fault, long_fault, other_fault, react_fault, step_fault}
-use Rattle.clap.specs.Faults.{turn_fault}
-use Rattle.clap.specs.Simple.{Shape}
-use Rattle.clap.specs.Walk.{Held, Outcome, Row, Rule, Step, Text, Walk, after_flag, after_step}
-use Rattle.clap.specs.Walk.{arg_by_index, arg_by_long, done, idle, long_met, long_or_other, next}
-use Rattle.clap.specs.Walk.{reacted, settled_rows, subcommand_or_other, to_positional, trailing}
-use Rattle.clap.specs.Walk.{used, value, walked}
-use Rattle.night_words.proofs.TurnLemmas.{ShortsFail, first_none, held, mark, second_none}
-use Rattle.night_words.proofs.TurnLemmas.{short_is_value}
+use Rattle.clap.specs.Faults.{bundle_fault, bundle_step_fault, flag_word_fault, flags_fault}
+use Rattle.clap.specs.Faults.{long_fault, option_fault, other_fault, react_fault, settle_fault}
+use Rattle.clap.specs.Faults.{short_fault, step_fault, turn_fault}
+use Rattle.clap.specs.Kinds.{Kinds}
+use Rattle.clap.specs.Simple.{Shape, filled, help_rule, new_rule, with_index}
+use Rattle.clap.specs.Walk.{Held, Outcome, Row, Rule, Step, Text, Waiting, Walk, action_of}
+use Rattle.clap.specs.Walk.{after_flag, after_step, arg_by_id, arg_by_long, arg_by_short}
+use Rattle.clap.specs.Walk.{bundle_met, bundle_step, flag_met, has_long, has_short, idle}
+use Rattle.clap.specs.Walk.{long_met, long_or_other, option, option_met, plain, plain_word}
+use Rattle.clap.specs.Walk.{positional, settled_rows, short_or_plain, subcommand_or_other}
+use Rattle.clap.specs.Walk.{takes_values, trailing, used, walked}
+use Rattle.clap.specs.declared.builder.action.ArgAction.{ArgAction}
+use Rattle.clap.specs.declared.builder.action.ArgAction.TheVariants.{Help, Set}
+use Rattle.clap.specs.declared.error.kind.ErrorKind.TheVariants as kind
+use Rattle.night_words.specs.Commands.{flag, value_option}
+use Rattle.night_words.proofs.TurnLemmas.{ShortsFail, first_none, held, help_is_found, mark}
+use Rattle.night_words.proofs.TurnLemmas.{second_none}
 
--- what a long flag, found or not, comes to: one of these flags is used, and any other is a mistake
-abbrev pub LongMeets : {I : Type 0} → Shape → (I → Rule) → Option Text → Held → Option Rule
-    → Type 0
-LongMeets {I} s f v h o = long_fault s.rules s.args_override_self o v h ≡ []
-    → (i : I) × (long_met s.rules o v h ≡ (reacted s.rules (f i) [] h, done))
-    × (react_fault s.rules s.args_override_self (f i) [] h ≡ [])
+-- ---- the arguments of a command
 
--- a command's flags are these, and that which asks for help
-pub record IsFlagged {I : Type 0} (s : Shape) (f : I → Rule) : Type 0 where
-  pub longs : (name : Text) (v : Option Text) (h : Held)
-      → LongMeets s f v h (arg_by_long s.rules name)
-  pub shorts : ShortsFail s
+-- a word with a place, wanted or not
+abbrev pub place : Text → ℕ → Bool → Rule
+place id i is_wanted = with_index i
+    (filled (record (new_rule id) { action = Some Set; required = is_wanted; value_names = 1 }))
 
--- the one flag of a command
-abbrev pub only : Rule → ⊤ → Rule
-only f one = f
+-- what an argument of these commands is
+pub data Form (s : Shape) (a : Rule) : Type 0 where
+  is_flag : (id : Text) → a ≡ filled (flag id) → Form s a
+  is_option : (id : Text) → a ≡ filled (value_option id) → arg_by_id s.rules a.id ≡ Some a
+      → Form s a
+  is_place : (id : Text) (i : ℕ) (is_wanted : Bool) → a ≡ place id i is_wanted → Form s a
+  is_help : a ≡ filled help_rule → Form s a
 
--- the walk between two words, where nothing waits for a value
-abbrev pub stands : List Row → Option (Text × List Text) → ℕ → Bool → Walk
-stands rows pending position behind = record {
+abbrev pub All : (Rule → Type 0) → List Rule → Type 0
+All P [] = Unit {0}
+All P (a ∷ rest) = P a × All P rest
+
+abbrev pub IsIn : Rule → List Rule → Type 0
+IsIn a [] = ⊥
+IsIn a (b ∷ rest) = (b ≡ a) ⊎ IsIn a rest
+
+pub all_in : (P : Rule → Type 0) (a : Rule) (rules : List Rule) → All P rules → IsIn a rules → P a
+all_in P a [] all is = absurd is
+all_in P a (b ∷ rest) all (inl is) = subst P is all.0
+all_in P a (b ∷ rest) all (inr is) = all_in P a rest all.1 is
+
+-- what a search finds is there, and what was searched for
+pub found_in : (p : Rule → Bool) (a : Rule) (rules : List Rule) → find p rules ≡ Some a
+    → IsIn a rules × (p a ≡ true)
+found_in p a [] found = cc
+found_in p a (b ∷ rest) found = go (p b) refl (found_in p a rest) found
+  where
+    go : (x : Bool) → p b ≡ x → (find p rest ≡ Some a → IsIn a rest × (p a ≡ true))
+        → cond x (Some b) (find p rest) ≡ Some a → IsIn a (b ∷ rest) × (p a ≡ true)
+    go true holds below found =
+        let rule : Option Rule → Rule = λ o. option_map_or (λ (r : Rule). r) o b in
+        let is : b ≡ a = ap rule found in
+        (inl is, subst (λ r. p r ≡ true) is holds)
+    go false fails below found = (inr (below found).0, (below found).1)
+
+abbrev pub asks_help : ArgAction → Bool
+asks_help Help = true
+asks_help _ = false
+
+-- a flag or an option, but for that which asks for help
+abbrev pub is_named : Rule → Bool
+is_named a = not (is_some a.index) && not (asks_help (action_of a))
+
+-- a command has such arguments alone
+pub record IsFormed (s : Shape) : Type 0 where
+  pub once : s.args_override_self ≡ false
+  pub forms : All (Form s) s.rules
+
+pub form_in : (s : Shape) → IsFormed s → (a : Rule) → IsIn a s.rules → Form s a
+form_in s formed a is = all_in (Form s) a s.rules formed.forms is
+
+-- ---- where the walk stands
+
+-- the walk between two words
+abbrev pub standing : List Row → Option (Text × List Text) → Waiting → ℕ → Bool → Walk
+standing rows pending waiting position behind = record {
   held = held rows pending;
-  waiting = idle;
+  waiting = waiting;
   position = position;
   is_trailing = behind;
   stopped = None;
 }
 
+-- where nothing waits for a value
+abbrev pub stands : List Row → Option (Text × List Text) → ℕ → Bool → Walk
+stands rows pending position behind = standing rows pending idle position behind
+
+-- ---- a word
+
 -- what a word comes to, and where the walk stands behind it
-pub data Comes {I : Type 0} (s : Shape) (f : I → Rule) (r : List Row)
-    (p : Option (Text × List Text)) (n : ℕ)
+pub data Comes (s : Shape) (r : List Row) (p : Option (Text × List Text)) (q : Waiting) (n : ℕ)
     (word : Text) : Type 0 where
-  by_mark : word ≡ mark → walked s.rules [] (stands r p n false) word ≡ stands r p n true
-      → Comes s f r p n word
-  by_flag : (i : I) → react_fault s.rules s.args_override_self (f i) [] (held r p) ≡ []
-      → walked s.rules [] (stands r p n false) word
-      ≡ stands (used (f i) [] (settled_rows s.rules p r)) None n false → Comes s f r p n word
-  by_value : step_fault s n (held r p) value ≡ []
-      → walked s.rules [] (stands r p n false) word
-      ≡ to_positional s.rules (arg_by_index s.rules n) word (stands r p n false) (held r p)
-      → Comes s f r p n word
+  by_mark : word ≡ mark → walked s.rules [] (standing r p q n false) word ≡ standing r p q n true
+      → Comes s r p q n word
+  by_use : (a : Rule) → IsIn a s.rules → is_named a ≡ true → (values : List Text)
+      → react_fault s.rules s.args_override_self a values (held r p) ≡ []
+      → walked s.rules [] (standing r p q n false) word
+      ≡ stands (used a values (settled_rows s.rules p r)) None n false → Comes s r p q n word
+  by_wait : (a : Rule) → IsIn a s.rules → is_named a ≡ true → takes_values a ≡ true
+      → arg_by_id s.rules a.id ≡ Some a
+      → settle_fault s.rules s.args_override_self (held r p) ≡ []
+      → walked s.rules [] (standing r p q n false) word
+      ≡ standing (settled_rows s.rules p r) (Some (a.id, [])) (option a.id) n false
+      → Comes s r p q n word
+  by_value : step_fault s n (plain_word s.rules q word (held r p)).0
+      (plain_word s.rules q word (held r p)).1 ≡ []
+      → walked s.rules [] (standing r p q n false) word
+      ≡ after_step s.rules word (standing r p q n false)
+      (plain_word s.rules q word (held r p)).0 (plain_word s.rules q word (held r p)).1
+      → Comes s r p q n word
 
-module _ {I : Type 0} (s : Shape) (f : I → Rule) (flagged : IsFlagged s f) (r : List Row)
-    (p : Option (Text × List Text)) (n : ℕ) (word : Text) where
-  -- what the word comes to
-  abbrev met : Held × Step
-  met = subcommand_or_other s.rules None idle n word (held r p)
+abbrev has_name : Text → Rule → Bool
+has_name name a = not (is_some a.index) && has_long a name
 
-  abbrev IsUsed : Held × Step → Type 0
-  IsUsed m = (i : I) × (m ≡ (reacted s.rules (f i) [] (held r p), next idle))
-      × (react_fault s.rules s.args_override_self (f i) [] (held r p) ≡ [])
+abbrev has_letter : ℕ → Rule → Bool
+has_letter x a = not (is_some a.index) && has_short a x
 
-  long_is_flag : (long : Option (Text × Option Text))
-      → flag_word_fault s.rules s.args_override_self long word (held r p) ≡ []
-      → IsUsed (long_or_other s.rules idle word long (held r p))
-      ⊎ (long_or_other s.rules idle word long (held r p) ≡ (held r p, value))
-  long_is_flag None none =
-      inr (short_is_value s flagged.shorts word (short_of word) r p none)
-  long_is_flag (Some q) none =
-      let is = flagged.longs q.0 q.1 (held r p) none in
-      inl (is.0, ap (λ (m : Held × Outcome). after_flag s.rules idle word m.0 m.1) is.1, is.2)
+-- what is found has no place
+no_place : (id : Text) (i : ℕ) (b c : Bool) (a : Rule) → a ≡ place id i b
+    → not (is_some a.index) && c ≡ true → ⊥
+no_place id i b c a is holds =
+    let bad : false ≡ true = sym (ap (λ (r : Rule). not (is_some r.index) && c) is) ∙ holds in
+    cc
 
-  mark_flag_or_value : other_fault s None word (held r p) ≡ []
-      → (word ≡ mark) ⊎ (IsUsed met ⊎ (met ≡ (held r p, value)))
-  mark_flag_or_value none = go (bytes_eq word mark) refl none
+-- a flag that asks for help is found
+help_fails : (rules : List Rule) (again : Bool) (a : Rule) (h : Held) → a ≡ filled help_rule
+    → react_fault rules again a [] h ≡ [] → ⊥
+help_fails rules again a h is none = help_is_found _ _ _
+    (subst (λ r. react_fault rules again r [] h ≡ []) is none)
+
+module _ (s : Shape) (formed : IsFormed s) where
+  -- no flag has a letter but that which asks for help
+  short_fails : (x : ℕ) (rest : Text) (h : Held) (after : Held → Kinds) (o : Option Rule)
+      → find (has_letter x) s.rules ≡ o
+      → short_fault s.rules s.args_override_self o rest h after ≡ [] → ⊥
+  short_fails x rest h after None found none = cc
+  short_fails x rest h after (Some a) found none =
+      go (form_in s formed a (found_in (has_letter x) a s.rules found).0)
     where
-      go : (b : Bool) → bytes_eq word mark ≡ b
-          → (if b then [] else flag_word_fault s.rules s.args_override_self (long_of word) word
-          (held r p)) ≡ []
-          → (word ≡ mark) ⊎ (IsUsed (if b then (held r p, trailing n)
-          else long_or_other s.rules idle word (long_of word) (held r p))
-          ⊎ ((if b then (held r p, trailing n)
-          else long_or_other s.rules idle word (long_of word) (held r p)) ≡ (held r p, value)))
-      go true same none = inl ((bytes_eq-Decides word mark).0 same)
-      go false other none = inr (long_is_flag (long_of word) none)
+      lettered : has_letter x a ≡ true
+      lettered = (found_in (has_letter x) a s.rules found).1
 
-  -- where the walk stands behind it
-  abbrev after : Walk
-  after = walked s.rules [] (stands r p n false) word
+      go : Form s a → ⊥
+      go (is_flag id is) =
+          let bad : false ≡ true = sym (ap (has_letter x) is) ∙ lettered in
+          cc
+      go (is_option id is at) =
+          let bad : false ≡ true = sym (ap (has_letter x) is) ∙ lettered in
+          cc
+      go (is_place id i b is) = no_place id i b (has_short a x) a is lettered
+      go (is_help is) = help_is_found _ _ _ (first_none _ _ (subst
+          (λ r. short_fault s.rules s.args_override_self (Some r) rest h after ≡ []) is none))
 
-  after_mark : walked s.rules [] (stands r p n false) mark ≡ stands r p n true
-  unfolding walked
-  after_mark = refl
+  shorts : ShortsFail s
+  shorts x rest h after none = short_fails x rest h after (arg_by_short s.rules x) refl none
 
-  after_met : (m : Held × Step) → met ≡ m
-      → after ≡ after_step s.rules word (stands r p n false) m.0 m.1
-  unfolding walked
-  after_met m is =
-      ap (λ (o : Held × Step). after_step s.rules word (stands r p n false) o.0 o.1) is
-
-  pub comes : turn_fault s [] (stands r p n false) word ≡ [] → Comes s f r p n word
-  comes none = go (mark_flag_or_value (first_none _ _ none))
+  -- a bundle of flags in which nothing is found is no flag
+  bundle_is_plain : (flags : Text) (h : Held) (k : ℕ)
+      → flags_fault s.rules s.args_override_self k flags 0 h ≡ []
+      → bundle_met s.rules k flags 0 plain h ≡ (h, plain)
+  unfolding flags_fault bundle_met
+  bundle_is_plain flags h zero none = refl
+  bundle_is_plain flags h (suc k) none = go (slice_get (chars flags) 0) none
     where
-      go : (word ≡ mark) ⊎ (IsUsed met ⊎ (met ≡ (held r p, value))) → Comes s f r p n word
-      go (inl is) = by_mark is
-          (ap (λ w. walked s.rules [] (stands r p n false) w) is ∙ after_mark)
-      go (inr (inl is)) = by_flag is.0 is.2 (after_met _ is.1)
-      go (inr (inr is)) = by_value (subst (λ (m : Held × Step). step_fault s n m.0 m.1 ≡ []) is
-          (second_none _ _ none)) (after_met _ is)
+      go : (x : Option ℕ)
+          → bundle_step_fault s.rules s.args_override_self x flags 0 h
+          (flags_fault s.rules s.args_override_self k) ≡ []
+          → bundle_step s.rules x flags 0 plain h (bundle_met s.rules k) ≡ (h, plain)
+      go None none = refl
+      go (Some x) none = absurd (shorts x _ h _ none)
+
+  module _ (r : List Row) (p : Option (Text × List Text)) (q : Waiting) (n : ℕ) (word : Text) where
+    short_is_plain : (flags : Option Text)
+        → option_map_or (λ f. bundle_fault s.rules s.args_override_self f (held r p)) flags [] ≡ []
+        → short_or_plain s.rules q word flags (held r p) ≡ plain_word s.rules q word (held r p)
+    short_is_plain None none = refl
+    short_is_plain (Some flags) none =
+        ap (λ (m : Held × Outcome). after_flag s.rules q word m.0 m.1)
+        (bundle_is_plain flags (held r p) (length flags) none)
+
+    -- what the word comes to
+    abbrev met : Held × Step
+    met = subcommand_or_other s.rules None q n word (held r p)
+
+    -- and where the walk stands behind it
+    abbrev Meets : Held × Step → Type 0
+    Meets m = step_fault s n m.0 m.1 ≡ []
+        → walked s.rules [] (standing r p q n false) word
+        ≡ after_step s.rules word (standing r p q n false) m.0 m.1 → Comes s r p q n word
+
+    -- a flag, with or without a value
+    flag_comes : (a : Rule) → IsIn a s.rules → is_named a ≡ true
+        → (b : Bool) → takes_values a ≡ b → b ≡ false → (v : Option Text)
+        → (if b then option_fault s.rules s.args_override_self a v (held r p)
+        else (if is_some v then kind.TooManyValues ∷ []
+        else react_fault s.rules s.args_override_self a [] (held r p))) ≡ []
+        → (let m = if b then option_met s.rules a v (held r p) else flag_met s.rules a v (held r p)
+        in Meets (after_flag s.rules q word m.0 m.1))
+    flag_comes a is named true takes fails v none = cc
+    flag_comes a is named false takes fails None none = λ fine at. by_use a is named [] none at
+    flag_comes a is named false takes fails (Some x) none = cc
+
+    -- an option, with or without one
+    option_comes : (a : Rule) → IsIn a s.rules → is_named a ≡ true
+        → arg_by_id s.rules a.id ≡ Some a → (b : Bool) → takes_values a ≡ b → b ≡ true
+        → (v : Option Text)
+        → (if b then option_fault s.rules s.args_override_self a v (held r p)
+        else (if is_some v then kind.TooManyValues ∷ []
+        else react_fault s.rules s.args_override_self a [] (held r p))) ≡ []
+        → (let m = if b then option_met s.rules a v (held r p) else flag_met s.rules a v (held r p)
+        in Meets (after_flag s.rules q word m.0 m.1))
+    option_comes a is named at_id false takes holds v none = cc
+    option_comes a is named at_id true takes holds None none =
+        λ fine at. by_wait a is named takes at_id none at
+    option_comes a is named at_id true takes holds (Some x) none =
+        λ fine at. by_use a is named (x ∷ []) none at
+
+    -- a flag that asks for help is found
+    no_help : (a : Rule) → a ≡ filled help_rule → (v : Option Text)
+        → long_fault s.rules s.args_override_self (Some a) v (held r p) ≡ [] → ⊥
+    no_help a is v none = go v (subst
+        (λ a. long_fault s.rules s.args_override_self (Some a) v (held r p) ≡ []) is none)
+      where
+        go : (v : Option Text)
+            → long_fault s.rules s.args_override_self (Some (filled help_rule)) v (held r p) ≡ []
+            → ⊥
+        go None none = help_is_found _ _ _ none
+        go (Some x) none = cc
+
+    -- a long flag
+    long_comes : (name : Text) (v : Option Text) (o : Option Rule)
+        → find (has_name name) s.rules ≡ o
+        → long_fault s.rules s.args_override_self o v (held r p) ≡ []
+        → Meets (after_flag s.rules q word (long_met s.rules o v (held r p)).0
+        (long_met s.rules o v (held r p)).1)
+    long_comes name v None found none = cc
+    long_comes name v (Some a) found none = go (form_in s formed a is)
+      where
+        is : IsIn a s.rules
+        is = (found_in (has_name name) a s.rules found).0
+
+        go : Form s a → Meets (after_flag s.rules q word
+            (long_met s.rules (Some a) v (held r p)).0 (long_met s.rules (Some a) v (held r p)).1)
+        go (is_flag id e) =
+            flag_comes a is (ap is_named e) (takes_values a) refl (ap takes_values e) v none
+        go (is_option id e at) =
+            option_comes a is (ap is_named e) at (takes_values a) refl (ap takes_values e) v none
+        go (is_place id i b e) = absurd (no_place id i b (has_long a name) a e
+            (found_in (has_name name) a s.rules found).1)
+        go (is_help e) = absurd (no_help a e v none)
+
+    word_comes : (long : Option (Text × Option Text)) → long_of word ≡ long
+        → flag_word_fault s.rules s.args_override_self long word (held r p) ≡ []
+        → Meets (long_or_other s.rules q word long (held r p))
+    word_comes None e none = λ fine at.
+        let is = short_is_plain (short_of word) none in
+        by_value (subst (λ (m : Held × Step). step_fault s n m.0 m.1 ≡ []) is fine)
+        (at ∙ ap (λ (m : Held × Step). after_step s.rules word (standing r p q n false) m.0 m.1)
+        is)
+    word_comes (Some l) e none = long_comes l.0 l.1 (arg_by_long s.rules l.0) refl none
+
+    met_comes : other_fault s None word (held r p) ≡ [] → Meets met
+    met_comes none = go (bytes_eq word mark) refl none
+      where
+        go : (b : Bool) → bytes_eq word mark ≡ b
+            → (if b then [] else flag_word_fault s.rules s.args_override_self (long_of word) word
+            (held r p)) ≡ []
+            → Meets (if b then (held r p, trailing n)
+            else long_or_other s.rules q word (long_of word) (held r p))
+        go true same none = λ fine at. by_mark ((bytes_eq-Decides word mark).0 same) at
+        go false other none = word_comes (long_of word) refl none
+
+-- no word below a command names another one
+pub comes : (s : Shape) → IsFormed s → (r : List Row) (p : Option (Text × List Text)) (q : Waiting)
+    (n : ℕ) (word : Text) → turn_fault s [] (standing r p q n false) word ≡ []
+    → Comes s r p q n word
+unfolding walked
+comes s formed r p idle n word none =
+    met_comes s formed r p idle n word (first_none _ _ none) (second_none _ _ none) refl
+comes s formed r p (option id) n word none =
+    met_comes s formed r p (option id) n word (first_none _ _ none) (second_none _ _ none) refl
+comes s formed r p positional n word none =
+    met_comes s formed r p positional n word (first_none _ _ none) (second_none _ _ none) refl

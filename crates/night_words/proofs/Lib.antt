@@ -9,4 +9,5 @@ mod RowLemmas
 mod StoreLemmas
 mod TakenLemmas
 mod TurnLemmas
+mod UsedLemmas
 mod ViewLemmas

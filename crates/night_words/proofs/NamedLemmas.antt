@@ -1,8 +1,8 @@
 -- What the parser's matches name, as their caller reads it.
 use Rattle.std.proofs.Common.{◌≡◌, ◌∙◌, ◌⊎◌, Bool, List, Option, Some, None, [], ap, ap₂}
 use Rattle.std.proofs.Common.{false, inl}
-use Rattle.std.proofs.Common.{inr, refl, sym, true}
-use Rattle.std.specs.Prelude.{Box, codes, option_and_then, option_map, unwrap_or}
+use Rattle.std.proofs.Common.{inr, refl, subst, sym, true}
+use Rattle.std.specs.Prelude.{Box, codes, is_some, option_and_then, option_map, unwrap_or}
 use Rattle.std.specs.Prelude.{Result, Ok, Err}
 use Rattle.std.specs.Borrow.{Bor}
 use Rattle.std.specs.Box.{box_value}
@@ -16,18 +16,22 @@ use Rattle.clap.specs.Walk.{Row, Text, first_of, rows_of}
 use Rattle.clap.specs.declared.parser.matches.ArgMatches.{ArgMatches}
 use Rattle.clap.specs.declared.parser.matches.ArgMatches.TheViews.{out-ArgMatches, out-SubCommand}
 use Rattle.clap.specs.declared.parser.matches.SubCommand.{SubCommand}
-use Rattle.night_words.specs.Commands.{Asks, IsCrew, IsForTwo, IsInspect, IsNamed, Named}
-use Rattle.night_words.specs.Commands.{NamesDemo, NamesStore, NamesTwo, command_in, has_flag}
-use Rattle.night_words.specs.Commands.{is_true, named_by, named_in, new_by, view_in, view_of}
-use Rattle.night_words.specs.Commands.{word_in, workers_of}
+use Rattle.night_words.specs.Commands.{Asks, IsCrew, IsForTwo, IsInspect, IsNamed, IsRenewal}
+use Rattle.night_words.specs.Commands.{IsView, Named, NamesDemo, NamesFormat, NamesInspect}
+use Rattle.night_words.specs.Commands.{NamesRenewal, NamesScript, NamesTwo, command_in, has_flag}
+use Rattle.night_words.specs.Commands.{is_true, named_by, named_in, new_by, new_in, word_in}
+use Rattle.night_words.specs.Commands.{workers_of}
 use Rattle.night_words.specs.declared.asked.Asked.{Asked}
 use Rattle.night_words.specs.declared.asked.Asked.TheVariants.{Demo, Format, Script, Inspect, Help}
-use Rattle.night_words.specs.declared.asked.Asked.TheVariants.{Crew, Migrate, Renew}
+use Rattle.night_words.specs.declared.asked.Asked.TheVariants.{Crew, Migrate, Renew, RenewInPlace}
+use Rattle.night_words.specs.declared.asked.View.{View}
 use Rattle.night_words.specs.declared.asked.WordsFault.{WordsFault}
 use Rattle.night_words.specs.declared.asked.WordsFault.TheVariants.{Memory, Mistake, NotText}
-use Rattle.night_words.specs.declared.asked.WordsFault.TheVariants.{SameStores, Views, Workers}
+use Rattle.night_words.specs.declared.asked.WordsFault.TheVariants.{Phase, Place, SameStores}
+use Rattle.night_words.specs.declared.asked.WordsFault.TheVariants.{Views, Workers}
 use Rattle.night_words.proofs.PairLemmas.{migrate, renew}
 use Rattle.night_words.proofs.TakenLemmas.{crew, demo, format, inspect, script}
+use Rattle.night_words.proofs.ViewLemmas.{view_alike}
 
 -- what is read of a subcommand and of its matches
 abbrev pub Read : Type 0
@@ -129,17 +133,32 @@ demo_here m command inner strict name rows is read = (
   flag_here (codes "strict") m command inner strict rows read,
 )
 
--- so it is where the command takes a store and a flag
-pub store_here : (m : ArgMatches) (command : Bor Text) (inner : Bor ArgMatches)
-    (word id store : Text) (is_set : Bool) → Some command.now ≡ subcommand_name_of m
+-- so it is where it is `format`
+pub format_here : (m : ArgMatches) (command : Bor Text) (inner : Bor ArgMatches)
+    (store : Text) (is_new : Bool) → Some command.now ≡ subcommand_name_of m
     → Some (rows_of (found_of inner.now)) ≡ option_map (λ p. p.1) (subcommand_rows_of m)
-    → command.now ≡ word → Some store ≡ first_value (found_of inner.now) (codes "STORE")
-    → is_set ≡ is_true (first_value (found_of inner.now) id)
-    → NamesStore word id store is_set (subcommand_rows_of m)
-store_here m command inner word id store is_set name rows is stored read = (
-  command_here m command word name is,
+    → command.now ≡ format → Some store ≡ first_value (found_of inner.now) (codes "STORE")
+    → is_new ≡ is_true (first_value (found_of inner.now) (codes "new"))
+    → NamesFormat store is_new (subcommand_rows_of m)
+format_here m command inner store is_new name rows is stored read = (
+  command_here m command format name is,
   word_here (codes "STORE") m command inner rows ∙ sym stored,
-  flag_here id m command inner is_set rows read,
+  flag_here (codes "new") m command inner is_new rows read,
+)
+
+-- and `script`
+pub script_here : (m : ArgMatches) (command : Bor Text) (inner : Bor ArgMatches)
+    (store : Text) (strict timed : Bool) → Some command.now ≡ subcommand_name_of m
+    → Some (rows_of (found_of inner.now)) ≡ option_map (λ p. p.1) (subcommand_rows_of m)
+    → command.now ≡ script → Some store ≡ first_value (found_of inner.now) (codes "STORE")
+    → strict ≡ is_true (first_value (found_of inner.now) (codes "strict"))
+    → timed ≡ is_true (first_value (found_of inner.now) (codes "now"))
+    → NamesScript store strict timed (subcommand_rows_of m)
+script_here m command inner store strict timed name rows is stored one two = (
+  command_here m command script name is,
+  word_here (codes "STORE") m command inner rows ∙ sym stored,
+  flag_here (codes "strict") m command inner strict rows one,
+  flag_here (codes "now") m command inner timed rows two,
 )
 
 -- and where it is `crew`
@@ -171,7 +190,7 @@ crew_here m command inner store count workers known r name rows is read whole gi
         → Asks (named_by m) (new_by m) (subcommand_rows_of m) r
     go (Ok (Demo strict)) made = absurd made
     go (Ok (Format s n)) made = absurd made
-    go (Ok (Script s strict)) made = absurd made
+    go (Ok (Script s strict timed)) made = absurd made
     go (Ok (Inspect s view)) made = absurd made
     go (Ok (Crew s n k)) made = (
       which,
@@ -181,27 +200,26 @@ crew_here m command inner store count workers known r name rows is read whole gi
     )
     go (Ok (Migrate o n)) made = absurd made
     go (Ok (Renew o n)) made = absurd made
+    go (Ok (RenewInPlace o)) made = absurd made
     go (Ok (Help text)) made = absurd made
     go (Err (Mistake text)) made = absurd made
     go (Err SameStores) made = absurd made
     go (Err Workers) made =
         (store, (known, (which, stored, ap (λ o. workers_of o) working ∙ made, knowing)))
     go (Err Views) made = absurd made
+    go (Err Phase) made = absurd made
+    go (Err Place) made = absurd made
     go (Err NotText) made = absurd made
     go (Err Memory) made = absurd made
 
 -- and where it is `inspect`
 pub inspect_here : (m : ArgMatches) (command : Bor Text) (inner : Bor ArgMatches)
-    (store : Text) (only_tasks as_json : Bool) (r : Result Asked WordsFault)
-    → Some command.now ≡ subcommand_name_of m
+    (store : Text) (r : Result Asked WordsFault) → Some command.now ≡ subcommand_name_of m
     → Some (rows_of (found_of inner.now)) ≡ option_map (λ p. p.1) (subcommand_rows_of m)
     → command.now ≡ inspect → Some store ≡ first_value (found_of inner.now) (codes "STORE")
-    → only_tasks ≡ is_true (first_value (found_of inner.now) (codes "tasks"))
-    → as_json ≡ is_true (first_value (found_of inner.now) (codes "json"))
-    → IsInspect store (view_of only_tasks as_json) r
+    → IsInspect store (first_value (found_of inner.now)) r
     → Asks (named_by m) (new_by m) (subcommand_rows_of m) r
-inspect_here m command inner store only_tasks as_json r name rows is stored one two made =
-    go r made
+inspect_here m command inner store r name rows is stored made = go r made
   where
     which : command_in (subcommand_rows_of m) ≡ Some inspect
     which = command_here m command inspect name is
@@ -209,24 +227,77 @@ inspect_here m command inner store only_tasks as_json r name rows is stored one 
     over : word_in (codes "STORE") (subcommand_rows_of m) ≡ Some store
     over = word_here (codes "STORE") m command inner rows ∙ sym stored
 
-    seen : view_in (subcommand_rows_of m) ≡ view_of only_tasks as_json
-    seen = ap₂ view_of (flag_here (codes "tasks") m command inner only_tasks rows one)
-        (flag_here (codes "json") m command inner as_json rows two)
+    seen : (view : Result View WordsFault) → IsView (first_value (found_of inner.now)) view
+        → NamesInspect store view (subcommand_rows_of m)
+    seen view made = (
+      which,
+      over,
+      view_alike (λ id. word_in id (subcommand_rows_of m)) (first_value (found_of inner.now))
+          (λ id. word_here id m command inner rows) view made,
+    )
 
-    go : (r : Result Asked WordsFault) → IsInspect store (view_of only_tasks as_json) r
+    go : (r : Result Asked WordsFault) → IsInspect store (first_value (found_of inner.now)) r
         → Asks (named_by m) (new_by m) (subcommand_rows_of m) r
     go (Ok (Demo strict)) made = absurd made
     go (Ok (Format s n)) made = absurd made
-    go (Ok (Script s strict)) made = absurd made
-    go (Ok (Inspect s view)) made = (which, over ∙ ap Some (sym made.0), seen ∙ made.1)
+    go (Ok (Script s strict timed)) made = absurd made
+    go (Ok (Inspect s view)) made = subst (λ t. NamesInspect t (Ok view) (subcommand_rows_of m))
+        (sym made.0) (seen (Ok view) made.1)
     go (Ok (Crew s n k)) made = absurd made
     go (Ok (Migrate o n)) made = absurd made
     go (Ok (Renew o n)) made = absurd made
+    go (Ok (RenewInPlace s)) made = absurd made
     go (Ok (Help text)) made = absurd made
     go (Err (Mistake text)) made = absurd made
     go (Err SameStores) made = absurd made
     go (Err Workers) made = absurd made
-    go (Err Views) made = (store, (which, over, seen ∙ made))
+    go (Err Views) made = (store, seen (Err Views) made)
+    go (Err Phase) made = (store, seen (Err Phase) made)
+    go (Err Place) made = absurd made
+    go (Err NotText) made = absurd made
+    go (Err Memory) made = absurd made
+
+-- and where it is `renew`
+pub renewal_here : (m : ArgMatches) (command : Bor Text) (inner : Bor ArgMatches)
+    (store : Text) (new : Option Text) (in_place : Bool) (r : Result Asked WordsFault)
+    → Some command.now ≡ subcommand_name_of m
+    → Some (rows_of (found_of inner.now)) ≡ option_map (λ p. p.1) (subcommand_rows_of m)
+    → command.now ≡ renew → Some store ≡ first_value (found_of inner.now) (codes "STORE")
+    → new ≡ first_value (found_of inner.now) (codes "NEW")
+    → in_place ≡ is_true (first_value (found_of inner.now) (codes "in-place"))
+    → IsRenewal store new in_place r → Asks (named_by m) (new_by m) (subcommand_rows_of m) r
+renewal_here m command inner store new in_place r name rows is stored read flagged made = go r made
+  where
+    -- the words of this renewal were found
+    finds : (s : Text) (n : Option Text) (b : Bool) → s ≡ store → new ≡ n → in_place ≡ b
+        → NamesRenewal s n b (subcommand_rows_of m)
+    finds s n b old fresh set = (
+      command_here m command renew name is,
+      word_here (codes "STORE") m command inner rows ∙ sym stored ∙ ap Some (sym old),
+      word_here (codes "NEW") m command inner rows ∙ sym read ∙ fresh,
+      flag_here (codes "in-place") m command inner in_place rows flagged ∙ set,
+    )
+
+    go : (r : Result Asked WordsFault) → IsRenewal store new in_place r
+        → Asks (named_by m) (new_by m) (subcommand_rows_of m) r
+    go (Ok (Demo strict)) made = absurd made
+    go (Ok (Format s n)) made = absurd made
+    go (Ok (Script s strict timed)) made = absurd made
+    go (Ok (Inspect s view)) made = absurd made
+    go (Ok (Crew s n k)) made = absurd made
+    go (Ok (Migrate o n)) made = absurd made
+    go (Ok (Renew o n)) made = (
+      finds o.now (Some n.now) false made.0 made.1 made.2,
+      λ same. made.3 (sym made.0 ∙ same),
+    )
+    go (Ok (RenewInPlace o)) made = finds o.now None true made.0 made.1 made.2
+    go (Ok (Help text)) made = absurd made
+    go (Err (Mistake text)) made = absurd made
+    go (Err SameStores) made = (store, inr (finds store (Some store) false refl made.0 made.1))
+    go (Err Workers) made = absurd made
+    go (Err Views) made = absurd made
+    go (Err Phase) made = absurd made
+    go (Err Place) made = (store, (new, finds store new (is_some new) refl refl made))
     go (Err NotText) made = absurd made
     go (Err Memory) made = absurd made
 
@@ -267,37 +338,37 @@ no_store named new name (inr (inr (store, inr (inl e)))) is no_demo no_crew =
     store_clash named name script store is e
 no_store named new name (inr (inr (store, inr (inr (inl e))))) is no_demo no_crew =
     store_clash named name inspect store is e
-no_store named new name (inr (inr (store, inr (inr (inr (given, inl n)))))) is no_demo no_crew =
+no_store named new name (inr (inr (store, inr (inr (inr (inl e)))))) is no_demo no_crew =
+    store_clash named name renew store is e
+no_store named new name (inr (inr (store, inr (inr (inr (inr (given, n))))))) is no_demo no_crew =
     store_clash named name migrate store is n.0
-no_store named new name (inr (inr (store, inr (inr (inr (given, inr n)))))) is no_demo no_crew =
-    store_clash named name renew store is n.0
 
--- a command over a store that is neither `demo` nor `crew` nor `format` nor `script` nor `inspect`
--- is `migrate` or `renew`
+-- a command over a store that is none of the others is `migrate`
 pub two_left : (named : Named) (new : Option Text) (name store : Text) → IsNamed named new
     → named ≡ Some (name, Some store) → (name ≡ demo → ⊥) → (name ≡ crew → ⊥)
-    → (name ≡ format → ⊥) → (name ≡ script → ⊥) → (name ≡ inspect → ⊥)
-    → ((name ≡ migrate) ⊎ (name ≡ renew)) × ((given : Text) × (new ≡ Some given))
-two_left named new name store (inl (first, e)) is no_demo no_crew no_format no_script no_inspect =
+    → (name ≡ format → ⊥) → (name ≡ script → ⊥) → (name ≡ inspect → ⊥) → (name ≡ renew → ⊥)
+    → (name ≡ migrate) × ((given : Text) × (new ≡ Some given))
+two_left named new name store (inl (first, e)) is no_demo no_crew no_format no_script no_inspect
+    no_renew =
     absurd (no_demo (ap name_in (sym is ∙ e)))
 two_left named new name store (inr (inl (first, e))) is no_demo no_crew no_format no_script
-    no_inspect =
+    no_inspect no_renew =
     absurd (no_crew (ap name_in (sym is ∙ e)))
 two_left named new name store (inr (inr (s, inl e))) is no_demo no_crew no_format no_script
-    no_inspect =
+    no_inspect no_renew =
     absurd (no_format (ap name_in (sym is ∙ e)))
 two_left named new name store (inr (inr (s, inr (inl e)))) is no_demo no_crew no_format
-    no_script no_inspect =
+    no_script no_inspect no_renew =
     absurd (no_script (ap name_in (sym is ∙ e)))
 two_left named new name store (inr (inr (s, inr (inr (inl e))))) is no_demo no_crew no_format
-    no_script no_inspect =
+    no_script no_inspect no_renew =
     absurd (no_inspect (ap name_in (sym is ∙ e)))
-two_left named new name store (inr (inr (s, inr (inr (inr (given, inl n)))))) is no_demo no_crew
-    no_format no_script no_inspect =
-    (inl (ap name_in (sym is ∙ n.0)), (given, n.1))
-two_left named new name store (inr (inr (s, inr (inr (inr (given, inr n)))))) is no_demo no_crew
-    no_format no_script no_inspect =
-    (inr (ap name_in (sym is ∙ n.0)), (given, n.1))
+two_left named new name store (inr (inr (s, inr (inr (inr (inl e)))))) is no_demo no_crew no_format
+    no_script no_inspect no_renew =
+    absurd (no_renew (ap name_in (sym is ∙ e)))
+two_left named new name store (inr (inr (s, inr (inr (inr (inr (given, n))))))) is no_demo no_crew
+    no_format no_script no_inspect no_renew =
+    (ap name_in (sym is ∙ n.0), (given, n.1))
 
 -- a new store is there
 pub new_is_there : (new : Option Text) (given : Text) → new ≡ Some given → new ≡ None → ⊥
@@ -305,55 +376,40 @@ new_is_there new given some none =
     let bad : Some given ≡ None = sym some ∙ none in
     cc
 
--- a migration or a renewal is what is named
-pub two_asked : (named : Named) (new : Option Text) (name store given : Text) (renewing : Bool)
+-- a migration is what is named
+pub two_asked : (named : Named) (new : Option Text) (name store given : Text)
     (entered : Option (Text × List Row)) (r : Result Asked WordsFault)
-    → (name ≡ migrate) ⊎ (name ≡ renew) → renewing ≡ bytes_eq name renew
-    → named ≡ Some (name, Some store) → new ≡ Some given
-    → IsForTwo renewing store given r → Asks named new entered r
-two_asked named new name store given renewing entered r which compared is fresh made =
-    go which r made
+    → name ≡ migrate → named ≡ Some (name, Some store) → new ≡ Some given
+    → IsForTwo false store given r → Asks named new entered r
+two_asked named new name store given entered r at is fresh made = go r made
   where
-    -- the name is compared with `renew`
-    no_renewal : name ≡ migrate → renewing ≡ true → ⊥
-    no_renewal at set =
-        let bad : true ≡ false = sym set ∙ compared ∙ ap (λ t. bytes_eq t renew) at in
-        cc
-
-    no_migration : name ≡ renew → renewing ≡ false → ⊥
-    no_migration at unset =
-        let bad : true ≡ false = sym (compared ∙ ap (λ t. bytes_eq t renew) at) ∙ unset in
-        cc
-
-    names : (command old new_one : Text) → name ≡ command → old ≡ store → new_one ≡ given
-        → NamesTwo command old new_one named new
-    names command old new_one at from to = (
+    names : (old new_one : Text) → old ≡ store → new_one ≡ given
+        → NamesTwo migrate old new_one named new
+    names old new_one from to = (
       is ∙ ap₂ (λ c t. Some (c, Some t)) at (sym from),
       fresh ∙ ap Some (sym to),
     )
 
-    go : (name ≡ migrate) ⊎ (name ≡ renew) → (r : Result Asked WordsFault)
-        → IsForTwo renewing store given r → Asks named new entered r
-    go which (Ok (Demo strict)) made = absurd made
-    go which (Ok (Format s b)) made = absurd made
-    go which (Ok (Script s b)) made = absurd made
-    go which (Ok (Inspect s view)) made = absurd made
-    go which (Ok (Crew s n b)) made = absurd made
-    go which (Ok (Help text)) made = absurd made
-    go (inl at) (Ok (Migrate o n)) made = (
-      names migrate o.now n.now at made.1 made.2,
+    go : (r : Result Asked WordsFault) → IsForTwo false store given r → Asks named new entered r
+    go (Ok (Demo strict)) made = absurd made
+    go (Ok (Format s b)) made = absurd made
+    go (Ok (Script s b t)) made = absurd made
+    go (Ok (Inspect s view)) made = absurd made
+    go (Ok (Crew s n b)) made = absurd made
+    go (Ok (Help text)) made = absurd made
+    go (Ok (Migrate o n)) made = (
+      names o.now n.now made.1 made.2,
       λ same. made.3 (sym made.1 ∙ (same ∙ made.2)),
     )
-    go (inr at) (Ok (Migrate o n)) made = absurd (no_migration at made.0)
-    go (inl at) (Ok (Renew o n)) made = absurd (no_renewal at made.0)
-    go (inr at) (Ok (Renew o n)) made = (
-      names renew o.now n.now at made.1 made.2,
-      λ same. made.3 (sym made.1 ∙ (same ∙ made.2)),
-    )
-    go (inl at) (Err SameStores) made = (store, inl (names migrate store store at refl made))
-    go (inr at) (Err SameStores) made = (store, inr (names renew store store at refl made))
-    go which (Err Workers) made = absurd made
-    go which (Err Views) made = absurd made
-    go which (Err (Mistake text)) made = absurd made
-    go which (Err NotText) made = absurd made
-    go which (Err Memory) made = absurd made
+    go (Ok (Renew o n)) made =
+        let bad : false ≡ true = made.0 in
+        cc
+    go (Ok (RenewInPlace o)) made = absurd made
+    go (Err SameStores) made = (store, inl (names store store refl made))
+    go (Err Workers) made = absurd made
+    go (Err Views) made = absurd made
+    go (Err Phase) made = absurd made
+    go (Err Place) made = absurd made
+    go (Err (Mistake text)) made = absurd made
+    go (Err NotText) made = absurd made
+    go (Err Memory) made = absurd made

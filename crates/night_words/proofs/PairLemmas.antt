@@ -1,17 +1,26 @@
--- The words behind `migrate` or `renew`: they name two stores, and the parser reads them.
-use Rattle.std.proofs.Common.{◌≡◌, ◌∙◌, ◌∷◌, ◌⊎◌, List, Some, None, [], ap, ap₂, inl, inr}
-use Rattle.std.proofs.Common.{false, refl, subst, sym}
-use Rattle.std.specs.Prelude.{codes}
-use Rattle.clap.specs.Faults.{check_fault, level_fault, step_fault}
-use Rattle.clap.specs.Faults.{turn_fault, walk_fault}
-use Rattle.clap.specs.Kinds.{or_else}
-use Rattle.clap.specs.Simple.{Shape}
-use Rattle.clap.specs.Walk.{Held, Step, Text, Walk, after_step, finished, first_of, idle}
-use Rattle.clap.specs.Walk.{nothing_held, subcommand_or_other, value, walk, walked}
+-- The words behind `migrate` or `renew`: they name two stores, and the parser reads them; or a flag
+-- stands there.
+use Rattle.std.proofs.Common.{◌≡◌, ◌∙◌, ◌∷◌, ◌++◌, ◌⊎◌, Bool, List, Option, Some, None, [], ap}
+use Rattle.std.proofs.Common.{false, inl, inr, refl, subst, sym, true}
+use Rattle.std.specs.Prelude.{◌||◌, codes, if◌then◌else◌, not}
+use Rattle.std.specs.List.{slice_index_or}
+use Rattle.std.specs.Option.{option_map_or}
+use Rattle.clap.specs.Faults.{check_fault, level_fault, settle_fault, step_fault, turn_fault}
+use Rattle.clap.specs.Simple.{Shape, built}
+use Rattle.clap.specs.Takes.{is_given}
+use Rattle.clap.specs.Walk.{Row, Text, Walk, arg_by_index, finished, first_of, nothing_held}
+use Rattle.clap.specs.Walk.{to_positional, used, value, walk, walked}
+use Rattle.clap.specs.declared.error.kind.ErrorKind.TheVariants as kind
 use Rattle.clap.proofs.OnLiterals.{clap_on_literals}
-use Rattle.night_words.proofs.LevelLemmas.{first_passes, rest_passes, start, words_pass}
-use Rattle.night_words.proofs.TurnLemmas.{first_none, mark, mark_or_value, migrate_is_strict}
-use Rattle.night_words.proofs.TurnLemmas.{migrate_shape as pair, renew_shape, second_none}
+use Rattle.night_words.specs.Commands.{is_true, night}
+use Rattle.night_words.proofs.FlagLemmas.{IsFormed, is_flag, is_help, is_place, place, stands}
+use Rattle.night_words.proofs.LevelLemmas.{end_passes, end_settles, start, walk_keeps, words_pass}
+use Rattle.night_words.proofs.RowLemmas.{IsFull, given_is_read}
+use Rattle.night_words.proofs.StoreLemmas.{stored}
+use Rattle.night_words.proofs.TurnLemmas.{above, held, mark}
+use Rattle.night_words.proofs.UsedLemmas.{Came, IsKept, IsQuiet, a_flag, a_mark, a_value, apart}
+use Rattle.night_words.proofs.UsedLemmas.{came, end_full, end_rows, end_told, keeps, kept_full}
+use Rattle.night_words.proofs.UsedLemmas.{not_told}
 
 -- the two commands
 pub data Pair : Type 0 where
@@ -24,309 +33,321 @@ migrate = codes "migrate"
 abbrev pub renew : Text
 renew = codes "renew"
 
-abbrev pub word_of : Pair → Text
-word_of migrates = migrate
-word_of renews = renew
-
 abbrev pub shape_of : Pair → Shape
-shape_of migrates = pair
-shape_of renews = renew_shape
+shape_of migrates = slice_index_or (built night).subs 4 above
+shape_of renews = slice_index_or (built night).subs 6 above
+
+formed : (c : Pair) → IsFormed (shape_of c)
+formed migrates = record {
+  once = refl;
+  forms = (
+    is_place (codes "STORE") 1 true refl,
+    (is_place (codes "NEW") 2 true refl, (is_help refl, tt)),
+  );
+}
+formed renews = record {
+  once = refl;
+  forms = (
+    is_place (codes "STORE") 1 true refl,
+    (
+      is_place (codes "NEW") 2 false refl,
+      (is_flag (codes "in-place") refl, (is_help refl, tt)),
+    ),
+  );
+}
+
+-- no flag of the command is there, by the words that were found
+abbrev pub IsUnset : Pair → (word : Text → Option Text) → Type 0
+IsUnset migrates word = Unit {0}
+IsUnset renews word = is_true (word (codes "in-place")) ≡ false
+
+quiet : (c : Pair) (rows : List Row) → IsUnset c (λ id. first_of id rows)
+    → IsQuiet (shape_of c) rows
+quiet migrates rows unset =
+    (λ named shown. cc, (λ named shown. cc, (λ named shown. cc, tt)))
+quiet renews rows unset = (
+  λ named shown. cc,
+  (λ named shown. cc, (λ named shown. apart _ unset shown, (λ named shown. cc, tt))),
+)
 
 -- ---- where the walk stands
 
--- behind the mark, behind one store, and behind two
-abbrev marked : Walk
-marked = walked pair.rules [] start mark
+-- the words name one store, before the mark or not
+abbrev IsOne : Bool → Text → List Text → Type 0
+IsOne false x seen = seen ≡ x ∷ []
+IsOne true x seen = (seen ≡ mark ∷ x ∷ []) ⊎ (seen ≡ x ∷ mark ∷ [])
 
-abbrev one : Text → Walk
-one x = after_step pair.rules x start nothing_held value
+-- they name two
+abbrev IsTwo : Bool → Text → Text → List Text → Type 0
+IsTwo false x y seen = seen ≡ x ∷ y ∷ []
+IsTwo true x y seen = (seen ≡ mark ∷ x ∷ y ∷ [])
+    ⊎ ((seen ≡ x ∷ mark ∷ y ∷ []) ⊎ (seen ≡ x ∷ y ∷ mark ∷ []))
 
-abbrev two : Text → Text → Walk
-two x y = after_step pair.rules y (one x) (one x).held value
+-- the row of a store that was read, and the new one whose place was met
+abbrev row_of : Text → List Row
+row_of x = used (place (codes "STORE") 1 true) (x ∷ []) []
 
--- behind one more word
-abbrev then : Walk → Text → Walk
-then w x = walked pair.rules [] w x
+abbrev new_stored : Text → Option (Text × List Text)
+new_stored y = Some (codes "NEW", y ∷ [])
 
--- ---- what is found
+-- where the walk stands behind these words
+data At (c : Pair) (seen : List Text) (w : Walk) : Type 0 where
+  begun : seen ≡ [] → w ≡ stands [] None 1 false → At c seen w
+  begun_behind : seen ≡ mark ∷ [] → w ≡ stands [] None 1 true → At c seen w
+  one : (x : Text) (t : Bool) → IsOne t x seen → w ≡ stands [] (stored x) 2 t → At c seen w
+  two : (x y : Text) (t : Bool) → IsTwo t x y seen
+      → w ≡ stands (row_of x) (new_stored y) 3 t → At c seen w
+  flagged : IsKept (shape_of c) (formed c) w → At c seen w
 
-abbrev pub PassesBoth : List Text → Type 0
-PassesBoth rest = level_fault pair [] nothing_held rest false [] ≡ []
+-- ---- one more word
 
--- behind the last word
-abbrev EndPasses : Walk → Type 0
-EndPasses w = check_fault pair (finished pair.rules w.held) false ≡ []
+-- no third store is taken
+stray : (c : Pair) (r : List Row) (p : Option (Text × List Text))
+    → step_fault (shape_of c) 3 (held r p) value ≡ [] → ⊥
+stray migrates r p none = cc
+stray renews r p none = cc
 
-end_passes : (rest : List Text) → PassesBoth rest
-    → EndPasses (walk pair.rules [] nothing_held rest)
-end_passes rest none =
-    second_none _ _ (second_none _ _ (second_none (walk_fault pair [] start rest) _ none))
+stray_behind : (c : Pair) (r : List Row) (p : Option (Text × List Text)) (word : Text)
+    → turn_fault (shape_of c) [] (stands r p 3 true) word ≡ [] → ⊥
+stray_behind migrates r p word none = cc
+stray_behind renews r p word none = cc
 
--- in all the words
-walks : (rest : List Text) → PassesBoth rest → walk_fault pair [] start rest ≡ []
-walks rest none = words_pass pair [] rest false [] none
+-- a first one is, and a second one
+takes_one : (c : Pair) (word : Text)
+    → to_positional (shape_of c).rules (arg_by_index (shape_of c).rules 1) word
+    (stands [] None 1 false) (held [] None) ≡ stands [] (stored word) 2 false
+takes_one migrates word = refl
+takes_one renews word = refl
 
--- both stores are wanted
-wants_both : PassesBoth [] → ⊥
-unfolding clap_on_literals
-wants_both none = cc
+takes_two : (c : Pair) (x word : Text)
+    → to_positional (shape_of c).rules (arg_by_index (shape_of c).rules 2) word
+    (stands [] (stored x) 2 false) (held [] (stored x))
+    ≡ stands (row_of x) (new_stored word) 3 false
+takes_two migrates x word = refl
+takes_two renews x word = refl
 
-no_store_is_enough : EndPasses marked → ⊥
-unfolding clap_on_literals
-no_store_is_enough none = cc
-
-one_is_not_enough : (x : Text) → EndPasses (one x) → ⊥
-unfolding clap_on_literals
-one_is_not_enough x none = cc
-
-one_behind_mark : (x : Text) → EndPasses (then marked x) → ⊥
-unfolding clap_on_literals
-one_behind_mark x none = cc
-
-one_before_mark : (x : Text) → EndPasses (then (one x) mark) → ⊥
-unfolding clap_on_literals
-one_before_mark x none = cc
-
--- a third store is one that nothing takes
-third_behind_mark : (x y z : Text) → turn_fault pair [] (then (then marked x) y) z ≡ [] → ⊥
+one_behind : (c : Pair) (word : Text)
+    → walked (shape_of c).rules [] (stands [] None 1 true) word ≡ stands [] (stored word) 2 true
 unfolding walked
-third_behind_mark x y z none = cc
+one_behind migrates word = refl
+one_behind renews word = refl
 
-third_behind_one : (x y z : Text) → turn_fault pair [] (then (then (one x) mark) y) z ≡ [] → ⊥
+two_behind : (c : Pair) (x word : Text)
+    → walked (shape_of c).rules [] (stands [] (stored x) 2 true) word
+    ≡ stands (row_of x) (new_stored word) 3 true
 unfolding walked
-third_behind_one x y z none = cc
+two_behind migrates x word = refl
+two_behind renews x word = refl
 
-third_behind_two : (x y z : Text) → turn_fault pair [] (then (two x y) mark) z ≡ [] → ⊥
-unfolding walked
-third_behind_two x y z none = cc
+module _ (c : Pair) (seen : List Text) (w : Walk) (word : Text) where
+  abbrev Next : Type 0
+  Next = At c (seen ++ word ∷ []) (walked (shape_of c).rules [] w word)
 
--- so nothing stands there
-nothing_follows : (w : Walk) → ((z : Text) → turn_fault pair [] w z ≡ [] → ⊥)
-    → (rest : List Text) → walk_fault pair [] w rest ≡ [] → rest ≡ []
-nothing_follows w stray [] none = refl
-nothing_follows w stray (z ∷ zs) none = absurd (stray z (first_passes pair [] w z zs none))
+  abbrev Turns : Walk → Type 0
+  Turns v = turn_fault (shape_of c) [] v word ≡ []
 
--- ---- what a word comes to
+  more : (l : List Text) → seen ≡ l → seen ++ word ∷ [] ≡ l ++ word ∷ []
+  more l is = ap (λ (m : List Text). m ++ word ∷ []) is
 
--- the first is the mark or a store
-first_word : (x : Text) → turn_fault pair [] start x ≡ [] → (x ≡ mark) ⊎ (then start x ≡ one x)
-unfolding walked
-first_word x none = go (mark_or_value pair migrate_is_strict 1 x [] None (first_none _ _ none))
-  where
-    go : (x ≡ mark)
-        ⊎ (subcommand_or_other pair.rules None idle 1 x nothing_held ≡ (nothing_held, value))
-        → (x ≡ mark) ⊎ (then start x ≡ one x)
-    go (inl is) = inl is
-    go (inr is) = inr (ap (λ (m : Held × Step). after_step pair.rules x start m.0 m.1) is)
+  -- where the word is the mark
+  marked : (l : List Text) → seen ≡ l → word ≡ mark → seen ++ word ∷ [] ≡ l ++ mark ∷ []
+  marked l is m = more l is ∙ ap (λ (t : Text). l ++ t ∷ []) m
 
--- that behind a store likewise
-second_word : (x y : Text) → turn_fault pair [] (one x) y ≡ []
-    → (y ≡ mark) ⊎ (then (one x) y ≡ two x y)
-unfolding walked
-second_word x y none = go (mark_or_value pair migrate_is_strict 2 y (one x).held.rows
-    (one x).held.pending (first_none _ _ none))
-  where
-    go : (y ≡ mark)
-        ⊎ (subcommand_or_other pair.rules None idle 2 y (one x).held ≡ ((one x).held, value))
-        → (y ≡ mark) ⊎ (then (one x) y ≡ two x y)
-    go (inl is) = inl is
-    go (inr is) = inr (ap (λ (m : Held × Step). after_step pair.rules y (one x) m.0 m.1) is)
+  -- where it stood is where it goes on
+  from : (u v : Walk) → w ≡ u → walked (shape_of c).rules [] u word ≡ v
+      → walked (shape_of c).rules [] w word ≡ v
+  from u v is at = ap (λ (x : Walk). walked (shape_of c).rules [] x word) is ∙ at
 
--- that behind two is the mark
-third_word : (x y z : Text) → turn_fault pair [] (two x y) z ≡ [] → z ≡ mark
-third_word x y z none = go (mark_or_value pair migrate_is_strict 3 z (two x y).held.rows
-    (two x y).held.pending (first_none _ _ none))
-  where
-    met : Held × Step
-    met = subcommand_or_other pair.rules None idle 3 z (two x y).held
+  from_begun : seen ≡ [] → Came (shape_of c) (formed c) [] None 1 w word → Next
+  from_begun es (a_mark m at) = begun_behind (marked [] es m) at
+  from_begun es (a_flag k) = flagged k
+  from_begun es (a_value fine at) = one word false (more [] es) (at ∙ takes_one c word)
 
-    go : (z ≡ mark) ⊎ (met ≡ ((two x y).held, value)) → z ≡ mark
-    go (inl is) = is
-    go (inr is) =
-        let bad : step_fault pair 3 (two x y).held value ≡ [] =
-        subst (λ (m : Held × Step). step_fault pair 3 m.0 m.1 ≡ []) is
-        (second_none _ _ none) in
-        cc
+  from_one : (x : Text) → seen ≡ x ∷ [] → Came (shape_of c) (formed c) [] (stored x) 2 w word
+      → Next
+  from_one x es (a_mark m at) = one x true (inr (marked (x ∷ []) es m)) at
+  from_one x es (a_flag k) = flagged k
+  from_one x es (a_value fine at) = two x word false (more (x ∷ []) es) (at ∙ takes_two c x word)
 
--- ---- what is read
+  behind_one : (x : Text) → IsOne true x seen → IsTwo true x word (seen ++ word ∷ [])
+  behind_one x (inl es) = inl (more (mark ∷ x ∷ []) es)
+  behind_one x (inr es) = inr (inl (more (x ∷ mark ∷ []) es))
 
--- the parser reads these two stores
-abbrev pub Reads : Walk → Text → Text → Type 0
-Reads w old new = (first_of (codes "STORE") (finished pair.rules w.held) ≡ Some old)
-    × (first_of (codes "NEW") (finished pair.rules w.held) ≡ Some new)
+  from_two : (x y : Text) → seen ≡ x ∷ y ∷ []
+      → Came (shape_of c) (formed c) (row_of x) (new_stored y) 3 w word → Next
+  from_two x y es (a_mark m at) = two x y true (inr (inr (marked (x ∷ y ∷ []) es m))) at
+  from_two x y es (a_flag k) = flagged k
+  from_two x y es (a_value fine at) = absurd (stray c (row_of x) (new_stored y) fine)
 
-reads_alone : (x y : Text) → Reads (two x y) x y
-unfolding clap_on_literals
-reads_alone x y = (refl, refl)
-
-reads_behind_mark : (x y : Text) → Reads (then (then marked x) y) x y
-unfolding clap_on_literals
-reads_behind_mark x y = (refl, refl)
-
-reads_around_mark : (x y : Text) → Reads (then (then (one x) mark) y) x y
-unfolding clap_on_literals
-reads_around_mark x y = (refl, refl)
-
-reads_before_mark : (x y : Text) → Reads (then (two x y) mark) x y
-unfolding clap_on_literals
-reads_before_mark x y = (refl, refl)
-
--- the words behind the command name these stores, and the parser reads them
-pub record BehindBoth (rest : List Text) : Type 0 where
-  pub store : Text
-  pub given : Text
-  pub words : (rest ≡ store ∷ given ∷ []) ⊎ ((rest ≡ mark ∷ store ∷ given ∷ [])
-      ⊎ ((rest ≡ store ∷ mark ∷ given ∷ []) ⊎ (rest ≡ store ∷ given ∷ mark ∷ [])))
-  pub read : Reads (walk pair.rules [] nothing_held rest) store given
-
-behind_mark : (x y : Text) → BehindBoth (mark ∷ x ∷ y ∷ [])
-behind_mark x y = record {
-  store = x;
-  given = y;
-  words = inr (inl refl);
-  read = reads_behind_mark x y;
-}
-
-around_mark : (x y : Text) → then start x ≡ one x → BehindBoth (x ∷ mark ∷ y ∷ [])
-around_mark x y is = record {
-  store = x;
-  given = y;
-  words = inr (inr (inl refl));
-  read = subst (λ w. Reads (then (then w mark) y) x y) (sym is) (reads_around_mark x y);
-}
-
--- two stores, one behind the other
-abbrev AreTwo : Text → Text → Type 0
-AreTwo x y = then (then start x) y ≡ two x y
-
-before_mark : (x y : Text) → AreTwo x y → BehindBoth (x ∷ y ∷ mark ∷ [])
-before_mark x y are = record {
-  store = x;
-  given = y;
-  words = inr (inr (inr refl));
-  read = subst (λ w. Reads (then w mark) x y) (sym are) (reads_before_mark x y);
-}
-
-alone : (x y : Text) → AreTwo x y → BehindBoth (x ∷ y ∷ [])
-alone x y are = record {
-  store = x;
-  given = y;
-  words = inl refl;
-  read = subst (λ w. Reads w x y) (sym are) (reads_alone x y);
-}
+  step : At c seen w → Turns w → Next
+  step (begun es ew) none =
+      from_begun es (came (shape_of c) (formed c) [] None 1 w word tt ew none)
+  step (begun_behind es ew) none =
+      one word true (inl (more (mark ∷ []) es)) (from _ _ ew (one_behind c word))
+  step (one x false es ew) none =
+      from_one x es (came (shape_of c) (formed c) [] (stored x) 2 w word tt ew none)
+  step (one x true es ew) none =
+      two x word true (behind_one x es) (from _ _ ew (two_behind c x word))
+  step (two x y false es ew) none = from_two x y es
+      (came (shape_of c) (formed c) (row_of x) (new_stored y) 3 w word ((x, ([], refl)), tt) ew
+      none)
+  step (two x y true es ew) none =
+      absurd (stray_behind c (row_of x) (new_stored y) word (subst Turns ew none))
+  step (flagged k) none = flagged (keeps (shape_of c) (formed c) w word k none)
 
 -- ---- all the words behind the command
 
--- one word
-not_one : (x : Text) → PassesBoth (x ∷ []) → ⊥
-not_one x none = go (first_word x (first_passes pair [] start x [] (walks (x ∷ []) none)))
-  where
-    ends : EndPasses (then start x)
-    ends = end_passes (x ∷ []) none
+-- the rows at the end
+abbrev pub read_by : Pair → Walk → List Row
+read_by c w = finished (shape_of c).rules w.held
 
-    go : (x ≡ mark) ⊎ (then start x ≡ one x) → ⊥
-    go (inl is) = no_store_is_enough (subst (λ t. EndPasses (then start t)) is ends)
-    go (inr is) = one_is_not_enough x (subst EndPasses is ends)
+abbrev EndPasses : Pair → Walk → Type 0
+EndPasses c w = check_fault (shape_of c) (read_by c w) false ≡ []
 
--- two words
-only_two : (x y : Text) → PassesBoth (x ∷ y ∷ []) → BehindBoth (x ∷ y ∷ [])
-only_two x y none =
-    first (first_word x (first_passes pair [] start x (y ∷ []) (walks (x ∷ y ∷ []) none)))
-  where
-    Turn : Walk → Type 0
-    Turn w = turn_fault pair [] w y ≡ []
+abbrev EndSettles : Pair → Walk → Type 0
+EndSettles c w = settle_fault (shape_of c).rules (shape_of c).args_override_self w.held ≡ []
 
-    turn : Turn (then start x)
-    turn = first_passes pair [] (then start x) y []
-        (rest_passes pair [] start x (y ∷ []) (walks (x ∷ y ∷ []) none))
+-- the words name these two stores alone
+abbrev pub NamesBoth : (store given : Text) → List Text → Type 0
+NamesBoth store given rest = (rest ≡ store ∷ given ∷ [])
+    ⊎ ((rest ≡ mark ∷ store ∷ given ∷ [])
+    ⊎ ((rest ≡ store ∷ mark ∷ given ∷ []) ⊎ (rest ≡ store ∷ given ∷ mark ∷ [])))
 
-    ends : EndPasses (then (then start x) y)
-    ends = end_passes (x ∷ y ∷ []) none
+-- the parser read a store, and where it read a new one, too, and no flag, the words name the two
+pub record Behind (c : Pair) (rest : List Text) (w : Walk) : Type 0 where
+  pub store : Text
+  pub read : first_of (codes "STORE") (read_by c w) ≡ Some store
+  pub full : IsFull (read_by c w)
+  pub both : (given : Text) → first_of (codes "NEW") (read_by c w) ≡ Some given
+      → IsUnset c (λ id. first_of id (read_by c w)) → NamesBoth store given rest
 
-    second : then start x ≡ one x → (y ≡ mark) ⊎ (then (one x) y ≡ two x y)
-        → BehindBoth (x ∷ y ∷ [])
-    second is (inl m) = absurd (one_before_mark x
-        (subst (λ t. EndPasses (then (one x) t)) m (subst (λ w. EndPasses (then w y)) is ends)))
-    second is (inr at) = alone x y (ap (λ w. then w y) is ∙ at)
+-- a store is wanted, and of `migrate` a new one
+abbrev Lacks : (a b : Bool) → Type 0
+Lacks a b = (if a || b then kind.MissingRequiredArgument ∷ [] else []) ≡ []
 
-    first : (x ≡ mark) ⊎ (then start x ≡ one x) → BehindBoth (x ∷ y ∷ [])
-    first (inl is) =
-        absurd (one_behind_mark y (subst (λ t. EndPasses (then (then start t) y)) is ends))
-    first (inr is) = second is (second_word x y (subst Turn is turn))
+one_given : (b : Bool) → Lacks (not b) false → b ≡ true
+one_given true none = refl
+one_given false none = cc
 
--- three words or more
-more_words : (x y z : Text) (rest : List Text) → PassesBoth (x ∷ y ∷ z ∷ rest)
-    → BehindBoth (x ∷ y ∷ z ∷ rest)
-more_words x y z rest none = first (first_word x
-    (first_passes pair [] start x (y ∷ z ∷ rest) (walks (x ∷ y ∷ z ∷ rest) none)))
-  where
-    From : Walk → Text → Type 0
-    From w t = walk_fault pair [] w (t ∷ z ∷ rest) ≡ []
+both_given : (a b : Bool) → Lacks (not a) (not b || false) → (a ≡ true) × (b ≡ true)
+both_given true true none = (refl, refl)
+both_given true false none = cc
+both_given false b none = cc
 
-    from : From (then start x) y
-    from = rest_passes pair [] start x (y ∷ z ∷ rest) (walks (x ∷ y ∷ z ∷ rest) none)
+-- so one is read
+store_is_read : (c : Pair) (rows : List Row) → IsFull rows
+    → check_fault (shape_of c) rows false ≡ []
+    → (x : Text) × (first_of (codes "STORE") rows ≡ Some x)
+store_is_read migrates rows full none = given_is_read (codes "STORE") rows full
+    (both_given (is_given (codes "STORE") rows) (is_given (codes "NEW") rows) none).0
+store_is_read renews rows full none =
+    given_is_read (codes "STORE") rows full (one_given (is_given (codes "STORE") rows) none)
 
-    -- behind the third word
-    last : (w : Walk) (t : Text) → From w t → walk_fault pair [] (then (then w t) z) rest ≡ []
-    last w t fine = rest_passes pair [] (then w t) z rest (rest_passes pair [] w t (z ∷ rest) fine)
+-- and a new one behind `migrate`
+new_is_read : (rows : List Row) → IsFull rows → check_fault (shape_of migrates) rows false ≡ []
+    → (x : Text) × (first_of (codes "NEW") rows ≡ Some x)
+new_is_read rows full none = given_is_read (codes "NEW") rows full
+    (both_given (is_given (codes "STORE") rows) (is_given (codes "NEW") rows) none).1
 
-    third : (w : Walk) (t : Text) → From w t → turn_fault pair [] (then w t) z ≡ []
-    third w t fine =
-        first_passes pair [] (then w t) z rest (rest_passes pair [] w t (z ∷ rest) fine)
+-- no words name a store
+wants_store : (c : Pair) (t : Bool) → EndPasses c (stands [] None 1 t) → ⊥
+unfolding clap_on_literals
+wants_store migrates t none = cc
+wants_store renews t none = cc
 
-    Last : Walk → Text → Type 0
-    Last w t = walk_fault pair [] (then w t) rest ≡ []
+-- what is read where it stands
+reads_one : (c : Pair) (x : Text) (t : Bool)
+    → (first_of (codes "STORE") (read_by c (stands [] (stored x) 2 t)) ≡ Some x)
+    × (first_of (codes "NEW") (read_by c (stands [] (stored x) 2 t)) ≡ None)
+reads_one migrates x t = (refl, refl)
+reads_one renews x t = (refl, refl)
 
-    stores : then start x ≡ one x → then (one x) y ≡ two x y → BehindBoth (x ∷ y ∷ z ∷ rest)
-    stores is at =
-        let here = subst (λ w. From w y) is from in
-        let m = third_word x y z (subst (λ w. turn_fault pair [] w z ≡ []) at
-        (third (one x) y here)) in
-        let end = subst (λ t. Last (two x y) t) m
-        (subst (λ w. Last w z) at (last (one x) y here)) in
-        let none_left = nothing_follows (then (two x y) mark) (third_behind_two x y) rest end in
-        subst BehindBoth (sym (ap₂ (λ t r. x ∷ y ∷ t ∷ r) m none_left))
-        (before_mark x y (ap (λ w. then w y) is ∙ at))
+reads_two : (c : Pair) (x y : Text) (t : Bool)
+    → (first_of (codes "STORE") (read_by c (stands (row_of x) (new_stored y) 3 t)) ≡ Some x)
+    × (first_of (codes "NEW") (read_by c (stands (row_of x) (new_stored y) 3 t)) ≡ Some y)
+reads_two migrates x y t = (refl, refl)
+reads_two renews x y t = (refl, refl)
 
-    second : then start x ≡ one x → (y ≡ mark) ⊎ (then (one x) y ≡ two x y)
-        → BehindBoth (x ∷ y ∷ z ∷ rest)
-    second is (inl m) =
-        let here = subst (λ t. From (one x) t) m (subst (λ w. From w y) is from) in
-        let none_left = nothing_follows (then (then (one x) mark) z) (third_behind_one x z) rest
-        (last (one x) mark here) in
-        subst BehindBoth (sym (ap₂ (λ t r. x ∷ t ∷ z ∷ r) m none_left)) (around_mark x z is)
-    second is (inr at) = stores is at
+names_two : (x y : Text) (t : Bool) (rest : List Text) → IsTwo t x y rest → NamesBoth x y rest
+names_two x y false rest es = inl es
+names_two x y true rest es = inr es
 
-    first : (x ≡ mark) ⊎ (then start x ≡ one x) → BehindBoth (x ∷ y ∷ z ∷ rest)
-    first (inl is) =
-        let here = subst (λ t. From (then start t) y) is from in
-        let none_left = nothing_follows (then (then marked y) z) (third_behind_mark y z) rest
-        (last marked y here) in
-        subst BehindBoth (sym (ap₂ (λ t r. t ∷ y ∷ z ∷ r) is none_left)) (behind_mark y z)
-    first (inr is) = second is (second_word x y
-        (first_passes pair [] (one x) y (z ∷ rest) (subst (λ w. From w y) is from)))
+abbrev word_at : Pair → Text → Walk → Option Text
+word_at c id w = first_of id (read_by c w)
 
-both_passed : (rest : List Text) → PassesBoth rest → BehindBoth rest
-both_passed [] none = absurd (wants_both none)
-both_passed (x ∷ []) none = absurd (not_one x none)
-both_passed (x ∷ y ∷ []) none = only_two x y none
-both_passed (x ∷ y ∷ z ∷ rest) none = more_words x y z rest none
+module _ (c : Pair) (rest : List Text) (w : Walk) where
+  one_read : (x : Text) (t : Bool) → w ≡ stands [] (stored x) 2 t → EndSettles c w
+      → Behind c rest w
+  one_read x t ew fine = record {
+    store = x;
+    read = ap (word_at c (codes "STORE")) ew ∙ (reads_one c x t).0;
+    full = end_full (shape_of c) (formed c) [] (stored x) w tt (ap (λ (v : Walk). v.held) ew) fine;
+    both = λ given new unset.
+        let bad : Some given ≡ None =
+        sym new ∙ ap (word_at c (codes "NEW")) ew ∙ (reads_one c x t).1 in
+        cc;
+  }
 
--- the name of a command isn't read behind it
-walked_alike : (w : Walk) (rest : List Text)
-    → walk_fault renew_shape [] w rest ≡ walk_fault pair [] w rest
-unfolding walk_fault
-walked_alike w [] = refl
-walked_alike w (x ∷ rest) =
-    ap (λ k. or_else (turn_fault pair [] w x) k) (walked_alike (then w x) rest)
+  two_read : (x y : Text) (t : Bool) → IsTwo t x y rest
+      → w ≡ stands (row_of x) (new_stored y) 3 t → EndSettles c w → Behind c rest w
+  two_read x y t es ew fine = record {
+    store = x;
+    read = ap (word_at c (codes "STORE")) ew ∙ (reads_two c x y t).0;
+    full = end_full (shape_of c) (formed c) (row_of x) (new_stored y) w ((x, ([], refl)), tt)
+        (ap (λ (v : Walk). v.held) ew) fine;
+    both = λ given new unset.
+        let same : Some y ≡ Some given =
+        sym (reads_two c x y t).1 ∙ sym (ap (word_at c (codes "NEW")) ew) ∙ new in
+        let text : Option Text → Text = λ o. option_map_or (λ (u : Text). u) o [] in
+        subst (λ (g : Text). NamesBoth x g rest) (ap text same) (names_two x y t rest es);
+  }
 
-passed_alike : (p : Pair) (rest : List Text)
-    → level_fault (shape_of p) [] nothing_held rest false [] ≡ [] → PassesBoth rest
-passed_alike migrates rest none = none
-passed_alike renews rest none =
-    let below = second_none (walk_fault renew_shape [] start rest) _ none in
-    ap₂ or_else (sym (walked_alike start rest) ∙ first_none _ _ none) below
+  ends : At c rest w → EndPasses c w → EndSettles c w → Behind c rest w
+  ends (begun es ew) none fine = absurd (wants_store c false (subst (EndPasses c) ew none))
+  ends (begun_behind es ew) none fine =
+      absurd (wants_store c true (subst (EndPasses c) ew none))
+  ends (one x t es ew) none fine = one_read x t ew fine
+  ends (two x y t es ew) none fine = two_read x y t es ew fine
+  ends (flagged k) none fine =
+      let rows = end_rows (shape_of c) (formed c) w in
+      let full = kept_full (shape_of c) (formed c) w k fine in
+      let read = store_is_read c rows full none in
+      record {
+        store = read.0;
+        read = read.1;
+        full = full;
+        both = λ given new unset. absurd (not_told (shape_of c) rows (quiet c rows unset)
+            (end_told (shape_of c) (formed c) w k fine));
+      }
 
-pub behind_both : (p : Pair) (rest : List Text)
-    → level_fault (shape_of p) [] nothing_held rest false [] ≡ [] → BehindBoth rest
-behind_both p rest none = both_passed rest (passed_alike p rest none)
+pub behind_both : (c : Pair) (rest : List Text)
+    → level_fault (shape_of c) [] nothing_held rest false [] ≡ []
+    → Behind c rest (walk (shape_of c).rules [] nothing_held rest)
+behind_both c rest none = ends c rest (walk (shape_of c).rules [] nothing_held rest)
+    (walk_keeps (shape_of c) (At c) (step c) [] rest start (begun refl refl)
+    (words_pass (shape_of c) [] rest false [] none))
+    (end_passes (shape_of c) rest none)
+    (end_settles (shape_of c) rest none)
+
+-- behind `migrate` the words name two, whatever they are
+pub record BehindBoth (rest : List Text) : Type 0 where
+  pub store : Text
+  pub given : Text
+  pub words : NamesBoth store given rest
+  pub read : first_of (codes "STORE") (read_by migrates
+      (walk (shape_of migrates).rules [] nothing_held rest)) ≡ Some store
+  pub new : first_of (codes "NEW") (read_by migrates
+      (walk (shape_of migrates).rules [] nothing_held rest)) ≡ Some given
+
+pub behind_migrate : (rest : List Text)
+    → level_fault (shape_of migrates) [] nothing_held rest false [] ≡ [] → BehindBoth rest
+behind_migrate rest none =
+    let b = behind_both migrates rest none in
+    let new = new_is_read _ b.full (end_passes (shape_of migrates) rest none) in
+    record {
+      store = b.store;
+      given = new.0;
+      words = b.both new.0 new.1 tt;
+      read = b.read;
+      new = new.1;
+    }

@@ -3,42 +3,41 @@ use Rattle.std.proofs.Common.{◌≡◌, ◌∙◌, ◌∷◌, ◌++◌, ◌⊎�
 use Rattle.std.proofs.Common.{ap₂, append-nil, append_assoc, cond, false, inl, inr, refl, subst}
 use Rattle.std.proofs.Common.{sym}
 use Rattle.std.proofs.Common.{true}
-use Rattle.std.specs.Prelude.{◌||◌, codes, fold, option_map}
+use Rattle.std.specs.Prelude.{◌||◌, codes, fold, is_some, option_map}
 use Rattle.std.specs.Prelude.{Ok, Err}
 use Rattle.std.specs.Option.{option_map_or}
 use Rattle.std.specs.Str.{bytes_eq}
 use Rattle.std.proofs.lemmas.Slice.Eq.{bytes_eq-Decides}
 use Rattle.clap.specs.Kinds.{Kinds, or_else}
-use Rattle.clap.specs.Simple.{Shape, built, entered, names_of, subcommand_of}
+use Rattle.clap.specs.Simple.{Shape, built, entered, names_of, rows_at, subcommand_of}
 use Rattle.clap.specs.Faults.{built_fault, entered_fault, other_fault}
 use Rattle.clap.specs.Faults.{step_fault, turn_fault}
 use Rattle.clap.specs.Walk.{Held, Names, Row, Step, Text, Walk}
-use Rattle.clap.specs.Walk.{idle}
+use Rattle.clap.specs.Walk.{first_of, idle}
 use Rattle.clap.specs.Walk.{nothing_held, subcommand_or_other, value, walk, walked}
 use Rattle.clap.specs.Walk.{walked_from}
 use Rattle.clap.proofs.OnLiterals.{clap_on_literals}
-use Rattle.night_words.specs.Commands.{night, Asks, AsksAlone, AsksFor, AsksForDemo}
-use Rattle.night_words.specs.Commands.{AsksForFormat, AsksForInspect, AsksForScript, AsksOver}
-use Rattle.night_words.specs.Commands.{AsksForTwo, NamesInspect, NamesTwo, view_in, view_of}
-use Rattle.night_words.specs.Commands.{IsCausedBy, IsNamed, Named, NamesCrew, NamesDemo, NamesStore}
-use Rattle.night_words.specs.Commands.{command_in, faults_of, has_flag, named_in, new_in, word_in}
+use Rattle.night_words.specs.Commands.{night, Asks, AsksAlone, AsksFor, AsksForDemo, AsksForTwo}
+use Rattle.night_words.specs.Commands.{AsksOver, IsCausedBy, IsNamed, Named, NamesCrew, NamesDemo}
+use Rattle.night_words.specs.Commands.{NamesFormat, NamesInspect, NamesRenewal, NamesScript}
+use Rattle.night_words.specs.Commands.{NamesTwo, command_in, faults_of, has_flag, is_true}
+use Rattle.night_words.specs.Commands.{named_in, new_in, word_in}
 use Rattle.night_words.specs.declared.asked.Asked.{Asked}
 use Rattle.night_words.specs.declared.asked.Asked.TheVariants.{Demo, Format, Script, Inspect, Help}
-use Rattle.night_words.specs.declared.asked.Asked.TheVariants.{Crew, Migrate, Renew}
-use Rattle.night_words.specs.declared.asked.View.TheVariants.{Whole}
+use Rattle.night_words.specs.declared.asked.Asked.TheVariants.{Crew, Migrate, Renew, RenewInPlace}
 use Rattle.night_words.specs.declared.asked.WordsFault.{WordsFault}
 use Rattle.night_words.specs.declared.asked.WordsFault.TheVariants.{Memory, Mistake, NotText}
-use Rattle.night_words.specs.declared.asked.WordsFault.TheVariants.{SameStores, Views, Workers}
+use Rattle.night_words.specs.declared.asked.WordsFault.TheVariants.{Phase, Place, SameStores}
+use Rattle.night_words.specs.declared.asked.WordsFault.TheVariants.{Views, Workers}
 use Rattle.night_words.proofs.DemoLemmas.{demo_alone}
 use Rattle.night_words.proofs.LevelLemmas.{first_passes, lower_passes, rest_passes, start}
 use Rattle.night_words.proofs.LevelLemmas.{words_pass}
-use Rattle.night_words.proofs.PairLemmas.{Pair, behind_both, migrate, migrates, renew, renews}
-use Rattle.night_words.proofs.PairLemmas.{word_of}
-use Rattle.night_words.proofs.StoreLemmas.{NamesAlone, behind_store, formats}
-use Rattle.night_words.proofs.StoreLemmas.{names_alone, scripts}
+use Rattle.night_words.proofs.PairLemmas.{behind_both, behind_migrate, migrate, renew, renews}
+use Rattle.night_words.proofs.StoreLemmas.{Command, IsUnset, NamesAlone, Passes, behind_store}
+use Rattle.night_words.proofs.StoreLemmas.{formats, inspects, names_alone, scripts, shape, word_of}
 use Rattle.night_words.proofs.TurnLemmas.{above, above_is_strict, first_none, mark}
 use Rattle.night_words.proofs.TurnLemmas.{mark_or_value, second_none}
-use Rattle.night_words.proofs.ViewLemmas.{Flag, behind_view, json, name_of, tasks, view_alone}
+use Rattle.night_words.proofs.ViewLemmas.{asks_alike}
 
 -- the names that the parser knows
 abbrev names : Names
@@ -173,23 +172,22 @@ new_at name command rest met = ap (λ o. new_in (entered (built night) o)) met
 
 -- ---- all of the words
 
--- the words without their flag ask for this
-abbrev Without : Text → List Text → Type 0 → Type 0
-Without id words asks = has_flag id (subcommand_of night words) ≡ false → asks
+-- a word that the parser found behind the command that it entered
+abbrev found_by : List Text → Text → Option Text
+found_by words id = word_in id (subcommand_of night words)
 
 -- what words ask for in which nothing is found, and what the parser names then
 pub data IsTaken (words : List Text) (named : Named) (new : Option Text) : Type 0 where
   takes_demo : (first : Option Text) → named ≡ Some (demo, first)
-      → Without (codes "strict") words (AsksAlone demo words) → IsTaken words named new
-  takes_format : (store : Text) → named ≡ Some (format, Some store)
-      → Without (codes "new") words (AsksOver format store words) → IsTaken words named new
-  takes_script : (store : Text) → named ≡ Some (script, Some store)
-      → Without (codes "strict") words (AsksOver script store words) → IsTaken words named new
-  takes_inspect : (store : Text) → named ≡ Some (inspect, Some store)
-      → (((f : Flag) → has_flag (name_of f) (subcommand_of night words) ≡ false)
-      → AsksOver inspect store words) → IsTaken words named new
-  takes_two : (p : Pair) (store given : Text) → AsksForTwo (word_of p) store given words
-      → NamesTwo (word_of p) store given named new → IsTaken words named new
+      → (is_true (found_by words (codes "strict")) ≡ false → AsksAlone demo words)
+      → IsTaken words named new
+  takes_store : (c : Command) (store : Text) → named ≡ Some (word_of c, Some store)
+      → (IsUnset c (found_by words) → AsksOver (word_of c) store words) → IsTaken words named new
+  takes_migrate : (store given : Text) → AsksForTwo migrate store given words
+      → NamesTwo migrate store given named new → IsTaken words named new
+  takes_renew : (store : Text) → named ≡ Some (renew, Some store)
+      → ((given : Text) → new ≡ Some given → is_true (found_by words (codes "in-place")) ≡ false
+      → AsksForTwo renew store given words) → IsTaken words named new
   takes_crew : (first : Option Text) → named ≡ Some (crew, first) → IsTaken words named new
 
 abbrev named_of : List Text → Named
@@ -204,12 +202,12 @@ Taken words = IsTaken words (named_of words) (new_of words)
 abbrev Finds : List Text → Type 0
 Finds words = built_fault (built night) nothing_held words ≡ []
 
--- whether the words have a flag where the walk stops there
-flag_at : (id name command : Text) (rest : List Text)
+-- which word was found where the walk stops there
+found_at : (id name command : Text) (rest : List Text)
     → stop (command ∷ rest) ≡ Some (command, rest)
-    → has_flag id (subcommand_of night (name ∷ command ∷ rest))
-    ≡ has_flag id (entered (built night) (Some (command, rest)))
-flag_at id name command rest met = ap (λ o. has_flag id (entered (built night) o)) met
+    → found_by (name ∷ command ∷ rest) id
+    ≡ word_in id (entered (built night) (Some (command, rest)))
+found_at id name command rest met = ap (λ o. word_in id (entered (built night) o)) met
 
 asks_demo : (name : Text) (rest : List Text) → (rest ≡ []) ⊎ (rest ≡ mark ∷ [])
     → AsksAlone demo (name ∷ demo ∷ rest)
@@ -223,7 +221,7 @@ demo_taken name rest none =
     let met = keeps_words demo [] rest (walked above.rules names start demo) refl in
     takes_demo _ (named_at name demo rest met)
     (λ unset. asks_demo name rest (demo_alone rest (below_passes demo rest met none)
-    (sym (flag_at (codes "strict") name demo rest met) ∙ unset)))
+    (ap is_true (sym (found_at (codes "strict") name demo rest met)) ∙ unset)))
 
 -- the words behind a command that name a store ask for it
 asks_over : (name command store : Text) (rest : List Text)
@@ -235,35 +233,53 @@ asks_over name command store rest (inr (inl e)) =
 asks_over name command store rest (inr (inr e)) =
     (name, inr (inr (ap (λ r. name ∷ command ∷ r) e)))
 
-format_taken : (name : Text) (rest : List Text) → Finds (format ∷ rest)
-    → Taken (name ∷ format ∷ rest)
-unfolding walked
-format_taken name rest none =
-    let met = keeps_words format [] rest (walked above.rules names start format) refl in
-    let b = behind_store formats rest (below_passes format rest met none) in
-    takes_format b.store (named_at name format rest met ∙ ap (λ s. Some (format, s)) b.read)
-    (λ unset. asks_over name format b.store rest
-    (b.alone (sym (flag_at (codes "new") name format rest met) ∙ unset)))
+-- no flag is there, by what the parser found behind the command
+unset_alike : (c : Command) (a b : Text → Option Text) → ((id : Text) → a id ≡ b id)
+    → IsUnset c a → IsUnset c b
+unset_alike formats a b same u = ap is_true (sym (same (codes "new"))) ∙ u
+unset_alike scripts a b same u = (
+  ap is_true (sym (same (codes "strict"))) ∙ u.0,
+  ap is_true (sym (same (codes "now"))) ∙ u.1,
+)
+unset_alike inspects a b same u = (
+  asks_alike b a (λ id. sym (same id)) ∙ u.0,
+  ap is_true (sym (same (codes "json"))) ∙ u.1,
+  ap is_true (sym (same (codes "tree"))) ∙ u.2,
+)
 
-script_taken : (name : Text) (rest : List Text) → Finds (script ∷ rest)
-    → Taken (name ∷ script ∷ rest)
+-- where the walk meets a command over a store, and what the parser enters there
+meets : (c : Command) (rest : List Text) → stop (word_of c ∷ rest) ≡ Some (word_of c, rest)
 unfolding walked
-script_taken name rest none =
-    let met = keeps_words script [] rest (walked above.rules names start script) refl in
-    let b = behind_store scripts rest (below_passes script rest met none) in
-    takes_script b.store (named_at name script rest met ∙ ap (λ s. Some (script, s)) b.read)
-    (λ unset. asks_over name script b.store rest
-    (b.alone (sym (flag_at (codes "strict") name script rest met) ∙ unset)))
+meets formats rest = keeps_words format [] rest (walked above.rules names start format) refl
+meets scripts rest = keeps_words script [] rest (walked above.rules names start script) refl
+meets inspects rest = keeps_words inspect [] rest (walked above.rules names start inspect) refl
 
-inspect_taken : (name : Text) (rest : List Text) → Finds (inspect ∷ rest)
-    → Taken (name ∷ inspect ∷ rest)
-unfolding walked
-inspect_taken name rest none =
-    let met = keeps_words inspect [] rest (walked above.rules names start inspect) refl in
-    let b = behind_view rest (below_passes inspect rest met none) in
-    takes_inspect b.store (named_at name inspect rest met ∙ ap (λ s. Some (inspect, s)) b.read)
-    (λ unset. asks_over name inspect b.store rest
-    (b.alone (λ f. sym (flag_at (name_of f) name inspect rest met) ∙ unset f)))
+enters : (c : Command) (rest : List Text) → entered (built night) (Some (word_of c, rest))
+    ≡ Some (word_of c, (rows_at (shape c) rest).1)
+enters formats rest = refl
+enters scripts rest = refl
+enters inspects rest = refl
+
+passes : (c : Command) (rest : List Text) → Finds (word_of c ∷ rest) → Passes c rest
+passes formats rest none = below_passes format rest (meets formats rest) none
+passes scripts rest none = below_passes script rest (meets scripts rest) none
+passes inspects rest none = below_passes inspect rest (meets inspects rest) none
+
+found_below : (c : Command) (name : Text) (rest : List Text) (id : Text)
+    → found_by (name ∷ word_of c ∷ rest) id ≡ first_of id (rows_at (shape c) rest).1
+found_below c name rest id =
+    found_at id name (word_of c) rest (meets c rest) ∙ ap (word_in id) (enters c rest)
+
+store_taken : (c : Command) (name : Text) (rest : List Text) → Finds (word_of c ∷ rest)
+    → Taken (name ∷ word_of c ∷ rest)
+store_taken c name rest none =
+    let b = behind_store c rest (passes c rest none) in
+    takes_store c b.store
+    (named_at name (word_of c) rest (meets c rest) ∙ ap named_in (enters c rest)
+    ∙ ap (λ s. Some (word_of c, s)) b.read)
+    (λ unset. asks_over name (word_of c) b.store rest (b.alone (unset_alike c
+    (found_by (name ∷ word_of c ∷ rest)) (λ id. first_of id (rows_at (shape c) rest).1)
+    (found_below c name rest) unset)))
 
 -- so do those that name two
 asks_both : (name command store given : Text) (rest : List Text)
@@ -283,10 +299,10 @@ migrate_taken : (name : Text) (rest : List Text) → Finds (migrate ∷ rest)
 unfolding walked
 migrate_taken name rest none =
     let met = keeps_words migrate [] rest (walked above.rules names start migrate) refl in
-    let b = behind_both migrates rest (below_passes migrate rest met none) in
-    takes_two migrates b.store b.given (asks_both name migrate b.store b.given rest b.words) (
-      named_at name migrate rest met ∙ ap (λ s. Some (migrate, s)) b.read.0,
-      new_at name migrate rest met ∙ b.read.1,
+    let b = behind_migrate rest (below_passes migrate rest met none) in
+    takes_migrate b.store b.given (asks_both name migrate b.store b.given rest b.words) (
+      named_at name migrate rest met ∙ ap (λ s. Some (migrate, s)) b.read,
+      new_at name migrate rest met ∙ b.new,
     )
 
 renew_taken : (name : Text) (rest : List Text) → Finds (renew ∷ rest)
@@ -295,10 +311,10 @@ unfolding walked
 renew_taken name rest none =
     let met = keeps_words renew [] rest (walked above.rules names start renew) refl in
     let b = behind_both renews rest (below_passes renew rest met none) in
-    takes_two renews b.store b.given (asks_both name renew b.store b.given rest b.words) (
-      named_at name renew rest met ∙ ap (λ s. Some (renew, s)) b.read.0,
-      new_at name renew rest met ∙ b.read.1,
-    )
+    takes_renew b.store (named_at name renew rest met ∙ ap (λ s. Some (renew, s)) b.read)
+    (λ given new unset. asks_both name renew b.store given rest
+    (b.both given (sym (new_at name renew rest met) ∙ new)
+    (ap is_true (sym (found_at (codes "in-place") name renew rest met)) ∙ unset)))
 
 -- behind `crew` the parser may have read a store
 crew_taken : (name : Text) (rest : List Text) → Taken (name ∷ crew ∷ rest)
@@ -346,9 +362,9 @@ taken (name ∷ word ∷ rest) none = go (first_word word (first_passes above na
 
     go : IsFirst word → Takes word
     go (inl is) = at demo is (demo_taken name rest)
-    go (inr (inl is)) = at format is (format_taken name rest)
-    go (inr (inr (inl is))) = at script is (script_taken name rest)
-    go (inr (inr (inr (inl is)))) = at inspect is (inspect_taken name rest)
+    go (inr (inl is)) = at format is (store_taken formats name rest)
+    go (inr (inr (inl is))) = at script is (store_taken scripts name rest)
+    go (inr (inr (inr (inl is)))) = at inspect is (store_taken inspects name rest)
     go (inr (inr (inr (inr (inl is))))) = at migrate is (migrate_taken name rest)
     go (inr (inr (inr (inr (inr (inl is)))))) = at crew is (λ finds. crew_taken name rest)
     go (inr (inr (inr (inr (inr (inr (inl is))))))) = at renew is (renew_taken name rest)
@@ -361,13 +377,14 @@ taken (name ∷ word ∷ rest) none = go (first_word word (first_passes above na
 pub taken_is_named : (words : List Text) (named : Named) (new : Option Text)
     → IsTaken words named new → IsNamed named new
 taken_is_named words named new (takes_demo first e a) = inl (first, e)
-taken_is_named words named new (takes_format store e a) = inr (inr (store, inl e))
-taken_is_named words named new (takes_script store e a) = inr (inr (store, inr (inl e)))
-taken_is_named words named new (takes_inspect store e a) = inr (inr (store, inr (inr (inl e))))
-taken_is_named words named new (takes_two migrates store given a n) =
-    inr (inr (store, inr (inr (inr (given, inl n)))))
-taken_is_named words named new (takes_two renews store given a n) =
-    inr (inr (store, inr (inr (inr (given, inr n)))))
+taken_is_named words named new (takes_store formats store e a) = inr (inr (store, inl e))
+taken_is_named words named new (takes_store scripts store e a) = inr (inr (store, inr (inl e)))
+taken_is_named words named new (takes_store inspects store e a) =
+    inr (inr (store, inr (inr (inl e))))
+taken_is_named words named new (takes_renew store e a) =
+    inr (inr (store, inr (inr (inr (inl e)))))
+taken_is_named words named new (takes_migrate store given a n) =
+    inr (inr (store, inr (inr (inr (inr (given, n))))))
 taken_is_named words named new (takes_crew first e) = inr (inl (first, e))
 
 -- two commands that differ
@@ -393,83 +410,29 @@ text_is s t new one other =
     let text : Option Text → Text = λ o. option_map_or (λ (u : Text). u) o [] in
     ap text (sym one ∙ other)
 
--- a command over two stores is no other one
-is_pair : (p : Pair) (P : Text → Type 0) → P migrate → P renew → P (word_of p)
-is_pair migrates P one two = one
-is_pair renews P one two = two
+-- a command over one store is no command over two
+is_store : (c : Command) (P : Text → Type 0) → P format → P script → P inspect → P (word_of c)
+is_store formats P one two three = one
+is_store scripts P one two three = two
+is_store inspects P one two three = three
 
-other_than_two : (p : Pair) (c : Text) (x : Option Text) (store : Text) (named : Named)
-    → bytes_eq c migrate ≡ false → bytes_eq c renew ≡ false
-    → named ≡ Some (c, x) → named ≡ Some (word_of p, Some store) → ⊥
-other_than_two p c x store named one two e is =
-    clash c (word_of p) x (Some store) named (is_pair p (λ d. bytes_eq c d ≡ false) one two) e is
-
--- two stores that are named behind such a command are those that the words ask for
-asks_two : (words : List Text) (named : Named) (new : Option Text) (old given : Text) (p : Pair)
-    → IsTaken words named new → NamesTwo (word_of p) old given named new
-    → AsksForTwo (word_of p) old given words
-asks_two words named new old given p (takes_demo first e a) is =
-    absurd (other_than_two p demo _ _ named refl refl e is.0)
-asks_two words named new old given p (takes_format s e a) is =
-    absurd (other_than_two p format _ _ named refl refl e is.0)
-asks_two words named new old given p (takes_script s e a) is =
-    absurd (other_than_two p script _ _ named refl refl e is.0)
-asks_two words named new old given p (takes_inspect s e a) is =
-    absurd (other_than_two p inspect _ _ named refl refl e is.0)
-asks_two words named new old given p (takes_crew first e) is =
-    absurd (other_than_two p crew _ _ named refl refl e is.0)
-asks_two words named new old given p (takes_two q s t a n) is = go p q a n is
-  where
-    same : (r : Pair) → AsksForTwo (word_of r) s t words → NamesTwo (word_of r) s t named new
-        → NamesTwo (word_of r) old given named new → AsksForTwo (word_of r) old given words
-    same r a n is =
-        subst (λ (u : Text). AsksForTwo (word_of r) u given words)
-        (store_is (word_of r) s old named n.0 is.0)
-        (subst (λ (u : Text). AsksForTwo (word_of r) s u words) (text_is t given new n.1 is.1) a)
-
-    go : (p q : Pair) → AsksForTwo (word_of q) s t words → NamesTwo (word_of q) s t named new
-        → NamesTwo (word_of p) old given named new → AsksForTwo (word_of p) old given words
-    go migrates migrates a n is = same migrates a n is
-    go migrates renews a n is = absurd (clash renew migrate _ _ named refl n.0 is.0)
-    go renews migrates a n is = absurd (clash migrate renew _ _ named refl n.0 is.0)
-    go renews renews a n is = same renews a n is
-
--- and what asks for it is asked for
-pub taken_asks : (words : List Text) (named : Named) (new : Option Text)
-    (entered : Option (Text × List Row)) (asked : Asked) → entered ≡ subcommand_of night words
-    → IsTaken words named new → Asks named new entered (Ok asked) → AsksFor asked words
-taken_asks words named new entered (Demo strict) same t is = subst (NamesDemo strict) same is
-taken_asks words named new entered (Format store n) same t is =
-    subst (NamesStore format (codes "new") store.now n) same is
-taken_asks words named new entered (Script store strict) same t is =
-    subst (NamesStore script (codes "strict") store.now strict) same is
-taken_asks words named new entered (Inspect store view) same t is =
-    subst (NamesInspect store.now (Some view)) same is
-taken_asks words named new entered (Crew store n known) same t is =
-    subst (NamesCrew store.now (Some n) known) same is
-taken_asks words named new entered (Migrate o g) same t is =
-    (asks_two words named new o.now g.now migrates t is.0, is.1)
-taken_asks words named new entered (Renew o g) same t is =
-    (asks_two words named new o.now g.now renews t is.0, is.1)
-taken_asks words named new entered (Help text) same t is = absurd is
-
--- and two equal names are those of the words, and so is a wrong number of workers
-pub taken_fails : (words : List Text) (named : Named) (new : Option Text)
-    (entered : Option (Text × List Row)) (why : WordsFault) → entered ≡ subcommand_of night words
-    → IsTaken words named new → Asks named new entered (Err why) → IsCausedBy why words
-taken_fails words named new entered SameStores same t (store, inl is) =
-    (store, inl (asks_two words named new store store migrates t is))
-taken_fails words named new entered SameStores same t (store, inr is) =
-    (store, inr (asks_two words named new store store renews t is))
-taken_fails words named new entered Workers same t is =
-    (is.0, (is.1.0, subst (NamesCrew is.0 None is.1.0) same is.1.1))
-taken_fails words named new entered Views same t is =
-    (is.0, subst (NamesInspect is.0 None) same is.1)
-taken_fails words named new entered (Mistake text) same t is = absurd is
-taken_fails words named new entered NotText same t is = absurd is
-taken_fails words named new entered Memory same t is = absurd is
-
--- ---- words without a flag
+-- two stores that are named behind `migrate` are those that the words ask for
+asks_two : (words : List Text) (named : Named) (new : Option Text) (old given : Text)
+    → IsTaken words named new → NamesTwo migrate old given named new
+    → AsksForTwo migrate old given words
+asks_two words named new old given (takes_demo first e a) is =
+    absurd (clash demo migrate _ _ named refl e is.0)
+asks_two words named new old given (takes_store c s e a) is =
+    absurd (clash (word_of c) migrate _ _ named
+    (is_store c (λ w. bytes_eq w migrate ≡ false) refl refl refl) e is.0)
+asks_two words named new old given (takes_crew first e) is =
+    absurd (clash crew migrate _ _ named refl e is.0)
+asks_two words named new old given (takes_renew s e a) is =
+    absurd (clash renew migrate _ _ named refl e is.0)
+asks_two words named new old given (takes_migrate s t a n) is =
+    subst (λ (u : Text). AsksForTwo migrate u given words)
+    (store_is migrate s old named n.0 is.0)
+    (subst (λ (u : Text). AsksForTwo migrate s u words) (text_is t given new n.1 is.1) a)
 
 -- the command that the parser entered is the one that is named
 not_named : (e : Option (Text × List Row)) (c d : Text) (first : Option Text)
@@ -492,166 +455,150 @@ store_read (Some e) c s store named read =
     option_map_or (λ (p : Text × Option Text). p.1) n None in
     ap text (sym (ap inner named) ∙ read)
 
+-- two stores behind `renew`, not in place, likewise
+asks_renewal : (words : List Text) (entered : Option (Text × List Row)) (old given : Text)
+    → entered ≡ subcommand_of night words → IsTaken words (named_in entered) (new_in entered)
+    → NamesRenewal old (Some given) false entered → AsksForTwo renew old given words
+asks_renewal words entered old given same t is = go t
+  where
+    other : (c : Text) (first : Option Text) → bytes_eq c renew ≡ false
+        → named_in entered ≡ Some (c, first) → ⊥
+    other c first differ named = not_named entered c renew first differ named is.0
+
+    go : IsTaken words (named_in entered) (new_in entered) → AsksForTwo renew old given words
+    go (takes_demo first e a) = absurd (other demo _ refl e)
+    go (takes_store c s e a) = absurd (other (word_of c) _
+        (is_store c (λ w. bytes_eq w renew ≡ false) refl refl refl) e)
+    go (takes_crew first e) = absurd (other crew _ refl e)
+    go (takes_migrate s g a n) = absurd (other migrate _ refl n.0)
+    go (takes_renew s e a) = subst (λ (u : Text). AsksForTwo renew u given words)
+        (store_read entered renew s old e is.1)
+        (a given is.2 (subst (λ e. has_flag (codes "in-place") e ≡ false) same is.3))
+
+-- and what asks for it is asked for
+pub taken_asks : (words : List Text) (entered : Option (Text × List Row)) (asked : Asked)
+    → entered ≡ subcommand_of night words → IsTaken words (named_in entered) (new_in entered)
+    → Asks (named_in entered) (new_in entered) entered (Ok asked) → AsksFor asked words
+taken_asks words entered (Demo strict) same t is = subst (NamesDemo strict) same is
+taken_asks words entered (Format store n) same t is =
+    subst (NamesFormat store.now n) same is
+taken_asks words entered (Script store strict timed) same t is =
+    subst (NamesScript store.now strict timed) same is
+taken_asks words entered (Inspect store view) same t is =
+    subst (NamesInspect store.now (Ok view)) same is
+taken_asks words entered (Crew store n known) same t is =
+    subst (NamesCrew store.now (Some n) known) same is
+taken_asks words entered (Migrate o g) same t is =
+    (asks_two words _ _ o.now g.now t is.0, is.1)
+taken_asks words entered (Renew o g) same t is =
+    (asks_renewal words entered o.now g.now same t is.0, is.1)
+taken_asks words entered (RenewInPlace store) same t is =
+    subst (NamesRenewal store.now None true) same is
+taken_asks words entered (Help text) same t is = absurd is
+
+-- and two equal names are those of the words, and so is each other fault
+pub taken_fails : (words : List Text) (entered : Option (Text × List Row)) (why : WordsFault)
+    → entered ≡ subcommand_of night words → IsTaken words (named_in entered) (new_in entered)
+    → Asks (named_in entered) (new_in entered) entered (Err why) → IsCausedBy why words
+taken_fails words entered SameStores same t (store, inl is) =
+    (store, inl (asks_two words _ _ store store t is))
+taken_fails words entered SameStores same t (store, inr is) =
+    (store, inr (asks_renewal words entered store store same t is))
+taken_fails words entered Workers same t is =
+    (is.0, (is.1.0, subst (NamesCrew is.0 None is.1.0) same is.1.1))
+taken_fails words entered Views same t is =
+    (is.0, subst (NamesInspect is.0 (Err Views)) same is.1)
+taken_fails words entered Phase same t is =
+    (is.0, subst (NamesInspect is.0 (Err Phase)) same is.1)
+taken_fails words entered Place same t is =
+    (is.0, (is.1.0, subst (NamesRenewal is.0 is.1.0 (is_some is.1.0)) same is.1.1))
+taken_fails words entered (Mistake text) same t is = absurd is
+taken_fails words entered NotText same t is = absurd is
+taken_fails words entered Memory same t is = absurd is
+
+-- ---- words without a flag
+
+-- the parser entered this command with this store, and no flag and no option
+abbrev pub StandsAlone : Command → Text → List Text → Type 0
+StandsAlone c store words = (command_in (subcommand_of night words) ≡ Some (word_of c))
+    × (word_in (codes "STORE") (subcommand_of night words) ≡ Some store)
+    × IsUnset c (found_by words)
+
 module _ (words : List Text) where
   abbrev entry : Option (Text × List Row)
   entry = subcommand_of night words
 
+  -- a command that is named is no other one
+  other : (c d : Text) (first : Option Text) → bytes_eq c d ≡ false
+      → named_of words ≡ Some (c, first) → command_in entry ≡ Some d → ⊥
+  other c d first differ named entered = not_named entry c d first differ named entered
+
   pub demo_without : faults_of words ≡ [] → AsksForDemo false words → AsksAlone demo words
   demo_without none asks = go (taken words none)
     where
-      other : (c : Text) (first : Option Text) → bytes_eq c demo ≡ false
-          → named_of words ≡ Some (c, first) → ⊥
-      other c first differ named = not_named entry c demo first differ named asks.0
-
       go : Taken words → AsksAlone demo words
       go (takes_demo first e a) = a asks.1
-      go (takes_format s e a) = absurd (other format _ refl e)
-      go (takes_script s e a) = absurd (other script _ refl e)
-      go (takes_inspect s e a) = absurd (other inspect _ refl e)
-      go (takes_two migrates s g a n) = absurd (other migrate _ refl n.0)
-      go (takes_two renews s g a n) = absurd (other renew _ refl n.0)
-      go (takes_crew first e) = absurd (other crew _ refl e)
+      go (takes_store c s e a) = absurd (other (word_of c) demo _
+          (is_store c (λ w. bytes_eq w demo ≡ false) refl refl refl) e asks.0)
+      go (takes_migrate s g a n) = absurd (other migrate demo _ refl n.0 asks.0)
+      go (takes_renew s e a) = absurd (other renew demo _ refl e asks.0)
+      go (takes_crew first e) = absurd (other crew demo _ refl e asks.0)
 
-  pub format_without : (store : Text) → faults_of words ≡ [] → AsksForFormat store false words
-      → AsksOver format store words
-  format_without store none asks = go (taken words none)
+  -- two commands over a store
+  one_command : (c d : Command) (P : Command → Type 0) (s : Text)
+      → named_of words ≡ Some (word_of c, Some s) → command_in entry ≡ Some (word_of d)
+      → P c → P d
+  one_command formats formats P s e is p = p
+  one_command scripts scripts P s e is p = p
+  one_command inspects inspects P s e is p = p
+  one_command formats scripts P s e is p = absurd (other format script _ refl e is)
+  one_command formats inspects P s e is p = absurd (other format inspect _ refl e is)
+  one_command scripts formats P s e is p = absurd (other script format _ refl e is)
+  one_command scripts inspects P s e is p = absurd (other script inspect _ refl e is)
+  one_command inspects formats P s e is p = absurd (other inspect format _ refl e is)
+  one_command inspects scripts P s e is p = absurd (other inspect script _ refl e is)
+
+  pub store_without : (c : Command) (store : Text) → faults_of words ≡ []
+      → StandsAlone c store words → AsksOver (word_of c) store words
+  store_without c store none (is, over, unset) = go (taken words none)
     where
-      other : (c : Text) (first : Option Text) → bytes_eq c format ≡ false
-          → named_of words ≡ Some (c, first) → ⊥
-      other c first differ named = not_named entry c format first differ named asks.0
+      differs : (w : Text) (first : Option Text)
+          → bytes_eq w format ≡ false → bytes_eq w script ≡ false → bytes_eq w inspect ≡ false
+          → named_of words ≡ Some (w, first) → ⊥
+      differs w first one two three e = other w (word_of c) first
+          (is_store c (λ d. bytes_eq w d ≡ false) one two three) e is
 
-      go : Taken words → AsksOver format store words
-      go (takes_demo first e a) = absurd (other demo _ refl e)
-      go (takes_format s e a) = subst (λ (u : Text). AsksOver format u words)
-          (store_read entry format s store e asks.1) (a asks.2)
-      go (takes_script s e a) = absurd (other script _ refl e)
-      go (takes_inspect s e a) = absurd (other inspect _ refl e)
-      go (takes_two migrates s g a n) = absurd (other migrate _ refl n.0)
-      go (takes_two renews s g a n) = absurd (other renew _ refl n.0)
-      go (takes_crew first e) = absurd (other crew _ refl e)
-
-  pub script_without : (store : Text) → faults_of words ≡ [] → AsksForScript store false words
-      → AsksOver script store words
-  script_without store none asks = go (taken words none)
-    where
-      other : (c : Text) (first : Option Text) → bytes_eq c script ≡ false
-          → named_of words ≡ Some (c, first) → ⊥
-      other c first differ named = not_named entry c script first differ named asks.0
-
-      go : Taken words → AsksOver script store words
-      go (takes_demo first e a) = absurd (other demo _ refl e)
-      go (takes_format s e a) = absurd (other format _ refl e)
-      go (takes_script s e a) = subst (λ (u : Text). AsksOver script u words)
-          (store_read entry script s store e asks.1) (a asks.2)
-      go (takes_inspect s e a) = absurd (other inspect _ refl e)
-      go (takes_two migrates s g a n) = absurd (other migrate _ refl n.0)
-      go (takes_two renews s g a n) = absurd (other renew _ refl n.0)
-      go (takes_crew first e) = absurd (other crew _ refl e)
-
-  -- where all of it is shown there is no flag
-  no_flag : (only_tasks as_json : Bool) → view_of only_tasks as_json ≡ Some Whole
-      → (only_tasks ≡ false) × (as_json ≡ false)
-  no_flag false false e = (refl, refl)
-  no_flag true false e = cc
-  no_flag false true e = cc
-  no_flag true true e = cc
-
-  unflagged : view_in entry ≡ Some Whole → (f : Flag) → has_flag (name_of f) entry ≡ false
-  unflagged e tasks = (no_flag (has_flag (codes "tasks") entry) (has_flag (codes "json") entry) e).0
-  unflagged e json = (no_flag (has_flag (codes "tasks") entry) (has_flag (codes "json") entry) e).1
-
-  pub inspect_without : (store : Text) → faults_of words ≡ [] → AsksForInspect store Whole words
-      → AsksOver inspect store words
-  inspect_without store none asks = go (taken words none)
-    where
-      other : (c : Text) (first : Option Text) → bytes_eq c inspect ≡ false
-          → named_of words ≡ Some (c, first) → ⊥
-      other c first differ named = not_named entry c inspect first differ named asks.0
-
-      go : Taken words → AsksOver inspect store words
-      go (takes_demo first e a) = absurd (other demo _ refl e)
-      go (takes_format s e a) = absurd (other format _ refl e)
-      go (takes_script s e a) = absurd (other script _ refl e)
-      go (takes_inspect s e a) = subst (λ (u : Text). AsksOver inspect u words)
-          (store_read entry inspect s store e asks.1) (a (unflagged asks.2))
-      go (takes_two migrates s g a n) = absurd (other migrate _ refl n.0)
-      go (takes_two renews s g a n) = absurd (other renew _ refl n.0)
-      go (takes_crew first e) = absurd (other crew _ refl e)
+      go : Taken words → AsksOver (word_of c) store words
+      go (takes_demo first e a) = absurd (differs demo _ refl refl refl e)
+      go (takes_store d s e a) = subst (λ (u : Text). AsksOver (word_of c) u words)
+          (store_read entry (word_of d) s store e over)
+          (one_command d c
+          (λ d. (IsUnset d (found_by words) → AsksOver (word_of d) s words)) s e is a unset)
+      go (takes_migrate s g a n) = absurd (differs migrate _ refl refl refl n.0)
+      go (takes_renew s e a) = absurd (differs renew _ refl refl refl e)
+      go (takes_crew first e) = absurd (differs crew _ refl refl refl e)
 
 -- ---- and back
 
-format_rest : (name store : Text) (rest : List Text) → Finds (format ∷ rest)
-    → NamesAlone store rest → AsksForFormat store false (name ∷ format ∷ rest)
-unfolding walked
-format_rest name store rest none alone =
-    let met = keeps_words format [] rest (walked above.rules names start format) refl in
-    let b = names_alone formats store rest alone (below_passes format rest met none) in (
-      ap (λ o. command_in (entered (built night) o)) met,
-      ap (λ o. word_in (codes "STORE") (entered (built night) o)) met ∙ b.0,
-      flag_at (codes "new") name format rest met ∙ b.1,
-    )
+module _ (c : Command) (store : Text) where
+  alone_there : (name : Text) (rest : List Text) → Finds (word_of c ∷ rest)
+      → NamesAlone store rest → StandsAlone c store (name ∷ word_of c ∷ rest)
+  alone_there name rest none alone =
+      let b = names_alone c store rest alone (passes c rest none) in (
+        ap (λ o. command_in (entered (built night) o)) (meets c rest)
+            ∙ ap command_in (enters c rest),
+        found_below c name rest (codes "STORE") ∙ b.0,
+        unset_alike c (λ id. first_of id (rows_at (shape c) rest).1)
+            (found_by (name ∷ word_of c ∷ rest)) (λ id. sym (found_below c name rest id)) b.1,
+      )
 
-script_rest : (name store : Text) (rest : List Text) → Finds (script ∷ rest)
-    → NamesAlone store rest → AsksForScript store false (name ∷ script ∷ rest)
-unfolding walked
-script_rest name store rest none alone =
-    let met = keeps_words script [] rest (walked above.rules names start script) refl in
-    let b = names_alone scripts store rest alone (below_passes script rest met none) in (
-      ap (λ o. command_in (entered (built night) o)) met,
-      ap (λ o. word_in (codes "STORE") (entered (built night) o)) met ∙ b.0,
-      flag_at (codes "strict") name script rest met ∙ b.1,
-    )
-
-inspect_rest : (name store : Text) (rest : List Text) → Finds (inspect ∷ rest)
-    → NamesAlone store rest → AsksForInspect store Whole (name ∷ inspect ∷ rest)
-unfolding walked
-inspect_rest name store rest none alone =
-    let met = keeps_words inspect [] rest (walked above.rules names start inspect) refl in
-    let b = view_alone store rest alone (below_passes inspect rest met none) in (
-      ap (λ o. command_in (entered (built night) o)) met,
-      ap (λ o. word_in (codes "STORE") (entered (built night) o)) met ∙ b.0,
-      ap₂ view_of (flag_at (codes "tasks") name inspect rest met ∙ b.1 tasks)
-          (flag_at (codes "json") name inspect rest met ∙ b.1 json),
-    )
-
-pub format_alone : (store : Text) (words : List Text) → faults_of words ≡ []
-    → AsksOver format store words → AsksForFormat store false words
-format_alone store words none (name, inl e) =
-    subst (AsksForFormat store false) (sym e)
-    (format_rest name store (store ∷ []) (subst (λ w. faults_of w ≡ []) e none) (inl refl))
-format_alone store words none (name, inr (inl e)) =
-    subst (AsksForFormat store false) (sym e)
-    (format_rest name store (mark ∷ store ∷ []) (subst (λ w. faults_of w ≡ []) e none)
-    (inr (inl refl)))
-format_alone store words none (name, inr (inr e)) =
-    subst (AsksForFormat store false) (sym e)
-    (format_rest name store (store ∷ mark ∷ []) (subst (λ w. faults_of w ≡ []) e none)
-    (inr (inr refl)))
-
-pub script_alone : (store : Text) (words : List Text) → faults_of words ≡ []
-    → AsksOver script store words → AsksForScript store false words
-script_alone store words none (name, inl e) =
-    subst (AsksForScript store false) (sym e)
-    (script_rest name store (store ∷ []) (subst (λ w. faults_of w ≡ []) e none) (inl refl))
-script_alone store words none (name, inr (inl e)) =
-    subst (AsksForScript store false) (sym e)
-    (script_rest name store (mark ∷ store ∷ []) (subst (λ w. faults_of w ≡ []) e none)
-    (inr (inl refl)))
-script_alone store words none (name, inr (inr e)) =
-    subst (AsksForScript store false) (sym e)
-    (script_rest name store (store ∷ mark ∷ []) (subst (λ w. faults_of w ≡ []) e none)
-    (inr (inr refl)))
-
-pub inspect_alone : (store : Text) (words : List Text) → faults_of words ≡ []
-    → AsksOver inspect store words → AsksForInspect store Whole words
-inspect_alone store words none (name, inl e) =
-    subst (AsksForInspect store Whole) (sym e)
-    (inspect_rest name store (store ∷ []) (subst (λ w. faults_of w ≡ []) e none) (inl refl))
-inspect_alone store words none (name, inr (inl e)) =
-    subst (AsksForInspect store Whole) (sym e)
-    (inspect_rest name store (mark ∷ store ∷ []) (subst (λ w. faults_of w ≡ []) e none)
-    (inr (inl refl)))
-inspect_alone store words none (name, inr (inr e)) =
-    subst (AsksForInspect store Whole) (sym e)
-    (inspect_rest name store (store ∷ mark ∷ []) (subst (λ w. faults_of w ≡ []) e none)
-    (inr (inr refl)))
+  pub store_alone : (words : List Text) → faults_of words ≡ [] → AsksOver (word_of c) store words
+      → StandsAlone c store words
+  store_alone words none (name, inl e) = subst (StandsAlone c store) (sym e)
+      (alone_there name (store ∷ []) (subst (λ w. faults_of w ≡ []) e none) (inl refl))
+  store_alone words none (name, inr (inl e)) = subst (StandsAlone c store) (sym e)
+      (alone_there name (mark ∷ store ∷ []) (subst (λ w. faults_of w ≡ []) e none)
+      (inr (inl refl)))
+  store_alone words none (name, inr (inr e)) = subst (StandsAlone c store) (sym e)
+      (alone_there name (store ∷ mark ∷ []) (subst (λ w. faults_of w ≡ []) e none)
+      (inr (inr refl)))

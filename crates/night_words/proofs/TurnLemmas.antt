@@ -46,24 +46,6 @@ found_of_two p P a b none first second = go (p a) (p b)
     go false true = second
     go false false = none
 
--- the same of three
-pub found_of_three : (p : Rule → Bool) (P : Option Rule → Type 0) (a b c : Rule) → P None
-    → P (Some a) → P (Some b) → P (Some c) → P (find p (a ∷ b ∷ c ∷ []))
-found_of_three p P a b c none first second third = go (p a)
-  where
-    go : (x : Bool) → P (cond x (Some a) (find p (b ∷ c ∷ [])))
-    go true = first
-    go false = found_of_two p P b c none second third
-
--- the same of one
-pub found_of_one : (p : Rule → Bool) (P : Option Rule → Type 0) (a : Rule) → P None → P (Some a)
-    → P (find p (a ∷ []))
-found_of_one p P a none first = go (p a)
-  where
-    go : (x : Bool) → P (cond x (Some a) None)
-    go true = first
-    go false = none
-
 -- each word that looks like short flags is found
 abbrev pub ShortsFail : Shape → Type 0
 ShortsFail s = (x : ℕ) (rest : Text) (h : Held) (next : Held → Kinds)
@@ -132,14 +114,6 @@ mark_or_value s strict position word r p none = go (bytes_eq word mark) refl non
 abbrev pub above : Shape
 above = (built night).top
 
--- `migrate`
-abbrev pub migrate_shape : Shape
-migrate_shape = slice_index_or (built night).subs 4 above
-
--- `renew`, which differs from it by its name alone
-abbrev pub renew_shape : Shape
-renew_shape = slice_index_or (built night).subs 6 above
-
 abbrev pub flag_of : Shape → ℕ → Rule
 flag_of s i = slice_index_or s.rules i help_rule
 
@@ -194,29 +168,3 @@ above_shorts x rest h next =
 
 pub above_is_strict : IsStrict above
 above_is_strict = record { longs = above_longs; shorts = above_shorts }
-
--- the two words of `migrate` have places, so no flag is searched there
-migrate_longs : (name : Text) (v : Option Text) (h : Held)
-    → LongFails migrate_shape v h (arg_by_long migrate_shape.rules name)
-migrate_longs name None h =
-    let no : LongFails migrate_shape None h None = λ none. cc in
-    let help : LongFails migrate_shape None h (Some (flag_of migrate_shape 2)) = λ none.
-    help_is_found _ _ _ none in
-    found_of_one (has_name name) (LongFails migrate_shape None h) (flag_of migrate_shape 2) no help
-migrate_longs name (Some v) h =
-    let no : LongFails migrate_shape (Some v) h None = λ none. cc in
-    let help : LongFails migrate_shape (Some v) h (Some (flag_of migrate_shape 2)) = λ none. cc in
-    found_of_one (has_name name) (LongFails migrate_shape (Some v) h) (flag_of migrate_shape 2)
-    no help
-
-migrate_shorts : (x : ℕ) (rest : Text) (h : Held) (next : Held → Kinds)
-    → ShortFails migrate_shape rest h next (arg_by_short migrate_shape.rules x)
-migrate_shorts x rest h next =
-    let no : ShortFails migrate_shape rest h next None = λ none. cc in
-    let help : ShortFails migrate_shape rest h next (Some (flag_of migrate_shape 2)) = λ none.
-    help_is_found _ _ _ (first_none _ _ none) in
-    found_of_one (has_letter x) (ShortFails migrate_shape rest h next) (flag_of migrate_shape 2)
-    no help
-
-pub migrate_is_strict : IsStrict migrate_shape
-migrate_is_strict = record { longs = migrate_longs; shorts = migrate_shorts }

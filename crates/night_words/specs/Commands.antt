@@ -171,16 +171,16 @@ abbrev pub NamesDemo : Bool → Option (Text × List Row) → Type 0
 NamesDemo strict entered = (command_in entered ≡ Some (codes "demo"))
     × (has_flag (codes "strict") entered ≡ strict)
 
--- the parser entered this command with this store, with this flag or without it
-abbrev pub NamesStore : Text → Text → Text → Bool → Option (Text × List Row) → Type 0
-NamesStore command id store is_set entered = (command_in entered ≡ Some command)
-    × (word_in (codes "STORE") entered ≡ Some store) × (has_flag id entered ≡ is_set)
+-- the parser entered `format` with this store, a new one or any
+abbrev pub NamesFormat : Text → Bool → Option (Text × List Row) → Type 0
+NamesFormat store is_new entered = (command_in entered ≡ Some (codes "format"))
+    × (word_in (codes "STORE") entered ≡ Some store) × (has_flag (codes "new") entered ≡ is_new)
 
 -- the parser entered `script` with this store, strict or not, and by the machine's time or not
 abbrev pub NamesScript : Text → Bool → Bool → Option (Text × List Row) → Type 0
-NamesScript store strict is_timed entered =
-    NamesStore (codes "script") (codes "strict") store strict entered
-    × (has_flag (codes "now") entered ≡ is_timed)
+NamesScript store strict is_timed entered = (command_in entered ≡ Some (codes "script"))
+    × (word_in (codes "STORE") entered ≡ Some store)
+    × (has_flag (codes "strict") entered ≡ strict) × (has_flag (codes "now") entered ≡ is_timed)
 
 -- the words of the phases of a task
 abbrev pub phases : List Text
@@ -248,8 +248,7 @@ AsksForDemo strict words = NamesDemo strict (subcommand_of night words)
 -- the words ask for a new store in this file, as the parser reads them: it stands behind the
 -- program's own name and `format`, and `--new` may stand before or behind it
 abbrev pub AsksForFormat : Text → Bool → List Text → Type 0
-AsksForFormat store is_new words =
-    NamesStore (codes "format") (codes "new") store is_new (subcommand_of night words)
+AsksForFormat store is_new words = NamesFormat store is_new (subcommand_of night words)
 
 -- the words ask for a run over this store, as the parser reads them: it stands behind the program's
 -- own name and `script`, and before or behind it may stand `--strict` and `--now`
@@ -399,8 +398,7 @@ NamesTwo command old given named new =
 -- that takes a flag it is said what the parser entered
 abbrev pub Asks : Named → Option Text → Option (Text × List Row) → Result Asked WordsFault → Type 0
 Asks named new entered (Ok (Demo strict)) = NamesDemo strict entered
-Asks named new entered (Ok (Format store is_new)) =
-    NamesStore (codes "format") (codes "new") store.now is_new entered
+Asks named new entered (Ok (Format store is_new)) = NamesFormat store.now is_new entered
 Asks named new entered (Ok (Script store strict is_timed)) =
     NamesScript store.now strict is_timed entered
 Asks named new entered (Ok (Inspect store view)) =

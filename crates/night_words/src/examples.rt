@@ -2,13 +2,16 @@
 //!
 //! In each, `name` is the program's own name, as it was started.
 
-ghost use Rattle.std.specs.Prelude.{◌≡◌, ◌∷◌, ℕ, List, [], codes, false, true};
+ghost use Rattle.std.specs.Prelude.{◌≡◌, ◌∷◌, ℕ, List, None, Some, [], codes, false, true};
+ghost use Rattle.std.specs.Borrow.{Bor};
+ghost use Rattle.clap.specs.Words.{subcommand_of};
 ghost use Rattle.clap.specs.declared.error.kind.ErrorKind.TheVariants as kind;
 ghost use Rattle.night_words.specs.Commands.{AsksForCrew, AsksForDemo, AsksForFormat};
-ghost use Rattle.night_words.specs.Commands.{AsksForInspect, AsksForScript, IsCausedBy, faults_of};
-ghost use Rattle.night_words.specs.declared.asked.View.TheVariants.{Json, Tasks, Whole};
-ghost use Rattle.night_words.specs.declared.asked.WordsFault.TheVariants.{SameStores, Views};
-ghost use Rattle.night_words.specs.declared.asked.WordsFault.TheVariants.{Workers};
+ghost use Rattle.night_words.specs.Commands.{AsksForInspect, AsksForRenewalInPlace, AsksForScript};
+ghost use Rattle.night_words.specs.Commands.{IsCausedBy, NamesRenewal, faults_of, night};
+ghost use Rattle.night_words.specs.declared.asked.View.TheVariants.{Json, Tasks, Tree, Whole};
+ghost use Rattle.night_words.specs.declared.asked.WordsFault.TheVariants.{Phase, Place, SameStores};
+ghost use Rattle.night_words.specs.declared.asked.WordsFault.TheVariants.{Views, Workers};
 
 /// `demo` is a command, and the mark behind which no flag stands is no word of it.
 pub fn demo_is_a_command()
@@ -57,39 +60,70 @@ pub fn a_new_store_is_named()
         (name ∷ codes "format" ∷ codes "--" ∷ codes "--new" ∷ []) }
 {}
 
-/// `script` runs over a store, and is strict where its flag stands there.
+/// `script` runs over a store, and is strict where its flag stands there, and by the machine's time
+/// where the other one does.
 pub fn a_script_may_be_strict()
     ensures alone { (name : List ℕ)
-        → AsksForScript (codes "a") false (name ∷ codes "script" ∷ codes "a" ∷ []) }
-    ensures before { (name : List ℕ) → AsksForScript (codes "a") true
+        → AsksForScript (codes "a") false false (name ∷ codes "script" ∷ codes "a" ∷ []) }
+    ensures before { (name : List ℕ) → AsksForScript (codes "a") true false
         (name ∷ codes "script" ∷ codes "--strict" ∷ codes "a" ∷ []) }
-    ensures behind { (name : List ℕ) → AsksForScript (codes "a") true
+    ensures behind { (name : List ℕ) → AsksForScript (codes "a") true false
         (name ∷ codes "script" ∷ codes "a" ∷ codes "--strict" ∷ []) }
+    ensures timed { (name : List ℕ) → AsksForScript (codes "a") false true
+        (name ∷ codes "script" ∷ codes "--now" ∷ codes "a" ∷ []) }
+    ensures both { (name : List ℕ) → AsksForScript (codes "a") true true
+        (name ∷ codes "script" ∷ codes "--now" ∷ codes "a" ∷ codes "--strict" ∷ []) }
 {}
 
 /// `inspect` prints all that a store holds, and with its flag the lines of its tasks alone.
 pub fn tasks_may_be_inspected()
     ensures alone { (name : List ℕ)
         → AsksForInspect (codes "a") Whole (name ∷ codes "inspect" ∷ codes "a" ∷ []) }
-    ensures before { (name : List ℕ) → AsksForInspect (codes "a") Tasks
+    ensures before { (name : List ℕ) → AsksForInspect (codes "a") (Tasks None None)
         (name ∷ codes "inspect" ∷ codes "--tasks" ∷ codes "a" ∷ []) }
-    ensures behind { (name : List ℕ) → AsksForInspect (codes "a") Tasks
+    ensures behind { (name : List ℕ) → AsksForInspect (codes "a") (Tasks None None)
         (name ∷ codes "inspect" ∷ codes "a" ∷ codes "--tasks" ∷ []) }
     ensures marked { (name : List ℕ) → AsksForInspect (codes "--tasks") Whole
         (name ∷ codes "inspect" ∷ codes "--" ∷ codes "--tasks" ∷ []) }
 {}
 
-/// With its other flag it prints all of it as JSON, and with both it is a mistake.
-pub fn json_may_be_printed()
-    ensures before { (name : List ℕ) → AsksForInspect (codes "a") Json
-        (name ∷ codes "inspect" ∷ codes "--json" ∷ codes "a" ∷ []) }
-    ensures behind { (name : List ℕ) → AsksForInspect (codes "a") Json
-        (name ∷ codes "inspect" ∷ codes "a" ∷ codes "--json" ∷ []) }
-    ensures both { (name : List ℕ) → IsCausedBy Views
-        (name ∷ codes "inspect" ∷ codes "--json" ∷ codes "a" ∷ codes "--tasks" ∷ []) }
+/// The tasks may be those of a phase, or of a group; the flag may be left out then.
+pub fn some_tasks_may_be_inspected()
+    ensures phase { (name : List ℕ) (held : Bor (List ℕ)) → held.now ≡ codes "held"
+        → AsksForInspect (codes "a") (Tasks (Some held) None)
+        (name ∷ codes "inspect" ∷ codes "--tasks" ∷ codes "--phase" ∷ codes "held" ∷ codes "a"
+        ∷ []) }
+    ensures group { (name : List ℕ) (group : Bor (List ℕ)) → group.now ≡ codes "g"
+        → AsksForInspect (codes "a") (Tasks None (Some group))
+        (name ∷ codes "inspect" ∷ codes "a" ∷ codes "--group" ∷ codes "g" ∷ []) }
+    ensures both { (name : List ℕ) (error group : Bor (List ℕ)) → error.now ≡ codes "error"
+        → group.now ≡ codes "ready" → AsksForInspect (codes "a") (Tasks (Some error) (Some group))
+        (name ∷ codes "inspect" ∷ codes "--group=ready" ∷ codes "--phase=error" ∷ codes "a"
+        ∷ []) }
+    ensures other { (name : List ℕ) → IsCausedBy Phase
+        (name ∷ codes "inspect" ∷ codes "--phase" ∷ codes "done" ∷ codes "a" ∷ []) }
+    ensures large { (name : List ℕ) → IsCausedBy Phase
+        (name ∷ codes "inspect" ∷ codes "--phase=Held" ∷ codes "a" ∷ []) }
 {}
 
-/// The words of all three are taken.
+/// With another flag it prints all of it as JSON, with another one as a tree, and two views are a
+/// mistake.
+pub fn other_views_may_be_printed()
+    ensures json { (name : List ℕ) → AsksForInspect (codes "a") Json
+        (name ∷ codes "inspect" ∷ codes "--json" ∷ codes "a" ∷ []) }
+    ensures json_behind { (name : List ℕ) → AsksForInspect (codes "a") Json
+        (name ∷ codes "inspect" ∷ codes "a" ∷ codes "--json" ∷ []) }
+    ensures tree { (name : List ℕ) → AsksForInspect (codes "a") Tree
+        (name ∷ codes "inspect" ∷ codes "--tree" ∷ codes "a" ∷ []) }
+    ensures tasks_too { (name : List ℕ) → IsCausedBy Views
+        (name ∷ codes "inspect" ∷ codes "--json" ∷ codes "a" ∷ codes "--tasks" ∷ []) }
+    ensures tree_too { (name : List ℕ) → IsCausedBy Views
+        (name ∷ codes "inspect" ∷ codes "--json" ∷ codes "a" ∷ codes "--tree" ∷ []) }
+    ensures group_too { (name : List ℕ) → IsCausedBy Views
+        (name ∷ codes "inspect" ∷ codes "--group=g" ∷ codes "--tree" ∷ codes "a" ∷ []) }
+{}
+
+/// The words of all of them are taken.
 pub fn flags_are_taken()
     ensures new { (name : List ℕ)
         → faults_of (name ∷ codes "format" ∷ codes "--new" ∷ codes "a" ∷ []) ≡ [] }
@@ -101,8 +135,18 @@ pub fn flags_are_taken()
         → faults_of (name ∷ codes "script" ∷ codes "a" ∷ codes "--strict" ∷ []) ≡ [] }
     ensures tasks { (name : List ℕ)
         → faults_of (name ∷ codes "inspect" ∷ codes "--tasks" ∷ codes "a" ∷ []) ≡ [] }
+    ensures timed { (name : List ℕ)
+        → faults_of (name ∷ codes "script" ∷ codes "--now" ∷ codes "a" ∷ []) ≡ [] }
     ensures json { (name : List ℕ)
         → faults_of (name ∷ codes "inspect" ∷ codes "a" ∷ codes "--json" ∷ []) ≡ [] }
+    ensures tree { (name : List ℕ)
+        → faults_of (name ∷ codes "inspect" ∷ codes "--tree" ∷ codes "a" ∷ []) ≡ [] }
+    ensures phase { (name : List ℕ) → faults_of
+        (name ∷ codes "inspect" ∷ codes "--phase" ∷ codes "held" ∷ codes "a" ∷ []) ≡ [] }
+    ensures group { (name : List ℕ)
+        → faults_of (name ∷ codes "inspect" ∷ codes "a" ∷ codes "--group=g" ∷ []) ≡ [] }
+    ensures in_place { (name : List ℕ)
+        → faults_of (name ∷ codes "renew" ∷ codes "--in-place" ∷ codes "a" ∷ []) ≡ [] }
     ensures known { (name : List ℕ)
         → faults_of (name ∷ codes "crew" ∷ codes "--known" ∷ codes "a" ∷ []) ≡ [] }
 {}
@@ -127,6 +171,14 @@ pub fn other_flags_are_mistakes()
     ensures attached { (name : List ℕ)
         → faults_of (name ∷ codes "demo" ∷ codes "--strict=true" ∷ [])
         ≡ kind.TooManyValues ∷ [] }
+    ensures timed { (name : List ℕ) → faults_of (name ∷ codes "demo" ∷ codes "--now" ∷ [])
+        ≡ kind.UnknownArgument ∷ [] }
+    ensures wanting { (name : List ℕ)
+        → faults_of (name ∷ codes "inspect" ∷ codes "a" ∷ codes "--phase" ∷ [])
+        ≡ kind.InvalidValue ∷ [] }
+    ensures twice_group { (name : List ℕ) → faults_of
+        (name ∷ codes "inspect" ∷ codes "--group=g" ∷ codes "--group=h" ∷ codes "a" ∷ [])
+        ≡ kind.ArgumentConflict ∷ [] }
 {}
 
 /// One store is wanted.
@@ -162,8 +214,23 @@ pub fn two_stores_may_be_renewed()
         → faults_of (name ∷ codes "renew" ∷ codes "a" ∷ codes "--" ∷ codes "-b" ∷ []) ≡ [] }
     ensures same { (name : List ℕ)
         → IsCausedBy SameStores (name ∷ codes "renew" ∷ codes "a" ∷ codes "a" ∷ []) }
-    ensures one { (name : List ℕ) → faults_of (name ∷ codes "renew" ∷ codes "a" ∷ [])
+    ensures none { (name : List ℕ) → faults_of (name ∷ codes "renew" ∷ [])
         ≡ kind.MissingRequiredArgument ∷ [] }
+{}
+
+/// Or over one, in its place; with neither another store nor the flag, or with both, it is a
+/// mistake.
+pub fn a_store_may_be_renewed_in_place()
+    ensures before { (name : List ℕ) → AsksForRenewalInPlace (codes "a")
+        (name ∷ codes "renew" ∷ codes "--in-place" ∷ codes "a" ∷ []) }
+    ensures behind { (name : List ℕ) → AsksForRenewalInPlace (codes "a")
+        (name ∷ codes "renew" ∷ codes "a" ∷ codes "--in-place" ∷ []) }
+    ensures neither { (name : List ℕ)
+        → IsCausedBy Place (name ∷ codes "renew" ∷ codes "a" ∷ []) }
+    ensures both { (name : List ℕ) → IsCausedBy Place
+        (name ∷ codes "renew" ∷ codes "--in-place" ∷ codes "a" ∷ codes "b" ∷ []) }
+    ensures two { (name : List ℕ) → NamesRenewal (codes "a") (Some (codes "b")) false
+        (subcommand_of night (name ∷ codes "renew" ∷ codes "a" ∷ codes "b" ∷ [])) }
 {}
 
 /// Two stores are wanted.

@@ -8,7 +8,7 @@ returns c =
     let before : app_of c.after_help.result ≡ new_app (codes "crew") = search rules in
     let store = c.in_ok-arg.ensures.shape c.store_word.ensures.local
     ∙ ap₂ with_rule before c.store_word.ensures.rule in
-    let workers = c.in_ok-arg-2.ensures.shape c.workers_word.ensures.local
-    ∙ ap₂ with_rule store c.workers_word.ensures.rule in
+    let workers = c.in_ok-arg-2.ensures.shape c.value_word.ensures.local
+    ∙ ap₂ with_rule store c.value_word.ensures.rule in
     IfOk-weaker c.arg-3.result _ _ (λ command added. added.shape c.flag_word.ensures.local
     ∙ ap₂ with_rule workers c.flag_word.ensures.rule) c.arg-3.ensures

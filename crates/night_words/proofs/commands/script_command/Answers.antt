@@ -5,5 +5,7 @@ use Rattle.night_words.proofs.commands.script_command.Goals as goal
 
 pub returns : goal.returns
 returns c =
-    IfOk-weaker c.arg.result _ _ (λ command added. added.shape c.flag_word.ensures.local
-    ∙ ap₂ with_rule c.in_ok-store.ensures c.flag_word.ensures.rule) c.arg.ensures
+    let strict = c.in_ok-arg.ensures.shape c.flag_word.ensures.local
+    ∙ ap₂ with_rule c.in_ok-store.ensures c.flag_word.ensures.rule in
+    IfOk-weaker c.arg-2.result _ _ (λ command added. added.shape c.flag_word-2.ensures.local
+    ∙ ap₂ with_rule strict c.flag_word-2.ensures.rule) c.arg-2.ensures

@@ -29,3 +29,23 @@ returns-clause-known c = λ name. refl
 pub returns-clause-tasks : goal.returns-clause-tasks
 unfolding clap_on_literals
 returns-clause-tasks c = λ name. refl
+
+pub returns-clause-timed : goal.returns-clause-timed
+unfolding clap_on_literals
+returns-clause-timed c = λ name. refl
+
+pub returns-clause-tree : goal.returns-clause-tree
+unfolding clap_on_literals
+returns-clause-tree c = λ name. refl
+
+pub returns-clause-phase : goal.returns-clause-phase
+unfolding clap_on_literals
+returns-clause-phase c = λ name. refl
+
+pub returns-clause-group : goal.returns-clause-group
+unfolding clap_on_literals
+returns-clause-group c = λ name. refl
+
+pub returns-clause-in_place : goal.returns-clause-in_place
+unfolding clap_on_literals
+returns-clause-in_place c = λ name. refl

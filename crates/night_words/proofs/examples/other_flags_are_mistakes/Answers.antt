@@ -25,3 +25,15 @@ returns-clause-twice_new c = λ name. refl
 pub returns-clause-attached : goal.returns-clause-attached
 unfolding clap_on_literals
 returns-clause-attached c = λ name. refl
+
+pub returns-clause-timed : goal.returns-clause-timed
+unfolding clap_on_literals
+returns-clause-timed c = λ name. refl
+
+pub returns-clause-wanting : goal.returns-clause-wanting
+unfolding clap_on_literals
+returns-clause-wanting c = λ name. refl
+
+pub returns-clause-twice_group : goal.returns-clause-twice_group
+unfolding clap_on_literals
+returns-clause-twice_group c = λ name. refl

@@ -14,6 +14,6 @@ returns-clause-between c = λ name. refl
 pub returns-clause-same : goal.returns-clause-same
 returns-clause-same c = λ name. (codes "a", inr (name, inl refl))
 
-pub returns-clause-one : goal.returns-clause-one
+pub returns-clause-none : goal.returns-clause-none
 unfolding clap_on_literals
-returns-clause-one c = λ name. refl
+returns-clause-none c = λ name. refl

@@ -3,9 +3,11 @@ use Rattle.std.specs.Prelude.{codes, option_map}
 use Rattle.std.specs.Borrow.{Bor}
 use Rattle.clap.specs.Walk.{Text}
 use Rattle.night_words.proofs.TakenLemmas.{crew, demo, format, inspect, script}
-use Rattle.night_words.proofs.NamedLemmas.{crew_here, demo_here, differ, inspect_here, named_here}
-use Rattle.night_words.proofs.NamedLemmas.{new_here, new_is_there, no_store, same, store_here}
-use Rattle.night_words.proofs.NamedLemmas.{two_asked, two_left, unwrapped}
+use Rattle.night_words.proofs.NamedLemmas.{crew_here, demo_here, differ, format_here, inspect_here}
+use Rattle.night_words.proofs.NamedLemmas.{named_here, new_here, new_is_there, no_store}
+use Rattle.night_words.proofs.NamedLemmas.{renewal_here, same, script_here, two_asked, two_left}
+use Rattle.night_words.proofs.NamedLemmas.{unwrapped}
+use Rattle.night_words.proofs.PairLemmas.{renew}
 use Rattle.clap.specs.Words.{subcommand_rows_of}
 use Rattle.night_words.specs.Commands.{named_by, new_by}
 use Rattle.night_words.proofs.readers.asked_of.Goals as goal
@@ -41,28 +43,36 @@ returns-then-crews c =
 
 pub returns-then-formats : goal.returns-then-formats
 returns-then-formats c =
-    store_here c.args.matches.now c.in-Some.command c.in-Some.inner format (codes "new")
+    format_here c.args.matches.now c.in-Some.command c.in-Some.inner
     c.in-Some-get_str.store.now c.is_set-is_new.result c.in-Some.ensures.name c.in-Some.ensures.rows
     (same c.in-Some.command.now format c.eq-formats.result c.eq-formats.ensures c.if-formats.true)
     c.in-Some-get_str.ensures c.is_set-is_new.ensures
 
 pub returns-then-scripts : goal.returns-then-scripts
 returns-then-scripts c =
-    store_here c.args.matches.now c.in-Some.command c.in-Some.inner script (codes "strict")
-    c.in-Some-get_str.store.now c.is_set-strict-then-scripts.result
+    script_here c.args.matches.now c.in-Some.command c.in-Some.inner
+    c.in-Some-get_str.store.now c.is_set-strict-then-scripts.result c.is_set-is_timed.result
     c.in-Some.ensures.name c.in-Some.ensures.rows
     (same c.in-Some.command.now script c.eq-scripts.result c.eq-scripts.ensures c.if-scripts.true)
-    c.in-Some-get_str.ensures c.is_set-strict-then-scripts.ensures
+    c.in-Some-get_str.ensures c.is_set-strict-then-scripts.ensures c.is_set-is_timed.ensures
 
 pub returns-then-inspects : goal.returns-then-inspects
 returns-then-inspects c =
     inspect_here c.args.matches.now c.in-Some.command c.in-Some.inner
-    c.in-Some-get_str.store.now c.is_set-then-inspects.result c.is_set-then-inspects-2.result
-    c.inspect.result c.in-Some.ensures.name c.in-Some.ensures.rows
+    c.in-Some-get_str.store.now c.inspect.result c.in-Some.ensures.name c.in-Some.ensures.rows
     (same c.in-Some.command.now inspect c.eq-inspects.result c.eq-inspects.ensures
     c.if-inspects.true)
-    c.in-Some-get_str.ensures c.is_set-then-inspects.ensures c.is_set-then-inspects-2.ensures
-    c.inspect.ensures
+    c.in-Some-get_str.ensures c.inspect.ensures
+
+pub returns-then-renews : goal.returns-then-renews
+returns-then-renews c =
+    let now : Option (Bor Text) → Option Text = option_map (λ s. s.now) in
+    renewal_here c.args.matches.now c.in-Some.command c.in-Some.inner
+    c.in-Some-get_str.store.now (now c.get_str-then-renews.result) c.is_set-then-renews.result
+    c.renewal.result c.in-Some.ensures.name c.in-Some.ensures.rows
+    (same c.in-Some.command.now renew c.eq-renews.result c.eq-renews.ensures c.if-renews.true)
+    c.in-Some-get_str.ensures c.get_str-then-renews.ensures c.is_set-then-renews.ensures
+    c.renewal.ensures
 
 pub unreachable-requires-in_default-get_str-2 : goal.unreachable-requires-in_default-get_str-2
 unreachable-requires-in_default-get_str-2 c =
@@ -76,7 +86,8 @@ unreachable-requires-in_default-get_str-2 c =
     (differ command crew c.eq-crews.result c.eq-crews.ensures c.if-crews.false)
     (differ command format c.eq-formats.result c.eq-formats.ensures c.if-formats.false)
     (differ command script c.eq-scripts.result c.eq-scripts.ensures c.if-scripts.false)
-    (differ command inspect c.eq-inspects.result c.eq-inspects.ensures c.if-inspects.false) in
+    (differ command inspect c.eq-inspects.result c.eq-inspects.ensures c.if-inspects.false)
+    (differ command renew c.eq-renews.result c.eq-renews.ensures c.if-renews.false) in
     new_is_there (new_by c.args.matches.now) left.1.0 left.1.1
     (new_here c.args.matches.now c.in-Some.command c.in-Some.inner c.in-Some.ensures.rows
     ∙ sym c.in_default-get_str-2.ensures)
@@ -93,10 +104,11 @@ returns c =
     (differ command crew c.eq-crews.result c.eq-crews.ensures c.if-crews.false)
     (differ command format c.eq-formats.result c.eq-formats.ensures c.if-formats.false)
     (differ command script c.eq-scripts.result c.eq-scripts.ensures c.if-scripts.false)
-    (differ command inspect c.eq-inspects.result c.eq-inspects.ensures c.if-inspects.false) in
+    (differ command inspect c.eq-inspects.result c.eq-inspects.ensures c.if-inspects.false)
+    (differ command renew c.eq-renews.result c.eq-renews.ensures c.if-renews.false) in
     two_asked (named_by c.args.matches.now) (new_by c.args.matches.now) command
-    c.in-Some-get_str.store.now c.in-Some-get_str-2.new.now c.eq-renews.result
-    (subcommand_rows_of c.args.matches.now) c.for_two.result left.0 c.eq-renews.ensures
+    c.in-Some-get_str.store.now c.in-Some-get_str-2.new.now
+    (subcommand_rows_of c.args.matches.now) c.for_two.result left.0
     (at ∙ ap (λ s. Some (command, s)) (sym c.in-Some-get_str.ensures))
     (new_here c.args.matches.now c.in-Some.command c.in-Some.inner c.in-Some.ensures.rows
     ∙ sym c.in-Some-get_str-2.ensures)
