@@ -3,7 +3,7 @@
 use crate::words::{Case, Told};
 
 /// Words that ask for nothing.
-pub static MISTAKES: [Case; 21] = [
+pub static MISTAKES: [Case; 25] = [
     (&[], Told::Mistake("Usage: night <COMMAND>")),
     (&[""], Told::Mistake("unrecognized subcommand ''")),
     (
@@ -59,8 +59,24 @@ pub static MISTAKES: [Case; 21] = [
         Told::Mistake("unexpected argument 'c.disk' found"),
     ),
     (
-        &["renew", "a.disk"],
+        &["renew", "--in-place"],
         Told::Mistake("required arguments were not provided"),
+    ),
+    (
+        &["inspect", "a.disk", "--phase"],
+        Told::Mistake("a value is required for '--phase <PHASE>'"),
+    ),
+    (
+        &["inspect", "--group", "--tasks", "a"],
+        Told::Mistake("a value is required for '--group <GROUP>'"),
+    ),
+    (
+        &["inspect", "--phase", "held"],
+        Told::Mistake("required arguments were not provided"),
+    ),
+    (
+        &["inspect", "--phase=held", "a", "--phase=held"],
+        Told::Mistake("cannot be used multiple times"),
     ),
     (
         &["renew", "a.disk", "b.disk", "c.disk"],
@@ -82,7 +98,7 @@ pub static MISTAKES: [Case; 21] = [
 ];
 
 /// Flags that stand twice, have a value, or stand where their command doesn't take them.
-pub static STRAY_FLAGS: [Case; 17] = [
+pub static STRAY_FLAGS: [Case; 23] = [
     (
         &["demo", "--strict", "--strict"],
         Told::Mistake("'--strict' cannot be used multiple times"),
@@ -98,6 +114,30 @@ pub static STRAY_FLAGS: [Case; 17] = [
     (
         &["crew", "--known", "a", "--known"],
         Told::Mistake("'--known' cannot be used multiple times"),
+    ),
+    (
+        &["script", "--now", "a", "--now"],
+        Told::Mistake("'--now' cannot be used multiple times"),
+    ),
+    (
+        &["renew", "--in-place", "a", "--in-place"],
+        Told::Mistake("'--in-place' cannot be used multiple times"),
+    ),
+    (
+        &["demo", "--now"],
+        Told::Mistake("unexpected argument '--now' found"),
+    ),
+    (
+        &["migrate", "--in-place", "a"],
+        Told::Mistake("unexpected argument '--in-place' found"),
+    ),
+    (
+        &["crew", "a", "--phase", "held"],
+        Told::Mistake("unexpected argument '--phase' found"),
+    ),
+    (
+        &["inspect", "--tree=a", "a"],
+        Told::Mistake("unexpected value 'a' for '--tree'"),
     ),
     (
         &["demo", "--strict=true"],

@@ -1,8 +1,10 @@
 //! Tests of the words of the command line: what each asks for, and which are mistakes.
 
-use crate::asserts::{done, holds};
+use crate::asserts::{done, given, holds};
 use crate::word_mistakes::{MISTAKES, STRAY_FLAGS};
+use console_lines::Row;
 use night_words::{Asked, View, WordsFault, own_words, read_words};
+use run_model::{Name, Phase, TaskLook, Text};
 use std::alloc::{AllocError, Global};
 use std::env::{Env, FillError};
 use std::process::Abort;
@@ -101,37 +103,49 @@ static FLAGS: [Case; 12] = [
     ),
 ];
 
+/// `--now` and `--strict`, together or one alone; behind `--` each is the name of a store.
+static RUNS: [Case; 8] = [
+    (&["script", "--now", "a"], Told::Script("a", false, true)),
+    (&["script", "a", "--now"], Told::Script("a", false, true)),
+    (
+        &["script", "--now", "--strict", "a"],
+        Told::Script("a", true, true),
+    ),
+    (
+        &["script", "--strict", "a", "--now"],
+        Told::Script("a", true, true),
+    ),
+    (
+        &["script", "--now", "--", "-a"],
+        Told::Script("-a", false, true),
+    ),
+    (
+        &["script", "--", "--now"],
+        Told::Script("--now", false, false),
+    ),
+    (
+        &["script", "--strict", "--", "--now"],
+        Told::Script("--now", true, false),
+    ),
+    (
+        &["script", "a", "--now", "--"],
+        Told::Script("a", false, true),
+    ),
+];
+
+/// The lines of all tasks.
+const TASKS: View<'static> = View::Tasks {
+    phase: None,
+    group: None,
+};
+
 /// The flags of a view, one alone; behind `--` each is the name of a store.
-static VIEWS: [Case; 9] = [
-    (
-        &["inspect", "--tasks", "a"],
-        Told::Inspect(
-            "a",
-            View::Tasks {
-                phase: None,
-                group: None,
-            },
-        ),
-    ),
-    (
-        &["inspect", "a", "--tasks"],
-        Told::Inspect(
-            "a",
-            View::Tasks {
-                phase: None,
-                group: None,
-            },
-        ),
-    ),
+static VIEWS: [Case; 13] = [
+    (&["inspect", "--tasks", "a"], Told::Inspect("a", TASKS)),
+    (&["inspect", "a", "--tasks"], Told::Inspect("a", TASKS)),
     (
         &["inspect", "--tasks", "--", "--tasks"],
-        Told::Inspect(
-            "--tasks",
-            View::Tasks {
-                phase: None,
-                group: None,
-            },
-        ),
+        Told::Inspect("--tasks", TASKS),
     ),
     (
         &["inspect", "--", "--tasks"],
@@ -143,8 +157,114 @@ static VIEWS: [Case; 9] = [
         &["inspect", "--json", "--", "--tasks"],
         Told::Inspect("--tasks", View::Json),
     ),
+    (&["inspect", "--tree", "a"], Told::Inspect("a", View::Tree)),
+    (&["inspect", "a", "--tree"], Told::Inspect("a", View::Tree)),
+    (
+        &["inspect", "--tree", "--", "--json"],
+        Told::Inspect("--json", View::Tree),
+    ),
+    (
+        &["inspect", "--", "--tree"],
+        Told::Inspect("--tree", View::Whole),
+    ),
+    (
+        &["inspect", "--", "--phase"],
+        Told::Inspect("--phase", View::Whole),
+    ),
+    (
+        &["inspect", "a", "--tree", "--"],
+        Told::Inspect("a", View::Tree),
+    ),
+];
+
+/// More than one view.
+static TWO_VIEWS: [Case; 9] = [
     (&["inspect", "--json", "--tasks", "a"], Told::Views),
     (&["inspect", "--tasks", "a", "--json"], Told::Views),
+    (&["inspect", "--tasks", "--tree", "a"], Told::Views),
+    (&["inspect", "--tree", "a", "--json"], Told::Views),
+    (
+        &["inspect", "--tree", "--json", "--tasks", "a"],
+        Told::Views,
+    ),
+    (&["inspect", "--phase", "held", "--json", "a"], Told::Views),
+    (&["inspect", "--tree", "a", "--phase=held"], Told::Views),
+    (&["inspect", "--group", "g", "a", "--tree"], Told::Views),
+    (
+        &["inspect", "--json", "--group=g", "--phase=x", "a"],
+        Told::Views,
+    ),
+];
+
+/// The tasks in this phase, and of this group.
+const fn tasks(phase: Option<&'static str>, group: Option<&'static str>) -> View<'static> {
+    View::Tasks { phase, group }
+}
+
+/// The tasks of a phase or of a group, with `--tasks` or without it.
+static SOME_TASKS: [Case; 18] = [
+    (
+        &["inspect", "--phase", "held", "a"],
+        Told::Inspect("a", tasks(Some("held"), None)),
+    ),
+    (
+        &["inspect", "a", "--phase", "ready"],
+        Told::Inspect("a", tasks(Some("ready"), None)),
+    ),
+    (
+        &["inspect", "--phase=running", "a"],
+        Told::Inspect("a", tasks(Some("running"), None)),
+    ),
+    (
+        &["inspect", "--tasks", "--phase=success", "a"],
+        Told::Inspect("a", tasks(Some("success"), None)),
+    ),
+    (
+        &["inspect", "--phase", "error", "--tasks", "a"],
+        Told::Inspect("a", tasks(Some("error"), None)),
+    ),
+    (
+        &["inspect", "a", "--phase=interrupted", "--tasks"],
+        Told::Inspect("a", tasks(Some("interrupted"), None)),
+    ),
+    (
+        &["inspect", "--group", "g", "a"],
+        Told::Inspect("a", tasks(None, Some("g"))),
+    ),
+    (
+        &["inspect", "a", "--group=held"],
+        Told::Inspect("a", tasks(None, Some("held"))),
+    ),
+    (
+        &["inspect", "--group=", "a"],
+        Told::Inspect("a", tasks(None, Some(""))),
+    ),
+    (
+        &["inspect", "--group", "No Group", "a"],
+        Told::Inspect("a", tasks(None, Some("No Group"))),
+    ),
+    (
+        &["inspect", "--group=ready", "--phase=held", "a"],
+        Told::Inspect("a", tasks(Some("held"), Some("ready"))),
+    ),
+    (
+        &[
+            "inspect", "--phase", "held", "a", "--group", "ready", "--tasks",
+        ],
+        Told::Inspect("a", tasks(Some("held"), Some("ready"))),
+    ),
+    (
+        &["inspect", "--phase=held", "--", "--phase=held"],
+        Told::Inspect("--phase=held", tasks(Some("held"), None)),
+    ),
+    (&["inspect", "--phase", "Held", "a"], Told::Phase),
+    (&["inspect", "--phase=", "a"], Told::Phase),
+    (
+        &["inspect", "--phase", "failure", "a", "--group=g"],
+        Told::Phase,
+    ),
+    (&["inspect", "--tasks", "--phase=held ", "a"], Told::Phase),
+    (&["inspect", "--phase", "error no", "a"], Told::Phase),
 ];
 
 static MIGRATIONS: [Case; 7] = [
@@ -171,6 +291,27 @@ static RENEWALS: [Case; 7] = [
     (&["renew", "a", ""], Told::Renewal("a", "")),
     (&["renew", "a.disk", "a.disk"], Told::SameStores),
     (&["renew", "--", "-a", "-a"], Told::SameStores),
+];
+
+/// A renewal in its place, and one with neither a place nor a new store, or with both.
+static RENEWALS_IN_PLACE: [Case; 11] = [
+    (&["renew", "--in-place", "a.disk"], Told::InPlace("a.disk")),
+    (&["renew", "a.disk", "--in-place"], Told::InPlace("a.disk")),
+    (&["renew", "--in-place", "--", "-a"], Told::InPlace("-a")),
+    (&["renew", "a", "--in-place", "--"], Told::InPlace("a")),
+    (
+        &["renew", "--", "--in-place", "a"],
+        Told::Renewal("--in-place", "a"),
+    ),
+    (
+        &["renew", "a", "--", "--in-place"],
+        Told::Renewal("a", "--in-place"),
+    ),
+    (&["renew", "a.disk"], Told::Place),
+    (&["renew", "--", "a.disk"], Told::Place),
+    (&["renew", "--in-place", "a", "b"], Told::Place),
+    (&["renew", "a", "b", "--in-place"], Told::Place),
+    (&["renew", "a", "--in-place", "a"], Told::Place),
 ];
 
 static CREWS: [Case; 13] = [
@@ -204,7 +345,7 @@ static CREWS: [Case; 13] = [
     (&["crew", "a", "--workers", "two"], Told::Workers),
 ];
 
-static HELP: [Case; 20] = [
+static HELP: [Case; 27] = [
     (&["--help"], Told::Help("Usage: night <COMMAND>")),
     (&["--help"], Told::Help("A line asks one thing of a book")),
     (&["--help"], Told::Help("docs/formats/console.md and")),
@@ -244,8 +385,38 @@ static HELP: [Case; 20] = [
         Told::Help("Usage: night migrate <OLD> <NEW>"),
     ),
     (
+        &["inspect", "--help"],
+        Told::Help("      --phase <PHASE>  Prints those alone that are held, ready, running,"),
+    ),
+    (
+        &["inspect", "--help"],
+        Told::Help("      --group <GROUP>  Prints those alone that are of this group\n"),
+    ),
+    (
+        &["inspect", "--help"],
+        Told::Help("      --tree           Draws its scopes as a tree, with their groups"),
+    ),
+    (
+        &["script", "--help"],
+        Told::Help("Moves the clock to the machine's time"),
+    ),
+    (
         &["renew", "--help"],
-        Told::Help("Usage: night renew <OLD> <NEW>"),
+        Told::Help("Usage: night renew [OPTIONS] <OLD> [NEW]"),
+    ),
+    (
+        &["renew", "--help"],
+        Told::Help("Makes the new store in the place of OLD; there is no NEW then\n"),
+    ),
+    (
+        &["renew", "--help"],
+        Told::Help(
+            "Examples:\n  night renew old.store new.store\n  night renew --in-place jobs.store\n",
+        ),
+    ),
+    (
+        &["renew", "--help"],
+        Told::Help("`night script --help` lists all lines"),
     ),
     (
         &["crew", "--help"],
@@ -270,7 +441,7 @@ static HELP: [Case; 20] = [
 ];
 
 /// The words whose input is lines.
-static RUNS: [&str; 2] = ["demo", "script"];
+static READERS: [&str; 2] = ["demo", "script"];
 
 /// The lines that there are, as help has them.
 static LINES: [&str; 22] = [
@@ -477,17 +648,81 @@ fn a_store_is_named(rt: HostRuntime) {
 #[test]
 fn a_flag_may_stand_there(rt: HostRuntime) {
     assert_told(&rt, rt.alloc(), &FLAGS);
+    assert_told(&rt, rt.alloc(), &RUNS);
 }
 
 #[test]
 fn a_view_may_be_asked_for(rt: HostRuntime) {
     assert_told(&rt, rt.alloc(), &VIEWS);
+    assert_told(&rt, rt.alloc(), &TWO_VIEWS);
+}
+
+#[test]
+fn some_tasks_may_be_asked_for(rt: HostRuntime) {
+    assert_told(&rt, rt.alloc(), &SOME_TASKS);
 }
 
 #[test]
 fn two_stores_are_named(rt: HostRuntime) {
     assert_told(&rt, rt.alloc(), &MIGRATIONS);
     assert_told(&rt, rt.alloc(), &RENEWALS);
+}
+
+/// The words of the phases.
+static PHASES: [&str; 6] = [
+    "held",
+    "ready",
+    "running",
+    "success",
+    "error",
+    "interrupted",
+];
+
+/// The phase whose word has this place.
+fn phase_of(place: usize) -> Option<Phase> {
+    match place {
+        0 => Some(Phase::Held),
+        1 => Some(Phase::Ready),
+        2 => Some(Phase::Running),
+        3 => Some(Phase::Success),
+        4 => Some(Phase::Failure(Text::read(b"held")?)),
+        5 => Some(Phase::Interrupted),
+        _ => None,
+    }
+}
+
+/// The row of a task in this phase.
+fn row_in(phase: Phase) -> Option<Row> {
+    let look = TaskLook {
+        group: 0,
+        job: Name::read(b"copy")?,
+        argument: Name::read(b"a")?,
+        phase,
+        retry_of: None,
+    };
+    Some(Row::Task(0, Name::read(b"g")?, look))
+}
+
+/// Says whether the row of a task in the phase of this place is listed by this word.
+fn is_listed(place: usize, word: &str) -> Option<bool> {
+    let row = row_in(phase_of(place)?)?;
+    Some(row.is_listed(Some(word), None))
+}
+
+/// Each word that is taken for a phase lists the tasks in one phase, and each phase has a word.
+#[test]
+fn each_phase_has_its_word(rt: HostRuntime) {
+    for place in 0..6 {
+        for (n, word) in PHASES.iter().enumerate() {
+            let listed = given(&rt, is_listed(place, word), "row");
+            holds(&rt, listed == (place == n), "phase", place);
+        }
+    }
+}
+
+#[test]
+fn a_store_may_be_renewed_in_place(rt: HostRuntime) {
+    assert_told(&rt, rt.alloc(), &RENEWALS_IN_PLACE);
 }
 
 #[test]
@@ -521,7 +756,7 @@ fn lines_in(text: &str) -> usize {
 
 #[test]
 fn all_lines_are_listed(rt: HostRuntime) {
-    for (n, word) in RUNS.iter().enumerate() {
+    for (n, word) in READERS.iter().enumerate() {
         let lines = done(&rt, listed(rt.alloc(), word), "memory");
         holds(&rt, lines == 22, "the help of word", n);
     }
