@@ -12,15 +12,21 @@ _night() {
     case ${COMP_WORDS[1]} in
         demo) flags="--strict --help" ;;
         format) flags="--new --help" ;;
-        script) flags="--strict --help" ;;
+        script) flags="--strict --now --help" ;;
         crew) flags="--workers --known --help" ;;
-        inspect) flags="--tasks --json --help" ;;
-        migrate | renew) flags="--help" ;;
+        inspect) flags="--tasks --phase --group --json --tree --help" ;;
+        migrate) flags="--help" ;;
+        renew) flags="--in-place --help" ;;
         help) mapfile -t COMPREPLY < <(compgen -W "$words" -- "$current") && return ;;
         *) return ;;
     esac
     if [[ $before == --workers ]]; then
         mapfile -t COMPREPLY < <(compgen -W "1 2 3 4 5 6 7 8" -- "$current")
+    elif [[ $before == --phase ]]; then
+        mapfile -t COMPREPLY < <(
+            compgen -W "held ready running success error interrupted" -- "$current")
+    elif [[ $before == --group ]]; then
+        return
     elif [[ $current == -* ]]; then
         mapfile -t COMPREPLY < <(compgen -W "$flags" -- "$current")
     elif [[ ${COMP_WORDS[1]} != demo ]]; then
