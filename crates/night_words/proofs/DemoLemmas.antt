@@ -1,5 +1,5 @@
 -- The words behind `demo`: its flag, and the mark `--`.
-use Rattle.std.proofs.Common.{◌≡◌, ◌∙◌, ◌∷◌, ◌++◌, ◌⊎◌, Bool, List, Option, Some, None, [], ap}
+use Rattle.std.proofs.Common.{◌≡◌, ◌∙◌, ◌∷◌, ◌++◌, ◌⊎◌, Bool, List, None, [], ap}
 use Rattle.std.proofs.Common.{false, inl, inr, refl, subst, true}
 use Rattle.std.specs.Prelude.{codes}
 use Rattle.std.specs.List.{slice_index_or}

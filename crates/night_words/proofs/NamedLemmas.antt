@@ -1,5 +1,5 @@
 -- What the parser's matches name, as their caller reads it.
-use Rattle.std.proofs.Common.{◌≡◌, ◌∙◌, ◌⊎◌, Bool, List, Option, Some, None, [], ap, ap₂}
+use Rattle.std.proofs.Common.{◌≡◌, ◌∙◌, Bool, List, Option, Some, None, [], ap, ap₂}
 use Rattle.std.proofs.Common.{false, inl}
 use Rattle.std.proofs.Common.{inr, refl, subst, sym, true}
 use Rattle.std.specs.Prelude.{Box, codes, is_some, option_and_then, option_map, unwrap_or}
@@ -19,7 +19,7 @@ use Rattle.clap.specs.declared.parser.matches.SubCommand.{SubCommand}
 use Rattle.night_words.specs.Commands.{Asks, IsCrew, IsForTwo, IsInspect, IsNamed, IsRenewal}
 use Rattle.night_words.specs.Commands.{IsView, Named, NamesDemo, NamesFormat, NamesInspect}
 use Rattle.night_words.specs.Commands.{NamesRenewal, NamesScript, NamesTwo, command_in, has_flag}
-use Rattle.night_words.specs.Commands.{is_true, named_by, named_in, new_by, new_in, word_in}
+use Rattle.night_words.specs.Commands.{is_true, named_by, named_in, new_by, word_in}
 use Rattle.night_words.specs.Commands.{workers_of}
 use Rattle.night_words.specs.declared.asked.Asked.{Asked}
 use Rattle.night_words.specs.declared.asked.Asked.TheVariants.{Demo, Format, Script, Inspect, Help}

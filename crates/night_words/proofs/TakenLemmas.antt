@@ -1,6 +1,6 @@
 -- The words that are taken: a command, and the words behind it that it takes.
 use Rattle.std.proofs.Common.{◌≡◌, ◌∙◌, ◌∷◌, ◌++◌, ◌⊎◌, Bool, List, Option, Some, None, [], ap}
-use Rattle.std.proofs.Common.{ap₂, append-nil, append_assoc, cond, false, inl, inr, refl, subst}
+use Rattle.std.proofs.Common.{append-nil, append_assoc, cond, false, inl, inr, refl, subst}
 use Rattle.std.proofs.Common.{sym}
 use Rattle.std.proofs.Common.{true}
 use Rattle.std.specs.Prelude.{◌||◌, codes, fold, is_some, option_map}

@@ -1,7 +1,7 @@
 -- What is used behind a command stays told: a flag that stands there, and the value of an option.
-use Rattle.std.proofs.Common.{◌≡◌, ◌∙◌, ◌∷◌, ◌++◌, ◌⊎◌, ℕ, Bool, List, Option, Some, None, [], ap}
-use Rattle.std.proofs.Common.{false, inl, inr, length, refl, subst, suc, sym, true}
-use Rattle.std.specs.Prelude.{◌&&◌, ◌==◌, codes, if◌then◌else◌, is_some, not, slice_get, unwrap_or}
+use Rattle.std.proofs.Common.{◌≡◌, ◌∙◌, ◌∷◌, ◌++◌, ℕ, Bool, List, Option, Some, None, [], ap}
+use Rattle.std.proofs.Common.{false, length, refl, subst, suc, sym, true}
+use Rattle.std.specs.Prelude.{◌&&◌, ◌==◌, codes, if◌then◌else◌, is_some}
 use Rattle.std.specs.Option.{option_map_or}
 use Rattle.std.specs.Str.{bytes_eq}
 use Rattle.std.proofs.Math.Dec.{eqb-zero-suc}

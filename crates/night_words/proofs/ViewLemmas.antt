@@ -1,5 +1,5 @@
 -- Which view is asked for, where the words that were found are looked for in two ways.
-use Rattle.std.proofs.Common.{◌≡◌, ◌∙◌, Bool, Option, ap, sym}
+use Rattle.std.proofs.Common.{◌≡◌, ◌∙◌, Option, ap}
 use Rattle.std.specs.Prelude.{◌||◌, Result, Ok, Err, codes, is_some}
 use Rattle.clap.specs.Walk.{Text}
 use Rattle.night_words.specs.Commands.{IsView, are_two, asks_tasks, is_true, names_phase}
