@@ -6,30 +6,43 @@ kept in STORE.ended, durable before that, and the store is renewed last. A kill 
 file that says no more than the store, or groups that take no more tasks: the next run goes on.
 """
 
-from . import Fault, tell
-from .night import ALREADY_DONE, Night, renew
+import time
+
+from . import Fault, base_of, tell
+from .night import ALREADY_DONE, MOST_BUSY, Night, NightEnded, renew
 from .past import write_past
-from .store import base_of
 
 
 def renew_if_nearly_full(store, log, jobs, held):
     """Renews the store where less than a quarter of it is free and something can go."""
-    if not store.is_nearly_full() or not store.state().finished():
-        return
-    night = Night(store.path, held)
-    night.ask("flush")
-    state = store.state()
-    log.note_all(state, jobs)
-    log.sync()
-    gone = state.finished()
-    write_past(store.path, state.events, ends(state, gone))
-    night.ask(*(line for group in gone for line in closing(state, group)), "flush",
-              may=[ALREADY_DONE])
-    night.end()
+    for _ in range(MOST_BUSY):
+        try:
+            if not store.is_nearly_full() or not store.state().finished():
+                return
+            give_back(store, log, jobs, held)
+            break
+        except NightEnded as ended:
+            if ended.status >= 0 and not ended.is_in_use():
+                raise
+            time.sleep(0.1)
     try:
         tell(f"{store.path}: {renew(store.path, held)}")
     except Fault as fault:
         tell(f"{store.path} is nearly full, and can't be renewed; it is used as it is: {fault}")
+
+
+def give_back(store, log, jobs, held):
+    """Keeps how the commands of finished groups ended, and lets these groups go."""
+    night = Night(store.path, held)
+    night.ask("flush")
+    state = store.state()
+    gone = state.finished()
+    log.note_all(state, jobs)
+    log.sync()
+    write_past(store.path, state.events, ends(state, gone))
+    night.ask(*(line for group in gone for line in closing(state, group)), "flush",
+              may=[ALREADY_DONE])
+    night.end()
 
 
 def ends(state, gone):
