@@ -7,6 +7,7 @@ use Rattle.std.proofs.lemmas.Bool.{eqb-true}
 use Rattle.std.proofs.lemmas.List.{length-drop}
 use Rattle.console_lines.specs.Trees.{behind, children, drawn_below, later_siblings, parent_of}
 use Rattle.console_lines.specs.Trees.{places_of}
+use Rattle.console_lines.specs.Walks.{AreRising, after, all_below, forest}
 
 -- These numbers are all from one up to below another.
 abbrev pub AreWithin : ℕ → ℕ → List ℕ → Type 0
@@ -63,14 +64,6 @@ drawn_same (suc a) (suc b) n parents less p q =
 
 -- ---- what is drawn behind a node
 
--- A node and all below it.
-abbrev pub all_below : List ℕ → ℕ → List ℕ
-all_below parents = drawn_below (length parents) parents
-
--- These nodes, each with all below it.
-abbrev pub forest : List ℕ → List ℕ → List ℕ
-forest parents ns = flat_map (all_below parents) ns
-
 -- The node comes first, and its children follow.
 pub node_first : (parents : List ℕ) (n : ℕ) → n < length parents
     → all_below parents n ≡ n ∷ forest parents (children parents n)
@@ -89,19 +82,6 @@ pub first_child : (parents : List ℕ) (n child : ℕ) (rest : List ℕ) → n <
     → all_below parents n ≡ n ∷ (all_below parents child ++ forest parents rest)
 first_child parents n child rest less some =
     node_first parents n less ∙ ap (λ ns. n ∷ forest parents ns) some
-
--- What follows a node and all below it: its later siblings, and then what follows its parent. No
--- way upwards is longer than this number.
-abbrev pub after : ℕ → List ℕ → ℕ → List ℕ
-after zero parents n = []
-after (suc most) parents zero = []
-after (suc most) parents (suc n) =
-    forest parents (later_siblings parents (suc n))
-    ++ after most parents (parent_of parents (suc n))
-
--- Each node but root has a parent of a lesser number.
-abbrev pub AreRising : List ℕ → Type 0
-AreRising parents = (n : ℕ) → 0 < n → parent_of parents n < n
 
 -- Two bounds that are both enough give the same.
 pub after_same : (a b n : ℕ) (parents : List ℕ) → AreRising parents → n ≤ a → n ≤ b

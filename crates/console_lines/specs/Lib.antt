@@ -20,4 +20,5 @@ pub mod Tallies
 pub mod TaskLines
 pub mod TreeNights
 pub mod Trees
+pub mod Walks
 pub mod Words

@@ -89,13 +89,15 @@ passing = by_siblings bar (codes "  ")
 abbrev pub mark : List ℕ → ℕ → List ℕ
 mark = by_siblings branch corner
 
--- A line is led by what is drawn for each node above its own, from the top on, and by its own mark.
--- Nothing is drawn for root.
+-- What is drawn for each node above a node, from the top on. Nothing is drawn for root.
+abbrev pub above : List ℕ → ℕ → List ℕ
+above parents n =
+    flat_map (passing parents) (reverse (upwards n parents (parent_of parents n)))
+
+-- A line is led by what is drawn for the nodes above its own, and by its own mark; root's by
+-- nothing.
 abbrev pub lead : List ℕ → ℕ → List ℕ
-lead parents n =
-    if nat_eq n 0 then []
-    else (flat_map (passing parents) (reverse (upwards n parents (parent_of parents n)))
-    ++ mark parents n)
+lead parents n = if nat_eq n 0 then [] else (above parents n ++ mark parents n)
 
 -- ---- lines
 

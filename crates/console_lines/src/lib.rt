@@ -27,6 +27,7 @@ mod tallies;
 mod task_lines;
 pub mod tree_nights;
 mod trees;
+mod walks;
 mod wishes;
 mod words;
 
@@ -40,3 +41,4 @@ pub use rows::{LONGEST_ROW, Row};
 pub use strays::{Stray, StrayLine};
 pub use tallies::{Counts, Tally};
 pub use trees::{LONGEST_TREE_SCOPE, gather_tree_scope};
+pub use walks::{Above, MOST_NODES, mark, next_node};
