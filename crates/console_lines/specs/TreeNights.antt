@@ -25,14 +25,15 @@ abbrev pub below : List (List ℕ × String) → List ℕ
 below [] = []
 below (line ∷ lines) = line.0 ++ (codes line.1 ++ 10 ∷ below lines)
 
--- Behind a night these lines are drawn.
+-- Behind a night these lines are drawn, that of the store first.
 abbrev pub IsDrawn : Night → List (List ℕ × String) → Type 0
 IsDrawn night lines = tree_text (session_of night).state ≡ below lines
 
 -- What is drawn of a scope of each kind, below root.
 abbrev pub kinds_drawn : List (List ℕ × String)
 kinds_drawn =
-    ([], "scope 0 root root; live; deadline none")
+    ([], "events 8; clock 0; scopes 7 of 1024; groups 1 of 128; tasks 0 of 2048")
+    ∷ ([], "scope 0 root root; live; deadline none")
     ∷ (l, "scope 1 v value k a\"b\\c; live; deadline none")
     ∷ (s 1 ++ l, "scope 2 x cause; done; deadline none; err context canceled; cause disk")
     ∷ (s 2 ++ l, "scope 3 d detached; live; deadline none")
@@ -45,7 +46,8 @@ kinds_drawn =
 -- What is drawn of the night of three tasks. A bare group stands below root, behind root's scopes.
 abbrev pub tasks_drawn : List (List ℕ × String)
 tasks_drawn =
-    ([], "scope 0 root root; live; deadline none")
+    ([], "events 10; clock 0; scopes 2 of 1024; groups 2 of 128; tasks 3 of 2048")
+    ∷ ([], "scope 0 root root; live; deadline none")
     ∷ (t, "scope 1 g group; live; deadline none")
     ∷ (b ++ l, "group 0 g unfinished 2; limit 1; waited no; error none")
     ∷ (b ++ s 1 ++ t, "task 0 g copy a running")
@@ -74,7 +76,8 @@ cancelled_backup =
 -- What is drawn of it.
 abbrev pub backup_drawn : List (List ℕ × String)
 backup_drawn =
-    ([], "scope 0 root root; live; deadline none")
+    ([], "events 13; clock 3600; scopes 7 of 1024; groups 1 of 128; tasks 1 of 2048")
+    ∷ ([], "scope 0 root root; live; deadline none")
     ∷ (l, "scope 1 night value region eu; live; deadline none")
     ∷ (
       s 1 ++ l,

@@ -1,17 +1,23 @@
--- What is drawn of a whole state as a tree: a line for each scope, each group and each task, below
--- that of what it belongs to.
+-- What is drawn of a whole state as a tree: how full the store is, and a line for each scope, each
+-- group and each task, below that of what it belongs to.
 use Rattle.std.specs.Prelude.{ℕ, zero, suc, ◌+◌, ◌-◌, nat_eq, nat_lt, if◌then◌else◌}
 use Rattle.std.specs.Prelude.{List, [], ◌∷◌, ◌++◌, length, drop, map, reverse}
 use Rattle.std.specs.Prelude.{codes, slice_get}
+use Rattle.std.specs.Fmt.{decimal}
 use Rattle.std.specs.List.{flat_map}
 use Rattle.std.specs.Option.{option_map_or}
+use Rattle.run_model.specs.declared.bounds.TheConstants.{MOST_GROUPS}
 use Rattle.run_model.specs.declared.answers.Look.{Look}
+use Rattle.run_model.specs.declared.layouts.Layout.{Layout}
 use Rattle.run_model.specs.declared.scopes.Kind.{Kind}
 use Rattle.run_model.specs.declared.scopes.Kind.TheVariants as kind
+use Rattle.run_model.specs.Layouts.{most_scopes, most_tasks}
 use Rattle.run_model.specs.Questions.{look_of}
 use Rattle.run_model.specs.State.{State}
+use Rattle.console_lines.specs.declared.rows.Row.TheVariants as row
+use Rattle.console_lines.specs.declared.trees.Taken.{Taken}
 use Rattle.console_lines.specs.Entries.{kind_word}
-use Rattle.console_lines.specs.Inspected.{group_line, named, task_line}
+use Rattle.console_lines.specs.Inspected.{group_line, named, row_text, task_line}
 use Rattle.console_lines.specs.Replies.{scope_text}
 
 -- ---- nodes
@@ -133,6 +139,33 @@ own_line p n =
 abbrev pub node_line : State → ℕ → List ℕ
 node_line p n = lead (parents_of p) n ++ own_line p n
 
--- All that is drawn of a state: the line of each node, in their order.
+-- How many of these there are and can be, as in `; tasks 2 of 8192`.
+abbrev pub taken_text : List ℕ → (count most : ℕ) → List ℕ
+taken_text word count most =
+    codes "; " ++ (word ++ (codes " " ++ (decimal count ++ (codes " of " ++ decimal most))))
+
+-- How much of a store of this layout is taken.
+abbrev pub fullness : Layout → Taken → List ℕ
+fullness layout taken =
+    taken_text (codes "scopes") taken.scopes (most_scopes layout)
+    ++ (taken_text (codes "groups") taken.groups MOST_GROUPS
+    ++ taken_text (codes "tasks") taken.tasks (most_tasks layout))
+
+-- The first line: how many events there were and the clock, and how full the store is.
+abbrev pub head_line : (count clock : ℕ) → Layout → Taken → List ℕ
+head_line count clock layout taken =
+    row_text (row.Counts count clock) ++ (fullness layout taken ++ 10 ∷ [])
+
+-- What a state takes of its store.
+abbrev pub taken_of : State → Taken
+taken_of p = record {
+  scopes = length p.tree.scopes;
+  groups = length p.work.groups;
+  tasks = length p.work.tasks;
+}
+
+-- All that is drawn of a state: the first line, and the line of each node, in their order.
 abbrev pub tree_text : State → List ℕ
-tree_text p = flat_map (node_line p) (drawn (parents_of p))
+tree_text p =
+    head_line p.count p.tree.clock p.tree.layout (taken_of p)
+    ++ flat_map (node_line p) (drawn (parents_of p))

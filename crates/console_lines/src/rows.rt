@@ -64,7 +64,7 @@ fn push_row<const N: usize>(out: &mut ArrayVec<u8, N>, row: &Row)
 }
 
 /// How many events there were, and the clock.
-fn push_counts<const N: usize>(out: &mut ArrayVec<u8, N>, count: u64, clock: Moment)
+pub(crate) fn push_counts<const N: usize>(out: &mut ArrayVec<u8, N>, count: u64, clock: Moment)
     requires { array_vec_len out.old + 50 ≤ N }
     ensures { Gathers out.old.items out.new.items
         (codes "events " ++ (decimal count ++ (codes "; clock " ++ decimal clock))) 50 }

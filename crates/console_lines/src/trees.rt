@@ -1,19 +1,73 @@
-//! The line of a scope where a state is drawn as a tree. It takes no memory.
+//! The first line of a tree, which says how full a store is, and the line of a scope in it. They
+//! take no memory.
 
 ghost use Rattle.std.specs.Prelude.{◌≡◌, ◌++◌, ◌+◌, ◌≤◌, codes, length};
 ghost use Rattle.arrayvec.specs.ArrayVec.{array_vec_len};
+ghost use Rattle.console_lines.specs.declared.trees.TheConstants.{LONGEST_TREE_HEAD};
 ghost use Rattle.console_lines.specs.declared.trees.TheConstants.{LONGEST_TREE_SCOPE};
 ghost use Rattle.console_lines.specs.Gathers.{Gathers};
-ghost use Rattle.console_lines.specs.Trees.{kind_line, kind_text};
+ghost use Rattle.console_lines.specs.Trees.{fullness, head_line, kind_line, kind_text, taken_text};
 
 use crate::entries::kind_word;
-use crate::gathers::{push, push_look, push_name, push_text};
-use crate::rows::push_named;
+use crate::gathers::{push, push_look, push_name, push_number, push_text};
+use crate::rows::{push_counts, push_named};
 use arrayvec::ArrayVec;
-use run_model::{Kind, Look, Name, Text};
+use run_model::{Kind, Layout, Look, MOST_GROUPS, Moment, Name, Text};
+
+/// The first line of a tree has at most so many bytes, with its LF.
+pub const LONGEST_TREE_HEAD: usize = 212;
 
 /// No line of a scope has more bytes, with its LF, and without what leads it.
 pub const LONGEST_TREE_SCOPE: usize = 304;
+
+/// How much of a store is taken: how many scopes there are, root among them, and how many groups and
+/// tasks.
+pub struct Taken {
+    pub scopes: usize,
+    pub groups: usize,
+    pub tasks: usize,
+}
+
+/// Appends the first line: `events 6; clock 0; scopes 2 of 4096; groups 1 of 128; tasks 2 of 8192`.
+pub fn gather_tree_head<const N: usize>(
+    count: u64,
+    clock: Moment,
+    layout: Layout,
+    taken: &Taken,
+    out: &mut ArrayVec<u8, N>,
+)
+    requires { array_vec_len out.old + LONGEST_TREE_HEAD ≤ N }
+    ensures { Gathers out.old.items out.new.items (head_line count clock layout taken.now)
+        LONGEST_TREE_HEAD }
+{
+    push_counts(out, count, clock);
+    push_fullness(out, layout, taken);
+    push(out, b"\n");
+}
+
+/// How full a store is.
+fn push_fullness<const N: usize>(out: &mut ArrayVec<u8, N>, layout: Layout, taken: &Taken)
+    requires { array_vec_len out.old + 160 ≤ N }
+    ensures { Gathers out.old.items out.new.items (fullness layout taken.now) 160 }
+{
+    push_taken(out, b"scopes", taken.scopes, layout.most_scopes());
+    push_taken(out, b"groups", taken.groups, MOST_GROUPS);
+    push_taken(out, b"tasks", taken.tasks, layout.most_tasks());
+}
+
+/// How many of these there are and can be.
+fn push_taken<const N: usize>(out: &mut ArrayVec<u8, N>, word: &[u8], count: usize, most: usize)
+    requires word { length word.now ≤ 6 }
+    requires room { array_vec_len out.old + 53 ≤ N }
+    ensures { Gathers out.old.items out.new.items (taken_text word.now count most) 53 }
+{
+    push(out, b"; ");
+    push(out, word);
+    push(out, b" ");
+    push_number(out, count as u64);
+    push(out, b" of ");
+    push_number(out, most as u64);
+}
 
 /// Appends the line of a scope with its kind: `scope 1 g group; live; deadline none`.
 pub fn gather_tree_scope<const N: usize>(
