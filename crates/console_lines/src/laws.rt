@@ -6,7 +6,9 @@ ghost use Rattle.std.specs.List.{slice_split, list_all};
 ghost use Rattle.std.specs.Option.{option_to_list};
 ghost use Rattle.std.specs.Prelude.{◌≡◌, ◌≤◌, ◌==◌, ◌++◌, ◌∷◌, [], List, ℕ, true, false, Option};
 ghost use Rattle.std.specs.Prelude.{Some, None, Ok, codes, length};
+ghost use Rattle.run_model.specs.Rules.{IsConsistent};
 ghost use Rattle.run_model.specs.Session.{Session, session_after};
+ghost use Rattle.run_model.specs.State.{State};
 ghost use Rattle.run_model.specs.Texts.{is_name, is_text};
 ghost use Rattle.written_moment.specs.Moments.{moment_of};
 ghost use Rattle.written_moment.specs.Numbers.{number_of};
@@ -17,7 +19,8 @@ ghost use Rattle.console_lines.specs.Progress.{IsFront, kept};
 ghost use Rattle.console_lines.specs.Script.{after_line, after_lines, replies, reply, script};
 ghost use Rattle.console_lines.specs.Script.{steps_of};
 ghost use Rattle.console_lines.specs.Strict.{stray_in, strict_script};
-ghost use Rattle.console_lines.specs.Trees.{drawn, drawn_below};
+ghost use Rattle.console_lines.specs.Trees.{drawn, drawn_below, parents_of};
+ghost use Rattle.console_lines.specs.Walks.{AreRising};
 
 use crate::asked::Asked;
 use crate::strays::StrayLine;
@@ -99,4 +102,9 @@ pub fn a_strict_run_without_a_stray_line_is_a_run()
 pub fn a_tree_has_no_more_levels_than_nodes()
     ensures { (levels : ℕ) (parents : List ℕ) → 1 ≤ length parents → length parents ≤ levels
         → drawn_below levels parents 0 ≡ drawn parents }
+{}
+
+/// Where a state keeps the rules, each node of its tree but root stands behind its parent.
+pub fn a_node_stands_behind_its_parent()
+    ensures { (p : State) → IsConsistent p → AreRising (parents_of p) }
 {}

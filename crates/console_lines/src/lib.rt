@@ -40,6 +40,7 @@ pub use replies::{Reply, ShownName, ShownTrouble};
 pub use rows::{LONGEST_ROW, Row};
 pub use strays::{Stray, StrayLine};
 pub use tallies::{Counts, Tally};
-pub use trees::{LONGEST_TREE_HEAD, LONGEST_TREE_SCOPE, Taken};
-pub use trees::{gather_tree_head, gather_tree_scope};
+pub use trees::{
+    LONGEST_TREE_HEAD, LONGEST_TREE_SCOPE, Taken, gather_tree_head, gather_tree_scope,
+};
 pub use walks::{Above, MOST_NODES, mark, next_node};
