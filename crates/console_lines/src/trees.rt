@@ -22,6 +22,7 @@ pub const LONGEST_TREE_SCOPE: usize = 304;
 
 /// How much of a store is taken: how many scopes there are, root among them, and how many groups and
 /// tasks.
+#[derive(Clone, Copy)]
 pub struct Taken {
     pub scopes: usize,
     pub groups: usize,
