@@ -164,7 +164,10 @@ fn gather_entry<W: Write>(
 }
 
 /// Makes room for another entry: where there is none, all that was gathered is written.
-fn make_entry_room<W: Write>(gathered: &mut Gathered, output: &mut W) -> Result<(), RunFault>
+pub(crate) fn make_entry_room<W: Write>(
+    gathered: &mut Gathered,
+    output: &mut W,
+) -> Result<(), RunFault>
     ensures told { OnOk result (Told [] gathered.old.items gathered.new.items
         (W.contents output.old) (W.contents output.new)) }
     ensures room { OnOk result (array_vec_len gathered.new + LONGEST_ENTRY ≤ 8192) }

@@ -53,7 +53,7 @@ impl Rows {
     }
 
     /// What is seen of the one of this number.
-    fn seen<B: Allocator>(self, number: u16, state: &State<B>) -> Option<Row>
+    pub(crate) fn seen<B: Allocator>(self, number: u16, state: &State<B>) -> Option<Row>
         ensures { seen_line result ≡ line_of self state.now number }
     {
         match self {

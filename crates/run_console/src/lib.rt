@@ -2,8 +2,8 @@
 //!
 //! [`run`] runs a whole input, and [`line`] one line. What is written for a whole input is its
 //! script, as `console_lines` defines it. [`inspect`] prints a state, [`list_tasks`] the lines of
-//! its tasks alone, and [`print_json`] all of it as one object of JSON. [`crew`] works off the
-//! tasks of a store, and tells how that ended.
+//! its tasks alone, [`print_json`] all of it as one object of JSON, and [`print_tree`] as a tree.
+//! [`crew`] works off the tasks of a store, and tells how that ended.
 #![tactic(auto)]
 
 mod answers;
@@ -17,6 +17,7 @@ pub mod laws;
 mod listings;
 mod stricts;
 mod tallies;
+mod trees;
 mod writings;
 
 pub use console_lines::{RunFault, Stray, StrayLine};
@@ -28,4 +29,5 @@ pub use inspects::inspect;
 pub use listings::list_tasks;
 pub use run_book::Book;
 pub use stricts::run_strict;
+pub use trees::print_tree;
 pub use writings::write_whole;
