@@ -1,6 +1,6 @@
 -- What each word does to a store, by what its disk was and what is left of it.
-use Rattle.std.specs.Prelude.{◌≡◌, ◌⊎◌, ◌++◌, ℕ, List, Option, None, Result, Ok, Err, codes}
-use Rattle.std.specs.Prelude.{length}
+use Rattle.std.specs.Prelude.{◌≡◌, ◌⊎◌, ◌++◌, ℕ, List, Option, Result, Ok, Err, codes}
+use Rattle.std.specs.Prelude.{length, option_map}
 use Rattle.std.specs.Fmt.{decimal}
 use Rattle.std.specs.Io.KnownBytes.{Appends}
 use Rattle.run_model.specs.declared.faults.Fault.{Fault}
@@ -22,11 +22,12 @@ use Rattle.console_lines.specs.Entries.{json_text}
 use Rattle.console_lines.specs.Inspected.{inspected}
 use Rattle.console_lines.specs.Listed.{listed}
 use Rattle.console_lines.specs.Progress.{WritesPart}
+use Rattle.console_lines.specs.Trees.{tree_text}
 use Rattle.run_console.specs.Progress.{BeginsScript, Lasts, RunStops, RunsAll}
 use Rattle.run_console.specs.Strict.{RunsStrictly, StopsStrictly}
 use Rattle.run_console.specs.Troubles.{stopped}
 use Rattle.night_words.specs.declared.asked.View.{View}
-use Rattle.night_words.specs.declared.asked.View.TheVariants.{Whole, Tasks, Json}
+use Rattle.night_words.specs.declared.asked.View.TheVariants.{Whole, Tasks, Json, Tree}
 use Rattle.night_program.specs.declared.renewals.Sizes.{Sizes}
 
 -- A text was printed whole, or as much of it as the output took.
@@ -108,12 +109,14 @@ Shows text state old answer new w0 w1 =
     ⊎ ((why : Fault) × (answer ≡ Err (stopped why)) × RecoversNone state old why new
     × (w1 ≡ w0))
 
--- What a view shows of a state: all that it holds, the lines of its tasks alone, or all of it as
--- one object of JSON.
+-- What a view shows of a state: all that it holds, the lines of its tasks alone, or of those in a
+-- phase and of a group, all of it as one object of JSON, or as a tree.
 abbrev pub view_text : View → State → List ℕ
 view_text Whole p = inspected p
-view_text Tasks p = listed None None p
+view_text (Tasks phase group) p =
+    listed (option_map (λ word. word.now) phase) (option_map (λ word. word.now) group) p
 view_text Json p = json_text p
+view_text Tree p = tree_text p
 
 -- What the view shows of it was printed.
 abbrev pub InspectEnds : {T D : Type 0} → View → (D → DiskState) → (old : D)

@@ -25,10 +25,10 @@ pub fn look<'a, F: Files, W: Write>(
     files: &F,
     opened: Opened<F::Disk, F::Why>,
     store: &'a str,
-    view: View,
+    view: View<'_>,
     output: &mut W,
 ) -> (Result<Done, Failure<'a>>, F::Disk)
-    ensures { LookEnds view F.Disk.state store.now opened.disk result.0 result.1
+    ensures { LookEnds view.entry F.Disk.state store.now opened.disk result.0 result.1
         (W.contents output.old) (W.contents output.new) }
 {
     let Opened { mut disk, why } = opened;

@@ -190,11 +190,11 @@ fn script_file<'a, F: Files, I: Read, O: Write>(
 fn inspect_file<'a, F: Files, O: Write>(
     alloc: Global,
     store: &'a str,
-    view: View,
+    view: View<'_>,
     files: &mut F,
     output: &mut O,
 ) -> Result<Done, Failure<'a>>
-    ensures { DoesInspect F.Disk.state F.seen view store.now result files.old files.new
+    ensures { DoesInspect F.Disk.state F.seen view.entry store.now result files.old files.new
         (O.contents output.old) (O.contents output.new) }
 {
     match files.open_to_read(store) {
@@ -212,11 +212,11 @@ fn inspect_file<'a, F: Files, O: Write>(
 fn look_file<'a, F: Files, O: Write>(
     alloc: Global,
     store: &'a str,
-    view: View,
+    view: View<'_>,
     files: &mut F,
     output: &mut O,
 ) -> Result<Done, Failure<'a>>
-    ensures { DoesInspect F.Disk.state F.seen view store.now result files.old files.new
+    ensures { DoesInspect F.Disk.state F.seen view.entry store.now result files.old files.new
         (O.contents output.old) (O.contents output.new) }
 {
     match files.look(store) {

@@ -8,7 +8,9 @@ ghost use Rattle.night_program.specs.Stores.{view_text};
 
 use console_lines::{RunFault, StrayLine};
 use night_words::View;
-use run_console::{Book, list_tasks, print_json, run, run_strict, stopped, write_whole};
+use run_console::{
+    Book, list_tasks, print_json, print_tree, run, run_strict, stopped, write_whole,
+};
 use run_disk::RunDisk;
 use run_state::State;
 use std::alloc::{Allocator, Global};
@@ -71,10 +73,10 @@ pub fn script_strict<D: RunDisk, R: Read, W: Write>(
 pub fn inspect<D: RunDisk, W: Write>(
     alloc: Global,
     disk: &mut D,
-    view: View,
+    view: View<'_>,
     output: &mut W,
 ) -> Result<(), RunFault>
-    ensures { InspectEnds view D.state disk.old result disk.new
+    ensures { InspectEnds view.entry D.state disk.old result disk.new
         (W.contents output.old) (W.contents output.new) }
 {
     match Book::recover(alloc, disk) {
@@ -86,18 +88,19 @@ pub fn inspect<D: RunDisk, W: Write>(
 /// Prints what the view shows of a state.
 fn show<W: Write, B: Allocator>(
     state: &State<B>,
-    view: View,
+    view: View<'_>,
     output: &mut W,
 ) -> Result<(), RunFault>
     ensures whole { OnOk result (Appends (W.contents output.old) (W.contents output.new)
-        (view_text view state.now)) }
+        (view_text view.entry state.now)) }
     ensures cut { OnErr result (WritesPart (W.contents output.old) (W.contents output.new)
-        (view_text view state.now)) }
+        (view_text view.entry state.now)) }
     ensures fault { IfErr result (λ fault. fault ≡ RunFault.Output) }
 {
     match view {
         View::Whole => run_console::inspect(state, output),
-        View::Tasks => list_tasks(state, None, None, output),
+        View::Tasks { phase, group } => list_tasks(state, phase, group, output),
         View::Json => print_json(state, output),
+        View::Tree => print_tree(state, output),
     }
 }
