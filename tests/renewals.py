@@ -82,12 +82,13 @@ class Both:
             for line in tries.run("inspect", path).output.splitlines():
                 kind, number, rest = line.split(" ", 2)
                 there = {it[at]: place for place, it in enumerate(getattr(self, f"{kind}s", []))}
-                retried = re.search(r" retry of (\d+)$", rest)
-                if retried and kind == "task":
-                    tasks = [it[at] for it in self.tasks]
-                    rest = rest[:retried.start()] + f" {tasks.index(int(retried[1]))}"
-                if kind == "events" or int(number) in there:
-                    lines.append((kind, there.get(int(number.rstrip(";")), number), rest))
+                if kind == "events":
+                    lines.append((kind, number, rest))
+                elif int(number) in there:
+                    retried = re.search(r" retry of (\d+)$", rest)
+                    if retried and kind == "task":
+                        rest = f"{rest[:retried.start()]} of place {there[int(retried[1])]}"
+                    lines.append((kind, there[int(number)], rest))
             found.append(lines)
         return found
 
