@@ -1,5 +1,5 @@
-"""What the measurements in Python share: the processor's time of a process, and rounds in which each
-row runs once, in turn, so that a busy machine hits all of them."""
+"""What the measurements in Python share: the processor's time of a process, and rounds in which
+each row runs once, in turn, so that a busy machine hits all of them."""
 
 import os
 import statistics
@@ -23,8 +23,8 @@ class Used:
 
 
 def rounds(rows, count):
-    """Runs each row, a function that gives a Used, once in each round; prints the load, and for each
-    row the least and the middle one of its times. Gives the least of each by the processor."""
+    """Runs each row, a function that gives a Used, once in each round; prints the load, and for
+    each row the least and the middle one of its times. Gives the least of each by the processor."""
     found, load = {what: [] for what in rows}, os.getloadavg()[0]
     for _ in range(count):
         for what, row in rows.items():

@@ -1,5 +1,5 @@
-/* What an opening of a large store can't do without: the file is locked and synced, both slots and a
- * segment are read, and what a checkpoint writes is written: plain BYTES FILE.
+/* What an opening of a large store can't do without: the file is locked and synced, both slots and
+ * a segment are read, and what a checkpoint writes is written: plain BYTES FILE.
  *
  * It makes the three reads and the seven calls of a checkpoint, whose image has so many bytes, and
  * nothing else. The file has its bytes behind it. */

@@ -53,7 +53,7 @@ class Both:
         return there.index(numbers) if numbers in there else f"{numbers} are no {kind}"
 
     def ask(self, line, task=None):
-        """The replies of both to a line, told by places; of a task its number stands in the line."""
+        """The replies of both to a line, told by places; a task has its number in the line."""
         found = []
         for at, run in enumerate(self.runs):
             # (one that has ended answers nothing, which is told then)

@@ -3,8 +3,8 @@
     Try  Group  Key  Began  Seconds  End  Command
 
 They are tabs apart, `parallel --joblog`'s way. Try is which one of the key in its group it was,
-from 0, as in the name of its output. End is `ok`, an error's text, or `interrupted`. Of a task whose
-line was lost with a driver, and of one that was never begun, Began and Seconds are -.
+from 0, as in the name of its output. End is `ok`, an error's text, or `interrupted`. Of a task
+whose line was lost with a driver, and of one that was never begun, Began and Seconds are -.
 """
 
 import os

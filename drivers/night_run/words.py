@@ -31,8 +31,8 @@ FILE = """A line of JOBS is one of
 
 Beside the store are STORE.log (what ran when, how long, and how it ended) and STORE.out/, which has
 each task's output. A store that is nearly full is renewed first; STORE.ended then has how commands
-ended that it has no more. Ctrl-C once lets the commands that run end, twice stops them. docs/driver.md
-describes all of it, and what is not kept: that a command ran once."""
+ended that it has no more. Ctrl-C once lets the commands that run end, twice stops them.
+docs/driver.md describes all of it, and what is not kept: that a command ran once."""
 
 
 def read_words():
