@@ -5,20 +5,48 @@ ghost use Rattle.run_disk.specs.Files.{file_state, is_file_disk};
 
 use crate::complaints::Complaint;
 use run_disk::{DiskFailed, FileDisk, RunDisk};
+use std::fs::Metadata;
+use std::os::unix::fs::MetadataExt;
+
+/// Which of the system's files a file is, whatever its names.
+#[derive(Clone, Copy, PartialEq, Eq)]
+pub struct Inode {
+    device: u64,
+    number: u64,
+}
+
+impl Inode {
+    pub fn of(found: &Metadata) -> Inode {
+        Inode {
+            device: found.dev(),
+            number: found.ino(),
+        }
+    }
+}
 
 /// A disk over a file. Why the first call that failed did is noted where whoever opened the file
 /// finds it.
 #[derive(Drop)]
 pub struct SystemDisk<'a> {
     disk: FileDisk,
+    inode: Inode,
     complaint: &'a Complaint,
 }
 
 impl<'a> SystemDisk<'a> {
-    pub fn new(disk: FileDisk, complaint: &'a Complaint) -> SystemDisk<'a>
+    pub fn new(disk: FileDisk, inode: Inode, complaint: &'a Complaint) -> SystemDisk<'a>
         ensures { result.disk ≡ disk }
     {
-        SystemDisk { disk, complaint }
+        SystemDisk {
+            disk,
+            inode,
+            complaint,
+        }
+    }
+
+    /// Says whether it is a disk over this file.
+    pub fn is_over(&self, found: &Metadata) -> bool {
+        self.inode == Inode::of(found)
     }
 
     /// Notes why a call failed that came to this.

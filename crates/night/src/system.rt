@@ -4,12 +4,12 @@ ghost use Rattle.std.specs.Prelude.{◌≡◌, ⊤, IfOk};
 ghost use Rattle.night_program.specs.Files.{FilesView};
 
 use crate::complaints::Complaint;
-use crate::disks::SystemDisk;
+use crate::disks::{Inode, SystemDisk};
 use night_program::{Files, Made, Opened, Reason};
 use run_disk::{FileDisk, RunDisk};
 use std::fs::{File, OpenOptions, TryLockError};
 use std::io::Write;
-use std::os::unix::fs::MetadataExt;
+use std::os::unix::fs::{MetadataExt, OpenOptionsExt, fchown};
 use std::path::Path;
 use std::time::{Clock, Duration};
 use std::{fs, io, thread};
@@ -22,6 +22,9 @@ const NULL: &str = "/dev/null";
 
 /// A pause has so many milliseconds.
 const PAUSE: u64 = 10;
+
+/// A file that is to be like another one is its owner's alone, until it is.
+const PRIVATE: u32 = 0o600;
 
 /// What the system said of a file that was opened, and of one that was created.
 #[derive(Drop)]
@@ -88,27 +91,49 @@ impl<'a, S: fs::Files<File = File>> SystemFiles<'a, S> {
     /// Says whether the file of this name is this one.
     fn is_named(&self, file: &File, name: &str) -> bool {
         match (file.metadata(), fs::metadata(self.system, name)) {
-            (Ok(own), Ok(named)) => own.dev() == named.dev() && own.ino() == named.ino(),
+            (Ok(own), Ok(named)) => Inode::of(&own) == Inode::of(&named),
             _ => false,
         }
+    }
+
+    /// Says whether the file of this name is a file that has no other one.
+    fn is_only_name(&self, name: &str) -> io::Result<bool> {
+        let found = fs::symlink_metadata(self.system, name)?;
+        Ok(found.is_file() && found.nlink() == 1)
+    }
+
+    /// Gives a file the owner and the rights of the one of this name, if there is to be one.
+    fn liken(&self, file: &File, like: Option<&str>) -> io::Result<()> {
+        let Some(name) = like else {
+            return Ok(());
+        };
+        let (own, wanted) = (file.metadata()?, fs::metadata(self.system, name)?);
+        let (owner, group) = (wanted.uid(), wanted.gid());
+        if own.uid() != owner || own.gid() != group {
+            fchown(file, Some(owner), Some(group))?;
+        }
+        file.set_permissions(wanted.permissions())
     }
 
     /// A disk over a file that is read alone.
     fn shown(&self, file: File) -> Result<Opened<SystemDisk<'a>, &'a Complaint>, Reason> {
         let why = &self.complaints.opened;
+        let inode = or_reason(inode(&file))?;
         let disk = or_reason(FileDisk::to_read(file))?;
         Ok(Opened {
-            disk: SystemDisk::new(disk, why),
+            disk: SystemDisk::new(disk, inode, why),
             why,
         })
     }
 
-    /// A file that was created, or is emptied, filled with so many zero bytes. It is this program's
-    /// alone before a byte of it is touched, or taken away.
+    /// A file that was created, or is emptied, made like that of another name, if there is one, and
+    /// filled with so many zero bytes. It is this program's alone before it is touched, or taken
+    /// away.
     fn made(
         &self,
         file: File,
         name: &str,
+        like: Option<&str>,
         size: u64,
         is_new: bool,
     ) -> Result<Made<SystemDisk<'a>, &'a Complaint>, Reason>
@@ -118,9 +143,9 @@ impl<'a, S: fs::Files<File = File>> SystemFiles<'a, S> {
     {
         self.lock(&file, name)?;
         let why = &self.complaints.created;
-        match self.zeros(file, name, size) {
-            Ok(disk) => Ok(Made {
-                disk: SystemDisk::new(disk, why),
+        match self.zeros(file, name, like, size) {
+            Ok((disk, inode)) => Ok(Made {
+                disk: SystemDisk::new(disk, inode, why),
                 why,
                 is_new,
             }),
@@ -133,16 +158,25 @@ impl<'a, S: fs::Files<File = File>> SystemFiles<'a, S> {
         }
     }
 
-    /// A disk over a file that was emptied, and filled with so many zero bytes.
-    fn zeros(&self, file: File, name: &str, size: u64) -> Result<FileDisk, Reason>
-        ensures { IfOk result (λ disk. (⟦<FileDisk as RunDisk>⟧.state disk).size ≡ size) }
+    /// A disk over a file that was made like another one, and filled with so many zero bytes; and
+    /// which file it is.
+    fn zeros(
+        &self,
+        file: File,
+        name: &str,
+        like: Option<&str>,
+        size: u64,
+    ) -> Result<(FileDisk, Inode), Reason>
+        ensures { IfOk result (λ made. (⟦<FileDisk as RunDisk>⟧.state made.0).size ≡ size) }
     {
         let mut file = file;
+        or_reason(self.liken(&file, like))?;
         or_reason(fill(&mut file, size))?;
         or_reason(self.sync_folder(name))?;
+        let inode = or_reason(inode(&file))?;
         let disk = or_reason(FileDisk::settled(file))?;
         if disk.size() == size {
-            Ok(disk)
+            Ok((disk, inode))
         } else {
             Err(Reason::EndedEarly)
         }
@@ -178,9 +212,10 @@ impl<'a, S: fs::Files<File = File> + Clock> Files for SystemFiles<'a, S> {
         let file = self.with(OpenOptions::new().read(true).write(true), name)?;
         self.lock(&file, name)?;
         let why = &self.complaints.opened;
+        let inode = or_reason(inode(&file))?;
         let disk = or_reason(settled(file))?;
         Ok(Opened {
-            disk: SystemDisk::new(disk, why),
+            disk: SystemDisk::new(disk, inode, why),
             why,
         })
     }
@@ -211,10 +246,10 @@ impl<'a, S: fs::Files<File = File> + Clock> Files for SystemFiles<'a, S> {
         let mut how = OpenOptions::new();
         how.read(true).write(true);
         match self.with(how.create_new(true), name) {
-            Ok(file) => self.made(file, name, size, true),
+            Ok(file) => self.made(file, name, None, size, true),
             Err(_) => {
                 let file = self.with(how.create_new(false).create(true), name)?;
-                self.made(file, name, size, false)
+                self.made(file, name, None, size, false)
             }
         }
     }
@@ -222,17 +257,38 @@ impl<'a, S: fs::Files<File = File> + Clock> Files for SystemFiles<'a, S> {
     fn create_new(
         &mut self,
         name: &str,
+        like: Option<&str>,
         size: u64,
     ) -> Result<Made<SystemDisk<'a>, &'a Complaint>, Reason> {
         let mut how = OpenOptions::new();
         how.read(true).write(true).create_new(true);
+        if like.is_some() {
+            how.mode(PRIVATE);
+        }
         let file = self.with(&how, name)?;
-        self.made(file, name, size, true)
+        self.made(file, name, like, size, true)
+    }
+
+    fn replace(&mut self, disk: SystemDisk<'a>, from: &str, to: &str) -> Result<(), Reason> {
+        let found = or_reason(fs::symlink_metadata(self.system, from))?;
+        if !disk.is_over(&found) {
+            return Err(Reason::InUse);
+        }
+        if !or_reason(self.is_only_name(to))? {
+            return Err(Reason::OtherName);
+        }
+        or_reason(fs::rename(self.system, from, to))?;
+        or_reason(self.sync_folder(to))
     }
 
     fn remove(&mut self, name: &str) {
         let _gone = fs::remove_file(self.system, name);
     }
+}
+
+/// Which file this is.
+fn inode(file: &File) -> io::Result<Inode> {
+    Ok(Inode::of(&file.metadata()?))
 }
 
 /// Fills the descriptors below 3 that are closed: a file takes the least number that is free.

@@ -17,6 +17,7 @@ use Rattle.night_program.specs.declared.endings.Ended.{Ended}
 use Rattle.night_program.specs.declared.failures.Failure.{Failure}
 use Rattle.night_program.specs.declared.failures.FileFailure.{FileFailure}
 use Rattle.night_program.specs.declared.known.UnknownJob.{UnknownJob}
+use Rattle.night_program.specs.Failures.{name_text}
 use Rattle.night_program.specs.Reasons.{reason_text}
 
 -- The exit status where a fault ended the program: want of memory is told from all else.
@@ -63,7 +64,7 @@ TellsDone _ told e0 e1 = (told ≡ true) × (e1 ≡ e0)
 -- What standard error is told of a call of a file, as in `night: jobs.store: Permission denied`.
 abbrev pub file_line : FileFailure → List ℕ
 file_line file =
-    codes "night: " ++ (file.name.now ++ (codes ": " ++ (reason_text file.reason ++ codes "\n")))
+    codes "night: " ++ (name_text file.name ++ (codes ": " ++ (reason_text file.reason ++ codes "\n")))
 
 -- What standard error is told of a failure: the line of its fault, and behind it that of the call
 -- of a file which failed.

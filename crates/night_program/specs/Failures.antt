@@ -1,18 +1,29 @@
 -- What ended the program before it did what its words ask for, and of which file a call failed.
 use Rattle.std.specs.Prelude.{◌≡◌, ◌⊎◌, ℕ, List, Option, Some, None, Result, Ok, Err, IfSome}
-use Rattle.run_model.specs.declared.faults.Fault.TheVariants.{DiskFailed}
+use Rattle.run_model.specs.declared.faults.Fault.TheVariants.{DiskFailed, WrongSize}
 use Rattle.run_model.specs.declared.faults.Trouble.TheVariants.{Faulty}
+use Rattle.run_model.specs.Layouts.{layout_of}
+use Rattle.run_disk.specs.Disk.{DiskState}
 use Rattle.console_lines.specs.declared.faults.RunFault.{RunFault}
 use Rattle.console_lines.specs.declared.faults.RunFault.TheVariants.{Store}
 use Rattle.console_lines.specs.declared.strays.StrayLine.{StrayLine}
+use Rattle.run_console.specs.Troubles.{stopped}
 use Rattle.night_program.specs.declared.endings.Done.{Done}
 use Rattle.night_program.specs.declared.endings.Done.TheVariants.{Stray, Well}
 use Rattle.night_program.specs.declared.failures.Failure.{Failure}
 use Rattle.night_program.specs.declared.failures.FileFailure.{FileFailure}
+use Rattle.night_program.specs.declared.failures.FileName.{FileName}
+use Rattle.night_program.specs.declared.failures.FileName.TheVariants.{Beside, Own}
+use Rattle.night_program.specs.Files.{beside}
+
+-- The name of a file that is told: one that the words have, or that of the file beside it.
+abbrev pub name_text : FileName → List ℕ
+name_text (Own name) = name.now
+name_text (Beside name) = beside name.now
 
 -- The file of which a call failed, if one did, is the one of this name.
 abbrev pub Names : List ℕ → Option FileFailure → Type 0
-Names name file = IfSome file (λ f. f.name.now ≡ name)
+Names name file = IfSome file (λ f. name_text f.name ≡ name)
 
 -- It is the one of one of these two names.
 abbrev pub NamesOne : (old new : List ℕ) → Option FileFailure → Type 0
@@ -22,7 +33,7 @@ NamesOne old new file = Names old file ⊎ Names new file
 abbrev pub IsNoFile : List ℕ → Failure → Type 0
 IsNoFile name failure =
     (failure.fault ≡ Store (Faulty DiskFailed))
-    × ((file : FileFailure) × (failure.file ≡ Some file) × (file.name.now ≡ name))
+    × ((file : FileFailure) × (failure.file ≡ Some file) × (name_text file.name ≡ name))
 
 -- This fault ended it, and this holds of the file of which a call failed.
 abbrev pub FailsBy : (Option FileFailure → Type 0) → RunFault → Result Done Failure → Type 0
@@ -49,3 +60,11 @@ AnswersAlone done answer = AnswersOver (λ file. file ≡ None) done answer
 -- The file of this name wasn't had, and that is answered.
 abbrev pub HasNoFile : List ℕ → Result Done Failure → Type 0
 HasNoFile name answer = (failure : Failure) × (answer ≡ Err failure) × IsNoFile name failure
+
+-- The file of this name was opened so (IsOpened), and has not the size of a store.
+pub record HasNoSize {D : Type 0} (state : D → DiskState) (IsOpened : D → Type 0)
+    (store : List ℕ) (answer : Result Done Failure) : Type 0 where
+  pub source : D
+  pub opened : IsOpened source
+  pub none : layout_of (state source).size ≡ None
+  pub answers : FailsBy (Names store) (stopped WrongSize) answer

@@ -1,6 +1,9 @@
 -- What contracts see of the files that hold stores, and of a disk as it is opened.
-use Rattle.std.specs.Prelude.{ℕ, List}
+use Rattle.std.specs.Prelude.{◌≡◌, ◌++◌, ℕ, Bool, true, List, codes}
+use Rattle.run_model.specs.declared.layouts.Layout.{Layout}
+use Rattle.run_model.specs.Layouts.{store_len}
 use Rattle.run_disk.specs.Disk.{DiskState, IsAtRest}
+use Rattle.run_journal.specs.Pairs.{AreZeros}
 
 -- The files, each known by its name; a file that is open is a disk.
 pub record FilesView (F D : Type 0) : Type 1 where
@@ -17,3 +20,25 @@ pub record FilesView (F D : Type 0) : Type 1 where
 -- what reads give.
 abbrev pub IsSettled : DiskState → Type 0
 IsSettled s = s.honest → IsAtRest s
+
+-- The name of the file beside the one of a name, as `jobs.store.renewing`.
+abbrev pub beside : List ℕ → List ℕ
+beside name = name ++ codes ".renewing"
+
+-- The file of the second name is this disk, and there is no longer one of the first.
+pub record IsReplaced {F D : Type 0} (seen : FilesView F D) (disk : D) (from to : List ℕ)
+    (files : F) : Type 0 where
+  pub held : seen.holds files to disk
+  pub gone : seen.lacks files from
+
+-- The file of this name was made anew with the size of a store of this layout, and is settled. An
+-- honest one has zeros. It says whether there was none of its name before, and one that is asked
+-- for as new was not there.
+pub record Makes {F D : Type 0} (state : D → DiskState) (seen : FilesView F D) (name : List ℕ)
+    (layout : Layout) (only_new is_new : Bool) (made : D) (f0 f1 : F) : Type 0 where
+  pub held : seen.holds f1 name made
+  pub sized : (state made).size ≡ store_len layout
+  pub zeros : (state made).honest → (x : List ℕ) → (state made).images x → AreZeros x
+  pub settled : IsSettled (state made)
+  pub only : only_new ≡ true → is_new ≡ true
+  pub new : is_new ≡ true → seen.lacks f0 name

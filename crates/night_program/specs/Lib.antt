@@ -9,4 +9,5 @@ pub mod Lasting
 pub mod Looks
 pub mod Programs
 pub mod Reasons
+pub mod Replacements
 pub mod Stores

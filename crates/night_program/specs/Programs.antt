@@ -3,21 +3,19 @@ use Rattle.std.specs.Prelude.{◌≡◌, ◌⊎◌, ◌<◌, ℕ, Bool, true, fa
 use Rattle.std.specs.Prelude.{Result, Ok, Err}
 use Rattle.std.specs.Prelude.{IfErr, IfOk}
 use Rattle.std.specs.String.{string_bytes}
-use Rattle.run_model.specs.declared.faults.Fault.TheVariants.{WrongSize}
 use Rattle.run_model.specs.declared.layouts.Layout.{Layout}
 use Rattle.run_model.specs.declared.layouts.Layout.TheVariants.{Large}
-use Rattle.run_model.specs.Layouts.{layout_of, store_len}
+use Rattle.run_model.specs.Layouts.{layout_of}
 use Rattle.run_disk.specs.Disk.{DiskState}
-use Rattle.run_journal.specs.Pairs.{AreZeros}
 use Rattle.console_lines.specs.declared.faults.RunFault.{RunFault}
 use Rattle.console_lines.specs.declared.faults.RunFault.TheVariants.{Memory}
 use Rattle.console_lines.specs.declared.strays.StrayLine.{StrayLine}
 use Rattle.run_console.specs.Crews.{CrewEnds}
-use Rattle.run_console.specs.Troubles.{stopped}
 use Rattle.night_words.specs.Commands.{AsksFor, IsAnswer, IsCausedBy, faults_of}
 use Rattle.night_words.specs.declared.asked.Asked.{Asked}
 use Rattle.night_words.specs.declared.asked.Asked.TheVariants.{Demo, Format, Script, Inspect, Help}
 use Rattle.night_words.specs.declared.asked.Asked.TheVariants.{Crew, Migrate, Renew}
+use Rattle.night_words.specs.declared.asked.Asked.TheVariants.{RenewInPlace}
 use Rattle.night_words.specs.declared.asked.View.{View}
 use Rattle.night_words.specs.declared.asked.WordsFault.{WordsFault}
 use Rattle.night_program.specs.declared.endings.Done.{Done}
@@ -26,10 +24,11 @@ use Rattle.night_program.specs.declared.failures.Failure.{Failure}
 use Rattle.night_program.specs.Crews.{AnswersCrew, IsLooked, StopsAt}
 use Rattle.night_program.specs.Demos.{DemoEnds, StrictDemoEnds}
 use Rattle.night_program.specs.Endings.{EndsBy, Refuses}
-use Rattle.night_program.specs.Failures.{AnswersAlone, AnswersOver, AnswersStrict, FailsBy}
-use Rattle.night_program.specs.Failures.{HasNoFile, Names, NamesOne}
-use Rattle.night_program.specs.Files.{FilesView, IsSettled}
+use Rattle.night_program.specs.Failures.{AnswersAlone, AnswersOver, AnswersStrict, HasNoFile}
+use Rattle.night_program.specs.Failures.{HasNoSize, Names, NamesOne}
+use Rattle.night_program.specs.Files.{FilesView, IsSettled, Makes}
 use Rattle.night_program.specs.Looks.{LookEnds}
+use Rattle.night_program.specs.Replacements.{DoesRenewInPlace}
 use Rattle.night_program.specs.Stores.{FormatEnds, InspectEnds, MigrateEnds, Prints, RenewEnds}
 use Rattle.night_program.specs.Stores.{ScriptEnds, StrictEnds}
 
@@ -41,18 +40,6 @@ IsLeft seen true (Err why) name f0 f1 = seen.removes f0 name f1
 IsLeft seen _ _ name f0 f1 = f1 ≡ f0
 
 module _ {F D : Type 0} (state : D → DiskState) (seen : FilesView F D) where
-  -- The file of this name was made anew with the size of a store of this layout, and is settled. An
-  -- honest one has zeros. It says whether there was none of its name before, and one that is asked
-  -- for as new was not there.
-  pub record Makes (name : List ℕ) (layout : Layout) (only_new is_new : Bool) (made : D)
-      (f0 f1 : F) : Type 0 where
-    pub held : seen.holds f1 name made
-    pub sized : (state made).size ≡ store_len layout
-    pub zeros : (state made).honest → (x : List ℕ) → (state made).images x → AreZeros x
-    pub settled : IsSettled (state made)
-    pub only : only_new ≡ true → is_new ≡ true
-    pub new : is_new ≡ true → seen.lacks f0 name
-
   -- ---- format
 
   -- The file of this name was made anew, and formatted.
@@ -63,7 +50,7 @@ module _ {F D : Type 0} (state : D → DiskState) (seen : FilesView F D) where
     pub given : D
     pub left : D
     pub done : Result ⊤ RunFault
-    pub makes : Makes store Large only_new is_new given f0 made
+    pub makes : Makes state seen store Large only_new is_new given f0 made
     pub formats : FormatEnds state given done left w0 w1
     pub answers : AnswersOver (Names store) done answer
     pub files : IsLeft seen is_new done store made f1
@@ -150,7 +137,7 @@ module _ {F D : Type 0} (state : D → DiskState) (seen : FilesView F D) where
     pub shown : seen.shows f0 old source
     pub settled : IsSettled (state source)
     pub fits : of source ≡ Some layout
-    pub makes : Makes new layout false is_new given f0 made
+    pub makes : Makes state seen new layout false is_new given f0 made
     pub ends : Ends source given done read left w0 w1
     pub answers : AnswersOver (NamesOne old new) done answer
     pub files : IsLeft seen is_new done new made f1
@@ -167,19 +154,12 @@ module _ {F D : Type 0} (state : D → DiskState) (seen : FilesView F D) where
 
   -- ---- renew
 
-  -- The file of this name was opened for reading alone, and has not the size of a store.
-  pub record HasNoSize (store : List ℕ) (answer : Result Done Failure) (f0 : F) : Type 0 where
-    pub source : D
-    pub shown : seen.shows f0 store source
-    pub none : layout_of (state source).size ≡ None
-    pub answers : FailsBy (Names store) (stopped WrongSize) answer
-
   -- The store in the file of the old name was renewed: the new one is of its layout.
   abbrev pub DoesRenew : (old new : List ℕ) → Result Done Failure → (f0 f1 : F)
       → (w0 w1 : Option (List ℕ)) → Type 0
   DoesRenew old new answer f0 f1 w0 w1 =
       (HasNoFile old answer × (f1 ≡ f0) × (w1 ≡ w0))
-      ⊎ ((HasNoSize old answer f0 × (f1 ≡ f0) × (w1 ≡ w0))
+      ⊎ ((HasNoSize state (seen.shows f0 old) old answer × (f1 ≡ f0) × (w1 ≡ w0))
       ⊎ ((HasNoFile new answer × (w1 ≡ w0))
       ⊎ MakesOf (λ source. layout_of (state source).size) (RenewEnds state state)
       old new answer f0 f1 w0 w1))
@@ -258,6 +238,8 @@ module _ {F D : Type 0} (state : D → DiskState) (seen : FilesView F D) where
       DoesMigrate old.now new.now answer f0 f1 w0 w1 × (r1 ≡ r0)
   Does (Renew old new) lists answer f0 f1 r0 r1 w0 w1 =
       DoesRenew old.now new.now answer f0 f1 w0 w1 × (r1 ≡ r0)
+  Does (RenewInPlace store) lists answer f0 f1 r0 r1 w0 w1 =
+      DoesRenewInPlace state seen store.now answer f0 f1 w0 w1 × (r1 ≡ r0)
   Does (Help text) lists answer f0 f1 r0 r1 w0 w1 =
       DoesPrint (string_bytes text) answer w0 w1 × (f1 ≡ f0) × (r1 ≡ r0)
 

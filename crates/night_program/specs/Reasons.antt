@@ -1,10 +1,12 @@
 -- Why a file isn't had, or why a call of it failed, as it is printed.
 use Rattle.std.specs.Prelude.{ℕ, List, codes}
 use Rattle.night_program.specs.declared.reasons.Reason.{Reason}
-use Rattle.night_program.specs.declared.reasons.Reason.TheVariants.{EndedEarly, InUse, Said}
+use Rattle.night_program.specs.declared.reasons.Reason.TheVariants.{EndedEarly, InUse}
+use Rattle.night_program.specs.declared.reasons.Reason.TheVariants.{OtherName, Said}
 
 -- What is printed of a reason: of the system's its own text.
 abbrev pub reason_text : Reason → List ℕ
 reason_text InUse = codes "in use by another program"
 reason_text EndedEarly = codes "it ended early"
+reason_text OtherName = codes "its file has another name, too"
 reason_text (Said text) = text.bytes

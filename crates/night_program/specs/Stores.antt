@@ -28,6 +28,7 @@ use Rattle.run_console.specs.Strict.{RunsStrictly, StopsStrictly}
 use Rattle.run_console.specs.Troubles.{stopped}
 use Rattle.night_words.specs.declared.asked.View.{View}
 use Rattle.night_words.specs.declared.asked.View.TheVariants.{Whole, Tasks, Json, Tree}
+use Rattle.night_program.specs.declared.renewals.Kept.{Kept}
 use Rattle.night_program.specs.declared.renewals.Sizes.{Sizes}
 
 -- A text was printed whole, or as much of it as the output took.
@@ -183,17 +184,44 @@ sizes_line before left =
     ++ (of_text (codes "; groups ") left.groups before.groups
     ++ (of_text (codes "; tasks ") left.tasks before.tasks ++ codes "\n"))))
 
--- What is left in the store that was made.
-abbrev pub renewed_line : (before : Sizes) → State → List ℕ
-renewed_line before q = sizes_line before (sizes q)
+-- A store was read, then renewed, and what was made of it was read: so much there was, and so much
+-- is left.
+pub record HasRemade {D E : Type 0} (from : D → DiskState) (to : E → DiskState) (old : D)
+    (given : E) (kept : Kept) (read : D) (left : E) : Type 0 where
+  pub seen : D
+  pub made : E
+  pub before : HasSizes kept.before (from old) (from seen)
+  pub renewed : Renews from to seen given (Ok made) read
+  pub behind : HasSizes kept.left (to made) (to left)
 
--- The old store was read, then renewed, and shown how much of it the new one stores. Or the old one
--- wasn't read, and nothing was printed or made: the fault tells why.
+-- Why not, and what is left of the two disks: the old store wasn't read, and nothing was made; or
+-- none was made of it; or one was, which wasn't read.
+abbrev pub RemakesNot : {D E : Type 0} → (D → DiskState) → (E → DiskState) → (old : D)
+    → (given : E) → RunFault → (read : D) → (left : E) → Type 0
+RemakesNot {D = D} {E = E} from to old given fault read left =
+    ((why : Fault) × (fault ≡ stopped why) × RecoversNone from old why read × (left ≡ given))
+    ⊎ ((p : State) × (seen : D) × HasRecovered p (from old) (from seen)
+    × (((why : MigrateFault) × (fault ≡ unmigrated why)
+    × Renews from to seen given (Err (why, left)) read)
+    ⊎ ((made : E) × (why : Fault) × (fault ≡ stopped why)
+    × Renews from to seen given (Ok made) read × RecoversNone to made why left)))
+
+abbrev pub Remakes : {D E : Type 0} → (D → DiskState) → (E → DiskState) → (old : D)
+    → (given : E) → Result Kept RunFault → (read : D) → (left : E) → Type 0
+Remakes from to old given (Ok kept) read left = HasRemade from to old given kept read left
+Remakes from to old given (Err fault) read left = RemakesNot from to old given fault read left
+
+-- What is left was printed; or nothing was, since there is nothing: the same fault tells why.
+abbrev pub PrintsKept : {T : Type 0} → Result Kept RunFault → Result T RunFault
+    → (w0 w1 : Option (List ℕ)) → Type 0
+PrintsKept (Ok kept) answer w0 w1 = Prints (sizes_line kept.before kept.left) answer w0 w1
+PrintsKept (Err fault) answer w0 w1 = (answer ≡ Err fault) × (w1 ≡ w0)
+
+-- The old store was read, then renewed, and shown how much of it the new one stores; or not, and
+-- nothing was printed.
 abbrev pub RenewEnds : {T D E : Type 0} → (D → DiskState) → (E → DiskState) → (old : D)
     → (given : E) → Result T RunFault → (read : D) → (left : E)
     → (w0 w1 : Option (List ℕ)) → Type 0
-RenewEnds {D = D} from to old given answer read left w0 w1 =
-    ((p : State) × (seen : D) × HasRecovered p (from old) (from seen)
-    × MakesShown (renewed_line (sizes p)) (Renews from to seen given) to answer read left w0 w1)
-    ⊎ ((why : Fault) × (answer ≡ Err (stopped why)) × RecoversNone from old why read
-    × (left ≡ given) × (w1 ≡ w0))
+RenewEnds from to old given answer read left w0 w1 =
+    (done : Result Kept RunFault) × Remakes from to old given done read left
+    × PrintsKept done answer w0 w1

@@ -137,7 +137,7 @@ fn tell<E: Write>(failure: &Failure<'_>, errors: &mut E) -> bool
 fn tell_file<E: Write>(file: &FileFailure<'_>, errors: &mut E) -> bool
     ensures { Tells result (file_line file.now) (E.contents errors.old) (E.contents errors.new) }
 {
-    let name = file.name;
+    let name = &file.name;
     let reason = &file.reason;
     writeln!(errors, "night: {name}: {reason}").is_ok()
 }

@@ -1,14 +1,18 @@
 //! A [`Failure`] is what ended the program before it did what its words ask for.
 
-ghost use Rattle.std.specs.Prelude.{◌≡◌, None};
+ghost use Rattle.std.specs.Prelude.{◌≡◌, None, Some};
 ghost use Rattle.night_program.specs.Failures.{AnswersAlone, AnswersOver, AnswersStrict};
-ghost use Rattle.night_program.specs.Failures.{IsNoFile, Names, NamesOne};
+ghost use Rattle.night_program.specs.Failures.{IsNoFile, Names, NamesOne, name_text};
 
 use crate::endings::Done;
 use crate::files::Why;
 use crate::reasons::Reason;
 use console_lines::{RunFault, StrayLine};
 use run_model::{Fault, Trouble};
+use std::fmt;
+
+/// What stands behind a store's name in that of the file beside it.
+pub const BESIDE: &str = ".renewing";
 
 /// The fault that ended what the words asked for, and the call of a file behind it, if one failed.
 #[derive(Debug, Drop)]
@@ -20,13 +24,43 @@ pub struct Failure<'a> {
 /// A call of a file failed: which file, and why.
 #[derive(Debug, Drop)]
 pub struct FileFailure<'a> {
-    pub name: &'a str,
+    pub name: FileName<'a>,
     pub reason: Reason,
+}
+
+/// The name of a file that is told.
+#[derive(Clone, Copy, Debug)]
+pub enum FileName<'a> {
+    /// One that the words have.
+    Own(&'a str),
+    /// The file beside the one of this name, in which a renewal in place makes its new store.
+    Beside(&'a str),
+}
+
+impl fmt::Display for FileName<'_> {
+    ghost output = { λ name. Some (name_text name) };
+
+    fn fmt<W: fmt::Write>(&self, f: &mut fmt::Formatter<W>) -> fmt::Result {
+        match self {
+            FileName::Own(name) => f.write_str(name),
+            FileName::Beside(name) => {
+                f.write_str(name)?;
+                f.write_str(BESIDE)
+            }
+        }
+    }
 }
 
 /// What a file that isn't had is to the program.
 pub fn no_file<'a>(name: &'a str, reason: Reason) -> Failure<'a>
     ensures { IsNoFile name.now result }
+{
+    not_had(FileName::Own(name), reason)
+}
+
+/// So does [`no_file`], of any file.
+pub fn not_had<'a>(name: FileName<'a>, reason: Reason) -> Failure<'a>
+    ensures { IsNoFile (name_text name.entry) result }
 {
     Failure {
         fault: RunFault::Store(Trouble::Faulty(Fault::DiskFailed)),
@@ -39,7 +73,18 @@ pub fn failed_over<'a, Y: Why>(fault: RunFault, name: &'a str, why: &Y) -> Failu
     ensures fault { result.fault ≡ fault }
     ensures file { Names name.now result.file }
 {
-    let file = why.reason().map(|reason| FileFailure { name, reason });
+    failed(fault, FileName::Own(name), why)
+}
+
+/// So does [`failed_over`], of any file.
+fn failed<'a, Y: Why>(fault: RunFault, name: FileName<'a>, why: &Y) -> Failure<'a>
+    ensures fault { result.fault ≡ fault }
+    ensures file { Names (name_text name.entry) result.file }
+{
+    let file = match why.reason() {
+        Some(reason) => Some(FileFailure { name, reason }),
+        None => None,
+    };
     Failure { fault, file }
 }
 
@@ -89,10 +134,10 @@ pub fn done_over_two<'a, Y: Why>(
     done: Result<(), RunFault>,
     old: &'a str,
     why_old: &Y,
-    new: &'a str,
+    new: FileName<'a>,
     why_new: &Y,
 ) -> Result<Done, Failure<'a>>
-    ensures { AnswersOver (NamesOne old.now new.now) done result }
+    ensures { AnswersOver (NamesOne old.now (name_text new.entry)) done result }
 {
     let fault = match done {
         Ok(()) => return Ok(Done::Well),
@@ -102,7 +147,7 @@ pub fn done_over_two<'a, Y: Why>(
     if failure.file.is_some() {
         return Err(failure);
     }
-    Err(failed_over(fault, new, why_new))
+    Err(failed(fault, new, why_new))
 }
 
 /// What came of what was done without a file.

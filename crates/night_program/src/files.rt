@@ -1,8 +1,8 @@
 //! The files that hold stores.
 
-ghost use Rattle.std.specs.Prelude.{◌≡◌, ℕ, List, true, IfOk};
+ghost use Rattle.std.specs.Prelude.{◌≡◌, ◌⊎◌, ℕ, List, true, IfOk, OnErr, OnOk};
 ghost use Rattle.run_journal.specs.Pairs.{AreZeros};
-ghost use Rattle.night_program.specs.Files.{FilesView, IsSettled};
+ghost use Rattle.night_program.specs.Files.{FilesView, IsReplaced, IsSettled};
 
 use crate::reasons::Reason;
 use run_disk::RunDisk;
@@ -76,14 +76,32 @@ pub trait Files {
         ensures settled { IfOk result (λ made. IsSettled (Self.Disk.state made.disk)) }
         ensures new { IfOk result (λ made. made.is_new ≡ true → seen.lacks self.old name.now) };
 
-    /// So does `create`, where there is no file of this name; else nothing is done.
-    fn create_new(&mut self, name: &str, size: u64) -> Result<Made<Self::Disk, Self::Why>, Reason>
+    /// So does `create`, where there is no file of this name; else nothing is done. The file gets
+    /// the owner and the rights of that of the name `like`, where there is to be one, before a byte
+    /// is written to it.
+    fn create_new(
+        &mut self,
+        name: &str,
+        like: Option<&str>,
+        size: u64,
+    ) -> Result<Made<Self::Disk, Self::Why>, Reason>
         ensures holds { IfOk result (λ made. seen.holds self.new name.now made.disk) }
         ensures size { IfOk result (λ made. (Self.Disk.state made.disk).size ≡ size) }
         ensures zeros { IfOk result (λ made. (Self.Disk.state made.disk).honest
             → (x : List ℕ) → (Self.Disk.state made.disk).images x → AreZeros x) }
         ensures settled { IfOk result (λ made. IsSettled (Self.Disk.state made.disk)) }
-        ensures new { IfOk result (λ made. (made.is_new ≡ true) × seen.lacks self.old name.now) };
+        ensures new { IfOk result (λ made. (made.is_new ≡ true) × seen.lacks self.old name.now) }
+        ensures only { OnOk result (seen.removes self.new name.now self.old) };
+
+    /// Puts this disk, which is the file of the first name, in the place of the file of the second.
+    /// At each moment the second is the name of the one or of the other, and at Ok a cut of the
+    /// power leaves it that of the disk, which no clause says. It has to be the only name of its
+    /// file, and no link.
+    fn replace(&mut self, disk: Self::Disk, from: &str, to: &str) -> Result<(), Reason>
+        requires settled { IsSettled (Self.Disk.state disk) }
+        ensures done { OnOk result (IsReplaced seen disk from.now to.now self.new) }
+        ensures left { OnErr result
+            ((self.new ≡ self.old) ⊎ IsReplaced seen disk from.now to.now self.new) };
 
     /// Takes the file of this name away, as far as the system lets it.
     fn remove(&mut self, name: &str)

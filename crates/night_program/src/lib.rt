@@ -19,6 +19,7 @@ mod migrations;
 mod programs;
 mod reasons;
 mod renewals;
+mod replacements;
 mod stores;
 
 pub use demos::{demo, demo_strict};

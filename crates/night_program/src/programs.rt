@@ -3,20 +3,23 @@
 ghost use Rattle.std.specs.Prelude.{◌≡◌, map, vec_len, IfErr, IfOk};
 ghost use Rattle.std.specs.String.{string_bytes};
 ghost use Rattle.night_program.specs.Programs.{Does, DoesFormat, DoesInspect, DoesMigrate};
-ghost use Rattle.night_program.specs.Programs.{DoesRenew, DoesScript, IsLeft, IsRefused, Makes};
+ghost use Rattle.night_program.specs.Files.{Makes};
+ghost use Rattle.night_program.specs.Programs.{DoesRenew, DoesScript, IsLeft, IsRefused};
 ghost use Rattle.night_program.specs.Programs.{RunsWords};
 
 use crate::crews::crew_file;
 use crate::demos::{demo, demo_strict};
 use crate::endings::{Done, Ended, end, refuse};
 use crate::failures::{
-    Failure, done_alone, done_over, done_over_two, failed_over, no_file, strict_alone, strict_over,
+    Failure, FileName, done_alone, done_over, done_over_two, failed_over, no_file, strict_alone,
+    strict_over,
 };
 use crate::files::{Files, Made, Opened};
 use crate::looks::look;
 use crate::migrations::migrate;
 use crate::reasons::Reason;
 use crate::renewals::renew;
+use crate::replacements::renew_in_place;
 use crate::stores::{format, inspect, script, script_strict};
 use console_lines::RunFault;
 use night_words::{Asked, View, WordsFault, read_words};
@@ -40,8 +43,9 @@ use std::thread::Threads;
 /// jobs, and with `--known` only where it knows the jobs of all tasks that aren't ended; `migrate
 /// OLD NEW` opens OLD for reading alone, and only then makes of NEW a large store with the state of
 /// OLD's small one; `renew OLD NEW` likewise makes of NEW a store of OLD's size with what isn't
-/// finished in OLD. Help and the version go to the output. Why words ask for nothing, and a fault
-/// that ended the rest, go to `errors`: any call of a file that fails is told as `fault 2
+/// finished in OLD, and `renew --in-place STORE` makes one beside STORE, which it has for itself,
+/// and puts it in its place. Help and the version go to the output. Why words ask for nothing, and a
+/// fault that ended the rest, go to `errors`: any call of a file that fails is told as `fault 2
 /// DiskFailed`, and behind it which file it was, and why. A file that was made for a store which
 /// then isn't made is taken away again. A crew with fewer lists than it has workers is want of
 /// memory.
@@ -107,6 +111,7 @@ fn answer<'a, F: Files, I: Read, O: Write, R: Threads + Wait + Sync>(
         } => crew_file(rt, alloc, store, *workers, *known, jobs, files, output),
         Asked::Migrate(old, new) => migrate_file(alloc, old, new, files, output),
         Asked::Renew(old, new) => renew_file(alloc, old, new, files, output),
+        Asked::RenewInPlace(store) => renew_in_place(alloc, store, files, output),
         Asked::Help(text) => done_alone(write_whole(output, text.as_bytes())),
     }
 }
@@ -145,7 +150,7 @@ fn make<F: Files>(
 {
     let size = layout.store_len();
     if only_new {
-        files.create_new(name, size)
+        files.create_new(name, None, size)
     } else {
         files.create(name, size)
     }
@@ -245,7 +250,7 @@ fn migrate_file<'a, F: Files, O: Write>(
         Ok(Made { disk, why, is_new }) => {
             let (done, _disk) = migrate(alloc, &mut source.disk, disk, output);
             leave(files, new, is_new, &done);
-            done_over_two(done, old, &source.why, new, &why)
+            done_over_two(done, old, &source.why, FileName::Own(new), &why)
         }
         Err(reason) => Err(no_file(new, reason)),
     }
@@ -274,7 +279,7 @@ fn renew_file<'a, F: Files, O: Write>(
         Ok(Made { disk, why, is_new }) => {
             let (done, _disk) = renew(alloc, &mut stored.disk, disk, output);
             leave(files, new, is_new, &done);
-            done_over_two(done, old, &stored.why, new, &why)
+            done_over_two(done, old, &stored.why, FileName::Own(new), &why)
         }
         Err(reason) => Err(no_file(new, reason)),
     }

@@ -17,6 +17,8 @@ pub enum Reason {
     InUse,
     /// The file had fewer bytes than when it was opened.
     EndedEarly,
+    /// The file is to be replaced, and its name is a link, or not its only one.
+    OtherName,
     /// What the system said, at most 96 bytes of it.
     Said(ArrayString<96>),
 }
@@ -46,6 +48,7 @@ impl fmt::Display for Reason {
         match self {
             Reason::InUse => f.write_str("in use by another program"),
             Reason::EndedEarly => f.write_str("it ended early"),
+            Reason::OtherName => f.write_str("its file has another name, too"),
             Reason::Said(text) => f.write_str(text.as_str()),
         }
     }

@@ -5,9 +5,8 @@ ghost use Rattle.std.specs.Fmt.{decimal};
 ghost use Rattle.arrayvec.specs.ArrayVec.{array_vec_len};
 ghost use Rattle.book_model.specs.Openings.{RecoversNone};
 ghost use Rattle.console_lines.specs.Gathers.{Gathers};
-ghost use Rattle.run_book.specs.Renewals.{Renews};
-ghost use Rattle.night_program.specs.Stores.{HasSizes, MakesShown, Prints, RenewEnds, Shows};
-ghost use Rattle.night_program.specs.Stores.{of_text, renewed_line, sizes, sizes_line};
+ghost use Rattle.night_program.specs.Stores.{HasSizes, Prints, PrintsKept, Remakes, RenewEnds};
+ghost use Rattle.night_program.specs.Stores.{of_text, sizes, sizes_line};
 
 use crate::migrations::{push, unmigrated};
 use arrayvec::ArrayVec;
@@ -29,6 +28,13 @@ struct Sizes {
     tasks: u64,
 }
 
+/// How much there was in a store, and how much of it is left in the one that was made of it.
+#[derive(Clone, Copy)]
+pub struct Kept {
+    before: Sizes,
+    left: Sizes,
+}
+
 /// Makes of `new`, a disk of a store's size, a store of what isn't finished in the store on `old`,
 /// and prints `renewed; events N; scopes A of B; groups C of D; tasks E of F`: N, A, C and E are
 /// read in the new store then, B, D and F in the old one before. The old disk is read alone. The
@@ -42,45 +48,41 @@ pub fn renew<D: RunDisk, E: RunDisk, W: Write>(
     ensures { RenewEnds D.state E.state old.old new result.0 old.new result.1
         (W.contents output.old) (W.contents output.new) }
 {
-    match sizes_on(alloc, old) {
-        Ok(before) => renew_from(alloc, before, old, new, output),
-        Err(fault) => (Err(stopped(fault)), new),
-    }
+    let (done, left) = remake(alloc, old, new);
+    (print_kept(done, output), left)
 }
 
-/// Renews a store that had these sizes, and shows what is left.
-fn renew_from<D: RunDisk, E: RunDisk, W: Write>(
+/// Makes of `new`, a disk of a store's size, a store of what isn't finished in the store on `old`,
+/// and reads how much that is: in the old store before, and in the new one then. The old disk is
+/// read alone. The new one is handed back.
+pub fn remake<D: RunDisk, E: RunDisk>(
     alloc: Global,
-    before: Sizes,
     old: &mut D,
     new: E,
-    output: &mut W,
-) -> (Result<(), RunFault>, E)
-    ensures { MakesShown (renewed_line before) (Renews D.state E.state old.old new) E.state
-        result.0 old.new result.1 (W.contents output.old) (W.contents output.new) }
+) -> (Result<Kept, RunFault>, E)
+    ensures { Remakes D.state E.state old.old new result.0 old.new result.1 }
 {
-    match run_book::renew(alloc, old, new) {
-        Ok(mut made) => {
-            let answer = show_sizes(alloc, before, &mut made, output);
-            (answer, made)
-        }
-        Err((fault, left)) => (Err(unmigrated(fault)), left),
+    let before = match sizes_on(alloc, old) {
+        Ok(before) => before,
+        Err(fault) => return (Err(stopped(fault)), new),
+    };
+    let mut made = match run_book::renew(alloc, old, new) {
+        Ok(made) => made,
+        Err((fault, left)) => return (Err(unmigrated(fault)), left),
+    };
+    match sizes_on(alloc, &mut made) {
+        Ok(left) => (Ok(Kept { before, left }), made),
+        Err(fault) => (Err(stopped(fault)), made),
     }
 }
 
-/// Reads the store that was made, and prints its sizes beside those of the old one.
-fn show_sizes<D: RunDisk, W: Write>(
-    alloc: Global,
-    before: Sizes,
-    disk: &mut D,
-    output: &mut W,
-) -> Result<(), RunFault>
-    ensures { Shows (renewed_line before) D.state disk.old result disk.new
-        (W.contents output.old) (W.contents output.new) }
+/// Prints the line of a renewal, where there is one.
+fn print_kept<W: Write>(done: Result<Kept, RunFault>, output: &mut W) -> Result<(), RunFault>
+    ensures { PrintsKept done result (W.contents output.old) (W.contents output.new) }
 {
-    match sizes_on(alloc, disk) {
-        Ok(left) => print_sizes(before, left, output),
-        Err(fault) => Err(stopped(fault)),
+    match done {
+        Ok(kept) => print_sizes(kept, output),
+        Err(fault) => Err(fault),
     }
 }
 
@@ -107,12 +109,12 @@ fn sizes_of<A: Allocator>(state: &State<A>) -> Sizes
 }
 
 /// Prints the line of a renewal. It takes no memory.
-fn print_sizes<W: Write>(before: Sizes, left: Sizes, output: &mut W) -> Result<(), RunFault>
-    ensures { Prints (sizes_line before left) result
+pub fn print_sizes<W: Write>(kept: Kept, output: &mut W) -> Result<(), RunFault>
+    ensures { Prints (sizes_line kept.before kept.left) result
         (W.contents output.old) (W.contents output.new) }
 {
     let mut line: ArrayVec<u8, 195> = ArrayVec::new();
-    push_sizes(&mut line, before, left);
+    push_sizes(&mut line, kept.before, kept.left);
     write_whole(output, line.as_slice())
 }
 

@@ -7,7 +7,7 @@ pub returns : goal.returns
 returns g c =
     let w0 = g.W.Write.contents c.args.output.now in
     let w1 = g.W.Write.contents c.write_whole.new.output in
-    let whole = sizes_line c.args.before c.args.left in
+    let whole = sizes_line c.args.kept.before c.args.kept.left in
     let none : c.new-line.result.items ≡ [] = cc in
     let line : c.as_slice.result.now ≡ c.push_sizes.new.line.items = cc in
     let text : c.as_slice.result.now ≡ whole =

@@ -1,0 +1,18 @@
+use Rattle.std.proofs.Common.{inr}
+use Rattle.night_program.proofs.renewals.remake.Goals as goal
+
+pub returns-in-Err-sizes_on : goal.returns-in-Err-sizes_on
+returns-in-Err-sizes_on g c =
+    let found = c.in-Ok.ensures.found in
+    inr (
+      found.0,
+      c.sizes_on.new.disk,
+      found.1,
+      inr (
+        c.in-Ok-renew.made,
+        c.in-Err-sizes_on.fault,
+        c.stopped-in-Err-sizes_on.ensures,
+        c.in-Ok-renew.ensures.renews,
+        c.in-Err-sizes_on.ensures.none,
+      ),
+    )

@@ -1,0 +1,81 @@
+-- What a renewal in place does: a store is made beside another one, of what isn't finished in it,
+-- and put in its place.
+use Rattle.std.specs.Prelude.{◌≡◌, ◌⊎◌, ℕ, true, List, Option, Some, ⊤, Result, Ok, Err}
+use Rattle.run_model.specs.declared.layouts.Layout.{Layout}
+use Rattle.run_model.specs.Layouts.{layout_of}
+use Rattle.run_disk.specs.Disk.{DiskState}
+use Rattle.console_lines.specs.declared.faults.RunFault.{RunFault}
+use Rattle.console_lines.specs.declared.faults.RunFault.TheVariants.{Memory}
+use Rattle.night_program.specs.declared.endings.Done.{Done}
+use Rattle.night_program.specs.declared.failures.Failure.{Failure}
+use Rattle.night_program.specs.declared.renewals.Kept.{Kept}
+use Rattle.night_program.specs.Failures.{AnswersAlone, AnswersOver, FailsBy, HasNoFile, HasNoSize}
+use Rattle.night_program.specs.Failures.{Names, NamesOne}
+use Rattle.night_program.specs.Files.{FilesView, IsReplaced, IsSettled, Makes, beside}
+use Rattle.night_program.specs.Stores.{Prints, Remakes, sizes_line}
+
+module _ {F D : Type 0} (state : D → DiskState) (seen : FilesView F D) where
+  -- The file of this name was made anew, with the size of a store of this layout, and no other file
+  -- touched. What was there before was had for this program alone, and taken away.
+  pub record MakesBeside (name : List ℕ) (layout : Layout) (given : D) (f0 f1 : F) : Type 0 where
+    pub before : F
+    pub cleared : (before ≡ f0)
+        ⊎ ((rest : D) × seen.holds f0 name rest × seen.removes f0 name before)
+    pub makes : Makes state seen name layout true true given before f1
+    pub only : seen.removes f1 name before
+
+  -- A disk couldn't be put in the place of the file of the second name, or isn't known to last
+  -- there; and the file of the first name was taken away.
+  pub record IsNotPut (disk : D) (from to : List ℕ) (f0 f1 : F) : Type 0 where
+    pub tried : F
+    pub which : (tried ≡ f0) ⊎ IsReplaced seen disk from to tried
+    pub removed : seen.removes tried from f1
+
+  -- A store was made in the file beside the one of this name. Then it was put in its place, and how
+  -- much is left was printed; or it couldn't be put there, which is told. Or none was made: the
+  -- file beside was taken away.
+  abbrev pub Puts : (store : List ℕ) → Result Kept RunFault → (left : D) → Result Done Failure
+      → (f0 f1 : F) → (w0 w1 : Option (List ℕ)) → Type 0
+  Puts store (Ok kept) left answer f0 f1 w0 w1 =
+      (IsReplaced seen left (beside store) store f1
+      × ((done : Result ⊤ RunFault) × Prints (sizes_line kept.before kept.left) done w0 w1
+      × AnswersOver (Names store) done answer))
+      ⊎ (IsNotPut left (beside store) store f0 f1 × HasNoFile store answer × (w1 ≡ w0))
+  Puts store (Err why) left answer f0 f1 w0 w1 =
+      seen.removes f0 (beside store) f1
+      × FailsBy (NamesOne store (beside store)) why answer × (w1 ≡ w0)
+
+  -- The store on the one disk was renewed to the other one, the file beside, and that put in its
+  -- place.
+  pub record EndsInPlace (store : List ℕ) (source given : D) (answer : Result Done Failure)
+      (f0 f1 : F) (w0 w1 : Option (List ℕ)) : Type 0 where
+    pub read : D
+    pub left : D
+    pub done : Result Kept RunFault
+    pub remakes : Remakes state state source given done read left
+    pub puts : Puts store done left answer f0 f1 w0 w1
+
+  -- The file of this name was opened for this program alone, and one beside it made for a store of
+  -- its layout.
+  pub record RenewsInPlace (store : List ℕ) (answer : Result Done Failure) (f0 f1 : F)
+      (w0 w1 : Option (List ℕ)) : Type 0 where
+    pub source : D
+    pub layout : Layout
+    pub given : D
+    pub made : F
+    pub held : seen.holds f0 store source
+    pub settled : IsSettled (state source)
+    pub fits : layout_of (state source).size ≡ Some layout
+    pub makes : MakesBeside (beside store) layout given f0 made
+    pub ends : EndsInPlace store source given answer made f1 w0 w1
+
+  -- The store in the file of this name was renewed in its place. Or its file wasn't had, or has no
+  -- store's size, or there was no memory for a name; or the file beside wasn't had.
+  abbrev pub DoesRenewInPlace : (store : List ℕ) → Result Done Failure → (f0 f1 : F)
+      → (w0 w1 : Option (List ℕ)) → Type 0
+  DoesRenewInPlace store answer f0 f1 w0 w1 =
+      ((f1 ≡ f0) × (w1 ≡ w0)
+      × (HasNoFile store answer ⊎ (HasNoSize state (seen.holds f0 store) store answer
+      ⊎ AnswersAlone {T = ⊤} (Err Memory) answer)))
+      ⊎ ((HasNoFile (beside store) answer × (w1 ≡ w0))
+      ⊎ RenewsInPlace store answer f0 f1 w0 w1)
