@@ -1,4 +1,4 @@
-//! A night that is stopped, inspected, opened again and migrated.
+//! A night that is stopped, inspected, opened again, migrated and renewed.
 
 use crate::runs::run_words;
 use crate::shelves::Shelf;
@@ -220,13 +220,15 @@ fn a_crew_works_off_a_stopped_night(rt: HostRuntime) -> Result<(), Fail> {
 const IN_USE: &str = "night: fault 2 DiskFailed\nnight: jobs.store: in use by another program\n";
 
 /// Words over the stopped night while another program has it open: what is printed, and told.
-static USED: [(&[&str], &str, &str); 6] = [
+static USED: [(&[&str], &str, &str); 8] = [
     (&["inspect", "jobs.store"], INSPECTED, ""),
     (&["inspect", "--tasks", "jobs.store"], TASKS, ""),
     (&["inspect", "--json", "jobs.store"], JSON, ""),
     (&["script", "jobs.store"], "", IN_USE),
     (&["crew", "jobs.store", "--workers=1"], "", IN_USE),
     (&["migrate", "jobs.store", "new.store"], "", IN_USE),
+    (&["renew", "jobs.store", "new.store"], "", IN_USE),
+    (&["renew", "--in-place", "jobs.store"], "", IN_USE),
 ];
 
 #[test]
@@ -239,6 +241,67 @@ fn a_store_in_use_is_shown_and_not_opened(rt: HostRuntime) -> Result<(), Fail> {
         assert!(&rt; printed.output.as_str() == output, "{printed:?}");
         assert!(&rt; printed.errors.as_str() == told, "{printed:?}");
         assert!(&rt; printed.ended.status == status, "{printed:?}");
+    }
+    Ok(())
+}
+
+/// A night of which one group is waited for, what is printed of its renewal, and what is left.
+const ENDED: (&str, &str, &str) = (
+    "bare a root\ngo a copy x\nstart\nfinish 0 ok\nwait a\ngroup g root\ngo g copy b\n",
+    "renewed; events 8; scopes 2 of 2; groups 1 of 2; tasks 1 of 2\n",
+    "events 8; clock 0\n\
+     scope 0 root live; deadline none\n\
+     scope 1 g live; deadline none\n\
+     group 0 g unfinished 1; limit none; waited no; error none\n\
+     task 0 g copy b ready\n",
+);
+
+/// Words that renew it, and whether the store itself is renewed.
+static RENEWED: [(&[&str], bool); 3] = [
+    (&["renew", "jobs.store", "new.store"], false),
+    (&["renew", "--in-place", "jobs.store"], true),
+    (&["renew", "jobs.store", "--in-place"], true),
+];
+
+#[test]
+fn a_night_is_renewed(rt: HostRuntime) -> Result<(), Fail> {
+    for (words, is_in_place) in RENEWED {
+        let mut shelf = scripted(rt.alloc(), ENDED.0)?;
+        let printed = run_words(&rt, rt.alloc(), words, &mut shelf, "")?;
+        assert!(&rt; printed.output.as_str() == ENDED.1, "{words:?} {printed:?}");
+        assert!(&rt; printed.ended.status == 0, "{words:?} {printed:?}");
+        let shown = run_words(&rt, rt.alloc(), &["inspect", "jobs.store"], &mut shelf, "")?;
+        let is_renewed = shown.output.as_str() == ENDED.2;
+        assert!(&rt; is_renewed == is_in_place, "{words:?} {shown:?}");
+    }
+    Ok(())
+}
+
+/// What is told of a renewal in place over disks that fail behind so many calls, of which the old
+/// one is read by six and the new one written by eight and read by three, or over a file that can't
+/// be replaced.
+static UNRENEWED: [(u64, bool, &str); 4] = [
+    (5, false, "broken"),
+    (7, false, "broken"),
+    (10, false, "broken"),
+    (u64::MAX, true, "in use by another program"),
+];
+
+#[test]
+fn a_store_that_is_not_renewed_in_place_stays(rt: HostRuntime) -> Result<(), Fail> {
+    let stored = scripted(rt.alloc(), ENDED.0)?;
+    for (passes, is_kept, why) in UNRENEWED {
+        let bytes = Vec::from_slice(rt.alloc(), stored.bytes.as_slice())?;
+        let mut shelf = Shelf::new(rt.alloc(), "jobs.store", bytes);
+        shelf.passes = passes;
+        shelf.is_kept = is_kept;
+        let words = ["renew", "--in-place", "jobs.store"];
+        let printed = run_words(&rt, rt.alloc(), &words, &mut shelf, "")?;
+        assert!(&rt; printed.ended.status == 3, "{passes} {printed:?}");
+        assert!(&rt; printed.errors.contains(why), "{passes} {printed:?}");
+        assert!(&rt; printed.output.is_empty(), "{passes} {printed:?}");
+        assert!(&rt; shelf.has_removed, "{passes}");
+        assert!(&rt; shelf.bytes == stored.bytes, "{passes}");
     }
     Ok(())
 }

@@ -6,10 +6,11 @@ ghost use Rattle.night_program.specs.Files.{FilesView, IsSettled};
 
 use arrayvec::ArrayString;
 use night_program::{Files, Made, Opened, Reason, Why};
-use run_disk::{Fuse, MemoryDisk, RunDisk};
+use run_disk::{Fuse, MemoryDisk, RunDisk, Torn};
 use std::alloc::Global;
 
-/// One file in memory. An opening gives a copy of it, and a file that is made anew isn't kept.
+/// One file in memory. An opening gives a copy of it, and a file that is made anew isn't kept,
+/// unless it is put in its place.
 #[derive(Drop)]
 pub struct Shelf {
     pub alloc: Global,
@@ -19,6 +20,8 @@ pub struct Shelf {
     pub is_used: bool,
     /// So many calls of each disk pass, and then each fails.
     pub passes: u64,
+    /// Whether its file can't be replaced.
+    pub is_kept: bool,
     /// Whether a file was taken away.
     pub has_removed: bool,
 }
@@ -32,6 +35,7 @@ impl Shelf {
             bytes,
             is_used: false,
             passes: u64::MAX,
+            is_kept: false,
             has_removed: false,
         }
     }
@@ -114,12 +118,27 @@ impl Files for Shelf {
     fn create_new(
         &mut self,
         name: &str,
+        _like: Option<&str>,
         size: u64,
     ) -> Result<Made<Fuse<MemoryDisk>, Broken>, Reason> {
         if name == self.name {
             return Err(said("there is one"));
         }
         self.made(size, true)
+    }
+
+    fn replace(&mut self, disk: Fuse<MemoryDisk>, _from: &str, to: &str) -> Result<(), Reason> {
+        if to != self.name || self.is_kept {
+            return Err(Reason::InUse);
+        }
+        let disk = disk.into_inner();
+        match disk.image(self.alloc, disk.calls(), Torn::Take) {
+            Ok(bytes) => {
+                self.bytes = bytes;
+                Ok(())
+            }
+            Err(_) => Err(said("no memory")),
+        }
     }
 
     fn remove(&mut self, _name: &str) {

@@ -29,7 +29,7 @@ static CASES: [Case; 37] = [
         &["inspect", "--json", "--tasks", "a"],
         2,
         "",
-        "error: inspect takes one of --tasks and --json\n",
+        "error: inspect takes one of --tasks (or --phase, --group), --json and --tree\n",
     ),
     (
         &["crew", "--help"],
