@@ -27,13 +27,18 @@
  *   HURT_SLOW   each sync takes so many milliseconds longer
  *   HURT_LOCK   the number of an error: each lock of the file is answered so
  *   HURT_NAME   a name: each opening of it fails, with the error of the number HURT_ERROR
+ *   HURT_NAMES  each call on any file is told there, in a line, with the name of the file
+ *   HURT_DIE    the number of such a call, from 1: the program is killed before it
+ *   HURT_BREAK  the number of such a call, from 1: it alone fails with EIO
  *   HURT_WRONG  makes the program one whose disk is wrong: its sync makes no call (sync), it takes
  *               a short write as whole (short), it reads from another place (place), it makes a
  *               call that failed once more (again), or nothing is wrong (none)
  *
- * Reads, writes, syncs and the close are counted, by the number of the call. A cut at a write comes
- * while it is made, one at any other call before it. A positioned write that is torn may leave
- * bytes that nobody wrote, in its range. That a file is emptied is neither counted nor undone.
+ * Of HURT_FILE reads, writes, syncs and the close are counted, by the number of the call; of any
+ * file also openings, locks, lengths, rights, renamings and removals. A cut at
+ * a write comes while it is made, one at any other call before it. A positioned write that is torn
+ * may leave bytes that nobody wrote, in its range. That a file is emptied is neither counted nor
+ * undone by a cut.
  */
 #define _GNU_SOURCE
 #include <errno.h>
@@ -61,9 +66,12 @@ struct unsynced {
     unsigned char *new;
 };
 
+#define MOST_FILES 64
+
 static const char *path, *keep, *wrong, *left, *refused, *stop;
-static int file = -1, told = -1, is_short, is_full;
-static long calls, cut, failing, once, trim, killing, touches;
+static char *names[MOST_FILES]; /* (of the open files) */
+static int file = -1, told = -1, listed = -1, is_short, is_full;
+static long calls, cut, failing, once, trim, killing, touches, all_calls, dying, breaking;
 static unsigned long long room;
 static uint64_t dice, short_dice;
 static long slow, one_way;
@@ -127,6 +135,14 @@ static void leave_rest(void)
         give_up("what is left can't be kept");
 }
 
+/* The file that lines are told in, where one is asked for. */
+static int log_of(const char *name)
+{
+    const char *text = getenv(name);
+    int flags = O_WRONLY | O_CREAT | O_APPEND | O_CLOEXEC;
+    return text ? (int)syscall(SYS_openat, AT_FDCWD, text, flags, 0644) : -1;
+}
+
 __attribute__((constructor)) static void begin(void)
 {
     path = getenv("HURT_FILE");
@@ -141,6 +157,8 @@ __attribute__((constructor)) static void begin(void)
     trim = number_of("HURT_TRIM");
     killing = number_of("HURT_KILL");
     touches = number_of("HURT_TOUCH");
+    dying = number_of("HURT_DIE");
+    breaking = number_of("HURT_BREAK");
     is_short = getenv("HURT_SHORT") != NULL;
     is_full = getenv("HURT_ROOM") != NULL;
     room = (unsigned long long)number_of("HURT_ROOM");
@@ -148,9 +166,8 @@ __attribute__((constructor)) static void begin(void)
     one_way = getenv("HURT_WAY") ? number_of("HURT_WAY") : -1;
     dice = seed_of("HURT_SEED");
     short_dice = seed_of("HURT_SHORT");
-    if (getenv("HURT_LOG"))
-        told = (int)syscall(SYS_openat, AT_FDCWD, getenv("HURT_LOG"),
-                            O_WRONLY | O_CREAT | O_APPEND | O_CLOEXEC, 0644);
+    told = log_of("HURT_LOG");
+    listed = log_of("HURT_NAMES");
     if (left)
         take_left();
 }
@@ -240,6 +257,26 @@ static void cut_power(void)
             put_back(row[now].new, row[now].count, row[now].at);
     tell("cut", (off_t)before, rows);
     end_it();
+}
+
+/* Counts a call on any file, and says whether it fails. */
+static int breaks(const char *what, const char *name)
+{
+    all_calls++;
+    if (listed >= 0)
+        dprintf(listed, "%s %s\n", what, name);
+    if (all_calls == dying)
+        end_it();
+    if (all_calls != breaking)
+        return 0;
+    errno = EIO;
+    return 1;
+}
+
+/* So does it for a file that is open. */
+static int breaks_at(const char *what, int fd)
+{
+    return breaks(what, fd >= 0 && fd < MOST_FILES && names[fd] ? names[fd] : "-");
 }
 
 /* Counts a call, and says whether it fails. */
@@ -363,11 +400,15 @@ static int synced(int fd, int number)
 
 static int opened(int folder, const char *name, int flags, mode_t mode)
 {
+    if (breaks("open", name))
+        return -1;
     if (refused && !strcmp(name, refused)) {
         errno = (int)number_of("HURT_ERROR");
         return -1;
     }
     int fd = (int)syscall(SYS_openat, folder, name, flags, mode);
+    if (fd >= 0 && fd < MOST_FILES)
+        names[fd] = strdup(name);
     if (fd >= 0 && path && !strcmp(name, path)) {
         if (file >= 0)
             give_up("the file is open twice");
@@ -412,6 +453,11 @@ int openat64(int folder, const char *name, int flags, ...)
 
 int close(int fd)
 {
+    breaks_at("close", fd); /* (a close that fails closes) */
+    if (fd >= 0 && fd < MOST_FILES) {
+        free(names[fd]);
+        names[fd] = NULL;
+    }
     if (fd == file && fd >= 0) {
         counted("close", 0, 0);
         if (calls == cut)
@@ -423,6 +469,8 @@ int close(int fd)
 
 ssize_t read(int fd, void *bytes, size_t count)
 {
+    if (breaks_at("read", fd))
+        return -1;
     if (fd != file)
         return syscall(SYS_read, fd, bytes, count);
     return get(fd, bytes, count, place_of(fd), 0);
@@ -430,6 +478,8 @@ ssize_t read(int fd, void *bytes, size_t count)
 
 ssize_t write(int fd, const void *bytes, size_t count)
 {
+    if (breaks_at("write", fd))
+        return -1;
     if (fd != file)
         return syscall(SYS_write, fd, bytes, count);
     return put(fd, bytes, count, place_of(fd), 0);
@@ -442,6 +492,8 @@ ssize_t __write(int fd, const void *bytes, size_t count)
 
 ssize_t pread64(int fd, void *bytes, size_t count, off64_t at)
 {
+    if (breaks_at("read", fd))
+        return -1;
     if (fd != file)
         return syscall(SYS_pread64, fd, bytes, count, at);
     return get(fd, bytes, count, at, 1);
@@ -454,6 +506,8 @@ ssize_t pread(int fd, void *bytes, size_t count, off_t at)
 
 ssize_t pwrite64(int fd, const void *bytes, size_t count, off64_t at)
 {
+    if (breaks_at("write", fd))
+        return -1;
     if (fd != file)
         return syscall(SYS_pwrite64, fd, bytes, count, at);
     return put(fd, bytes, count, at, 1);
@@ -466,16 +520,22 @@ ssize_t pwrite(int fd, const void *bytes, size_t count, off_t at)
 
 int fdatasync(int fd)
 {
+    if (breaks_at("sync", fd))
+        return -1;
     return fd == file ? synced(fd, SYS_fdatasync) : (int)syscall(SYS_fdatasync, fd);
 }
 
 int fsync(int fd)
 {
+    if (breaks_at("sync", fd))
+        return -1;
     return fd == file ? synced(fd, SYS_fsync) : (int)syscall(SYS_fsync, fd);
 }
 
 int ftruncate64(int fd, off64_t length)
 {
+    if (breaks_at("length", fd))
+        return -1;
     if (fd == file && length)
         give_up("the file gets another length");
     if (fd == file)
@@ -490,6 +550,8 @@ int ftruncate(int fd, off_t length)
 
 int flock(int fd, int how)
 {
+    if (breaks_at("lock", fd))
+        return -1;
     if (fd == file && stop && !atol(stop))
         kill(getpid(), SIGSTOP);
     if (fd == file && number_of("HURT_LOCK")) {
@@ -497,4 +559,24 @@ int flock(int fd, int how)
         return -1;
     }
     return (int)syscall(SYS_flock, fd, how);
+}
+
+int fchmod(int fd, mode_t mode)
+{
+    return breaks_at("rights", fd) ? -1 : (int)syscall(SYS_fchmod, fd, mode);
+}
+
+int fchown(int fd, uid_t owner, gid_t group)
+{
+    return breaks_at("owner", fd) ? -1 : (int)syscall(SYS_fchown, fd, owner, group);
+}
+
+int rename(const char *from, const char *to)
+{
+    return breaks("rename", to) ? -1 : (int)syscall(SYS_rename, from, to);
+}
+
+int unlink(const char *name)
+{
+    return breaks("remove", name) ? -1 : (int)syscall(SYS_unlink, name);
 }
