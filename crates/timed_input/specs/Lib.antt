@@ -1,0 +1,3 @@
+pub mod Timed
+pub mod Times
+pub mod Weaving
