@@ -1,4 +1,4 @@
-use Rattle.std.proofs.Common.{◌≡◌, ◌<◌, ◌+◌, ◌∙◌, sym, length, arith}
+use Rattle.std.proofs.Common.{◌<◌, ◌∙◌, sym, length, arith}
 use Rattle.run_model.specs.declared.groups.Group.{Group}
 use Rattle.run_console.proofs.Drawing.{all_pushed, has_group, none_pushed, one_fits, one_pushed}
 use Rattle.run_console.proofs.Drawing.{group_seen}

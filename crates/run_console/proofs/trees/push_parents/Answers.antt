@@ -1,4 +1,3 @@
-use Rattle.std.proofs.Common.{arith}
 use Rattle.run_console.proofs.Drawing.{groups_fit, parents_are, scopes_fit, tasks_fit}
 use Rattle.run_console.proofs.trees.push_parents.Goals as goal
 

@@ -1,4 +1,4 @@
-use Rattle.std.proofs.Common.{◌≡◌, ◌<◌, ◌+◌, ◌∙◌, sym, length, slice_get, arith}
+use Rattle.std.proofs.Common.{◌<◌, ◌∙◌, sym, length, slice_get, arith}
 use Rattle.run_model.specs.declared.scopes.Scope.{Scope}
 use Rattle.run_console.proofs.Drawing.{all_pushed, has_row, none_pushed, one_fits, one_pushed}
 use Rattle.run_console.proofs.Drawing.{seen_of}
