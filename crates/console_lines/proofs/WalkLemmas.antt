@@ -1,7 +1,7 @@
 -- From one node of a tree to the next that is drawn, and what is drawn for the nodes above it.
 use Rattle.std.specs.Prelude.{◌≡◌, ◌≤◌, ◌<◌, ◌+◌, ◌-◌, ◌*◌, ℕ, zero, suc, Bool, true, false, nat_eq}
 use Rattle.std.specs.Prelude.{if◌then◌else◌, List, [], ◌∷◌, ◌++◌, length, reverse, slice_get, take}
-use Rattle.std.specs.Prelude.{Option, Some, None, codes, drop}
+use Rattle.std.specs.Prelude.{Some, None, codes, drop}
 use Rattle.std.specs.List.{flat_map}
 use Rattle.std.specs.Option.{option_map_or}
 use Rattle.std.proofs.Common.{refl, sym, ap, ◌∙◌, arith, subst, append_assoc, append-nil}
@@ -11,9 +11,9 @@ use Rattle.std.proofs.Math.Dec.{eqb-suc-zero}
 use Rattle.std.proofs.lemmas.List.{drop_all, length-drop, reverse-append}
 use Rattle.std.proofs.Math.Seq.{drop-cons, take-append_seam}
 use Rattle.std.proofs.lemmas.Bool.{eq-eqb, ne_eqb}
-use Rattle.console_lines.specs.Trees.{above, bar, behind, by_siblings, children, later_siblings}
+use Rattle.console_lines.specs.Trees.{above, bar, behind, children, later_siblings}
 use Rattle.console_lines.specs.Trees.{parent_of, passing, places_of, upwards}
-use Rattle.console_lines.specs.Walks.{AreRising, IsAt, after, all_below, drawn_from, drawn_next}
+use Rattle.console_lines.specs.Walks.{AreRising, IsAt, after, all_below, drawn_from}
 use Rattle.console_lines.specs.Walks.{forest}
 use Rattle.console_lines.proofs.TreeLemmas.{AreWithin, after_same, childless, first_behind}
 use Rattle.console_lines.proofs.TreeLemmas.{first_child, places_within}

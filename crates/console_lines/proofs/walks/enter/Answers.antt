@@ -1,4 +1,4 @@
-use Rattle.std.proofs.Common.{◌<◌, ◌≤◌, ◌+◌, arith, length, sym}
+use Rattle.std.proofs.Common.{◌<◌, arith}
 use Rattle.console_lines.proofs.WalkLemmas.{entered_room, enters, enters_top}
 use Rattle.console_lines.proofs.walks.enter.Goals as goal
 

@@ -1,4 +1,4 @@
-use Rattle.std.proofs.Common.{◌≡◌, ◌≤◌, suc, drop}
+use Rattle.std.proofs.Common.{◌≡◌, drop}
 use Rattle.console_lines.specs.Trees.{behind, places_of}
 use Rattle.console_lines.proofs.walks.first_behind.Given as goal
 
