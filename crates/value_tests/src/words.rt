@@ -17,6 +17,8 @@ pub enum Told {
     Store(&'static str, &'static str, bool),
     /// They ask for a run over this store, strict or not, and by the machine's time or not.
     Script(&'static str, bool, bool),
+    /// They ask for the tasks of this store, in this phase and of this group.
+    Tasks(&'static str, Option<&'static str>, Option<&'static str>),
     /// They ask for this view of this store.
     Inspect(&'static str, View<'static>),
     /// They ask for a migration from this store to that one.
@@ -196,66 +198,61 @@ static TWO_VIEWS: [Case; 9] = [
     ),
 ];
 
-/// The tasks in this phase, and of this group.
-const fn tasks(phase: Option<&'static str>, group: Option<&'static str>) -> View<'static> {
-    View::Tasks { phase, group }
-}
-
 /// The tasks of a phase or of a group, with `--tasks` or without it.
 static SOME_TASKS: [Case; 18] = [
     (
         &["inspect", "--phase", "held", "a"],
-        Told::Inspect("a", tasks(Some("held"), None)),
+        Told::Tasks("a", Some("held"), None),
     ),
     (
         &["inspect", "a", "--phase", "ready"],
-        Told::Inspect("a", tasks(Some("ready"), None)),
+        Told::Tasks("a", Some("ready"), None),
     ),
     (
         &["inspect", "--phase=running", "a"],
-        Told::Inspect("a", tasks(Some("running"), None)),
+        Told::Tasks("a", Some("running"), None),
     ),
     (
         &["inspect", "--tasks", "--phase=success", "a"],
-        Told::Inspect("a", tasks(Some("success"), None)),
+        Told::Tasks("a", Some("success"), None),
     ),
     (
         &["inspect", "--phase", "error", "--tasks", "a"],
-        Told::Inspect("a", tasks(Some("error"), None)),
+        Told::Tasks("a", Some("error"), None),
     ),
     (
         &["inspect", "a", "--phase=interrupted", "--tasks"],
-        Told::Inspect("a", tasks(Some("interrupted"), None)),
+        Told::Tasks("a", Some("interrupted"), None),
     ),
     (
         &["inspect", "--group", "g", "a"],
-        Told::Inspect("a", tasks(None, Some("g"))),
+        Told::Tasks("a", None, Some("g")),
     ),
     (
         &["inspect", "a", "--group=held"],
-        Told::Inspect("a", tasks(None, Some("held"))),
+        Told::Tasks("a", None, Some("held")),
     ),
     (
         &["inspect", "--group=", "a"],
-        Told::Inspect("a", tasks(None, Some(""))),
+        Told::Tasks("a", None, Some("")),
     ),
     (
         &["inspect", "--group", "No Group", "a"],
-        Told::Inspect("a", tasks(None, Some("No Group"))),
+        Told::Tasks("a", None, Some("No Group")),
     ),
     (
         &["inspect", "--group=ready", "--phase=held", "a"],
-        Told::Inspect("a", tasks(Some("held"), Some("ready"))),
+        Told::Tasks("a", Some("held"), Some("ready")),
     ),
     (
         &[
             "inspect", "--phase", "held", "a", "--group", "ready", "--tasks",
         ],
-        Told::Inspect("a", tasks(Some("held"), Some("ready"))),
+        Told::Tasks("a", Some("held"), Some("ready")),
     ),
     (
         &["inspect", "--phase=held", "--", "--phase=held"],
-        Told::Inspect("--phase=held", tasks(Some("held"), None)),
+        Told::Tasks("--phase=held", Some("held"), None),
     ),
     (&["inspect", "--phase", "Held", "a"], Told::Phase),
     (&["inspect", "--phase=", "a"], Told::Phase),
@@ -522,6 +519,13 @@ fn is_view(view: View, other: View) -> bool {
 fn is_inspect(told: &Told, store: &str, view: View) -> bool {
     match told {
         Told::Inspect(name, its) => *name == store && is_view(*its, view),
+        Told::Tasks(name, phase, group) => {
+            let its = View::Tasks {
+                phase: *phase,
+                group: *group,
+            };
+            *name == store && is_view(its, view)
+        }
         _ => false,
     }
 }
