@@ -20,8 +20,8 @@ pub const LONGEST_TREE_HEAD: usize = 212;
 /// No line of a scope has more bytes, with its LF, and without what leads it.
 pub const LONGEST_TREE_SCOPE: usize = 304;
 
-/// How much of a store is taken: how many scopes there are, root among them, and how many groups and
-/// tasks.
+/// How much of a store is taken: how many scopes there are, root among them, how many groups, and
+/// how many tasks.
 #[derive(Clone, Copy)]
 pub struct Taken {
     pub scopes: usize,

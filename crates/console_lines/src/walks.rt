@@ -3,7 +3,8 @@
 
 ghost use Rattle.std.specs.Prelude.{◌≡◌, ◌<◌, ◌≤◌, ◌∷◌, IfSome, Some, length, slice_get};
 ghost use Rattle.console_lines.specs.declared.walks.TheConstants.{MOST_NODES};
-ghost use Rattle.console_lines.specs.Trees.{behind, by_siblings, children, mark, parent_of, passing};
+ghost use Rattle.console_lines.specs.Trees.{behind, by_siblings, children, mark, parent_of};
+ghost use Rattle.console_lines.specs.Trees.{passing};
 ghost use Rattle.console_lines.specs.Walks.{AreRising, IsAt, after, drawn_from, drawn_next};
 
 use crate::gathers::push;

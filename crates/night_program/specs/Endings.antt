@@ -64,7 +64,8 @@ TellsDone _ told e0 e1 = (told ≡ true) × (e1 ≡ e0)
 -- What standard error is told of a call of a file, as in `night: jobs.store: Permission denied`.
 abbrev pub file_line : FileFailure → List ℕ
 file_line file =
-    codes "night: " ++ (name_text file.name ++ (codes ": " ++ (reason_text file.reason ++ codes "\n")))
+    codes "night: "
+    ++ (name_text file.name ++ (codes ": " ++ (reason_text file.reason ++ codes "\n")))
 
 -- What standard error is told of a failure: the line of its fault, and behind it that of the call
 -- of a file which failed.

@@ -13,7 +13,8 @@ use Rattle.clap.specs.Simple.{Shape, filled, help_rule}
 use Rattle.clap.specs.Walk.{Held, Row, Rule, Text, Waiting, Walk, after_step, arg_by_id}
 use Rattle.clap.specs.Walk.{arg_by_index, finished, first_of, has_row, idle, is_pending, option}
 use Rattle.clap.specs.Walk.{option_word, plain_word, positional, pushed, reading_by, settled_rows}
-use Rattle.clap.specs.Walk.{started, takes_several, takes_values, to_positional, used, used_by_id, value}
+use Rattle.clap.specs.Walk.{started, takes_several, takes_values, to_positional, used}
+use Rattle.clap.specs.Walk.{used_by_id, value}
 use Rattle.clap.specs.Walk.{walked, with_values, without}
 use Rattle.clap.specs.declared.error.kind.ErrorKind.TheVariants as kind
 use Rattle.clap.specs.declared.parser.matches.ValueSource.TheVariants.{CommandLine}

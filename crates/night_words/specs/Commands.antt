@@ -87,7 +87,9 @@ free id = record (new_rule id) { action = Some Set; value_names = 1 }
 -- one that takes the names of two stores, the new one or none, and a flag
 abbrev pub renew_line : App
 renew_line =
-    with_rule (with_rule (store_line (codes "renew")) (free (codes "NEW"))) (flag (codes "in-place"))
+    with_rule
+    (with_rule (store_line (codes "renew")) (free (codes "NEW")))
+    (flag (codes "in-place"))
 
 -- a command that takes the name of a store and a flag, and may be told how many workers there are
 abbrev pub crew_line : App
@@ -96,8 +98,8 @@ crew_line = with_rule
     (flag (codes "known"))
 
 -- the command line of `night`: the commands are `demo`, over a store `format`, `script` and
--- `inspect`, over two `migrate`, over a store `crew`, and over two or one `renew`; all but `migrate`
--- take a flag, or flags, and `inspect` and `crew` options
+-- `inspect`, over two `migrate`, over a store `crew`, and over two or one `renew`; all but
+-- `migrate` take a flag, or flags, and `inspect` and `crew` options
 abbrev pub night : App
 night =
     with_subcommand

@@ -136,7 +136,8 @@ pub head_told : (p : State) (count clock scopes groups tasks : ℕ) (layout : La
 head_told p count clock scopes groups tasks layout g h w a b c d e f none made =
     let taken : Taken = record { scopes = scopes; groups = groups; tasks = tasks } in
     let same : head_line count clock layout taken ≡ head_of p = cc in
-    told_first (head_of p) [] h w (made ∙ ap (λ t. t ++ head_line count clock layout taken) none ∙ same)
+    told_first (head_of p) [] h w
+    (made ∙ ap (λ t. t ++ head_line count clock layout taken) none ∙ same)
 
 -- ---- a line
 

@@ -18,7 +18,8 @@ use Rattle.run_model.specs.WorkChanges.{error_of, group_of_task}
 use Rattle.run_model.specs.Tasks.{first_ready}
 use Rattle.run_model.specs.Step.{after_task_end, own_scope, step}
 use Rattle.run_model.specs.Replies.{decide, decide_finish, event_of, if_room}
-use Rattle.run_model.specs.Replies.{and_then, finish_refusals, refusals, is_full, is_repeated, unless}
+use Rattle.run_model.specs.Replies.{and_then, finish_refusals, refusals, is_full, is_repeated}
+use Rattle.run_model.specs.Replies.{unless}
 use Rattle.run_model.specs.Session.{Session, made, with_event}
 use Rattle.console_lines.specs.declared.asked.Asked.{Asked}
 use Rattle.console_lines.specs.declared.asked.Asked.TheVariants as asked
@@ -141,7 +142,8 @@ asked_within s asked.BadLine latest h = h
 asked_within s (asked.Refused why) latest h = h
 asked_within s (asked.Command call) latest h =
     let p = s.state in
-    after s (made (decide p s.log call)) (event_of p call) (latest_asked latest (asked.Command call))
+    after s (made (decide p s.log call)) (event_of p call)
+    (latest_asked latest (asked.Command call))
     (omega (arith, h, later latest (asked.Command call)))
     (unless_made (refusals p call)
     (if is_repeated p call then Ok None else if_room p s.log (event_of p call)) (event_of p call)

@@ -1,8 +1,8 @@
 //! A [`Weave`] takes the bytes of an input, and readies them with the advances before their lines.
 
 ghost use Rattle.std.specs.Io.KnownBytes.{Consumes, Keeps};
-ghost use Rattle.std.specs.Prelude.{◌≡◌, ◌+◌, ◌∷◌, ◌++◌, ◌≤◌, ◌<◌, [], List, false, length, min, take};
-ghost use Rattle.std.specs.Prelude.{true, ℕ};
+ghost use Rattle.std.specs.Prelude.{◌≡◌, ◌+◌, ◌∷◌, ◌++◌, ◌≤◌, ◌<◌, [], List, false, length};
+ghost use Rattle.std.specs.Prelude.{min, take, true, ℕ};
 ghost use Rattle.arrayvec.specs.ArrayVec.{array_vec_len};
 ghost use Rattle.timed_input.specs.Timed.{advance_line, latest_asked, latest_behind};
 ghost use Rattle.timed_input.specs.Weaving.{left_in};

@@ -35,7 +35,8 @@ loop-number-preserved g c =
           c.args.parents.now.items c.loop-number.parents.items its.found_is its.seen_is
           c.loop-number.invariant)
       | in_default w ↦
-          absurd (has_row (λ (row : Scope). row.parent) rows n less (sym c.scope_parent.ensures ∙ w.in_default.is))
+          absurd (has_row (λ (row : Scope). row.parent) rows n less
+          (sym c.scope_parent.ensures ∙ w.in_default.is))
     ]
 
 pub returns : goal.returns

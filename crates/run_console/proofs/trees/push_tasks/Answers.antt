@@ -7,14 +7,16 @@ use Rattle.run_console.proofs.trees.push_tasks.Goals.{in-Some, in_default}
 
 pub loop-number-init : goal.loop-number-init
 loop-number-init g c =
-    none_pushed (λ (row : Task). length c.args.state.now.tree.scopes + row.group) c.args.state.now.work.tasks c.args.parents.now.items
+    none_pushed (λ (row : Task). length c.args.state.now.tree.scopes + row.group)
+    c.args.state.now.work.tasks c.args.parents.now.items
 
 pub push-requires : goal.push-requires
 push-requires g c =
     let less : c.loop-number.number < length c.args.state.now.work.tasks =
     omega (arith, c.loop-number-test.true, c.task_count-number-end.ensures.len) in (
       omega arith,
-      one_fits (λ (row : Task). length c.args.state.now.tree.scopes + row.group) c.args.state.now.work.tasks c.loop-number.number 12416
+      one_fits (λ (row : Task). length c.args.state.now.tree.scopes + row.group)
+          c.args.state.now.work.tasks c.loop-number.number 12416
           c.args.parents.now.items c.loop-number.parents.items c.loop-number.invariant less
           c.requires,
     )
@@ -33,7 +35,8 @@ loop-number-preserved g c =
           omega (arith, its.seen_is, c.scope_count-scopes.ensures.len) in
           rw w.parents-is (
           w.push.ensures.items
-          ∙ one_pushed (λ (row : Task). length c.args.state.now.tree.scopes + row.group) p.work.tasks n (scopes + w.in-Some.look.group) its.row
+          ∙ one_pushed (λ (row : Task). length c.args.state.now.tree.scopes + row.group)
+          p.work.tasks n (scopes + w.in-Some.look.group) its.row
           c.args.parents.now.items c.loop-number.parents.items its.found_is sum
           c.loop-number.invariant)
       | in_default w ↦ absurd (has_task p n less (sym c.task.ensures ∙ w.in_default.is))
@@ -41,6 +44,7 @@ loop-number-preserved g c =
 
 pub returns : goal.returns
 returns g c =
-    all_pushed (λ (row : Task). length c.args.state.now.tree.scopes + row.group) c.args.state.now.work.tasks c.loop-number.number
+    all_pushed (λ (row : Task). length c.args.state.now.tree.scopes + row.group)
+    c.args.state.now.work.tasks c.loop-number.number
     c.args.parents.now.items c.loop-number.parents.items c.loop-number.invariant
     (omega (arith, c.loop-number-test.false, c.task_count-number-end.ensures.len))

@@ -5,4 +5,5 @@ use Rattle.run_console.proofs.trees.push_tasks.Given as goal
 abbrev pub invariant-loop-number : goal.invariant-loop-number
 invariant-loop-number g l =
     l.parents.items
-    ≡ l.initial.parents.items ++ map (λ row. length l.state.tree.scopes + row.group) (take l.number l.state.work.tasks)
+    ≡ l.initial.parents.items
+    ++ map (λ row. length l.state.tree.scopes + row.group) (take l.number l.state.work.tasks)
