@@ -33,4 +33,6 @@ mod stores;
 #[cfg(test)]
 mod stricts;
 #[cfg(test)]
+mod times;
+#[cfg(test)]
 mod writers;

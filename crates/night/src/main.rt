@@ -1,8 +1,8 @@
 //! The program `night`: a durable job runner with cancellation scopes, on the command line.
 //!
-//! What it does by its words is `night_program`'s; here it is given the system's words, files and
-//! streams. `night --help` says which words there are, `docs/formats/console.md` what a line asks
-//! for and what it is answered.
+//! What it does by its words is `night_program`'s; here it is given the system's words, files,
+//! clock and streams. `night --help` says which words there are, `docs/formats/console.md` what a
+//! line asks for and what it is answered.
 //!
 //! The exit status is 0, or 1 where a strict run met a line that was bad or refused, 2 for words
 //! that ask for nothing, 3 where input, output or the store failed, the input is too long, an audit
@@ -10,10 +10,12 @@
 //! standard error, and what strayed on standard output.
 #![tactic(auto)]
 
+mod clock;
 mod complaints;
 mod disks;
 mod system;
 
+use crate::clock::SystemClock;
 use crate::system::{Complaints, SystemFiles};
 use night_program::{CopyJob, FailJob, SpinJob, night};
 use night_words::own_words;
@@ -48,6 +50,7 @@ fn main(rt: HostRuntime) -> ExitCode {
     }
     let complaints = Complaints::new();
     let mut files = SystemFiles::new(&rt, &complaints);
+    let mut clock = SystemClock::new(&rt);
     let mut input = rt.stdin();
     let mut output = rt.stdout();
     let mut errors = rt.stderr();
@@ -57,6 +60,7 @@ fn main(rt: HostRuntime) -> ExitCode {
         words,
         jobs,
         &mut files,
+        &mut clock,
         &mut input,
         &mut output,
         &mut errors,

@@ -11,3 +11,4 @@ pub mod Programs
 pub mod Reasons
 pub mod Replacements
 pub mod Stores
+pub mod Timed

@@ -31,6 +31,7 @@ use Rattle.night_program.specs.Looks.{LookEnds}
 use Rattle.night_program.specs.Replacements.{DoesRenewInPlace}
 use Rattle.night_program.specs.Stores.{FormatEnds, InspectEnds, MigrateEnds, Prints, RenewEnds}
 use Rattle.night_program.specs.Stores.{ScriptEnds, StrictEnds}
+use Rattle.night_program.specs.Timed.{DoesTimed}
 
 -- What is left of the files behind what a file was made for: where that failed, a file that wasn't
 -- there before is taken away again.
@@ -220,27 +221,29 @@ module _ {F D : Type 0} (state : D → DiskState) (seen : FilesView F D) where
 
   -- ---- all words
 
-  -- What was asked for was done, with so many lists of jobs. Input and files are untouched where it
-  -- needs none.
-  abbrev pub Does : Asked → (lists : ℕ) → Result Done Failure → (f0 f1 : F)
-      → (r0 r1 w0 w1 : Option (List ℕ)) → Type 0
-  Does (Demo strict) lists answer f0 f1 r0 r1 w0 w1 =
+  -- What was asked for was done, with so many lists of jobs, and a clock that tells these moments.
+  -- Input and files are untouched where it needs none.
+  abbrev pub Does : Asked → (lists : ℕ) → (moments : Option (List ℕ)) → Result Done Failure
+      → (f0 f1 : F) → (r0 r1 w0 w1 : Option (List ℕ)) → Type 0
+  Does (Demo strict) lists moments answer f0 f1 r0 r1 w0 w1 =
       DoesDemo strict answer r0 r1 w0 w1 × (f1 ≡ f0)
-  Does (Format store only_new) lists answer f0 f1 r0 r1 w0 w1 =
+  Does (Format store only_new) lists moments answer f0 f1 r0 r1 w0 w1 =
       DoesFormat store.now only_new answer f0 f1 w0 w1 × (r1 ≡ r0)
-  Does (Script store strict) lists answer f0 f1 r0 r1 w0 w1 =
+  Does (Script store strict false) lists moments answer f0 f1 r0 r1 w0 w1 =
       DoesScript store.now strict answer f0 f1 r0 r1 w0 w1
-  Does (Inspect store view) lists answer f0 f1 r0 r1 w0 w1 =
+  Does (Script store strict true) lists moments answer f0 f1 r0 r1 w0 w1 =
+      DoesTimed state seen moments store.now strict answer f0 f1 r0 r1 w0 w1
+  Does (Inspect store view) lists moments answer f0 f1 r0 r1 w0 w1 =
       DoesInspect view store.now answer f0 f1 w0 w1 × (r1 ≡ r0)
-  Does (Crew store workers known) lists answer f0 f1 r0 r1 w0 w1 =
+  Does (Crew store workers known) lists moments answer f0 f1 r0 r1 w0 w1 =
       DoesCrew store.now workers lists known answer f0 f1 w0 w1 × (r1 ≡ r0)
-  Does (Migrate old new) lists answer f0 f1 r0 r1 w0 w1 =
+  Does (Migrate old new) lists moments answer f0 f1 r0 r1 w0 w1 =
       DoesMigrate old.now new.now answer f0 f1 w0 w1 × (r1 ≡ r0)
-  Does (Renew old new) lists answer f0 f1 r0 r1 w0 w1 =
+  Does (Renew old new) lists moments answer f0 f1 r0 r1 w0 w1 =
       DoesRenew old.now new.now answer f0 f1 w0 w1 × (r1 ≡ r0)
-  Does (RenewInPlace store) lists answer f0 f1 r0 r1 w0 w1 =
+  Does (RenewInPlace store) lists moments answer f0 f1 r0 r1 w0 w1 =
       DoesRenewInPlace state seen store.now answer f0 f1 w0 w1 × (r1 ≡ r0)
-  Does (Help text) lists answer f0 f1 r0 r1 w0 w1 =
+  Does (Help text) lists moments answer f0 f1 r0 r1 w0 w1 =
       DoesPrint (string_bytes text) answer w0 w1 × (f1 ≡ f0) × (r1 ≡ r0)
 
 -- Nothing was read, printed or done with a file.
@@ -254,19 +257,20 @@ IsRefused why ended f0 f1 r0 r1 w0 w1 e0 e1 =
     Refuses why ended e0 e1 × IsUntouched f0 f1 r0 r1 w0 w1
 
 module _ {F D : Type 0} (state : D → DiskState) (seen : FilesView F D) where
-  -- What was read of the words was done, with so many lists of jobs, and told where it failed.
-  abbrev pub Obeys : Result Asked WordsFault → (lists : ℕ) → Ended → (f0 f1 : F)
-      → (r0 r1 w0 w1 e0 e1 : Option (List ℕ)) → Type 0
-  Obeys (Ok asked) lists ended f0 f1 r0 r1 w0 w1 e0 e1 =
-      (answer : Result Done Failure) × Does state seen asked lists answer f0 f1 r0 r1 w0 w1
+  -- What was read of the words was done, with so many lists of jobs and a clock that tells these
+  -- moments, and told where it failed.
+  abbrev pub Obeys : Result Asked WordsFault → (lists : ℕ) → (moments : Option (List ℕ)) → Ended
+      → (f0 f1 : F) → (r0 r1 w0 w1 e0 e1 : Option (List ℕ)) → Type 0
+  Obeys (Ok asked) lists moments ended f0 f1 r0 r1 w0 w1 e0 e1 =
+      (answer : Result Done Failure) × Does state seen asked lists moments answer f0 f1 r0 r1 w0 w1
       × EndsBy answer ended e0 e1
-  Obeys (Err why) lists ended f0 f1 r0 r1 w0 w1 e0 e1 =
+  Obeys (Err why) lists moments ended f0 f1 r0 r1 w0 w1 e0 e1 =
       IsRefused why ended f0 f1 r0 r1 w0 w1 e0 e1
 
   -- The words were read, and what they ask for was done.
-  abbrev pub RunsWords : List (List ℕ) → (lists : ℕ) → Ended → (f0 f1 : F)
-      → (r0 r1 w0 w1 e0 e1 : Option (List ℕ)) → Type 0
-  RunsWords words lists ended f0 f1 r0 r1 w0 w1 e0 e1 =
+  abbrev pub RunsWords : List (List ℕ) → (lists : ℕ) → (moments : Option (List ℕ)) → Ended
+      → (f0 f1 : F) → (r0 r1 w0 w1 e0 e1 : Option (List ℕ)) → Type 0
+  RunsWords words lists moments ended f0 f1 r0 r1 w0 w1 e0 e1 =
       (read : Result Asked WordsFault) × IsAnswer (faults_of words) read
       × IfOk read (λ asked. AsksFor asked words) × IfErr read (λ why. IsCausedBy why words)
-      × Obeys read lists ended f0 f1 r0 r1 w0 w1 e0 e1
+      × Obeys read lists moments ended f0 f1 r0 r1 w0 w1 e0 e1

@@ -21,6 +21,7 @@ mod reasons;
 mod renewals;
 mod replacements;
 mod stores;
+mod timed;
 
 pub use demos::{demo, demo_strict};
 pub use endings::Ended;

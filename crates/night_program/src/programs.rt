@@ -21,6 +21,7 @@ use crate::reasons::Reason;
 use crate::renewals::renew;
 use crate::replacements::renew_in_place;
 use crate::stores::{format, inspect, script, script_strict};
+use crate::timed::timed_file;
 use console_lines::RunFault;
 use night_words::{Asked, View, WordsFault, read_words};
 use run_console::{stopped, write_whole};
@@ -31,12 +32,14 @@ use std::alloc::Global;
 use std::io::{Read, Write};
 use std::sync::Wait;
 use std::thread::Threads;
+use timed_input::MachineTime;
 
 /// Does what the words ask for, the program's own name first. They come as the system gave them, or
 /// as why it gave none.
 ///
 /// `demo` runs the input over a book in memory; `format STORE` makes a large store of the file, and
-/// with `--new` only where there is none; `script STORE` runs the input over the store; `inspect
+/// with `--new` only where there is none; `script STORE` runs the input over the store, and with
+/// `--now` moves its clock to the clock's time before the input's lines; `inspect
 /// STORE` prints what it holds, also where another program has it open, and writes nothing to it,
 /// and with `--tasks` the lines of its tasks alone;
 /// `crew STORE` works off its ready tasks by threads, one for each of the first of these lists of
@@ -44,17 +47,18 @@ use std::thread::Threads;
 /// OLD NEW` opens OLD for reading alone, and only then makes of NEW a large store with the state of
 /// OLD's small one; `renew OLD NEW` likewise makes of NEW a store of OLD's size with what isn't
 /// finished in OLD, and `renew --in-place STORE` makes one beside STORE, which it has for itself,
-/// and puts it in its place. Help and the version go to the output. Why words ask for nothing, and a
-/// fault that ended the rest, go to `errors`: any call of a file that fails is told as `fault 2
+/// and puts it in its place. Help and the version go to the output. Why words ask for nothing, and
+/// a fault that ended the rest, go to `errors`: any call of a file that fails is told as `fault 2
 /// DiskFailed`, and behind it which file it was, and why. A file that was made for a store which
 /// then isn't made is taken away again. A crew with fewer lists than it has workers is want of
 /// memory.
-pub fn night<F: Files, I: Read, O: Write, E: Write, R: Threads + Wait + Sync>(
+pub fn night<F: Files, C: MachineTime, I: Read, O: Write, E: Write, R: Threads + Wait + Sync>(
     rt: &R,
     alloc: Global,
     words: Result<Vec<String>, WordsFault>,
     jobs: Vec<Vec<Box<dyn Job + Send>>>,
     files: &mut F,
+    clock: &mut C,
     input: &mut I,
     output: &mut O,
     errors: &mut E,
@@ -64,7 +68,8 @@ pub fn night<F: Files, I: Read, O: Write, E: Write, R: Threads + Wait + Sync>(
         (O.contents output.old) (O.contents output.new)
         (E.contents errors.old) (E.contents errors.new)) }
     ensures runs { IfOk words (λ words. RunsWords F.Disk.state F.seen
-        (map string_bytes words.items) (vec_len jobs) result files.old files.new
+        (map string_bytes words.items) (vec_len jobs) (C.moments clock.old) result
+        files.old files.new
         (I.remaining input.old) (I.remaining input.new)
         (O.contents output.old) (O.contents output.new)
         (E.contents errors.old) (E.contents errors.new)) }
@@ -75,7 +80,7 @@ pub fn night<F: Files, I: Read, O: Write, E: Write, R: Threads + Wait + Sync>(
     };
     match read_words(alloc, words.as_slice()) {
         Ok(asked) => {
-            let answer = answer(rt, alloc, &asked, jobs, files, input, output);
+            let answer = answer(rt, alloc, &asked, jobs, files, clock, input, output);
             end(&answer, errors)
         }
         Err(fault) => refuse(fault, errors),
@@ -83,16 +88,18 @@ pub fn night<F: Files, I: Read, O: Write, E: Write, R: Threads + Wait + Sync>(
 }
 
 /// Does what was asked for.
-fn answer<'a, F: Files, I: Read, O: Write, R: Threads + Wait + Sync>(
+fn answer<'a, F: Files, C: MachineTime, I: Read, O: Write, R: Threads + Wait + Sync>(
     rt: &R,
     alloc: Global,
     asked: &Asked<'a>,
     jobs: Vec<Vec<Box<dyn Job + Send>>>,
     files: &mut F,
+    clock: &mut C,
     input: &mut I,
     output: &mut O,
 ) -> Result<Done, Failure<'a>>
-    ensures { Does F.Disk.state F.seen asked.now (vec_len jobs) result files.old files.new
+    ensures { Does F.Disk.state F.seen asked.now (vec_len jobs) (C.moments clock.old) result
+        files.old files.new
         (I.remaining input.old) (I.remaining input.new)
         (O.contents output.old) (O.contents output.new) }
 {
@@ -100,9 +107,16 @@ fn answer<'a, F: Files, I: Read, O: Write, R: Threads + Wait + Sync>(
         Asked::Demo { strict: true } => strict_alone(demo_strict(alloc, input, output)),
         Asked::Demo { strict: false } => done_alone(demo(alloc, input, output)),
         Asked::Format { store, is_new } => format_file(store, *is_new, files, output),
-        Asked::Script { store, strict } => {
-            script_file(alloc, store, *strict, files, input, output)
-        }
+        Asked::Script {
+            store,
+            strict,
+            is_timed: false,
+        } => script_file(alloc, store, *strict, files, input, output),
+        Asked::Script {
+            store,
+            strict,
+            is_timed: true,
+        } => timed_file(alloc, store, *strict, files, clock, input, output),
         Asked::Inspect { store, view } => inspect_file(alloc, store, *view, files, output),
         Asked::Crew {
             store,

@@ -14,4 +14,6 @@ mod runs;
 #[cfg(test)]
 mod shelves;
 #[cfg(test)]
+mod times;
+#[cfg(test)]
 mod words;

@@ -4,6 +4,7 @@ use crate::shelves::Shelf;
 use night_program::{CopyJob, Ended, FailJob, SpinJob, night};
 use night_words::WordsFault;
 use run_crew::Job;
+use run_model::Moment;
 use std::alloc::{AllocError, Global};
 use std::sync::Wait;
 use std::thread::Threads;
@@ -29,6 +30,11 @@ pub fn words_of(alloc: Global, words: &[&str]) -> Result<Vec<String>, AllocError
     Ok(texts)
 }
 
+/// A clock that tells nothing.
+pub fn no_times() -> &'static [Moment] {
+    &[]
+}
+
 /// Runs the program with these words over one file.
 pub fn run_words<R: Threads + Wait + Sync>(
     rt: &R,
@@ -41,6 +47,25 @@ pub fn run_words<R: Threads + Wait + Sync>(
     run_given(rt, alloc, Ok(words), shelf, input)
 }
 
+/// So does [`run_words`], by a clock that tells these moments.
+pub fn run_at<R: Threads + Wait + Sync>(
+    rt: &R,
+    alloc: Global,
+    times: &[u64],
+    words: &[&str],
+    shelf: &mut Shelf,
+    input: &str,
+) -> Result<Printed, AllocError> {
+    let words = words_of(alloc, words)?;
+    let mut moments = Vec::new(alloc);
+    for seconds in times {
+        if let Some(moment) = Moment::new(*seconds) {
+            moments.push(moment)?;
+        }
+    }
+    run_all(rt, alloc, Ok(words), moments.as_slice(), shelf, input)
+}
+
 /// Runs the program with what the system gave for its words.
 pub fn run_given<R: Threads + Wait + Sync>(
     rt: &R,
@@ -49,6 +74,18 @@ pub fn run_given<R: Threads + Wait + Sync>(
     shelf: &mut Shelf,
     input: &str,
 ) -> Result<Printed, AllocError> {
+    run_all(rt, alloc, words, no_times(), shelf, input)
+}
+
+fn run_all<R: Threads + Wait + Sync>(
+    rt: &R,
+    alloc: Global,
+    words: Result<Vec<String>, WordsFault>,
+    moments: &[Moment],
+    shelf: &mut Shelf,
+    input: &str,
+) -> Result<Printed, AllocError> {
+    let mut clock = moments;
     let mut output = Vec::new(alloc);
     let mut errors = Vec::new(alloc);
     let mut lines = input.as_bytes();
@@ -66,6 +103,7 @@ pub fn run_given<R: Threads + Wait + Sync>(
         words,
         jobs,
         shelf,
+        &mut clock,
         &mut lines,
         &mut output,
         &mut errors,

@@ -1,7 +1,7 @@
 //! What each word does: its exit status, and a part of what it prints on either stream.
 
 use crate::closed::Closed;
-use crate::runs::{run_given, run_words, words_of};
+use crate::runs::{no_times, run_given, run_words, words_of};
 use crate::shelves::Shelf;
 use night_program::{Ended, night};
 use night_words::WordsFault;
@@ -195,6 +195,7 @@ fn an_output_that_takes_nothing_is_told(rt: HostRuntime) -> Result<(), Fail> {
             given,
             Vec::new(rt.alloc()),
             &mut shelf,
+            &mut no_times(),
             &mut input,
             &mut Closed,
             &mut errors,
@@ -226,6 +227,7 @@ fn an_input_that_fails_is_told(rt: HostRuntime) -> Result<(), Fail> {
         given,
         Vec::new(rt.alloc()),
         &mut shelf,
+        &mut no_times(),
         &mut Closed,
         &mut output,
         &mut errors,
@@ -252,6 +254,7 @@ fn what_could_not_be_told_is_said(rt: HostRuntime) -> Result<(), Fail> {
             given,
             Vec::new(rt.alloc()),
             &mut shelf,
+            &mut no_times(),
             &mut input,
             &mut output,
             &mut Closed,

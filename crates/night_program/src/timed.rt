@@ -1,0 +1,130 @@
+//! A script whose input comes with the machine's time before its lines.
+
+ghost use Rattle.std.specs.Prelude.{◌≡◌, false};
+ghost use Rattle.book_model.specs.Holdings.{CarriesOn};
+ghost use Rattle.run_book.specs.Views.{holding};
+ghost use Rattle.run_console.specs.Progress.{Lasts};
+ghost use Rattle.night_program.specs.Stores.{Runs, RunsStrict};
+ghost use Rattle.night_program.specs.Timed.{DoesTimed, RunsTimed, StrictTimedEnds, TimedEnds};
+
+use crate::endings::Done;
+use crate::failures::{Failure, done_over, no_file, strict_over};
+use crate::files::{Files, Opened};
+use console_lines::{RunFault, StrayLine};
+use run_console::{Book, run, run_strict, stopped};
+use run_disk::RunDisk;
+use std::alloc::Global;
+use std::io::{Read, Write};
+use timed_input::{MachineTime, TimedInput};
+
+/// Opens the store in the file of this name, and runs the input over it with the time before its
+/// lines; a strict run ends at the first line that strays.
+pub fn timed_file<'a, F: Files, C: MachineTime, I: Read, O: Write>(
+    alloc: Global,
+    store: &'a str,
+    strict: bool,
+    files: &mut F,
+    clock: &mut C,
+    input: &mut I,
+    output: &mut O,
+) -> Result<Done, Failure<'a>>
+    ensures { DoesTimed F.Disk.state F.seen (C.moments clock.old) store.now strict result
+        files.old files.new (I.remaining input.old) (I.remaining input.new)
+        (O.contents output.old) (O.contents output.new) }
+{
+    let Opened { disk, why } = match files.open(store) {
+        Ok(opened) => opened,
+        Err(reason) => return Err(no_file(store, reason)),
+    };
+    if strict {
+        strict_over(
+            timed_strict(alloc, disk, clock, input, output).0,
+            store,
+            &why,
+        )
+    } else {
+        done_over(timed(alloc, disk, clock, input, output).0, store, &why)
+    }
+}
+
+/// Opens the store on a disk, and runs the lines of the input over it with the time before them.
+/// Where the store isn't opened, nothing is read or written. The disk is handed back, as the book
+/// held it.
+fn timed<D: RunDisk, C: MachineTime, R: Read, W: Write>(
+    alloc: Global,
+    disk: D,
+    clock: &mut C,
+    input: &mut R,
+    output: &mut W,
+) -> (Result<(), RunFault>, D)
+    ensures { TimedEnds (C.moments clock.old) D.state disk result.0 result.1
+        (R.remaining input.old) (R.remaining input.new)
+        (W.contents output.old) (W.contents output.new) }
+{
+    match Book::open(alloc, disk) {
+        Ok(mut book) => {
+            let answer = run_timed(alloc, clock, input, output, &mut book);
+            (answer, book.into_disk())
+        }
+        Err((fault, disk)) => (Err(stopped(fault)), disk),
+    }
+}
+
+/// So does [`timed`], up to the first line that strays, and answers which it is.
+fn timed_strict<D: RunDisk, C: MachineTime, R: Read, W: Write>(
+    alloc: Global,
+    disk: D,
+    clock: &mut C,
+    input: &mut R,
+    output: &mut W,
+) -> (Result<Option<StrayLine>, RunFault>, D)
+    ensures { StrictTimedEnds (C.moments clock.old) D.state disk result.0 result.1
+        (R.remaining input.old) (R.remaining input.new)
+        (W.contents output.old) (W.contents output.new) }
+{
+    match Book::open(alloc, disk) {
+        Ok(mut book) => {
+            let answer = run_timed_strict(alloc, clock, input, output, &mut book);
+            (answer, book.into_disk())
+        }
+        Err((fault, disk)) => (Err(stopped(fault)), disk),
+    }
+}
+
+/// Runs the lines of the input with the time before them, from the clock of the book on.
+fn run_timed<D: RunDisk, C: MachineTime, R: Read, W: Write>(
+    alloc: Global,
+    clock: &mut C,
+    input: &mut R,
+    output: &mut W,
+    book: &mut Book<D>,
+) -> Result<(), RunFault>
+    requires { book.old.journal.broken ≡ false }
+    ensures runs { RunsTimed (C.moments clock.old) (λ s0 s1. Runs D.state result s0 s1
+        (W.contents output.old) (W.contents output.new)) (R.remaining input.old)
+        book.old book.new }
+    ensures lasts { Lasts book.old.session book.new.session }
+    ensures carries_on { CarriesOn D.state (holding book.old) (holding book.new) }
+{
+    let mut lines = TimedInput::new(book.state().clock(), clock, input);
+    run(alloc, &mut lines, output, book)
+}
+
+/// So does [`run_timed`], up to the first line that strays, and answers which it is.
+fn run_timed_strict<D: RunDisk, C: MachineTime, R: Read, W: Write>(
+    alloc: Global,
+    clock: &mut C,
+    input: &mut R,
+    output: &mut W,
+    book: &mut Book<D>,
+) -> Result<Option<StrayLine>, RunFault>
+    requires { book.old.journal.broken ≡ false }
+    ensures runs { RunsTimed (C.moments clock.old) (λ s0 s1. RunsStrict D.state result s0 s1
+        (W.contents output.old) (W.contents output.new)) (R.remaining input.old)
+        book.old book.new }
+    ensures lasts { Lasts book.old.session book.new.session }
+    ensures carries_on { CarriesOn D.state (holding book.old) (holding book.new) }
+{
+    let mut lines = TimedInput::new(book.state().clock(), clock, input);
+    run_strict(alloc, &mut lines, output, book)
+}
