@@ -25,6 +25,9 @@ def renew_if_nearly_full(store, log, jobs, held):
             if ended.status >= 0 and not ended.is_in_use():
                 raise
             time.sleep(0.1)
+    else:
+        tell(f"{store.path} is nearly full, and in use too often to be renewed")
+        return
     try:
         tell(f"{store.path}: {renew(store.path, held)}")
     except Fault as fault:
