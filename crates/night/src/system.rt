@@ -7,7 +7,7 @@ use crate::complaints::Complaint;
 use crate::disks::{Inode, SystemDisk};
 use night_program::{Files, Made, Opened, Reason};
 use run_disk::{FileDisk, RunDisk};
-use std::fs::{File, OpenOptions, TryLockError};
+use std::fs::{File, Metadata, OpenOptions, TryLockError};
 use std::io::Write;
 use std::os::unix::fs::{MetadataExt, OpenOptionsExt, fchown};
 use std::path::Path;
@@ -94,12 +94,6 @@ impl<'a, S: fs::Files<File = File>> SystemFiles<'a, S> {
             (Ok(own), Ok(named)) => Inode::of(&own) == Inode::of(&named),
             _ => false,
         }
-    }
-
-    /// Says whether the file of this name is a file that has no other one.
-    fn is_only_name(&self, name: &str) -> io::Result<bool> {
-        let found = fs::symlink_metadata(self.system, name)?;
-        Ok(found.is_file() && found.nlink() == 1)
     }
 
     /// Gives a file the owner and the rights of the one of this name, if there is to be one.
@@ -269,12 +263,20 @@ impl<'a, S: fs::Files<File = File> + Clock> Files for SystemFiles<'a, S> {
         self.made(file, name, like, size, true)
     }
 
-    fn replace(&mut self, disk: SystemDisk<'a>, from: &str, to: &str) -> Result<(), Reason> {
-        let found = or_reason(fs::symlink_metadata(self.system, from))?;
-        if !disk.is_over(&found) {
+    fn replace(
+        &mut self,
+        disk: SystemDisk<'a>,
+        over: &SystemDisk<'a>,
+        from: &str,
+        to: &str,
+    ) -> Result<(), Reason> {
+        let new = or_reason(fs::symlink_metadata(self.system, from))?;
+        if !disk.is_over(&new) {
             return Err(Reason::InUse);
         }
-        if !or_reason(self.is_only_name(to))? {
+        // (one that was moved away meanwhile has another name now)
+        let old = or_reason(fs::symlink_metadata(self.system, to))?;
+        if !is_only_name(&old) || !over.is_over(&old) {
             return Err(Reason::OtherName);
         }
         or_reason(fs::rename(self.system, from, to))?;
@@ -284,6 +286,11 @@ impl<'a, S: fs::Files<File = File> + Clock> Files for SystemFiles<'a, S> {
     fn remove(&mut self, name: &str) {
         let _gone = fs::remove_file(self.system, name);
     }
+}
+
+/// Says whether this is a file, and no link, with one name alone.
+fn is_only_name(found: &Metadata) -> bool {
+    found.is_file() && found.nlink() == 1
 }
 
 /// Which file this is.

@@ -15,14 +15,25 @@ use Rattle.night_program.specs.Files.{FilesView, IsReplaced, IsSettled, Makes, b
 use Rattle.night_program.specs.Stores.{Prints, Remakes, sizes_line}
 
 module _ {F D : Type 0} (state : D → DiskState) (seen : FilesView F D) where
+  -- The file of this name was had for this program alone, and taken away; or nothing was done.
+  abbrev pub Clears : (name : List ℕ) → (f0 f1 : F) → Type 0
+  Clears name f0 f1 =
+      (f1 ≡ f0) ⊎ ((rest : D) × seen.holds f0 name rest × seen.removes f0 name f1)
+
   -- The file of this name was made anew, with the size of a store of this layout, and no other file
-  -- touched. What was there before was had for this program alone, and taken away.
+  -- touched. What was there before was taken away.
   pub record MakesBeside (name : List ℕ) (layout : Layout) (given : D) (f0 f1 : F) : Type 0 where
     pub before : F
-    pub cleared : (before ≡ f0)
-        ⊎ ((rest : D) × seen.holds f0 name rest × seen.removes f0 name before)
+    pub cleared : Clears name f0 before
     pub makes : Makes state seen name layout true true given before f1
     pub only : seen.removes f1 name before
+
+  -- The file of this name couldn't be made anew, and no other file was touched. What was there
+  -- before may be gone, and what was made of it may be there.
+  pub record LacksBeside (name : List ℕ) (f0 f1 : F) : Type 0 where
+    pub before : F
+    pub cleared : Clears name f0 before
+    pub only : (f1 ≡ before) ⊎ seen.removes f1 name before
 
   -- A disk couldn't be put in the place of the file of the second name, or isn't known to last
   -- there; and the file of the first name was taken away.
@@ -70,12 +81,13 @@ module _ {F D : Type 0} (state : D → DiskState) (seen : FilesView F D) where
     pub ends : EndsInPlace store source given answer made f1 w0 w1
 
   -- The store in the file of this name was renewed in its place. Or its file wasn't had, or has no
-  -- store's size, or there was no memory for a name; or the file beside wasn't had.
+  -- store's size, or there was no memory for a name; or the file beside wasn't had, and no other one
+  -- touched.
   abbrev pub DoesRenewInPlace : (store : List ℕ) → Result Done Failure → (f0 f1 : F)
       → (w0 w1 : Option (List ℕ)) → Type 0
   DoesRenewInPlace store answer f0 f1 w0 w1 =
       ((f1 ≡ f0) × (w1 ≡ w0)
       × (HasNoFile store answer ⊎ (HasNoSize state (seen.holds f0 store) store answer
       ⊎ AnswersAlone {T = ⊤} (Err Memory) answer)))
-      ⊎ ((HasNoFile (beside store) answer × (w1 ≡ w0))
+      ⊎ ((HasNoFile (beside store) answer × LacksBeside (beside store) f0 f1 × (w1 ≡ w0))
       ⊎ RenewsInPlace store answer f0 f1 w0 w1)

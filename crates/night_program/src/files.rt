@@ -91,13 +91,21 @@ pub trait Files {
             → (x : List ℕ) → (Self.Disk.state made.disk).images x → AreZeros x) }
         ensures settled { IfOk result (λ made. IsSettled (Self.Disk.state made.disk)) }
         ensures new { IfOk result (λ made. (made.is_new ≡ true) × seen.lacks self.old name.now) }
-        ensures only { OnOk result (seen.removes self.new name.now self.old) };
+        ensures only { OnOk result (seen.removes self.new name.now self.old) }
+        ensures not { OnErr result
+            ((self.new ≡ self.old) ⊎ seen.removes self.new name.now self.old) };
 
     /// Puts this disk, which is the file of the first name, in the place of the file of the second.
     /// At each moment the second is the name of the one or of the other, and at Ok a cut of the
-    /// power leaves it that of the disk, which no clause says. It has to be the only name of its
-    /// file, and no link.
-    fn replace(&mut self, disk: Self::Disk, from: &str, to: &str) -> Result<(), Reason>
+    /// power leaves it that of the disk, which no clause says. The second name has to be that of
+    /// the file `over`, the only one of it, and no link.
+    fn replace(
+        &mut self,
+        disk: Self::Disk,
+        over: &Self::Disk,
+        from: &str,
+        to: &str,
+    ) -> Result<(), Reason>
         requires settled { IsSettled (Self.Disk.state disk) }
         ensures done { OnOk result (IsReplaced seen disk from.now to.now self.new) }
         ensures left { OnErr result

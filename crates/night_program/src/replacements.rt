@@ -5,7 +5,7 @@ ghost use Rattle.std.specs.Prelude.{◌≡◌, IfOk, OnErr, OnOk};
 ghost use Rattle.std.specs.String.{string_bytes};
 ghost use Rattle.night_program.specs.Files.{IsReplaced, IsSettled, beside};
 ghost use Rattle.night_program.specs.Replacements.{DoesRenewInPlace, EndsInPlace, IsNotPut};
-ghost use Rattle.night_program.specs.Replacements.{MakesBeside};
+ghost use Rattle.night_program.specs.Replacements.{LacksBeside, MakesBeside};
 
 use crate::endings::Done;
 use crate::failures::{
@@ -72,8 +72,9 @@ fn make_beside<F: Files>(
     layout: Layout,
     files: &mut F,
 ) -> Result<Made<F::Disk, F::Why>, Reason>
-    ensures { IfOk result (λ made. MakesBeside F.Disk.state F.seen name.now layout
+    ensures made { IfOk result (λ made. MakesBeside F.Disk.state F.seen name.now layout
         made.disk files.old files.new) }
+    ensures not { OnErr result (LacksBeside F.Disk.state F.seen name.now files.old files.new) }
 {
     match files.open(name) {
         Ok(_left) => files.remove(name),
@@ -103,7 +104,7 @@ fn put_renewed<'a, F: Files, O: Write>(
     let Made { disk, why, .. } = made;
     let (done, disk) = remake(alloc, &mut stored.disk, disk);
     match done {
-        Ok(kept) => match put(disk, name, store, files) {
+        Ok(kept) => match put(disk, &stored.disk, name, store, files) {
             Ok(()) => done_over(print_sizes(kept, output), store, &why),
             Err(reason) => Err(no_file(store, reason)),
         },
@@ -115,15 +116,21 @@ fn put_renewed<'a, F: Files, O: Write>(
     }
 }
 
-/// Puts this disk, which is the file of the first name, in the place of the file of the second, or
-/// takes it away.
-fn put<F: Files>(disk: F::Disk, from: &str, to: &str, files: &mut F) -> Result<(), Reason>
+/// Puts this disk, which is the file of the first name, in the place of the other one, the file of
+/// the second, or takes it away.
+fn put<F: Files>(
+    disk: F::Disk,
+    over: &F::Disk,
+    from: &str,
+    to: &str,
+    files: &mut F,
+) -> Result<(), Reason>
     requires settled { IsSettled (F.Disk.state disk) }
     ensures put { OnOk result (IsReplaced F.seen disk from.now to.now files.new) }
     ensures not { OnErr result
         (IsNotPut F.Disk.state F.seen disk from.now to.now files.old files.new) }
 {
-    let done = files.replace(disk, from, to);
+    let done = files.replace(disk, over, from, to);
     if done.is_err() {
         files.remove(from);
     }

@@ -127,7 +127,13 @@ impl Files for Shelf {
         self.made(size, true)
     }
 
-    fn replace(&mut self, disk: Fuse<MemoryDisk>, _from: &str, to: &str) -> Result<(), Reason> {
+    fn replace(
+        &mut self,
+        disk: Fuse<MemoryDisk>,
+        _over: &Fuse<MemoryDisk>,
+        _from: &str,
+        to: &str,
+    ) -> Result<(), Reason> {
         if to != self.name || self.is_kept {
             return Err(Reason::InUse);
         }
