@@ -81,8 +81,8 @@ module _ {F D : Type 0} (state : D → DiskState) (seen : FilesView F D) where
     pub ends : EndsInPlace store source given answer made f1 w0 w1
 
   -- The store in the file of this name was renewed in its place. Or its file wasn't had, or has no
-  -- store's size, or there was no memory for a name; or the file beside wasn't had, and no other one
-  -- touched.
+  -- store's size, or there was no memory for a name; or the file beside wasn't had, and no other
+  -- one touched.
   abbrev pub DoesRenewInPlace : (store : List ℕ) → Result Done Failure → (f0 f1 : F)
       → (w0 w1 : Option (List ℕ)) → Type 0
   DoesRenewInPlace store answer f0 f1 w0 w1 =

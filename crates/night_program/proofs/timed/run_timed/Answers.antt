@@ -23,6 +23,6 @@ returns-clause-runs g c =
           (c.new-lines.ensures
           ∙ ap (λ k. timed_known k moments known)
           (c.clock.ensures ∙ ap (λ (p : State). p.tree.clock) c.state.ensures.state))
-          (ran g.D.RunDisk.state c.run.result _ left w0 w1 b d c.run.ensures.all (c.run.ensures.stops c.requires)
-          (c.run.ensures.begins c.requires)),
+          (ran g.D.RunDisk.state c.run.result _ left w0 w1 b d c.run.ensures.all
+          (c.run.ensures.stops c.requires) (c.run.ensures.begins c.requires)),
     )

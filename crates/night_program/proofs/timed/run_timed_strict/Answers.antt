@@ -23,6 +23,6 @@ returns-clause-runs g c =
           (c.new-lines.ensures
           ∙ ap (λ k. timed_known k moments known)
           (c.clock.ensures ∙ ap (λ (p : State). p.tree.clock) c.state.ensures.state))
-          (ran_strict g.D.RunDisk.state c.run_strict.result _ left w0 w1 b d c.run_strict.ensures.runs
-          (c.run_strict.ensures.stops c.requires)),
+          (ran_strict g.D.RunDisk.state c.run_strict.result _ left w0 w1 b d
+          c.run_strict.ensures.runs (c.run_strict.ensures.stops c.requires)),
     )
