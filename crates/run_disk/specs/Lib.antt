@@ -1,10 +1,8 @@
 pub mod Calls
 pub mod Contents
-pub mod Devices
 pub mod Disk
-pub mod FailOnces
+pub mod FailingDisks
 pub mod Files
-pub mod Fuses
 pub mod History
 pub mod Memory
 pub mod MemoryDisks

@@ -4,12 +4,10 @@
 //! since an earlier moment may have left.
 #![tactic(auto)]
 
-mod devices;
 mod disks;
 mod durable;
-mod fail_onces;
+mod failing_disks;
 mod file_disks;
-mod fuses;
 mod histories;
 pub mod laws;
 mod memory_disks;
@@ -19,9 +17,8 @@ mod tears;
 
 pub use disks::{DiskFailed, RunDisk};
 pub use durable::write_durably;
-pub use fail_onces::FailOnce;
+pub use failing_disks::{FailOnce, FailingDisk, ForGood, Fuse, Once};
 pub use file_disks::FileDisk;
-pub use fuses::Fuse;
 pub use memory_disks::MemoryDisk;
 pub use settled::settle;
 pub use tears::Torn;

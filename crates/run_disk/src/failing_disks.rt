@@ -1,19 +1,34 @@
-//! A [`Device`] is a disk over another that fails some of its calls by itself.
+//! A [`FailingDisk`] is a disk over another that fails some of its calls by itself: a [`Fuse`]
+//! fails for good behind so many calls, a [`FailOnce`] fails a single one.
 
-ghost use Rattle.std.specs.Prelude.{◌≡◌, ◌≤◌, ◌+◌, [], length, OnOk, slice_range};
+ghost use Rattle.std.specs.Prelude.{◌≡◌, ◌≤◌, ◌+◌, ◌-◌, [], length, OnOk, slice_range};
 ghost use Rattle.std.specs.Bool.{OnFalse, OnTrue};
 ghost use Rattle.run_disk.specs.Contents.{Within};
 ghost use Rattle.run_disk.specs.Calls.{Calls, Reads, Writes, Syncs};
-ghost use Rattle.run_disk.specs.Over.{IsOver, Relays};
+ghost use Rattle.run_disk.specs.Disk.{last_moment};
+ghost use Rattle.run_disk.specs.Over.{IsOver, LeftSame, Relays, ShowsSame, over_is_disk};
 
 use crate::disks::{DiskFailed, RunDisk};
 use crate::tallies::Tally;
+use std::marker::PhantomData;
 use std::snapshot::Snapshot;
 
+/// That calls fail for good.
+pub struct ForGood;
+
+/// That a call fails once.
+pub struct Once;
+
+/// Passes its first calls on to the disk below, and fails each call behind them.
+pub type Fuse<D> = FailingDisk<D, ForGood>;
+
+/// Fails one call by itself, and passes all others on to the disk below.
+pub type FailOnce<D> = FailingDisk<D, Once>;
+
 /// Passes its calls on to the disk below, but for those of one range: each of them fails, and
-/// doesn't reach the disk below.
+/// doesn't reach the disk below. `W` says which calls these are.
 #[derive(Drop)]
-pub struct Device<D: RunDisk> {
+pub struct FailingDisk<D: RunDisk, W> {
     disk: D,
     // the disk below as it was when this one was made
     made: Snapshot<D>,
@@ -21,43 +36,74 @@ pub struct Device<D: RunDisk> {
     first: u64,
     behind: u64,
     tally: Tally,
+    which: PhantomData<W>,
     ghost kept: { IsOver (record { first = first; behind = behind }) (D.state made.value).clock
         (D.state disk) tally.calls tally.failures },
 }
 
-impl<D: RunDisk> Device<D> {
-    ghost use Rattle.run_disk.specs.Devices.{below, gap_of, clock_below, state_of, PassesNext};
-    ghost use Rattle.run_disk.specs.Devices.{IsSetAs};
+impl<D: RunDisk> FailingDisk<D, ForGood> {
+    ghost use Rattle.run_disk.specs.FailingDisks.{below, calls_cut, clock_below, state_of};
 
-    /// Over this disk. The calls from `first` on fail that come before call `behind`.
-    pub fn new(disk: D, first: u64, behind: u64) -> Device<D>
-        requires { first ≤ behind }
-        ensures gap { gap_of result ≡ record { first = first; behind = behind } }
+    /// A fuse over this disk, which passes so many calls on.
+    pub fn new(disk: D, limit: u64) -> Fuse<D>
+        ensures limit { calls_cut result ≡ record { first = limit; behind = last_moment } }
         ensures below { below result ≡ disk }
         ensures clock_below { clock_below result ≡ (D.state disk).clock }
         ensures calls { (state_of result).clock ≡ 0 }
         ensures failures { (state_of result).failures ≡ 0 }
+        ensures same { ShowsSame (D.state disk) (state_of result) }
     {
-        Device {
+        FailingDisk::over(disk, limit, u64::MAX)
+    }
+}
+
+impl<D: RunDisk> FailingDisk<D, Once> {
+    ghost use Rattle.run_disk.specs.FailingDisks.{below, calls_cut, clock_below, state_of};
+
+    /// Over this disk; the call of this number fails, counted from 1. Number 0 is no call's.
+    pub fn new(disk: D, call: u64) -> FailOnce<D>
+        ensures call { calls_cut result ≡ record { first = call - 1; behind = call } }
+        ensures below { below result ≡ disk }
+        ensures clock_below { clock_below result ≡ (D.state disk).clock }
+        ensures calls { (state_of result).clock ≡ 0 }
+        ensures failures { (state_of result).failures ≡ 0 }
+        ensures same { ShowsSame (D.state disk) (state_of result) }
+    {
+        FailingDisk::over(disk, call.saturating_sub(1), call)
+    }
+}
+
+impl<D: RunDisk, W> FailingDisk<D, W> {
+    ghost use Rattle.run_disk.specs.FailingDisks.{below, calls_cut, clock_below, moment_below};
+    ghost use Rattle.run_disk.specs.FailingDisks.{PassesNext, state_of};
+
+    /// Over this disk. The calls from `first` on fail that come before call `behind`.
+    fn over(disk: D, first: u64, behind: u64) -> FailingDisk<D, W>
+        requires { first ≤ behind }
+        ensures cut { calls_cut result ≡ record { first = first; behind = behind } }
+        ensures below { below result ≡ disk }
+        ensures clock_below { clock_below result ≡ (D.state disk).clock }
+        ensures calls { (state_of result).clock ≡ 0 }
+        ensures failures { (state_of result).failures ≡ 0 }
+        ensures same { ShowsSame (D.state disk) (state_of result) }
+    {
+        FailingDisk {
             made: Snapshot::of(&disk),
             disk,
             first,
             behind,
             tally: Tally::new(),
+            which: PhantomData,
         }
     }
 
     /// The disk below.
-    pub fn into_disk(self) -> D
-        ensures { result ≡ below self }
+    pub fn into_inner(self) -> D
+        ensures below { result ≡ below self }
+        ensures same { ShowsSame (state_of self) (D.state result) }
+        ensures since { LeftSame (moment_below self) (state_of self) (D.state result) }
     {
         self.disk
-    }
-
-    pub fn size(&self) -> u64
-        ensures { result ≡ (state_of self.now).size }
-    {
-        self.disk.size()
     }
 
     /// Says whether it passes the next call on.
@@ -67,8 +113,22 @@ impl<D: RunDisk> Device<D> {
     {
         !self.tally.is_spent() && (self.tally.calls < self.first || self.behind <= self.tally.calls)
     }
+}
 
-    pub fn read_at(&mut self, at: u64, out: &mut [u8]) -> Result<(), DiskFailed>
+impl<D: RunDisk, W> RunDisk for FailingDisk<D, W> {
+    ghost use Rattle.run_disk.specs.FailingDisks.{below, calls_cut, clock_below, state_of};
+    ghost use Rattle.run_disk.specs.FailingDisks.{IsSetAs, PassesNext};
+
+    ghost state = { λ f. state_of f };
+
+    ghost is_disk = { λ f. over_is_disk (calls_cut f) (clock_below f) (D.state f.disk)
+        f.tally.calls f.tally.failures (D.is_disk f.disk) f.kept };
+
+    fn size(&self) -> u64 {
+        self.disk.size()
+    }
+
+    fn read_at(&mut self, at: u64, out: &mut [u8]) -> Result<(), DiskFailed>
         requires { at + length out.old ≤ (state_of self.old).size }
         ensures call { Calls (state_of self.old) (state_of self.new) result }
         ensures reads { (state_of self.old).honest → Reads (state_of self.old) (state_of self.new) }
@@ -85,7 +145,7 @@ impl<D: RunDisk> Device<D> {
         self.tally.count(done)
     }
 
-    pub fn write_at(&mut self, at: u64, bytes: &[u8]) -> Result<(), DiskFailed>
+    fn write_at(&mut self, at: u64, bytes: &[u8]) -> Result<(), DiskFailed>
         requires { at + length bytes.now ≤ (state_of self.old).size }
         ensures call { Calls (state_of self.old) (state_of self.new) result }
         ensures writes { (state_of self.old).honest
@@ -104,7 +164,7 @@ impl<D: RunDisk> Device<D> {
         self.tally.count(done)
     }
 
-    pub fn sync(&mut self) -> Result<(), DiskFailed>
+    fn sync(&mut self) -> Result<(), DiskFailed>
         ensures call { Calls (state_of self.old) (state_of self.new) result }
         ensures syncs { (state_of self.old).honest
             → Syncs (state_of self.old) (state_of self.new) result }
