@@ -14,7 +14,7 @@ use Rattle.record_view.specs.Spelling.{spelling}
 use Rattle.run_disk.specs.Disk.{last_moment}
 use Rattle.run_disk.specs.Runs.{Passed}
 use Rattle.run_disk.specs.Runs.{FailedAt}
-use Rattle.scope_laws.proofs.RunLemmas.{run_counts}
+use Rattle.model_laws.proofs.RunLemmas.{run_counts}
 use Rattle.model_examples.specs.Calls.{acked, checkpoint, faulty, flush, scope_made}
 use Rattle.model_examples.specs.Nights.{new_store}
 use Rattle.book_model.specs.Holdings.{Checkpoints, Flushes, Holding, IsSession, MustCheckpoint}

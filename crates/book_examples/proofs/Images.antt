@@ -7,9 +7,9 @@ use Rattle.run_model.specs.State.{State, formatted}
 use Rattle.record_view.specs.declared.heads.ImageVersion.{ImageVersion}
 use Rattle.record_view.specs.declared.heads.ImageVersion.TheVariants.{One, Two}
 use Rattle.record_view.specs.Keeping.{IsImage}
-use Rattle.state_laws.proofs.Reopening.{reopened}
-use Rattle.state_laws.proofs.Starting.{formatted_consistent}
-use Rattle.state_laws.proofs.Steps.{run_keeps}
+use Rattle.model_laws.proofs.Reopening.{reopened}
+use Rattle.model_laws.proofs.Starting.{formatted_consistent}
+use Rattle.model_laws.proofs.StateSteps.{run_keeps}
 use Rattle.run_model.specs.Session.{accepted}
 use Rattle.model_examples.specs.Nights.{new_store, state_of, steps_of, stopped_night}
 use Rattle.model_examples.specs.Retries.{one_interrupted}

@@ -21,9 +21,9 @@ use Rattle.run_disk.specs.Disk.{DiskState, IsAtRest, IsDisk}
 use Rattle.run_disk.specs.Runs.{LeavesOnly}
 use Rattle.run_disk.proofs.RunLemmas.{leaves_only_more, only_weaker}
 use Rattle.run_journal.specs.Pairs.{AreZeros}
-use Rattle.run_store.proofs.LayoutLemmas.{one_layout}
+use Rattle.run_journal.proofs.LayoutLemmas.{one_layout}
 use Rattle.run_session.specs.Logged.{Replays, begun_at}
-use Rattle.state_laws.proofs.Interrupts.{restarted as interrupted}
+use Rattle.model_laws.proofs.Interrupts.{restarted as interrupted}
 use Rattle.book_model.specs.Holdings.{CarriesOn, Holding, IsOpened, IsSession, IsUnsaved, acked}
 use Rattle.book_model.specs.Nights.{opened_from}
 use Rattle.book_model.specs.Openings.{Formats, FormatsNot, HasFormatted, Opens, StopsFormat}

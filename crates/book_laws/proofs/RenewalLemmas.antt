@@ -10,7 +10,7 @@ use Rattle.run_model.specs.declared.layouts.Layout.{Layout}
 use Rattle.run_model.specs.Layouts.{layout_of, most_scopes, most_tasks, store_len}
 use Rattle.run_model.specs.State.{State}
 use Rattle.run_disk.specs.Disk.{DiskState, IsDisk}
-use Rattle.run_store.proofs.LayoutLemmas.{layout_found}
+use Rattle.run_journal.proofs.LayoutLemmas.{layout_found}
 use Rattle.state_renewal.specs.Renewed.{fits_in, renewed, renewed_in}
 use Rattle.book_model.specs.declared.migrations.MigrateFault.{MigrateFault}
 use Rattle.book_model.specs.declared.migrations.MigrateFault.TheVariants as why

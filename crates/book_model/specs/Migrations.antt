@@ -16,7 +16,7 @@ use Rattle.run_model.specs.State.{State}
 use Rattle.run_disk.specs.Disk.{DiskState, IsAtRest, last_moment}
 use Rattle.run_disk.specs.Runs.{LeavesOnly, OnlyReads, Passed}
 use Rattle.run_journal.specs.Pairs.{AreZeros}
-use Rattle.run_store.specs.Recoveries.{Made}
+use Rattle.run_journal.specs.Recoveries.{Made}
 use Rattle.book_model.specs.declared.migrations.MigrateFault.{MigrateFault}
 use Rattle.book_model.specs.declared.migrations.MigrateFault.TheVariants as why
 use Rattle.book_model.specs.Openings.{HasRecovered, RecoversNone}

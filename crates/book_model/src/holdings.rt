@@ -15,7 +15,7 @@ ghost use Rattle.run_disk.specs.Disk.{IsAtRest};
 ghost use Rattle.run_disk.specs.Runs.{LeavesOnly, OnlyReads, Passed};
 ghost use Rattle.run_journal.specs.Journals.{JournalView, Keeps};
 ghost use Rattle.run_journal.specs.Pairs.{HasEither};
-ghost use Rattle.run_store.specs.Stores.{HasPair};
+ghost use Rattle.run_journal.specs.Stores.{HasPair};
 ghost use Rattle.book_model.specs.Holdings.{CarriesOn, Holding, IsDurable, IsOpened, IsSafe};
 ghost use Rattle.book_model.specs.Holdings.{IsSettled, acked, count_of};
 ghost use Rattle.book_model.specs.Meanings.{Means, MeansIn};

@@ -6,9 +6,9 @@ ghost use Rattle.run_model.specs.declared.layouts.Layout.{Layout};
 ghost use Rattle.run_model.specs.Layouts.{store_len};
 ghost use Rattle.run_model.specs.Rules.{IsConsistent, HasLayout};
 ghost use Rattle.run_model.specs.State.{State};
-ghost use Rattle.scope_laws.specs.Endings.{EndingsStay};
-ghost use Rattle.scope_laws.specs.Hits.{HitsReachDown};
-ghost use Rattle.state_laws.specs.Restarts.{IsRestart};
+ghost use Rattle.model_laws.specs.Endings.{EndingsStay};
+ghost use Rattle.model_laws.specs.Hits.{HitsReachDown};
+ghost use Rattle.model_laws.specs.Restarts.{IsRestart};
 ghost use Rattle.book_model.specs.Stores.{HasSpentNumbers, OpensNone, Stores, StoresNone};
 ghost use Rattle.book_model.specs.Stores.{restarted};
 

@@ -14,9 +14,9 @@ use Rattle.run_model.specs.declared.tasks.Task.{Task}
 use Rattle.run_model.specs.Rules.{HasScope}
 use Rattle.run_model.specs.Scopes.{Numbered, is_done, line, line_within, upwards}
 use Rattle.run_model.specs.State.{State}
-use Rattle.scope_laws.specs.Hits.{is_on}
-use Rattle.state_laws.proofs.FirstErrors.{any_found}
-use Rattle.state_laws.proofs.Tests.{passing}
+use Rattle.model_laws.specs.Hits.{is_on}
+use Rattle.model_laws.proofs.FirstErrors.{any_found}
+use Rattle.model_laws.proofs.Tests.{passing}
 use Rattle.state_renewal.specs.Renewed.{group_told, hosts_unwaited, in_front_if, is_needed, kept}
 use Rattle.state_renewal.specs.Renewed.{keeps_group, keeps_scope, keeps_task, new_number}
 use Rattle.state_renewal.specs.Renewed.{one_more_if, renewed, scope_numbers, scope_told, task_told}

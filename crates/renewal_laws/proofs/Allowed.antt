@@ -28,7 +28,7 @@ use Rattle.run_model.specs.State.{State, TreeState, WorkState}
 use Rattle.run_model.specs.Tasks.{first_ready, is_interrupted, is_interrupted_task, is_ready}
 use Rattle.run_model.specs.Tasks.{is_retried, is_running, task_numbers}
 use Rattle.run_model.specs.WorkChanges.{group_of_task}
-use Rattle.state_laws.proofs.Tests.{all_four, found_passes}
+use Rattle.model_laws.proofs.Tests.{all_four, found_passes}
 use Rattle.state_renewal.specs.Renewed.{new_number}
 use Rattle.state_renewal.specs.Told.{has_place}
 use Rattle.state_renewal.proofs.Numbers.{are_told, number_less, number_up}

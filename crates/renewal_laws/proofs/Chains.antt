@@ -13,7 +13,7 @@ use Rattle.run_model.specs.Scopes.{Numbered, is_root, is_detached, line, before_
 use Rattle.run_model.specs.Scopes.{hit_at, comes_before, first_of, least_hit, first_hit, ending}
 use Rattle.run_model.specs.Scopes.{own_deadline, least_moment, deadline_of, text_under, value_of}
 use Rattle.run_model.specs.Scopes.{AreOrdered}
-use Rattle.scope_laws.proofs.Lines.{line_up}
+use Rattle.model_laws.proofs.Lines.{line_up}
 use Rattle.state_renewal.specs.Renewed.{new_number}
 use Rattle.state_renewal.proofs.Numbers.{number_less}
 use Rattle.state_renewal.proofs.Keeps.{parent_there}

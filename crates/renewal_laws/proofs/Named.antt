@@ -9,7 +9,7 @@ use Rattle.run_model.specs.Replies.{event_of, group_of, kind_made, lacks_group, 
 use Rattle.run_model.specs.Replies.{scope_of}
 use Rattle.run_model.specs.Rules.{IsConsistent}
 use Rattle.run_model.specs.State.{State, group_named, scope_named}
-use Rattle.state_laws.proofs.Tests.{passing}
+use Rattle.model_laws.proofs.Tests.{passing}
 use Rattle.state_renewal.specs.Renewed.{new_number}
 use Rattle.renewal_laws.specs.Answered.{calls_part, command_anew, has_group_on, has_scope_on}
 use Rattle.renewal_laws.specs.GoingOn.{Part, event_anew, names_part, state_anew}

@@ -15,8 +15,8 @@ use Rattle.run_model.specs.Rules.{HasGroup, HasTask, IsConsistent}
 use Rattle.run_model.specs.Scopes.{ending, is_done}
 use Rattle.run_model.specs.State.{State}
 use Rattle.run_model.specs.Tasks.{is_unfinished}
-use Rattle.scope_laws.proofs.Stays.{endings_run}
-use Rattle.scope_laws.proofs.WellFormed.{well_formed_consistent}
+use Rattle.model_laws.proofs.Stays.{endings_run}
+use Rattle.model_laws.proofs.WellFormed.{well_formed_consistent}
 use Rattle.state_renewal.specs.Renewed.{keeps_scope, new_number, renewed}
 use Rattle.state_renewal.specs.Told.{has_place}
 use Rattle.state_renewal.proofs.Keeps.{live_kept, there}

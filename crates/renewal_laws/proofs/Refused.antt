@@ -26,7 +26,7 @@ use Rattle.run_model.specs.Step.{step}
 use Rattle.run_model.specs.Tasks.{is_interrupted, is_running}
 use Rattle.run_model.specs.Tasks.{is_unfinished, running_count, unfinished_in}
 use Rattle.run_model.specs.WorkChanges.{group_of_task, retried_row}
-use Rattle.state_laws.proofs.Tests.{all_four}
+use Rattle.model_laws.proofs.Tests.{all_four}
 use Rattle.state_renewal.specs.Renewed.{new_number}
 use Rattle.state_renewal.specs.Told.{has_place}
 use Rattle.state_renewal.proofs.Keeps.{count_cons}

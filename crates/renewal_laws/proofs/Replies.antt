@@ -29,7 +29,7 @@ use Rattle.run_model.specs.State.{State, WorkState}
 use Rattle.run_model.specs.Step.{step}
 use Rattle.run_model.specs.Tasks.{first_ready, is_admitted, is_ready, is_running, is_running_task}
 use Rattle.run_model.specs.Tasks.{phase_by, phase_of, running_count, task_numbers}
-use Rattle.state_laws.proofs.Tests.{found_passes}
+use Rattle.model_laws.proofs.Tests.{found_passes}
 use Rattle.state_renewal.specs.Renewed.{new_number}
 use Rattle.state_renewal.specs.Told.{has_place}
 use Rattle.renewal_laws.specs.Answered.{answer_anew, calls_part, command_anew, reply_anew}

@@ -10,7 +10,7 @@ use Rattle.run_model.specs.Event.{Event}
 use Rattle.run_model.specs.Rules.{IsConsistent}
 use Rattle.run_model.specs.State.{State}
 use Rattle.run_model.specs.Step.{step}
-use Rattle.state_laws.proofs.Steps.{kept_by}
+use Rattle.model_laws.proofs.StateSteps.{kept_by}
 use Rattle.renewal_laws.specs.GoingOn.{Part, all_name_part, event_anew, names_part, state_anew}
 use Rattle.renewal_laws.proofs.Allowed.{allowed_anew}
 use Rattle.renewal_laws.proofs.Goes.{Goes}

@@ -17,7 +17,7 @@ use Rattle.run_model.specs.TreeChanges.{hit_due, tick, with_hit}
 use Rattle.run_model.specs.WorkChanges.{after_end, after_go, after_limit, after_make, after_retry}
 use Rattle.run_model.specs.WorkChanges.{after_wait, group_of_task, groups_after, retried_row}
 use Rattle.run_model.specs.WorkChanges.{with_error, with_limit, with_stage, with_wait}
-use Rattle.state_laws.proofs.Ends.{owner_found}
+use Rattle.model_laws.proofs.Ends.{owner_found}
 use Rattle.state_renewal.specs.Renewed.{new_number}
 use Rattle.renewal_laws.specs.GoingOn.{Part, group_anew, rows_anew, scope_anew, task_anew}
 use Rattle.renewal_laws.specs.GoingOn.{tree_anew, work_anew}

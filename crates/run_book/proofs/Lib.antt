@@ -13,3 +13,4 @@ pub mod Rooting
 pub mod Saving
 pub mod Stepping
 pub mod Renewing
+pub mod Reading

@@ -15,8 +15,8 @@ use Rattle.run_disk.specs.Disk.{DiskState, IsAtRest, IsDisk, IsSynced, last_mome
 use Rattle.run_disk.specs.Runs.{IsSurer, LeavesOnly, Ran, Took}
 use Rattle.run_disk.proofs.RunLemmas.{ran_passed}
 use Rattle.run_journal.specs.Pairs.{AreZeros, HasNoPairBut}
-use Rattle.run_store.specs.Stores.{IsStored, sizes_of}
-use Rattle.run_store.proofs.LayoutLemmas.{layout_found}
+use Rattle.run_journal.specs.Stores.{IsStored, sizes_of}
+use Rattle.run_journal.proofs.LayoutLemmas.{layout_found}
 use Rattle.book_model.specs.declared.migrations.MigrateFault.{MigrateFault}
 use Rattle.book_model.specs.declared.migrations.MigrateFault.TheVariants as why
 use Rattle.book_model.specs.Migrations.{AreSized, HasFailedWrite, HasMigrated, HasReadSmall}

@@ -5,3 +5,4 @@ pub mod Migrating
 pub mod Opened
 pub mod Views
 pub mod Renewals
+pub mod Readings

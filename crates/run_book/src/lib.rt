@@ -11,6 +11,7 @@ mod images;
 mod migrations;
 mod openings;
 mod renewals;
+mod replays;
 
 pub use book_model::MigrateFault;
 pub use books::Book;

@@ -1,2 +1,4 @@
+pub mod Recoveries
+pub mod Stores
 pub mod Journals
 pub mod Pairs

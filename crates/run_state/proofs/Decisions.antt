@@ -15,9 +15,9 @@ use Rattle.run_model.specs.State.{State}
 use Rattle.run_model.proofs.LayoutLemmas.{most_tasks_most}
 use Rattle.record_view.specs.declared.views.EventView.{EventView}
 use Rattle.record_view.specs.Views as view
-use Rattle.reply_laws.proofs.Allowing.{decided_allowed}
-use Rattle.reply_laws.proofs.Passing.{fits_room}
-use Rattle.reply_laws.proofs.Rooms.{empty_log_has_room}
+use Rattle.model_laws.proofs.Allowing.{decided_allowed}
+use Rattle.model_laws.proofs.Passing.{fits_room}
+use Rattle.model_laws.proofs.Rooms.{empty_log_has_room}
 use Rattle.run_state.specs.Asked.{IsAllowed, IsRecorded, asked, room_for}
 
 -- ---- the decision

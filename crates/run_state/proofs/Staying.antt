@@ -1,6 +1,6 @@
 -- What is done or has ended stays so, from event to event.
 use Rattle.run_model.specs.State.{State}
-use Rattle.scope_laws.proofs.Stays.{endings_join, endings_same}
+use Rattle.model_laws.proofs.Stays.{endings_join, endings_same}
 use Rattle.task_group.proofs.Lasting.{stay_all, stay_both}
 use Rattle.run_state.specs.Lasting.{Stays}
 

@@ -1,6 +1,6 @@
 -- What no event undoes.
 use Rattle.run_model.specs.State.{State}
-use Rattle.scope_laws.specs.Endings.{EndingsStay}
+use Rattle.model_laws.specs.Endings.{EndingsStay}
 use Rattle.task_group.specs.Lasting.{EndsStay}
 
 -- Each scope that was done is done still, for the same reason and with the same cause. Each task

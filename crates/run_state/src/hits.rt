@@ -5,7 +5,7 @@ ghost use Rattle.run_model.specs.Allowed.{has_kind};
 ghost use Rattle.run_model.specs.Rules.{is_group_kind};
 ghost use Rattle.run_model.specs.Texts.{IsText};
 ghost use Rattle.run_model.specs.TreeChanges.{after_cancel};
-ghost use Rattle.scope_laws.specs.Endings.{AreEarlier};
+ghost use Rattle.model_laws.specs.Endings.{AreEarlier};
 
 use scope_tree::Tree;
 use std::alloc::Allocator;

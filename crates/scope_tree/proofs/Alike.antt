@@ -22,10 +22,10 @@ use Rattle.run_model.specs.Rules.{is_group_kind, can_be_hit}
 use Rattle.run_model.specs.State.{TreeState}
 use Rattle.run_model.specs.TreeChanges.{with_hit, cancellation}
 use Rattle.run_model.proofs.RowLemmas.{slice_get-at_row_same, slice_get-at_row_other}
-use Rattle.scope_laws.specs.Endings.{EndingsStay}
-use Rattle.scope_laws.specs.Searches.{joined}
-use Rattle.scope_laws.proofs.Relates.{IsKept, RowsRelate, first_hits_relate}
-use Rattle.scope_laws.proofs.Stays.{earlier_comes_before, later_comes_behind, endings_from}
+use Rattle.model_laws.specs.Endings.{EndingsStay}
+use Rattle.model_laws.specs.Searches.{joined}
+use Rattle.model_laws.proofs.Relates.{IsKept, RowsRelate, first_hits_relate}
+use Rattle.model_laws.proofs.Stays.{earlier_comes_before, later_comes_behind, endings_from}
 use Rattle.scope_tree.specs.Checks.{AreEarlierOrAlike}
 use Rattle.scope_tree.specs.Marks.{Struck}
 use Rattle.scope_tree.specs.Sound.{ArePastHits, IsPastHit}

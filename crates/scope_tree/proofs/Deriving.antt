@@ -9,8 +9,8 @@ use Rattle.run_model.specs.Rows.{new_scope}
 use Rattle.run_model.specs.Scopes.{is_root, AreOrdered}
 use Rattle.run_model.specs.State.{TreeState}
 use Rattle.run_model.specs.TreeChanges.{tick, after_derive}
-use Rattle.scope_laws.specs.Endings.{AreEarlier}
-use Rattle.scope_laws.proofs.Follows.{tick_follows}
+use Rattle.model_laws.specs.Endings.{AreEarlier}
+use Rattle.model_laws.proofs.Follows.{tick_follows}
 use Rattle.scope_tree.specs.Chains.{Places}
 use Rattle.scope_tree.specs.Deadlines.{AreWaiting}
 use Rattle.scope_tree.specs.Links.{AreFound}

@@ -16,9 +16,9 @@ use Rattle.run_model.specs.Rules.{is_group_kind}
 use Rattle.run_model.specs.State.{TreeState}
 use Rattle.run_model.specs.TreeChanges.{with_hit, cancellation, after_cancel}
 use Rattle.run_model.proofs.RowLemmas.{at_row_cases, slice_get-at_row_same, slice_get-at_row_other}
-use Rattle.scope_laws.specs.Endings.{AreEarlier}
-use Rattle.scope_laws.proofs.Follows.{RowsFollow}
-use Rattle.scope_laws.proofs.WellFormed.{own_hit_follows}
+use Rattle.model_laws.specs.Endings.{AreEarlier}
+use Rattle.model_laws.proofs.Follows.{RowsFollow}
+use Rattle.model_laws.proofs.WellFormed.{own_hit_follows}
 use Rattle.scope_tree.specs.Checks.{AreEarlierOrAlike}
 use Rattle.scope_tree.proofs.Passing.{kind_passed}
 

@@ -18,9 +18,9 @@ use Rattle.run_model.specs.Scopes.{AreOrdered}
 use Rattle.run_model.specs.TreeChanges.{with_hit, tick, hit_due}
 use Rattle.run_model.proofs.RowLemmas.{length-at_row, slice_get-at_row_same, map_cases, map-at_row}
 use Rattle.run_model.proofs.RowLemmas.{slice_get-at_row_other}
-use Rattle.scope_laws.specs.Endings.{AreEarlier}
-use Rattle.scope_laws.proofs.Follows.{tick_follows}
-use Rattle.scope_laws.proofs.Stays.{earlier_comes_before, later_comes_behind}
+use Rattle.model_laws.specs.Endings.{AreEarlier}
+use Rattle.model_laws.proofs.Follows.{tick_follows}
+use Rattle.model_laws.proofs.Stays.{earlier_comes_before, later_comes_behind}
 use Rattle.scope_tree.specs.Deadlines.{deadline_at, due_at, key, Among, TakesFirst}
 use Rattle.scope_tree.specs.Deadlines.{AreWaiting}
 use Rattle.scope_tree.specs.Links.{link_of, links_of}

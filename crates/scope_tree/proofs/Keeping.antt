@@ -17,8 +17,8 @@ use Rattle.run_model.specs.Scopes.{is_root, AreOrdered}
 use Rattle.run_model.specs.TreeChanges.{with_hit, cancellation, expiry, hit_due, tick}
 use Rattle.run_model.proofs.RowLemmas.{at_row_cases, push_cases, map_cases}
 use Rattle.run_model.proofs.RowLemmas.{slice_get-at_row_other, slice_get-push_left}
-use Rattle.scope_laws.proofs.Follows.{ticked}
-use Rattle.scope_laws.proofs.WellFormed.{ordered_follow}
+use Rattle.model_laws.proofs.Follows.{ticked}
+use Rattle.model_laws.proofs.WellFormed.{ordered_follow}
 use Rattle.scope_tree.specs.Checks.{is_derived_kind}
 use Rattle.scope_tree.specs.Sound.{AreRooted, IsPastHit, ArePastHits}
 

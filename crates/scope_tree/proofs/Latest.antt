@@ -13,9 +13,9 @@ use Rattle.run_model.specs.Scopes.{is_root, is_detached, own_hit, comes_before, 
 use Rattle.run_model.specs.Scopes.{AreOrdered}
 use Rattle.run_model.specs.TreeChanges.{with_hit}
 use Rattle.run_model.proofs.RowLemmas.{slice_get-at_row_same, slice_get-at_row_other}
-use Rattle.scope_laws.specs.Searches.{above, joined, first_hit_from}
-use Rattle.scope_laws.proofs.Lines.{first_hit_up}
-use Rattle.scope_laws.proofs.Least.{first_hit_least}
+use Rattle.model_laws.specs.Searches.{above, joined, first_hit_from}
+use Rattle.model_laws.proofs.Lines.{first_hit_up}
+use Rattle.model_laws.proofs.Least.{first_hit_least}
 use Rattle.scope_tree.proofs.Keeping.{ordered_hit}
 
 -- Each own hit comes before this one at scope n, and this one behind it.

@@ -9,9 +9,9 @@ use Rattle.run_model.specs.declared.scopes.Scope.{Scope}
 use Rattle.run_model.specs.Rows.{root}
 use Rattle.run_model.specs.Scopes.{is_root, is_detached, own_hit, comes_before, first_hit}
 use Rattle.run_model.specs.Scopes.{AreOrdered}
-use Rattle.scope_laws.specs.Searches.{above, joined}
-use Rattle.scope_laws.proofs.Lines.{first_hit_up}
-use Rattle.scope_laws.proofs.Least.{first_hit_least}
+use Rattle.model_laws.specs.Searches.{above, joined}
+use Rattle.model_laws.proofs.Lines.{first_hit_up}
+use Rattle.model_laws.proofs.Least.{first_hit_least}
 use Rattle.scope_tree.specs.Marks.{IsMark, AreMarked, AreMarkedBelow, mark_of, first_mark}
 use Rattle.scope_tree.specs.Marks.{marked_hit}
 

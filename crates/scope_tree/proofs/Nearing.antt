@@ -6,15 +6,15 @@ use Rattle.std.proofs.lemmas.Bool.{false≢true}
 use Rattle.std.proofs.lemmas.Option.{none-some, slice_get_within, slice_get-get_or, same_Some}
 use Rattle.std.proofs.lemmas.Option.{slice_get_read}
 use Rattle.run_model.proofs.RowLemmas.{push_cases}
-use Rattle.scope_laws.proofs.Follows.{RowsFollow}
+use Rattle.model_laws.proofs.Follows.{RowsFollow}
 use Rattle.run_model.specs.declared.scopes.Kind.{Kind}
 use Rattle.run_model.specs.declared.scopes.Kind.TheVariants as kinds
 use Rattle.run_model.specs.declared.scopes.Scope.{Scope}
 use Rattle.run_model.specs.Rows.{root}
 use Rattle.run_model.specs.Scopes.{is_root, is_detached, own_deadline, deadline_of, text_under}
 use Rattle.run_model.specs.Scopes.{value_of, AreOrdered}
-use Rattle.scope_laws.specs.Searches.{above, earlier, nearest}
-use Rattle.scope_laws.proofs.Lines.{deadline_up, value_up}
+use Rattle.model_laws.specs.Searches.{above, earlier, nearest}
+use Rattle.model_laws.proofs.Lines.{deadline_up, value_up}
 use Rattle.scope_tree.specs.Reaches.{is_holder, IsReach, AreReaches, AreReached}
 use Rattle.scope_tree.specs.declared.reaches.Reach.{Reach}
 use Rattle.scope_tree.proofs.Searching.{value_above}

@@ -2,8 +2,8 @@
 use Rattle.std.proofs.Common.{◌≡◌, ℕ, false, cond, List, Some, None, slice_get, sym, ap, ◌∙◌}
 use Rattle.run_model.specs.declared.scopes.Scope.{Scope}
 use Rattle.run_model.specs.Scopes.{is_root, text_under, value_of, AreOrdered}
-use Rattle.scope_laws.specs.Searches.{above, nearest}
-use Rattle.scope_laws.proofs.Lines.{value_up}
+use Rattle.model_laws.specs.Searches.{above, nearest}
+use Rattle.model_laws.proofs.Lines.{value_up}
 
 pub value_above : (rows : List Scope) (s : ℕ) (row : Scope) (key : List ℕ) → AreOrdered rows
     → slice_get rows s ≡ Some row → text_under key row.kind ≡ None → is_root row.kind ≡ false

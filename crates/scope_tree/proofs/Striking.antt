@@ -12,8 +12,8 @@ use Rattle.run_model.specs.Scopes.{is_root, is_detached, own_hit, first_hit, end
 use Rattle.run_model.specs.TreeChanges.{with_hit}
 use Rattle.run_model.proofs.RowLemmas.{length-at_row, slice_get-at_row_same}
 use Rattle.run_model.proofs.RowLemmas.{slice_get-at_row_other}
-use Rattle.scope_laws.specs.Searches.{above, joined}
-use Rattle.scope_laws.proofs.Lines.{first_hit_up}
+use Rattle.model_laws.specs.Searches.{above, joined}
+use Rattle.model_laws.proofs.Lines.{first_hit_up}
 use Rattle.scope_tree.specs.Links.{link_of, links_of}
 use Rattle.scope_tree.specs.Marks.{IsMark, AreMarked, Struck, mark_of}
 use Rattle.scope_tree.specs.Spread.{Child, Since, IsSpread}

@@ -7,7 +7,7 @@ ghost use Rattle.run_model.specs.declared.bounds.TheConstants.{MOST_SCOPES};
 ghost use Rattle.run_model.specs.Rows.{at_row};
 ghost use Rattle.run_model.specs.Scopes.{AreOrdered};
 ghost use Rattle.run_model.specs.TreeChanges.{with_hit, tick};
-ghost use Rattle.scope_laws.specs.Endings.{AreEarlier};
+ghost use Rattle.model_laws.specs.Endings.{AreEarlier};
 ghost use Rattle.scope_tree.specs.declared.chains.TheConstants.{CHAINS};
 ghost use Rattle.scope_tree.specs.Deadlines.{AreWaiting};
 ghost use Rattle.scope_tree.specs.Links.{links_of, AreFound};

@@ -11,7 +11,7 @@ ghost use Rattle.std.specs.Prelude.{IfSome, false, true, vec_len, vec_capacity};
 ghost use Rattle.arrayvec.specs.ArrayVec.{array_vec_len};
 ghost use Rattle.run_model.specs.declared.bounds.TheConstants.{MOST_SCOPES};
 ghost use Rattle.run_model.specs.Scopes.{AreOrdered, ending, is_root, comes_before};
-ghost use Rattle.scope_laws.specs.Searches.{above};
+ghost use Rattle.model_laws.specs.Searches.{above};
 ghost use Rattle.scope_tree.specs.Marks.{AreMarked, AreMarkedBelow, first_mark, mark_of};
 ghost use Rattle.scope_tree.specs.Marks.{marked_hit, new_mark};
 ghost use Rattle.scope_tree.specs.Spread.{Spreading, IsSpread, unmarked};

@@ -4,7 +4,7 @@
 ghost use Rattle.std.specs.Prelude.{◌≡◌, ◌<◌, ◌≤◌, length, vec_len, vec_capacity};
 ghost use Rattle.run_model.specs.declared.bounds.TheConstants.{MOST_SCOPES};
 ghost use Rattle.run_model.specs.Scopes.{AreOrdered};
-ghost use Rattle.scope_laws.specs.Searches.{earlier};
+ghost use Rattle.model_laws.specs.Searches.{earlier};
 ghost use Rattle.scope_tree.specs.Reaches.{is_holder, IsReach, AreReaches, AreReached};
 
 use crate::kinds::{is_detached, is_root, own_deadline};

@@ -14,7 +14,7 @@ use Rattle.run_model.specs.Rows.{root}
 use Rattle.run_model.specs.Rules.{IsConsistent, HasScope, HasGroup, HasTask}
 use Rattle.run_model.specs.Scopes.{Numbered, is_root, line, is_done, AreOrdered}
 use Rattle.run_model.specs.State.{State}
-use Rattle.scope_laws.specs.Hits.{is_on}
+use Rattle.model_laws.specs.Hits.{is_on}
 use Rattle.state_renewal.specs.Renewed.{hosts_unwaited, is_needed, scope_numbers, keeps_scope}
 use Rattle.state_renewal.specs.Renewed.{keeps_group, keeps_task, new_number, one_more_if, kept}
 use Rattle.state_renewal.specs.Renewed.{in_front_if, scope_told, group_told, task_told, renewed}
@@ -24,7 +24,7 @@ use Rattle.state_renewal.proofs.Keeps.{owner_kept, task_is_kept}
 use Rattle.state_renewal.proofs.RulesKept.{scope_from, group_from, scope_stays, rules_kept}
 use Rattle.state_renewal.proofs.Stays.{kept_scope}
 use Rattle.state_renewal.proofs.Works.{group_stays}
-use Rattle.state_laws.proofs.FirstErrors.{any_found}
+use Rattle.model_laws.proofs.FirstErrors.{any_found}
 
 -- ---- scopes
 

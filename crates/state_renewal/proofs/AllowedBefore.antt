@@ -27,9 +27,9 @@ use Rattle.run_model.specs.Tasks.{admits, limit_of, unfinished_in, first_ready, 
 use Rattle.run_model.specs.Tasks.{is_running, is_interrupted, is_interrupted_task, is_retried}
 use Rattle.run_model.specs.Tasks.{is_retry_of}
 use Rattle.run_model.specs.WorkChanges.{group_of_task}
-use Rattle.scope_laws.specs.Hits.{is_on}
-use Rattle.state_laws.proofs.FirstErrors.{any_found}
-use Rattle.state_laws.proofs.Tests.{passing, all_three, all_four}
+use Rattle.model_laws.specs.Hits.{is_on}
+use Rattle.model_laws.proofs.FirstErrors.{any_found}
+use Rattle.model_laws.proofs.Tests.{passing, all_three, all_four}
 use Rattle.task_group.proofs.Picks.{found_is}
 use Rattle.state_renewal.specs.Renewed.{is_needed, scope_numbers, new_number, keeps_scope}
 use Rattle.state_renewal.specs.Renewed.{keeps_group, keeps_task, renewed}

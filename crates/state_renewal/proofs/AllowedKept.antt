@@ -25,8 +25,8 @@ use Rattle.run_model.specs.Tasks.{admits, limit_of, unfinished_in, first_ready, 
 use Rattle.run_model.specs.Tasks.{is_interrupted, is_interrupted_task, is_retried}
 use Rattle.run_model.specs.Tasks.{is_retry_of}
 use Rattle.run_model.specs.WorkChanges.{group_of_task}
-use Rattle.state_laws.proofs.FirstErrors.{any_found}
-use Rattle.state_laws.proofs.Tests.{passing, all_three, all_four, all_five}
+use Rattle.model_laws.proofs.FirstErrors.{any_found}
+use Rattle.model_laws.proofs.Tests.{passing, all_three, all_four, all_five}
 use Rattle.state_renewal.specs.Renewed.{new_number, keeps_scope, keeps_group, keeps_task, renewed}
 use Rattle.state_renewal.specs.Renewed.{scope_told, group_told, task_told}
 use Rattle.state_renewal.specs.Told.{names_kept, event_told}

@@ -16,7 +16,7 @@ use Rattle.run_model.specs.Scopes.{hit_at, comes_before, first_of, least_hit, fi
 use Rattle.run_model.specs.Scopes.{own_deadline, least_moment, deadline_of, text_under, value_of}
 use Rattle.run_model.specs.Scopes.{AreOrdered}
 use Rattle.run_model.specs.State.{State}
-use Rattle.scope_laws.proofs.Lines.{line_up}
+use Rattle.model_laws.proofs.Lines.{line_up}
 use Rattle.state_renewal.specs.Renewed.{new_number, keeps_scope, scope_told, renewed}
 use Rattle.state_renewal.proofs.Numbers.{number_less}
 use Rattle.state_renewal.proofs.Keeps.{parent_kept, parent_there}

@@ -24,7 +24,7 @@ use Rattle.record_view.specs.Image.{image, head_of, is_count, is_kept_head, is_k
 use Rattle.record_view.specs.Image.{is_kept_group, is_kept_task, is_kept_kind, is_kept_hit}
 use Rattle.record_view.specs.Image.{is_kept_stage, is_kept_link}
 use Rattle.record_view.specs.Keeping.{IsImage}
-use Rattle.state_laws.proofs.Tests.{all_four, all_five}
+use Rattle.model_laws.proofs.Tests.{all_four, all_five}
 use Rattle.state_renewal.specs.Renewed.{new_number, keeps_scope, keeps_group, keeps_task}
 use Rattle.state_renewal.specs.Renewed.{scope_told, group_told, task_told, renewed}
 use Rattle.state_renewal.proofs.Numbers.{number_at_most}

@@ -18,10 +18,10 @@ use Rattle.run_model.specs.Scopes.{is_root, upwards, line_within, line, before_d
 use Rattle.run_model.specs.Scopes.{hit_at, least_hit, is_done, AreOrdered}
 use Rattle.run_model.specs.State.{State}
 use Rattle.run_model.specs.Tasks.{is_unfinished}
-use Rattle.scope_laws.specs.Hits.{is_on}
-use Rattle.scope_laws.specs.Searches.{above}
-use Rattle.scope_laws.proofs.Lines.{line_up}
-use Rattle.state_laws.proofs.FirstErrors.{any_found}
+use Rattle.model_laws.specs.Hits.{is_on}
+use Rattle.model_laws.specs.Searches.{above}
+use Rattle.model_laws.proofs.Lines.{line_up}
+use Rattle.model_laws.proofs.FirstErrors.{any_found}
 use Rattle.state_renewal.specs.Renewed.{hosts_unwaited, is_needed, scope_numbers, keeps_scope}
 use Rattle.state_renewal.specs.Renewed.{keeps_group, keeps_task}
 

@@ -4,7 +4,7 @@ use Rattle.std.proofs.Common.{refl, ap, ◌∙◌, arith}
 use Rattle.std.specs.List.{list_any, range_with_len}
 use Rattle.run_model.specs.Scopes.{line, is_done}
 use Rattle.run_model.specs.State.{State}
-use Rattle.scope_laws.specs.Hits.{is_on}
+use Rattle.model_laws.specs.Hits.{is_on}
 use Rattle.state_renewal.specs.Marks.{AreFlags, is_flagged, is_above_flagged}
 use Rattle.state_renewal.specs.Renewed.{hosts_unwaited, is_needed, keeps_scope}
 

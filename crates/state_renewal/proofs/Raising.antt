@@ -9,10 +9,10 @@ use Rattle.std.proofs.lemmas.List.{get_or-set_same, get_or-set_other, get_or_pas
 use Rattle.std.proofs.lemmas.Option.{slice_get_within, same_Some}
 use Rattle.run_model.specs.declared.scopes.Scope.{Scope}
 use Rattle.run_model.specs.Scopes.{is_root, upwards, line_within, line, AreOrdered}
-use Rattle.scope_laws.specs.Hits.{is_on}
-use Rattle.scope_laws.specs.Searches.{above}
-use Rattle.scope_laws.proofs.Lines.{line_up}
-use Rattle.state_laws.proofs.FirstErrors.{any_found}
+use Rattle.model_laws.specs.Hits.{is_on}
+use Rattle.model_laws.specs.Searches.{above}
+use Rattle.model_laws.proofs.Lines.{line_up}
+use Rattle.model_laws.proofs.FirstErrors.{any_found}
 use Rattle.state_renewal.specs.Marks.{is_flagged, is_above_flagged}
 use Rattle.state_renewal.proofs.Keeps.{there, number_get, found_any, line_self, line_passes}
 

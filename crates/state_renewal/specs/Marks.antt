@@ -8,7 +8,7 @@ use Rattle.run_model.specs.declared.scopes.Scope.{Scope}
 use Rattle.run_model.specs.declared.tasks.Task.{Task}
 use Rattle.run_model.specs.Scopes.{line}
 use Rattle.run_model.specs.State.{State, TreeState, WorkState}
-use Rattle.scope_laws.specs.Hits.{is_on}
+use Rattle.model_laws.specs.Hits.{is_on}
 use Rattle.state_renewal.specs.Renewed.{kept, keeps_group, keeps_scope, keeps_task, new_number}
 
 -- The row of this number is there and flagged.

@@ -10,7 +10,7 @@ use Rattle.run_model.specs.declared.layouts.Layout.{Layout}
 use Rattle.run_model.specs.Layouts.{most_scopes, most_tasks}
 use Rattle.run_model.specs.State.{State, TreeState, WorkState}
 use Rattle.run_model.specs.Scopes.{line, is_done}
-use Rattle.scope_laws.specs.Hits.{is_on}
+use Rattle.model_laws.specs.Hits.{is_on}
 
 -- ---- what is kept
 

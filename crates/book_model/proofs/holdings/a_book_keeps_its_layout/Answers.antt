@@ -1,5 +1,5 @@
 use Rattle.std.proofs.Common.{sym, ◌∙◌}
-use Rattle.run_store.proofs.LayoutLemmas.{one_layout}
+use Rattle.run_journal.proofs.LayoutLemmas.{one_layout}
 use Rattle.book_model.proofs.holdings.a_book_keeps_its_layout.Goals as goal
 
 pub returns : goal.returns

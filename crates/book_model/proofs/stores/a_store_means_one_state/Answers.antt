@@ -1,5 +1,5 @@
 use Rattle.book_model.proofs.Storing.{stores_layout, stores_one, stores_rules}
-use Rattle.scope_laws.proofs.Reaches.{reaches_down}
+use Rattle.model_laws.proofs.Reaches.{reaches_down}
 use Rattle.book_model.proofs.stores.a_store_means_one_state.Goals as goal
 
 pub returns : goal.returns

@@ -1,6 +1,6 @@
 use Rattle.book_model.proofs.FrontLemmas.{opened_endings, opened_rules}
-use Rattle.scope_laws.proofs.Reaches.{reaches_down}
-use Rattle.state_laws.proofs.Interrupts.{restarted}
+use Rattle.model_laws.proofs.Reaches.{reaches_down}
+use Rattle.model_laws.proofs.Interrupts.{restarted}
 use Rattle.book_model.specs.Stores as stores
 use Rattle.book_model.proofs.stores.an_opening_interrupts_what_was_running.Goals as goal
 

@@ -1,8 +1,8 @@
 use Rattle.std.proofs.Common.{refl}
 use Rattle.run_model.specs.declared.layouts.Layout.TheVariants.{Small}
 use Rattle.run_model.specs.State.{formatted}
-use Rattle.state_laws.proofs.Starting.{formatted_consistent}
-use Rattle.state_laws.proofs.Steps.{run_keeps}
+use Rattle.model_laws.proofs.Starting.{formatted_consistent}
+use Rattle.model_laws.proofs.StateSteps.{run_keeps}
 use Rattle.renewal_laws.specs.Examples.{first_night}
 use Rattle.renewal_laws.proofs.examples.a_night_and_a_day_meet_the_premises.Goals as goal
 

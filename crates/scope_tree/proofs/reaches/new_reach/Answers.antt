@@ -2,7 +2,7 @@ use Rattle.std.proofs.Common.{◌≡◌, ◌<◌, true, false, Some, slice_get, 
 use Rattle.std.proofs.Common.{arith}
 use Rattle.std.proofs.lemmas.Option.{slice_get_read}
 use Rattle.run_model.specs.Scopes.{is_root, is_detached}
-use Rattle.scope_laws.specs.Searches.{earlier}
+use Rattle.model_laws.specs.Searches.{earlier}
 use Rattle.scope_tree.specs.Reaches.{IsReach}
 use Rattle.scope_tree.proofs.Nearing.{new_reach_is}
 use Rattle.scope_tree.proofs.reaches.new_reach.Goals as goal

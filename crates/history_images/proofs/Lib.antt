@@ -1,4 +1,0 @@
-pub mod EventRanges
-pub mod Images
-pub mod RowRanges
-pub mod StateRanges

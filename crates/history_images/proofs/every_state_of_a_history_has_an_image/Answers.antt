@@ -1,7 +1,0 @@
-use Rattle.run_model.specs.declared.layouts.Layout.TheVariants.{Small, Large}
-use Rattle.history_images.proofs.Images.{history_image, history_most}
-use Rattle.history_images.proofs.every_state_of_a_history_has_an_image.Goals as goal
-
-pub returns : goal.returns
-returns c =
-    record { image = history_image; small = history_most Small; large = history_most Large }

@@ -1,0 +1,64 @@
+//! Every state of a history has an image, of at most so many bytes.
+//!
+//! Each function has an empty body, and its clauses are the law. The seven rules hold of each state
+//! that events lead to (`model_laws`); here stands that its fields are in range too, as long as
+//! there are fewer than 2^63 events, and so that the state has the one image that a checkpoint
+//! writes.
+
+ghost use Rattle.std.specs.Prelude.{◌≡◌, ◌≤◌, ℕ, List, Some, IsTrue, length};
+ghost use Rattle.run_model.specs.declared.layouts.Layout.{Layout};
+ghost use Rattle.run_model.specs.declared.layouts.Layout.TheVariants.{Small, Large};
+ghost use Rattle.run_model.specs.Allowed.{after, run};
+ghost use Rattle.run_model.specs.Event.{Event};
+ghost use Rattle.run_model.specs.Rules.{HasLayout, IsConsistent};
+ghost use Rattle.run_model.specs.State.{State, formatted};
+ghost use Rattle.record_view.specs.declared.heads.ImageVersion.{ImageVersion};
+ghost use Rattle.record_view.specs.declared.heads.ImageVersion.TheVariants.{Two};
+ghost use Rattle.record_view.specs.Image.{image, is_count};
+ghost use Rattle.record_view.specs.Keeping.{IsInRange, IsImage};
+ghost use Rattle.image_laws.specs.Ranges.{has_ranges, HaveRanges};
+
+/// A state of a layout that keeps the seven rules, and whose fields are in range, has an image of
+/// version 2 there.
+pub fn a_state_in_range_has_an_image()
+    ensures { (layout : Layout) (p : State) → HasLayout p layout → IsConsistent p →
+        IsInRange Two layout p → IsImage Two layout (image p) p }
+{}
+
+/// Fields stay in range: each event that is allowed, and whose own fields are in range, leaves them
+/// so as long as the count is below 2^63, and so does a run of such events. At first they are in
+/// range. A state that was read from an image of version 1 is in the ranges of version 2 too: no
+/// event has to come.
+pub fn fields_stay_in_range()
+    ensures first { (layout : Layout) → IsInRange Two layout (formatted layout) }
+    ensures events { (version : ImageVersion) (layout : Layout) (p q : State) (event : Event) →
+        HasLayout p layout → IsConsistent p → IsInRange version layout p →
+        IsTrue (has_ranges event) → after p event ≡ Some q → IsTrue (is_count q.count) →
+        IsInRange Two layout q }
+    ensures runs { (version : ImageVersion) (layout : Layout) (p q : State)
+        (events : List Event) → HasLayout p layout → IsConsistent p →
+        IsInRange version layout p → HaveRanges events → run p events ≡ Some q →
+        IsTrue (is_count q.count) → IsInRange Two layout q }
+{}
+
+/// Every state that events whose fields are in range lead to from a formatted store has an image,
+/// as long as there are fewer than 2^63 of them. In a small store it has at most 488,151 bytes, in
+/// a large one at most 1,913,559.
+pub fn every_state_of_a_history_has_an_image()
+    ensures image { (layout : Layout) (p : State) (events : List Event) → HaveRanges events →
+        run (formatted layout) events ≡ Some p → IsTrue (is_count p.count) →
+        IsImage Two layout (image p) p }
+    ensures small { (p : State) (events : List Event) → HaveRanges events →
+        run (formatted Small) events ≡ Some p → IsTrue (is_count p.count) →
+        length (image p) ≤ 488_151 }
+    ensures large { (p : State) (events : List Event) → HaveRanges events →
+        run (formatted Large) events ≡ Some p → IsTrue (is_count p.count) →
+        length (image p) ≤ 1_913_559 }
+{}
+
+/// So has every state that events lead to from one that was read from an image, of either version.
+pub fn an_image_leads_to_images()
+    ensures { (version : ImageVersion) (layout : Layout) (bytes : List ℕ) (p q : State)
+        (events : List Event) → IsImage version layout bytes p → HaveRanges events →
+        run p events ≡ Some q → IsTrue (is_count q.count) → IsImage Two layout (image q) q }
+{}

@@ -1,0 +1,40 @@
+//! Laws of a state that is read from an image, part by part: that the parts together are the whole.
+//!
+//! Each function has an empty body, and its clause is the law. The parts are read by functions of
+//! `specs/`; here stands that these give a state exactly where the bytes are its image.
+
+ghost use Rattle.std.specs.Prelude.{◌≡◌, ◌↔◌, List, ℕ, Some, IsTrue};
+ghost use Rattle.run_model.specs.declared.layouts.Layout.{Layout};
+ghost use Rattle.run_model.specs.RuleParts.{AreTreeRules, AreWorkRules, AreCrossRules};
+ghost use Rattle.run_model.specs.Rules.{IsConsistent};
+ghost use Rattle.run_model.specs.State.{State};
+ghost use Rattle.record_view.specs.declared.heads.ImageVersion.{ImageVersion};
+ghost use Rattle.record_view.specs.Keeping.{IsImage};
+ghost use Rattle.record_view.specs.Between.{fits_between};
+ghost use Rattle.image_laws.specs.Whole.{image_at};
+
+/// The seven rules are those of the tree, those of the work, and those between the two, in a state
+/// whose tree and work have one layout.
+pub fn the_rules_have_three_parts()
+    ensures tree { (p : State) → IsConsistent p → AreTreeRules p.count p.tree }
+    ensures work { (p : State) → IsConsistent p → AreWorkRules p.work }
+    ensures between { (p : State) → IsConsistent p → AreCrossRules p }
+    ensures all { (p : State) → p.work.layout ≡ p.tree.layout → AreTreeRules p.count p.tree →
+        AreWorkRules p.work → AreCrossRules p → IsConsistent p }
+{}
+
+/// Where the work keeps its rules, the test of both row lists tells whether the rules between the
+/// two hold.
+pub fn the_rules_between_are_tested()
+    ensures { (p : State) → AreWorkRules p.work →
+        IsTrue (fits_between p.tree.scopes p.work.groups) ↔ AreCrossRules p }
+{}
+
+/// The image of a state is read by its parts, and what is read is an image. So no other bytes are
+/// images, and no image has two states or two versions.
+pub fn images_are_what_is_read()
+    ensures again { (version : ImageVersion) (layout : Layout) (bytes : List ℕ) (p : State) →
+        IsImage version layout bytes p → image_at layout bytes ≡ Some (version, p) }
+    ensures takes { (version : ImageVersion) (layout : Layout) (bytes : List ℕ) (p : State) →
+        image_at layout bytes ≡ Some (version, p) → IsImage version layout bytes p }
+{}

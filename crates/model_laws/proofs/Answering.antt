@@ -1,0 +1,106 @@
+-- What an accepted call leaves.
+use Rattle.std.proofs.Common.{◌≡◌, ℕ, Bool, true, false, if◌then◌else◌, Option, Some, None, Result}
+use Rattle.std.proofs.Common.{Ok, Err, refl, sym, ap, ◌∙◌}
+use Rattle.run_model.specs.declared.answers.Answer.{Answer}
+use Rattle.run_model.specs.declared.answers.Reply.TheVariants as reply
+use Rattle.run_model.specs.declared.commands.Command.{Command}
+use Rattle.run_model.specs.declared.refusals.Refusal.{Refusal}
+use Rattle.run_model.specs.declared.refusals.Refusal.TheVariants as refusal
+use Rattle.run_model.specs.Event.{Event}
+use Rattle.run_model.specs.State.{State}
+use Rattle.run_model.specs.Step as change
+use Rattle.run_model.specs.Replies.{decide, refusals, is_repeated, is_full, if_room, and_then}
+use Rattle.run_model.specs.Replies.{event_of, answer_of, state_after}
+use Rattle.run_model.specs.Session.{Session, made, with_event, replied}
+use Rattle.model_laws.specs.Answers.{Answered}
+use Rattle.model_laws.proofs.Passing.{Passes, unrefused, unless_passes, repeated_unrefused}
+use Rattle.model_laws.proofs.Passing.{new_unrefused}
+
+-- ---- the decision behind an answer
+
+pub state_of_event : (s : Session) (o : Option Event)
+    → (with_event s o).state ≡ state_after s.state o
+state_of_event s None = refl
+state_of_event s (Some event) = refl
+
+-- The state that a decision leaves.
+pub decided_state : (s : Session) (r : Result (Option Event) Refusal) (o : Option Event)
+    → r ≡ Ok o → (with_event s (made r)).state ≡ state_after s.state o
+decided_state s r o decided =
+    ap (λ (x : Result (Option Event) Refusal). (with_event s (made x)).state) decided
+    ∙ state_of_event s o
+
+-- The command passes each test, and this is decided, answered and left.
+pub record Decision (s : Session) (call : Command) (a : Answer) (q : State) : Type 0 where
+  pub event : Option Event
+  pub passes : Passes (refusals s.state call)
+  pub decided : unrefused s.state s.log call ≡ Ok event
+  pub answer : answer_of s.state q call ≡ a
+  pub leaves : state_after s.state event ≡ q
+
+-- An answer is of an accepted command.
+accepted_answer : (s : Session) (call : Command) (a : Answer) (r : Result (Option Event) Refusal)
+    → replied reply.Answer (and_then r (λ o. Ok (answer_of s.state (state_after s.state o) call)))
+    ≡ reply.Answer a
+    → (o : Option Event) × (r ≡ Ok o) × (answer_of s.state (state_after s.state o) call ≡ a)
+accepted_answer s call a (Err why) e = cc
+accepted_answer s call a (Ok o) e = (o, refl, cc)
+
+decision_behind : (s : Session) (call : Command) (a : Answer) (q : State) → Answered s call a q
+    → Decision s call a q
+decision_behind s call a q answered =
+    let p : State = s.state in
+    let r : Result (Option Event) Refusal = decide p s.log call in
+    let behind = accepted_answer s call a r answered.replied in
+    let left = sym (decided_state s r behind.0 behind.1) ∙ answered.leaves in
+    let passed = unless_passes (refusals p call) (unrefused p s.log call) behind.0 behind.1 in
+    record {
+      event = behind.0;
+      passes = passed.0;
+      decided = passed.1;
+      answer = ap (λ (t : State). answer_of p t call) (sym left) ∙ behind.2;
+      leaves = left;
+    }
+
+-- ---- what is carried out
+
+-- The command passes each test, and is carried out as its event.
+pub record CarriedOut (s : Session) (call : Command) (a : Answer) (q : State) : Type 0 where
+  pub passes : Passes (refusals s.state call)
+  pub answer : answer_of s.state q call ≡ a
+  pub leaves : q ≡ change.step s.state (event_of s.state call)
+
+pub room_made : (p : State) (log : ℕ) (event : Event) (o : Option Event)
+    → if_room p log event ≡ Ok o → o ≡ Some event
+room_made p log event o e = go (is_full p log event) e
+  where
+    go : (full : Bool)
+        → (if full then Err refusal.SessionFull else Ok (Some event)) ≡ Ok o → o ≡ Some event
+    go true e = cc
+    go false e = cc
+
+pub carried_out : (s : Session) (call : Command) (a : Answer) (q : State)
+    → is_repeated s.state call ≡ false → Answered s call a q → CarriedOut s call a q
+carried_out s call a q new answered =
+    let p : State = s.state in
+    let behind = decision_behind s call a q answered in
+    let fits = sym (new_unrefused p s.log call new) ∙ behind.decided in
+    let event = room_made p s.log (event_of p call) behind.event fits in
+    record {
+      passes = behind.passes;
+      answer = behind.answer;
+      leaves = sym behind.leaves ∙ ap (state_after p) event;
+    }
+
+same_Ok : {o : Option Event} → ◌≡◌ {A = Result (Option Event) Refusal} (Ok None) (Ok o)
+    → o ≡ None
+same_Ok e = cc
+
+-- A repeated wait leaves the state as it was.
+pub repeated_out : (s : Session) (call : Command) (a : Answer) (q : State)
+    → is_repeated s.state call ≡ true → Answered s call a q
+    → (q ≡ s.state) × (answer_of s.state q call ≡ a)
+repeated_out s call a q repeated answered =
+    let behind = decision_behind s call a q answered in
+    let none = same_Ok (sym (repeated_unrefused s.state s.log call repeated) ∙ behind.decided) in
+    (sym behind.leaves ∙ ap (state_after s.state) none, behind.answer)

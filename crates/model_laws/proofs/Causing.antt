@@ -1,0 +1,56 @@
+-- Which kinds of scope a command cancels, and which take a cause.
+use Rattle.std.proofs.Common.{◌≡◌, ℕ, true, false, ◌||◌, List, Option, Some, None, is_none}
+use Rattle.std.proofs.Common.{IsSomeAnd, slice_get, inl, inr, refl, ap}
+use Rattle.std.specs.Option.{option_map, option_map_or}
+use Rattle.std.proofs.lemmas.Bool.{and_parts}
+use Rattle.run_model.specs.declared.scopes.Kind.{Kind}
+use Rattle.run_model.specs.declared.scopes.Kind.TheVariants as kind
+use Rattle.run_model.specs.declared.scopes.Scope.{Scope}
+use Rattle.run_model.specs.Event as event
+use Rattle.run_model.specs.State.{State}
+use Rattle.run_model.specs.Allowed.{allowed, has_kind, is_cancellable, takes_cause}
+use Rattle.model_laws.specs.Decided.{scope_kind, IsCancelledByCommand}
+
+only_cause : (k : Kind) → takes_cause k ≡ true → k ≡ kind.Cause
+only_cause kind.Root e = cc
+only_cause kind.Cancel e = cc
+only_cause kind.Cause e = refl
+only_cause (kind.Deadline moment cause) e = cc
+only_cause (kind.Value key text) e = cc
+only_cause kind.Detached e = cc
+only_cause kind.Group e = cc
+
+only_three : (k : Kind) → is_cancellable k ≡ true → IsCancelledByCommand k
+only_three kind.Root e = cc
+only_three kind.Cancel e = inl refl
+only_three kind.Cause e = inr (inl refl)
+only_three (kind.Deadline moment cause) e = inr (inr refl)
+only_three (kind.Value key text) e = cc
+only_three kind.Detached e = cc
+only_three kind.Group e = cc
+
+cause_row : (o : Option Scope) → option_map_or (λ row. takes_cause row.kind) o false ≡ true
+    → option_map (λ row. row.kind) o ≡ Some kind.Cause
+cause_row None e = cc
+cause_row (Some row) e = ap (λ (k : Kind). Some k) (only_cause row.kind e)
+
+cancelled_row : (o : Option Scope) → option_map_or (λ row. is_cancellable row.kind) o false ≡ true
+    → IsSomeAnd (option_map (λ row. row.kind) o) IsCancelledByCommand
+cancelled_row None e = cc
+cancelled_row (Some row) e = only_three row.kind e
+
+tested : (p : State) (s : ℕ) (cause : Option (List ℕ)) → allowed p (event.Cancel s cause) ≡ true
+    → (has_kind is_cancellable p.tree s ≡ true)
+    × ((is_none cause || has_kind takes_cause p.tree s) ≡ true)
+tested p s cause ok =
+    let all = and_parts _ _ ok in
+    and_parts _ _ all.0
+
+pub cause_scope : (p : State) (s : ℕ) (text : List ℕ)
+    → allowed p (event.Cancel s (Some text)) ≡ true → scope_kind p s ≡ Some kind.Cause
+cause_scope p s text ok = cause_row (slice_get p.tree.scopes s) (tested p s (Some text) ok).1
+
+pub cancelled_scope : (p : State) (s : ℕ) (cause : Option (List ℕ))
+    → allowed p (event.Cancel s cause) ≡ true → IsSomeAnd (scope_kind p s) IsCancelledByCommand
+cancelled_scope p s cause ok =
+    cancelled_row (slice_get p.tree.scopes s) (tested p s cause ok).0

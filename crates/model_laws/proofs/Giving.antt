@@ -1,0 +1,97 @@
+-- What is decided as an event that has a record is a command that can be given.
+use Rattle.std.proofs.Common.{◌≡◌, ◌<◌, ◌≤◌, ◌+◌, ◌^◌, ℕ, true, false, ◌&&◌, nat_lt, List, Some, Ok}
+use Rattle.std.proofs.Common.{refl, sym, ap, ◌∙◌, arith, leb-true, lt-ltb, lit<}
+use Rattle.std.proofs.lemmas.Bool.{and_parts, and_from}
+use Rattle.run_model.specs.declared.bounds.TheConstants.{GREATEST_MOMENT}
+use Rattle.run_model.specs.declared.commands.Command.{Command}
+use Rattle.run_model.specs.declared.commands.Command.TheVariants as command
+use Rattle.run_model.specs.declared.commands.Wish.{Wish}
+use Rattle.run_model.specs.declared.commands.Wish.TheVariants as wish
+use Rattle.run_model.specs.Event.{Event}
+use Rattle.run_model.specs.State.{State}
+use Rattle.run_model.specs.Texts.{is_name}
+use Rattle.run_model.specs.Records.{is_recorded, is_recorded_kind, is_row_number, is_moment}
+use Rattle.run_model.specs.Allowed.{is_scope_name_free, is_group_name_free}
+use Rattle.run_model.specs.Replies.{decide, refusals, event_of, kind_made, scope_of, group_of}
+use Rattle.model_laws.specs.Decided.{is_wish, is_command, AreNamed}
+use Rattle.model_laws.proofs.Passing.{Passes, decided_leads}
+use Rattle.model_laws.proofs.Names.{named_scope, named_group}
+
+-- A name that is found is the name of a row.
+found_scope_name : (p : State) (name : List ℕ) → AreNamed p
+    → is_scope_name_free p.tree name ≡ false → is_name name ≡ true
+found_scope_name p name named taken =
+    let row = named_scope p name taken in
+    ap is_name (sym row.2) ∙ named.scopes (scope_of p name) row.0 row.1
+
+found_group_name : (p : State) (name : List ℕ) → AreNamed p
+    → is_group_name_free p.work name ≡ false → is_name name ≡ true
+found_group_name p name named taken =
+    let row = named_group p name taken in
+    ap is_name (sym row.2) ∙ named.groups (group_of p name) row.0 row.1
+
+-- Seconds that lead to a moment are few.
+few_seconds : (clock seconds : ℕ) → is_moment (clock + seconds) ≡ true
+    → nat_lt seconds (2 ^ 64) ≡ true
+few_seconds clock seconds e =
+    let within : clock + seconds ≤ GREATEST_MOMENT = leb-true (clock + seconds) GREATEST_MOMENT e in
+    let short : GREATEST_MOMENT < 2 ^ 64 = lit< tt in
+    lt-ltb seconds (2 ^ 64) (below seconds clock GREATEST_MOMENT (2 ^ 64) within short)
+  where
+    below : (seconds clock most bound : ℕ) → clock + seconds ≤ most → most < bound
+        → seconds < bound
+    below seconds clock most bound a b = omega (arith, a, b)
+
+made_wish : (clock : ℕ) (w : Wish) → is_recorded_kind (kind_made clock w) ≡ true
+    → is_wish w ≡ true
+made_wish clock wish.Cancel e = refl
+made_wish clock wish.Cause e = refl
+made_wish clock (wish.Deadline moment cause) e = e
+made_wish clock (wish.Timeout seconds cause) e =
+    let parts = and_parts _ _ e in
+    and_from _ _ (few_seconds clock seconds parts.0) parts.1
+made_wish clock (wish.Value key text) e = e
+made_wish clock wish.Detached e = refl
+
+submission_given : (g : ℕ) (group job argument : List ℕ) → is_name group ≡ true
+    → (is_row_number g && is_name job && is_name argument) ≡ true
+    → (is_name group && is_name job && is_name argument) ≡ true
+submission_given g group job argument named e =
+    let all = and_parts _ _ e in
+    let front = and_parts _ _ all.0 in
+    and_from _ _ (and_from _ _ named front.1) all.1
+
+passing_given : (p : State) (call : Command) → AreNamed p → Passes (refusals p call)
+    → is_recorded (event_of p call) ≡ true → is_command call ≡ true
+passing_given p (command.Derive name parent w) named passes e =
+    let all = and_parts _ _ e in
+    let front = and_parts _ _ all.0 in
+    and_from _ _ (and_from _ _ front.0 (found_scope_name p parent named passes.0))
+    (made_wish p.tree.clock w all.1)
+passing_given p (command.Cancel scope cause) named passes e =
+    let all = and_parts _ _ e in
+    and_from _ _ (found_scope_name p scope named passes.0) all.1
+passing_given p (command.Advance moment) named passes e = e
+passing_given p (command.Group name parent) named passes e =
+    let all = and_parts _ _ e in
+    and_from _ _ all.0 (found_scope_name p parent named passes.0)
+passing_given p (command.Bare name scope) named passes e =
+    let all = and_parts _ _ e in
+    and_from _ _ all.0 (found_scope_name p scope named passes.0)
+passing_given p (command.SetLimit group limit) named passes e =
+    let all = and_parts _ _ e in
+    and_from _ _ (found_group_name p group named passes.0) all.1
+passing_given p (command.Go group job argument) named passes e =
+    submission_given (group_of p group) group job argument (found_group_name p group named passes.0)
+    e
+passing_given p (command.TryGo group job argument) named passes e =
+    submission_given (group_of p group) group job argument (found_group_name p group named passes.0)
+    e
+passing_given p (command.Retry n) named passes e = e
+passing_given p (command.Wait group) named passes e = found_group_name p group named passes.0
+
+pub decided_given : (p : State) (log : ℕ) (call : Command) (event : Event) → AreNamed p
+    → is_recorded event ≡ true → decide p log call ≡ Ok (Some event) → is_command call ≡ true
+decided_given p log call event named recorded e =
+    let leads = decided_leads p log call event e in
+    passing_given p call named leads.passes (ap is_recorded leads.asks ∙ recorded)

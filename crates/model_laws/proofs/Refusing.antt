@@ -1,0 +1,84 @@
+-- What a refused step leaves.
+use Rattle.std.proofs.Common.{◌≡◌, ◌+◌, ℕ, [], ◌∷◌, Option, Some, None, Result, Ok, Err, slice_get}
+use Rattle.std.proofs.Common.{refl, sym, ap, ◌∙◌}
+use Rattle.std.specs.Option.{option_map, option_and_then, ok_or}
+use Rattle.run_model.specs.declared.tasks.Task.{Task}
+use Rattle.run_model.specs.declared.answers.Reply.{Reply}
+use Rattle.run_model.specs.declared.answers.Reply.TheVariants as reply
+use Rattle.run_model.specs.declared.answers.Started.{Started}
+use Rattle.run_model.specs.declared.commands.Step.{Step}
+use Rattle.run_model.specs.declared.commands.Step.TheVariants as step
+use Rattle.run_model.specs.declared.refusals.Refusal.{Refusal}
+use Rattle.run_model.specs.declared.refusals.Refusal.TheVariants as refusal
+use Rattle.run_model.specs.Event.{Event}
+use Rattle.run_model.specs.State.{State}
+use Rattle.run_model.specs.Tasks.{first_ready}
+use Rattle.run_model.specs.Replies.{decide, decide_start, decide_finish, and_then, started_of}
+use Rattle.run_model.specs.Replies.{answer_of, state_after, is_task_done}
+use Rattle.run_model.specs.Session.{Session, made, event_of_step, with_event, session_after}
+use Rattle.run_model.specs.Session.{replied, reply_of_step}
+use Rattle.model_laws.proofs.Places.{row_there}
+use Rattle.model_laws.proofs.Passing.{and_then_Ok}
+use Rattle.model_laws.proofs.Searching.{first_is_least, ready_within}
+use Rattle.model_laws.proofs.StartingReplies.{ok_or_Ok}
+
+-- A decision whose answer can't be refused any more is refused itself.
+refused_decision : {X : Type 0} (r : Result (Option Event) Refusal)
+    → (f : Option Event → Result X Refusal) (answer : X → Reply) (why : Refusal)
+    → ((o : Option Event) → r ≡ Ok o → (x : X) × (f o ≡ Ok x))
+    → ((x : X) → answer x ≡ reply.Refused why → ⊥)
+    → replied answer (and_then r f) ≡ reply.Refused why → made r ≡ None
+refused_decision (Err e) f answer why answered other refused = refl
+refused_decision (Ok o) f answer why answered other refused =
+    let known = answered o refl in
+    absurd (other known.0 (sym (ap (replied answer) known.1) ∙ refused))
+
+row_started : (p : State) (n : ℕ) (row : Task) → first_ready p.work ≡ Some n
+    → slice_get p.work.tasks n ≡ Some row
+    → (x : Started)
+    × (ok_or (option_and_then (started_of p) (first_ready p.work)) refusal.NothingReady ≡ Ok x)
+row_started p n row first found = (
+  started p n row,
+  ap (λ (o : Option ℕ). ok_or (option_and_then (started_of p) o) refusal.NothingReady) first
+      ∙ ap (λ (o : Option Task). ok_or (option_map (started p n) o) refusal.NothingReady) found,
+)
+  where
+    started : State → ℕ → Task → Started
+    started p n task = record {
+      event = p.count + 1;
+      info = record { task = n; job = task.job; argument = task.argument };
+      done = is_task_done p task;
+    }
+
+start_answered : (p : State) (log : ℕ) (o : Option Event) → decide_start p log ≡ Ok o
+    → (x : Started)
+    × (ok_or (option_and_then (started_of p) (first_ready p.work)) refusal.NothingReady ≡ Ok x)
+start_answered p log o e =
+    let found = and_then_Ok (ok_or (first_ready p.work) refusal.NothingReady) _ o e in
+    let first = ok_or_Ok (first_ready p.work) refusal.NothingReady found.0 found.1 in
+    let least = first_is_least p.work found.0 first in
+    let task = row_there p.work.tasks found.0 (ready_within p.work found.0 least.ready) in
+    row_started p found.0 task.0 first task.1
+
+-- A refused step makes no event.
+refused_none : (s : Session) (x : Step) (why : Refusal)
+    → reply_of_step s x ≡ reply.Refused why → event_of_step s x ≡ None
+refused_none s (step.Command call) why refused =
+    let told = λ (o : Option Event). answer_of s.state (state_after s.state o) call in
+    refused_decision (decide s.state s.log call) (λ o. Ok (told o)) reply.Answer why
+    (λ o e. (told o, refl)) (λ x e. cc) refused
+refused_none s step.Start why refused =
+    let p : State = s.state in
+    refused_decision (decide_start p s.log) _ reply.Started why (start_answered p s.log)
+    (λ x e. cc) refused
+refused_none s (step.Finish n outcome) why refused =
+    let told : ℕ = s.state.count + 1 in
+    refused_decision (decide_finish s.state n outcome) (λ o. Ok told) reply.Finished why
+    (λ o e. (told, refl)) (λ x e. cc) refused
+refused_none s step.Flush why refused = cc
+refused_none s step.Checkpoint why refused = cc
+
+-- A refused step leaves the session as it was.
+pub refused_leaves : (s : Session) (x : Step) (why : Refusal)
+    → reply_of_step s x ≡ reply.Refused why → session_after s (x ∷ []) ≡ s
+refused_leaves s x why refused = ap (with_event s) (refused_none s x why refused)

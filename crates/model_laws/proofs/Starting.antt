@@ -1,0 +1,88 @@
+-- The state of a store that was formatted: root alone.
+use Rattle.std.proofs.Common.{◌≡◌, ◌≤◌, ℕ, [], inl, inr, refl, sym, ap, ◌∙◌, arith}
+use Rattle.std.proofs.lemmas.Bool.{both_ways}
+use Rattle.std.proofs.lemmas.Option.{none-some}
+use Rattle.run_model.specs.declared.groups.Group.{Group}
+use Rattle.run_model.specs.declared.scopes.Scope.{Scope}
+use Rattle.run_model.specs.declared.layouts.Layout.{Layout}
+use Rattle.run_model.specs.declared.layouts.Layout.TheVariants.{Small, Large}
+use Rattle.run_model.specs.Layouts.{most_scopes}
+use Rattle.run_model.specs.Rows.{root}
+use Rattle.run_model.specs.Rules.{IsConsistent, HasScope, HasGroup, is_group_kind}
+use Rattle.run_model.specs.Scopes.{is_root, own_deadline}
+use Rattle.run_model.specs.State.{formatted, new_tree, new_work}
+use Rattle.run_model.proofs.RowLemmas.{push_cases}
+use Rattle.model_laws.proofs.RightHits.{AreRight, hits_right, deadlines_right}
+
+-- The one scope is root.
+root_alone : (l : Layout) (s : ℕ) (row : Scope) → HasScope (new_tree l) s row
+    → (s ≡ 0) × (row ≡ root)
+root_alone l s row found =
+    elim (push_cases [] root s row found) [
+      | inl none ↦ absurd (none-some row none)
+      | inr last ↦ last
+    ]
+
+no_group : {X : Type 0} (l : Layout) (g : ℕ) (row : Group) → HasGroup (new_work l) g row → X
+no_group l g row found = absurd (none-some row found)
+
+root_right : (l : Layout) → AreRight 0 (new_tree l)
+root_right l s row found =
+    let is : row ≡ root = (root_alone l s row found).1 in
+    record {
+      hit = λ hit has. absurd (none-some hit (ap (λ r. r.hit) (sym is) ∙ has));
+      come =
+          λ moment due reached.
+          absurd (none-some moment (ap (λ r. own_deadline r.kind) (sym is) ∙ due));
+    }
+
+-- There is room for root.
+room_for_root : (l : Layout) → 1 ≤ most_scopes l
+room_for_root Small = omega arith
+room_for_root Large = omega arith
+
+pub formatted_consistent : (l : Layout) → IsConsistent (formatted l)
+formatted_consistent l = record {
+  numbered = record {
+    one_layout = refl;
+    few_scopes = room_for_root l;
+    few_groups = omega arith;
+    few_tasks = omega arith;
+    rooted = refl;
+    one_root = λ s row found is. (root_alone l s row found).0;
+    scope_names =
+        λ s t a b found_a found_b same.
+        (root_alone l s a found_a).0 ∙ sym (root_alone l t b found_b).0;
+    group_names = λ g h a b found_a found_b same. no_group l g a found_a;
+    ordered =
+        λ s row found other.
+        absurd
+        (both_ways (is_root row.kind) other
+        (ap (λ r. is_root r.kind) (root_alone l s row found).1));
+    scopes = λ g row found. no_group l g row found;
+    groups = λ n row found. absurd (none-some row found);
+  };
+  hits = hits_right 0 (new_tree l) (new_work l) (root_right l);
+  deadlines = deadlines_right 0 (new_tree l) (root_right l);
+  group_scopes = record {
+    owned =
+        λ s row found is.
+        absurd
+        (both_ways (is_group_kind row.kind)
+        (ap (λ r. is_group_kind r.kind) (root_alone l s row found).1) is);
+    once = λ s g h a b owns_a owns_b. no_group l g a owns_a.found;
+    own = λ g s group owns. no_group l g group owns.found;
+  };
+  admitted = record {
+    running = λ n row found is. absurd (none-some row found);
+    waited = λ g row found is. no_group l g row found;
+  };
+  errors = record {
+    exact = λ g row found. no_group l g row found;
+    ended = λ g s row owns end. no_group l g row owns.found;
+  };
+  links = record {
+    linked = λ n m row found link. absurd (none-some row found);
+    once = λ n k m a b found_a found_b link_a link_b. absurd (none-some a found_a);
+  };
+}

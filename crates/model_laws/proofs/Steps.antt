@@ -1,0 +1,87 @@
+-- What each event leaves of the tree follows from what was there.
+use Rattle.std.proofs.Common.{◌≡◌, ◌<◌, ℕ, Bool, true, false, ◌&&◌, List, [], ◌∷◌, length, Option}
+use Rattle.std.proofs.Common.{Some, None, refl, arith}
+use Rattle.std.specs.List.{fold}
+use Rattle.std.specs.Option.{option_map_or}
+use Rattle.std.proofs.lemmas.Bool.{ltb-true}
+use Rattle.run_model.specs.declared.scopes.Kind.TheVariants as kind
+use Rattle.run_model.specs.declared.scopes.Kind.{Kind}
+use Rattle.run_model.specs.Event.{Event}
+use Rattle.run_model.specs.Event as event
+use Rattle.run_model.specs.State.{State, TreeState, WorkState}
+use Rattle.run_model.specs.Tasks.{running_tasks}
+use Rattle.run_model.specs.TreeChanges.{after_cancel}
+use Rattle.run_model.specs.WorkChanges.{group_of_task, error_of, interruption}
+use Rattle.run_model.specs.Step.{own_scope, after_group_cancel, after_task_end, tree_after}
+use Rattle.run_model.specs.Allowed.{allowed, is_derivable, has_scope, is_scope_name_free}
+use Rattle.run_model.specs.Allowed.{is_group_name_free, has_scope_room, has_group_room}
+use Rattle.model_laws.proofs.Follows.{TreeFollows, tree_same, tree_joins, derive_follows}
+use Rattle.model_laws.proofs.Follows.{cancel_follows, advance_follows}
+
+-- A group that ends cancels its own scope, or nothing.
+pub group_end_follows : (e : ℕ) (w : WorkState) (g : ℕ) (cause : Option (List ℕ)) (t : TreeState)
+    → TreeFollows e t (after_group_cancel e w g cause t)
+group_end_follows e w g cause t = by_scope (own_scope w g)
+  where
+    by_scope : (own : Option ℕ)
+        → TreeFollows e t (option_map_or (λ s. after_cancel e s cause t) own t)
+    by_scope None = tree_same e t
+    by_scope (Some s) = cancel_follows e s cause t
+
+pub task_end_follows : (e : ℕ) (w : WorkState) (n : ℕ) (error : Option (List ℕ)) (t : TreeState)
+    → TreeFollows e t (after_task_end e w n error t)
+task_end_follows e w n None t = tree_same e t
+task_end_follows e w n (Some text) t = group_end_follows e w (group_of_task w n) (Some text) t
+
+pub task_ends_follow : (e : ℕ) (w : WorkState) (error : Option (List ℕ)) (tasks : List ℕ)
+    (t : TreeState) → TreeFollows e t (fold (λ u n. after_task_end e w n error u) t tasks)
+task_ends_follow e w error [] t = tree_same e t
+task_ends_follow e w error (n ∷ tasks) t =
+    tree_joins e t (after_task_end e w n error t) _ (task_end_follows e w n error t)
+    (task_ends_follow e w error tasks (after_task_end e w n error t))
+
+first_of_five : (a b c d e : Bool) → (a && b && c && d && e) ≡ true → a ≡ true
+first_of_five true b c d e all = refl
+first_of_five false b c d e all = all
+
+second_of_four : (a b c d : Bool) → (a && b && c && d) ≡ true → b ≡ true
+second_of_four a true c d all = refl
+second_of_four true false c d all = all
+second_of_four false false c d all = all
+
+-- The parent that a derive or a group names is there.
+derive_known : (p : State) (name : List ℕ) (parent : ℕ) (kind : Kind)
+    → allowed p (event.Derive name parent kind) ≡ true → parent < length p.tree.scopes
+derive_known p name parent kind may =
+    ltb-true parent (length p.tree.scopes)
+    (second_of_four (is_derivable kind) (has_scope p.tree parent) (is_scope_name_free p.tree name)
+    (has_scope_room p.tree) may)
+
+group_known : (p : State) (name : List ℕ) (parent : ℕ) → allowed p (event.Group name parent) ≡ true
+    → parent < length p.tree.scopes
+group_known p name parent may =
+    ltb-true parent (length p.tree.scopes)
+    (first_of_five (has_scope p.tree parent) (is_scope_name_free p.tree name)
+    (is_group_name_free p.work name) (has_scope_room p.tree) (has_group_room p.work) may)
+
+pub event_follows : (e : ℕ) (p : State) (event : Event) → allowed p event ≡ true
+    → TreeFollows e p.tree (tree_after e p event)
+event_follows e p (event.Derive name parent kind) may =
+    derive_follows e name parent kind p.tree (derive_known p name parent kind may)
+event_follows e p (event.Cancel s cause) may = cancel_follows e s cause p.tree
+event_follows e p (event.Advance moment) may =
+    let less = ltb-true p.tree.clock moment may in
+    advance_follows e moment p.tree (omega arith)
+event_follows e p (event.Group name parent) may =
+    derive_follows e name parent kind.Group p.tree (group_known p name parent may)
+event_follows e p (event.Bare name s) may = tree_same e p.tree
+event_follows e p (event.SetLimit g limit) may = tree_same e p.tree
+event_follows e p (event.Go g job argument) may = tree_same e p.tree
+event_follows e p (event.TryGo g job argument) may = tree_same e p.tree
+event_follows e p (event.Retry n) may = tree_same e p.tree
+event_follows e p (event.Start n) may = tree_same e p.tree
+event_follows e p (event.Finish n outcome) may =
+    task_end_follows e p.work n (error_of outcome) p.tree
+event_follows e p (event.Wait g) may = group_end_follows e p.work g None p.tree
+event_follows e p event.Restart may =
+    task_ends_follow e p.work (Some interruption) (running_tasks p.work) p.tree

@@ -1,0 +1,11 @@
+pub mod Endings
+pub mod Hits
+pub mod Runs
+pub mod Searches
+pub mod GroupEnds
+pub mod Restarts
+pub mod Retries
+pub mod Answers
+pub mod Decided
+pub mod Queues
+pub mod Reserves

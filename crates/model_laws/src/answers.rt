@@ -1,0 +1,63 @@
+//! What is answered is what the questions then say.
+
+ghost use Rattle.std.specs.Prelude.{◌≡◌, ℕ, List, Option, None, Some, IsSomeAnd};
+ghost use Rattle.run_model.specs.declared.answers.Answer.TheVariants as answer;
+ghost use Rattle.run_model.specs.declared.answers.Reply.TheVariants as reply;
+ghost use Rattle.run_model.specs.declared.answers.Started.{Started};
+ghost use Rattle.run_model.specs.declared.commands.Command.TheVariants as command;
+ghost use Rattle.run_model.specs.declared.commands.Step.TheVariants as step;
+ghost use Rattle.run_model.specs.declared.commands.Wish.{Wish};
+ghost use Rattle.run_model.specs.declared.tasks.Phase.{Phase};
+ghost use Rattle.run_model.specs.declared.tasks.Phase.TheVariants.{Ready};
+ghost use Rattle.run_model.specs.Questions.{task_look_of};
+ghost use Rattle.run_model.specs.Replies.{scope_of, group_of};
+ghost use Rattle.run_model.specs.declared.tasks.Task.{Task};
+ghost use Rattle.run_model.specs.Rules.{HasTask};
+ghost use Rattle.run_model.specs.State.{State};
+ghost use Rattle.run_model.specs.Session.{Session};
+ghost use Rattle.model_laws.specs.Answers.{Answered, Replied, SeesGroup, SeesStart, SeesWait};
+ghost use Rattle.model_laws.specs.Answers.{seen_name, task_seen};
+
+/// What was made is found at the numbers that were answered, under the name that was given. A
+/// group's own scope has the group's name; a bare group has none, and lives in the scope that was
+/// given.
+pub fn what_is_made_is_seen()
+    ensures scope { (s : Session) (name parent : List ℕ) (wish : Wish) (n : ℕ) (q : State)
+        → Answered s (command.Derive name parent wish) (answer.Scope n) q
+        → seen_name q n ≡ Some name }
+    ensures group { (s : Session) (name parent : List ℕ) (g : ℕ) (own : Option ℕ) (q : State)
+        → Answered s (command.Group name parent) (answer.Group g own) q
+        → IsSomeAnd own (λ n. SeesGroup q g name n × (seen_name q n ≡ Some name)) }
+    ensures bare { (s : Session) (name scope : List ℕ) (g : ℕ) (own : Option ℕ) (q : State)
+        → Answered s (command.Bare name scope) (answer.Group g own) q
+        → (own ≡ None) × SeesGroup q g name (scope_of s.state scope) }
+{}
+
+/// A submitted task is found at the number that was answered, in the phase that was answered; one
+/// that was tried is ready. A retry is one of the same group, job and argument, and says of which
+/// task it is.
+pub fn what_is_submitted_is_seen()
+    ensures go { (s : Session) (group job argument : List ℕ) (n : ℕ) (told : Phase) (q : State)
+        → Answered s (command.Go group job argument) (answer.Task n told) q
+        → task_look_of q n ≡ Some (task_seen (group_of s.state group) job argument told None) }
+    ensures tried { (s : Session) (group job argument : List ℕ) (n : ℕ) (told : Phase) (q : State)
+        → Answered s (command.TryGo group job argument) (answer.Task n told) q
+        → (told ≡ Ready)
+        × (task_look_of q n ≡ Some (task_seen (group_of s.state group) job argument told None)) }
+    ensures retried { (s : Session) (n m : ℕ) (row : Task) (told : Phase) (q : State)
+        → HasTask s.state.work n row → Answered s (command.Retry n) (answer.Task m told) q
+        → task_look_of q m ≡ Some (task_seen row.group row.job row.argument told (Some n)) }
+{}
+
+/// A group that was waited for is seen so, with the error that was answered.
+pub fn what_is_waited_for_is_seen()
+    ensures { (s : Session) (group : List ℕ) (error : Option (List ℕ)) (q : State)
+        → Answered s (command.Wait group) (answer.Waited error) q
+        → SeesWait q (group_of s.state group) error }
+{}
+
+/// A task that was started is seen running.
+pub fn what_is_started_is_seen()
+    ensures { (s : Session) (started : Started) (q : State)
+        → Replied s step.Start (reply.Started started) q → SeesStart q started }
+{}

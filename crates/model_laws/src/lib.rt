@@ -1,0 +1,32 @@
+//! Laws of the plain state: what every state keeps, what every event leaves, and what a call is
+//! answered.
+//!
+//! Each function has an empty body, and its clauses are the law. They speak of the definitions of
+//! `run_model` alone, which every promise of the layers above is made in, and of every state that
+//! they don't restrict, whether or not a history leads to it.
+//!
+//! - Scopes and runs: what holds in every well formed state (parents have lesser numbers, and hits
+//!   are of the past), and through every event.
+//! - States: what every event keeps of groups, tasks and retries, and what a restart changes.
+//! - Replies: what is decided is what is allowed, what is refused changes nothing, and the log
+//!   always has room for the finishes.
+#![tactic(auto)]
+
+// Scopes and runs.
+pub mod endings;
+pub mod hits;
+pub mod runs;
+pub mod searches;
+
+// States.
+pub mod group_ends;
+pub mod layouts;
+pub mod restarts;
+pub mod retries;
+pub mod rules;
+
+// Replies.
+pub mod answers;
+pub mod decisions;
+pub mod queues;
+pub mod sessions;

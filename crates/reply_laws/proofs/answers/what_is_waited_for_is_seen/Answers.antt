@@ -1,5 +1,0 @@
-use Rattle.reply_laws.proofs.Waiting.{waited_seen}
-use Rattle.reply_laws.proofs.answers.what_is_waited_for_is_seen.Goals as goal
-
-pub returns : goal.returns
-returns c = waited_seen

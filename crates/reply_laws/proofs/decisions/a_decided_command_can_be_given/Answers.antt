@@ -1,5 +1,0 @@
-use Rattle.reply_laws.proofs.Giving.{decided_given}
-use Rattle.reply_laws.proofs.decisions.a_decided_command_can_be_given.Goals as goal
-
-pub returns : goal.returns
-returns c = decided_given

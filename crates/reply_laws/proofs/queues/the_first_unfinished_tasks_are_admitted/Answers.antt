@@ -1,8 +1,0 @@
-use Rattle.reply_laws.proofs.Queueing.{first_admitted, all_admitted}
-use Rattle.reply_laws.proofs.queues.the_first_unfinished_tasks_are_admitted.Goals as goal
-
-pub returns-clause-limited : goal.returns-clause-limited
-returns-clause-limited c = first_admitted
-
-pub returns-clause-unlimited : goal.returns-clause-unlimited
-returns-clause-unlimited c = all_admitted

@@ -1,5 +1,0 @@
-use Rattle.reply_laws.proofs.Refusing.{refused_leaves}
-use Rattle.reply_laws.proofs.sessions.what_is_refused_changes_nothing.Goals as goal
-
-pub returns-clause-refused : goal.returns-clause-refused
-returns-clause-refused c = refused_leaves

@@ -1,4 +1,0 @@
-pub mod Answers
-pub mod Decided
-pub mod Queues
-pub mod Reserves

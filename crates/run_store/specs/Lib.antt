@@ -1,2 +1,0 @@
-pub mod Recoveries
-pub mod Stores

@@ -1,5 +1,0 @@
-use Rattle.scope_laws.proofs.Reaches.{cut_exactly}
-use Rattle.scope_laws.proofs.hits.a_detached_scope_cuts_chains.Goals as goal
-
-pub returns : goal.returns
-returns c = cut_exactly

@@ -1,5 +1,0 @@
-use Rattle.scope_laws.proofs.Reaches.{done_exactly}
-use Rattle.scope_laws.proofs.hits.a_scope_is_done_by_a_hit_on_its_chain.Goals as goal
-
-pub returns : goal.returns
-returns c = done_exactly

@@ -1,5 +1,0 @@
-use Rattle.scope_laws.proofs.RunLemmas.{run_join}
-use Rattle.scope_laws.proofs.runs.runs_join.Goals as goal
-
-pub returns : goal.returns
-returns c = run_join

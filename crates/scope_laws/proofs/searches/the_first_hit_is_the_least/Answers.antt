@@ -1,5 +1,0 @@
-use Rattle.scope_laws.proofs.Least.{first_hit_least}
-use Rattle.scope_laws.proofs.searches.the_first_hit_is_the_least.Goals as goal
-
-pub returns : goal.returns
-returns c = first_hit_least

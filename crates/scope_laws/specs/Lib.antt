@@ -1,4 +1,0 @@
-pub mod Endings
-pub mod Hits
-pub mod Runs
-pub mod Searches
