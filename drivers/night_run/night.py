@@ -39,12 +39,16 @@ class SessionFull(Exception):
 
 
 def program():
-    """The program: what NIGHT names, the one of this repository, or the one on the path."""
+    """The program: what NIGHT names, the one on the path, or the one of this repository."""
+    named = os.environ.get("NIGHT")
+    if named and not shutil.which(named):
+        raise Fault(f"NIGHT names no program: {named}")
     here = os.path.dirname(os.path.dirname(os.path.dirname(os.path.realpath(__file__))))
-    for it in (os.environ.get("NIGHT"), shutil.which("night"), f"{here}/crates/night/out/night"):
+    for it in (named, shutil.which("night"), f"{here}/crates/night/out/night"):
         if it and shutil.which(it):
             return it
-    raise Fault("no program `night`: put it on the path, or name it by NIGHT")
+    raise Fault("no program `night`: `rt run` in crates/night makes it; put it on the path, or name"
+                " it by NIGHT")
 
 
 def printed(*words):

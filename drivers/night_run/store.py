@@ -17,13 +17,16 @@ import fcntl
 import json
 import os
 import re
+import stat
 from typing import NamedTuple
 
-from . import Fault, base_of
+from . import Fault, Mistake, base_of
 from .night import printed
 from .past import read_past, sync_folder
 
 JOB = "sh"
+# Those of a small and of a large store.
+SIZES = 1_572_864, 6_291_456
 
 
 class Task(NamedTuple):
@@ -126,6 +129,16 @@ class Store:
     def exists(self):
         return os.path.exists(self.path)
 
+    def look(self):
+        """A file that can be no store is a mistake of the words, and nothing is made beside it."""
+        if not self.exists():
+            return
+        found = os.stat(self.path)
+        if not stat.S_ISREG(found.st_mode):
+            raise Mistake(f"{self.path}: it is no regular file, and so no store")
+        if found.st_size not in SIZES:
+            raise Mistake(f"{self.path}: it has {found.st_size} bytes, and so is no store")
+
     def check(self):
         """Nothing but this driver's tasks may lie in the store: it would start them, too."""
         state = self.state()
@@ -133,7 +146,8 @@ class Store:
             raise Fault(f"{self.path}.ended is of another store: put it aside")
         for it in state.tasks:
             if it.job != JOB:
-                raise Fault(f"{self.path} has a task of another kind: {it.number}, {it.job}")
+                raise Fault(f"{self.path} has a task of another kind: {it.number}, {it.job}; a"
+                            " night-run has a store of its own")
 
     def state(self):
         return State(printed("inspect", self.path), read_past(self.path)[1])

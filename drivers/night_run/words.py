@@ -6,6 +6,8 @@ the file have to be changed, 3 behind a fault.
 
 import argparse
 import collections
+import errno
+import os
 import re
 import sys
 
@@ -15,7 +17,7 @@ from .driver import Driver
 from .jobs import Jobs
 from .leftovers import wait_for_commands
 from .log import Log
-from .night import NightEnded
+from .night import NightEnded, program
 from .renewal import renew_if_nearly_full
 from .store import Store
 
@@ -67,6 +69,7 @@ def main():
     try:
         words = read_words()
         store = Store(words.store)
+        store.look()
         if words.cancel:
             return cancel(store, *words.cancel)
         jobs = Jobs(words.jobs)
@@ -84,6 +87,8 @@ def main():
 
 
 def run(store, jobs, words):
+    program()
+    jobs.tell_unused()
     if not store.lock():
         raise Fault(f"{store.path}: in use by another night-run")
     held = wait_for_commands(store, words.grace)
@@ -98,6 +103,8 @@ def run(store, jobs, words):
 
 
 def cancel(store, group, *why):
+    if not store.exists():
+        raise Mistake(f"{store.path}: {os.strerror(errno.ENOENT)}")
     why = " ".join(why) or "canceled by hand"
     if text_of(why) != why:
         raise Mistake("WHY is 1 to 64 bytes of printable ASCII")
