@@ -8,6 +8,7 @@ import re
 import time
 
 from . import Fault, Mistake
+from .jobs import OF_ALL
 from .night import ALREADY_DONE, CLOCK_NOT_FORWARD, Night
 from .store import cause_of
 
@@ -42,7 +43,7 @@ def obey(path, night):
 def cancel(store, group, why, is_ours):
     """Cancels a group, by the driver where one runs; how its scope then is."""
     state = store.state()
-    scope = state.round_of(group) or group
+    scope = state.top() if group == OF_ALL else state.round_of(group) or group
     if scope not in state.scopes or group == "root":
         raise Mistake(f"{store.path} has no group {group}")
     if is_ours:

@@ -9,16 +9,21 @@ from .store import JOB, cause_of
 
 
 def make_groups(night, jobs, state, runs_failed):
-    """Makes the scopes and groups that aren't there, and sets the limits that are other ones."""
-    make_scope(night, jobs, state, OF_ALL, "root", OF_ALL)
+    """Makes the scopes and groups that aren't there, and sets the limits that are other ones. A
+    group that is made as all groups together are done lies in the next round of these."""
+    groups = {base: group_of(state, base, runs_failed) for base in jobs.groups()}
     asked = {base for base, _ in wanted(jobs, state, runs_failed)}
-    for base in jobs.groups():
-        group = group_of(state, base, runs_failed)
-        if group not in state.limits:
-            if base not in asked:
-                continue
-            make_scope(night, jobs, state, group, OF_ALL, base)
+    new = [it for it, group in groups.items() if group not in state.limits and it in asked]
+    top = state.top()
+    if new and cause_of(state.scopes.get(top, "")) is not None:
+        top = state.next_top()
+    make_scope(night, jobs, state, top, "root", OF_ALL)
+    for base, group in groups.items():
+        if base in new:
+            make_scope(night, jobs, state, group, top, base)
             night.ask(f"bare {group} {group}")
+        elif group not in state.limits:
+            continue
         limit = jobs.settings[base].limit
         if state.limits.get(group) != limit:
             reply = night.ask(f"limit {group} {limit or 'none'}", may=[LIMIT_WHILE_ACTIVE])[0]

@@ -21,10 +21,12 @@ import stat
 from typing import NamedTuple
 
 from . import Fault, Mistake, base_of
+from .jobs import OF_ALL
 from .night import printed
 from .past import read_past, sync_folder
 
 JOB = "sh"
+TOP = re.compile(rf"{OF_ALL}(--\d+)?")
 # Those of a small and of a large store.
 SIZES = 1_572_864, 6_291_456
 
@@ -104,6 +106,13 @@ class State:
         rounds = [*self.limits, *(it.group for it in self.past.values())]
         numbers = [int(it.partition("--")[2] or 1) for it in rounds if base_of(it) == base]
         return f"{base}--{max(numbers) + 1}" if numbers else base
+
+    def top(self):
+        """The scope of all groups together: the last round of it."""
+        return [OF_ALL, *(it for it in self.scopes if TOP.fullmatch(it))][-1]
+
+    def next_top(self):
+        return f"{OF_ALL}--{int(self.top().partition('--')[2] or 1) + 1}"
 
     def finished(self):
         """The groups in which nothing is left to do, those that were waited for among them."""
