@@ -3,7 +3,7 @@
 ghost use Rattle.std.specs.Prelude.{Some};
 ghost use Rattle.console_lines.specs.Faults.{stop_text};
 
-use crate::replies::ShownTrouble;
+use crate::shown::ShownTrouble;
 use run_model::Trouble;
 use std::fmt;
 use thiserror::Error;

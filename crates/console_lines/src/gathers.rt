@@ -11,9 +11,9 @@ ghost use Rattle.console_lines.specs.Gathers.{Gathers, ended_text, failed_text, 
 ghost use Rattle.console_lines.specs.Gathers.{waited_text};
 ghost use Rattle.console_lines.specs.Replies.{answer_text, counts_text, deadline_text, ending_text};
 ghost use Rattle.console_lines.specs.Replies.{error_text, fault_text, group_text, limit_text};
-ghost use Rattle.console_lines.specs.Replies.{phase_text, refusal_text, reply_line, scope_text};
-ghost use Rattle.console_lines.specs.Replies.{started_text, tally_text, task_text, trouble_text};
-ghost use Rattle.console_lines.specs.Replies.{yes_or_no};
+ghost use Rattle.console_lines.specs.Replies.{phase_text, refusal_text, reply_line, reply_text};
+ghost use Rattle.console_lines.specs.Replies.{scope_text, started_text, tally_text, task_text};
+ghost use Rattle.console_lines.specs.Replies.{trouble_text, yes_or_no};
 
 use crate::replies::Reply;
 use crate::tallies::{Counts, Tally};
@@ -34,27 +34,35 @@ impl Reply {
         requires { array_vec_len out.old + LONGEST_REPLY ≤ N }
         ensures { Gathers out.old.items out.new.items (reply_line self.now) LONGEST_REPLY }
     {
-        match self {
-            Reply::BadLine => push(out, b"bad line"),
-            Reply::Refused(refusal) => push_refusal(out, *refusal),
-            Reply::Answered(answer) => push_answer(out, answer),
-            Reply::Started(started) => push_start(out, &started.info),
-            Reply::Finished(_) => push(out, b"ok"),
-            Reply::Scope(look) => push_look(out, look),
-            Reply::Value(text) => {
-                push(out, b"value ");
-                push_text(out, text);
-            }
-            Reply::Task(task, phase) => push_task(out, *task, phase),
-            Reply::Group(look) => push_group(out, look),
-            Reply::Tally(tally) => push_tally(out, tally),
-            Reply::Acked(count) => {
-                push(out, b"acked ");
-                push_number(out, *count);
-            }
-            Reply::Failed(trouble) => push_trouble(out, *trouble),
-        }
+        push_reply(out, self);
         push(out, b"\n");
+    }
+}
+
+/// A reply without its LF.
+fn push_reply<const N: usize>(out: &mut ArrayVec<u8, N>, reply: &Reply)
+    requires { array_vec_len out.old + 130 ≤ N }
+    ensures { Gathers out.old.items out.new.items (reply_text reply.now) 130 }
+{
+    match reply {
+        Reply::BadLine => push(out, b"bad line"),
+        Reply::Refused(refusal) => push_refusal(out, *refusal),
+        Reply::Answered(answer) => push_answer(out, answer),
+        Reply::Started(started) => push_start(out, &started.info),
+        Reply::Finished(_) => push(out, b"ok"),
+        Reply::Scope(look) => push_look(out, look),
+        Reply::Value(text) => {
+            push(out, b"value ");
+            push_text(out, text);
+        }
+        Reply::Task(task, phase) => push_task(out, *task, phase),
+        Reply::Group(look) => push_group(out, look),
+        Reply::Tally(tally) => push_tally(out, tally),
+        Reply::Acked(count) => {
+            push(out, b"acked ");
+            push_number(out, *count);
+        }
+        Reply::Failed(trouble) => push_trouble(out, *trouble),
     }
 }
 
@@ -342,7 +350,7 @@ fn push_error<const N: usize>(out: &mut ArrayVec<u8, N>, error: &Option<Text>)
 }
 
 /// What is counted of the tasks of one job.
-fn push_tally<const N: usize>(out: &mut ArrayVec<u8, N>, tally: &Tally)
+pub(crate) fn push_tally<const N: usize>(out: &mut ArrayVec<u8, N>, tally: &Tally)
     requires { array_vec_len out.old + 110 ≤ N }
     ensures { Gathers out.old.items out.new.items (tally_text tally.now) 110 }
 {

@@ -1,7 +1,7 @@
 //! The lines of the console: what each asks for, and what its reply and a state's rows print.
 //!
-//! [`read_line`] reads a line, and says what it asks for: an [`Asked`]. A [`Reply`] is printed by
-//! `{reply}`, and a [`Row`] of a state is gathered as its line.
+//! [`read_line`] reads a line, and says what it asks for: an [`Asked`]. A [`Reply`] is gathered as
+//! its line, and so is a [`Row`] of a state.
 //! `specs/Script.antt` says what is replied to a whole input, and `specs/Strict.antt` which of its
 //! lines a strict run runs.
 #![tactic(auto)]
@@ -21,6 +21,7 @@ mod listings;
 pub mod nights;
 mod replies;
 mod rows;
+mod shown;
 mod strays;
 pub mod strict_nights;
 mod tallies;
@@ -36,8 +37,9 @@ pub use entries::{Entry, LONGEST_ENTRY};
 pub use faults::{RunFault, ShownFault};
 pub use gathers::LONGEST_REPLY;
 pub use lines::{LONGEST_INPUT, LONGEST_LINE, read_line};
-pub use replies::{Reply, ShownName, ShownTrouble};
+pub use replies::Reply;
 pub use rows::{LONGEST_ROW, Row};
+pub use shown::ShownName;
 pub use strays::{Stray, StrayLine};
 pub use tallies::{Counts, Tally};
 pub use trees::{

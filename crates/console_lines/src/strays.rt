@@ -4,6 +4,7 @@ ghost use Rattle.std.specs.Prelude.{◌≡◌, Some};
 ghost use Rattle.console_lines.specs.Strict.{stray_of, stray_text};
 
 use crate::replies::Reply;
+use crate::shown::ShownRefusal;
 use run_model::Refusal;
 use std::fmt;
 
@@ -43,10 +44,10 @@ impl fmt::Display for StrayLine {
     ghost output = { λ line. Some (stray_text line) };
 
     fn fmt<W: fmt::Write>(&self, f: &mut fmt::Formatter<W>) -> fmt::Result {
-        let reply = match self.why {
-            Stray::BadLine => Reply::BadLine,
-            Stray::Refused(refusal) => Reply::Refused(refusal),
-        };
-        write!(f, "line {}: {reply}", self.number)
+        let number = self.number;
+        match self.why {
+            Stray::BadLine => write!(f, "line {number}: bad line"),
+            Stray::Refused(refusal) => write!(f, "line {number}: {}", ShownRefusal(refusal)),
+        }
     }
 }

@@ -1,9 +1,18 @@
 //! A [`Tally`] says of one job how many tasks it has, and how they ended.
 
+ghost use Rattle.std.specs.Prelude.{◌≡◌, IfOk};
+ghost use Rattle.std.specs.String.{string_bytes};
+ghost use Rattle.console_lines.specs.Replies.{reply_line};
+ghost use Rattle.console_lines.specs.declared.replies.Reply.TheVariants as said;
+
+use crate::gathers::{LONGEST_REPLY, push, push_tally};
+use arrayvec::ArrayVec;
 use run_model::Name;
+use std::alloc::{AllocError, Allocator};
+use std::str;
 
 /// What is counted of the tasks of one job.
-#[derive(Debug, Drop, PartialEq, Eq)]
+#[derive(Drop)]
 pub struct Tally {
     /// The job.
     pub job: Name,
@@ -11,9 +20,30 @@ pub struct Tally {
     pub counts: Counts,
 }
 
+impl Tally {
+    /// The line that replies with this tally, with its LF. It fails only for want of memory.
+    pub fn to_line<A: Allocator>(&self, alloc: A) -> Result<String<A>, AllocError>
+        ensures { IfOk result (λ line. string_bytes line ≡ reply_line (said.Tally self.now)) }
+    {
+        // a name, and counts of two bytes each, are written in ASCII
+        let _name = self.job.as_bytes();
+        let _total = self.counts.total;
+        let _success = self.counts.success;
+        let _failure = self.counts.failure;
+        let _interrupted = self.counts.interrupted;
+        let mut line = ArrayVec::<u8, LONGEST_REPLY>::new();
+        push_tally(&mut line, self);
+        push(&mut line, b"\n");
+        match str::from_utf8(line.as_slice()) {
+            Ok(line) => String::from_str(alloc, line),
+            Err(_) => unreachable!(),
+        }
+    }
+}
+
 /// How many tasks there are, and how many of them have ended in each way. The others are held,
 /// ready or running.
-#[derive(Clone, Copy, Debug, PartialEq, Eq)]
+#[derive(Clone, Copy)]
 pub struct Counts {
     /// All of them.
     pub total: u16,

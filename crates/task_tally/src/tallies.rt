@@ -12,7 +12,7 @@ ghost use Rattle.task_tally.specs.Counted.{MOST, counted_at, no_tasks, one_more}
 ghost use Rattle.task_tally.specs.Counted.{with_tally};
 
 use crate::jobs::Job;
-use console_lines::{Counts, Reply, Tally};
+use console_lines::{Counts, Tally};
 use indexmap::IndexMap;
 use run_model::{Name, Phase};
 use std::alloc::{AllocError, Allocator};
@@ -75,7 +75,7 @@ impl<A: Allocator + Copy> Tallies<A> {
     {
         let mut lines = String::new(alloc);
         for i in 0..self.len() {
-            let line = Reply::Tally(self.tally(i)).to_line(alloc)?;
+            let line = self.tally(i).to_line(alloc)?;
             lines.push_str(line.as_str())?;
         }
         Ok(lines)

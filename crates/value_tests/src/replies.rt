@@ -1,4 +1,5 @@
-//! Tests of what replies print; the texts stand in `docs/formats/console.md`.
+//! Tests of what replies are gathered as, and of what faults print. The texts stand in
+//! `docs/formats/console.md`.
 
 use crate::asserts::{done, holds};
 use crate::values::{moment, name, text};
@@ -10,32 +11,11 @@ use run_model::{
 use std::alloc::{AllocError, Global};
 use std::process::Abort;
 
-/// Says whether this is what a reply prints.
-fn is_printed(alloc: Global, reply: &Reply, wanted: &str) -> Result<bool, AllocError> {
-    let printed = format!(in alloc; "{reply}")?;
-    Ok(printed.as_str() == wanted)
-}
-
 /// Says whether a reply is gathered as this text and an LF.
 fn is_gathered(reply: &Reply, wanted: &str) -> bool {
     let mut gathered = ArrayVec::<u8, LONGEST_REPLY>::new();
-    if gathered.remaining_capacity() < LONGEST_REPLY {
-        return false;
-    }
     reply.gather(&mut gathered);
     gathered.as_slice().split_last() == Some((&b'\n', wanted.as_bytes()))
-}
-
-/// Asserts that this is what a reply prints, and with an LF behind it what is gathered.
-fn assert_prints(rt: &impl Abort, alloc: Global, reply: &Reply, wanted: &str, row: usize) {
-    let is_so = done(rt, is_printed(alloc, reply, wanted), "memory");
-    holds(rt, is_so, "what is printed of row", row);
-    holds(
-        rt,
-        is_gathered(reply, wanted),
-        "what is gathered of row",
-        row,
-    );
 }
 
 /// How far a task is.
@@ -62,17 +42,14 @@ enum Told {
     Value(&'static [u8]),
     Task(u16, Going),
     Failed(Trouble),
-}
-
-fn phase_of(rt: &impl Abort, going: &Going) -> Phase {
-    match going {
-        Going::Held => Phase::Held,
-        Going::Ready => Phase::Ready,
-        Going::Running => Phase::Running,
-        Going::Success => Phase::Success,
-        Going::Failure(error) => Phase::Failure(text(rt, error)),
-        Going::Interrupted => Phase::Interrupted,
-    }
+    /// The start of a task.
+    Start,
+    /// The tally of a job.
+    Tally,
+    /// A scope's end and the cause, and its deadline.
+    Look(Option<(Reason, &'static [u8])>, Option<u64>),
+    /// A group's unfinished tasks, its limit, whether it was waited for, and its first error.
+    Result(u16, Option<u8>, bool, Option<&'static [u8]>),
 }
 
 fn reply_of(rt: &impl Abort, told: &Told) -> Reply {
@@ -83,8 +60,19 @@ fn reply_of(rt: &impl Abort, told: &Told) -> Reply {
         Told::Value(value) => Reply::Value(text(rt, value)),
         Told::Task(task, going) => Reply::Task(*task, phase_of(rt, going)),
         Told::Failed(trouble) => Reply::Failed(*trouble),
+        Told::Start => Reply::Started(start(rt)),
+        Told::Tally => Reply::Tally(tally(rt)),
+        Told::Look(end, deadline) => Reply::Scope(look(rt, end, *deadline)),
+        Told::Result(unfinished, limit, waited, error) => {
+            Reply::Group(group(rt, *unfinished, *limit, *waited, *error))
+        }
         _ => Reply::Answered(answer_of(rt, told)),
     }
+}
+
+/// Says whether the reply of a row is gathered as this text and an LF.
+fn is_told(rt: &impl Abort, told: &Told, wanted: &str) -> bool {
+    is_gathered(&reply_of(rt, told), wanted)
 }
 
 fn answer_of(rt: &impl Abort, told: &Told) -> Answer {
@@ -98,7 +86,91 @@ fn answer_of(rt: &impl Abort, told: &Told) -> Answer {
     }
 }
 
-static REPLIES: [(Told, &str); 23] = [
+fn phase_of(rt: &impl Abort, going: &Going) -> Phase {
+    match going {
+        Going::Held => Phase::Held,
+        Going::Ready => Phase::Ready,
+        Going::Running => Phase::Running,
+        Going::Success => Phase::Success,
+        Going::Failure(error) => Phase::Failure(text(rt, error)),
+        Going::Interrupted => Phase::Interrupted,
+    }
+}
+
+/// The start of a task.
+fn start(rt: &impl Abort) -> Started {
+    Started {
+        event: 5,
+        info: TaskInfo {
+            task: 8_191,
+            job: name(rt, b"copy"),
+            argument: name(rt, b"a-1_b"),
+        },
+        done: true,
+    }
+}
+
+/// The tally of a job.
+fn tally(rt: &impl Abort) -> Tally {
+    Tally {
+        job: name(rt, b"spin"),
+        counts: Counts {
+            total: 8_192,
+            success: 30,
+            failure: 200,
+            interrupted: 1_000,
+        },
+    }
+}
+
+/// How the scope `root` is.
+fn look(rt: &impl Abort, end: &Option<(Reason, &'static [u8])>, deadline: Option<u64>) -> Look {
+    Look {
+        name: name(rt, b"root"),
+        done: match end {
+            Some((reason, cause)) => Some((*reason, text(rt, cause))),
+            None => None,
+        },
+        deadline: match deadline {
+            Some(seconds) => Some(moment(rt, seconds)),
+            None => None,
+        },
+    }
+}
+
+/// How the group `g` is.
+fn group(
+    rt: &impl Abort,
+    unfinished: u16,
+    most: Option<u8>,
+    waited: bool,
+    error: Option<&'static [u8]>,
+) -> GroupLook {
+    GroupLook {
+        name: name(rt, b"g"),
+        scope: 1,
+        unfinished,
+        limit: limit(rt, most),
+        waited,
+        error: match error {
+            Some(error) => Some(text(rt, error)),
+            None => None,
+        },
+    }
+}
+
+fn limit(rt: &impl Abort, most: Option<u8>) -> Limit {
+    match most {
+        Some(most) => Limit::new(most).expect(rt, "a limit"),
+        None => Limit::none(),
+    }
+}
+
+/// No reply is longer.
+const LONGEST: &str = "done; deadline 253000000000; err context deadline exceeded; \
+    cause ~~~~~~~~~~~~~~~~~~~~~~~~~~~~~~~~~~~~~~~~~~~~~~~~~~~~~~~~~~~~~~~~";
+
+static REPLIES: [(Told, &str); 33] = [
     (Told::BadLine, "bad line"),
     (Told::Value(b"eu west"), "value eu west"),
     (Told::Acked(1), "acked 1"),
@@ -137,164 +209,52 @@ static REPLIES: [(Told, &str); 23] = [
         Told::Failed(Trouble::Refused(Refusal::Broken)),
         "refused 22 Broken",
     ),
-];
-
-#[test]
-fn replies_print_their_texts(rt: HostRuntime) {
-    for (n, row) in REPLIES.iter().enumerate() {
-        let reply = reply_of(&rt, &row.0);
-        assert_prints(&rt, rt.alloc(), &reply, row.1, n);
-    }
-}
-
-/// How the scope `root` is: its end and the cause, and its deadline.
-type ScopeRow = (Option<(Reason, &'static [u8])>, Option<u64>, &'static str);
-
-static SCOPES: [ScopeRow; 4] = [
-    (None, None, "live; deadline none"),
+    (Told::Acked(4), "acked 4"),
+    (Told::Start, "start 8191 copy a-1_b"),
     (
-        Some((Reason::Canceled, b"disk")),
-        None,
+        Told::Tally,
+        "tally spin total 8192; success 30; failure 200; interrupted 1000",
+    ),
+    (Told::Look(None, None), "live; deadline none"),
+    (
+        Told::Look(Some((Reason::Canceled, b"disk")), None),
         "done; deadline none; err context canceled; cause disk",
     ),
     (
-        Some((Reason::DeadlineExceeded, b"context deadline exceeded")),
-        Some(1_704_074_400),
+        Told::Look(
+            Some((Reason::DeadlineExceeded, b"context deadline exceeded")),
+            Some(1_704_074_400),
+        ),
         "done; deadline 1704074400; err context deadline exceeded; \
          cause context deadline exceeded",
     ),
     (
-        Some((Reason::DeadlineExceeded, &[b'~'; 64])),
-        Some(253_000_000_000),
-        "done; deadline 253000000000; err context deadline exceeded; \
-         cause ~~~~~~~~~~~~~~~~~~~~~~~~~~~~~~~~~~~~~~~~~~~~~~~~~~~~~~~~~~~~~~~~",
+        Told::Look(
+            Some((Reason::DeadlineExceeded, &[b'~'; 64])),
+            Some(253_000_000_000),
+        ),
+        LONGEST,
     ),
-];
-
-/// How the scope `root` is, by a row.
-fn scope(rt: &impl Abort, row: &ScopeRow) -> Reply {
-    let done = match row.0 {
-        Some((reason, cause)) => Some((reason, text(rt, cause))),
-        None => None,
-    };
-    let deadline = match row.1 {
-        Some(seconds) => Some(moment(rt, seconds)),
-        None => None,
-    };
-    Reply::Scope(Look {
-        name: name(rt, b"root"),
-        done,
-        deadline,
-    })
-}
-
-#[test]
-fn how_a_scope_is_prints_its_end_and_its_deadline(rt: HostRuntime) {
-    for (n, row) in SCOPES.iter().enumerate() {
-        assert_prints(&rt, rt.alloc(), &scope(&rt, row), row.2, n);
-    }
-    holds(
-        &rt,
-        SCOPES[3].2.len() + 1 == LONGEST_REPLY,
-        "the longest row",
-        3,
-    );
-}
-
-/// How the group `g` is: its unfinished tasks, limit, whether it was waited for, and error.
-type GroupRow = (u16, Option<u8>, bool, Option<&'static [u8]>, &'static str);
-
-static GROUPS: [GroupRow; 3] = [
     (
-        2,
-        Some(1),
-        false,
-        None,
+        Told::Result(2, Some(1), false, None),
         "unfinished 2; limit 1; waited no; error none",
     ),
     (
-        0,
-        None,
-        true,
-        Some(b"no  room "),
+        Told::Result(0, None, true, Some(b"no  room ")),
         "unfinished 0; limit none; waited yes; error no  room ",
     ),
     (
-        8_192,
-        Some(0),
-        false,
-        Some(b"none"),
+        Told::Result(8_192, Some(0), false, Some(b"none")),
         "unfinished 8192; limit 0; waited no; error none",
     ),
 ];
 
-fn limit(rt: &impl Abort, most: Option<u8>) -> Limit {
-    match most {
-        Some(most) => Limit::new(most).expect(rt, "a limit"),
-        None => Limit::none(),
+#[test]
+fn replies_are_gathered_as_their_texts(rt: HostRuntime) {
+    for (n, row) in REPLIES.iter().enumerate() {
+        holds(&rt, is_told(&rt, &row.0, row.1), "reply", n);
     }
-}
-
-/// How the group `g` is, by a row.
-fn group(rt: &impl Abort, row: &GroupRow) -> Reply {
-    let error = match row.3 {
-        Some(error) => Some(text(rt, error)),
-        None => None,
-    };
-    Reply::Group(GroupLook {
-        name: name(rt, b"g"),
-        scope: 1,
-        unfinished: row.0,
-        limit: limit(rt, row.1),
-        waited: row.2,
-        error,
-    })
-}
-
-#[test]
-fn how_a_group_is_prints_its_tasks_and_its_error(rt: HostRuntime) {
-    for (n, row) in GROUPS.iter().enumerate() {
-        assert_prints(&rt, rt.alloc(), &group(&rt, row), row.4, n);
-    }
-}
-
-/// The start of a task.
-fn start(rt: &impl Abort) -> Reply {
-    Reply::Started(Started {
-        event: 5,
-        info: TaskInfo {
-            task: 8_191,
-            job: name(rt, b"copy"),
-            argument: name(rt, b"a-1_b"),
-        },
-        done: true,
-    })
-}
-
-/// The counts of a job.
-fn tally(rt: &impl Abort) -> Reply {
-    Reply::Tally(Tally {
-        job: name(rt, b"spin"),
-        counts: Counts {
-            total: 8_192,
-            success: 30,
-            failure: 200,
-            interrupted: 1_000,
-        },
-    })
-}
-
-#[test]
-fn a_start_prints_its_task_and_a_tally_its_counts(rt: HostRuntime) {
-    assert_prints(&rt, rt.alloc(), &start(&rt), "start 8191 copy a-1_b", 0);
-    let printed = "tally spin total 8192; success 30; failure 200; interrupted 1000";
-    assert_prints(&rt, rt.alloc(), &tally(&rt), printed, 1);
-}
-
-#[test]
-fn a_reply_is_written_with_its_line_feed(rt: HostRuntime) {
-    let line = done(&rt, Reply::Acked(4).to_line(rt.alloc()), "memory");
-    holds(&rt, line.as_str() == "acked 4\n", "line", 0);
+    holds(&rt, LONGEST.len() + 1 == LONGEST_REPLY, "longest reply", 0);
 }
 
 static REFUSALS: [(Refusal, &str); 25] = [
@@ -326,13 +286,27 @@ static REFUSALS: [(Refusal, &str); 25] = [
 ];
 
 #[test]
-fn refusals_print_their_number_and_name(rt: HostRuntime) {
+fn refusals_are_gathered_by_number_and_name(rt: HostRuntime) {
     for (n, row) in REFUSALS.iter().enumerate() {
-        assert_prints(&rt, rt.alloc(), &Reply::Refused(row.0), row.1, n);
+        let is_so = is_gathered(&Reply::Refused(row.0), row.1);
+        holds(&rt, is_so, "refusal", n);
     }
 }
 
-static FAULTS: [(RunFault, &str); 5] = [
+/// Says whether the line of a tally is this text.
+fn is_line(alloc: Global, tally: &Tally, wanted: &str) -> Result<bool, AllocError> {
+    let line = tally.to_line(alloc)?;
+    Ok(line.as_str() == wanted)
+}
+
+#[test]
+fn a_tally_is_a_line_with_its_line_feed(rt: HostRuntime) {
+    let wanted = "tally spin total 8192; success 30; failure 200; interrupted 1000\n";
+    let is_so = done(&rt, is_line(rt.alloc(), &tally(&rt), wanted), "memory");
+    holds(&rt, is_so, "line", 0);
+}
+
+static FAULTS: [(RunFault, &str); 15] = [
     (RunFault::Input, "input"),
     (RunFault::Output, "output"),
     (RunFault::InputTooLong, "input too long"),
@@ -341,20 +315,46 @@ static FAULTS: [(RunFault, &str); 5] = [
         RunFault::Store(Trouble::Refused(Refusal::Broken)),
         "refused 22 Broken",
     ),
-];
-
-/// What a store can be at fault of.
-static STORE_FAULTS: [(Fault, &str); 10] = [
-    (Fault::Memory, "fault 1 Memory"),
-    (Fault::DiskFailed, "fault 2 DiskFailed"),
-    (Fault::NotAStore, "fault 3 NotAStore"),
-    (Fault::WrongSize, "fault 4 WrongSize"),
-    (Fault::BadSlot, "fault 5 BadSlot"),
-    (Fault::BadImage, "fault 6 BadImage"),
-    (Fault::BadBatch, "fault 7 BadBatch"),
-    (Fault::BadRecord, "fault 8 BadRecord"),
-    (Fault::BadEvent, "fault 9 BadEvent"),
-    (Fault::NumbersSpent, "fault 10 NumbersSpent"),
+    (
+        RunFault::Store(Trouble::Faulty(Fault::Memory)),
+        "fault 1 Memory",
+    ),
+    (
+        RunFault::Store(Trouble::Faulty(Fault::DiskFailed)),
+        "fault 2 DiskFailed",
+    ),
+    (
+        RunFault::Store(Trouble::Faulty(Fault::NotAStore)),
+        "fault 3 NotAStore",
+    ),
+    (
+        RunFault::Store(Trouble::Faulty(Fault::WrongSize)),
+        "fault 4 WrongSize",
+    ),
+    (
+        RunFault::Store(Trouble::Faulty(Fault::BadSlot)),
+        "fault 5 BadSlot",
+    ),
+    (
+        RunFault::Store(Trouble::Faulty(Fault::BadImage)),
+        "fault 6 BadImage",
+    ),
+    (
+        RunFault::Store(Trouble::Faulty(Fault::BadBatch)),
+        "fault 7 BadBatch",
+    ),
+    (
+        RunFault::Store(Trouble::Faulty(Fault::BadRecord)),
+        "fault 8 BadRecord",
+    ),
+    (
+        RunFault::Store(Trouble::Faulty(Fault::BadEvent)),
+        "fault 9 BadEvent",
+    ),
+    (
+        RunFault::Store(Trouble::Faulty(Fault::NumbersSpent)),
+        "fault 10 NumbersSpent",
+    ),
 ];
 
 /// Says whether this is what a fault prints.
@@ -363,19 +363,10 @@ fn shows(alloc: Global, fault: RunFault, wanted: &str) -> Result<bool, AllocErro
     Ok(printed.as_str() == wanted)
 }
 
-/// Asserts that this is what a fault prints.
-fn assert_shows(rt: &impl Abort, alloc: Global, fault: RunFault, wanted: &str) {
-    let is_so = done(rt, shows(alloc, fault, wanted), "memory");
-    holds(rt, is_so, wanted, 0);
-}
-
 #[test]
 fn faults_of_a_run_print_their_texts(rt: HostRuntime) {
-    for (fault, text) in FAULTS {
-        assert_shows(&rt, rt.alloc(), fault, text);
-    }
-    for (fault, text) in STORE_FAULTS {
-        let fault = RunFault::Store(Trouble::Faulty(fault));
-        assert_shows(&rt, rt.alloc(), fault, text);
+    for (n, row) in FAULTS.iter().enumerate() {
+        let is_so = done(&rt, shows(rt.alloc(), row.0, row.1), "memory");
+        holds(&rt, is_so, "fault", n);
     }
 }

@@ -1,8 +1,8 @@
 use Rattle.std.proofs.lemmas.Str.{IsUtf8-from_ascii}
 use Rattle.std.proofs.Common.{subst, sym, List, ℕ}
 use Rattle.run_model.specs.Texts.{IsName}
-use Rattle.console_lines.proofs.TextBytes.{name_is_ascii}
-use Rattle.console_lines.proofs.replies.ShownNameDisplay.fmt.Goals as goal
+use Rattle.console_lines.proofs.Ascii.{name_is_ascii}
+use Rattle.console_lines.proofs.shown.ShownNameDisplay.fmt.Goals as goal
 
 pub unreachable-requires : goal.unreachable-requires
 unreachable-requires g c =
