@@ -3,7 +3,7 @@
 use run_model::{Command, Name, Outcome, Refusal};
 
 /// What a line asks for.
-#[derive(Debug, Drop, PartialEq, Eq)]
+#[derive(Drop)]
 pub enum Asked {
     /// Nothing: the line is empty, and has no reply.
     Nothing,

@@ -18,7 +18,7 @@ use run_model::{GroupLook, Look, Moment, Name, TaskLook};
 pub const LONGEST_ROW: usize = 230;
 
 /// A line of what is seen of a whole state.
-#[derive(Debug, Drop, PartialEq, Eq)]
+#[derive(Drop)]
 pub enum Row {
     /// How many events there were, and the clock: `events 6; clock 0`.
     Counts(u64, Moment),
