@@ -4,3 +4,4 @@ mod KnownTasks
 mod LastingLemmas
 mod Looking
 mod NameTexts
+mod TimedLemmas
