@@ -2,6 +2,8 @@
 #![tactic(auto)]
 
 #[cfg(test)]
+mod asserts;
+#[cfg(test)]
 mod closed;
 #[cfg(test)]
 mod faults;
@@ -13,6 +15,8 @@ mod nights;
 mod runs;
 #[cfg(test)]
 mod shelves;
+#[cfg(test)]
+mod stores;
 #[cfg(test)]
 mod times;
 #[cfg(test)]

@@ -1,16 +1,20 @@
 //! A night that is stopped, inspected, opened again, migrated and renewed.
 
-use crate::runs::run_words;
+use crate::asserts::{done, holds};
+use crate::runs::{End, Printed, assert_run, run_words};
 use crate::shelves::Shelf;
-use night_program::{format, migrate, script};
-use run_disk::{MemoryDisk, Torn};
+use crate::stores::{SIZES, copied, left, scripted, typed, zeros};
+use night_program::migrate;
+use run_disk::MemoryDisk;
 use std::alloc::Global;
-use std::test::Fail;
+use std::process::Abort;
+use std::sync::Wait;
+use std::thread::Threads;
 
 /// What is typed before the stop, and what is printed: the first of two tasks runs.
 const STOPPED: (&str, &str) = (
     "group g root\nlimit g 1\ngo g copy a\ngo g copy b\nstart\nflush\n",
-    "group 0 scope 1\nok\ntask 0 ready\ntask 1 held\nstart 0 copy a\nacked 6\nacked 6\n",
+    "formatted\ngroup 0 scope 1\nok\ntask 0 ready\ntask 1 held\nstart 0 copy a\nacked 6\nacked 6\n",
 );
 
 const INSPECTED: &str = "events 6; clock 0\n\
@@ -40,270 +44,263 @@ const JSON: &str = "{\"count\":6,\"clock\":0,\"layout\":\"small\",\
      {\"number\":1,\"group\":0,\"job\":\"copy\",\"argument\":\"b\",\"phase\":\"held\",\
      \"error\":null,\"retry_of\":null}]}\n";
 
-/// What is typed behind the stop, and what is printed.
-const AGAIN: (&str, &str) = (
-    "task 0\ntask 1\nresult g\nscope g\n",
-    "task 0 interrupted\n\
+/// What is typed behind the stop.
+const AGAIN: &str = "task 0\ntask 1\nresult g\nscope g\n";
+
+/// What is printed then.
+const GOES_ON: &str = "task 0 interrupted\n\
      task 1 ready\n\
      unfinished 1; limit 1; waited no; error interrupted\n\
      done; deadline none; err context canceled; cause interrupted\n\
-     acked 7\n",
-);
+     acked 7\n";
 
-/// How many bytes a small and a large store have.
-const SIZES: (usize, usize) = (1_572_864, 6_291_456);
+/// Words over the stopped night, what is typed, and how it ends.
+type Over = (&'static [&'static str], &'static str, End);
 
-/// A disk as it is left at rest.
-fn left(alloc: Global, disk: &MemoryDisk) -> Result<Vec<u8>, Fail> {
-    Ok(disk.image(alloc, disk.calls(), Torn::Take)?)
+/// Asserts how a run over the stopped night ends, also while another program has it open.
+fn assert_over<R: Threads + Wait + Sync + Abort>(rt: &R, alloc: Global, is_used: bool, row: &Over) {
+    let mut shelf = scripted(rt, alloc, STOPPED.0);
+    shelf.is_used = is_used;
+    assert_run(rt, alloc, row.0, &mut shelf, row.1, &row.2);
 }
 
-/// A small store over which these lines were run.
-fn scripted(alloc: Global, lines: &str) -> Result<Shelf, Fail> {
-    let mut output = Vec::new(alloc);
-    let (made, disk) = format(MemoryDisk::new(alloc, SIZES.0)?, &mut output);
-    made?;
-    let (ran, disk) = script(alloc, disk, &mut lines.as_bytes(), &mut output);
-    ran?;
-    Ok(Shelf::new(alloc, "jobs.store", left(alloc, &disk)?))
-}
-
-/// A small store that a night ran over until it was stopped.
-fn stopped(alloc: Global) -> Result<Shelf, Fail> {
-    let mut output = Vec::new(alloc);
-    let (made, disk) = format(MemoryDisk::new(alloc, SIZES.0)?, &mut output);
-    made?;
-    let mut input = STOPPED.0.as_bytes();
-    let (ran, disk) = script(alloc, disk, &mut input, &mut output);
-    ran?;
-    if output.as_slice()
-        != [b"formatted\n", STOPPED.1.as_bytes()]
-            .concat(alloc)?
-            .as_slice()
-    {
-        return Err(Fail::from("another night"));
-    }
-    Ok(Shelf::new(alloc, "jobs.store", left(alloc, &disk)?))
-}
-
-/// Words that inspect it, and what is printed.
-static VIEWS: [(&[&str], &str); 5] = [
-    (&["inspect", "jobs.store"], INSPECTED),
-    (&["inspect", "--tasks", "jobs.store"], TASKS),
-    (&["inspect", "jobs.store", "--tasks"], TASKS),
-    (&["inspect", "--json", "jobs.store"], JSON),
-    (&["inspect", "jobs.store", "--json"], JSON),
+static VIEWS: [Over; 5] = [
+    (&["inspect", "jobs.store"], "", (0, INSPECTED, "")),
+    (&["inspect", "--tasks", "jobs.store"], "", (0, TASKS, "")),
+    (&["inspect", "jobs.store", "--tasks"], "", (0, TASKS, "")),
+    (&["inspect", "--json", "jobs.store"], "", (0, JSON, "")),
+    (&["inspect", "jobs.store", "--json"], "", (0, JSON, "")),
 ];
 
 #[test]
-fn a_stopped_night_is_inspected(rt: HostRuntime) -> Result<(), Fail> {
-    for (words, wanted) in VIEWS {
-        let mut shelf = stopped(rt.alloc())?;
-        let printed = run_words(&rt, rt.alloc(), words, &mut shelf, "")?;
-        assert!(&rt; printed.output.as_str() == wanted, "{printed:?}");
-        assert!(&rt; printed.ended.status == 0, "{printed:?}");
+fn a_stopped_night_is_inspected(rt: HostRuntime) {
+    let printed = typed(&rt, rt.alloc(), STOPPED.0).1;
+    holds(&rt, printed.as_slice() == STOPPED.1.as_bytes(), "night", 0);
+    for row in VIEWS.iter() {
+        assert_over(&rt, rt.alloc(), false, row);
     }
-    Ok(())
+}
+
+/// A stopped night goes on, and another one is migrated.
+static LATER: [Over; 2] = [
+    (&["script", "jobs.store"], AGAIN, (0, GOES_ON, "")),
+    (
+        &["migrate", "jobs.store", "new.store"],
+        "",
+        (0, "migrated; events 6\n", ""),
+    ),
+];
+
+#[test]
+fn a_stopped_night_is_opened_again(rt: HostRuntime) {
+    assert_over(&rt, rt.alloc(), false, &LATER[0]);
 }
 
 #[test]
-fn a_stopped_night_is_opened_again(rt: HostRuntime) -> Result<(), Fail> {
-    let mut shelf = stopped(rt.alloc())?;
-    let printed = run_words(
-        &rt,
-        rt.alloc(),
-        &["script", "jobs.store"],
-        &mut shelf,
-        AGAIN.0,
-    )?;
-    assert_eq!(&rt; printed.output.as_str(), AGAIN.1);
-    assert_eq!(&rt; printed.ended.status, 0);
-    Ok(())
+fn a_migration_goes_by_its_words(rt: HostRuntime) {
+    assert_over(&rt, rt.alloc(), false, &LATER[1]);
 }
 
 /// The large store that a small one is migrated to; and what was printed, and what is left of the
 /// small one.
-fn migrated(alloc: Global, small: &Shelf) -> Result<(Shelf, Vec<u8>, Vec<u8>), Fail> {
-    let bytes = Vec::from_slice(alloc, small.bytes.as_slice())?;
-    let mut old = MemoryDisk::from_bytes(alloc, bytes)?;
+fn migrated(rt: &impl Abort, alloc: Global, small: &[u8]) -> (Shelf, Vec<u8>, Vec<u8>) {
+    let bytes = copied(rt, alloc, small);
+    let mut old = done(rt, MemoryDisk::from_bytes(alloc, bytes), "disk");
     let mut output = Vec::new(alloc);
-    let new = MemoryDisk::new(alloc, SIZES.1)?;
-    let (answer, new) = migrate(alloc, &mut old, new, &mut output);
-    answer?;
-    let large = Shelf::new(alloc, "new.store", left(alloc, &new)?);
-    Ok((large, output, left(alloc, &old)?))
+    let (answer, new) = migrate(alloc, &mut old, zeros(rt, alloc, SIZES.1), &mut output);
+    done(rt, answer, "migration");
+    let large = Shelf::new(alloc, "new.store", left(rt, alloc, &new));
+    (large, output, left(rt, alloc, &old))
 }
 
-#[test]
-fn a_stopped_night_is_migrated(rt: HostRuntime) -> Result<(), Fail> {
-    let small = stopped(rt.alloc())?;
-    let (mut large, printed, old) = migrated(rt.alloc(), &small)?;
-    assert!(&rt; printed.as_slice() == b"migrated; events 6\n".as_slice());
-    assert!(&rt; old.as_slice() == small.bytes.as_slice(), "the old store");
-    let runs = [("inspect", "", INSPECTED), ("script", AGAIN.0, AGAIN.1)];
-    for (word, input, wanted) in runs {
-        let shown = run_words(&rt, rt.alloc(), &[word, "new.store"], &mut large, input)?;
-        assert!(&rt; shown.output.as_str() == wanted, "{word} {shown:?}");
-        assert!(&rt; shown.ended.status == 0, "{word} {shown:?}");
-    }
-    Ok(())
-}
-
-/// What a file of so many zeros is answered that is to be migrated.
-static UNMIGRATED: [(usize, &str); 3] = [
-    (SIZES.1, "night: fault 4 WrongSize\n"),
-    (SIZES.0 - 1, "night: fault 4 WrongSize\n"),
-    (SIZES.0, "night: fault 3 NotAStore\n"),
+/// What is done with the large store, one behind the other.
+static MIGRATED: [Over; 2] = [
+    (&["inspect", "new.store"], "", (0, INSPECTED, "")),
+    (&["script", "new.store"], AGAIN, (0, GOES_ON, "")),
 ];
 
 #[test]
-fn what_is_no_small_store_is_not_migrated(rt: HostRuntime) -> Result<(), Fail> {
-    for (size, told) in UNMIGRATED {
-        let bytes = vec![in rt.alloc(); 0u8; size]?;
-        let mut shelf = Shelf::new(rt.alloc(), "a", bytes);
-        let printed = run_words(&rt, rt.alloc(), &["migrate", "a", "b"], &mut shelf, "")?;
-        assert!(&rt; printed.ended.status == 3, "{size} {printed:?}");
-        assert!(&rt; printed.errors.as_str() == told, "{size} {printed:?}");
-        assert!(&rt; printed.output.is_empty(), "{size} {printed:?}");
-    }
-    Ok(())
-}
-
-#[test]
-fn a_migration_goes_by_its_words(rt: HostRuntime) -> Result<(), Fail> {
-    let mut shelf = stopped(rt.alloc())?;
-    let words = ["migrate", "jobs.store", "new.store"];
-    let printed = run_words(&rt, rt.alloc(), &words, &mut shelf, "")?;
-    assert!(&rt;
-        printed.output.as_str() == "migrated; events 6\n",
-        "{printed:?}"
+fn a_stopped_night_is_migrated(rt: HostRuntime) {
+    let small = scripted(&rt, rt.alloc(), STOPPED.0);
+    let (mut large, printed, old) = migrated(&rt, rt.alloc(), small.bytes.as_slice());
+    holds(
+        &rt,
+        printed.as_slice() == b"migrated; events 6\n".as_slice(),
+        "line",
+        0,
     );
-    assert!(&rt; printed.ended.status == 0, "{printed:?}");
-    Ok(())
+    holds(
+        &rt,
+        old.as_slice() == small.bytes.as_slice(),
+        "old store",
+        0,
+    );
+    for row in MIGRATED.iter() {
+        assert_run(&rt, rt.alloc(), row.0, &mut large, row.1, &row.2);
+    }
 }
 
-/// A crew over the stopped night: how many workers there are, what is printed, the exit status, and
-/// what is told.
-type Crew = (&'static str, &'static str, u8, &'static str);
+/// A file of so many zeros that is to be migrated, and what it is answered.
+type Unmigrated = (usize, End);
 
-/// The opening interrupts task 0 and lets task 1 be ready. There are two lists of jobs.
-static CREWS: [Crew; 3] = [
+static UNMIGRATED: [Unmigrated; 3] = [
+    (SIZES.1, (3, "", "night: fault 4 WrongSize\n")),
+    (SIZES.0 - 1, (3, "", "night: fault 4 WrongSize\n")),
+    (SIZES.0, (3, "", "night: fault 3 NotAStore\n")),
+];
+
+/// Asserts what a migration of a file of zeros is answered.
+fn assert_unmigrated<R: Threads + Wait + Sync + Abort>(rt: &R, alloc: Global, row: &Unmigrated) {
+    let bytes = done(rt, vec![in alloc; 0u8; row.0], "zeros");
+    let mut shelf = Shelf::new(alloc, "a", bytes);
+    assert_run(rt, alloc, &["migrate", "a", "b"], &mut shelf, "", &row.1);
+}
+
+#[test]
+fn what_is_no_small_store_is_not_migrated(rt: HostRuntime) {
+    for row in UNMIGRATED.iter() {
+        assert_unmigrated(&rt, rt.alloc(), row);
+    }
+}
+
+/// What a crew prints: the opening interrupts task 0 and lets task 1 be ready.
+const WORKED: &str = "audit ok; starts 1; finishes 1\nacked 9\n";
+
+/// Crews over the stopped night, by how many workers there are. There are two lists of jobs.
+static CREWS: [Over; 3] = [
+    (&["crew", "jobs.store", "--workers=1"], "", (0, WORKED, "")),
+    (&["crew", "jobs.store", "--workers=2"], "", (0, WORKED, "")),
     (
-        "--workers=1",
-        "audit ok; starts 1; finishes 1\nacked 9\n",
-        0,
+        &["crew", "jobs.store", "--workers=3"],
         "",
+        (4, "", "night: fault 1 Memory\n"),
     ),
-    (
-        "--workers=2",
-        "audit ok; starts 1; finishes 1\nacked 9\n",
-        0,
-        "",
-    ),
-    ("--workers=3", "", 4, "night: fault 1 Memory\n"),
 ];
 
 #[test]
-fn a_crew_works_off_a_stopped_night(rt: HostRuntime) -> Result<(), Fail> {
-    for (workers, output, status, told) in CREWS {
-        let mut shelf = stopped(rt.alloc())?;
-        let words = ["crew", "jobs.store", workers];
-        let printed = run_words(&rt, rt.alloc(), &words, &mut shelf, "")?;
-        assert!(&rt; printed.output.as_str() == output, "{printed:?}");
-        assert!(&rt; printed.errors.as_str() == told, "{printed:?}");
-        assert!(&rt; printed.ended.status == status, "{printed:?}");
+fn a_crew_works_off_a_stopped_night(rt: HostRuntime) {
+    for row in CREWS.iter() {
+        assert_over(&rt, rt.alloc(), false, row);
     }
-    Ok(())
 }
 
 /// What is told of a store that another program has open.
 const IN_USE: &str = "night: fault 2 DiskFailed\nnight: jobs.store: in use by another program\n";
 
-/// Words over the stopped night while another program has it open: what is printed, and told.
-static USED: [(&[&str], &str, &str); 8] = [
-    (&["inspect", "jobs.store"], INSPECTED, ""),
-    (&["inspect", "--tasks", "jobs.store"], TASKS, ""),
-    (&["inspect", "--json", "jobs.store"], JSON, ""),
-    (&["script", "jobs.store"], "", IN_USE),
-    (&["crew", "jobs.store", "--workers=1"], "", IN_USE),
-    (&["migrate", "jobs.store", "new.store"], "", IN_USE),
-    (&["renew", "jobs.store", "new.store"], "", IN_USE),
-    (&["renew", "--in-place", "jobs.store"], "", IN_USE),
+/// Words over the stopped night while another program has it open.
+static USED: [Over; 8] = [
+    (&["inspect", "jobs.store"], "", (0, INSPECTED, "")),
+    (&["inspect", "--tasks", "jobs.store"], "", (0, TASKS, "")),
+    (&["inspect", "--json", "jobs.store"], "", (0, JSON, "")),
+    (&["script", "jobs.store"], "", (3, "", IN_USE)),
+    (&["crew", "jobs.store", "--workers=1"], "", (3, "", IN_USE)),
+    (&["migrate", "jobs.store", "new.store"], "", (3, "", IN_USE)),
+    (&["renew", "jobs.store", "new.store"], "", (3, "", IN_USE)),
+    (&["renew", "--in-place", "jobs.store"], "", (3, "", IN_USE)),
 ];
 
 #[test]
-fn a_store_in_use_is_shown_and_not_opened(rt: HostRuntime) -> Result<(), Fail> {
-    for (words, output, told) in USED {
-        let mut shelf = stopped(rt.alloc())?;
-        shelf.is_used = true;
-        let printed = run_words(&rt, rt.alloc(), words, &mut shelf, "")?;
-        let status = if told.is_empty() { 0 } else { 3 };
-        assert!(&rt; printed.output.as_str() == output, "{printed:?}");
-        assert!(&rt; printed.errors.as_str() == told, "{printed:?}");
-        assert!(&rt; printed.ended.status == status, "{printed:?}");
+fn a_store_in_use_is_shown_and_not_opened(rt: HostRuntime) {
+    for row in USED.iter() {
+        assert_over(&rt, rt.alloc(), true, row);
     }
-    Ok(())
 }
 
-/// A night of which one group is waited for, what is printed of its renewal, and what is left.
-const ENDED: (&str, &str, &str) = (
-    "bare a root\ngo a copy x\nstart\nfinish 0 ok\nwait a\ngroup g root\ngo g copy b\n",
+/// A night of which one group is waited for.
+const ENDED: &str =
+    "bare a root\ngo a copy x\nstart\nfinish 0 ok\nwait a\ngroup g root\ngo g copy b\n";
+
+/// How its renewal ends.
+static RENEWAL: End = (
+    0,
     "renewed; events 8; scopes 2 of 2; groups 1 of 2; tasks 1 of 2\n",
-    "events 8; clock 0\n\
+    "",
+);
+
+/// What is left of it.
+const LEFT: &str = "events 8; clock 0\n\
      scope 0 root live; deadline none\n\
      scope 1 g live; deadline none\n\
      group 0 g unfinished 1; limit none; waited no; error none\n\
-     task 0 g copy b ready\n",
-);
+     task 0 g copy b ready\n";
 
 /// Words that renew it, and whether the store itself is renewed.
-static RENEWED: [(&[&str], bool); 3] = [
+type Renewing = (&'static [&'static str], bool);
+
+static RENEWED: [Renewing; 3] = [
     (&["renew", "jobs.store", "new.store"], false),
     (&["renew", "--in-place", "jobs.store"], true),
     (&["renew", "jobs.store", "--in-place"], true),
 ];
 
-#[test]
-fn a_night_is_renewed(rt: HostRuntime) -> Result<(), Fail> {
-    for (words, is_in_place) in RENEWED {
-        let mut shelf = scripted(rt.alloc(), ENDED.0)?;
-        let printed = run_words(&rt, rt.alloc(), words, &mut shelf, "")?;
-        assert!(&rt; printed.output.as_str() == ENDED.1, "{words:?} {printed:?}");
-        assert!(&rt; printed.ended.status == 0, "{words:?} {printed:?}");
-        let shown = run_words(&rt, rt.alloc(), &["inspect", "jobs.store"], &mut shelf, "")?;
-        let is_renewed = shown.output.as_str() == ENDED.2;
-        assert!(&rt; is_renewed == is_in_place, "{words:?} {shown:?}");
-    }
-    Ok(())
+/// Says whether this is what was printed.
+fn is_printed(printed: &Printed, text: &str) -> bool {
+    printed.output.as_str() == text
 }
+
+/// Asserts what is printed of a renewal, and what the store holds then.
+fn assert_renewed<R: Threads + Wait + Sync + Abort>(
+    rt: &R,
+    alloc: Global,
+    n: usize,
+    row: &Renewing,
+) {
+    let mut shelf = scripted(rt, alloc, ENDED);
+    assert_run(rt, alloc, row.0, &mut shelf, "", &RENEWAL);
+    let shown = run_words(rt, alloc, &["inspect", "jobs.store"], &mut shelf, "");
+    holds(rt, is_printed(&shown, LEFT) == row.1, "store", n);
+}
+
+#[test]
+fn a_night_is_renewed(rt: HostRuntime) {
+    for (n, row) in RENEWED.iter().enumerate() {
+        assert_renewed(&rt, rt.alloc(), n, row);
+    }
+}
+
+/// Disks that fail behind so many calls, whether the file can't be replaced, and why there is no
+/// renewal.
+type Unrenewed = (u64, bool, &'static str);
 
 /// What is told of a renewal in place over disks that fail behind so many calls, of which the old
 /// one is read by six and the new one written by eight and read by three, or over a file that can't
 /// be replaced.
-static UNRENEWED: [(u64, bool, &str); 4] = [
+static UNRENEWED: [Unrenewed; 4] = [
     (5, false, "broken"),
     (7, false, "broken"),
     (10, false, "broken"),
     (u64::MAX, true, "in use by another program"),
 ];
 
+/// Says whether it is told alone that a store was not had for this.
+fn is_untaken(printed: &Printed, why: &str) -> bool {
+    printed.ended.status == 3 && printed.output.is_empty() && printed.errors.contains(why)
+}
+
+/// Asserts what is told of a renewal that isn't made, and what is left of the files.
+fn assert_unrenewed<R: Threads + Wait + Sync + Abort>(
+    rt: &R,
+    alloc: Global,
+    stored: &[u8],
+    n: usize,
+    row: &Unrenewed,
+) {
+    let mut shelf = Shelf::new(alloc, "jobs.store", copied(rt, alloc, stored));
+    shelf.passes = row.0;
+    shelf.is_kept = row.1;
+    let words = ["renew", "--in-place", "jobs.store"];
+    let printed = run_words(rt, alloc, &words, &mut shelf, "");
+    holds(rt, is_untaken(&printed, row.2), "words", n);
+    let is_left = shelf.has_removed && shelf.bytes.as_slice() == stored;
+    holds(rt, is_left, "files", n);
+}
+
 #[test]
-fn a_store_that_is_not_renewed_in_place_stays(rt: HostRuntime) -> Result<(), Fail> {
-    let stored = scripted(rt.alloc(), ENDED.0)?;
-    for (passes, is_kept, why) in UNRENEWED {
-        let bytes = Vec::from_slice(rt.alloc(), stored.bytes.as_slice())?;
-        let mut shelf = Shelf::new(rt.alloc(), "jobs.store", bytes);
-        shelf.passes = passes;
-        shelf.is_kept = is_kept;
-        let words = ["renew", "--in-place", "jobs.store"];
-        let printed = run_words(&rt, rt.alloc(), &words, &mut shelf, "")?;
-        assert!(&rt; printed.ended.status == 3, "{passes} {printed:?}");
-        assert!(&rt; printed.errors.contains(why), "{passes} {printed:?}");
-        assert!(&rt; printed.output.is_empty(), "{passes} {printed:?}");
-        assert!(&rt; shelf.has_removed, "{passes}");
-        assert!(&rt; shelf.bytes == stored.bytes, "{passes}");
+fn a_store_that_is_not_renewed_in_place_stays(rt: HostRuntime) {
+    let stored = scripted(&rt, rt.alloc(), ENDED);
+    for (n, row) in UNRENEWED.iter().enumerate() {
+        assert_unrenewed(&rt, rt.alloc(), stored.bytes.as_slice(), n, row);
     }
-    Ok(())
 }
 
 /// What is told of a disk that fails, and its file.
@@ -311,7 +308,9 @@ const BROKEN: &str = "night: fault 2 DiskFailed\nnight: b: broken\n";
 
 /// Words that make a file, over a disk that fails behind so many calls: whether there was one of
 /// its name before, and whether the file is taken away again.
-static MAKING: [(&[&str], &str, u64, bool); 5] = [
+type Making = (&'static [&'static str], &'static str, u64, bool);
+
+static MAKING: [Making; 5] = [
     (&["format", "b"], "a", 0, true),
     (&["format", "b"], "a", 7, true),
     (&["format", "--new", "b"], "a", 3, true),
@@ -319,17 +318,19 @@ static MAKING: [(&[&str], &str, u64, bool); 5] = [
     (&["format", "b"], "b", 0, false),
 ];
 
+/// Asserts what is told of a file that is made in vain, and what is left of it.
+fn assert_unmade<R: Threads + Wait + Sync + Abort>(rt: &R, alloc: Global, n: usize, row: &Making) {
+    let mut shelf = Shelf::new(alloc, row.1, Vec::new(alloc));
+    shelf.passes = row.2;
+    assert_run(rt, alloc, row.0, &mut shelf, "", &(3, "", BROKEN));
+    holds(rt, shelf.has_removed == row.3, "file", n);
+}
+
 #[test]
-fn a_new_file_of_no_store_is_taken_away(rt: HostRuntime) -> Result<(), Fail> {
-    for (words, name, passes, has_removed) in MAKING {
-        let mut shelf = Shelf::new(rt.alloc(), name, Vec::new(rt.alloc()));
-        shelf.passes = passes;
-        let printed = run_words(&rt, rt.alloc(), words, &mut shelf, "")?;
-        assert!(&rt; printed.errors.as_str() == BROKEN, "{printed:?}");
-        assert!(&rt; printed.ended.status == 3, "{printed:?}");
-        assert!(&rt; shelf.has_removed == has_removed, "{printed:?}");
+fn a_new_file_of_no_store_is_taken_away(rt: HostRuntime) {
+    for (n, row) in MAKING.iter().enumerate() {
+        assert_unmade(&rt, rt.alloc(), n, row);
     }
-    Ok(())
 }
 
 /// A group of six tasks of which one ended, one runs and two are held; the crews know `copy` alone
@@ -337,91 +338,89 @@ fn a_new_file_of_no_store_is_taken_away(rt: HostRuntime) -> Result<(), Fail> {
 const MIXED: &str = "group g root\nlimit g 3\ngo g mail a\ngo g copy b\ngo g mail c\n\
      go g page d\ngo g copy e\ngo g mail f\nstart\nfinish 0 ok\nstart\nstart\n";
 
-/// Lines, and what a crew that looks first tells and prints.
-static KNOWN: [(&str, &str, &str); 3] = [
-    (MIXED, "night: unknown job mail; tasks 3\n", ""),
+/// Lines, words over the store over which they were run, what is typed, and how it ends.
+type Night = (&'static str, &'static [&'static str], &'static str, End);
+
+/// Asserts how each of these nights ends.
+fn assert_nights<R: Threads + Wait + Sync + Abort>(rt: &R, alloc: Global, nights: &[Night]) {
+    for night in nights {
+        let mut shelf = scripted(rt, alloc, night.0);
+        assert_run(rt, alloc, night.1, &mut shelf, night.2, &night.3);
+    }
+}
+
+/// Words of a crew that looks first.
+const LOOKING: [&str; 4] = ["crew", "--known", "jobs.store", "--workers=1"];
+
+static KNOWN: [Night; 3] = [
+    (
+        MIXED,
+        &LOOKING,
+        "",
+        (3, "", "night: unknown job mail; tasks 3\n"),
+    ),
     (
         "group g root\ngo g mail a\nstart\nfinish 0 ok\ngo g copy b\n",
+        &LOOKING,
         "",
-        "audit ok; starts 1; finishes 1\nacked 9\n",
+        (0, WORKED, ""),
     ),
     (
         "group g root\ngo g copy a\nlimit g none\ngo g spinn 3\n",
-        "night: unknown job spinn; tasks 1\n",
+        &LOOKING,
         "",
+        (3, "", "night: unknown job spinn; tasks 1\n"),
     ),
 ];
 
 #[test]
-fn a_crew_that_looks_first_begins_nothing_unknown(rt: HostRuntime) -> Result<(), Fail> {
-    for (lines, told, output) in KNOWN {
-        let mut shelf = scripted(rt.alloc(), lines)?;
-        let words = ["crew", "--known", "jobs.store", "--workers=1"];
-        let printed = run_words(&rt, rt.alloc(), &words, &mut shelf, "")?;
-        let status = if told.is_empty() { 0 } else { 3 };
-        assert!(&rt; printed.errors.as_str() == told, "{printed:?}");
-        assert!(&rt; printed.output.as_str() == output, "{printed:?}");
-        assert!(&rt; printed.ended.status == status, "{printed:?}");
-    }
-    Ok(())
+fn a_crew_that_looks_first_begins_nothing_unknown(rt: HostRuntime) {
+    assert_nights(&rt, rt.alloc(), &KNOWN);
 }
 
-/// Strict runs: the words, the lines, what is printed, the exit status, and what is told.
-type Strict = (
-    &'static [&'static str],
-    &'static str,
-    &'static str,
-    u8,
-    &'static str,
-);
-
-/// The store was opened once before.
-static STRICT: [Strict; 5] = [
+/// Strict runs. The store was opened once before.
+static STRICT: [Night; 5] = [
     (
+        "",
         &["script", "--strict", "jobs.store"],
         "derive a root cancel\ncancel a\ncancel a\nderive b root cancel\n",
-        "scope 1\nok\nrefused 12 AlreadyDone\nacked 4\n",
-        1,
-        "night: line 3: refused 12 AlreadyDone\n",
+        (
+            1,
+            "scope 1\nok\nrefused 12 AlreadyDone\nacked 4\n",
+            "night: line 3: refused 12 AlreadyDone\n",
+        ),
     ),
     (
+        "",
         &["script", "jobs.store", "--strict"],
         "\ngroup g root\nnonsense\ngo g copy a\n",
-        "group 0 scope 1\nbad line\nacked 3\n",
-        1,
-        "night: line 3: bad line\n",
+        (
+            1,
+            "group 0 scope 1\nbad line\nacked 3\n",
+            "night: line 3: bad line\n",
+        ),
     ),
     (
+        "",
         &["script", "--strict", "jobs.store"],
         "derive a root cancel\n",
-        "scope 1\nacked 3\n",
-        0,
-        "",
+        (0, "scope 1\nacked 3\n", ""),
     ),
     (
+        "",
         &["demo", "--strict"],
         "nonsense\nderive a root cancel\n",
-        "bad line\nacked 1\n",
-        1,
-        "night: line 1: bad line\n",
+        (1, "bad line\nacked 1\n", "night: line 1: bad line\n"),
     ),
     (
+        "",
         &["demo", "--strict"],
         "derive a root cancel\n",
-        "scope 1\nacked 2\n",
-        0,
-        "",
+        (0, "scope 1\nacked 2\n", ""),
     ),
 ];
 
 #[test]
-fn a_strict_run_ends_at_the_first_mistake(rt: HostRuntime) -> Result<(), Fail> {
-    for (words, lines, output, status, told) in STRICT {
-        let mut shelf = scripted(rt.alloc(), "")?;
-        let printed = run_words(&rt, rt.alloc(), words, &mut shelf, lines)?;
-        assert!(&rt; printed.output.as_str() == output, "{printed:?}");
-        assert!(&rt; printed.errors.as_str() == told, "{printed:?}");
-        assert!(&rt; printed.ended.status == status, "{printed:?}");
-    }
-    Ok(())
+fn a_strict_run_ends_at_the_first_mistake(rt: HostRuntime) {
+    assert_nights(&rt, rt.alloc(), &STRICT);
 }

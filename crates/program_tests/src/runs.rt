@@ -1,11 +1,14 @@
 //! Runs of the program, and what each printed.
 
+use crate::asserts::done;
 use crate::shelves::Shelf;
 use night_program::{CopyJob, Ended, FailJob, SpinJob, night};
 use night_words::WordsFault;
 use run_crew::Job;
 use run_model::Moment;
-use std::alloc::{AllocError, Global};
+use std::alloc::Global;
+use std::io::{Read, Write};
+use std::process::Abort;
 use std::sync::Wait;
 use std::thread::Threads;
 
@@ -20,14 +23,22 @@ pub struct Printed {
     pub errors: String,
 }
 
+/// How a run is to end: its status, and what is printed on the output and on the errors.
+pub type End = (u8, &'static str, &'static str);
+
 /// The program's own name, and the words.
-pub fn words_of(alloc: Global, words: &[&str]) -> Result<Vec<String>, AllocError> {
+pub fn words_of(rt: &impl Abort, alloc: Global, words: &[&str]) -> Vec<String> {
     let mut texts = Vec::new(alloc);
-    texts.push("night".to_string(alloc)?)?;
+    push_word(rt, alloc, &mut texts, "night");
     for word in words {
-        texts.push(word.to_string(alloc)?)?;
+        push_word(rt, alloc, &mut texts, word);
     }
-    Ok(texts)
+    texts
+}
+
+fn push_word(rt: &impl Abort, alloc: Global, texts: &mut Vec<String>, word: &str) {
+    let text = done(rt, word.to_string(alloc), "word");
+    done(rt, texts.push(text), "words");
 }
 
 /// A clock that tells nothing.
@@ -35,82 +46,148 @@ pub fn no_times() -> &'static [Moment] {
     &[]
 }
 
-/// Runs the program with these words over one file.
-pub fn run_words<R: Threads + Wait + Sync>(
-    rt: &R,
-    alloc: Global,
-    words: &[&str],
-    shelf: &mut Shelf,
-    input: &str,
-) -> Result<Printed, AllocError> {
-    let words = words_of(alloc, words)?;
-    run_given(rt, alloc, Ok(words), shelf, input)
-}
-
-/// So does [`run_words`], by a clock that tells these moments.
-pub fn run_at<R: Threads + Wait + Sync>(
-    rt: &R,
-    alloc: Global,
-    times: &[u64],
-    words: &[&str],
-    shelf: &mut Shelf,
-    input: &str,
-) -> Result<Printed, AllocError> {
-    let words = words_of(alloc, words)?;
+/// The moments of a clock.
+fn moments_of(rt: &impl Abort, alloc: Global, times: &[u64]) -> Vec<Moment> {
     let mut moments = Vec::new(alloc);
     for seconds in times {
         if let Some(moment) = Moment::new(*seconds) {
-            moments.push(moment)?;
+            done(rt, moments.push(moment), "moments");
         }
     }
-    run_all(rt, alloc, Ok(words), moments.as_slice(), shelf, input)
+    moments
 }
 
-/// Runs the program with what the system gave for its words.
-pub fn run_given<R: Threads + Wait + Sync>(
+/// Lists of jobs, for so many workers.
+fn lists(rt: &impl Abort, alloc: Global) -> Vec<Vec<Box<dyn Job + Send>>> {
+    let mut jobs = Vec::new(alloc);
+    for _ in 0..LISTS {
+        done(rt, jobs.push(list(rt, alloc)), "lists");
+    }
+    jobs
+}
+
+fn list(rt: &impl Abort, alloc: Global) -> Vec<Box<dyn Job + Send>> {
+    let mut list: Vec<Box<dyn Job + Send>> = Vec::new(alloc);
+    let spin = done(rt, Box::new(alloc, SpinJob), "job");
+    done(rt, list.push(spin), "list");
+    let fail = done(rt, Box::new(alloc, FailJob), "job");
+    done(rt, list.push(fail), "list");
+    let copy = done(rt, Box::new(alloc, CopyJob), "job");
+    done(rt, list.push(copy), "list");
+    list
+}
+
+/// Runs the program with what the system gave for its words, by a clock that tells these moments,
+/// over one file and these streams.
+pub fn run_over<R: Threads + Wait + Sync + Abort, I: Read, O: Write, E: Write>(
     rt: &R,
     alloc: Global,
     words: Result<Vec<String>, WordsFault>,
+    moments: &[Moment],
     shelf: &mut Shelf,
-    input: &str,
-) -> Result<Printed, AllocError> {
-    run_all(rt, alloc, words, no_times(), shelf, input)
+    input: &mut I,
+    output: &mut O,
+    errors: &mut E,
+) -> Ended {
+    let jobs = lists(rt, alloc);
+    let mut clock = moments;
+    night(
+        rt, alloc, words, jobs, shelf, &mut clock, input, output, errors,
+    )
 }
 
-fn run_all<R: Threads + Wait + Sync>(
+/// So does [`run_over`], and gives what was printed.
+pub fn run_given<R: Threads + Wait + Sync + Abort>(
     rt: &R,
     alloc: Global,
     words: Result<Vec<String>, WordsFault>,
     moments: &[Moment],
     shelf: &mut Shelf,
     input: &str,
-) -> Result<Printed, AllocError> {
-    let mut clock = moments;
+) -> Printed {
     let mut output = Vec::new(alloc);
     let mut errors = Vec::new(alloc);
     let mut lines = input.as_bytes();
-    let mut jobs: Vec<Vec<Box<dyn Job + Send>>> = Vec::new(alloc);
-    for _ in 0..LISTS {
-        let mut list: Vec<Box<dyn Job + Send>> = Vec::new(alloc);
-        list.push(Box::new(alloc, SpinJob)?)?;
-        list.push(Box::new(alloc, FailJob)?)?;
-        list.push(Box::new(alloc, CopyJob)?)?;
-        jobs.push(list)?;
-    }
-    let ended = night(
+    let ended = run_over(
         rt,
         alloc,
         words,
-        jobs,
+        moments,
         shelf,
-        &mut clock,
         &mut lines,
         &mut output,
         &mut errors,
     );
-    Ok(Printed {
+    Printed {
         ended,
-        output: String::from_utf8_lossy(alloc, output.as_slice())?,
-        errors: String::from_utf8_lossy(alloc, errors.as_slice())?,
-    })
+        output: text_of(rt, alloc, output.as_slice()),
+        errors: text_of(rt, alloc, errors.as_slice()),
+    }
+}
+
+fn text_of(rt: &impl Abort, alloc: Global, bytes: &[u8]) -> String {
+    let text = String::from_utf8_lossy(alloc, bytes);
+    done(rt, text, "text")
+}
+
+/// Runs the program with these words over one file.
+pub fn run_words<R: Threads + Wait + Sync + Abort>(
+    rt: &R,
+    alloc: Global,
+    words: &[&str],
+    shelf: &mut Shelf,
+    input: &str,
+) -> Printed {
+    let given = Ok(words_of(rt, alloc, words));
+    run_given(rt, alloc, given, no_times(), shelf, input)
+}
+
+/// Asserts how a run ended, and that all of it was told.
+fn assert_end(rt: &impl Abort, words: &[&str], printed: &Printed, end: &End) {
+    let is_printed = printed.ended.status == end.0
+        && printed.ended.told
+        && printed.output.as_str() == end.1
+        && printed.errors.as_str() == end.2;
+    assert!(rt; is_printed, "{words:?} {printed:?}");
+}
+
+/// Runs the program with these words over one file, and asserts how it ends.
+pub fn assert_run<R: Threads + Wait + Sync + Abort>(
+    rt: &R,
+    alloc: Global,
+    words: &[&str],
+    shelf: &mut Shelf,
+    input: &str,
+    end: &End,
+) {
+    let printed = run_words(rt, alloc, words, shelf, input);
+    assert_end(rt, words, &printed, end);
+}
+
+/// So does [`assert_run`], by a clock that tells these moments.
+pub fn assert_run_at<R: Threads + Wait + Sync + Abort>(
+    rt: &R,
+    alloc: Global,
+    times: &[u64],
+    words: &[&str],
+    shelf: &mut Shelf,
+    input: &str,
+    end: &End,
+) {
+    let moments = moments_of(rt, alloc, times);
+    let given = Ok(words_of(rt, alloc, words));
+    let printed = run_given(rt, alloc, given, moments.as_slice(), shelf, input);
+    assert_end(rt, words, &printed, end);
+}
+
+/// So does [`assert_run`], with what the system gave for the words, and without an input.
+pub fn assert_given<R: Threads + Wait + Sync + Abort>(
+    rt: &R,
+    alloc: Global,
+    words: Result<Vec<String>, WordsFault>,
+    shelf: &mut Shelf,
+    end: &End,
+) {
+    let printed = run_given(rt, alloc, words, no_times(), shelf, "");
+    assert_end(rt, &[], &printed, end);
 }

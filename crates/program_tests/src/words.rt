@@ -1,12 +1,14 @@
 //! What each word does: its exit status, and a part of what it prints on either stream.
 
+use crate::asserts::holds;
 use crate::closed::Closed;
-use crate::runs::{no_times, run_given, run_words, words_of};
+use crate::runs::{assert_given, no_times, run_over, run_words, words_of};
 use crate::shelves::Shelf;
-use night_program::{Ended, night};
 use night_words::WordsFault;
-use std::alloc::{AllocError, Global};
-use std::test::Fail;
+use std::alloc::Global;
+use std::process::Abort;
+use std::sync::Wait;
+use std::thread::Threads;
 
 /// Words, the exit status, and a part of what goes to the output and to the errors.
 type Case = (&'static [&'static str], u8, &'static str, &'static str);
@@ -129,52 +131,54 @@ fn empty_file(alloc: Global) -> Shelf {
     Shelf::new(alloc, "a", Vec::new(alloc))
 }
 
-#[test]
-fn each_word_has_its_status_and_its_text(rt: HostRuntime) -> Result<(), Fail> {
-    for (words, status, output, errors) in CASES {
-        let mut shelf = empty_file(rt.alloc());
-        let printed = run_words(&rt, rt.alloc(), words, &mut shelf, "derive a root cause\n")?;
-        let wanted = Ended { status, told: true };
-        assert_eq!(&rt; printed.ended, wanted, "{words:?} {printed:?}");
-        assert!(&rt;
-            is_shown(output, printed.output.as_str()),
-            "{words:?} {printed:?}"
-        );
-        assert!(&rt;
-            is_shown(errors, printed.errors.as_str()),
-            "{words:?} {printed:?}"
-        );
-    }
-    Ok(())
-}
-
 /// Nothing is printed where nothing is wanted.
 fn is_shown(part: &str, printed: &str) -> bool {
     part.is_empty() == printed.is_empty() && printed.contains(part)
 }
 
+/// Asserts what the words of a case come to, and that all of it was told.
+fn assert_case<R: Threads + Wait + Sync + Abort>(rt: &R, alloc: Global, case: &Case) {
+    let mut shelf = empty_file(alloc);
+    let words = case.0;
+    let printed = run_words(rt, alloc, words, &mut shelf, "derive a root cause\n");
+    let is_printed = printed.ended.status == case.1
+        && printed.ended.told
+        && is_shown(case.2, printed.output.as_str())
+        && is_shown(case.3, printed.errors.as_str());
+    assert!(rt; is_printed, "{words:?} {printed:?}");
+}
+
 #[test]
-fn words_that_the_system_did_not_give_are_told(rt: HostRuntime) -> Result<(), Fail> {
+fn each_word_has_its_status_and_its_text(rt: HostRuntime) {
+    for case in CASES.iter() {
+        assert_case(&rt, rt.alloc(), case);
+    }
+}
+
+#[test]
+fn words_that_the_system_did_not_give_are_told(rt: HostRuntime) {
     let cases = [
         (
             WordsFault::NotText,
-            2,
-            "error: a word is no text in UTF-8\n",
+            (2, "", "error: a word is no text in UTF-8\n"),
         ),
-        (WordsFault::Memory, 4, "night: fault 1 Memory\n"),
+        (WordsFault::Memory, (4, "", "night: fault 1 Memory\n")),
     ];
-    for (fault, status, line) in cases {
-        let mut shelf = empty_file(rt.alloc());
-        let printed = run_given(&rt, rt.alloc(), Err(fault), &mut shelf, "")?;
-        assert_eq!(&rt; printed.ended, Ended { status, told: true });
-        assert_eq!(&rt; printed.errors.as_str(), line);
-        assert!(&rt; printed.output.is_empty(), "{line}");
+    for (fault, end) in cases {
+        assert_given(
+            &rt,
+            rt.alloc(),
+            Err(fault),
+            &mut empty_file(rt.alloc()),
+            &end,
+        );
     }
-    Ok(())
 }
 
 /// Words that print something, and whether a file that they made is taken away again.
-static PRINTING: [(&[&str], bool); 5] = [
+type Printing = (&'static [&'static str], bool);
+
+static PRINTING: [Printing; 5] = [
     (&["demo"], false),
     (&["format", "new"], true),
     (&["format", "--new", "new"], true),
@@ -182,88 +186,85 @@ static PRINTING: [(&[&str], bool); 5] = [
     (&["--help"], false),
 ];
 
-#[test]
-fn an_output_that_takes_nothing_is_told(rt: HostRuntime) -> Result<(), Fail> {
-    for (words, has_removed) in PRINTING {
-        let mut errors = Vec::new(rt.alloc());
-        let given = Ok(words_of(rt.alloc(), words)?);
-        let mut shelf = empty_file(rt.alloc());
-        let mut input: &[u8] = b"scope root\n";
-        let ended = night(
-            &rt,
-            rt.alloc(),
-            given,
-            Vec::new(rt.alloc()),
-            &mut shelf,
-            &mut no_times(),
-            &mut input,
-            &mut Closed,
-            &mut errors,
-        );
-        let told = Ended {
-            status: 3,
-            told: true,
-        };
-        assert_eq!(&rt; ended, told, "{words:?}");
-        assert_eq!(&rt;
-            errors.as_slice(),
-            b"night: output\n".as_slice(),
-            "{words:?}"
-        );
-        assert!(&rt; shelf.has_removed == has_removed, "{words:?}");
-    }
-    Ok(())
+/// Asserts what is told of an output that takes nothing.
+fn assert_untaken<R: Threads + Wait + Sync + Abort>(
+    rt: &R,
+    alloc: Global,
+    row: usize,
+    printing: &Printing,
+) {
+    let mut errors = Vec::new(alloc);
+    let mut shelf = empty_file(alloc);
+    let ended = run_over(
+        rt,
+        alloc,
+        Ok(words_of(rt, alloc, printing.0)),
+        no_times(),
+        &mut shelf,
+        &mut b"scope root\n".as_slice(),
+        &mut Closed,
+        &mut errors,
+    );
+    let is_told = errors.as_slice() == b"night: output\n".as_slice();
+    holds(rt, ended.status == 3 && ended.told && is_told, "words", row);
+    holds(rt, shelf.has_removed == printing.1, "file", row);
 }
 
 #[test]
-fn an_input_that_fails_is_told(rt: HostRuntime) -> Result<(), Fail> {
+fn an_output_that_takes_nothing_is_told(rt: HostRuntime) {
+    for (row, printing) in PRINTING.iter().enumerate() {
+        assert_untaken(&rt, rt.alloc(), row, printing);
+    }
+}
+
+#[test]
+fn an_input_that_fails_is_told(rt: HostRuntime) {
     let mut output = Vec::new(rt.alloc());
     let mut errors = Vec::new(rt.alloc());
-    let given = Ok(words_of(rt.alloc(), &["demo"])?);
-    let mut shelf = empty_file(rt.alloc());
-    let ended = night(
+    let ended = run_over(
         &rt,
         rt.alloc(),
-        given,
-        Vec::new(rt.alloc()),
-        &mut shelf,
-        &mut no_times(),
+        Ok(words_of(&rt, rt.alloc(), &["demo"])),
+        no_times(),
+        &mut empty_file(rt.alloc()),
         &mut Closed,
         &mut output,
         &mut errors,
     );
-    assert_eq!(&rt; ended.status, 3);
-    assert_eq!(&rt; errors.as_slice(), b"night: input\n".as_slice());
-    assert!(&rt; output.is_empty());
-    Ok(())
+    let is_told = errors.as_slice() == b"night: input\n".as_slice();
+    holds(&rt, ended.status == 3 && is_told, "errors", 0);
+    holds(&rt, output.is_empty(), "output", 0);
 }
 
 /// Words that something is told of, and the status.
-static TOLD: [(&[&str], u8); 3] = [(&["crew"], 2), (&["script", "none"], 3), (&[], 2)];
+type Telling = (&'static [&'static str], u8);
+
+static TOLD: [Telling; 3] = [(&["crew"], 2), (&["script", "none"], 3), (&[], 2)];
+
+/// Asserts how a run ends that can tell nothing.
+fn assert_untold<R: Threads + Wait + Sync + Abort>(
+    rt: &R,
+    alloc: Global,
+    row: usize,
+    telling: &Telling,
+) {
+    let mut output = Vec::new(alloc);
+    let ended = run_over(
+        rt,
+        alloc,
+        Ok(words_of(rt, alloc, telling.0)),
+        no_times(),
+        &mut empty_file(alloc),
+        &mut b"".as_slice(),
+        &mut output,
+        &mut Closed,
+    );
+    holds(rt, ended.status == telling.1 && !ended.told, "words", row);
+}
 
 #[test]
-fn what_could_not_be_told_is_said(rt: HostRuntime) -> Result<(), Fail> {
-    for (words, status) in TOLD {
-        let mut output = Vec::new(rt.alloc());
-        let given = Ok(words_of(rt.alloc(), words)?);
-        let mut shelf = empty_file(rt.alloc());
-        let mut input: &[u8] = b"";
-        let ended = night(
-            &rt,
-            rt.alloc(),
-            given,
-            Vec::new(rt.alloc()),
-            &mut shelf,
-            &mut no_times(),
-            &mut input,
-            &mut output,
-            &mut Closed,
-        );
-        let untold = Ended {
-            status,
-            told: false,
-        };
-        assert_eq!(&rt; ended, untold, "{words:?}");
+fn what_could_not_be_told_is_said(rt: HostRuntime) {
+    for (row, telling) in TOLD.iter().enumerate() {
+        assert_untold(&rt, rt.alloc(), row, telling);
     }
-    Ok(())
 }
