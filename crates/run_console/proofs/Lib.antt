@@ -1,6 +1,7 @@
 pub mod Accounting
 pub mod Carrying
 pub mod Counting
+pub mod Doing
 pub mod Drawing
 pub mod Ends
 pub mod EntryTexts

@@ -1,5 +1,6 @@
 -- How far a run came: what was read, which lines were run, and what was written.
 use Rattle.std.specs.Prelude.{◌≡◌, ◌≤◌, ◌⊎◌, ◌+◌, ℕ, List, [], ◌∷◌, ◌++◌, Option, length, Err}
+use Rattle.std.specs.Prelude.{false}
 use Rattle.std.specs.Io.KnownBytes.{Appends, Consumes, IsAtEnd}
 use Rattle.run_model.specs.declared.faults.Trouble.{Trouble}
 use Rattle.run_model.specs.Session.{Session}
@@ -9,17 +10,20 @@ use Rattle.run_disk.specs.Disk.{DiskState}
 use Rattle.run_model.specs.declared.commands.Step.TheVariants as step
 use Rattle.book_model.specs.Steps.{StepsOn, reply_of_save}
 use Rattle.run_book.specs.Views.{BookView, holding}
+use Rattle.console_lines.specs.declared.asked.Asked.{Asked}
 use Rattle.console_lines.specs.declared.asked.Asked.TheVariants as asked
 use Rattle.console_lines.specs.declared.lines.TheConstants.{LONGEST_INPUT}
 use Rattle.console_lines.specs.declared.faults.RunFault.{RunFault}
 use Rattle.console_lines.specs.declared.faults.RunFault.TheVariants as fault
+use Rattle.console_lines.specs.declared.replies.Reply.{Reply}
 use Rattle.console_lines.specs.declared.replies.Reply.TheVariants as said
 use Rattle.console_lines.specs.Asked.{asked_of}
 use Rattle.console_lines.specs.Lines.{whole_lines, open_line, lines_of}
 use Rattle.console_lines.specs.Progress.{IsFront, WritesPart, kept}
 use Rattle.console_lines.specs.Replies.{reply_line}
-use Rattle.console_lines.specs.Script.{after_lines, closing, replies, reply, script, steps_of}
-use Rattle.run_console.specs.Rows.{TakesAll, TriesLine, next_steps, first_steps}
+use Rattle.console_lines.specs.Script.{after_lines, closing, replies, replies_to, reply, script}
+use Rattle.console_lines.specs.Script.{steps_of}
+use Rattle.run_console.specs.Rows.{TakesAll, TriesLine, first_steps, next_steps, steps_asked}
 use Rattle.run_console.specs.SessionLines.{IsSaving, plain, logged_after, logged_after_lines}
 
 -- What is done or has ended stays so: each scope that was done is done still, for the same reason
@@ -167,6 +171,24 @@ abbrev pub IsOfLine : RunFault → Type 0
 IsOfLine fault.Input = ⊥
 IsOfLine fault.InputTooLong = ⊥
 IsOfLine _ = Unit {0}
+
+-- ---- what a line asks for
+
+-- It was done, and this is what it is replied: its step was taken, where it asks for one.
+pub record Does {D : Type 0} (state : D → DiskState) (a : Asked) (b c : BookView D)
+    (answers : List Reply) : Type 0 where
+  pub taken : TakesAll state (holding b) (steps_asked a) (holding c)
+  pub replied : answers ≡ replies_to (plain b.session) a
+  pub sound : c.journal.broken ≡ false
+  pub lasts : Lasts b.session c.session
+
+-- It was a flush or a checkpoint, and the store failed in it.
+pub record Fails {D : Type 0} (state : D → DiskState) (a : Asked) (why : Trouble)
+    (b c : BookView D) : Type 0 where
+  pub saving : IsSaving a
+  pub tried : StepsOn state (holding b) (steps_asked a) (reply_of_save (Err why) ∷ []) (holding c)
+  pub kept : c.session ≡ b.session
+  pub lasts : Lasts b.session c.session
 
 -- ---- some lines
 

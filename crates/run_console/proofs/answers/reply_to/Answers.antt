@@ -1,109 +1,147 @@
-use Rattle.std.specs.Prelude.{[], ◌∷◌, Err}
-use Rattle.std.proofs.Common.{refl, sym, subst}
-use Rattle.run_model.specs.declared.answers.Reply.TheVariants as told
-use Rattle.run_model.specs.declared.commands.Step.TheVariants as step
-use Rattle.book_model.specs.Steps.{StepsOn, reply_of_save}
-use Rattle.run_book.specs.Views.{holding}
+use Rattle.std.specs.Prelude.{[], ◌∷◌, IfErr, IfOk}
+use Rattle.std.specs.Option.{option_to_list}
+use Rattle.std.proofs.Common.{List, ◌∙◌, refl, sym, subst, ap}
+use Rattle.std.proofs.lemmas.Result.{on_ok_weaker}
+use Rattle.run_model.specs.State.{State}
 use Rattle.console_lines.specs.declared.asked.Asked.{Asked}
-use Rattle.run_console.specs.Rows.{TakesAll, steps_asked}
-use Rattle.run_console.proofs.Rows.{takes_save, takes_step, tries_save}
+use Rattle.console_lines.specs.declared.asked.Asked.TheVariants as asked
+use Rattle.console_lines.specs.declared.replies.Reply.{Reply}
+use Rattle.console_lines.specs.declared.replies.Reply.TheVariants as said
+use Rattle.console_lines.specs.Script.{group_reply, scope_reply, task_reply, value_reply}
+use Rattle.run_console.specs.Progress.{Does, Fails}
+use Rattle.run_console.specs.SessionLines.{logged_asked}
+use Rattle.run_console.proofs.Doing.{does_none, said_of}
 use Rattle.run_console.proofs.answers.reply_to.Goals as goal
 
-pub returns-in-Ok-clause-taken : goal.returns-in-Ok-clause-taken
-returns-in-Ok-clause-taken g c =
-    let state = g.D.RunDisk.state in
-    let old = holding c.args.book.now in
-    let new = holding c.command.new.self in
-    subst (λ (a : Asked). TakesAll state old (steps_asked a) new) (sym c.in-Command.is)
-    (takes_step state old new (step.Command c.in-Command.call) told.Answer c.command.result
-    (λ a. refl)
-    c.command.ensures.answers c.command.ensures.carries_on)
+-- ---- a line that asks for no step
 
-pub returns-in-Err-clause-taken : goal.returns-in-Err-clause-taken
-returns-in-Err-clause-taken g c =
-    let state = g.D.RunDisk.state in
-    let old = holding c.args.book.now in
-    let new = holding c.command.new.self in
-    subst (λ (a : Asked). TakesAll state old (steps_asked a) new) (sym c.in-Command.is)
-    (takes_step state old new (step.Command c.in-Command.call) told.Answer c.command.result
-    (λ a. refl)
-    c.command.ensures.answers c.command.ensures.carries_on)
+pub returns-in-Nothing-clause-does : goal.returns-in-Nothing-clause-does
+returns-in-Nothing-clause-does g c =
+    let b = c.args.book.now in
+    let answers : List Reply = [] in
+    subst (λ (a : Asked). Does g.D.RunDisk.state a b b answers) (sym c.in-Nothing.is)
+    (does_none g.D.RunDisk.state asked.Nothing b answers refl
+    c.requires.sound refl)
 
-pub returns-in-Ok-start-clause-taken : goal.returns-in-Ok-start-clause-taken
-returns-in-Ok-start-clause-taken g c =
-    let state = g.D.RunDisk.state in
-    let old = holding c.args.book.now in
-    let new = holding c.start.new.self in
-    subst (λ (a : Asked). TakesAll state old (steps_asked a) new) (sym c.in-Start.is)
-    (takes_step state old new step.Start told.Started c.start.result (λ a. refl)
-    c.start.ensures.answers c.start.ensures.carries_on)
+pub returns-in-BadLine-clause-does : goal.returns-in-BadLine-clause-does
+returns-in-BadLine-clause-does g c =
+    let b = c.args.book.now in
+    let answers = said.BadLine ∷ [] in
+    subst (λ (a : Asked). Does g.D.RunDisk.state a b b answers) (sym c.in-BadLine.is)
+    (does_none g.D.RunDisk.state asked.BadLine b answers refl
+    c.requires.sound refl)
 
-pub returns-in-Err-start-clause-taken : goal.returns-in-Err-start-clause-taken
-returns-in-Err-start-clause-taken g c =
-    let state = g.D.RunDisk.state in
-    let old = holding c.args.book.now in
-    let new = holding c.start.new.self in
-    subst (λ (a : Asked). TakesAll state old (steps_asked a) new) (sym c.in-Start.is)
-    (takes_step state old new step.Start told.Started c.start.result (λ a. refl)
-    c.start.ensures.answers c.start.ensures.carries_on)
+pub returns-in-Refused-clause-does : goal.returns-in-Refused-clause-does
+returns-in-Refused-clause-does g c =
+    let b = c.args.book.now in
+    let answers = said.Refused c.in-Refused.refusal ∷ [] in
+    subst (λ (a : Asked). Does g.D.RunDisk.state a b b answers) (sym c.in-Refused.is)
+    (does_none g.D.RunDisk.state (asked.Refused c.in-Refused.refusal) b answers refl
+    c.requires.sound refl)
 
-pub returns-in-Ok-finish-clause-taken : goal.returns-in-Ok-finish-clause-taken
-returns-in-Ok-finish-clause-taken g c =
-    let state = g.D.RunDisk.state in
-    let old = holding c.args.book.now in
-    let new = holding c.finish.new.self in
-    subst (λ (a : Asked). TakesAll state old (steps_asked a) new) (sym c.in-Finish.is)
-    (takes_step state old new (step.Finish c.in-Finish.task c.in-Finish.outcome) told.Finished
-    c.finish.result (λ a. refl)
-    c.finish.ensures.answers c.finish.ensures.carries_on)
+pub returns-in-Scope-clause-does : goal.returns-in-Scope-clause-does
+returns-in-Scope-clause-does g c =
+    let b = c.args.book.now in
+    let answers = c.scope_reply.result ∷ [] in
+    subst (λ (a : Asked). Does g.D.RunDisk.state a b b answers) (sym c.in-Scope.is)
+    (does_none g.D.RunDisk.state (asked.Scope c.in-Scope.name) b answers refl
+    c.requires.sound
+    (said_of c.state.result.now b.session.state
+    (λ (p : State). scope_reply p c.in-Scope.name) c.scope_reply.result
+    c.state.ensures.state c.scope_reply.ensures))
 
-pub returns-in-Err-finish-clause-taken : goal.returns-in-Err-finish-clause-taken
-returns-in-Err-finish-clause-taken g c =
-    let state = g.D.RunDisk.state in
-    let old = holding c.args.book.now in
-    let new = holding c.finish.new.self in
-    subst (λ (a : Asked). TakesAll state old (steps_asked a) new) (sym c.in-Finish.is)
-    (takes_step state old new (step.Finish c.in-Finish.task c.in-Finish.outcome) told.Finished
-    c.finish.result (λ a. refl)
-    c.finish.ensures.answers c.finish.ensures.carries_on)
+pub returns-in-Value-clause-does : goal.returns-in-Value-clause-does
+returns-in-Value-clause-does g c =
+    let b = c.args.book.now in
+    let answers = c.value_reply.result ∷ [] in
+    subst (λ (a : Asked). Does g.D.RunDisk.state a b b answers) (sym c.in-Value.is)
+    (does_none g.D.RunDisk.state (asked.Value c.in-Value.scope c.in-Value.key) b answers refl
+    c.requires.sound
+    (said_of c.state-in-Value.result.now b.session.state
+    (λ (p : State). value_reply p c.in-Value.scope c.in-Value.key) c.value_reply.result
+    c.state-in-Value.ensures.state c.value_reply.ensures))
 
-pub returns-in-Ok-flush-clause-taken : goal.returns-in-Ok-flush-clause-taken
-returns-in-Ok-flush-clause-taken g c =
-    let state = g.D.RunDisk.state in
-    let old = holding c.args.book.now in
-    let new = holding c.flush.new.book in
-    subst (λ (a : Asked). TakesAll state old (steps_asked a) new) (sym c.in-Flush.is)
-    (takes_save state old new step.Flush c.flush.result c.in-Ok-flush.count c.in-Ok-flush.is
-    c.flush.ensures.answers c.flush.ensures.carries_on)
+pub returns-in-Task-clause-does : goal.returns-in-Task-clause-does
+returns-in-Task-clause-does g c =
+    let b = c.args.book.now in
+    let answers = c.task_reply.result ∷ [] in
+    subst (λ (a : Asked). Does g.D.RunDisk.state a b b answers) (sym c.in-Task.is)
+    (does_none g.D.RunDisk.state (asked.Task c.in-Task.task) b answers refl
+    c.requires.sound
+    (said_of c.state-in-Task.result.now b.session.state
+    (λ (p : State). task_reply p c.in-Task.task) c.task_reply.result
+    c.state-in-Task.ensures.state c.task_reply.ensures))
 
-pub returns-in-Err-flush-clause-tried : goal.returns-in-Err-flush-clause-tried
-returns-in-Err-flush-clause-tried g c =
-    let state = g.D.RunDisk.state in
-    let old = holding c.args.book.now in
-    let new = holding c.flush.new.book in
-    let why = c.in-Err-flush.trouble in
-    subst (λ (a : Asked). StepsOn state old (steps_asked a) (reply_of_save (Err why) ∷ []) new)
-    (sym c.in-Flush.is)
-    (tries_save state old new step.Flush c.flush.result why c.in-Err-flush.is
-    c.flush.ensures.answers c.flush.ensures.carries_on)
+pub returns-in-Result-clause-does : goal.returns-in-Result-clause-does
+returns-in-Result-clause-does g c =
+    let b = c.args.book.now in
+    let answers = c.group_reply.result ∷ [] in
+    subst (λ (a : Asked). Does g.D.RunDisk.state a b b answers) (sym c.in-Result.is)
+    (does_none g.D.RunDisk.state (asked.Result c.in-Result.group) b answers refl
+    c.requires.sound
+    (said_of c.state-in-Result.result.now b.session.state
+    (λ (p : State). group_reply p c.in-Result.group) c.group_reply.result
+    c.state-in-Result.ensures.state c.group_reply.ensures))
 
-pub returns-in-Ok-checkpoint-clause-taken : goal.returns-in-Ok-checkpoint-clause-taken
-returns-in-Ok-checkpoint-clause-taken g c =
-    let state = g.D.RunDisk.state in
-    let old = holding c.args.book.now in
-    let new = holding c.checkpoint.new.book in
-    subst (λ (a : Asked). TakesAll state old (steps_asked a) new) (sym c.in-Checkpoint.is)
-    (takes_save state old new step.Checkpoint c.checkpoint.result c.in-Ok-checkpoint.count
-    c.in-Ok-checkpoint.is
-    c.checkpoint.ensures.answers c.checkpoint.ensures.carries_on)
+-- ---- a step
 
-pub returns-in-Err-checkpoint-clause-tried : goal.returns-in-Err-checkpoint-clause-tried
-returns-in-Err-checkpoint-clause-tried g c =
-    let state = g.D.RunDisk.state in
-    let old = holding c.args.book.now in
-    let new = holding c.checkpoint.new.book in
-    let why = c.in-Err-checkpoint.trouble in
-    subst (λ (a : Asked). StepsOn state old (steps_asked a) (reply_of_save (Err why) ∷ []) new)
-    (sym c.in-Checkpoint.is)
-    (tries_save state old new step.Checkpoint c.checkpoint.result why c.in-Err-checkpoint.is
-    c.checkpoint.ensures.answers c.checkpoint.ensures.carries_on)
+pub returns-in-Command-clause-does : goal.returns-in-Command-clause-does
+returns-in-Command-clause-does g c =
+    subst (λ (a : Asked). Does g.D.RunDisk.state a c.args.book.now c.command_reply.new.book
+    (c.command_reply.result ∷ [])) (sym c.in-Command.is) c.command_reply.ensures.does
+
+pub returns-in-Start-clause-does : goal.returns-in-Start-clause-does
+returns-in-Start-clause-does g c =
+    subst (λ (a : Asked). Does g.D.RunDisk.state a c.args.book.now c.start_reply.new.book
+    (c.start_reply.result ∷ [])) (sym c.in-Start.is) c.start_reply.ensures.does
+
+pub returns-in-Finish-clause-does : goal.returns-in-Finish-clause-does
+returns-in-Finish-clause-does g c =
+    subst (λ (a : Asked). Does g.D.RunDisk.state a c.args.book.now c.finish_reply.new.book
+    (c.finish_reply.result ∷ [])) (sym c.in-Finish.is) c.finish_reply.ensures.does
+
+-- ---- a flush or a checkpoint
+
+pub returns-in-Flush-clause-does : goal.returns-in-Flush-clause-does
+returns-in-Flush-clause-does g c =
+    subst (λ (a : Asked). IfOk c.flush_reply.result (λ reply. Does g.D.RunDisk.state a
+    c.args.book.now c.flush_reply.new.book (option_to_list reply))) (sym c.in-Flush.is)
+    c.flush_reply.ensures.does
+
+pub returns-in-Flush-clause-fails : goal.returns-in-Flush-clause-fails
+returns-in-Flush-clause-fails g c =
+    subst (λ (a : Asked). IfErr c.flush_reply.result (λ why. Fails g.D.RunDisk.state a why
+    c.args.book.now c.flush_reply.new.book)) (sym c.in-Flush.is)
+    c.flush_reply.ensures.fails
+
+pub returns-in-Flush-clause-session : goal.returns-in-Flush-clause-session
+returns-in-Flush-clause-session g c =
+    on_ok_weaker c.flush_reply.result
+    (λ h. c.flush_reply.ensures.session
+    ∙ ap (logged_asked c.args.book.now.session) (sym c.in-Flush.is))
+    c.flush_reply.ensures.saved
+
+pub returns-in-Flush-clause-saved : goal.returns-in-Flush-clause-saved
+returns-in-Flush-clause-saved g c = λ saving. c.flush_reply.ensures.saved
+
+pub returns-in-Checkpoint-clause-does : goal.returns-in-Checkpoint-clause-does
+returns-in-Checkpoint-clause-does g c =
+    subst (λ (a : Asked). IfOk c.checkpoint_reply.result (λ reply. Does g.D.RunDisk.state a
+    c.args.book.now c.checkpoint_reply.new.book (option_to_list reply))) (sym c.in-Checkpoint.is)
+    c.checkpoint_reply.ensures.does
+
+pub returns-in-Checkpoint-clause-fails : goal.returns-in-Checkpoint-clause-fails
+returns-in-Checkpoint-clause-fails g c =
+    subst (λ (a : Asked). IfErr c.checkpoint_reply.result (λ why. Fails g.D.RunDisk.state a why
+    c.args.book.now c.checkpoint_reply.new.book)) (sym c.in-Checkpoint.is)
+    c.checkpoint_reply.ensures.fails
+
+pub returns-in-Checkpoint-clause-session : goal.returns-in-Checkpoint-clause-session
+returns-in-Checkpoint-clause-session g c =
+    on_ok_weaker c.checkpoint_reply.result
+    (λ h. c.checkpoint_reply.ensures.session
+    ∙ ap (logged_asked c.args.book.now.session) (sym c.in-Checkpoint.is))
+    c.checkpoint_reply.ensures.saved
+
+pub returns-in-Checkpoint-clause-saved : goal.returns-in-Checkpoint-clause-saved
+returns-in-Checkpoint-clause-saved g c = λ saving. c.checkpoint_reply.ensures.saved

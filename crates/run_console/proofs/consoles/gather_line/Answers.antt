@@ -1,6 +1,6 @@
 use Rattle.std.specs.Prelude.{◌≡◌, ◌∷◌, ◌++◌, [], Err, true, map}
 use Rattle.std.specs.Option.{option_to_list}
-use Rattle.std.proofs.Common.{ℕ, List, inl, refl, sym, subst, ap, ◌∙◌}
+use Rattle.std.proofs.Common.{ℕ, List, arith, inl, refl, sym, subst, ap, ◌∙◌}
 use Rattle.std.proofs.lemmas.Result.{err_from_is_err_and}
 use Rattle.run_model.specs.State.{State}
 use Rattle.run_model.specs.Session.{Session}
@@ -126,10 +126,10 @@ returns-in-Err-clause-cut g c = λ line e.
     c.reply_to.new.book c.args.gathered.now.items c.make_room.new.gathered.items
     (g.W.Write.contents c.args.output.now) (g.W.Write.contents c.make_room.new.output)
     (g.W.Write.contents c.stop.new.output)
-    (subst IsSaving read c.in-Err.ensures.saving) c.in-Err.ensures.kept
+    (subst IsSaving read c.in-Err.ensures.fails.saving) c.in-Err.ensures.fails.kept
     (subst (λ (a : Asked). StepsOn g.D.RunDisk.state (holding c.args.book.now) (steps_asked a)
     (reply_of_save (Err c.in-Err.trouble) ∷ []) (holding c.reply_to.new.book)) read
-    c.in-Err.ensures.tried)
+    c.in-Err.ensures.fails.tried)
     c.in_ok-make_room.ensures.told c.stop.ensures
 
 pub returns-in-Err-clause-fault : goal.returns-in-Err-clause-fault
@@ -138,7 +138,13 @@ returns-in-Err-clause-fault g c =
     (g.W.Write.contents c.make_room.new.output) (g.W.Write.contents c.stop.new.output)
     c.stop.ensures
 
+pub returns-in-Err-clause-lasts : goal.returns-in-Err-clause-lasts
+returns-in-Err-clause-lasts g c = c.in-Err.ensures.fails.lasts
+
 -- ---- a reply
+
+pub gather_reply-requires : goal.gather_reply-requires
+gather_reply-requires g c = omega (arith, c.in_ok-make_room.ensures.room)
 
 pub returns-in-Ok-clause-ran : goal.returns-in-Ok-clause-ran
 returns-in-Ok-clause-ran g c = λ line e.
@@ -154,15 +160,22 @@ returns-in-Ok-clause-ran g c = λ line e.
     ran_line g.D.RunDisk.state line b d f h w0 w1 (line_obeyed b.session d.session line a read
     c.in-Ok.ensures.session)
     (subst (λ (q : Asked). TakesAll g.D.RunDisk.state (holding b) (steps_asked q) (holding d)) read
-    c.in-Ok.ensures.taken)
+    c.in-Ok.ensures.does.taken)
     (told_more (reply (plain b.session) line) f m h w0 w1 c.in_ok-make_room.ensures.told
     (c.gather_reply.ensures
     ∙ ap (λ t. m ++ t)
     (line_replies (plain b.session) line a (option_to_list c.in-Ok.reply) read
-    c.in-Ok.ensures.reply)))
+    c.in-Ok.ensures.does.replied)))
 
 pub returns-in-Ok-clause-strays : goal.returns-in-Ok-clause-strays
 returns-in-Ok-clause-strays g c = λ line e.
     c.stray_of-why.ensures
     ∙ line_strays (plain c.args.book.now.session) line c.read_line-asked.result
-    (option_to_list c.in-Ok.reply) (c.read_line-asked.ensures ∙ sym e) c.in-Ok.ensures.reply
+    (option_to_list c.in-Ok.reply) (c.read_line-asked.ensures ∙ sym e) c.in-Ok.ensures.does.replied
+
+pub returns-in-Ok-clause-lasts : goal.returns-in-Ok-clause-lasts
+returns-in-Ok-clause-lasts g c = c.in-Ok.ensures.does.lasts
+
+pub returns-in-Ok-clause-saved : goal.returns-in-Ok-clause-saved
+returns-in-Ok-clause-saved g c = λ saving.
+    c.in-Ok.ensures.saved (subst IsSaving (sym c.read_line-asked.ensures) saving)
