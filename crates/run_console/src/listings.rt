@@ -7,7 +7,7 @@ ghost use Rattle.console_lines.specs.Listed.{listed, listed_line};
 ghost use Rattle.console_lines.specs.Progress.{WritesPart};
 ghost use Rattle.run_console.specs.Progress.{Told};
 
-use crate::inspects::gather_row;
+use crate::inspects::{Rows, gather_row};
 use crate::writings::{Gathered, write_gathered};
 use console_lines::{Row, RunFault};
 use run_state::State;
@@ -54,7 +54,7 @@ fn gather_tasks<W: Write, B: Allocator>(
         (option_map (λ word. word.now) group.entry) state.now)) }
     ensures fault { IfErr result (λ fault. fault ≡ RunFault.Output) }
 {
-    for number in 0..state.task_count() as u16 {
+    for number in 0..Rows::Tasks.count(state) as u16 {
         gather_row(listed_task(number, state, phase, group), gathered, output)?;
     }
     Ok(())

@@ -23,8 +23,8 @@ returns-in_err-gather_row-clause-cut g c =
     omega (
       arith,
       c.loop-number-test.true,
-      c.task_count-number-end.ensures.len,
-      c.task_count-number-end.ensures.few,
+      c.count-number-end.ensures.count,
+      c.count-number-end.ensures.few,
     ) in
     rw p.1 (
     line_cut line c.loop-number.number n
@@ -61,7 +61,7 @@ returns-clause-told g c =
       arith,
       c.loop-number-test.false,
       c.loop-number.auto.number-end,
-      c.task_count-number-end.ensures.len,
-      c.task_count-number-end.ensures.few,
+      c.count-number-end.ensures.count,
+      c.count-number-end.ensures.few,
     ) in
     subst P same c.loop-number.invariant
