@@ -53,6 +53,9 @@ returns-clause-stops g c = λ sound.
 
 -- ---- the book
 
+pub returns-clause-lasts : goal.returns-clause-lasts
+returns-clause-lasts g c = c.gather_line.ensures.lasts
+
 pub returns-in_err-gather_line-clause-carries_on :
     goal.returns-in_err-gather_line-clause-carries_on
 returns-in_err-gather_line-clause-carries_on g c =

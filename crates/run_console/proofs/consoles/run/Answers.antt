@@ -5,6 +5,15 @@ use Rattle.run_console.proofs.Fronts.{stops_begin}
 use Rattle.run_console.proofs.LineSteps.{fault_then}
 use Rattle.run_console.proofs.consoles.run.Goals as goal
 
+pub returns-clause-all : goal.returns-clause-all
+returns-clause-all g c = c.run_sound.ensures.all
+
+pub returns-clause-stops : goal.returns-clause-stops
+returns-clause-stops g c = λ sound. c.run_sound.ensures.stops
+
+pub returns-clause-lasts : goal.returns-clause-lasts
+returns-clause-lasts g c = c.run_sound.ensures.lasts
+
 pub returns-clause-begins : goal.returns-clause-begins
 returns-clause-begins g c = λ sound.
     let b = c.args.book.now in

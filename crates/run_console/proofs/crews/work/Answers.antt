@@ -6,6 +6,9 @@ use Rattle.run_crew.specs.Seats.{SeatView}
 use Rattle.run_console.proofs.Working.{acknowledged, no_finishes, no_starts, shares_count}
 use Rattle.run_console.proofs.crews.work.Goals as goal
 
+pub new-desk-requires-clause-carries : goal.new-desk-requires-clause-carries
+new-desk-requires-clause-carries g c = c.requires.carries
+
 pub returns-clause-worked : goal.returns-clause-worked
 returns-clause-worked g c =
     let begun = c.requires.begun in
