@@ -15,10 +15,12 @@ pub fn filled(rt: &impl Abort, alloc: Global, value: u8, count: usize) -> Vec<u8
 
 /// Puts bytes from a place on, as far as they are inside.
 pub fn put(bytes: &mut [u8], from: usize, new: &[u8]) {
-    if let Some(rest) = bytes.get_mut(from..) {
-        for (old, byte) in rest.iter_mut().zip(new.iter()) {
+    let mut place = from;
+    for byte in new.iter() {
+        if let Some(old) = bytes.get_mut(place) {
             *old = *byte;
         }
+        place = place.saturating_add(1);
     }
 }
 

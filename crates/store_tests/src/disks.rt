@@ -339,13 +339,24 @@ static FUSED: [Call; 5] = [
 /// What is left by two calls.
 static BEHIND_FUSE: [Call; 1] = [Call::Read(0, &[1, 0, 0, 0])];
 
+/// The disk below a fuse that two calls pass, behind these.
+fn below_fuse(rt: &impl Abort, alloc: Global, calls: &[Call]) -> MemoryDisk {
+    let mut fuse = Fuse::new(blank(rt, alloc, 4), 2);
+    play(rt, &mut fuse, "call of a fuse", calls);
+    fuse.into_inner()
+}
+
+/// Asserts that so many calls came to a disk, and what these give then.
+fn assert_behind(rt: &impl Abort, disk: MemoryDisk, counted: u64, calls: &[Call]) {
+    let mut disk = disk;
+    holds(rt, disk.calls() == counted, "calls", counted as usize);
+    play(rt, &mut disk, "behind", calls);
+}
+
 #[test]
 fn a_fuse_fails_for_good(rt: HostRuntime) {
-    let mut fuse = Fuse::new(blank(&rt, rt.alloc(), 4), 2);
-    play(&rt, &mut fuse, "call", &FUSED);
-    let mut disk = fuse.into_inner();
-    holds(&rt, disk.calls() == 2, "calls", 2);
-    play(&rt, &mut disk, "behind", &BEHIND_FUSE);
+    let disk = below_fuse(&rt, rt.alloc(), &FUSED);
+    assert_behind(&rt, disk, 2, &BEHIND_FUSE);
 }
 
 /// Fails the second call alone.
@@ -358,13 +369,17 @@ static FAILED_ONCE: [Call; 3] = [
 /// What is left by three calls.
 static BEHIND_FAILURE: [Call; 1] = [Call::Read(0, &[1, 0, 3, 0])];
 
+/// The disk below one whose call of this number fails, behind these.
+fn below_fail_once(rt: &impl Abort, alloc: Global, failing: u64, calls: &[Call]) -> MemoryDisk {
+    let mut once = FailOnce::new(blank(rt, alloc, 4), failing);
+    play(rt, &mut once, "call, where one fails", calls);
+    once.into_inner()
+}
+
 #[test]
 fn one_call_fails_once(rt: HostRuntime) {
-    let mut once = FailOnce::new(blank(&rt, rt.alloc(), 4), 2);
-    play(&rt, &mut once, "call", &FAILED_ONCE);
-    let mut disk = once.into_inner();
-    holds(&rt, disk.calls() == 3, "calls", 3);
-    play(&rt, &mut disk, "behind", &BEHIND_FAILURE);
+    let disk = below_fail_once(&rt, rt.alloc(), 2, &FAILED_ONCE);
+    assert_behind(&rt, disk, 3, &BEHIND_FAILURE);
 }
 
 /// A write of a byte, and then twice one of no byte: the second time where the disk fails.
@@ -382,20 +397,6 @@ static UNSYNCED: [Row; 4] = [
     (2, Torn::Front(0), &[0, 0, 0, 0]),
 ];
 
-/// The disk below a fuse behind those writes.
-fn below_fuse(rt: &impl Abort, alloc: Global) -> MemoryDisk {
-    let mut fuse = Fuse::new(blank(rt, alloc, 4), 2);
-    play(rt, &mut fuse, "write", &NO_BYTES);
-    fuse.into_inner()
-}
-
-/// The disk below one that fails once.
-fn below_fail_once(rt: &impl Abort, alloc: Global) -> MemoryDisk {
-    let mut once = FailOnce::new(blank(rt, alloc, 4), 3);
-    play(rt, &mut once, "write", &NO_BYTES);
-    once.into_inner()
-}
-
 /// Asserts that the two writes came to a disk, and what crashes leave of it behind them.
 fn assert_unsynced(rt: &impl Abort, alloc: Global, disk: &MemoryDisk) {
     holds(rt, disk.calls() == 2, "calls", 2);
@@ -407,6 +408,7 @@ fn assert_unsynced(rt: &impl Abort, alloc: Global, disk: &MemoryDisk) {
 // less than its contract allows.
 #[test]
 fn a_write_of_no_bytes_makes_nothing_last(rt: HostRuntime) {
-    assert_unsynced(&rt, rt.alloc(), &below_fuse(&rt, rt.alloc()));
-    assert_unsynced(&rt, rt.alloc(), &below_fail_once(&rt, rt.alloc()));
+    let alloc = rt.alloc();
+    assert_unsynced(&rt, alloc, &below_fuse(&rt, alloc, &NO_BYTES));
+    assert_unsynced(&rt, alloc, &below_fail_once(&rt, alloc, 3, &NO_BYTES));
 }
