@@ -144,7 +144,8 @@ fn work<
         finishes,
         flushed,
     };
-    (Ok(night), desk.into_book().into_disk())
+    let disk = desk.into_book().into_disk();
+    (Ok(night), disk)
 }
 
 /// Prints what is told of a night. It takes no memory.

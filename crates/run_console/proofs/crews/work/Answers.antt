@@ -25,7 +25,7 @@ returns-clause-worked g c =
       flushes = c.flush-flushed.ensures.flushes;
       session = c.flush-flushed.ensures.session;
       carries = c.book-book.ensures.carries;
-      disk = sym (c.into_disk-2.ensures
+      disk = sym (c.into_disk-disk.ensures
           ∙ ap (λ (b : BookView _). b.journal.disk) c.into_book-2.ensures.book
           ∙ ap (λ (d : DeskView _). d.book.journal.disk) c.settle-starts.ensures.same.0);
       acked = acknowledged g.D.RunDisk.state c.into_inner-desk.result.book
@@ -55,6 +55,6 @@ pub returns-clause-left : goal.returns-clause-left
 returns-clause-left g c = record {
   book = holding c.settle-starts.new.self.book;
   carries = c.into_book-2.ensures.carries;
-  disk = sym (c.into_disk-2.ensures
+  disk = sym (c.into_disk-disk.ensures
       ∙ ap (λ (b : BookView _). b.journal.disk) c.into_book-2.ensures.book);
 }
