@@ -5,3 +5,4 @@ pub mod Notes
 pub mod Openings
 pub mod Seats
 pub mod Shifts
+pub mod Steps

@@ -1,5 +1,5 @@
 -- What contracts see of a seat.
-use Rattle.std.specs.Prelude.{ℕ, ◌+◌}
+use Rattle.std.specs.Prelude.{ℕ, ◌+◌, ◌≡◌, ◌≤◌}
 
 -- The parts and the amount of its share of the starts, and of that of the finishes.
 pub record SeatView : Type 0 where
@@ -28,3 +28,12 @@ joined seat other = record {
   finish_parts = seat.finish_parts + other.finish_parts;
   finishes = seat.finishes + other.finishes;
 }
+
+-- Behind a night of so many workers that noted so many finishes the seat has its parts again. It
+-- has counted those finishes, and as many starts, or one more for each worker at most.
+pub record CountsNight (workers noted : ℕ) (seat after : SeatView) : Type 0 where
+  pub start_parts : after.start_parts ≡ seat.start_parts
+  pub finish_parts : after.finish_parts ≡ seat.finish_parts
+  pub finishes : after.finishes ≡ seat.finishes + noted
+  pub starts : seat.starts + noted ≤ after.starts
+  pub one_more : after.starts ≤ seat.starts + noted + workers

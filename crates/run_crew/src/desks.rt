@@ -9,16 +9,14 @@ ghost use Rattle.run_model.specs.Replies.{decide, decide_finish, decide_start, r
 ghost use Rattle.run_model.specs.Replies.{reply_finish, reply_start};
 ghost use Rattle.run_model.specs.Session.{made, replied};
 ghost use Rattle.record_view.specs.Records.{events_in};
-ghost use Rattle.run_state.specs.Lasting.{Stays};
-ghost use Rattle.run_session.specs.Logged.{GoesOnBy, Replays, after_command, after_finish};
-ghost use Rattle.run_session.specs.Logged.{after_start};
+ghost use Rattle.run_session.specs.Logged.{Replays, after_command, after_finish, after_start};
 ghost use Rattle.book_model.specs.Holdings.{CarriesOn, Checkpoints, Flushes, IsDurable, IsSafe};
-ghost use Rattle.book_model.specs.Steps.{AnswersStep};
 ghost use Rattle.book_model.specs.Stores.{Stores};
 ghost use Rattle.run_book.specs.Views.{holding, unless_broken, with_session};
 ghost use Rattle.run_crew.specs.Desks.{DeskView, finishes_of, history_of, is_done_for, starts_of};
 ghost use Rattle.run_crew.specs.Openings.{Carries};
 ghost use Rattle.run_crew.specs.Seats.{one_finish, one_start};
+ghost use Rattle.run_crew.specs.Steps.{TakesStep};
 
 use crate::counts::counts_of;
 use crate::openings::{AnyBook, Obeys, Opening};
@@ -98,15 +96,11 @@ impl<D: RunDisk, S: Ledger, F: Ledger, O: Opening> Desk<D, S, F, O> {
             (reply_start self.old.book.session.state (length self.old.book.session.log)) }
         ensures after { self.new.book
             ≡ with_session self.old.book (after_start self.old.book.session) }
-        ensures history { GoesOnBy (made (unless_broken self.old.book
+        ensures step { TakesStep D.state self.old step.Start (replied told.Started result)
+            (made (unless_broken self.old.book
             (decide_start self.old.book.session.state (length self.old.book.session.log))))
-            self.old.book.session self.new.book.session }
-        ensures answers { AnswersStep D.state (holding self.old.book) step.Start
-            (replied told.Started result) (holding self.new.book) }
+            self.new }
         ensures refused { OnErr result (self.new.book ≡ self.old.book) }
-        ensures stays { Stays self.old.book.session.state self.new.book.session.state }
-        ensures carries_on { CarriesOn D.state (holding self.old.book) (holding self.new.book) }
-        ensures since { self.new.since ≡ self.old.since }
         ensures seat { MatchResult result (λ _. seat.new ≡ one_start seat.old)
             (λ _. seat.new ≡ seat.old) }
         ensures parts { (seat.new.start_parts ≡ seat.old.start_parts)
@@ -130,16 +124,10 @@ impl<D: RunDisk, S: Ledger, F: Ledger, O: Opening> Desk<D, S, F, O> {
             (reply_finish self.old.book.session.state task outcome.now) }
         ensures after { self.new.book ≡ with_session self.old.book
             (after_finish self.old.book.session task outcome.now) }
-        ensures history { GoesOnBy (made (unless_broken self.old.book
-            (decide_finish self.old.book.session.state task outcome.now)))
-            self.old.book.session self.new.book.session }
-        ensures answers { AnswersStep D.state (holding self.old.book)
-            (step.Finish task outcome.now) (replied told.Finished result)
-            (holding self.new.book) }
+        ensures step { TakesStep D.state self.old (step.Finish task outcome.now)
+            (replied told.Finished result) (made (unless_broken self.old.book
+            (decide_finish self.old.book.session.state task outcome.now))) self.new }
         ensures refused { OnErr result (self.new.book ≡ self.old.book) }
-        ensures stays { Stays self.old.book.session.state self.new.book.session.state }
-        ensures carries_on { CarriesOn D.state (holding self.old.book) (holding self.new.book) }
-        ensures since { self.new.since ≡ self.old.since }
         ensures seat { MatchResult result (λ _. seat.new ≡ one_finish seat.old)
             (λ _. seat.new ≡ seat.old) }
         ensures parts { (seat.new.start_parts ≡ seat.old.start_parts)
@@ -250,15 +238,11 @@ impl<D: RunDisk, S: Ledger, F: Ledger, O: Obeys> Desk<D, S, F, O> {
             (reply self.old.book.session.state (length self.old.book.session.log) call.now) }
         ensures after { self.new.book ≡ with_session self.old.book
             (after_command self.old.book.session call.now) }
-        ensures history { GoesOnBy (made (unless_broken self.old.book
+        ensures step { TakesStep D.state self.old (step.Command call.now)
+            (replied told.Answer result) (made (unless_broken self.old.book
             (decide self.old.book.session.state (length self.old.book.session.log) call.now)))
-            self.old.book.session self.new.book.session }
-        ensures answers { AnswersStep D.state (holding self.old.book) (step.Command call.now)
-            (replied told.Answer result) (holding self.new.book) }
+            self.new }
         ensures refused { OnErr result (self.new.book ≡ self.old.book) }
-        ensures stays { Stays self.old.book.session.state self.new.book.session.state }
-        ensures carries_on { CarriesOn D.state (holding self.old.book) (holding self.new.book) }
-        ensures since { self.new.since ≡ self.old.since }
     {
         self.book.command(call)
     }

@@ -4,6 +4,7 @@ ghost use Rattle.std.specs.Prelude.{◌≡◌, ◌+◌, ◌<◌, ◌≤◌, [], 
 ghost use Rattle.std.specs.Prelude.{IfOk, IfErr, OnOk};
 ghost use Rattle.run_model.specs.declared.faults.Fault.TheVariants.{Memory};
 ghost use Rattle.run_crew.specs.Notes.{noted};
+ghost use Rattle.run_crew.specs.Seats.{CountsNight};
 
 use crate::arrivals::Arrivals;
 use crate::bells::Bell;
@@ -53,14 +54,8 @@ pub fn run_night<
     requires start_parts { vec_len jobs < seat.old.start_parts }
     requires finish_parts { vec_len jobs < seat.old.finish_parts }
     ensures workers { IfOk result (λ r. vec_len r.0 ≡ vec_len jobs) }
-    ensures start_parts { OnOk result (seat.new.start_parts ≡ seat.old.start_parts) }
-    ensures finish_parts { OnOk result (seat.new.finish_parts ≡ seat.old.finish_parts) }
-    ensures finishes { IfOk result (λ r.
-        seat.new.finishes ≡ seat.old.finishes + noted r.0.items) }
-    ensures starts { IfOk result (λ r.
-        seat.old.starts + noted r.0.items ≤ seat.new.starts) }
-    ensures one_more { IfOk result (λ r.
-        seat.new.starts ≤ seat.old.starts + noted r.0.items + vec_len jobs) }
+    ensures seat { IfOk result (λ r.
+        CountsNight (vec_len jobs) (noted r.0.items) seat.old seat.new) }
     ensures fault { IfErr result (λ fault. fault ≡ Memory) }
 {
     let Ok(mut notes) = Vec::with_capacity(alloc, jobs.len()) else {

@@ -15,7 +15,7 @@ returns-clause-worked g c =
     let counts = shares_count _ _ _ _ _ _ _ _ _
     (ap (λ (s : SeatView). s.starts) c.new-desk.ensures.seat ∙ no_starts c.args.book begun)
     (ap (λ (s : SeatView). s.finishes) c.new-desk.ensures.seat ∙ no_finishes c.args.book begun)
-    c.in-Ok.ensures.finishes c.in-Ok.ensures.starts c.in-Ok.ensures.one_more
+    c.in-Ok.ensures.seat.finishes c.in-Ok.ensures.seat.starts c.in-Ok.ensures.seat.one_more
     c.settle-starts.ensures.counted.0 c.settle-starts.ensures.counted.1
     (ap noted c.as_slice.ensures.value) in
     record {

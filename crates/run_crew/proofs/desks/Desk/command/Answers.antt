@@ -1,4 +1,4 @@
-use Rattle.std.proofs.Common.{length}
+use Rattle.std.proofs.Common.{length, rules}
 use Rattle.record_view.specs.Records.{events_in}
 use Rattle.std.specs.Prelude.{option_to_list}
 use Rattle.run_model.specs.Replies.{decide}
@@ -25,3 +25,9 @@ invariant_of-self g c =
           c.self.invariant.2 c.command.ensures.carries_on c.command.ensures.history
           (none_barred known events g.met.O.Obeys.commands_come),
     )
+
+pub returns-clause-after : goal.returns-clause-after
+returns-clause-after g c = search rules
+
+pub returns-clause-step : goal.returns-clause-step
+returns-clause-step g c = search rules
