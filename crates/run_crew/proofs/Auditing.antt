@@ -4,7 +4,8 @@ use Rattle.std.proofs.Common.{subst, ◌∙◌}
 use Rattle.std.specs.List.Sorted.{IsPermutation}
 use Rattle.run_model.specs.State.{WorkState}
 use Rattle.run_crew.specs.declared.notes.Note.{Note}
-use Rattle.run_crew.specs.Audits.{HasStrayed, IsComplete, IsFirstLeft}
+use Rattle.run_crew.specs.declared.audits.Strayed.{Strayed}
+use Rattle.run_crew.specs.Audits.{HasStrayed, IsComplete, IsFirstLeft, IsFirstStray}
 use Rattle.run_crew.specs.Audits.{NoStray, NoneLeft, are_noted, made_at}
 use Rattle.run_crew.specs.Desks.{DeskView, history_of}
 use Rattle.run_crew.specs.Notes.{all_notes}
@@ -22,6 +23,12 @@ same_noted :
     (made found : List Note) (lists : List (List Note)) (b : Bool) → found ≡ made
     → b ≡ are_noted found lists → are_noted made lists ≡ b
 same_noted made found lists b same is = ap (λ l. are_noted l lists) (sym same) ∙ sym is
+
+pub strays :
+    {D : Type 0} (d : DeskView D) (lists : List (List Note)) (found : List Note) (place : Strayed)
+    → found ≡ made_at d → IsFirstStray found lists place → HasStrayed d lists place
+strays d lists found place same is =
+    inl (let P : List Note → Type 0 = λ l. IsFirstStray l lists place in subst P same is)
 
 pub lacks :
     {D : Type 0} (d : DeskView D) (lists : List (List Note)) (found : List Note)

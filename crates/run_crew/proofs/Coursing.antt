@@ -28,6 +28,11 @@ path-append step (x ∷ xs) ys a b c first path =
 
 -- ---- turns
 
+pub no_rounds :
+    {A : Type 0} (step : A → Call → A → Type 0) (info : TaskInfo) (job : ℕ) (a : A)
+    → Went step (AreRounds info job 0) a a
+no_rounds step info job a = ([], refl, refl)
+
 pub round-path :
     {A : Type 0} (step : A → Call → A → Type 0) (info : TaskInfo) (job number : ℕ)
     (passes done : Bool) (answer : Turn) (a b c d : A) → passes ≡ true
@@ -226,11 +231,11 @@ pub finished :
     → after ≡ notes ++ record { event = event; task = started.info.task; outcome = how } ∷ []
     → Went step (IsBegun answered) a b
     → Went step (λ calls. IsRun had started.info calls how) b c
-    → step c (call.Finish started.info.task how answer) d
-    → step d (call.Tell started.info.task) e → step e (call.Ring event) f
+    → step c (call.Finish started.info.task how answer) d → step e (call.Ring event) f
+    → step d (call.Tell started.info.task) e
     → Went step (TakesTask jobs true notes after) a f
 finished step jobs had answered started how answer event notes after a b c d e f same some is
-    noted first behind finish tell ring =
+    noted first behind finish ring tell =
     let begun = subst (λ s. Went step (IsBegun s) a b) some first in
     let run = subst (λ n. Went step (λ calls. IsRun n started.info calls how) b c) same behind in
     let task = started.info.task in

@@ -1,6 +1,13 @@
 use Rattle.std.proofs.Common.{ap, ◌∙◌}
-use Rattle.run_crew.proofs.Auditing.{complete, lacks, leaves, permuted}
+use Rattle.run_crew.proofs.Auditing.{complete, lacks, leaves, permuted, strays}
 use Rattle.run_crew.proofs.audits.audit.Goals as goal
+
+pub returns-in-Some : goal.returns-in-Some
+returns-in-Some g c = record {
+  answer = strays c.args.desk.now c.args.lists.now c.since_made-made.result c.in-Some.strayed
+      c.since_made-made.ensures c.in-Some.ensures;
+  exactly = tt;
+}
 
 pub returns-then-not-are_noted : goal.returns-then-not-are_noted
 returns-then-not-are_noted g c = record {

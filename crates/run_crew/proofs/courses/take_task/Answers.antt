@@ -1,5 +1,7 @@
-use Rattle.std.proofs.Common.{rules, ◌<◌, length}
+use Rattle.std.proofs.Common.{ap, arith, rules, ◌<◌, ◌∙◌, length}
+use Rattle.std.proofs.lemmas.Grind.{common_steps}
 use Rattle.run_model.specs.declared.bounds.TheConstants.{MOST_TASKS}
+use Rattle.run_crew.specs.Seats.{one_finish}
 use Rattle.run_crew.proofs.Coursing.{finished, not_finished}
 use Rattle.run_crew.proofs.courses.take_task.Goals as goal
 
@@ -13,10 +15,14 @@ returns-in_default-finish-clause-calls g c =
     c.in-Some.is c.in_default-finish.is room c.start.ensures.calls c.run-outcome.ensures.calls
     c.finish.ensures.step
 
+pub returns-clause-seat : goal.returns-clause-seat
+returns-clause-seat g c =
+    (c.in-Ok.ensures.seat ∙ ap one_finish c.in-Some.ensures.seat, grind (arith, common_steps))
+
 pub returns-clause-calls : goal.returns-clause-calls
 returns-clause-calls g c =
     finished g.W.Floor.step (g.W.Floor.jobs c.args.floor.now) (g.W.Floor.jobs c.start.new.floor)
     c.start.result c.in-Some.started c.run-outcome.result c.finish.result c.in-Ok.event
     c.args.notes.now c.note.new.self _ _ _ _ _ _ c.start.ensures.jobs c.in-Some.is c.in-Ok.is
     c.note.ensures.added c.start.ensures.calls c.run-outcome.ensures.calls
-    c.finish.ensures.step c.tell.ensures.step c.ring.ensures.step
+    c.finish.ensures.step c.ring.ensures.step (search rules)

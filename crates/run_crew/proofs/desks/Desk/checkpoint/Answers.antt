@@ -1,4 +1,4 @@
-use Rattle.std.proofs.Common.{ap, sym, ◌∙◌}
+use Rattle.std.proofs.Common.{ap, rules, sym, ◌∙◌}
 use Rattle.run_session.specs.Logged.{Logged}
 use Rattle.record_view.specs.Records.{events_in}
 use Rattle.run_book.specs.Views.{holding}
@@ -16,3 +16,9 @@ invariant_of-self g c = (
       (holding c.checkpoint.new.self) c.self.invariant.2 c.checkpoint.ensures.carries_on
       c.checkpoint.ensures.checkpoints.saves.history,
 )
+
+pub returns-clause-carries_on : goal.returns-clause-carries_on
+returns-clause-carries_on g c = search rules
+
+pub returns-clause-stores : goal.returns-clause-stores
+returns-clause-stores g c = search rules

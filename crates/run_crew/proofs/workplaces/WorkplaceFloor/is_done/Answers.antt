@@ -1,0 +1,4 @@
+use Rattle.run_crew.proofs.workplaces.WorkplaceFloor.is_done.Goals as goal
+
+pub returns-clause-step : goal.returns-clause-step
+returns-clause-step g c = (_, c.is_done.ensures)
