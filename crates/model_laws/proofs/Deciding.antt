@@ -25,7 +25,8 @@ use Rattle.run_model.specs.Tasks.{is_interrupted}
 use Rattle.run_model.proofs.LayoutLemmas.{most_tasks_most}
 use Rattle.model_laws.proofs.Places.{passing_within}
 use Rattle.model_laws.proofs.Rooms.{empty_log_has_room}
-use Rattle.model_laws.proofs.StartingReplies.{start_allowed, finish_allowed, first_ready_from, leads_start}
+use Rattle.model_laws.proofs.StartingReplies.{start_allowed, finish_allowed, first_ready_from}
+use Rattle.model_laws.proofs.StartingReplies.{leads_start}
 use Rattle.model_laws.proofs.StartingReplies.{running_finishes}
 
 infixr 5 ◌&◌
