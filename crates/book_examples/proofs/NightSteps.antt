@@ -1,16 +1,15 @@
 -- The two nights of the examples.
-use Rattle.std.proofs.Common.{◌≡◌, ◌⊎◌, ◌<◌, ◌≤◌, ◌++◌, ◌∷◌, [], ℕ, zero, suc, List, length, take}
-use Rattle.std.proofs.Common.{Some, false, inl, inr, refl, sym, ap, subst, ◌∙◌, arith}
+use Rattle.std.proofs.Common.{◌≡◌, ◌⊎◌, ◌≤◌, ◌++◌, ◌∷◌, [], ℕ, zero, suc, List, length, take}
+use Rattle.std.proofs.Common.{Some, false, inl, inr, refl, sym, ap, subst, arith}
 use Rattle.std.proofs.lemmas.Option.{same_Some}
 use Rattle.std.specs.List.{flat_map}
 use Rattle.run_model.specs.declared.answers.Reply.{Reply}
 use Rattle.run_model.specs.declared.commands.Wish.TheVariants.{Cancel}
-use Rattle.run_model.specs.declared.commands.Step.{Step}
 use Rattle.run_model.specs.Allowed.{run}
 use Rattle.run_model.specs.Event.{Event}
 use Rattle.run_model.specs.State.{State}
 use Rattle.model_examples.specs.Calls.{acked, derive, flush, scope_made}
-use Rattle.book_model.specs.Machines.{GoesOn, Running, Stop, StopsAt, Stored, TakesAll, opened_at}
+use Rattle.book_model.specs.Machines.{GoesOn, Running, StopsAt, Stored, TakesAll, opened_at}
 use Rattle.book_model.specs.Machines.{took}
 use Rattle.book_model.specs.ManyNights.{answers_of, moves_of, steps_of}
 use Rattle.book_model.specs.Stores.{restarted}

@@ -1,5 +1,5 @@
 -- A book over a disk makes the moves of the machine that it is.
-use Rattle.std.proofs.Common.{◌≡◌, ◌⊎◌, ◌+◌, ◌-◌, ◌++◌, ◌∷◌, [], ℕ, Bool, true, false, List}
+use Rattle.std.proofs.Common.{◌≡◌, ◌++◌, ◌∷◌, [], ℕ, Bool, true, false, List}
 use Rattle.std.proofs.Common.{length, Option, Some, None, Ok, if◌then◌else◌, inl, inr}
 use Rattle.std.proofs.Common.{refl, sym, ap, subst, ◌∙◌, arith}
 use Rattle.std.specs.Prelude.{unwrap_or}
@@ -10,8 +10,8 @@ use Rattle.run_model.specs.Session.{Session, is_ack}
 use Rattle.run_model.specs.State.{State}
 use Rattle.run_disk.specs.Disk.{DiskState, IsAtRest, IsDisk}
 use Rattle.book_model.specs.Holdings.{CarriesOn, Holding, IsOpened, IsSession, acked}
-use Rattle.book_model.specs.Machines.{Goes, GoesOn, Machine, Move, Open, OpenInVain, Running}
-use Rattle.book_model.specs.Machines.{Runs, Stop, StopsAt, Stored, Take, TakesAll, added, opened_at}
+use Rattle.book_model.specs.Machines.{Goes, Machine, Move, Open, OpenInVain, Running}
+use Rattle.book_model.specs.Machines.{Runs, Stop, Stored, Take, TakesAll, added, opened_at}
 use Rattle.book_model.specs.Machines.{took}
 use Rattle.book_model.specs.Openings.{Opens}
 use Rattle.book_model.specs.Plays.{IsReply, IsReplyWhere, acked_of}

@@ -1,5 +1,5 @@
 -- Many nights of the machine: what they lead to.
-use Rattle.std.proofs.Common.{◌≡◌, ◌⊎◌, ◌+◌, ◌-◌, ◌≤◌, ◌++◌, ◌∷◌, [], ℕ, Bool, true, false}
+use Rattle.std.proofs.Common.{◌≡◌, ◌+◌, ◌-◌, ◌≤◌, ◌++◌, ◌∷◌, [], ℕ, Bool, true, false}
 use Rattle.std.proofs.Common.{List, length, take, drop, map, Option, Some, None, if◌then◌else◌}
 use Rattle.std.proofs.Common.{refl, sym, ap, subst, ◌∙◌, arith, append_assoc, append-nil}
 use Rattle.std.proofs.Common.{length-append}
@@ -14,7 +14,7 @@ use Rattle.run_model.specs.Session.{Session, accepted, acknowledged, event_of_st
 use Rattle.run_model.specs.Session.{with_event}
 use Rattle.run_model.specs.State.{State}
 use Rattle.run_disk.specs.Disk.{DiskState, IsDisk}
-use Rattle.book_model.specs.Machines.{Goes, GoesOn, Machine, Move, Open, OpenInVain, Running}
+use Rattle.book_model.specs.Machines.{GoesOn, Machine, Move, Running}
 use Rattle.book_model.specs.Machines.{Runs, Stop, StopsAt, Stored, Take, TakesAll, added, opened_at}
 use Rattle.book_model.specs.Machines.{took}
 use Rattle.book_model.specs.ManyNights.{LeadOver, Leads, LeadsOver, Night, InVain, Spent}
