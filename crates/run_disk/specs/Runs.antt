@@ -1,7 +1,10 @@
 -- What a run of calls leaves of a disk, from a moment `old` to a later moment `new`.
-use Rattle.std.specs.Prelude.{◌≡◌, ◌⊎◌, ◌<◌, ◌≤◌, ◌+◌, ℕ, List, length, Result, OnOk, OnErr}
+use Rattle.std.specs.Prelude.{◌≡◌, ◌⊎◌, ◌<◌, ◌≤◌, ◌+◌, ℕ, List, length}
+use Rattle.std.specs.Prelude.{Result, OnOk, OnErr, IfErr}
+use Rattle.run_model.specs.declared.faults.Fault.{Fault}
+use Rattle.run_model.specs.declared.faults.Fault.TheVariants.{DiskFailed}
 use Rattle.run_disk.specs.Contents.{Holds, Within, Follows}
-use Rattle.run_disk.specs.Disk.{DiskState, last_moment}
+use Rattle.run_disk.specs.Disk.{DiskState, IsSynced, last_moment}
 
 -- What any run of calls does, on any disk: neither count falls, and size and honesty stay.
 pub record Passed (old new : DiskState) : Type 0 where
@@ -42,6 +45,15 @@ pub record FailedLast {D : Type 0} (state : D → DiskState) (old new : DiskStat
   pub fine : (state before).failures ≡ old.failures
   pub failed : FailedAt 1 (state before) new
 
+-- What a run of n calls answers, on any disk: it makes them all, or those up to the first that
+-- fails, and its only fault is that one failed.
+pub record MakesCalls {D T : Type 0} (state : D → DiskState) (n : ℕ) (old new : DiskState)
+    (result : Result T Fault) : Type 0 where
+  pub ran : Ran old new result
+  pub took : Took n old new result
+  pub last : OnErr result (FailedLast state old new)
+  pub fault : IfErr result (λ fault. fault ≡ DiskFailed)
+
 -- At the end of the run what reads give, and each content that a crash may leave, comes by this
 -- step from what it was before the run.
 pub record Ends (step : List ℕ → List ℕ → Type 0) (old new : DiskState) : Type 0 where
@@ -79,6 +91,15 @@ pub record OnlyReads (old new : DiskState) : Type 0 where
 -- No place waits for a failed write that did not wait before.
 abbrev pub IsSurer : DiskState → DiskState → Type 0
 IsSurer old new = (i : ℕ) → new.unsure i → old.unsure i
+
+-- What a run leaves of an honest disk: at every moment of it each content comes by `step`, and at
+-- Ok by `end`, for good.
+pub record LeavesForGood {T E : Type 0} (step end : List ℕ → List ℕ → Type 0)
+    (old new : DiskState) (result : Result T E) : Type 0 where
+  pub any_moment : old.honest → Leaves step old new
+  pub ends : old.honest → OnOk result (Ends end old new)
+  pub synced : old.honest → OnOk result (IsSynced new)
+  pub sure : old.honest → OnOk result (IsSurer old new)
 
 -- Reads give these bytes from `at` on, and no failed write waits there: a sync makes them last.
 pub record Stands (at : ℕ) (bytes : List ℕ) (s : DiskState) : Type 0 where
