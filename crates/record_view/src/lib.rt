@@ -1,18 +1,20 @@
 //! Records: the bytes of the events in the journal's history; and an image's head and rows.
 //!
 //! A record is read as a view, which lends its names and texts from the bytes, written from a view,
-//! and walked in a row with others, each exactly by the grammar. No call takes memory. The grammar
-//! stands in `specs/Spelling.antt` by the cases of the event, apart from the code, and its laws are
-//! the contracts of [`laws`].
+//! and walked in a row with others, each exactly by the grammar. What is kept of a view is copied
+//! by [`copies`]. No call takes memory. The grammar stands in `specs/Spelling.antt` by the cases of
+//! the event, apart from the code, and its laws are the contracts of [`laws`].
 #![tactic(auto)]
 
 mod bodies;
+pub mod copies;
 mod events;
 mod group_rows;
 mod heads;
 pub mod images;
 mod kinds;
 pub mod laws;
+mod names;
 mod numbers;
 mod outcomes;
 mod puts;
@@ -25,6 +27,7 @@ mod views;
 pub use events::Events;
 pub use group_rows::{GroupRow, group_row, put_group, read_group};
 pub use heads::{ImageHead, ImageVersion, put_head, read_head};
+pub use names::is_same_name;
 pub use records::{event_len, read_event, write_event};
 pub use scope_rows::{HitView, ScopeRow, put_scope, read_scope, scope_row};
 pub use task_rows::{StageView, TaskRow, put_task, read_task, task_row};

@@ -1,6 +1,19 @@
--- The state that a count, a tree and groups show.
-use Rattle.std.specs.Prelude.{ℕ}
+-- What is shown of a state, and of a scope in it.
+use Rattle.std.specs.Borrow.{Bor}
+use Rattle.std.specs.Option.{option_map}
+use Rattle.std.specs.Prelude.{ℕ, List, Option}
 use Rattle.run_model.specs.State.{State, TreeState, WorkState}
+use Rattle.run_model.specs.declared.scopes.Reason.{Reason}
+use Rattle.run_state.specs.declared.questions.LookView.{LookView}
 
+-- The state that a count, a tree and groups show.
 abbrev pub shown : ℕ → TreeState → WorkState → State
 shown count tree work = record { count = count; tree = tree; work = work }
+
+-- Why a scope is done, and with which cause, where the cause is lent.
+abbrev pub ending_of : Reason × Bor (List ℕ) → Reason × List ℕ
+ending_of ending = (ending.0, ending.1.now)
+
+-- What a view shows of a scope: why it is done and with which cause, and its deadline.
+abbrev pub shown_by : LookView → Option (Reason × List ℕ) × Option ℕ
+shown_by view = (option_map ending_of view.done, view.deadline)

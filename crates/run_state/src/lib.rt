@@ -9,12 +9,13 @@
 
 mod allowing;
 mod asking;
-mod copies;
 mod hits;
+mod outcomes;
 mod questions;
 mod renewals;
 mod states;
 mod wishes;
 
+pub use questions::LookView;
 pub use renewals::Renewal;
 pub use states::State;

@@ -7,7 +7,7 @@ ghost use Rattle.run_model.specs.Rows.{at_row};
 ghost use Rattle.run_model.specs.Scopes.{comes_before};
 ghost use Rattle.run_model.specs.TreeChanges.{with_hit, cancellation, expiry, hit_due, tick};
 
-use crate::copies::text_copy;
+use record_view::copies::text_copy;
 use run_model::{Hit, Kind, Moment, Reason, Scope, Text};
 
 /// Says whether the hit of scope `s` comes before that of scope `t`: by event, then by moment, then

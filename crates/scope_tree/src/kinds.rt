@@ -1,12 +1,33 @@
-//! What follows from a scope's kind alone.
+//! Kinds: one is made of its view, and what follows from it alone.
 
 ghost use Rattle.std.specs.Option.{option_copied};
-ghost use Rattle.std.specs.Prelude.{◌≡◌, IfSome};
+ghost use Rattle.std.specs.Prelude.{◌≡◌, IfSome, IsTrue};
 ghost use Rattle.run_model.specs.Allowed.{is_cancellable, takes_cause};
 ghost use Rattle.run_model.specs.Scopes.{is_root, is_detached, own_deadline, text_under};
 ghost use Rattle.run_model.specs.Texts.{IsText};
+ghost use Rattle.record_view.specs.Views.{kind_of};
+ghost use Rattle.scope_tree.specs.Checks.{is_derived_kind};
 
+use record_view::KindView;
+use record_view::copies::{moment_of, name_copy, optional_copy, text_copy};
 use run_model::{Kind, Moment};
+
+/// The kind that a view shows.
+pub fn kind_copy(kind: KindView) -> Kind
+    requires { IsTrue (is_derived_kind (kind_of kind)) }
+    ensures { result ≡ kind_of kind.entry }
+{
+    match kind {
+        KindView::Cancel => Kind::Cancel,
+        KindView::Cause => Kind::Cause,
+        KindView::Deadline(moment, cause) => {
+            Kind::Deadline(moment_of(moment), optional_copy(cause))
+        }
+        KindView::Value(key, text) => Kind::Value(name_copy(key), text_copy(text)),
+        KindView::Detached => Kind::Detached,
+        KindView::Group => Kind::Group,
+    }
+}
 
 /// Says whether a scope of this kind has nothing above it.
 pub fn is_root(kind: &Kind) -> bool

@@ -8,11 +8,12 @@ ghost use Rattle.std.specs.Str.{bytes_eq};
 ghost use Rattle.scope_tree.specs.Names.{home, names_of, AreNamed};
 
 use crate::chains::{CHAINS, Chains};
+use record_view::is_same_name;
 use run_model::Scope;
 use std::alloc::Allocator;
 
 /// Spreads neighbouring names over the chains: 2 to the 32nd divided by the golden ratio, and odd.
-const FACTOR: u64 = 2_654_435_761;
+const FACTOR: u32 = 2_654_435_761;
 
 /// How far a mixed name reaches.
 const SPAN: u64 = 4_294_967_296;
@@ -22,11 +23,11 @@ pub fn home(name: &[u8]) -> u16
     ensures home { result ≡ home name.now }
     ensures chain { result < CHAINS }
 {
-    let mut sum = 0u64;
+    let mut sum = 0u32;
     for byte in name {
-        sum = ((sum + *byte as u64) * FACTOR) % SPAN;
+        sum = sum.wrapping_add(*byte as u32).wrapping_mul(FACTOR);
     }
-    (sum / (SPAN / CHAINS as u64)) as u16
+    (sum as u64 / (SPAN / CHAINS as u64)) as u16
 }
 
 /// The number of the scope of this name.
@@ -36,7 +37,7 @@ pub fn place_of<A: Allocator>(scopes: &[Scope], names: &Chains<A>, name: &[u8]) 
 {
     let mut at = names.last(home(name));
     while let Some(n) = at {
-        if name == scopes[n as usize].name.as_bytes() {
+        if is_same_name(name, scopes[n as usize].name.as_bytes()) {
             return at;
         }
         at = names.before(n);

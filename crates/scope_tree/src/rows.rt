@@ -17,10 +17,10 @@ ghost use Rattle.scope_tree.specs.TreeRows.{reason_fits};
 
 use crate::chains::Chains;
 use crate::changes::push_row;
-use crate::copies::{kind_copy, moment_of, name_copy, text_copy};
-use crate::kinds::own_deadline;
+use crate::kinds::{kind_copy, own_deadline};
 use crate::names::place_of;
 use arrayvec::ArrayVec;
+use record_view::copies::{moment_of, name_copy, text_copy};
 use record_view::{HitView, ImageHead, ScopeRow, put_scope, read_scope, scope_row};
 use run_model::{Hit, Kind, MOST_SCOPES, Moment, Reason, Scope};
 use std::alloc::Allocator;

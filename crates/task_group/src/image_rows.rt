@@ -2,14 +2,12 @@
 //! tested.
 
 ghost use Rattle.std.specs.List.{flat_map, list_any, AllByRecursion};
-ghost use Rattle.std.specs.Option.{option_copied};
 ghost use Rattle.std.specs.Prelude.{◌≡◌, ◌+◌, ◌*◌, ◌<◌, ◌≤◌, ◌==◌, ◌&&◌, ℕ, length, IsTrue};
 ghost use Rattle.std.specs.Prelude.{Some, false, slice_get, slice_index_or};
 ghost use Rattle.run_model.specs.declared.bounds.TheConstants.{MOST_GROUPS};
 ghost use Rattle.run_model.specs.declared.tasks.Task.{Task as TaskOf};
-ghost use Rattle.run_model.specs.Records.{is_limit, is_optional_text};
 ghost use Rattle.run_model.specs.Tasks.{is_fresh, ended_in_error};
-ghost use Rattle.run_model.specs.Texts.{IsName, IsText};
+ghost use Rattle.run_model.specs.Texts.{IsName};
 ghost use Rattle.record_view.specs.declared.heads.ImageVersion.{ImageVersion as VersionOf};
 ghost use Rattle.record_view.specs.declared.heads.ImageVersion.TheVariants.{Two};
 ghost use Rattle.record_view.specs.Image.{group_bytes, task_bytes, is_kept_group, is_kept_task};
@@ -18,10 +16,10 @@ ghost use Rattle.record_view.specs.RowViews.{group_of, stage_of, task_of};
 ghost use Rattle.record_view.specs.WorkRows.{can_retry};
 ghost use Rattle.record_view.specs.Writing.{put_at};
 
-use crate::copies::{name_copy, text_copy};
 use crate::rows::is_interrupted;
+use record_view::copies::{limit_of, name_copy, optional_copy, text_copy};
 use record_view::{GroupRow, StageView, TaskRow, group_row, put_group, put_task, task_row};
-use run_model::{Group, Limit, MOST_GROUPS, Stage, Task, Text};
+use run_model::{Group, MOST_GROUPS, Stage, Task};
 
 /// Puts the rows of groups at a place, one behind the other, and gives the place behind them.
 pub fn put_groups(rows: &[Group], out: &mut [u8], at: usize) -> usize
@@ -124,29 +122,6 @@ fn is_error(stage: &Stage) -> bool
     ensures { result ≡ ended_in_error stage.now }
 {
     matches!(stage, Stage::Failure(_) | Stage::Interrupted)
-}
-
-fn limit_of(most: Option<u8>) -> Limit
-    requires { IsTrue (is_limit most) }
-    ensures { result ≡ most }
-{
-    match most {
-        None => Limit::none(),
-        Some(most) => match Limit::new(most) {
-            Some(limit) => limit,
-            None => unreachable!(),
-        },
-    }
-}
-
-fn optional_copy(text: Option<&[u8]>) -> Option<Text>
-    requires { IsTrue (is_optional_text (option_copied text)) }
-    ensures { result ≡ option_copied text.entry }
-{
-    match text {
-        Some(text) => Some(text_copy(text)),
-        None => None,
-    }
 }
 
 fn stage_copy(stage: StageView) -> Stage

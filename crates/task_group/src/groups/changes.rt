@@ -23,7 +23,6 @@ ghost use Rattle.task_group.specs.Restarting.{RestartsTasks};
 ghost use Rattle.task_group.specs.Rows.{submitted};
 ghost use Rattle.task_group.specs.Told.{told_by_end, told_by_restart};
 
-use crate::copies::name_copy;
 use crate::flags::note_retry;
 use crate::groups::Groups;
 use crate::rows::{
@@ -32,6 +31,7 @@ use crate::rows::{
 };
 use crate::seats::{enter, leave, link, push_seats};
 use arrayvec::ArrayVec;
+use record_view::copies::name_copy;
 use run_model::{Group, Limit, MOST_GROUPS, Name, Stage, Task};
 use std::alloc::Allocator;
 

@@ -15,6 +15,7 @@ ghost use Rattle.task_group.specs.Checks.{was_waited};
 
 use crate::groups::Groups;
 use crate::rows::{admits, group_look, is_from, is_running, phase_of as stage_phase};
+use record_view::is_same_name;
 use run_model::{Group, GroupLook, Layout, MOST_GROUPS, Phase, Task};
 use std::alloc::Allocator;
 
@@ -145,5 +146,7 @@ impl<A: Allocator> Groups<A> {
 fn place_of(groups: &[Group], name: &[u8]) -> Option<usize>
     ensures { result ≡ position (λ row. bytes_eq name.now row.name) groups.now }
 {
-    groups.iter().position(|row| name == row.name.as_bytes())
+    groups
+        .iter()
+        .position(|row| is_same_name(name, row.name.as_bytes()))
 }

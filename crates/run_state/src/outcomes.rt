@@ -1,50 +1,14 @@
-//! Values of what is lent: moments, limits, texts and errors.
+//! Outcomes, lent, and their errors.
 
 ghost use Rattle.std.specs.Option.{option_copied};
 ghost use Rattle.std.specs.Prelude.{◌≡◌, IfSome, IsTrue};
-ghost use Rattle.run_model.specs.Records.{is_limit, is_moment, is_outcome};
+ghost use Rattle.run_model.specs.Records.{is_outcome};
 ghost use Rattle.run_model.specs.Texts.{IsText};
 ghost use Rattle.run_model.specs.WorkChanges.{error_of};
 ghost use Rattle.record_view.specs.Views.{outcome_of};
 
 use record_view::OutcomeView;
-use run_model::{Limit, Moment, Outcome, Text};
-
-/// The text of these bytes.
-pub fn text_copy(bytes: &[u8]) -> Text
-    requires { IsText bytes.now }
-    ensures { result ≡ bytes.now }
-{
-    match Text::read(bytes) {
-        Some(text) => text,
-        None => unreachable!(),
-    }
-}
-
-/// The moment of so many seconds.
-pub fn moment_of(seconds: u64) -> Moment
-    requires { IsTrue (is_moment seconds) }
-    ensures { result ≡ seconds }
-{
-    match Moment::new(seconds) {
-        Some(moment) => moment,
-        None => unreachable!(),
-    }
-}
-
-/// The limit of so many tasks, or none.
-pub fn limit_of(most: Option<u8>) -> Limit
-    requires { IsTrue (is_limit most) }
-    ensures { result ≡ most }
-{
-    match most {
-        None => Limit::none(),
-        Some(most) => match Limit::new(most) {
-            Some(limit) => limit,
-            None => unreachable!(),
-        },
-    }
-}
+use run_model::Outcome;
 
 /// The outcome, lent.
 pub fn outcome_view(outcome: &Outcome) -> OutcomeView<'_>

@@ -1,0 +1,55 @@
+//! Values of what a view lends: names, texts, moments and limits of one's own. Each is asked for
+//! where the bytes, or the number, are known to be in range.
+
+ghost use Rattle.std.specs.Option.{option_copied};
+ghost use Rattle.std.specs.Prelude.{◌≡◌, IsTrue};
+ghost use Rattle.run_model.specs.Records.{is_limit, is_moment, is_optional_text};
+ghost use Rattle.run_model.specs.Texts.{IsName, IsText};
+
+use run_model::{Limit, Moment, Name, Text};
+
+/// The name of these bytes.
+pub fn name_copy(bytes: &[u8]) -> Name
+    requires { IsName bytes.now }
+    ensures { result ≡ bytes.now }
+{
+    Name::read(bytes).unwrap()
+}
+
+/// The text of these bytes.
+pub fn text_copy(bytes: &[u8]) -> Text
+    requires { IsText bytes.now }
+    ensures { result ≡ bytes.now }
+{
+    Text::read(bytes).unwrap()
+}
+
+/// The text of these bytes, if there are any.
+pub fn optional_copy(bytes: Option<&[u8]>) -> Option<Text>
+    requires { IsTrue (is_optional_text (option_copied bytes)) }
+    ensures { result ≡ option_copied bytes.entry }
+{
+    match bytes {
+        Some(bytes) => Some(text_copy(bytes)),
+        None => None,
+    }
+}
+
+/// The moment of so many seconds.
+pub fn moment_of(seconds: u64) -> Moment
+    requires { IsTrue (is_moment seconds) }
+    ensures { result ≡ seconds }
+{
+    Moment::new(seconds).unwrap()
+}
+
+/// The limit of so many tasks, or none.
+pub fn limit_of(most: Option<u8>) -> Limit
+    requires { IsTrue (is_limit most) }
+    ensures { result ≡ most }
+{
+    match most {
+        Some(most) => Limit::new(most).unwrap(),
+        None => Limit::none(),
+    }
+}
