@@ -1,8 +1,8 @@
 -- The steps of the examples, one by one.
 use Rattle.std.proofs.Common.{◌<◌, ◌+◌, ◌≡◌, ◌≤◌, ◌++◌, ℕ, List, length, Ok, Err, inl, inr, refl}
-use Rattle.std.proofs.Common.{arith, ap, take, length-append, Result, [], ◌∷◌, ◌∙◌}
-use Rattle.std.specs.List.{cons_option, flat_map}
-use Rattle.run_model.specs.Session.{Session, event_of_step, reply_of_step, session_after}
+use Rattle.std.proofs.Common.{arith, ap, take, length-append, Result, [], ◌∷◌}
+use Rattle.std.specs.List.{flat_map}
+use Rattle.run_model.specs.Session.{session_after}
 use Rattle.run_model.specs.declared.answers.Reply.{Reply}
 use Rattle.run_model.specs.declared.commands.Step.{Step}
 use Rattle.run_model.specs.declared.faults.Fault.TheVariants.{DiskFailed, NotAStore}
@@ -17,11 +17,10 @@ use Rattle.run_disk.specs.Runs.{FailedAt}
 use Rattle.model_laws.proofs.RunLemmas.{run_counts}
 use Rattle.model_examples.specs.Calls.{acked, checkpoint, faulty, flush, scope_made}
 use Rattle.model_examples.specs.Nights.{new_store}
-use Rattle.book_model.specs.Holdings.{Checkpoints, Flushes, Holding, IsSession, MustCheckpoint}
+use Rattle.book_model.specs.Holdings.{BookView, Checkpoints, Flushes, MustCheckpoint}
 use Rattle.book_model.specs.Nights.{HasKept}
 use Rattle.book_model.specs.Openings.{Recovers}
 use Rattle.book_model.specs.Steps.{AnswersStep, Steps, reply_of_save}
-use Rattle.book_model.proofs.Stepping.{session_one}
 use Rattle.book_examples.specs.Plays.{first_events, first_three, three_replies}
 use Rattle.book_examples.specs.Steps.{Counts, behind_three, failed, first_command, flushed}
 use Rattle.book_examples.specs.Steps.{flushed_twice, last_book, last_flushed, new_book, state_of}
@@ -48,8 +47,7 @@ flush_done : Flushes state_of behind_three (Ok 4) flushed
 flush_done = record {
   saves = record {
     origin = refl;
-    start = refl;
-    history = refl;
+    session = refl;
     passed = passed_by 10 16 0 0 (omega arith) (omega arith);
     most = omega arith;
     any_moment = λ safe. absurd safe.honest;
@@ -75,8 +73,7 @@ flush_failed : Flushes state_of behind_three (Err (Faulty DiskFailed)) failed
 flush_failed = record {
   saves = record {
     origin = refl;
-    start = refl;
-    history = refl;
+    session = refl;
     passed = passed_by 10 11 0 1 (omega arith) (omega arith);
     most = omega arith;
     any_moment = λ safe. absurd safe.honest;
@@ -103,8 +100,7 @@ flush_nothing : Flushes state_of flushed (Ok 4) flushed
 flush_nothing = record {
   saves = record {
     origin = refl;
-    start = refl;
-    history = refl;
+    session = refl;
     passed = passed_by 16 16 0 0 (omega arith) (omega arith);
     most = omega arith;
     any_moment = λ safe. absurd safe.honest;
@@ -141,7 +137,7 @@ flush_faulty = record {
 }
 
 -- No other count is told.
-no_count : (result : Result ℕ Trouble) (new : Holding Counts)
+no_count : (result : Result ℕ Trouble) (new : BookView Counts)
     → acked 3 ≡ reply_of_save result → Flushes state_of behind_three result new → ⊥
 no_count (Ok n) new told flushes =
     let same : 3 ≡ n = cc in
@@ -149,7 +145,7 @@ no_count (Ok n) new told flushes =
 no_count (Err (Refused why)) new told flushes = cc
 no_count (Err (Faulty why)) new told flushes = cc
 
-pub count_told : (new : Holding Counts)
+pub count_told : (new : BookView Counts)
     → AnswersStep state_of behind_three flush (acked 3) new → ⊥
 count_told new tells = no_count tells.result new tells.told tells.saves
 
@@ -167,25 +163,17 @@ batches_one tells = no_second tells.result tells.told tells.saves
 
 -- ---- a command
 
--- The book is in one session, so it is answered as that says.
-in_new_store : (s : Session) → IsSession new_book s → s ≡ new_store
-in_new_store s is = session_one new_book s new_store is (record { state = refl; log = refl })
-
 apart : scope_made 2 ≡ scope_made 1 → ⊥
 apart same = cc
 
-pub scope_told : (new : Holding Counts)
+pub scope_told : (new : BookView Counts)
     → AnswersStep state_of new_book first_command (scope_made 2) new → ⊥
-scope_told new takes =
-    apart (takes.told
-    ∙ ap (λ s. reply_of_step s first_command) (in_new_store takes.session takes.is_session))
+scope_told new takes = apart takes.told
 
 pub event_taken : AnswersStep state_of new_book first_command (scope_made 1) new_book → ⊥
 event_taken takes =
-    let more = ap (λ (h : Holding Counts). length h.history) takes.grown in
-    let events = ap (λ s. length (new_book.history ++ cons_option
-    (event_of_step s first_command) [])) (in_new_store takes.session takes.is_session) in
-    omega (arith, more, events)
+    let more = ap (λ (h : BookView Counts). length h.session.history) takes.taken in
+    omega (arith, more)
 
 -- ---- the last generation
 
@@ -193,8 +181,7 @@ last_spent : Checkpoints state_of last_book (Err (Faulty NumbersSpent)) last_boo
 last_spent = record {
   saves = record {
     origin = refl;
-    start = refl;
-    history = refl;
+    session = refl;
     passed = passed_by 10 10 0 0 (omega arith) (omega arith);
     most = omega arith;
     any_moment = λ safe. absurd safe.honest;
@@ -213,8 +200,7 @@ last_flush : Flushes state_of last_book (Ok 4) last_flushed
 last_flush = record {
   saves = record {
     origin = refl;
-    start = refl;
-    history = refl;
+    session = refl;
     passed = passed_by 10 16 0 0 (omega arith) (omega arith);
     most = omega arith;
     any_moment = λ safe. absurd safe.honest;
@@ -248,7 +234,7 @@ last_answered = (
   ),
 )
 
-no_checkpoint : (n : ℕ) (result : Result ℕ Trouble) (new : Holding Counts)
+no_checkpoint : (n : ℕ) (result : Result ℕ Trouble) (new : BookView Counts)
     → acked n ≡ reply_of_save result → Checkpoints state_of last_book result new → ⊥
 no_checkpoint n (Ok m) new told saves =
     let is : Ok m ≡ Err (Faulty NumbersSpent) = saves.spent (record { sound = refl; last = refl })
@@ -257,7 +243,7 @@ no_checkpoint n (Ok m) new told saves =
 no_checkpoint n (Err (Refused why)) new told saves = cc
 no_checkpoint n (Err (Faulty why)) new told saves = cc
 
-pub none_done : (n : ℕ) (new : Holding Counts)
+pub none_done : (n : ℕ) (new : BookView Counts)
     → AnswersStep state_of last_book checkpoint (acked n) new → ⊥
 none_done n new tells = no_checkpoint n tells.result new tells.told tells.saves
 
@@ -275,43 +261,21 @@ no_failure (Err why) told flushes =
 pub failure_caused : AnswersStep state_of behind_three flush (faulty DiskFailed) behind_three → ⊥
 failure_caused tells = no_failure tells.result tells.told tells.saves
 
--- The session and the book behind the first n commands.
-abbrev session_at : ℕ → Session
-session_at n = session_after new_store (take n first_three)
-
-abbrev book_at : ℕ → Holding Counts
-book_at n = record new_book { history = take n first_events }
+-- The book behind the first n commands.
+abbrev book_at : ℕ → BookView Counts
+book_at n = record new_book { session = session_after new_store (take n first_three) }
 
 -- The three commands, and then these steps.
-pub three_then : (steps : List Step) (answers : List Reply) (new : Holding Counts)
+pub three_then : (steps : List Step) (answers : List Reply) (new : BookView Counts)
     → Steps state_of behind_three steps answers new
     → Steps state_of new_book (first_three ++ steps) (three_replies ++ answers) new
 three_then steps answers new rest = (
   book_at 1,
-  record {
-    session = session_at 0;
-    is_session = record { state = refl; log = refl };
-    told = refl;
-    grown = refl;
-  },
+  record { told = refl; taken = refl },
   (
     book_at 2,
-    record {
-      session = session_at 1;
-      is_session = record { state = refl; log = refl };
-      told = refl;
-      grown = refl;
-    },
-    (
-      behind_three,
-      record {
-        session = session_at 2;
-        is_session = record { state = refl; log = refl };
-        told = refl;
-        grown = refl;
-      },
-      rest,
-    ),
+    record { told = refl; taken = refl },
+    (behind_three, record { told = refl; taken = refl }, rest),
   ),
 )
 

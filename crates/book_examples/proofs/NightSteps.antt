@@ -1,6 +1,6 @@
 -- The two nights of the examples.
 use Rattle.std.proofs.Common.{◌≡◌, ◌⊎◌, ◌≤◌, ◌++◌, ◌∷◌, [], ℕ, zero, suc, List, length, take}
-use Rattle.std.proofs.Common.{Some, false, inl, inr, refl, sym, ap, subst, arith}
+use Rattle.std.proofs.Common.{Some, inl, inr, refl, sym, ap, subst, arith}
 use Rattle.std.proofs.lemmas.Option.{same_Some}
 use Rattle.std.specs.List.{flat_map}
 use Rattle.run_model.specs.declared.answers.Reply.{Reply}
@@ -12,6 +12,7 @@ use Rattle.model_examples.specs.Calls.{acked, derive, flush, scope_made}
 use Rattle.book_model.specs.Machines.{GoesOn, Running, StopsAt, Stored, TakesAll, opened_at}
 use Rattle.book_model.specs.Machines.{took}
 use Rattle.book_model.specs.ManyNights.{answers_of, moves_of, steps_of}
+use Rattle.book_model.specs.Plays.{sound}
 use Rattle.book_model.specs.Stores.{restarted}
 use Rattle.book_model.proofs.ManyNightsLemmas.{joined_moves, same_stored, spends, was_spent}
 use Rattle.book_examples.specs.Plays.{first_events}
@@ -22,10 +23,13 @@ use Rattle.book_examples.specs.TwoNights.{store}
 -- The machine behind the answered steps of the first night.
 abbrev after_answered : Running
 after_answered = record {
-  start = restarted store;
-  history = first_events ++ take 1 two_events;
+  book = sound (record {
+    start = restarted store;
+    history = first_events ++ take 1 two_events;
+    state = behind_first 4;
+    log = 34;
+  });
   acked = 3;
-  book = record { session = record { state = behind_first 4; log = 34 }; broken = false };
 }
 
 takes_answered : TakesAll (opened_at store) (steps_of answered) (answers_of answered)
@@ -41,9 +45,9 @@ only_answered end (a, (b, (c, (d, (e, is))))) = is
 -- The fifth is taken, whatever it would be answered.
 last_history : (last : Running) (untold : List Reply)
     → TakesAll after_answered (derive "d" "root" Cancel ∷ []) untold last
-    → last.history ≡ first_events ++ two_events
+    → last.book.session.history ≡ first_events ++ two_events
 last_history last [] p = absurd p
-last_history last (r ∷ []) (told, is) = ap (λ (m : Running). m.history) is
+last_history last (r ∷ []) (told, is) = ap (λ (m : Running). m.book.session.history) is
 last_history last (r ∷ s ∷ answers) (told, p) = absurd p
 
 -- Three events or more of the five lead to one of three states.
@@ -66,7 +70,8 @@ stopped_at : (q : State) → StopsAt after_answered (derive "d" "root" Cancel �
     → (q ≡ behind_first 3) ⊎ (q ≡ behind_first 4) ⊎ (q ≡ behind_first 5)
 stopped_at q stops =
     let same = last_history stops.last stops.untold stops.takes in
-    let five : length stops.last.history ≡ 5 = ap (λ (l : List Event). length l) same in
+    let five : length stops.last.book.session.history ≡ 5 =
+    ap (λ (l : List Event). length l) same in
     let many = stops.front.many in
     one_of many q stops.front.enough (omega (arith, stops.front.within, five))
     (subst (λ l. run (restarted store) (take many l) ≡ Some q) same stops.front.reached)

@@ -12,8 +12,8 @@ use Rattle.run_disk.specs.Files.{file_state}
 use Rattle.model_examples.specs.Calls.{acked, checkpoint, derive, faulty, flush, refused}
 use Rattle.model_examples.specs.Calls.{scope_made}
 use Rattle.model_examples.specs.Nights.{new_store}
-use Rattle.book_model.specs.Holdings.{Holding}
-use Rattle.book_examples.specs.Plays.{first_events, first_three, three_replies}
+use Rattle.book_model.specs.Holdings.{BookView}
+use Rattle.book_examples.specs.Plays.{after_three, first_events, first_three, three_replies}
 
 -- ---- a disk
 
@@ -34,10 +34,9 @@ short_state_of d = file_state 1572863 d.calls d.failures
 
 -- The book of a new store behind its opening, which made ten calls: one event, and it is
 -- acknowledged.
-abbrev pub new_book : Holding Counts
+abbrev pub new_book : BookView Counts
 new_book = record {
-  start = new_store.state;
-  history = [];
+  session = new_store;
   durable = 1;
   journal = record {
     disk = record { calls = 10; failures = 0 };
@@ -51,35 +50,35 @@ new_book = record {
 }
 
 -- The book behind three commands.
-abbrev pub behind_three : Holding Counts
-behind_three = record new_book { history = first_events }
+abbrev pub behind_three : BookView Counts
+behind_three = record new_book { session = record after_three { history = first_events } }
 
 -- And behind a flush of theirs, by six calls.
-abbrev pub flushed : Holding Counts
+abbrev pub flushed : BookView Counts
 flushed = record behind_three {
   durable = 4;
   journal = record new_book.journal { disk = record { calls = 16; failures = 0 }; tail = 31 };
 }
 
 -- Or behind one whose first call failed.
-abbrev pub failed : Holding Counts
+abbrev pub failed : BookView Counts
 failed = record behind_three {
   journal = record new_book.journal { disk = record { calls = 11; failures = 1 }; broken = true };
 }
 
 -- The same by two batches, of one record and of two: twelve calls, and five bytes more.
-abbrev pub flushed_twice : Holding Counts
+abbrev pub flushed_twice : BookView Counts
 flushed_twice = record behind_three {
   durable = 4;
   journal = record new_book.journal { disk = record { calls = 22; failures = 0 }; tail = 36 };
 }
 
 -- The book behind three commands, where no generation is left, and behind a flush of theirs.
-abbrev pub last_book : Holding Counts
+abbrev pub last_book : BookView Counts
 last_book =
     record behind_three { journal = record new_book.journal { generation = 2 ^ 63 - 1 } }
 
-abbrev pub last_flushed : Holding Counts
+abbrev pub last_flushed : BookView Counts
 last_flushed = record flushed { journal = record flushed.journal { generation = 2 ^ 63 - 1 } }
 
 -- ---- steps

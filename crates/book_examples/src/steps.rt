@@ -12,7 +12,7 @@ ghost use Rattle.run_disk.specs.Disk.{last_moment};
 ghost use Rattle.model_examples.specs.Calls.{acked, checkpoint, faulty, flush, refused};
 ghost use Rattle.model_examples.specs.Calls.{scope_made, start};
 ghost use Rattle.model_examples.specs.Nights.{new_store};
-ghost use Rattle.book_model.specs.Holdings.{Holding};
+ghost use Rattle.book_model.specs.Holdings.{BookView};
 ghost use Rattle.book_model.specs.Nights.{HasKeptSince};
 ghost use Rattle.book_model.specs.Openings.{Formats, Opens, Recovers};
 ghost use Rattle.book_model.specs.Plays.{taken};
@@ -31,14 +31,14 @@ ghost use Rattle.book_examples.specs.Stores.{two_events};
 pub fn a_flush_is_done()
     ensures answered { Steps state_of new_book first_call first_replies flushed }
     ensures again { AnswersStep state_of flushed flush (acked 4) flushed }
-    ensures counted { (new : Holding Counts)
+    ensures counted { (new : BookView Counts)
         → AnswersStep state_of behind_three flush (acked 3) new → ⊥ }
     ensures batched { AnswersStep state_of behind_three flush (acked 4) flushed_twice → ⊥ }
 {}
 
 /// The first of the three is answered by scope 1, and by no other; and the book has its event then.
 pub fn a_command_is_answered_as_its_session_says()
-    ensures told { (new : Holding Counts) → AnswersStep state_of new_book first_command
+    ensures told { (new : BookView Counts) → AnswersStep state_of new_book first_command
         (scope_made 2) new → ⊥ }
     ensures taken { AnswersStep state_of new_book first_command (scope_made 1) new_book → ⊥ }
 {}
@@ -48,7 +48,7 @@ pub fn a_command_is_answered_as_its_session_says()
 pub fn the_last_generation_has_no_checkpoint()
     ensures answered { Steps state_of last_book (checkpoint ∷ flush ∷ [])
         (faulty NumbersSpent ∷ acked 4 ∷ []) last_flushed }
-    ensures undone { (n : ℕ) (new : Holding Counts)
+    ensures undone { (n : ℕ) (new : BookView Counts)
         → AnswersStep state_of last_book checkpoint (acked n) new → ⊥ }
 {}
 

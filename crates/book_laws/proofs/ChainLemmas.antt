@@ -14,7 +14,7 @@ use Rattle.run_model.specs.declared.layouts.Layout.TheVariants.{Large, Small}
 use Rattle.run_model.specs.Allowed.{run}
 use Rattle.run_model.specs.Event.{Event}
 use Rattle.run_model.specs.Layouts.{layout_of, store_len}
-use Rattle.run_model.specs.Session.{Session, accepted, event_of_step, with_event}
+use Rattle.run_model.specs.Session.{Session, accepted, event_of_step, with_event, begun_at}
 use Rattle.run_model.specs.State.{State, formatted}
 use Rattle.record_view.specs.Spelling.{spelling}
 use Rattle.run_disk.specs.Disk.{DiskState, IsAtRest, IsDisk}
@@ -22,16 +22,14 @@ use Rattle.run_disk.specs.Runs.{LeavesOnly}
 use Rattle.run_disk.proofs.RunLemmas.{leaves_only_more, only_weaker}
 use Rattle.run_journal.specs.Pairs.{AreZeros}
 use Rattle.run_journal.proofs.LayoutLemmas.{one_layout}
-use Rattle.run_session.specs.Logged.{Replays, begun_at}
+use Rattle.run_session.specs.Replays.{Replays}
 use Rattle.model_laws.proofs.Interrupts.{restarted as interrupted}
-use Rattle.book_model.specs.Holdings.{CarriesOn, Holding, IsOpened, IsSession, IsUnsaved, acked}
+use Rattle.book_model.specs.Holdings.{CarriesOn, BookView, IsOpened, IsUnsaved, acked}
 use Rattle.book_model.specs.Nights.{opened_from}
 use Rattle.book_model.specs.Openings.{Formats, FormatsNot, HasFormatted, Opens, StopsFormat}
-use Rattle.book_model.specs.Plays.{Playing, Plays, is_device_failure, session_behind, sound}
-use Rattle.book_model.specs.Plays.{taken}
-use Rattle.book_model.specs.Steps.{PlaysInto, playing_in}
-use Rattle.book_model.specs.Stores.{Stores, StoresFront, StoresNothingOr, StoresOpened}
-use Rattle.book_model.specs.Stores.{restarted}
+use Rattle.book_model.specs.Plays.{Playing, Plays, is_device_failure, session_behind, sound, taken}
+use Rattle.book_model.specs.Steps.{PlaysInto, playing}
+use Rattle.book_model.specs.Stores.{Stores, StoresFront, StoresNothingOr, StoresOpened, restarted}
 use Rattle.book_model.proofs.FrontLemmas.{front_here, front_kept}
 use Rattle.book_model.proofs.HoldingLemmas.{carries_after, stores_fewer}
 use Rattle.book_model.proofs.NightLemmas.{is_night, opened_safe}
@@ -40,7 +38,6 @@ use Rattle.book_model.proofs.Playing.{accepted_run, not_refused, stuck_refuses, 
 use Rattle.book_model.proofs.Rows.{row_steps}
 use Rattle.book_model.proofs.Stepping.{steps_left, steps_play}
 use Rattle.book_model.proofs.Storing.{stores_one}
-use Rattle.run_book.specs.Views.{BookView, holding}
 use Rattle.book_laws.specs.Chains.{DeviceFails, HasLasted, HasStayed, HasStayedNew, HoldsOne}
 use Rattle.book_laws.specs.Chains.{HoldsOneOrNothing, IsPlayed, StopsFor}
 
@@ -162,16 +159,16 @@ unopened p steps replies old new leaves = record {
 pub is_played : {D : Type 0} (state : D → DiskState) (given : D) (p : State) (steps : List Step)
     (before replies : List Reply) (first b : BookView D) → (state given).honest
     → IsAtRest (state given) → Stores (state given).now p
-    → Opens state given (Ok (holding first))
-    → PlaysInto state (holding first) steps before (holding b) replies
-    → CarriesOn state (holding first) (holding b)
+    → Opens state given (Ok first)
+    → PlaysInto state first steps before b replies
+    → CarriesOn state first b
     → IsPlayed state given p steps before b replies
 is_played state given p steps before replies first b honest rest stores opens plays on =
     let opened = opens.answer in
     let same = stores_one (state given).now opened.stored p (opened.found.stores honest) stores in
     record {
-      first = holding first;
-      opened = subst (λ q. IsOpened state given q (holding first)) same opened.opened;
+      first = first;
+      opened = subst (λ q. IsOpened state given q first) same opened.opened;
       leaves = opens.any_moment honest rest p stores;
       plays = plays;
       on = on;
@@ -185,25 +182,26 @@ module _ {D : Type 0} (state : D → DiskState) (given : D) (p : State) (steps :
   events = accepted (opened_from p) (taken steps is.plays.answers)
 
   -- What the book left since the opening began, once it went on from the steps without an event.
-  pub left_since : (new : Holding D) → (state given).honest → IsAtRest (state given)
-      → CarriesOn state (holding b) new → new.history ≡ (holding b).history
+  pub left_since : (new : BookView D) → (state given).honest → IsAtRest (state given)
+      → CarriesOn state b new → new.session ≡ b.session
       → LeavesOnly (HoldsOne p events) (state given) (state new.journal.disk)
   left_since new honest rest on same =
-      let night = is_night state given p is.first (holding b) steps is.plays.answers is.opened
-      (row_steps state is.first (holding b) steps is.plays.answers is.plays.played) in
-      let whole = carries_after state is.first (holding b) new is.on on in
+      let night = is_night state given p is.first b steps is.plays.answers is.opened
+      (row_steps state is.first b steps is.plays.answers is.plays.played) in
+      let whole = carries_after state is.first b new is.on on in
       let safe = opened_safe state given p is.first honest rest is.opened in
       let start = on.start ∙ night.start in
-      let history = same ∙ night.history in
-      leaves_only_more (StoresOpened p) (StoresFront new.start new.history (acked is.first))
-      (HoldsOne p events) (state given) (state is.first.journal.disk) (state new.journal.disk)
+      let history = ap (λ s. s.history) same ∙ night.history in
+      leaves_only_more (StoresOpened p)
+      (StoresFront new.session.start new.session.history (acked is.first)) (HoldsOne p events)
+      (state given) (state is.first.journal.disk) (state new.journal.disk)
       is.leaves (whole.any_moment safe) (λ x left. opened_holds p events x left)
       (λ x left. front_holds p events (acked is.first) x
       (subst (λ l. StoresFront (restarted p) l (acked is.first) x) history
-      (subst (λ q. StoresFront q new.history (acked is.first) x) start left)))
+      (subst (λ q. StoresFront q new.session.history (acked is.first) x) start left)))
 
-  pub stayed : (new : Holding D) → (state given).honest → IsAtRest (state given)
-      → CarriesOn state (holding b) new → new.history ≡ (holding b).history
+  pub stayed : (new : BookView D) → (state given).honest → IsAtRest (state given)
+      → CarriesOn state b new → new.session ≡ b.session
       → HasStayed p steps before replies (state given) (state new.journal.disk)
   stayed new honest rest on same = record {
     answers = is.plays.answers;
@@ -213,43 +211,29 @@ module _ {D : Type 0} (state : D → DiskState) (given : D) (p : State) (steps :
 
   -- ---- all events
 
-  is_session : IsSession is.first (opened_from p)
-  is_session = record {
-    state = ap (λ es. run is.first.start es) is.opened.history ∙ ap Some is.opened.start;
-    log = sym (ap (λ es. length (flat_map spelling es)) is.opened.history);
-  }
+  begins : playing is.first ≡ sound (opened_from p)
+  begins =
+      ap (λ s. record { session = s; broken = is.first.journal.broken }) is.opened.session
+      ∙ ap (λ k. record { session = opened_from p; broken = k }) is.opened.sound
 
-  abbrev last_session : Session
-  last_session =
-      (steps_play state is.first (holding b) steps is.plays.answers (opened_from p) is_session
-      (row_steps state is.first (holding b) steps is.plays.answers is.plays.played)).last
-
-  plays : Plays (sound (opened_from p)) steps is.plays.answers (playing_in (holding b) last_session)
+  plays : Plays (sound (opened_from p)) steps is.plays.answers (playing b)
   plays =
-      subst
-      (λ k.
-      Plays (record { session = opened_from p; broken = k }) steps is.plays.answers
-      (playing_in (holding b) last_session))
-      is.opened.sound
-      (steps_play state is.first (holding b) steps is.plays.answers (opened_from p) is_session
-      (row_steps state is.first (holding b) steps is.plays.answers is.plays.played)).plays
+      subst (λ q. Plays q steps is.plays.answers (playing b)) begins
+      (steps_play state is.first b steps is.plays.answers
+      (subst (λ (s : Session). run s.start s.history ≡ Some s.state) (sym is.opened.session) refl)
+      (row_steps state is.first b steps is.plays.answers is.plays.played)).plays
 
   -- The state that all accepted events led to is the book's.
-  reached : Replays b.session → run (restarted p) events ≡ Some b.session.state
-  reached replays =
-      let from = steps_play state is.first (holding b) steps is.plays.answers (opened_from p)
-      is_session (row_steps state is.first (holding b) steps is.plays.answers is.plays.played) in
-      accepted_run (sound (opened_from p)) (playing_in (holding b) last_session) steps
-      is.plays.answers plays
-      ∙ sym from.is_last.state ∙ replays.replays
+  reached : run (restarted p) events ≡ Some b.session.state
+  reached = accepted_run (sound (opened_from p)) (playing b) steps is.plays.answers plays
 
   -- It was opened again over a disk that stores that state.
-  pub stayed_again : (new : Holding D) (over behind : D) → (state given).honest
-      → IsAtRest (state given) → Replays b.session → CarriesOn state (holding b) new
-      → new.history ≡ (holding b).history → over ≡ new.journal.disk
+  pub stayed_again : (new : BookView D) (over behind : D) → (state given).honest
+      → IsAtRest (state given) → CarriesOn state b new
+      → new.session ≡ b.session → over ≡ new.journal.disk
       → LeavesOnly (StoresOpened b.session.state) (state over) (state behind)
       → HasStayed p steps before replies (state given) (state behind)
-  stayed_again new over behind honest rest replays on same is_over leaves = record {
+  stayed_again new over behind honest rest on same is_over leaves = record {
     answers = is.plays.answers;
     appended = is.plays.appended;
     held =
@@ -257,21 +241,21 @@ module _ {D : Type 0} (state : D → DiskState) (given : D) (p : State) (steps :
         (state given) (state over) (state behind)
         (subst (λ d. LeavesOnly (HoldsOne p events) (state given) (state d)) (sym is_over)
         (left_since new honest rest on same)) leaves (λ x left. left)
-        (λ x left. reopened_holds p b.session.state events x (reached replays) left);
+        (λ x left. reopened_holds p b.session.state events x reached left);
   }
 
   -- A call failed since the opening, where the book is broken.
   broken_why : b.journal.broken ≡ true → DeviceFails (state given) (state b.journal.disk)
   broken_why broken =
-      let left = steps_left state is.first (holding b) steps is.plays.answers
-      (row_steps state is.first (holding b) steps is.plays.answers is.plays.played) in
+      let left = steps_left state is.first b steps is.plays.answers
+      (row_steps state is.first b steps is.plays.answers is.plays.played) in
       fails_later (state given) (state is.first.journal.disk) (state b.journal.disk)
       is.opened.passed.failures_later
       (left.failed
-      (broken_by false (opened_from p) (playing_in (holding b) last_session) steps
+      (broken_by false (opened_from p) (playing b) steps
       is.plays.answers plays broken)).0
 
-  pub later_since : (new : Holding D) → CarriesOn state (holding b) new
+  pub later_since : (new : BookView D) → CarriesOn state b new
       → (state given).failures ≤ (state new.journal.disk).failures
   later_since new on =
       omega (
@@ -282,12 +266,12 @@ module _ {D : Type 0} (state : D → DiskState) (given : D) (p : State) (steps :
       )
 
   -- What the steps led to isn't saved.
-  pub unsaved_why : (why : Trouble) (new : Holding D) → IsUnsaved state (holding b) why new
+  pub unsaved_why : (why : Trouble) (new : BookView D) → IsUnsaved state b why new
       → StopsFor (state given) (state new.journal.disk) why
   unsaved_why why new (inl refused) =
       inr (inr (
         inr refused.told,
-        subst (λ (h : Holding D). DeviceFails (state given) (state h.journal.disk))
+        subst (λ (h : BookView D). DeviceFails (state given) (state h.journal.disk))
             (sym refused.same) (broken_why refused.was),
       ))
   unsaved_why why new (inr (inl spent)) = inr (inl spent.told)
@@ -300,14 +284,14 @@ module _ {D : Type 0} (state : D → DiskState) (given : D) (p : State) (steps :
       ))
 
   pub over_honest : (new : BookView D) (over : D) → (state given).honest
-      → CarriesOn state (holding b) (holding new) → over ≡ new.journal.disk → (state over).honest
+      → CarriesOn state b new → over ≡ new.journal.disk → (state over).honest
   over_honest new over honest on is_over =
       subst (λ d. (state d).honest) (sym is_over)
       (on.passed.honest (is.on.passed.honest (is.opened.passed.honest honest)))
 
   -- Once all is saved, its disk stores that state.
   pub saved_state : (new : BookView D) (over : D) → IsDisk (state over) → (state given).honest
-      → CarriesOn state (holding b) (holding new) → over ≡ new.journal.disk
+      → CarriesOn state b new → over ≡ new.journal.disk
       → new.session ≡ b.session
       → ((x : List ℕ) → (state new.journal.disk).images x → Stores x new.session.state)
       → Stores (state over).now b.session.state
@@ -317,16 +301,16 @@ module _ {D : Type 0} (state : D → DiskState) (given : D) (p : State) (steps :
       (stores (state over).now
       (subst (λ d. (state d).images (state over).now) is_over (disk.now_is_image then)))
 
-  pub lasted : (over : D) (second : BookView D) → b.journal.broken ≡ false → Replays b.session
+  pub lasted : (over : D) (second : BookView D) → b.journal.broken ≡ false
       → (state over).honest → Stores (state over).now b.session.state
-      → Opens state over (Ok (holding second)) → second.session ≡ begun_at second.session.start
+      → Opens state over (Ok second) → second.session ≡ begun_at second.session.start
       → HasLasted p steps before replies second.session
-  lasted over second fine replays honest stores opens begun =
+  lasted over second fine honest stores opens begun =
       let last = b.session.state in
       let opened = opens.answer in
       let same = stores_one (state over).now opened.stored last (opened.found.stores honest)
       stores in
-      let end = playing_in (holding b) last_session in
+      let end = playing b in
       let all = taken_all false (opened_from p) end steps is.plays.answers plays fine in
       record {
         answers = is.plays.answers;
@@ -336,9 +320,9 @@ module _ {D : Type 0} (state : D → DiskState) (given : D) (p : State) (steps :
         sound = fine;
         last = last;
         reached = ap (λ l. run (restarted p) (accepted (opened_from p) l)) (sym all)
-            ∙ reached replays;
+            ∙ reached;
         restart = interrupted last;
-        reopened = begun ∙ ap begun_at (opened.opened.start ∙ ap restarted same);
+        reopened = opened.opened.session ∙ ap (λ q. begun_at (restarted q)) same;
       }
 
 -- ---- a format

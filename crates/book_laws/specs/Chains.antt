@@ -8,18 +8,16 @@ use Rattle.run_model.specs.declared.faults.Trouble.TheVariants.{Faulty, Refused}
 use Rattle.run_model.specs.declared.refusals.Refusal.TheVariants.{Broken}
 use Rattle.run_model.specs.Allowed.{run}
 use Rattle.run_model.specs.Event.{Event}
-use Rattle.run_model.specs.Session.{accepted}
+use Rattle.run_model.specs.Session.{accepted, Session, begun_at}
 use Rattle.run_model.specs.State.{State}
 use Rattle.run_disk.specs.Disk.{DiskState, last_moment}
 use Rattle.run_disk.specs.Runs.{LeavesOnly}
-use Rattle.run_session.specs.Logged.{Logged, begun_at}
 use Rattle.model_laws.specs.Restarts.{IsRestart}
-use Rattle.book_model.specs.Holdings.{CarriesOn, Holding, IsOpened}
+use Rattle.book_model.specs.Holdings.{CarriesOn, BookView, IsOpened}
 use Rattle.book_model.specs.Nights.{HasKept, opened_from}
 use Rattle.book_model.specs.Plays.{Playing, Plays, sound, taken}
 use Rattle.book_model.specs.Steps.{PlaysInto}
 use Rattle.book_model.specs.Stores.{Stores, StoresNothingOr, StoresOpened, restarted}
-use Rattle.run_book.specs.Views.{BookView, holding}
 
 -- The disk that an answer gives back, in a book or alone.
 abbrev pub disk_in : {D X : Type 0} → Result (BookView D) (X × D) → D
@@ -33,7 +31,7 @@ disk_in (Err stopped) = stopped.1
 -- led to, in order and none left out, make one state; and the store was opened again behind a
 -- restart of that, which interrupts what was running, and besides changes only the count, and what
 -- an interruption does to its group and that group's scope.
-pub record HasLasted (p : State) (steps : List Step) (before replies : List Reply) (b : Logged)
+pub record HasLasted (p : State) (steps : List Step) (before replies : List Reply) (b : Session)
     : Type 0 where
   pub answers : List Reply
   pub appended : replies ≡ before ++ answers
@@ -102,8 +100,8 @@ StopsFor old new why =
 pub record IsPlayed {D : Type 0} (state : D → DiskState) (given : D) (p : State)
     (steps : List Step) (before : List Reply) (b : BookView D) (replies : List Reply)
     : Type 0 where
-  pub first : Holding D
+  pub first : BookView D
   pub opened : IsOpened state given p first
   pub leaves : LeavesOnly (StoresOpened p) (state given) (state first.journal.disk)
-  pub plays : PlaysInto state first steps before (holding b) replies
-  pub on : CarriesOn state first (holding b)
+  pub plays : PlaysInto state first steps before b replies
+  pub on : CarriesOn state first b

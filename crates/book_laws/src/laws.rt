@@ -10,7 +10,7 @@ ghost use Rattle.run_model.specs.State.{State, formatted};
 ghost use Rattle.run_disk.specs.Disk.{IsAtRest};
 ghost use Rattle.run_disk.specs.Runs.{LeavesOnly};
 ghost use Rattle.run_journal.specs.Pairs.{AreZeros};
-ghost use Rattle.run_session.specs.Logged.{Replays};
+ghost use Rattle.run_session.specs.Replays.{Replays};
 ghost use Rattle.book_model.specs.Stores.{Stores, StoresOpened};
 ghost use Rattle.book_laws.specs.Chains.{HasLasted, HasStayed, HasStayedNew};
 ghost use Rattle.book_laws.specs.Chains.{IsPlayed, StopsFor, disk_in};

@@ -1,29 +1,29 @@
 -- A book over a disk makes the moves of the machine that it is.
-use Rattle.std.proofs.Common.{◌≡◌, ◌++◌, ◌∷◌, [], ℕ, Bool, true, false, List}
+use Rattle.std.proofs.Common.{◌≡◌, ◌∷◌, [], ℕ, Bool, true, false, List}
 use Rattle.std.proofs.Common.{length, Option, Some, None, Ok, if◌then◌else◌, inl, inr}
 use Rattle.std.proofs.Common.{refl, sym, ap, subst, ◌∙◌, arith}
 use Rattle.std.specs.Prelude.{unwrap_or}
 use Rattle.run_model.specs.declared.answers.Reply.{Reply}
 use Rattle.run_model.specs.declared.commands.Step.{Step}
-use Rattle.run_model.specs.Allowed.{IsFront}
+use Rattle.run_model.specs.Allowed.{IsFront, run}
 use Rattle.run_model.specs.Session.{Session, is_ack}
 use Rattle.run_model.specs.State.{State}
 use Rattle.run_disk.specs.Disk.{DiskState, IsAtRest, IsDisk}
-use Rattle.book_model.specs.Holdings.{CarriesOn, Holding, IsOpened, IsSession, acked}
+use Rattle.model_laws.proofs.RunLemmas.{run_counts}
+use Rattle.book_model.specs.Holdings.{BookView, CarriesOn, IsOpened, IsReached, acked}
 use Rattle.book_model.specs.Machines.{Goes, Machine, Move, Open, OpenInVain, Running}
-use Rattle.book_model.specs.Machines.{Runs, Stop, Stored, Take, TakesAll, added, opened_at}
-use Rattle.book_model.specs.Machines.{took}
+use Rattle.book_model.specs.Machines.{Runs, Stop, Stored, Take, TakesAll, opened_at, took}
 use Rattle.book_model.specs.Openings.{Opens}
-use Rattle.book_model.specs.Plays.{IsReply, IsReplyWhere, acked_of}
+use Rattle.book_model.specs.Plays.{IsReply, IsReplyWhere, Playing, acked_of, behind}
 use Rattle.book_model.specs.Standing.{Closed, CutsOpening, CutsSteps, Does, DoesAll, GoesAs}
 use Rattle.book_model.specs.Standing.{HoldsAs, LiesWith, Opened, Standing, StandsAs}
-use Rattle.book_model.specs.Steps.{AnswersStep, StepsOn}
+use Rattle.book_model.specs.Steps.{AnswersStep, StepsOn, playing}
 use Rattle.book_model.specs.Stores.{StoresFront, StoresOpened, restarted}
 use Rattle.book_model.proofs.HoldingLemmas.{left_any_moment, safe_on}
-use Rattle.book_model.proofs.NightLemmas.{opened_safe, opened_session}
+use Rattle.book_model.proofs.NightLemmas.{opened_playing, opened_safe}
 use Rattle.book_model.proofs.Playing.{ack_is, acked_is, some_none, sound_acked}
 use Rattle.book_model.proofs.Rows.{row_carries}
-use Rattle.book_model.proofs.Stepping.{IsTold, session_count, step_left, step_told}
+use Rattle.book_model.proofs.Stepping.{step_left, steps_play}
 use Rattle.book_model.proofs.Storing.{stores_one}
 
 -- ---- a step
@@ -35,36 +35,38 @@ acked_count true s x r n told some = absurd (some_none (acked_of r) n some (ap a
 acked_count false s x r n told some = (sound_acked s x r n told some).0
 
 -- As many events are acknowledged behind a step as the machine says.
-acked_after : {D : Type 0} (old new : Holding D) (b : Bool) (s : Session) (x : Step) (r : Reply)
-    (n : ℕ) → IsSession old s → IsReplyWhere b s x r → new.start ≡ old.start
+acked_after : {D : Type 0} (old new : BookView D) (x : Step) (r : Reply) (n : ℕ) → IsReached old
+    → IsReply (playing old) x r → new.session.start ≡ old.session.start
     → new.durable ≡ unwrap_or (acked_of r) old.durable → n ≡ acked old
-    → (if is_ack r then length old.history else n) ≡ acked new
-acked_after old new b s x r n is told start durable was = go (acked_of r) refl
+    → (if is_ack r then length old.session.history else n) ≡ acked new
+acked_after old new x r n is told start durable was = go (acked_of r) refl
   where
+    count : new.session.start.count ≡ old.session.start.count
+    count = ap (λ (q : State). q.count) start
+
     go : (o : Option ℕ) → acked_of r ≡ o
-        → (if is_ack r then length old.history else n) ≡ acked new
+        → (if is_ack r then length old.session.history else n) ≡ acked new
     go None none =
         let same : new.durable ≡ old.durable =
         durable ∙ ap (λ o. unwrap_or o old.durable) none in
-        let count : new.start.count ≡ old.start.count = ap (λ (q : State). q.count) start in
         let stays : n ≡ acked new = omega (arith, same, count, was) in
-        ap (λ k. if k then length old.history else n) (acked_is r none) ∙ stays
+        ap (λ k. if k then length old.session.history else n) (acked_is r none) ∙ stays
     go (Some k) some =
         let last : new.durable ≡ k = durable ∙ ap (λ o. unwrap_or o old.durable) some in
-        let all : k ≡ s.state.count = acked_count b s x r k told some in
-        let count = session_count old s is in
-        let begins : new.start.count ≡ old.start.count = ap (λ (q : State). q.count) start in
-        let whole : length old.history ≡ acked new = omega (arith, last, all, count, begins) in
-        ap (λ k. if k then length old.history else n) (ack_is r k some) ∙ whole
+        let all = acked_count old.journal.broken old.session x r k told some in
+        let counts = run_counts old.session.start old.session.state old.session.history is in
+        let whole : length old.session.history ≡ acked new =
+        omega (arith, last, all, counts, count) in
+        ap (λ k. if k then length old.session.history else n) (ack_is r k some) ∙ whole
 
 -- The machine takes the step, and the book holds what it does then.
 pub record TookAs {D : Type 0} (state : D → DiskState) (m : Running) (x : Step) (r : Reply)
-    (new : Holding D) : Type 0 where
+    (new : BookView D) : Type 0 where
   pub reply : IsReply m.book x r
   pub holds : HoldsAs state new (took m x r)
 
 pub record TakenAs {D : Type 0} (state : D → DiskState) (m : Running) (steps : List Step)
-    (answers : List Reply) (new : Holding D) : Type 0 where
+    (answers : List Reply) (new : BookView D) : Type 0 where
   pub end : Running
   pub takes : TakesAll m steps answers end
   pub holds : HoldsAs state new end
@@ -77,31 +79,26 @@ pub record MovesAs {D : Type 0} (state : D → DiskState) (m : Machine) (move : 
   pub stands : StandsAs state new next
 
 module _ {D : Type 0} (state : D → DiskState) where
-  pub took_as : (h new : Holding D) (m : Running) (x : Step) (r : Reply) → HoldsAs state h m
+  pub took_as : (h new : BookView D) (m : Running) (x : Step) (r : Reply) → HoldsAs state h m
       → AnswersStep state h x r new → CarriesOn state h new → TookAs state m x r new
   took_as h new m x r is answers on =
-      let s = m.book.session in
-      let b = m.book.broken in
       let left = step_left state h x r new answers in
-      let told : IsTold h b s x r new =
-      subst (λ k. IsTold h k s x r new) (sym is.broken)
-      (step_told state h s x r new is.session answers) in
+      let told = steps_play state h new (x ∷ []) (r ∷ []) is.reached (new, answers, refl) in
       record {
-        reply = told.replied;
+        reply = subst (λ b. IsReply b x r) (sym is.book) told.plays.0;
         holds = record {
           safe = safe_on state h new on is.safe;
           durable = on.images;
-          start = is.start ∙ sym on.start;
-          history = ap (λ l. l ++ added b s x) is.history ∙ sym told.history;
-          acked = ap (λ l. if is_ack r then length l else m.acked) is.history
-              ∙ acked_after h new b s x r m.acked is.session told.replied left.start
-              left.durable is.acked;
-          session = told.next;
-          broken = told.broken;
+          reached = told.reached;
+          book = ap (λ b. behind b x r) is.book ∙ sym told.plays.1;
+          acked = ap (λ (b : Playing). if is_ack r then length b.session.history else m.acked)
+              is.book
+              ∙ acked_after h new x r m.acked is.reached told.plays.0 left.start left.durable
+              is.acked;
         };
       }
 
-  pub row_as : (h last : Holding D) (m : Running) (steps : List Step) (answers : List Reply)
+  pub row_as : (h last : BookView D) (m : Running) (steps : List Step) (answers : List Reply)
       → HoldsAs state h m → StepsOn state h steps answers last
       → TakenAs state m steps answers last
   row_as h last m [] [] is p = record {
@@ -118,7 +115,7 @@ module _ {D : Type 0} (state : D → DiskState) where
 
   -- ---- an opening
 
-  pub opened_as : (given : D) (p : State) (h : Holding D) → LiesWith state given p
+  pub opened_as : (given : D) (p : State) (h : BookView D) → LiesWith state given p
       → Opens state given (Ok h) → HoldsAs state h (opened_at p)
   opened_as given p h lies opens =
       let found = opens.answer.found.stores lies.honest in
@@ -129,7 +126,8 @@ module _ {D : Type 0} (state : D → DiskState) where
       record {
         safe = opened_safe state given p h lies.honest lies.rest is;
         durable = λ safe x left.
-            subst (λ q. StoresFront q h.history (acked h) x) (sym is.start) (record {
+            subst (λ (s : Session). StoresFront s.start s.history (acked h) x) (sym is.session)
+            (record {
               state = restarted p;
               front = record {
                 many = 0;
@@ -139,11 +137,10 @@ module _ {D : Type 0} (state : D → DiskState) where
               };
               stores = opens.now lies.honest lies.rest p lies.stores x left;
             });
-        start = sym is.start;
-        history = sym is.history;
+        reached = subst (λ (s : Session). run s.start s.history ≡ Some s.state)
+            (sym is.session) refl;
+        book = sym (opened_playing state given p h is);
         acked = sym none;
-        session = opened_session state given p h is;
-        broken = sym is.sound;
       }
 
   vain_by : (next : D) (p : State) → (state next).honest → IsAtRest (state next)
@@ -168,7 +165,7 @@ module _ {D : Type 0} (state : D → DiskState) where
 
   -- ---- a stop
 
-  stop_as : (h : Holding D) (next : D) (m : Running) (more : List Step)
+  stop_as : (h : BookView D) (next : D) (m : Running) (more : List Step)
       → ((d : D) → IsDisk (state d)) → HoldsAs state h m → CutsSteps state h more next
       → MovesAs state (Runs m) (Stop more) (Closed next)
   stop_as h next m more disk is cut =
@@ -177,17 +174,21 @@ module _ {D : Type 0} (state : D → DiskState) where
       let left = left_any_moment state h cut.last (state next).now on is.safe
       cut.finds.content in
       let q = left.state in
-      let begun : IsFront m.start cut.last.history (acked h) q =
-      subst (λ p. IsFront p cut.last.history (acked h) q) (sym is.start) left.front in
-      let grown : IsFront m.start row.end.history (acked h) q =
-      subst (λ l. IsFront m.start l (acked h) q) (sym row.holds.history) begun in
+      let end = row.end.book.session in
+      let grown : IsFront h.session.start end.history (acked h) q =
+      subst (λ (b : Playing). IsFront h.session.start b.session.history (acked h) q)
+      (sym row.holds.book) left.front in
+      let begun : IsFront m.book.session.start end.history (acked h) q =
+      subst (λ (b : Playing). IsFront b.session.start end.history (acked h) q) (sym is.book)
+      grown in
       record {
         next = Stored q;
         goes = record {
           untold = cut.untold;
           last = row.end;
           takes = row.takes;
-          front = subst (λ n. IsFront m.start row.end.history n q) (sym is.acked) grown;
+          front = subst (λ n. IsFront m.book.session.start end.history n q) (sym is.acked)
+              begun;
         };
         stands = record {
           honest = cut.finds.honest;
@@ -213,7 +214,7 @@ module _ {D : Type 0} (state : D → DiskState) where
   closed_as given (Closed next) (Stop more) p is does = absurd does
   closed_as given (Opened h) (Stop more) p is does = absurd does
 
-  open_as : (h : Holding D) (new : Standing D) (move : Move) (m : Running)
+  open_as : (h : BookView D) (new : Standing D) (move : Move) (m : Running)
       → ((d : D) → IsDisk (state d)) → HoldsAs state h m → Does state (Opened h) move new
       → MovesAs state (Runs m) move new
   open_as h (Opened new) (Take x r) m disk is (answers, on) =

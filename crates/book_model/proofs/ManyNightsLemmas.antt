@@ -1,35 +1,35 @@
 -- Many nights of the machine: what they lead to.
 use Rattle.std.proofs.Common.{◌≡◌, ◌+◌, ◌-◌, ◌≤◌, ◌++◌, ◌∷◌, [], ℕ, Bool, true, false}
 use Rattle.std.proofs.Common.{List, length, take, drop, map, Option, Some, None, if◌then◌else◌}
-use Rattle.std.proofs.Common.{refl, sym, ap, subst, ◌∙◌, arith, append_assoc, append-nil}
+use Rattle.std.proofs.Common.{refl, sym, ap, subst, ◌∙◌, arith, append_assoc}
 use Rattle.std.proofs.Common.{length-append}
 use Rattle.std.specs.Prelude.{unwrap_or}
-use Rattle.std.specs.List.{cons_option, flat_map}
+use Rattle.std.specs.List.{flat_map}
 use Rattle.std.proofs.lemmas.List.{take-append-drop}
 use Rattle.run_model.specs.declared.answers.Reply.{Reply}
 use Rattle.run_model.specs.declared.commands.Step.{Step}
 use Rattle.run_model.specs.Allowed.{run}
 use Rattle.run_model.specs.Event.{Event}
 use Rattle.run_model.specs.Session.{Session, accepted, acknowledged, event_of_step, is_ack}
-use Rattle.run_model.specs.Session.{with_event}
+use Rattle.run_model.specs.Session.{session_after, with_event}
 use Rattle.run_model.specs.State.{State}
 use Rattle.run_disk.specs.Disk.{DiskState, IsDisk}
+use Rattle.model_laws.proofs.Stepping.{accepted_history, accepted_start}
 use Rattle.book_model.specs.Machines.{GoesOn, Machine, Move, Running}
-use Rattle.book_model.specs.Machines.{Runs, Stop, StopsAt, Stored, Take, TakesAll, added, opened_at}
+use Rattle.book_model.specs.Machines.{Runs, Stop, StopsAt, Stored, Take, TakesAll, opened_at}
 use Rattle.book_model.specs.Machines.{took}
 use Rattle.book_model.specs.ManyNights.{LeadOver, Leads, LeadsOver, Night, InVain, Spent}
 use Rattle.book_model.specs.ManyNights.{StoresBehindNights, answers_of, moves_of, steps_of}
 use Rattle.book_model.specs.Nights.{opened_from}
-use Rattle.book_model.specs.Plays.{IsReplyWhere, Plays, acked_of, is_broken_reply, last_acked}
-use Rattle.book_model.specs.Plays.{session_behind, taken}
+use Rattle.book_model.specs.Plays.{IsReply, Plays, acked_of, last_acked, session_behind, taken}
 use Rattle.book_model.specs.Standing.{Closed, DoesAll, LiesWith, StandsAs}
 use Rattle.book_model.specs.Stores.{restarted}
 use Rattle.book_model.proofs.FrontLemmas.{take_behind}
 use Rattle.book_model.proofs.Machining.{acked_count, all_as}
 use Rattle.book_model.proofs.NightLemmas.{told_enough}
-use Rattle.book_model.proofs.Playing.{accepted_run, ack_is, acked_is, acknowledged_first}
-use Rattle.book_model.proofs.Playing.{acknowledged_told, not_refused}
-use Rattle.book_model.proofs.Stepping.{added_first, told_last}
+use Rattle.book_model.proofs.Playing.{accepted_left, ack_is, acked_is, acknowledged_first}
+use Rattle.book_model.proofs.Playing.{acknowledged_told}
+use Rattle.book_model.proofs.Stepping.{reached_after, told_last}
 
 -- ---- what steps leave of the machine
 
@@ -50,116 +50,91 @@ takes_join m middle end (x ∷ steps) more [] others p q = absurd p
 takes_join m middle end (x ∷ steps) more (r ∷ answers) others (reply, rest) q =
     (reply, takes_join (took m x r) middle end steps more answers others rest q)
 
-pub takes_start : (m end : Running) (steps : List Step) (answers : List Reply)
-    → TakesAll m steps answers end → end.start ≡ m.start
-takes_start m end [] [] p = ap (λ (n : Running). n.start) p
-takes_start m end [] (r ∷ answers) p = absurd p
-takes_start m end (x ∷ steps) [] p = absurd p
-takes_start m end (x ∷ steps) (r ∷ answers) (reply, rest) =
-    takes_start (took m x r) end steps answers rest
-
--- A reply is Broken where the machine is.
-broken_where : (b : Bool) (s : Session) (x : Step) (r : Reply) → IsReplyWhere b s x r
-    → is_broken_reply r ≡ b
-broken_where true s x r told = ap is_broken_reply told
-broken_where false s x r told = not_refused s x r told
+takes_session : (m end : Running) (steps : List Step) (answers : List Reply)
+    → TakesAll m steps answers end
+    → end.book.session ≡ session_after m.book.session (taken steps answers)
+takes_session m end steps answers takes =
+    accepted_left m.book end.book steps answers (takes_plays m end steps answers takes)
 
 pub takes_history : (m end : Running) (steps : List Step) (answers : List Reply)
-    → TakesAll m steps answers end
-    → end.history ≡ m.history ++ accepted m.book.session (taken steps answers)
-takes_history m end [] [] p =
-    ap (λ (n : Running). n.history) p ∙ sym (append-nil m.history)
-takes_history m end [] (r ∷ answers) p = absurd p
-takes_history m end (x ∷ steps) [] p = absurd p
-takes_history m end (x ∷ steps) (r ∷ answers) (reply, rest) =
-    let b = m.book.broken in
-    let s = m.book.session in
-    takes_history (took m x r) end steps answers rest
-    ∙ append_assoc m.history (added b s x)
-    (accepted (session_behind b s x) (taken steps answers))
-    ∙ ap (λ es. m.history ++ es)
-    (sym (added_first b s x r steps answers (broken_where b s x r reply)))
+    → TakesAll m steps answers end → end.book.session.history
+    ≡ m.book.session.history ++ accepted m.book.session (taken steps answers)
+takes_history m end steps answers takes =
+    ap (λ (s : Session). s.history) (takes_session m end steps answers takes)
+    ∙ accepted_history m.book.session (taken steps answers)
 
 -- ---- what is acknowledged
 
--- The events since the opening are those that the session counts.
-abbrev Counts : Running → Type 0
-Counts m = m.start.count + length m.history ≡ m.book.session.state.count
+-- The events since the opening, which had this count, are those that the session counts.
+abbrev Counts : ℕ → Session → Type 0
+Counts n s = n + length s.history ≡ s.state.count
 
-added_counts : (n : ℕ) (history : List Event) (b : Bool) (s : Session) (x : Step)
-    → n + length history ≡ s.state.count
-    → n + length (history ++ added b s x) ≡ (session_behind b s x).state.count
-added_counts n history true s x counts =
-    let sum = length-append history [] in
-    omega (arith, counts, sum)
-added_counts n history false s x counts = by (event_of_step s x)
+behind_counts : (n : ℕ) (b : Bool) (s : Session) (x : Step) → Counts n s
+    → Counts n (session_behind b s x)
+behind_counts n true s x counts = counts
+behind_counts n false s x counts = by (event_of_step s x)
   where
-    by : (o : Option Event)
-        → n + length (history ++ cons_option o []) ≡ (with_event s o).state.count
-    by None =
-        let sum = length-append history [] in
-        omega (arith, counts, sum)
+    by : (o : Option Event) → Counts n (with_event s o)
+    by None = counts
     by (Some made) =
-        let sum = length-append history (made ∷ []) in
+        let sum = length-append s.history (made ∷ []) in
         omega (arith, counts, sum)
 
-acked_once : (m : Running) (x : Step) (r : Reply) → Counts m
-    → IsReplyWhere m.book.broken m.book.session x r
-    → m.start.count + (took m x r).acked ≡ unwrap_or (acked_of r) (m.start.count + m.acked)
-acked_once m x r counts told = go (acked_of r) refl
+acked_once : (n : ℕ) (m : Running) (x : Step) (r : Reply) → Counts n m.book.session
+    → IsReply m.book x r
+    → n + (took m x r).acked ≡ unwrap_or (acked_of r) (n + m.acked)
+acked_once n m x r counts told = go (acked_of r) refl
   where
     go : (o : Option ℕ) → acked_of r ≡ o
-        → m.start.count + (if is_ack r then length m.history else m.acked)
-        ≡ unwrap_or (acked_of r) (m.start.count + m.acked)
+        → n + (if is_ack r then length m.book.session.history else m.acked)
+        ≡ unwrap_or (acked_of r) (n + m.acked)
     go None none =
-        ap (λ k. m.start.count + (if k then length m.history else m.acked)) (acked_is r none)
-        ∙ sym (ap (λ o. unwrap_or o (m.start.count + m.acked)) none)
-    go (Some n) some =
-        let all : n ≡ m.book.session.state.count =
-        acked_count m.book.broken m.book.session x r n told some in
-        let whole : m.start.count + length m.history ≡ n = omega (arith, counts, all) in
-        ap (λ k. m.start.count + (if k then length m.history else m.acked)) (ack_is r n some)
-        ∙ whole
-        ∙ sym (ap (λ o. unwrap_or o (m.start.count + m.acked)) some)
+        ap (λ k. n + (if k then length m.book.session.history else m.acked)) (acked_is r none)
+        ∙ sym (ap (λ o. unwrap_or o (n + m.acked)) none)
+    go (Some k) some =
+        let all : k ≡ m.book.session.state.count =
+        acked_count m.book.broken m.book.session x r k told some in
+        let whole : n + length m.book.session.history ≡ k = omega (arith, counts, all) in
+        ap (λ k. n + (if k then length m.book.session.history else m.acked)) (ack_is r k some)
+        ∙ whole ∙ sym (ap (λ o. unwrap_or o (n + m.acked)) some)
 
-takes_acked : (m end : Running) (steps : List Step) (answers : List Reply) → Counts m
-    → TakesAll m steps answers end
-    → m.start.count + end.acked ≡ unwrap_or (last_acked answers) (m.start.count + m.acked)
-takes_acked m end [] [] counts p = ap (λ (n : Running). m.start.count + n.acked) p
-takes_acked m end [] (r ∷ answers) counts p = absurd p
-takes_acked m end (x ∷ steps) [] counts p = absurd p
-takes_acked m end (x ∷ steps) (r ∷ answers) counts (reply, rest) =
-    takes_acked (took m x r) end steps answers
-    (added_counts m.start.count m.history m.book.broken m.book.session x counts) rest
-    ∙ ap (λ n. unwrap_or (last_acked answers) n) (acked_once m x r counts reply)
-    ∙ told_last answers r (m.start.count + m.acked)
+takes_acked : (n : ℕ) (m end : Running) (steps : List Step) (answers : List Reply)
+    → Counts n m.book.session → TakesAll m steps answers end
+    → n + end.acked ≡ unwrap_or (last_acked answers) (n + m.acked)
+takes_acked n m end [] [] counts p = ap (λ (k : Running). n + k.acked) p
+takes_acked n m end [] (r ∷ answers) counts p = absurd p
+takes_acked n m end (x ∷ steps) [] counts p = absurd p
+takes_acked n m end (x ∷ steps) (r ∷ answers) counts (reply, rest) =
+    takes_acked n (took m x r) end steps answers
+    (behind_counts n m.book.broken m.book.session x counts) rest
+    ∙ ap (λ k. unwrap_or (last_acked answers) k) (acked_once n m x r counts reply)
+    ∙ told_last answers r (n + m.acked)
 
 -- ---- from the opening on
 
 pub taken_state : (p : State) (m : Running) (steps : List Step) (answers : List Reply)
     → TakesAll (opened_at p) steps answers m
-    → run m.start m.history ≡ Some m.book.session.state
+    → run m.book.session.start m.book.session.history ≡ Some m.book.session.state
 taken_state p m steps answers takes =
-    ap (λ q. run q m.history) (takes_start (opened_at p) m steps answers takes)
-    ∙ ap (λ l. run (restarted p) l) (takes_history (opened_at p) m steps answers takes)
-    ∙ accepted_run (opened_at p).book m.book steps answers
-    (takes_plays (opened_at p) m steps answers takes)
+    subst (λ (s : Session). run s.start s.history ≡ Some s.state)
+    (sym (takes_session (opened_at p) m steps answers takes))
+    (reached_after (opened_from p) (taken steps answers) refl)
 
 pub taken_acked : (p : State) (m : Running) (steps : List Step) (answers : List Reply)
-    → TakesAll (opened_at p) steps answers m → m.acked ≤ length m.history
+    → TakesAll (opened_at p) steps answers m → m.acked ≤ length m.book.session.history
 taken_acked p m steps answers takes = go (last_acked answers) refl
   where
     none : (restarted p).count + 0 ≡ (restarted p).count
     none = omega arith
 
     told : (restarted p).count + m.acked ≡ unwrap_or (last_acked answers) (restarted p).count
-    told = takes_acked (opened_at p) m steps answers none takes
+    told = takes_acked (restarted p).count (opened_at p) m steps answers none takes
         ∙ ap (λ n. unwrap_or (last_acked answers) n) none
 
     plays : Plays (opened_at p).book steps answers m.book
     plays = takes_plays (opened_at p) m steps answers takes
 
-    go : (o : Option ℕ) → last_acked answers ≡ o → m.acked ≤ length m.history
+    go : (o : Option ℕ) → last_acked answers ≡ o → m.acked ≤ length m.book.session.history
     go None is =
         let first : (restarted p).count + m.acked ≡ (restarted p).count =
         told ∙ ap (λ o. unwrap_or o (restarted p).count) is in
@@ -170,7 +145,7 @@ taken_acked p m steps answers takes = go (last_acked answers) refl
         let counted = acknowledged_told (opened_at p).book m.book steps answers n plays is in
         let order = acknowledged_first (opened_at p).book m.book steps answers plays in
         let sum = length-append (acknowledged (opened_from p) steps answers) order.0 in
-        let whole : length m.history
+        let whole : length m.book.session.history
         ≡ length (acknowledged (opened_from p) steps answers ++ order.0) =
         ap (λ (l : List Event). length l)
         (takes_history (opened_at p) m steps answers takes ∙ order.1) in
@@ -181,8 +156,8 @@ taken_acked p m steps answers takes = go (last_acked answers) refl
 -- What steps leave of the machine that was just opened.
 record IsSpent (p : State) (steps : List Step) (answers : List Reply) (end : Running)
     : Type 0 where
-  pub start : end.start ≡ restarted p
-  pub history : end.history ≡ accepted (opened_from p) (taken steps answers)
+  pub start : end.book.session.start ≡ restarted p
+  pub history : end.book.session.history ≡ accepted (opened_from p) (taken steps answers)
   pub first : List Event
   pub in_order : accepted (opened_from p) (taken steps answers)
       ≡ acknowledged (opened_from p) steps answers ++ first
@@ -197,12 +172,13 @@ spent p end steps answers takes =
     let none : (restarted p).count + 0 ≡ (restarted p).count = omega arith in
     let told : (restarted p).count + end.acked
     ≡ unwrap_or (last_acked answers) (restarted p).count =
-    takes_acked m end steps answers none takes
+    takes_acked (restarted p).count m end steps answers none takes
     ∙ ap (λ n. unwrap_or (last_acked answers) n) none in
     let enough = told_enough m.book end.book steps answers (restarted p).count
     ((restarted p).count + end.acked) plays refl told in
     record {
-      start = takes_start m end steps answers takes;
+      start = ap (λ (s : Session). s.start) (takes_session m end steps answers takes)
+          ∙ accepted_start (opened_from p) (taken steps answers);
       history = takes_history m end steps answers takes;
       first = order.0;
       in_order = order.1;
@@ -222,7 +198,7 @@ led_over p q m calls more takes stops =
     (takes_join (opened_at p) m stops.last steps more answers stops.untold takes stops.takes) in
     let later = accepted m.book.session (taken more stops.untold) in
     let rest = one.first ++ later in
-    let order : stops.last.history ≡ acks ++ rest =
+    let order : stops.last.book.session.history ≡ acks ++ rest =
     takes_history m stops.last more stops.untold stops.takes
     ∙ ap (λ l. l ++ later) (one.history ∙ one.in_order)
     ∙ append_assoc acks one.first later in
@@ -236,8 +212,8 @@ led_over p q m calls more takes stops =
       in_order = sym all.history ∙ order
           ∙ ap (λ l. acks ++ l) (sym (take-append-drop k rest));
       reached = ap (λ l. run (restarted p) l)
-          (sym (take_behind many stops.last.history acks rest order enough))
-          ∙ subst (λ b. run b (take many stops.last.history) ≡ Some q) one.start
+          (sym (take_behind many stops.last.book.session.history acks rest order enough))
+          ∙ subst (λ b. run b (take many stops.last.book.session.history) ≡ Some q) one.start
           stops.front.reached;
     }
 

@@ -7,7 +7,7 @@ use Rattle.run_model.specs.declared.answers.Reply.{Reply}
 use Rattle.run_model.specs.declared.commands.Step.{Step}
 use Rattle.run_model.specs.declared.commands.Step.TheVariants as step
 use Rattle.run_model.specs.declared.faults.Trouble.{Trouble}
-use Rattle.book_model.specs.Holdings.{Holding, IsSafe, Saves}
+use Rattle.book_model.specs.Holdings.{BookView, IsSafe, Saves}
 use Rattle.book_model.specs.Steps.{AnswersSound, AnswersStep, AnswersWhere, Refuses, Steps, Takes}
 use Rattle.book_model.proofs.Stepping.{broken_stays}
 
@@ -15,12 +15,12 @@ apart : (b : Bool) → b ≡ true → b ≡ false → ⊥
 apart b is not = cc
 
 -- The disk is at rest, and the book keeps its promises.
-pub record IsResting {D : Type 0} (state : D → DiskState) (h : Holding D) : Type 0 where
+pub record IsResting {D : Type 0} (state : D → DiskState) (h : BookView D) : Type 0 where
   pub safe : IsSafe state h
   pub rest : IsAtRest (state h.journal.disk)
 
 module _ {D : Type 0} (state : D → DiskState) where
-  rests_same : (old new : Holding D) → new.journal ≡ old.journal → new.origin ≡ old.origin
+  rests_same : (old new : BookView D) → new.journal ≡ old.journal → new.origin ≡ old.origin
       → IsResting state old → IsResting state new
   rests_same old new journal origin is = record {
     safe = record {
@@ -30,7 +30,7 @@ module _ {D : Type 0} (state : D → DiskState) where
     rest = subst (λ (j : JournalView _). IsAtRest (state j.disk)) (sym journal) is.rest;
   }
 
-  rests_save : (old new : Holding D) (result : Result ℕ Trouble) → Saves state old result new
+  rests_save : (old new : BookView D) (result : Result ℕ Trouble) → Saves state old result new
       → new.journal.broken ≡ false → IsResting state old → IsResting state new
   rests_save old new (Ok n) saves sound is = record {
     safe = record {
@@ -41,20 +41,20 @@ module _ {D : Type 0} (state : D → DiskState) where
   }
   rests_save old new (Err why) saves sound is =
       elim saves.answer [
-        | inl refused ↦ rests_same old new (ap (λ (h : Holding D). h.journal) refused.same)
-            (ap (λ (h : Holding D). h.origin) refused.same) is
-        | inr (inl spent) ↦ rests_same old new (ap (λ (h : Holding D). h.journal) spent.same)
-            (ap (λ (h : Holding D). h.origin) spent.same) is
+        | inl refused ↦ rests_same old new (ap (λ (h : BookView D). h.journal) refused.same)
+            (ap (λ (h : BookView D). h.origin) refused.same) is
+        | inr (inl spent) ↦ rests_same old new (ap (λ (h : BookView D). h.journal) spent.same)
+            (ap (λ (h : BookView D). h.origin) spent.same) is
         | inr (inr failed) ↦ absurd (apart new.journal.broken failed.broken sound)
       ]
 
-  rests_taken : (old : Holding D) (x : Step) (r : Reply) (new : Holding D) → Takes old x r new
+  rests_taken : (old : BookView D) (x : Step) (r : Reply) (new : BookView D) → Takes old x r new
       → IsResting state old → IsResting state new
   rests_taken old x r new takes is =
-      rests_same old new (ap (λ (h : Holding D). h.journal) takes.grown)
-      (ap (λ (h : Holding D). h.origin) takes.grown) is
+      rests_same old new (ap (λ (h : BookView D). h.journal) takes.taken)
+      (ap (λ (h : BookView D). h.origin) takes.taken) is
 
-  rests_sound : (old : Holding D) (x : Step) (r : Reply) (new : Holding D)
+  rests_sound : (old : BookView D) (x : Step) (r : Reply) (new : BookView D)
       → new.journal.broken ≡ false → AnswersSound state old x r new → IsResting state old
       → IsResting state new
   rests_sound old (step.Command call) r new sound takes is =
@@ -68,7 +68,7 @@ module _ {D : Type 0} (state : D → DiskState) where
       rests_save old new tells.result tells.saves.saves sound is
 
   -- A step behind which the book isn't broken.
-  rests_step : (old : Holding D) (x : Step) (r : Reply) (new : Holding D)
+  rests_step : (old : BookView D) (x : Step) (r : Reply) (new : BookView D)
       → new.journal.broken ≡ false → AnswersStep state old x r new → IsResting state old
       → IsResting state new
   rests_step old x r new sound one is = by old.journal.broken refl
@@ -77,14 +77,14 @@ module _ {D : Type 0} (state : D → DiskState) where
       by true broken =
           let refused : Refuses old r new =
           subst (λ b. AnswersWhere state b old x r new) broken one in
-          rests_same old new (ap (λ (h : Holding D). h.journal) refused.same)
-          (ap (λ (h : Holding D). h.origin) refused.same) is
+          rests_same old new (ap (λ (h : BookView D). h.journal) refused.same)
+          (ap (λ (h : BookView D). h.origin) refused.same) is
       by false fine =
           rests_sound old x r new sound (subst (λ b. AnswersWhere state b old x r new) fine one)
           is
 
   -- Where it isn't broken at the end, it wasn't before.
-  fine_before : (old new : Holding D) (steps : List Step) (answers : List Reply)
+  fine_before : (old new : BookView D) (steps : List Step) (answers : List Reply)
       → new.journal.broken ≡ false → Steps state old steps answers new
       → old.journal.broken ≡ false
   fine_before old new steps answers sound played = by old.journal.broken refl
@@ -93,13 +93,13 @@ module _ {D : Type 0} (state : D → DiskState) where
       by true broken =
           let stays = broken_stays state old new steps answers broken played in
           absurd (apart new.journal.broken
-          (ap (λ (h : Holding D). h.journal.broken) stays ∙ broken) sound)
+          (ap (λ (h : BookView D). h.journal.broken) stays ∙ broken) sound)
       by false fine = fine
 
-  pub rests : (old new : Holding D) (steps : List Step) (answers : List Reply)
+  pub rests : (old new : BookView D) (steps : List Step) (answers : List Reply)
       → new.journal.broken ≡ false → Steps state old steps answers new → IsResting state old
       → IsResting state new
-  rests old new [] [] sound p is = subst (λ (h : Holding D). IsResting state h) (sym p) is
+  rests old new [] [] sound p is = subst (λ (h : BookView D). IsResting state h) (sym p) is
   rests old new [] (r ∷ answers) sound p is = absurd p
   rests old new (x ∷ steps) [] sound p is = absurd p
   rests old new (x ∷ steps) (r ∷ answers) sound (next, one, rest) is =

@@ -6,26 +6,21 @@
 -- `StopsAt` wants `acked` events at least. One that adds a command of its own, or takes one twice,
 -- has no move for that: only `took` makes the history longer, by the event of the step that was
 -- taken. And one that changes the order has none either: what is left is a front of the history.
-use Rattle.std.specs.Prelude.{◌≡◌, ◌⊎◌, ◌++◌, ◌∷◌, [], Bool, true, false, if◌then◌else◌, ℕ}
-use Rattle.std.specs.Prelude.{List, length}
-use Rattle.std.specs.List.{cons_option}
+use Rattle.std.specs.Prelude.{◌≡◌, ◌⊎◌, ◌∷◌, [], if◌then◌else◌, ℕ, List, length}
 use Rattle.run_model.specs.declared.answers.Reply.{Reply}
 use Rattle.run_model.specs.declared.commands.Step.{Step}
 use Rattle.run_model.specs.Allowed.{IsFront}
-use Rattle.run_model.specs.Event.{Event}
-use Rattle.run_model.specs.Session.{Session, event_of_step, is_ack}
+use Rattle.run_model.specs.Session.{is_ack}
 use Rattle.run_model.specs.State.{State}
 use Rattle.book_model.specs.Nights.{opened_from}
 use Rattle.book_model.specs.Plays.{IsReply, Playing, behind, sound}
 use Rattle.book_model.specs.Stores.{restarted}
 
--- It runs: from the state that its opening left, by the events since then, of which so many, the
--- first ones, are acknowledged. It answers as the session of all of them, or is broken.
+-- It runs: it answers as the session does that began behind its opening, or is broken; and so many
+-- events of the session's history, the first ones, are acknowledged.
 pub record Running : Type 0 where
-  pub start : State
-  pub history : List Event
-  pub acked : ℕ
   pub book : Playing
+  pub acked : ℕ
 
 -- It is stopped, and a state is stored; or it runs.
 pub data Machine : Type 0 where
@@ -45,27 +40,15 @@ pub data Move : Type 0 where
 
 -- An opening makes a restart of the state that is stored; no event has come since.
 abbrev pub opened_at : State → Running
-opened_at p = record {
-  start = restarted p;
-  history = [];
-  acked = 0;
-  book = sound (opened_from p);
-}
-
--- The event that a step leads to, where it leads to one; a broken machine takes none.
-abbrev pub added : Bool → Session → Step → List Event
-added true s x = []
-added false s x = cons_option (event_of_step s x) []
+opened_at p = record { book = sound (opened_from p); acked = 0 }
 
 -- What a step and its reply leave: its event comes to the end of the history. Where the reply is
 -- Acked, all events so far are acknowledged; where it says that the device failed, the machine is
 -- broken.
 abbrev pub took : Running → Step → Reply → Running
 took m x r = record {
-  start = m.start;
-  history = m.history ++ added m.book.broken m.book.session x;
-  acked = if is_ack r then length m.history else m.acked;
   book = behind m.book x r;
+  acked = if is_ack r then length m.book.session.history else m.acked;
 }
 
 -- It may answer these steps, one after another, by these replies, and is as `end` says then.
@@ -82,7 +65,7 @@ pub record StopsAt (m : Running) (more : List Step) (q : State) : Type 0 where
   pub untold : List Reply
   pub last : Running
   pub takes : TakesAll m more untold last
-  pub front : IsFront m.start last.history m.acked q
+  pub front : IsFront m.book.session.start last.book.session.history m.acked q
 
 -- One move leads from this to that. An opening in vain leaves the state, or its restart.
 abbrev pub Goes : Machine → Move → Machine → Type 0

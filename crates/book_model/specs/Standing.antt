@@ -5,17 +5,17 @@ use Rattle.run_model.specs.declared.commands.Step.{Step}
 use Rattle.run_model.specs.declared.faults.Fault.{Fault}
 use Rattle.run_model.specs.State.{State}
 use Rattle.run_disk.specs.Disk.{DiskState, IsAtRest}
-use Rattle.book_model.specs.Holdings.{CarriesOn, Holding, IsDurable, IsSafe, IsSession, acked}
+use Rattle.book_model.specs.Holdings.{BookView, CarriesOn, IsDurable, IsReached, IsSafe, acked}
 use Rattle.book_model.specs.Machines.{GoesOn, Machine, Move, Open, OpenInVain, Running, Runs}
 use Rattle.book_model.specs.Machines.{Stop, Stored, Take}
 use Rattle.book_model.specs.Openings.{Opens, disk_behind}
-use Rattle.book_model.specs.Steps.{AnswersStep, StepsOn}
+use Rattle.book_model.specs.Steps.{AnswersStep, StepsOn, playing}
 use Rattle.book_model.specs.Stores.{Stores}
 
 -- A disk lies there, or a book is open over it.
 pub data Standing (D : Type 0) : Type 0 where
   Closed : D → Standing D
-  Opened : Holding D → Standing D
+  Opened : BookView D → Standing D
 
 -- The next opening finds a disk that is honest and at rest, with one of the contents that may have
 -- been left.
@@ -28,16 +28,16 @@ pub record Finds {D : Type 0} (state : D → DiskState) (left : List ℕ → Typ
 -- An opening answers, but a crash at some moment since it began comes first, or none is wanted any
 -- more: the next opening finds what that left.
 pub record CutsOpening {D : Type 0} (state : D → DiskState) (given next : D) : Type 0 where
-  pub result : Result (Holding D) (Fault × D)
+  pub result : Result (BookView D) (Fault × D)
   pub opens : Opens state given result
   pub finds : Finds state ((state (disk_behind result)).since (state given).clock) next
 
 -- These steps are taken, but a crash at some moment since the first of them began comes before the
 -- replies are told: the next opening finds what that left.
-pub record CutsSteps {D : Type 0} (state : D → DiskState) (h : Holding D) (more : List Step)
+pub record CutsSteps {D : Type 0} (state : D → DiskState) (h : BookView D) (more : List Step)
     (next : D) : Type 0 where
   pub untold : List Reply
-  pub last : Holding D
+  pub last : BookView D
   pub takes : StepsOn state h more untold last
   pub finds : Finds state ((state last.journal.disk).since (state h.journal.disk).clock) next
 
@@ -66,15 +66,13 @@ pub record LiesWith {D : Type 0} (state : D → DiskState) (d : D) (p : State) :
   pub stores : Stores (state d).now p
 
 -- The book holds what the machine does.
-pub record HoldsAs {D : Type 0} (state : D → DiskState) (h : Holding D) (m : Running)
+pub record HoldsAs {D : Type 0} (state : D → DiskState) (h : BookView D) (m : Running)
     : Type 0 where
   pub safe : IsSafe state h
   pub durable : IsDurable state h
-  pub start : m.start ≡ h.start
-  pub history : m.history ≡ h.history
+  pub reached : IsReached h
+  pub book : m.book ≡ playing h
   pub acked : m.acked ≡ acked h
-  pub session : IsSession h m.book.session
-  pub broken : m.book.broken ≡ h.journal.broken
 
 -- The book stands where the machine does.
 abbrev pub StandsAs : {D : Type 0} → (D → DiskState) → Standing D → Machine → Type 0

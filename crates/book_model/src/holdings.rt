@@ -7,7 +7,7 @@ ghost use Rattle.run_model.specs.declared.layouts.Layout.{Layout};
 ghost use Rattle.run_model.specs.Allowed.{run};
 ghost use Rattle.run_model.specs.Event.{Event};
 ghost use Rattle.run_model.specs.Layouts.{store_len};
-ghost use Rattle.run_model.specs.Session.{accepted};
+ghost use Rattle.run_model.specs.Session.{Session, accepted};
 ghost use Rattle.run_model.specs.State.{State};
 ghost use Rattle.record_view.specs.declared.heads.ImageVersion.TheVariants.{Two};
 ghost use Rattle.record_view.specs.Records.{AreRecords};
@@ -16,8 +16,8 @@ ghost use Rattle.run_disk.specs.Runs.{LeavesOnly, OnlyReads, Passed};
 ghost use Rattle.run_journal.specs.Journals.{JournalView, Keeps};
 ghost use Rattle.run_journal.specs.Pairs.{HasEither};
 ghost use Rattle.run_journal.specs.Stores.{HasPair};
-ghost use Rattle.book_model.specs.Holdings.{CarriesOn, Holding, IsDurable, IsOpened, IsSafe};
-ghost use Rattle.book_model.specs.Holdings.{IsSettled, acked, count_of};
+ghost use Rattle.book_model.specs.Holdings.{BookView, CarriesOn, IsDurable, IsOpened, IsReached};
+ghost use Rattle.book_model.specs.Holdings.{IsSafe, IsSettled, acked};
 ghost use Rattle.book_model.specs.Meanings.{Means, MeansIn};
 ghost use Rattle.book_model.specs.Nights.{HasKept, HasKeptNight, HasKeptSince, opened_from};
 ghost use Rattle.book_model.specs.Plays.{taken};
@@ -29,10 +29,11 @@ use run_disk::RunDisk;
 /// A book whose images hold what is acknowledged carries on where nothing is called, and where
 /// events are added without a device call; and two runs of calls in a row are one.
 pub fn a_book_carries_on<D: RunDisk>()
-    ensures none { (h : Holding D) → IsDurable D.state h → CarriesOn D.state h h }
-    ensures more { (h : Holding D) (events : List Event) → IsDurable D.state h
-        → CarriesOn D.state h (record h { history = h.history ++ events }) }
-    ensures both { (a b c : Holding D) → CarriesOn D.state a b → CarriesOn D.state b c
+    ensures none { (h : BookView D) → IsDurable D.state h → CarriesOn D.state h h }
+    ensures more { (h : BookView D) (s : Session) (events : List Event)
+        → s.start ≡ h.session.start → s.history ≡ h.session.history ++ events
+        → IsDurable D.state h → CarriesOn D.state h (record h { session = s }) }
+    ensures both { (a b c : BookView D) → CarriesOn D.state a b → CarriesOn D.state b c
         → CarriesOn D.state a c }
 {}
 
@@ -40,20 +41,20 @@ pub fn a_book_carries_on<D: RunDisk>()
 /// of the history lead to, with each event that was acknowledged before; and a crash now leaves
 /// each that is acknowledged now.
 pub fn a_stop_loses_nothing_acknowledged<D: RunDisk>()
-    ensures any_moment { (old new : Holding D) (x : List ℕ) → CarriesOn D.state old new
+    ensures any_moment { (old new : BookView D) (x : List ℕ) → CarriesOn D.state old new
         → IsSafe D.state old
         → (D.state new.journal.disk).since (D.state old.journal.disk).clock x
-        → StoresFront old.start new.history (acked old) x }
-    ensures now { (old new : Holding D) (x : List ℕ) → CarriesOn D.state old new
+        → StoresFront old.session.start new.session.history (acked old) x }
+    ensures now { (old new : BookView D) (x : List ℕ) → CarriesOn D.state old new
         → IsSafe D.state old → (D.state new.journal.disk).images x
-        → StoresFront old.start new.history (acked new) x }
+        → StoresFront old.session.start new.session.history (acked new) x }
 {}
 
 /// Where all events are acknowledged, whatever a crash leaves stores the book's state.
 pub fn a_saved_book_stores_its_state<D: RunDisk>()
-    ensures { (h : Holding D) (p : State) (x : List ℕ) → IsDurable D.state h → IsSafe D.state h
-        → h.durable ≡ count_of h → run h.start h.history ≡ Some p
-        → (D.state h.journal.disk).images x → Stores x p }
+    ensures { (h : BookView D) (x : List ℕ) → IsDurable D.state h → IsSafe D.state h
+        → h.durable ≡ h.session.state.count → IsReached h → (D.state h.journal.disk).images x
+        → Stores x h.session.state }
 {}
 
 /// Reads leave what a disk at rest stores, at every moment.
@@ -67,22 +68,24 @@ pub fn reading_leaves_what_is_stored<D: RunDisk>()
 /// from before or the new one, and so a front with every event that was acknowledged before. The
 /// new pair has one batch more, of the records that were not acknowledged, or is a fresh image.
 pub fn a_save_leaves_fronts<D: RunDisk>()
-    ensures flush { (h : Holding D) (new : D) (p : State) (pending : List ℕ)
-        (settled : IsSettled D.state h) → acked h ≤ length h.history
-        → run h.start h.history ≡ Some p → AreRecords pending (drop (acked h) h.history)
+    ensures flush { (h : BookView D) (new : D) (p : State) (pending : List ℕ)
+        (settled : IsSettled D.state h) → acked h ≤ length h.session.history
+        → run h.session.start h.session.history ≡ Some p
+        → AreRecords pending (drop (acked h) h.session.history)
         → (D.state new).honest → (D.state new).size ≡ store_len h.journal.layout
         → LeavesOnly (HasEither settled.image settled.batches settled.image
         (settled.batches ++ pending ∷ [])) (D.state h.journal.disk) (D.state new)
-        → LeavesOnly (StoresFront h.start h.history (acked h)) (D.state h.journal.disk)
-        (D.state new) }
-    ensures checkpoint { (h : Holding D) (new : D) (p : State) (fresh : List ℕ)
-        (settled : IsSettled D.state h) → acked h ≤ length h.history
-        → run h.start h.history ≡ Some p → MeansIn Two h.journal.layout fresh [] p
+        → LeavesOnly (StoresFront h.session.start h.session.history (acked h))
+        (D.state h.journal.disk) (D.state new) }
+    ensures checkpoint { (h : BookView D) (new : D) (p : State) (fresh : List ℕ)
+        (settled : IsSettled D.state h) → acked h ≤ length h.session.history
+        → run h.session.start h.session.history ≡ Some p
+        → MeansIn Two h.journal.layout fresh [] p
         → (D.state new).honest → (D.state new).size ≡ store_len h.journal.layout
         → LeavesOnly (HasEither settled.image settled.batches fresh []) (D.state h.journal.disk)
         (D.state new)
-        → LeavesOnly (StoresFront h.start h.history (acked h)) (D.state h.journal.disk)
-        (D.state new) }
+        → LeavesOnly (StoresFront h.session.start h.session.history (acked h))
+        (D.state h.journal.disk) (D.state new) }
 {}
 
 /// What the checkpoint of an opening leaves at every moment, where its disk is honest and has a
@@ -116,7 +119,7 @@ pub fn an_opening_loses_nothing_from_its_first_read_on<D: RunDisk>()
 
 /// The layout stays over any calls, where it is always that of the disk's size.
 pub fn a_book_keeps_its_layout<D: RunDisk>()
-    ensures { (old new : Holding D)
+    ensures { (old new : BookView D)
         → (D.state old.journal.disk).size ≡ store_len old.journal.layout
         → (D.state new.journal.disk).size ≡ store_len new.journal.layout
         → CarriesOn D.state old new → new.journal.layout ≡ old.journal.layout }
@@ -131,7 +134,7 @@ pub fn a_book_keeps_its_layout<D: RunDisk>()
 /// interruption does to its group and that group's scope. Whenever it is stopped since the opening
 /// began, it holds state p, or what a restart of p and perhaps some of the accepted events led to.
 pub fn a_night_is_kept<D: RunDisk>()
-    ensures any_moment { (given : D) (p : State) (old middle new : Holding D)
+    ensures any_moment { (given : D) (p : State) (old middle new : BookView D)
         (steps more : List Step) (answers others : List Reply) (x : List ℕ)
         → (D.state given).honest → IsAtRest (D.state given) → Stores (D.state given).now p
         → IsOpened D.state given p old
@@ -139,13 +142,13 @@ pub fn a_night_is_kept<D: RunDisk>()
         → Steps D.state middle more others new → CarriesOn D.state middle new
         → (D.state new.journal.disk).since (D.state middle.journal.disk).clock x
         → HasKeptSince (opened_from p) steps answers more others x }
-    ensures now { (given : D) (p : State) (old new : Holding D) (steps : List Step)
+    ensures now { (given : D) (p : State) (old new : BookView D) (steps : List Step)
         (answers : List Reply) (x : List ℕ)
         → (D.state given).honest → IsAtRest (D.state given) → Stores (D.state given).now p
         → IsOpened D.state given p old
         → Steps D.state old steps answers new → CarriesOn D.state old new
         → (D.state new.journal.disk).images x → HasKeptNight (opened_from p) steps answers x }
-    ensures opening { (given : D) (p : State) (old new : Holding D) (steps : List Step)
+    ensures opening { (given : D) (p : State) (old new : BookView D) (steps : List Step)
         (answers : List Reply) (x : List ℕ)
         → (D.state given).honest → IsAtRest (D.state given) → Stores (D.state given).now p
         → IsOpened D.state given p old

@@ -29,9 +29,9 @@ pub fn a_book_is_a_machine<D: RunDisk>()
 pub fn a_machine_answers_from_its_history()
     ensures state { (p : State) (m : Running) (steps : List Step) (answers : List Reply)
         → TakesAll (opened_at p) steps answers m
-        → run m.start m.history ≡ Some m.book.session.state }
+        → run m.book.session.start m.book.session.history ≡ Some m.book.session.state }
     ensures acked { (p : State) (m : Running) (steps : List Step) (answers : List Reply)
-        → TakesAll (opened_at p) steps answers m → m.acked ≤ length m.history }
+        → TakesAll (opened_at p) steps answers m → m.acked ≤ length m.book.session.history }
 {}
 
 /// Many nights lose nothing that was acknowledged. The state behind the last night is that of the

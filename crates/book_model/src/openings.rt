@@ -12,7 +12,7 @@ ghost use Rattle.record_view.specs.Image.{image};
 ghost use Rattle.run_disk.specs.Disk.{last_moment};
 ghost use Rattle.run_disk.specs.Runs.{OnlyReads};
 ghost use Rattle.run_journal.specs.Pairs.{HasNoPairBut};
-ghost use Rattle.book_model.specs.Holdings.{Holding};
+ghost use Rattle.book_model.specs.Holdings.{BookView};
 ghost use Rattle.book_model.specs.Nights.{HasKept};
 ghost use Rattle.book_model.specs.Openings.{Formats, HasFailedCheckpoint, Opens, OpensNot};
 ghost use Rattle.book_model.specs.Openings.{Recovers};
@@ -39,12 +39,12 @@ pub fn a_recovery_answers_what_is_stored<D: RunDisk>()
 /// Memory and the device aside, an opening of an honest disk answers a book behind a restart of
 /// the state that its bytes store, or the one fault that tells why they can't be opened.
 pub fn an_opening_answers_what_is_stored<D: RunDisk>()
-    ensures state { (given : D) (result : Result (Holding D) (Fault × D)) (p : State)
+    ensures state { (given : D) (result : Result (BookView D) (Fault × D)) (p : State)
         → (D.state given).honest → Opens D.state given result → Stores (D.state given).now p
         → (HasSpentNumbers (D.state given).now → ⊥)
-        → MatchResult result (λ h. h.start ≡ restarted p)
+        → MatchResult result (λ h. h.session.start ≡ restarted p)
         (λ e. (e.0 ≡ Memory) ⊎ (e.0 ≡ DiskFailed)) }
-    ensures none { (given : D) (result : Result (Holding D) (Fault × D)) (why : Fault)
+    ensures none { (given : D) (result : Result (BookView D) (Fault × D)) (why : Fault)
         → (D.state given).honest → Opens D.state given result
         → OpensNone (D.state given).now why
         → MatchResult result (λ h. ⊥)
@@ -60,10 +60,10 @@ pub fn a_kept_night_is_read_again<D: RunDisk>()
         → (D.state old).honest → Recovers D.state old result new
         → MatchResult result (λ q. q ≡ kept.state) (λ why. (why ≡ Memory) ⊎ (why ≡ DiskFailed)) }
     ensures reopened { (start : State) (events acks : List Event) (given : D)
-        (result : Result (Holding D) (Fault × D))
+        (result : Result (BookView D) (Fault × D))
         (kept : HasKept start events acks (D.state given).now)
         → (D.state given).honest → Opens D.state given result
-        → MatchResult result (λ h. h.start ≡ restarted kept.state)
+        → MatchResult result (λ h. h.session.start ≡ restarted kept.state)
         (λ e. (e.0 ≡ Memory) ⊎ (e.0 ≡ DiskFailed) ⊎ (e.0 ≡ NumbersSpent)) }
 {}
 
@@ -93,7 +93,7 @@ pub fn a_fault_of_the_device_has_its_cause<D: RunDisk>()
         → Recovers D.state old result new → result ≡ Err DiskFailed
         → ((D.state old).failures < (D.state new).failures)
         ⊎ ((D.state new).clock ≡ last_moment) }
-    ensures opens { (given : D) (result : Result (Holding D) (Fault × D))
+    ensures opens { (given : D) (result : Result (BookView D) (Fault × D))
         → Opens D.state given result
         → MatchResult result (λ h. Unit {0}) (λ e. e.0 ≡ DiskFailed
         → ((D.state given).failures < (D.state e.1).failures)

@@ -8,7 +8,7 @@ use Rattle.run_model.specs.declared.commands.Wish.TheVariants as wish
 use Rattle.run_model.specs.declared.layouts.Layout.{Layout}
 use Rattle.run_model.specs.Rows.{root, new_scope, new_group, new_task}
 use Rattle.run_model.specs.State.{TreeState, WorkState}
-use Rattle.run_model.specs.Session.{Session}
+use Rattle.run_model.specs.Session.{Session, begun_at}
 
 -- A tree of so many scopes: root, and others below it.
 abbrev pub scopes_in : Layout → ℕ → TreeState
@@ -36,14 +36,11 @@ work_in layout groups tasks = record {
 
 -- A session with so many scopes, groups and tasks, and with an empty log.
 abbrev pub session_in : Layout → (scopes groups tasks : ℕ) → Session
-session_in layout scopes groups tasks = record {
-  state = record {
-    count = 1;
-    tree = scopes_in layout scopes;
-    work = work_in layout groups tasks;
-  };
-  log = 0;
-}
+session_in layout scopes groups tasks = begun_at (record {
+  count = 1;
+  tree = scopes_in layout scopes;
+  work = work_in layout groups tasks;
+})
 
 -- A timeout that leads past the greatest moment.
 abbrev pub past_moments : Wish

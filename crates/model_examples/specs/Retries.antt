@@ -8,14 +8,14 @@ use Rattle.run_model.specs.Event.{Restart}
 use Rattle.run_model.specs.Rows.{new_group, new_task}
 use Rattle.run_model.specs.State.{new_tree}
 use Rattle.run_model.specs.Step.{step}
-use Rattle.run_model.specs.Session.{Session, session_after}
+use Rattle.run_model.specs.Session.{Session, begun_at, session_after}
 use Rattle.model_examples.specs.Calls.{retry, start, finish, submitted, started_late, finished}
 use Rattle.model_examples.specs.Calls.{refused}
 use Rattle.model_examples.specs.Nights.{Night, steps_of, stopped_night, state_of}
 
 -- The session that opens what a session left.
 abbrev pub opened_again : Session → Session
-opened_again s = record { state = step s.state Restart; log = 0 }
+opened_again s = begun_at (step s.state Restart)
 
 -- The session behind a night's steps, from this one.
 abbrev pub after_night : Session → Night → Session
@@ -23,7 +23,7 @@ after_night s night = session_after s (steps_of night)
 
 -- A store whose first task was interrupted and whose second one is ready, in a group of limit 1.
 abbrev pub one_interrupted : Session
-one_interrupted = opened_again (record { state = state_of stopped_night; log = 0 })
+one_interrupted = begun_at (step (state_of stopped_night) Restart)
 
 -- The interrupted task is retried once; of the others one wasn't interrupted, and one isn't there.
 abbrev pub retried_once : Night
@@ -59,17 +59,14 @@ retried_again =
 -- stage; the second has this link. No store keeps each of these states, but the definitions answer
 -- them all.
 abbrev pub two_tasks : (waited : Bool) → Stage → (link : Option ℕ) → (more log : ℕ) → Session
-two_tasks waited stage link more log = record {
-  state = record {
-    count = 1;
-    tree = new_tree Small;
-    work = record {
-      layout = Small;
-      groups = record (new_group (codes "g") 0 true) { waited = waited } ∷ [];
-      tasks = record (new_task 0 (codes "copy") (codes "a") None) { stage = stage }
-          ∷ new_task 0 (codes "copy") (codes "a") link
-          ∷ replicate more (new_task 0 (codes "spin") (codes "1") None);
-    };
+two_tasks waited stage link more log = record (begun_at (record {
+  count = 1;
+  tree = new_tree Small;
+  work = record {
+    layout = Small;
+    groups = record (new_group (codes "g") 0 true) { waited = waited } ∷ [];
+    tasks = record (new_task 0 (codes "copy") (codes "a") None) { stage = stage }
+        ∷ new_task 0 (codes "copy") (codes "a") link
+        ∷ replicate more (new_task 0 (codes "spin") (codes "1") None);
   };
-  log = log;
-}
+})) { log = log }

@@ -48,3 +48,4 @@ pub mod Seeing
 pub mod Answering
 pub mod Making
 pub mod Waiting
+pub mod Commanding

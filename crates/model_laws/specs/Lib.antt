@@ -9,3 +9,4 @@ pub mod Answers
 pub mod Decided
 pub mod Queues
 pub mod Reserves
+pub mod Kinds

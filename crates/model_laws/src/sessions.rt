@@ -1,6 +1,6 @@
 //! What a list of steps leaves.
 
-ghost use Rattle.std.specs.Prelude.{◌≡◌, ◌≤◌, ℕ, ◌+◌, true, List, [], ◌∷◌, Some, Ok, length};
+ghost use Rattle.std.specs.Prelude.{◌≡◌, ◌≤◌, ℕ, ◌+◌, ◌++◌, true, List, [], ◌∷◌, Some, Ok, length};
 ghost use Rattle.std.specs.List.{sum_by, list_all};
 ghost use Rattle.run_model.specs.declared.commands.Command.TheVariants as command;
 ghost use Rattle.run_model.specs.declared.commands.Step.{Step};
@@ -15,12 +15,16 @@ ghost use Rattle.run_model.specs.Tasks.{is_running_task};
 ghost use Rattle.run_model.specs.Allowed.{run};
 ghost use Rattle.run_model.specs.Records.{record_len, is_outcome};
 ghost use Rattle.run_model.specs.Replies.{has_waited, group_of, decide_finish};
-ghost use Rattle.run_model.specs.Session.{Session, session_after, accepted, reply_of_step};
+ghost use Rattle.run_model.specs.Session.{Session, begun_at, session_after, accepted};
+ghost use Rattle.run_model.specs.Session.{reply_of_step};
 ghost use Rattle.model_laws.specs.Reserves.{HasReserve, can_be_written};
 
-/// The accepted events of a list of steps are allowed one after another, and they alone make the
-/// state and the log that the steps leave.
+/// The accepted events of a list of steps come to the end of the history. They are allowed one
+/// after another, and they alone make the state and the log that the steps leave.
 pub fn accepted_events_make_the_session()
+    ensures start { (s : Session) (steps : List Step) → (session_after s steps).start ≡ s.start }
+    ensures history { (s : Session) (steps : List Step)
+        → (session_after s steps).history ≡ s.history ++ accepted s steps }
     ensures state { (s : Session) (steps : List Step)
         → run s.state (accepted s steps) ≡ Some (session_after s steps).state }
     ensures count { (s : Session) (steps : List Step)
@@ -54,7 +58,7 @@ pub fn a_running_task_can_finish()
 /// it at every step; so it never grows past its greatest length.
 pub fn the_log_keeps_its_reserve()
     ensures opening { (p : State) → length p.work.tasks ≤ MOST_TASKS
-        → HasReserve (record { state = p; log = 0 }) }
+        → HasReserve (begun_at p) }
     ensures steps { (s : Session) (steps : List Step) → list_all can_be_written steps ≡ true
         → HasReserve s → HasReserve (session_after s steps) }
     ensures short { (s : Session) → HasReserve s → s.log ≤ SESSION_LEN }

@@ -1,4 +1,3 @@
-pub mod Answering
 pub mod Beginning
 pub mod Carrying
 pub mod Ending
@@ -11,6 +10,7 @@ pub mod Reopening
 pub mod Restoring
 pub mod Rooting
 pub mod Saving
+pub mod Splitting
 pub mod Stepping
 pub mod Renewing
 pub mod Reading

@@ -11,10 +11,10 @@ use Rattle.run_model.specs.State.{State}
 use Rattle.record_view.specs.declared.heads.ImageVersion.TheVariants.{Two}
 use Rattle.record_view.specs.Image.{image}
 use Rattle.record_view.specs.Keeping.{IsImage}
-use Rattle.run_disk.specs.Disk.{DiskState, IsAtRest, IsDisk, IsSynced, last_moment}
-use Rattle.run_disk.specs.Runs.{IsSurer, LeavesOnly, Ran, Took}
+use Rattle.run_disk.specs.Disk.{DiskState, IsAtRest, IsDisk, last_moment}
+use Rattle.run_disk.specs.Runs.{MakesCalls}
 use Rattle.run_disk.proofs.RunLemmas.{ran_passed}
-use Rattle.run_journal.specs.Pairs.{AreZeros, HasNoPairBut}
+use Rattle.run_journal.specs.Pairs.{Formatted}
 use Rattle.run_journal.specs.Stores.{IsStored, sizes_of}
 use Rattle.run_journal.proofs.LayoutLemmas.{layout_found}
 use Rattle.book_model.specs.declared.migrations.MigrateFault.{MigrateFault}
@@ -56,15 +56,14 @@ unread_not from to old read given (why.New f) sized is = absurd is
 
 -- ---- the new disk
 
-module _ (old new : DiskState) (r : Result (Unit {0}) Fault) (p : State) (bytes : List ℕ)
-    (disk : IsDisk new) (sized : old.size ≡ store_len Large) (is : IsImage Two Small (image p) p)
-    (ran : Ran old new r) (took : Took 8 old new r) (same : bytes ≡ image p)
-    (clause : old.honest → ((x : List ℕ) → old.images x → AreZeros x)
-    → LeavesOnly (HasNoPairBut bytes) old new) where
+module _ {E : Type 0} (to : E → DiskState) (old new : DiskState) (r : Result (Unit {0}) Fault)
+    (p : State) (bytes : List ℕ) (disk : IsDisk new) (sized : old.size ≡ store_len Large)
+    (is : IsImage Two Small (image p) p) (same : bytes ≡ image p)
+    (calls : MakesCalls to 8 old new r) (formatted : Formatted bytes old new r) where
   large_stops : StopsMigration p old new
   large_stops =
       stops_nothing Large (widened p) (widened_means p is) old new bytes disk sized
-      (ran_passed old new r ran) same clause
+      (ran_passed old new r calls.ran) same formatted.any_moment
 
   large_fresh : (x : List ℕ) → IsStored (sizes_of Large) 0 0 bytes [] x
       → StoresFresh Large 0 (widened p) x
@@ -73,36 +72,32 @@ module _ (old new : DiskState) (r : Result (Unit {0}) Fault) (p : State) (bytes 
     means = widened_means p is;
   }
 
-  pub large_written : r ≡ Ok tt
-      → (old.honest → (l : Layout) → old.size ≡ store_len l
-      → OnOk r ((x : List ℕ) → new.images x → IsStored (sizes_of l) 0 0 bytes [] x))
-      → (old.honest → OnOk r (IsSynced new)) → (old.honest → OnOk r (IsSurer old new))
-      → HasWritten p old new
-  large_written ok stored synced sure =
+  pub large_written : r ≡ Ok tt → HasWritten p old new
+  large_written ok =
       let at = λ (P : Type 0) (told : OnOk r P). subst (λ s. OnOk s P) ok told in
       let fresh = λ (honest : old.honest) (x : List ℕ) (left : new.images x).
       large_fresh x (at ((y : List ℕ) → new.images y → IsStored (sizes_of Large) 0 0 bytes [] y)
-      (stored honest Large sized) x left) in
+      (formatted.stored honest Large sized) x left) in
       record {
         made = record {
-          clock = at (new.clock ≡ old.clock + 8) took.exactly;
-          failures = at (new.failures ≡ old.failures) ran.fine;
+          clock = at (new.clock ≡ old.clock + 8) calls.took.exactly;
+          failures = at (new.failures ≡ old.failures) calls.ran.fine;
         };
-        passed = ran_passed old new r ran;
+        passed = ran_passed old new r calls.ran;
         stores = λ honest x left. fresh_stores Large 0 (widened p) x (fresh honest x left);
         fresh = fresh;
         rest = λ honest rest.
-            at (IsAtRest new) (root_rests old new r disk ran synced sure honest rest);
+            at (IsAtRest new) (root_rests old new r bytes disk calls.ran formatted honest rest);
         stops = large_stops;
       }
 
   pub large_failed : (f : Fault) → r ≡ Err f → HasFailedWrite p old new
   large_failed f err = record {
-    most = took.most;
+    most = calls.took.most;
     cause =
         subst (λ s. OnErr s ((old.failures < new.failures) ⊎ (new.clock ≡ last_moment))) err
-        ran.cause;
-    passed = ran_passed old new r ran;
+        calls.ran.cause;
+    passed = ran_passed old new r calls.ran;
     stops = large_stops;
   }
 

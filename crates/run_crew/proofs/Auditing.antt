@@ -7,7 +7,7 @@ use Rattle.run_crew.specs.declared.notes.Note.{Note}
 use Rattle.run_crew.specs.declared.audits.Strayed.{Strayed}
 use Rattle.run_crew.specs.Audits.{HasStrayed, IsComplete, IsFirstLeft, IsFirstStray}
 use Rattle.run_crew.specs.Audits.{NoStray, NoneLeft, are_noted, made_at}
-use Rattle.run_crew.specs.Desks.{DeskView, history_of}
+use Rattle.run_crew.specs.Desks.{DeskView}
 use Rattle.run_crew.specs.Notes.{all_notes}
 use Rattle.run_crew.proofs.Permuting.{settled}
 
@@ -72,6 +72,6 @@ pub permuted :
     → found ≡ made_at d → NoStray found lists → true ≡ are_noted found lists
     → IsPermutation (made_at d) (all_notes lists)
 permuted d lists found same none is =
-    settled d.since d.book.session.start.count (history_of d.book) lists
+    settled d.since d.book.session.start.count d.book.session.history lists
     (same_stray (made_at d) found lists same none)
     (same_noted (made_at d) found lists true same is)

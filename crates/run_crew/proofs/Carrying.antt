@@ -6,25 +6,26 @@ use Rattle.std.specs.Prelude.{Result, Ok, Err, if◌then◌else◌, ◌&&◌, op
 use Rattle.std.specs.Option.{ok_or}
 use Rattle.std.specs.List.{list_all}
 use Rattle.std.proofs.lemmas.List.Folds.{list_all-append}
+use Rattle.run_model.specs.declared.commands.Step.{Step}
+use Rattle.run_model.specs.declared.commands.Step.TheVariants as step
 use Rattle.run_model.specs.declared.refusals.Refusal.{Refusal}
-use Rattle.run_model.specs.declared.refusals.Refusal.TheVariants.{Broken, SessionFull, NothingReady}
+use Rattle.run_model.specs.declared.refusals.Refusal.TheVariants.{SessionFull, NothingReady}
 use Rattle.run_model.specs.declared.tasks.Outcome.{Outcome}
 use Rattle.run_model.specs.Event.{Event}
 use Rattle.run_model.specs.Event as event
-use Rattle.run_model.specs.Replies.{and_then, decide_finish, decide_start, finish_refusals, if_room}
-use Rattle.run_model.specs.Replies.{is_full, unless}
-use Rattle.run_model.specs.Session.{made}
+use Rattle.run_model.specs.Replies.{and_then, decide_start, finish_refusals, if_room, is_full}
+use Rattle.run_model.specs.Replies.{unless}
+use Rattle.run_model.specs.Session.{after_step, event_of_step, made, with_event}
 use Rattle.run_model.specs.State.{State}
 use Rattle.run_model.specs.Tasks.{first_ready}
 use Rattle.run_disk.specs.Disk.{DiskState, IsAtRest}
 use Rattle.run_disk.proofs.RunLemmas.{leaves_only_more}
-use Rattle.book_model.specs.Holdings.{CarriesOn, Holding, acked}
+use Rattle.book_model.specs.Holdings.{CarriesOn, BookView, acked}
 use Rattle.book_model.specs.Stores.{StoresFront}
 use Rattle.book_model.proofs.HoldingLemmas.{passed_more, stores_fewer, stores_more}
-use Rattle.run_book.specs.Views.{BookView, unless_broken}
+use Rattle.run_book.specs.Views.{with_session}
 use Rattle.run_crew.specs.Openings.{Carries, CarriesFrom, From, Known, Opened, Unsaid}
-use Rattle.run_crew.specs.Openings.{is_work, obeys}
-use Rattle.run_crew.specs.Openings.{opened_of}
+use Rattle.run_crew.specs.Openings.{is_work, obeys, opened_of}
 
 -- ---- what is decided of a start and of a finish
 
@@ -50,31 +51,52 @@ unless_works (t ∷ tests) answer is =
     elim t.0 as (λ b. works (if b then Err t.1 else unless tests answer) ≡ true)
     [ true ↦ refl | false ↦ unless_works tests answer is ]
 
-unless_broken_works : {D : Type 0} (b : BookView D) (decision : Result (Option Event) Refusal)
-    → works decision ≡ true → works (unless_broken b decision) ≡ true
-unless_broken_works b decision is =
-    elim b.journal.broken as (λ broken. works (if broken then Err Broken else decision) ≡ true)
+-- The events that a step adds: none where the book is broken.
+abbrev pub added_by : {D : Type 0} → BookView D → Step → List Event
+added_by b x = if b.journal.broken then [] else option_to_list (event_of_step b.session x)
+
+pub history_grown : {D : Type 0} (b new : BookView D) (x : Step)
+    → new ≡ with_session b (after_step b.session x)
+    → new.session.history ≡ b.session.history ++ added_by b x
+history_grown b new x after = ap (λ (v : BookView _). v.session.history) after ∙ by b.journal.broken
+  where
+    grown : (o : Option Event)
+        → (with_event b.session o).history ≡ b.session.history ++ option_to_list o
+    grown None = sym (append-nil b.session.history)
+    grown (Some e) = refl
+
+    by : (k : Bool)
+        → (if k then b else record b { session = after_step b.session x }).session.history
+        ≡ b.session.history ++ (if k then [] else option_to_list (event_of_step b.session x))
+    by true = sym (append-nil b.session.history)
+    by false = grown (event_of_step b.session x)
+
+added_works : {D : Type 0} (b : BookView D) (x : Step)
+    → list_all is_work (option_to_list (event_of_step b.session x)) ≡ true
+    → list_all is_work (added_by b x) ≡ true
+added_works b x is =
+    elim b.journal.broken as (λ k.
+    list_all is_work (if k then [] else option_to_list (event_of_step b.session x)) ≡ true)
     [ true ↦ refl | false ↦ is ]
 
-pub start_works : {D : Type 0} (b : BookView D) (p : State) (log : ℕ)
-    → works (unless_broken b (decide_start p log)) ≡ true
-start_works b p log = unless_broken_works b (decide_start p log) (decide_start_works p log)
+pub start_works : {D : Type 0} (b : BookView D) → list_all is_work (added_by b step.Start) ≡ true
+start_works b = added_works b step.Start (decide_start_works b.session.state b.session.log)
 
-pub finish_works : {D : Type 0} (b : BookView D) (p : State) (n : ℕ) (outcome : Outcome)
-    → works (unless_broken b (decide_finish p n outcome)) ≡ true
-finish_works b p n outcome =
-    unless_broken_works b (decide_finish p n outcome)
-    (unless_works (finish_refusals p n) (Ok (Some (event.Finish n outcome))) refl)
+pub finish_works : {D : Type 0} (b : BookView D) (n : ℕ) (outcome : Outcome)
+    → list_all is_work (added_by b (step.Finish n outcome)) ≡ true
+finish_works b n outcome =
+    added_works b (step.Finish n outcome)
+    (unless_works (finish_refusals b.session.state n) (Ok (Some (event.Finish n outcome))) refl)
 
 -- ---- going on
 
 module _ {D : Type 0} (state : D → DiskState) where
   -- A book goes on from what it is.
-  pub from_itself : (h : Holding D) → CarriesOn state h h → CarriesFrom (opened_of state h) state h
+  pub from_itself : (h : BookView D) → CarriesOn state h h → CarriesFrom (opened_of state h) state h
   from_itself h on = record {
     start = refl;
     added = [];
-    more = sym (append-nil h.history);
+    more = sym (append-nil h.session.history);
     only = λ _. refl;
     durable = omega arith;
     passed = on.passed;
@@ -83,17 +105,19 @@ module _ {D : Type 0} (state : D → DiskState) where
   }
 
   -- It took a step.
-  from_more : (from : Opened) (h new : Holding D) (events : List Event)
-      → CarriesFrom from state h → CarriesOn state h new → new.history ≡ h.history ++ events
+  from_more : (from : Opened) (h new : BookView D) (events : List Event)
+      → CarriesFrom from state h → CarriesOn state h new
+      → new.session.history ≡ h.session.history ++ events
       → (from.commands ≡ false → list_all is_work events ≡ true) → CarriesFrom from state new
   from_more from h new events is on grown work =
-      let least = from.durable - from.start.count in
+      let least = from.durable - from.session.start.count in
       let fewer : least ≤ acked h =
       omega (arith, is.durable, ap (λ (p : State). p.count) is.start) in
       record {
         start = on.start ∙ is.start;
         added = is.added ++ events;
-        more = grown ∙ ap (λ l. l ++ events) is.more ∙ append_assoc from.history is.added events;
+        more = grown ∙ ap (λ l. l ++ events) is.more
+            ∙ append_assoc from.session.history is.added events;
         only = λ none. list_all-append is_work is.added events
             ∙ ap (λ b. b && list_all is_work events) (is.only none) ∙ work none;
         durable = omega (arith, is.durable, on.durable);
@@ -102,33 +126,34 @@ module _ {D : Type 0} (state : D → DiskState) where
         rest = λ rest. subst (λ d. IsAtRest (state d)) (sym on.origin) (is.rest rest);
         any_moment = λ honest rest.
             leaves_only_more
-            (StoresFront from.start h.history least)
-            (StoresFront new.start new.history (acked h))
-            (StoresFront from.start new.history least)
+            (StoresFront from.session.start h.session.history least)
+            (StoresFront new.session.start new.session.history (acked h))
+            (StoresFront from.session.start new.session.history least)
             from.disk (state h.journal.disk) (state new.journal.disk)
             (is.any_moment honest rest)
             (on.any_moment (record { honest = is.passed.honest honest; rest = is.rest rest }))
             (λ x s.
-            subst (λ l. StoresFront from.start l least x) (sym grown)
-            (stores_more from.start h.history events least x s))
+            subst (λ l. StoresFront from.session.start l least x) (sym grown)
+            (stores_more from.session.start h.session.history events least x s))
             (λ x s.
-            stores_fewer from.start new.history (acked h) least x fewer
-            (subst (λ p. StoresFront p new.history (acked h) x) (on.start ∙ is.start) s));
+            stores_fewer from.session.start new.session.history (acked h) least x fewer
+            (subst (λ p. StoresFront p new.session.history (acked h) x) (on.start ∙ is.start) s));
       }
 
   -- Starts and finishes came, or others where they may.
-  pub carries_more : (known : Known) (h new : Holding D) (events : List Event)
-      → Carries known state h → CarriesOn state h new → new.history ≡ h.history ++ events
+  pub carries_more : (known : Known) (h new : BookView D) (events : List Event)
+      → Carries known state h → CarriesOn state h new
+      → new.session.history ≡ h.session.history ++ events
       → (obeys known ≡ false → list_all is_work events ≡ true) → Carries known state new
   carries_more Unsaid h new events is on grown work = tt
   carries_more (From from) h new events is on grown work =
       from_more from h new events is on grown work
 
   -- No event came.
-  pub carries_same : (known : Known) (h new : Holding D) → Carries known state h
-      → CarriesOn state h new → new.history ≡ h.history → Carries known state new
+  pub carries_same : (known : Known) (h new : BookView D) → Carries known state h
+      → CarriesOn state h new → new.session.history ≡ h.session.history → Carries known state new
   carries_same known h new is on same =
-      carries_more known h new [] is on (same ∙ sym (append-nil h.history)) (λ _. refl)
+      carries_more known h new [] is on (same ∙ sym (append-nil h.session.history)) (λ _. refl)
 
 -- Where commands may come it doesn't matter what came.
 pub none_barred : (known : Known) (events : List Event) → obeys known ≡ true

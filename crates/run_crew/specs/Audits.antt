@@ -9,14 +9,14 @@ use Rattle.run_model.specs.State.{WorkState}
 use Rattle.run_model.specs.Tasks.{phase_of}
 use Rattle.run_crew.specs.declared.audits.Strayed.{Strayed}
 use Rattle.run_crew.specs.declared.notes.Note.{Note}
-use Rattle.run_crew.specs.Desks.{DeskView, history_of}
+use Rattle.run_crew.specs.Desks.{DeskView}
 use Rattle.run_crew.specs.Notes.{all_notes, finishes_since, has}
 
 -- ---- notes
 
 -- The finishes since the desk was made.
 abbrev pub made_at : {D : Type 0} → DeskView D → List Note
-made_at d = finishes_since d.since d.book.session.start.count (history_of d.book)
+made_at d = finishes_since d.since d.book.session.start.count d.book.session.history
 
 -- A note is stray where it is of no finish that was made, or repeats an earlier one.
 abbrev pub is_stray : List Note → List Note → Note → Bool

@@ -1,31 +1,18 @@
 -- What contracts see of a desk.
-use Rattle.std.specs.Prelude.{ℕ, Bool, true, false, List, count_by, slice_get}
+use Rattle.std.specs.Prelude.{ℕ, Bool, false, List, count_by, slice_get}
 use Rattle.std.specs.Option.{option_map_or}
 use Rattle.run_model.specs.Event.{Event}
-use Rattle.run_model.specs.Event as event
 use Rattle.run_model.specs.State.{State}
 use Rattle.run_model.specs.Replies.{is_task_done}
-use Rattle.record_view.specs.Records.{events_in}
-use Rattle.run_book.specs.Views.{BookView}
+use Rattle.model_laws.specs.Kinds.{is_finish, is_start}
+use Rattle.book_model.specs.Holdings.{BookView}
 
 -- A desk has a book, and knows how many events there had been when the desk was made.
 pub record DeskView (D : Type 0) : Type 0 where
   pub book : BookView D
   pub since : ℕ
 
--- The events since the opening of its book.
-abbrev pub history_of : {D : Type 0} → BookView D → List Event
-history_of b = events_in b.session.log
-
 -- ---- totals
-
-abbrev pub is_start : Event → Bool
-is_start (event.Start task) = true
-is_start _ = false
-
-abbrev pub is_finish : Event → Bool
-is_finish (event.Finish task outcome) = true
-is_finish _ = false
 
 -- How many of these events are starts.
 abbrev pub starts_of : List Event → ℕ

@@ -3,17 +3,16 @@ use Rattle.std.specs.Prelude.{◌≡◌, ◌≤◌, ◌-◌, ◌++◌, ℕ, Bool
 use Rattle.std.specs.List.{list_all}
 use Rattle.run_model.specs.Event.{Event}
 use Rattle.run_model.specs.Event as event
-use Rattle.run_model.specs.State.{State}
+use Rattle.run_model.specs.Session.{Session}
 use Rattle.run_disk.specs.Disk.{DiskState, IsAtRest}
 use Rattle.run_disk.specs.Runs.{LeavesOnly, Passed}
-use Rattle.book_model.specs.Holdings.{Holding}
+use Rattle.book_model.specs.Holdings.{BookView}
 use Rattle.book_model.specs.Stores.{StoresFront}
 
 -- What a book held at one moment, and the states of its disk then and as it was given to its
 -- opening; and whether commands may come behind it, beside starts and finishes.
 pub record Opened : Type 1 where
-  pub start : State
-  pub history : List Event
+  pub session : Session
   pub durable : ℕ
   pub disk : DiskState
   pub origin : DiskState
@@ -25,10 +24,9 @@ pub data Known : Type 1 where
   From : Opened → Known
 
 -- What a book is now, and that starts and finishes alone may come.
-abbrev pub opened_of : {D : Type 0} → (D → DiskState) → Holding D → Opened
+abbrev pub opened_of : {D : Type 0} → (D → DiskState) → BookView D → Opened
 opened_of state h = record {
-  start = h.start;
-  history = h.history;
+  session = h.session;
   durable = h.durable;
   disk = state h.journal.disk;
   origin = state h.origin;
@@ -50,20 +48,21 @@ is_work _ = false
 -- and finishes alone unless commands may come, and no event that was acknowledged is lost. Where
 -- the disk is honest and the book was opened on a disk at rest, a crash at any moment from that one
 -- on leaves a state that some first events lead to, each among them that was acknowledged then.
-pub record CarriesFrom {D : Type 0} (from : Opened) (state : D → DiskState) (h : Holding D)
+pub record CarriesFrom {D : Type 0} (from : Opened) (state : D → DiskState) (h : BookView D)
     : Type 0 where
-  pub start : h.start ≡ from.start
+  pub start : h.session.start ≡ from.session.start
   pub added : List Event
-  pub more : h.history ≡ from.history ++ added
+  pub more : h.session.history ≡ from.session.history ++ added
   pub only : from.commands ≡ false → list_all is_work added ≡ true
   pub durable : from.durable ≤ h.durable
   pub passed : Passed from.disk (state h.journal.disk)
   pub rest : IsAtRest from.origin → IsAtRest (state h.origin)
   pub any_moment : from.disk.honest → IsAtRest from.origin
-      → LeavesOnly (StoresFront from.start h.history (from.durable - from.start.count)) from.disk
-      (state h.journal.disk)
+      → LeavesOnly
+      (StoresFront from.session.start h.session.history (from.durable - from.session.start.count))
+      from.disk (state h.journal.disk)
 
 -- A book goes on from what is known of it.
-abbrev pub Carries : {D : Type 0} → Known → (D → DiskState) → Holding D → Type 0
+abbrev pub Carries : {D : Type 0} → Known → (D → DiskState) → BookView D → Type 0
 Carries Unsaid state h = ⊤
 Carries (From from) state h = CarriesFrom from state h

@@ -1,23 +1,18 @@
 -- What a step of a desk leaves of its book.
-use Rattle.std.specs.Prelude.{◌≡◌, Option}
+use Rattle.std.specs.Prelude.{◌≡◌}
 use Rattle.run_model.specs.declared.answers.Reply.{Reply}
 use Rattle.run_model.specs.declared.commands.Step.{Step}
-use Rattle.run_model.specs.Event.{Event}
 use Rattle.run_disk.specs.Disk.{DiskState}
 use Rattle.run_state.specs.Lasting.{Stays}
-use Rattle.run_session.specs.Logged.{GoesOnBy}
 use Rattle.book_model.specs.Holdings.{CarriesOn}
 use Rattle.book_model.specs.Steps.{AnswersStep}
-use Rattle.run_book.specs.Views.{holding}
 use Rattle.run_crew.specs.Desks.{DeskView}
 
--- The book of a desk takes this step, is answered by this reply, and carries on: its history goes
--- on by this event, where there is one, and what is done or has ended stays so. The number of
--- events that there had been when the desk was made stays, too.
+-- The book of a desk takes this step, is answered by this reply, and carries on; what is done or
+-- has ended stays so. The number of events that there had been when the desk was made stays, too.
 pub record TakesStep {D : Type 0} (state : D → DiskState) (old : DeskView D) (x : Step)
-    (r : Reply) (event : Option Event) (new : DeskView D) : Type 0 where
-  pub answers : AnswersStep state (holding old.book) x r (holding new.book)
-  pub history : GoesOnBy event old.book.session new.book.session
+    (r : Reply) (new : DeskView D) : Type 0 where
+  pub answers : AnswersStep state old.book x r new.book
   pub stays : Stays old.book.session.state new.book.session.state
-  pub carries_on : CarriesOn state (holding old.book) (holding new.book)
+  pub carries_on : CarriesOn state old.book new.book
   pub since : new.since ≡ old.since

@@ -1,8 +1,7 @@
 //! The audit of a night: whether the notes of its workers are the finishes of the history, each
 //! once, and no task is left.
 
-ghost use Rattle.std.specs.Prelude.{◌≡◌, ◌++◌, ◌||◌, MatchOption};
-ghost use Rattle.std.specs.Prelude.{MatchResult, OnOk};
+ghost use Rattle.std.specs.Prelude.{◌≡◌, ◌++◌, ◌||◌, MatchOption, MatchResult, OnOk};
 ghost use Rattle.std.specs.List.Sorted.{IsPermutation};
 ghost use Rattle.run_crew.specs.Audits.{FirstStrayIn, HasStrayed, IsComplete, IsFirstLeft};
 ghost use Rattle.run_crew.specs.Audits.{IsFirstStray, NoStray, NoneLeft, is_left};

@@ -5,15 +5,13 @@ ghost use Rattle.std.specs.Prelude.{OnErr, OnOk, Some};
 ghost use Rattle.run_model.specs.declared.answers.Reply.TheVariants as told;
 ghost use Rattle.run_model.specs.declared.commands.Step.TheVariants as step;
 ghost use Rattle.run_model.specs.Allowed.{run};
-ghost use Rattle.run_model.specs.Replies.{decide, decide_finish, decide_start, reply};
-ghost use Rattle.run_model.specs.Replies.{reply_finish, reply_start};
-ghost use Rattle.run_model.specs.Session.{made, replied};
-ghost use Rattle.record_view.specs.Records.{events_in};
-ghost use Rattle.run_session.specs.Logged.{Replays, after_command, after_finish, after_start};
+ghost use Rattle.run_model.specs.Replies.{reply, reply_finish, reply_start};
+ghost use Rattle.run_model.specs.Session.{after_step, replied};
+ghost use Rattle.run_session.specs.Replays.{Replays};
 ghost use Rattle.book_model.specs.Holdings.{CarriesOn, Checkpoints, Flushes, IsDurable, IsSafe};
 ghost use Rattle.book_model.specs.Stores.{Stores};
-ghost use Rattle.run_book.specs.Views.{holding, unless_broken, with_session};
-ghost use Rattle.run_crew.specs.Desks.{DeskView, finishes_of, history_of, is_done_for, starts_of};
+ghost use Rattle.run_book.specs.Views.{unless_broken, with_session};
+ghost use Rattle.run_crew.specs.Desks.{DeskView, finishes_of, is_done_for, starts_of};
 ghost use Rattle.run_crew.specs.Openings.{Carries};
 ghost use Rattle.run_crew.specs.Seats.{one_finish, one_start};
 ghost use Rattle.run_crew.specs.Steps.{TakesStep};
@@ -44,17 +42,16 @@ pub struct Desk<D: RunDisk, S: Ledger, F: Ledger, O: Opening = AnyBook> {
 
 impl<D: RunDisk, S: Ledger, F: Ledger, O: Opening> Model for Desk<D, S, F, O> {
     ghost use Rattle.std.specs.Prelude.{◌≡◌};
-    ghost use Rattle.run_book.specs.Views.{holding};
-    ghost use Rattle.run_crew.specs.Desks.{DeskView, finishes_of, history_of, starts_of};
+    ghost use Rattle.run_crew.specs.Desks.{DeskView, finishes_of, starts_of};
     ghost use Rattle.run_crew.specs.Openings.{Carries};
 
     ghost Value = { DeskView D };
 
     ghost view = { λ d. record { book = d.book; since = d.since } };
 
-    ghost invariant = { λ d. (d.starts.total ≡ starts_of (history_of d.book))
-        × (d.finishes.total ≡ finishes_of (history_of d.book))
-        × Carries O.opening D.state (holding d.book) };
+    ghost invariant = { λ d. (d.starts.total ≡ starts_of d.book.session.history)
+        × (d.finishes.total ≡ finishes_of d.book.session.history)
+        × Carries O.opening D.state d.book };
 }
 
 impl<D: RunDisk, S: Ledger, F: Ledger, O: Opening> Desk<D, S, F, O> {
@@ -64,13 +61,13 @@ impl<D: RunDisk, S: Ledger, F: Ledger, O: Opening> Desk<D, S, F, O> {
         requires starts { (starts.name ≡ S.name) × (starts.parts ≡ S.parts) × (0 < S.parts) }
         requires finishes { (finishes.name ≡ F.name) × (finishes.parts ≡ F.parts)
             × (0 < F.parts) }
-        requires carries { Carries O.opening D.state (holding book) }
+        requires carries { Carries O.opening D.state book }
         ensures desk { result.0 ≡ record { book = book; since = book.session.state.count } }
         ensures seat { result.1 ≡ record {
           start_parts = S.parts;
-          starts = starts_of (history_of book);
+          starts = starts_of book.session.history;
           finish_parts = F.parts;
-          finishes = finishes_of (history_of book);
+          finishes = finishes_of book.session.history;
         } }
     {
         let (mut start_total, mut start_share) = starts.open::<S>();
@@ -93,12 +90,10 @@ impl<D: RunDisk, S: Ledger, F: Ledger, O: Opening> Desk<D, S, F, O> {
     pub fn start_as(&mut self, seat: &mut Seat<S, F>) -> Result<Started, Refusal>
         requires part { 0 < seat.old.start_parts }
         ensures reply { result ≡ unless_broken self.old.book
-            (reply_start self.old.book.session.state (length self.old.book.session.log)) }
+            (reply_start self.old.book.session.state self.old.book.session.log) }
         ensures after { self.new.book
-            ≡ with_session self.old.book (after_start self.old.book.session) }
+            ≡ with_session self.old.book (after_step self.old.book.session step.Start) }
         ensures step { TakesStep D.state self.old step.Start (replied told.Started result)
-            (made (unless_broken self.old.book
-            (decide_start self.old.book.session.state (length self.old.book.session.log))))
             self.new }
         ensures refused { OnErr result (self.new.book ≡ self.old.book) }
         ensures seat { MatchResult result (λ _. seat.new ≡ one_start seat.old)
@@ -123,10 +118,9 @@ impl<D: RunDisk, S: Ledger, F: Ledger, O: Opening> Desk<D, S, F, O> {
         ensures reply { result ≡ unless_broken self.old.book
             (reply_finish self.old.book.session.state task outcome.now) }
         ensures after { self.new.book ≡ with_session self.old.book
-            (after_finish self.old.book.session task outcome.now) }
+            (after_step self.old.book.session (step.Finish task outcome.now)) }
         ensures step { TakesStep D.state self.old (step.Finish task outcome.now)
-            (replied told.Finished result) (made (unless_broken self.old.book
-            (decide_finish self.old.book.session.state task outcome.now))) self.new }
+            (replied told.Finished result) self.new }
         ensures refused { OnErr result (self.new.book ≡ self.old.book) }
         ensures seat { MatchResult result (λ _. seat.new ≡ one_finish seat.old)
             (λ _. seat.new ≡ seat.old) }
@@ -140,12 +134,10 @@ impl<D: RunDisk, S: Ledger, F: Ledger, O: Opening> Desk<D, S, F, O> {
 
     /// Makes all events so far durable by their records, as [`Book::flush`] does.
     pub fn flush(&mut self) -> Result<u64, Trouble>
-        ensures session { self.new.book.session ≡ self.old.book.session }
         ensures layout { self.new.book.journal.layout ≡ self.old.book.journal.layout }
-        ensures flushes { Flushes D.state (holding self.old.book) result
-            (holding self.new.book) }
-        ensures carries_on { CarriesOn D.state (holding self.old.book) (holding self.new.book) }
-        ensures stores { IsSafe D.state (holding self.old.book) → OnOk result ((x : List ℕ)
+        ensures flushes { Flushes D.state self.old.book result self.new.book }
+        ensures carries_on { CarriesOn D.state self.old.book self.new.book }
+        ensures stores { IsSafe D.state self.old.book → OnOk result ((x : List ℕ)
             → (D.state self.new.book.journal.disk).images x
             → Stores x self.new.book.session.state) }
         ensures since { self.new.since ≡ self.old.since }
@@ -155,12 +147,10 @@ impl<D: RunDisk, S: Ledger, F: Ledger, O: Opening> Desk<D, S, F, O> {
 
     /// Makes all events so far durable by an image, as [`Book::checkpoint`] does.
     pub fn checkpoint(&mut self) -> Result<u64, Trouble>
-        ensures session { self.new.book.session ≡ self.old.book.session }
         ensures layout { self.new.book.journal.layout ≡ self.old.book.journal.layout }
-        ensures checkpoints { Checkpoints D.state (holding self.old.book) result
-            (holding self.new.book) }
-        ensures carries_on { CarriesOn D.state (holding self.old.book) (holding self.new.book) }
-        ensures stores { IsSafe D.state (holding self.old.book) → OnOk result ((x : List ℕ)
+        ensures checkpoints { Checkpoints D.state self.old.book result self.new.book }
+        ensures carries_on { CarriesOn D.state self.old.book self.new.book }
+        ensures stores { IsSafe D.state self.old.book → OnOk result ((x : List ℕ)
             → (D.state self.new.book.journal.disk).images x
             → Stores x self.new.book.session.state) }
         ensures since { self.new.since ≡ self.old.since }
@@ -174,8 +164,8 @@ impl<D: RunDisk, S: Ledger, F: Ledger, O: Opening> Desk<D, S, F, O> {
         requires parts { (seat.old.start_parts ≡ S.parts) × (seat.old.finish_parts ≡ F.parts) }
         ensures same { (self.new ≡ self.old) × (seat.new ≡ seat.old) }
         ensures counted { (result.0 ≡ seat.old.starts) × (result.1 ≡ seat.old.finishes) }
-        ensures history { (result.0 ≡ starts_of (history_of self.old.book))
-            × (result.1 ≡ finishes_of (history_of self.old.book)) }
+        ensures history { (result.0 ≡ starts_of self.old.book.session.history)
+            × (result.1 ≡ finishes_of self.old.book.session.history) }
     {
         self.starts.audit(&mut seat.starts);
         self.finishes.audit(&mut seat.finishes);
@@ -189,8 +179,8 @@ impl<D: RunDisk, S: Ledger, F: Ledger, O: Opening> Desk<D, S, F, O> {
     pub fn book(&self) -> &Book<D>
         ensures book { result.now ≡ self.now.book }
         ensures replays { Replays self.now.book.session }
-        ensures images { IsDurable D.state (holding self.now.book) }
-        ensures carries { Carries O.opening D.state (holding self.now.book) }
+        ensures images { IsDurable D.state self.now.book }
+        ensures carries { Carries O.opening D.state self.now.book }
     {
         let _state = self.book.state();
         let _durable = self.book.durable();
@@ -224,7 +214,7 @@ impl<D: RunDisk, S: Ledger, F: Ledger, O: Opening> Desk<D, S, F, O> {
     /// The book, given back.
     pub fn into_book(self) -> Book<D>
         ensures book { result ≡ self.book }
-        ensures carries { Carries O.opening D.state (holding self.book) }
+        ensures carries { Carries O.opening D.state self.book }
     {
         let Desk { book, .. } = self;
         book
@@ -235,13 +225,11 @@ impl<D: RunDisk, S: Ledger, F: Ledger, O: Obeys> Desk<D, S, F, O> {
     /// Obeys a command, as [`Book::command`] does.
     pub fn command(&mut self, call: &Command) -> Result<Answer, Refusal>
         ensures reply { result ≡ unless_broken self.old.book
-            (reply self.old.book.session.state (length self.old.book.session.log) call.now) }
+            (reply self.old.book.session.state self.old.book.session.log call.now) }
         ensures after { self.new.book ≡ with_session self.old.book
-            (after_command self.old.book.session call.now) }
+            (after_step self.old.book.session (step.Command call.now)) }
         ensures step { TakesStep D.state self.old (step.Command call.now)
-            (replied told.Answer result) (made (unless_broken self.old.book
-            (decide self.old.book.session.state (length self.old.book.session.log) call.now)))
-            self.new }
+            (replied told.Answer result) self.new }
         ensures refused { OnErr result (self.new.book ≡ self.old.book) }
     {
         self.book.command(call)

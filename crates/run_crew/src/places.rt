@@ -1,13 +1,13 @@
 //! What threads see of the value of the lock: what moves their seats, and no more of the book.
 
-ghost use Rattle.std.specs.Prelude.{◌≡◌, ◌<◌, ℕ, Bool, Result, length, MatchResult};
+ghost use Rattle.std.specs.Prelude.{◌≡◌, ◌<◌, ℕ, Bool, Result, MatchResult};
 ghost use Rattle.run_model.specs.declared.answers.Started.{Started};
 ghost use Rattle.run_model.specs.declared.faults.Trouble.{Trouble};
 ghost use Rattle.run_model.specs.declared.refusals.Refusal.{Refusal};
 ghost use Rattle.run_model.specs.declared.tasks.Outcome.{Outcome};
 ghost use Rattle.run_model.specs.Replies.{reply_finish, reply_start};
 ghost use Rattle.book_model.specs.Holdings.{Flushes, IsDurable};
-ghost use Rattle.run_book.specs.Views.{holding, unless_broken};
+ghost use Rattle.run_book.specs.Views.{unless_broken};
 ghost use Rattle.run_crew.specs.Desks.{is_done_for};
 ghost use Rattle.run_crew.specs.Seats.{one_finish, one_start};
 
@@ -71,9 +71,9 @@ pub trait CountedPlace<S: Ledger, F: Ledger>: Place {
 }
 
 impl<D: RunDisk, S: Ledger, F: Ledger, O: Opening> Place for Desk<D, S, F, O> {
-    ghost holds = { λ d n. (n ≡ d.book.durable) × IsDurable D.state (holding d.book) };
+    ghost holds = { λ d n. (n ≡ d.book.durable) × IsDurable D.state d.book };
 
-    ghost flushes = { λ d r e. Flushes D.state (holding d.book) r (holding e.book) };
+    ghost flushes = { λ d r e. Flushes D.state d.book r e.book };
 
     ghost tells = { λ d task answer. answer ≡ is_done_for d.book.session.state task };
 
@@ -92,7 +92,7 @@ impl<D: RunDisk, S: Ledger, F: Ledger, O: Opening> Place for Desk<D, S, F, O> {
 
 impl<D: RunDisk, S: Ledger, F: Ledger, O: Opening> CountedPlace<S, F> for Desk<D, S, F, O> {
     ghost starts = { λ d r _. r ≡ unless_broken d.book
-        (reply_start d.book.session.state (length d.book.session.log)) };
+        (reply_start d.book.session.state d.book.session.log) };
 
     ghost finishes = { λ d task how r _. r ≡ unless_broken d.book
         (reply_finish d.book.session.state task how) };

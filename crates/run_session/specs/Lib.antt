@@ -1,3 +1,3 @@
 pub mod Answered
-pub mod Logged
+pub mod Replays
 pub mod Sound

@@ -6,7 +6,6 @@ ghost use Rattle.run_model.specs.Session.{replied};
 ghost use Rattle.run_state.specs.Lasting.{Stays};
 ghost use Rattle.book_model.specs.Holdings.{CarriesOn};
 ghost use Rattle.book_model.specs.Steps.{AnswersStep, PlaysInto, reply_of_save};
-ghost use Rattle.run_book.specs.Views.{holding};
 
 use super::Book;
 use run_disk::RunDisk;
@@ -19,10 +18,10 @@ impl<D: RunDisk, A: Allocator> Book<D, A> {
     /// `Broken`.
     pub fn play<B: Allocator>(&mut self, steps: &[Step], replies: &mut Vec<Reply, B>)
         requires room { vec_len replies.old + length steps.now ≤ vec_capacity replies.old }
-        ensures plays { PlaysInto D.state (holding self.old) steps.now replies.old.items
-            (holding self.new) replies.new.items }
+        ensures plays { PlaysInto D.state self.old steps.now replies.old.items
+            self.new replies.new.items }
         ensures capacity { vec_capacity replies.new ≡ vec_capacity replies.old }
-        ensures carries_on { CarriesOn D.state (holding self.old) (holding self.new) }
+        ensures carries_on { CarriesOn D.state self.old self.new }
         ensures stays { Stays self.old.session.state self.new.session.state }
     {
         let _durable = self.durable();
@@ -35,9 +34,9 @@ impl<D: RunDisk, A: Allocator> Book<D, A> {
     /// Takes one step, as the call of its name does, and answers as that call. A broken book
     /// refuses it as `Broken`.
     pub fn step(&mut self, step: &Step) -> Reply
-        ensures answers { AnswersStep D.state (holding self.old) step.now result
-            (holding self.new) }
-        ensures carries_on { CarriesOn D.state (holding self.old) (holding self.new) }
+        ensures answers { AnswersStep D.state self.old step.now result
+            self.new }
+        ensures carries_on { CarriesOn D.state self.old self.new }
         ensures stays { Stays self.old.session.state self.new.session.state }
     {
         let _state = self.state();

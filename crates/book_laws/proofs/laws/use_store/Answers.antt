@@ -2,7 +2,6 @@ use Rattle.std.proofs.Common.{◌≤◌, subst, sym}
 use Rattle.run_disk.specs.Disk.{IsAtRest}
 use Rattle.book_model.proofs.NightLemmas.{opened_safe}
 use Rattle.book_model.proofs.HoldingLemmas.{safe_on}
-use Rattle.run_book.specs.Views.{holding}
 use Rattle.run_model.specs.declared.faults.Trouble.TheVariants.{Faulty}
 use Rattle.book_laws.specs.Chains.{HasStayed, StopsFor}
 use Rattle.book_laws.proofs.ChainLemmas.{lasted, over_honest, saved_state, stayed, stayed_again}
@@ -29,7 +28,7 @@ returns-in-Err-flush-clause-any_moment g c honest rest p stores =
     subst (λ d. HasStayed p c.args.steps.now before replies (state c.args.disk) (state d))
     (sym c.into_disk.ensures)
     (stayed state c.args.disk p c.args.steps.now before replies c.in-Ok.book is
-    (holding c.flush.new.self) honest rest e.carries_on e.flushes.saves.history)
+    c.flush.new.self honest rest e.carries_on e.flushes.saves.session)
 
 pub returns-in-Err-open-clause-any_moment : goal.returns-in-Err-open-clause-any_moment
 returns-in-Err-open-clause-any_moment g c honest rest p stores =
@@ -42,18 +41,18 @@ returns-in-Err-open-clause-any_moment g c honest rest p stores =
     let new = c.flush.new.self in
     let over = c.into_disk-2.result in
     let is_over = c.into_disk-2.ensures in
-    let safe = safe_on state is.first (holding b) is.on
+    let safe = safe_on state is.first b is.on
     (opened_safe state c.args.disk p is.first honest rest is.opened) in
     let disk = g.met.D.RunDisk.is_disk over in
     let again = saved_state state c.args.disk p c.args.steps.now before replies b is new over disk
-    honest e.carries_on is_over e.session (c.in_default.ensures.stores safe) in
+    honest e.carries_on is_over e.flushes.saves.session (c.in_default.ensures.stores safe) in
     let there = over_honest state c.args.disk p c.args.steps.now before replies b is new over honest
     e.carries_on is_over in
     let at_rest = subst (λ d. IsAtRest (state d)) (sym is_over)
     (c.in_default.ensures.flushes.saves.answer.rest safe) in
-    stayed_again state c.args.disk p c.args.steps.now before replies b is (holding new) over
-    c.in-Err-open.stopped.1 honest rest c.in-Ok.ensures.replays e.carries_on
-    e.flushes.saves.history is_over
+    stayed_again state c.args.disk p c.args.steps.now before replies b is new over
+    c.in-Err-open.stopped.1 honest rest e.carries_on
+    e.flushes.saves.session is_over
     (c.in-Err-open.ensures.opens.any_moment there at_rest b.session.state again)
 
 pub returns-in-Ok-open-clause-lasts : goal.returns-in-Ok-open-clause-lasts
@@ -67,15 +66,15 @@ returns-in-Ok-open-clause-lasts g c honest rest p stores =
     let new = c.flush.new.self in
     let over = c.into_disk-2.result in
     let is_over = c.into_disk-2.ensures in
-    let safe = safe_on state is.first (holding b) is.on
+    let safe = safe_on state is.first b is.on
     (opened_safe state c.args.disk p is.first honest rest is.opened) in
     let disk = g.met.D.RunDisk.is_disk over in
     let again = saved_state state c.args.disk p c.args.steps.now before replies b is new over disk
-    honest e.carries_on is_over e.session (c.in_default.ensures.stores safe) in
+    honest e.carries_on is_over e.flushes.saves.session (c.in_default.ensures.stores safe) in
     let there = over_honest state c.args.disk p c.args.steps.now before replies b is new over honest
     e.carries_on is_over in
     lasted state c.args.disk p c.args.steps.now before replies b is over c.in-Ok-open.book
-    c.in_default.ensures.flushes.saves.answer.was c.in-Ok.ensures.replays there again
+    c.in_default.ensures.flushes.saves.answer.was there again
     c.in-Ok-open.ensures.opens c.in-Ok-open.ensures.session
 
 pub returns-in-Ok-open-clause-any_moment : goal.returns-in-Ok-open-clause-any_moment
@@ -89,18 +88,18 @@ returns-in-Ok-open-clause-any_moment g c honest rest p stores =
     let new = c.flush.new.self in
     let over = c.into_disk-2.result in
     let is_over = c.into_disk-2.ensures in
-    let safe = safe_on state is.first (holding b) is.on
+    let safe = safe_on state is.first b is.on
     (opened_safe state c.args.disk p is.first honest rest is.opened) in
     let disk = g.met.D.RunDisk.is_disk over in
     let again = saved_state state c.args.disk p c.args.steps.now before replies b is new over disk
-    honest e.carries_on is_over e.session (c.in_default.ensures.stores safe) in
+    honest e.carries_on is_over e.flushes.saves.session (c.in_default.ensures.stores safe) in
     let there = over_honest state c.args.disk p c.args.steps.now before replies b is new over honest
     e.carries_on is_over in
     let at_rest = subst (λ d. IsAtRest (state d)) (sym is_over)
     (c.in_default.ensures.flushes.saves.answer.rest safe) in
-    stayed_again state c.args.disk p c.args.steps.now before replies b is (holding new) over
-    c.in-Ok-open.book.journal.disk honest rest c.in-Ok.ensures.replays e.carries_on
-    e.flushes.saves.history is_over
+    stayed_again state c.args.disk p c.args.steps.now before replies b is new over
+    c.in-Ok-open.book.journal.disk honest rest e.carries_on
+    e.flushes.saves.session is_over
     (c.in-Ok-open.ensures.opens.any_moment there at_rest b.session.state again)
 
 pub returns-in-Err-clause-why : goal.returns-in-Err-clause-why
@@ -114,7 +113,7 @@ returns-in-Err-flush-clause-why g c honest rest p stores =
     (sym c.into_disk.ensures)
     (unsaved_why state c.args.disk p c.args.steps.now c.args.replies.now.items
     c.open_and_play.new.replies.items c.in-Ok.book is c.in-Err-flush.trouble
-    (holding c.flush.new.self) c.in-Err-flush.ensures.flushes.saves.answer)
+    c.flush.new.self c.in-Err-flush.ensures.flushes.saves.answer)
 
 pub returns-in-Err-open-clause-why : goal.returns-in-Err-open-clause-why
 returns-in-Err-open-clause-why g c honest rest p stores =
@@ -127,14 +126,14 @@ returns-in-Err-open-clause-why g c honest rest p stores =
     let new = c.flush.new.self in
     let over = c.into_disk-2.result in
     let is_over = c.into_disk-2.ensures in
-    let safe = safe_on state is.first (holding b) is.on
+    let safe = safe_on state is.first b is.on
     (opened_safe state c.args.disk p is.first honest rest is.opened) in
     let disk = g.met.D.RunDisk.is_disk over in
     let again = saved_state state c.args.disk p c.args.steps.now before replies b is new over disk
-    honest e.carries_on is_over e.session (c.in_default.ensures.stores safe) in
+    honest e.carries_on is_over e.flushes.saves.session (c.in_default.ensures.stores safe) in
     let there = over_honest state c.args.disk p c.args.steps.now before replies b is new over honest
     e.carries_on is_over in
-    let later = later_since state c.args.disk p c.args.steps.now before replies b is (holding new)
+    let later = later_since state c.args.disk p c.args.steps.now before replies b is new
     e.carries_on in
     stops_later (state c.args.disk) (state over) (state c.in-Err-open.stopped.1)
     (Faulty c.in-Err-open.stopped.0)

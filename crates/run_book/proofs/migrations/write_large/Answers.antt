@@ -13,21 +13,19 @@ returns-in-Ok-clause-written g c =
     let state = g.E.RunDisk.state in
     let p = c.args.state.now in
     let e = c.format.ensures in
-    large_written (state c.args.new.now) (state c.format.new.disk) c.format.result p _
+    large_written state (state c.args.new.now) (state c.format.new.disk) c.format.result p _
     (g.met.E.RunDisk.is_disk c.format.new.disk) c.requires.size
     (subst (λ l. IsImage Two l (image p) p) c.requires.layout.tree c.fill-count.ensures.is_image)
-    e.ran e.took
     (drop-take 12 c.fill-count.result c.fill-count.new.body ∙ c.fill-count.ensures.image)
-    e.any_moment c.in-Ok.is e.formatted e.synced e.sure
+    e.calls e.formatted c.in-Ok.is
 
 pub returns-in-Err-clause-failed : goal.returns-in-Err-clause-failed
 returns-in-Err-clause-failed g c =
     let state = g.E.RunDisk.state in
     let p = c.args.state.now in
     let e = c.format.ensures in
-    large_failed (state c.args.new.now) (state c.format.new.disk) c.format.result p _
+    large_failed state (state c.args.new.now) (state c.format.new.disk) c.format.result p _
     (g.met.E.RunDisk.is_disk c.format.new.disk) c.requires.size
     (subst (λ l. IsImage Two l (image p) p) c.requires.layout.tree c.fill-count.ensures.is_image)
-    e.ran e.took
     (drop-take 12 c.fill-count.result c.fill-count.new.body ∙ c.fill-count.ensures.image)
-    e.any_moment c.in-Err.fault c.in-Err.is
+    e.calls e.formatted c.in-Err.fault c.in-Err.is

@@ -17,18 +17,17 @@ returns-clause-written g c =
     let state = g.E.RunDisk.state in
     let e = c.format.ensures in
     let filled = c.fill_renewed-count in
-    renewed_written (state c.args.new.now) (state c.format.new.disk) c.format.result
+    renewed_written state (state c.args.new.now) (state c.format.new.disk) c.format.result
     c.args.state.now _ c.args.to (g.met.E.RunDisk.is_disk c.format.new.disk) c.requires.size
-    filled.ensures.is_image e.ran e.took
-    (drop-take 12 filled.result filled.new.body ∙ filled.ensures.image) e.any_moment e.formatted
-    e.synced e.sure
+    filled.ensures.is_image (drop-take 12 filled.result filled.new.body ∙ filled.ensures.image)
+    e.calls e.formatted
 
 pub returns-clause-failed : goal.returns-clause-failed
 returns-clause-failed g c =
     let state = g.E.RunDisk.state in
     let e = c.format.ensures in
     let filled = c.fill_renewed-count in
-    renewed_failed (state c.args.new.now) (state c.format.new.disk) c.format.result
+    renewed_failed state (state c.args.new.now) (state c.format.new.disk) c.format.result
     c.args.state.now _ c.args.to (g.met.E.RunDisk.is_disk c.format.new.disk) c.requires.size
-    filled.ensures.is_image e.ran e.took
-    (drop-take 12 filled.result filled.new.body ∙ filled.ensures.image) e.any_moment
+    filled.ensures.is_image (drop-take 12 filled.result filled.new.body ∙ filled.ensures.image)
+    e.calls e.formatted

@@ -3,7 +3,6 @@ use Rattle.std.proofs.lemmas.List.{take_all}
 use Rattle.run_model.specs.declared.answers.Reply.{Reply}
 use Rattle.run_model.specs.declared.commands.Step.{Step}
 use Rattle.book_model.specs.Steps.{PlaysInto}
-use Rattle.run_book.specs.Views.{holding}
 use Rattle.run_book.proofs.Playing.{HasPlayed, played_more, played_none}
 use Rattle.run_book.proofs.books.Book.play.Goals as goal
 
@@ -51,8 +50,8 @@ returns g c =
     take_all c.loop-step.step-index c.args.steps.now c.loop-step-test.false in
     record {
       plays =
-          subst (λ (l : List Step). PlaysInto g.D.RunDisk.state (holding c.args.self.now) l
-          c.args.replies.now.items (holding c.loop-step.self) c.loop-step.replies.items) all
+          subst (λ (l : List Step). PlaysInto g.D.RunDisk.state c.args.self.now l
+          c.args.replies.now.items c.loop-step.self c.loop-step.replies.items) all
           played.plays;
       capacity = c.loop-step.invariant.2;
       carries_on = played.carries_on;

@@ -1,7 +1,5 @@
 use Rattle.std.proofs.Common.{ap, rules, sym, ◌∙◌}
-use Rattle.run_session.specs.Logged.{Logged}
-use Rattle.record_view.specs.Records.{events_in}
-use Rattle.run_book.specs.Views.{holding}
+use Rattle.run_model.specs.Session.{Session}
 use Rattle.run_crew.specs.Desks.{finishes_of, starts_of}
 use Rattle.run_crew.proofs.Carrying.{carries_same}
 use Rattle.run_crew.proofs.desks.Desk.checkpoint.Goals as goal
@@ -9,12 +7,14 @@ use Rattle.run_crew.proofs.desks.Desk.checkpoint.Goals as goal
 pub invariant_of-self : goal.invariant_of-self
 invariant_of-self g c = (
   c.self.invariant.0
-      ∙ ap (λ (s : Logged). starts_of (events_in s.log)) (sym c.checkpoint.ensures.session),
+      ∙ ap (λ (s : Session). starts_of s.history)
+      (sym c.checkpoint.ensures.checkpoints.saves.session),
   c.self.invariant.1
-      ∙ ap (λ (s : Logged). finishes_of (events_in s.log)) (sym c.checkpoint.ensures.session),
-  carries_same g.D.RunDisk.state g.O.Opening.opening (holding c.self.inside.book)
-      (holding c.checkpoint.new.self) c.self.invariant.2 c.checkpoint.ensures.carries_on
-      c.checkpoint.ensures.checkpoints.saves.history,
+      ∙ ap (λ (s : Session). finishes_of s.history)
+      (sym c.checkpoint.ensures.checkpoints.saves.session),
+  carries_same g.D.RunDisk.state g.O.Opening.opening c.self.inside.book
+      c.checkpoint.new.self c.self.invariant.2 c.checkpoint.ensures.carries_on
+      (ap (λ (s : Session). s.history) c.checkpoint.ensures.checkpoints.saves.session),
 )
 
 pub returns-clause-carries_on : goal.returns-clause-carries_on
