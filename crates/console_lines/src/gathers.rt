@@ -1,11 +1,14 @@
 //! A [`Reply`] is gathered behind other replies, as one line. It takes no memory.
 
-ghost use Rattle.std.specs.Prelude.{◌≡◌, ◌++◌, ◌+◌, ◌<◌, ◌≤◌, ◌^◌, codes, length};
+ghost use Rattle.std.specs.Option.{option_map};
+ghost use Rattle.std.specs.Prelude.{◌≡◌, ◌++◌, ◌+◌, ◌<◌, ◌≤◌, ◌^◌, [], ◌∷◌, IfSome, None};
+ghost use Rattle.std.specs.Prelude.{Some, codes, length};
 ghost use Rattle.std.specs.Fmt.{decimal};
 ghost use Rattle.arrayvec.specs.ArrayVec.{array_vec_len};
 ghost use Rattle.run_model.specs.Faults.{fault_name};
 ghost use Rattle.run_model.specs.Reasons.{reason_text};
 ghost use Rattle.run_model.specs.Refusals.{refusal_name};
+ghost use Rattle.run_model.specs.Texts.{IsText};
 ghost use Rattle.console_lines.specs.declared.gathers.TheConstants.{LONGEST_REPLY};
 ghost use Rattle.console_lines.specs.Gathers.{Gathers, ended_text, failed_text, limited_text};
 ghost use Rattle.console_lines.specs.Gathers.{waited_text};
@@ -37,6 +40,26 @@ impl Reply {
         push_reply(out, self);
         push(out, b"\n");
     }
+}
+
+/// Appends how a scope is, as [`Reply::Scope`] is written, with its LF: its deadline, and, where it
+/// is done, why and with which cause. Here the cause is lent.
+pub fn gather_scope<const N: usize>(
+    done: Option<(Reason, &[u8])>,
+    deadline: Option<Moment>,
+    out: &mut ArrayVec<u8, N>,
+)
+    requires room { array_vec_len out.old + LONGEST_REPLY ≤ N }
+    requires text { IfSome done (λ ending. IsText ending.1.now) }
+    ensures { Gathers out.old.items out.new.items
+        (scope_text (option_map (λ ending. (ending.0, ending.1.now)) done.entry) deadline
+        ++ 10 ∷ []) LONGEST_REPLY }
+{
+    match done {
+        None => push_live(out, deadline),
+        Some((reason, cause)) => push_done(out, reason, cause, deadline),
+    }
+    push(out, b"\n");
 }
 
 /// A reply without its LF.
@@ -90,15 +113,8 @@ pub(crate) fn push_look<const N: usize>(out: &mut ArrayVec<u8, N>, look: &Look)
     ensures { Gathers out.old.items out.new.items (scope_text look.now.done look.now.deadline) 130 }
 {
     match &look.done {
-        None => {
-            push(out, b"live; deadline ");
-            push_deadline(out, look.deadline);
-        }
-        Some(ending) => {
-            push(out, b"done; deadline ");
-            push_deadline(out, look.deadline);
-            push_ending(out, ending);
-        }
+        None => push_live(out, look.deadline),
+        Some(ending) => push_done(out, ending.0, ending.1.as_bytes(), look.deadline),
     }
 }
 
@@ -264,15 +280,42 @@ fn push_work<const N: usize>(out: &mut ArrayVec<u8, N>, job: &Name, argument: &N
     push_name(out, argument);
 }
 
+/// A scope that is live.
+fn push_live<const N: usize>(out: &mut ArrayVec<u8, N>, deadline: Option<Moment>)
+    requires { array_vec_len out.old + 130 ≤ N }
+    ensures { Gathers out.old.items out.new.items (scope_text None deadline) 130 }
+{
+    push(out, b"live; deadline ");
+    push_deadline(out, deadline);
+}
+
+/// A scope that is done.
+fn push_done<const N: usize>(
+    out: &mut ArrayVec<u8, N>,
+    reason: Reason,
+    cause: &[u8],
+    deadline: Option<Moment>,
+)
+    requires room { array_vec_len out.old + 130 ≤ N }
+    requires text { IsText cause.now }
+    ensures { Gathers out.old.items out.new.items (scope_text (Some (reason, cause.now)) deadline)
+        130 }
+{
+    push(out, b"done; deadline ");
+    push_deadline(out, deadline);
+    push_ending(out, reason, cause);
+}
+
 /// Why a scope is done, and with which cause.
-fn push_ending<const N: usize>(out: &mut ArrayVec<u8, N>, ending: &(Reason, Text))
-    requires { array_vec_len out.old + 103 ≤ N }
-    ensures { Gathers out.old.items out.new.items (ending_text ending.now.0 ending.now.1) 103 }
+fn push_ending<const N: usize>(out: &mut ArrayVec<u8, N>, reason: Reason, cause: &[u8])
+    requires room { array_vec_len out.old + 103 ≤ N }
+    requires text { IsText cause.now }
+    ensures { Gathers out.old.items out.new.items (ending_text reason cause.now) 103 }
 {
     push(out, b"; err ");
-    push_reason(out, ending.0);
+    push_reason(out, reason);
     push(out, b"; cause ");
-    push_text(out, &ending.1);
+    push(out, cause);
 }
 
 /// Why a scope is done.

@@ -9,7 +9,7 @@ ghost use Rattle.console_lines.specs.Words.{words_in, lent};
 
 use crate::asked::Asked;
 use crate::task_lines::read_task_line;
-use crate::words::{last_word, next_word};
+use crate::words::{is_word, last_word, next_word};
 use run_model::{Command, Limit, Name, Refusal};
 use written_moment::read_number;
 
@@ -19,19 +19,19 @@ pub(crate) fn read_group_line(word: &[u8], left: Option<&[u8]>) -> Option<Asked>
     ensures { unwrap_or result Asked.BadLine
         ≡ group_line_of word.now (words_in (lent left.entry)) }
 {
-    if word == b"group".as_slice() {
+    if is_word(word, b"group") {
         read_group(left)
-    } else if word == b"bare".as_slice() {
+    } else if is_word(word, b"bare") {
         read_bare(left)
-    } else if word == b"limit".as_slice() {
+    } else if is_word(word, b"limit") {
         read_limit(left)
-    } else if word == b"go".as_slice() {
+    } else if is_word(word, b"go") {
         read_go(left)
-    } else if word == b"try".as_slice() {
+    } else if is_word(word, b"try") {
         read_try(left)
-    } else if word == b"wait".as_slice() {
+    } else if is_word(word, b"wait") {
         read_wait(left)
-    } else if word == b"result".as_slice() {
+    } else if is_word(word, b"result") {
         read_result(left)
     } else {
         read_task_line(word, left)
@@ -112,7 +112,7 @@ fn read_result(left: Option<&[u8]>) -> Option<Asked>
 fn limit_of(word: &[u8]) -> Option<Limit>
     ensures { result ≡ limit_of word.now }
 {
-    if word == b"none".as_slice() {
+    if is_word(word, b"none") {
         return Some(Limit::none());
     }
     limit_at(read_number(word)?)

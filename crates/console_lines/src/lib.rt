@@ -35,7 +35,7 @@ mod words;
 pub use asked::Asked;
 pub use entries::{Entry, LONGEST_ENTRY};
 pub use faults::{RunFault, ShownFault};
-pub use gathers::LONGEST_REPLY;
+pub use gathers::{LONGEST_REPLY, gather_scope};
 pub use lines::{LONGEST_INPUT, LONGEST_LINE, read_line};
 pub use replies::Reply;
 pub use rows::{LONGEST_ROW, Row};

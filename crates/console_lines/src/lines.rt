@@ -12,7 +12,7 @@ use crate::asked::Asked;
 use crate::causes::read_cause;
 use crate::group_lines::read_group_line;
 use crate::wishes::read_wish;
-use crate::words::{last_word, next_word};
+use crate::words::{is_word, last_word, next_word};
 use run_model::{Command, Moment, Name, Refusal, Wish};
 use written_moment::read_moment;
 
@@ -41,15 +41,15 @@ fn read_words(line: Option<&[u8]>) -> Option<Asked>
         ≡ asked_by (words_in (lent line.entry)) }
 {
     let (word, left) = next_word(line)?;
-    if word == b"derive".as_slice() {
+    if is_word(word, b"derive") {
         read_derive(left)
-    } else if word == b"cancel".as_slice() {
+    } else if is_word(word, b"cancel") {
         read_cancel(left)
-    } else if word == b"advance".as_slice() {
+    } else if is_word(word, b"advance") {
         read_advance(left)
-    } else if word == b"scope".as_slice() {
+    } else if is_word(word, b"scope") {
         read_scope(left)
-    } else if word == b"value".as_slice() {
+    } else if is_word(word, b"value") {
         read_value(left)
     } else {
         read_group_line(word, left)

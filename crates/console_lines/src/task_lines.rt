@@ -11,7 +11,7 @@ ghost use Rattle.console_lines.specs.TaskLines.{texts_in_outcome};
 ghost use Rattle.console_lines.specs.Words.{words_in, lent};
 
 use crate::asked::Asked;
-use crate::words::{last_word, next_word};
+use crate::words::{is_word, last_word, next_word};
 use run_model::{Command, Outcome, Refusal, Text};
 use written_moment::read_number;
 
@@ -20,19 +20,19 @@ pub(crate) fn read_task_line(word: &[u8], left: Option<&[u8]>) -> Option<Asked>
     ensures { unwrap_or result Asked.BadLine
         ≡ task_line_of word.now (words_in (lent left.entry)) }
 {
-    if word == b"start".as_slice() {
+    if is_word(word, b"start") {
         read_start(left)
-    } else if word == b"finish".as_slice() {
+    } else if is_word(word, b"finish") {
         read_finish(left)
-    } else if word == b"retry".as_slice() {
+    } else if is_word(word, b"retry") {
         read_retry(left)
-    } else if word == b"task".as_slice() {
+    } else if is_word(word, b"task") {
         read_task(left)
-    } else if word == b"tally".as_slice() {
+    } else if is_word(word, b"tally") {
         read_tally(left)
-    } else if word == b"flush".as_slice() {
+    } else if is_word(word, b"flush") {
         read_flush(left)
-    } else if word == b"checkpoint".as_slice() {
+    } else if is_word(word, b"checkpoint") {
         read_checkpoint(left)
     } else {
         None
@@ -67,9 +67,9 @@ fn read_outcome(number: u64, left: Option<&[u8]>) -> Option<Asked>
         Asked.BadLine }
 {
     let (word, left) = next_word(left)?;
-    if word == b"ok".as_slice() {
+    if is_word(word, b"ok") {
         read_success(number, left)
-    } else if word == b"error".as_slice() {
+    } else if is_word(word, b"error") {
         read_failure(number, left)
     } else {
         None

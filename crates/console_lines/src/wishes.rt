@@ -10,7 +10,7 @@ ghost use Rattle.console_lines.specs.Checked.{names_in_wish, texts_in_wish};
 ghost use Rattle.console_lines.specs.Words.{words_in, lent};
 
 use crate::causes::read_cause;
-use crate::words::next_word;
+use crate::words::{is_word, next_word};
 use run_model::{Moment, Name, Refusal, Text, Wish};
 use written_moment::{read_moment, read_number};
 
@@ -18,17 +18,17 @@ use written_moment::{read_moment, read_number};
 pub(crate) fn read_wish(kind: &[u8], left: Option<&[u8]>) -> Option<Result<Wish, Refusal>>
     ensures { result ≡ option_map judged (wish_of kind.now (words_in (lent left.entry))) }
 {
-    if kind == b"cancel".as_slice() {
+    if is_word(kind, b"cancel") {
         read_alone(Wish::Cancel, left)
-    } else if kind == b"cause".as_slice() {
+    } else if is_word(kind, b"cause") {
         read_alone(Wish::Cause, left)
-    } else if kind == b"detached".as_slice() {
+    } else if is_word(kind, b"detached") {
         read_alone(Wish::Detached, left)
-    } else if kind == b"deadline".as_slice() {
+    } else if is_word(kind, b"deadline") {
         read_deadline(left)
-    } else if kind == b"timeout".as_slice() {
+    } else if is_word(kind, b"timeout") {
         read_timeout(left)
-    } else if kind == b"value".as_slice() {
+    } else if is_word(kind, b"value") {
         read_value(left)
     } else {
         None

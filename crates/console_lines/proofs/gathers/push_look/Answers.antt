@@ -1,8 +1,5 @@
-use Rattle.console_lines.proofs.Gathered.{gathers_three}
+use Rattle.std.proofs.Common.{sym}
 use Rattle.console_lines.proofs.gathers.push_look.Goals as goal
 
 pub returns-in-Some : goal.returns-in-Some
-returns-in-Some g c =
-    rw c.in-Some.is (
-    gathers_three _ _ _ _ _ _ _ _ _ _ c.push-in-Some.ensures c.push_deadline-in-Some.ensures
-    c.push_ending.ensures)
+returns-in-Some g c = rw (c.in-Some.is, sym c.as_bytes.ensures.value) c.push_done.ensures
