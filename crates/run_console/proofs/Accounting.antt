@@ -10,14 +10,13 @@ use Rattle.run_model.specs.declared.faults.Fault.TheVariants.{DiskFailed}
 use Rattle.run_model.specs.declared.faults.Trouble.{Trouble}
 use Rattle.run_model.specs.declared.faults.Trouble.TheVariants as trouble
 use Rattle.run_disk.specs.Disk.{DiskState}
-use Rattle.book_model.specs.Holdings.{Holding, IsUnsaved, Saves}
+use Rattle.book_model.specs.Holdings.{BookView, IsUnsaved, Saves}
 use Rattle.book_model.specs.Plays.{is_fault}
 use Rattle.book_model.specs.Steps.{AnswersSound, AnswersStep, AnswersWhere, StepsOn, Takes}
 use Rattle.book_model.specs.Steps.{reply_of_save}
 use Rattle.book_model.proofs.Playing.{or_false}
 use Rattle.book_model.proofs.Rows.{row_steps}
 use Rattle.book_model.proofs.Stepping.{broken_stays}
-use Rattle.run_book.specs.Views.{BookView, holding}
 use Rattle.console_lines.specs.declared.asked.Asked.{Asked}
 use Rattle.console_lines.specs.declared.asked.Asked.TheVariants as asked
 use Rattle.console_lines.specs.declared.faults.RunFault.{RunFault}
@@ -53,21 +52,21 @@ module _ {D : Type 0} (state : D → DiskState) where
   -- ---- one step of a book that isn't broken
 
   -- Where a call breaks the book, a device failed in it, and a fault is told.
-  record Breaks (old : Holding D) (r : Reply) (new : Holding D) : Type 0 where
+  record Breaks (old : BookView D) (r : Reply) (new : BookView D) : Type 0 where
     pub cause : DeviceFails state old new
     pub told : is_fault r ≡ true
 
-  same_sound : (old new : Holding D) → old.journal.broken ≡ false → new ≡ old
+  same_sound : (old new : BookView D) → old.journal.broken ≡ false → new ≡ old
       → new.journal.broken ≡ false
-  same_sound old new sound same = ap (λ (h : Holding D). h.journal.broken) same ∙ sound
+  same_sound old new sound same = ap (λ (h : BookView D). h.journal.broken) same ∙ sound
 
-  took_sound : (old new : Holding D) (x : Step) (r : Reply) → old.journal.broken ≡ false
+  took_sound : (old new : BookView D) (x : Step) (r : Reply) → old.journal.broken ≡ false
       → Takes old x r new → new.journal.broken ≡ true → Breaks old r new
   took_sound old new x r sound takes broken =
       absurd (true_false new.journal.broken broken
-      (ap (λ (h : Holding D). h.journal.broken) takes.grown ∙ sound))
+      (ap (λ (h : BookView D). h.journal.broken) takes.taken ∙ sound))
 
-  saved_sound : (old new : Holding D) (result : Result ℕ Trouble) (r : Reply)
+  saved_sound : (old new : BookView D) (result : Result ℕ Trouble) (r : Reply)
       → old.journal.broken ≡ false → r ≡ reply_of_save result → Saves state old result new
       → new.journal.broken ≡ true → Breaks old r new
   saved_sound old new (Ok n) r sound told saves broken =
@@ -81,7 +80,7 @@ module _ {D : Type 0} (state : D → DiskState) where
             record { cause = failed.cause; told = failed_fault why r failed.told told }
       ]
 
-  answered : (old new : Holding D) (x : Step) (r : Reply) → old.journal.broken ≡ false
+  answered : (old new : BookView D) (x : Step) (r : Reply) → old.journal.broken ≡ false
       → AnswersSound state old x r new → new.journal.broken ≡ true → Breaks old r new
   answered old new (step.Command call) r sound takes =
       took_sound old new (step.Command call) r sound takes
@@ -93,27 +92,27 @@ module _ {D : Type 0} (state : D → DiskState) where
   answered old new step.Checkpoint r sound tells =
       saved_sound old new tells.result r sound tells.told tells.saves.saves
 
-  as_sound : (old new : Holding D) (x : Step) (r : Reply) → old.journal.broken ≡ false
+  as_sound : (old new : BookView D) (x : Step) (r : Reply) → old.journal.broken ≡ false
       → AnswersStep state old x r new → AnswersSound state old x r new
   as_sound old new x r sound one = subst (λ b. AnswersWhere state b old x r new) sound one
 
-  step_breaks : (old new : Holding D) (x : Step) (r : Reply) → old.journal.broken ≡ false
+  step_breaks : (old new : BookView D) (x : Step) (r : Reply) → old.journal.broken ≡ false
       → AnswersStep state old x r new → new.journal.broken ≡ true → Breaks old r new
   step_breaks old new x r sound one = answered old new x r sound (as_sound old new x r sound one)
 
   -- ---- a row of steps
 
-  fails_later : (b c d : Holding D)
+  fails_later : (b c d : BookView D)
       → (state b.journal.disk).failures ≤ (state c.journal.disk).failures
       → DeviceFails state c d → DeviceFails state b d
   fails_later b c d few (inl more) = inl (omega (arith, few, more))
   fails_later b c d few (inr spent) = inr spent
 
-  row_failures : (old new : Holding D) (steps : List Step) (answers : List Reply)
+  row_failures : (old new : BookView D) (steps : List Step) (answers : List Reply)
       → StepsOn state old steps answers new
       → (state old.journal.disk).failures ≤ (state new.journal.disk).failures
   row_failures old new [] [] same =
-      let e = ap (λ (h : Holding D). (state h.journal.disk).failures) same in
+      let e = ap (λ (h : BookView D). (state h.journal.disk).failures) same in
       omega (arith, e)
   row_failures old new [] (r ∷ answers) row = absurd row
   row_failures old new (x ∷ steps) [] row = absurd row
@@ -123,7 +122,7 @@ module _ {D : Type 0} (state : D → DiskState) where
       omega (arith, here, rest)
 
   -- A row that isn't answered by a fault leaves the book unbroken.
-  row_sound : (old new : Holding D) (steps : List Step) (answers : List Reply)
+  row_sound : (old new : BookView D) (steps : List Step) (answers : List Reply)
       → old.journal.broken ≡ false → StepsOn state old steps answers new
       → list_any is_fault answers ≡ false → new.journal.broken ≡ false
   row_sound old new [] [] sound same fine = same_sound old new sound same
@@ -140,7 +139,7 @@ module _ {D : Type 0} (state : D → DiskState) where
           absurd (true_false (is_fault r) (step_breaks old next x r sound one is).told none)
 
   -- One that leaves it broken has its cause.
-  row_breaks : (old new : Holding D) (steps : List Step) (answers : List Reply)
+  row_breaks : (old new : BookView D) (steps : List Step) (answers : List Reply)
       → old.journal.broken ≡ false → StepsOn state old steps answers new
       → new.journal.broken ≡ true → DeviceFails state old new
   row_breaks old new [] [] sound same broken =
@@ -154,7 +153,7 @@ module _ {D : Type 0} (state : D → DiskState) where
           → (next.journal.broken ≡ false → DeviceFails state next new)
           → DeviceFails state old new
       by true is later =
-          subst (λ (h : Holding D). DeviceFails state old h)
+          subst (λ (h : BookView D). DeviceFails state old h)
           (sym (broken_stays state next new steps answers is
           (row_steps state next new steps answers more)))
           (step_breaks old next x r sound one is).cause
@@ -163,15 +162,15 @@ module _ {D : Type 0} (state : D → DiskState) where
   -- ---- the step that was next
 
   -- What a call told of a book that wasn't broken.
-  told_unsaved : (b d : Holding D) (why : Trouble)
+  told_unsaved : (b d : BookView D) (why : Trouble)
       → b.journal.broken ≡ false
       → IsUnsaved state b why d
       → Tells state b why d
   told_unsaved b d why sound (inl refused) = absurd (grind (arith, sound, refused.was))
   told_unsaved b d why sound (inr (inl spent)) = inl (record {
     told = spent.told;
-    sound = ap (λ (h : Holding D). h.journal.broken) spent.same ∙ spent.was;
-    last = ap (λ (h : Holding D). h.journal.generation) spent.same ∙ spent.last;
+    sound = ap (λ (h : BookView D). h.journal.broken) spent.same ∙ spent.was;
+    last = ap (λ (h : BookView D). h.journal.generation) spent.same ∙ spent.last;
   })
   told_unsaved b d why sound (inr (inr failed)) = inr (record {
     told = failed.told;
@@ -179,37 +178,37 @@ module _ {D : Type 0} (state : D → DiskState) where
     cause = failed.cause;
   })
 
-  told_saving : (b d : Holding D) (r : Result ℕ Trouble)
+  told_saving : (b d : BookView D) (r : Result ℕ Trouble)
       → b.journal.broken ≡ false
       → Saves state b r d
       → IfErr r (λ why. Tells state b why d)
   told_saving b d (Ok n) sound saves = tt
   told_saving b d (Err why) sound saves = told_unsaved b d why sound saves.answer
 
-  save_tells : (old new : Holding D) (result : Result ℕ Trouble) (why : Trouble)
+  save_tells : (old new : BookView D) (result : Result ℕ Trouble) (why : Trouble)
       → old.journal.broken ≡ false → reply_of_save (Err why) ≡ reply_of_save result
       → Saves state old result new → Tells state old why new
   save_tells old new result why sound same saves =
       told_saving old new (Err why) sound
       (subst (λ r. Saves state old r new) (why_told why result same) saves)
 
-  flush_tells : (old new : Holding D) (why : Trouble) → old.journal.broken ≡ false
+  flush_tells : (old new : BookView D) (why : Trouble) → old.journal.broken ≡ false
       → StepsOn state old (step.Flush ∷ []) (reply_of_save (Err why) ∷ []) new
       → Tells state old why new
   flush_tells old new why sound (next, one, on, same) =
       let tells = as_sound old next step.Flush (reply_of_save (Err why)) sound one in
-      subst (λ (h : Holding D). Tells state old why h) (sym same)
+      subst (λ (h : BookView D). Tells state old why h) (sym same)
       (save_tells old next tells.result why sound tells.told tells.saves.saves)
 
-  checkpoint_tells : (old new : Holding D) (why : Trouble) → old.journal.broken ≡ false
+  checkpoint_tells : (old new : BookView D) (why : Trouble) → old.journal.broken ≡ false
       → StepsOn state old (step.Checkpoint ∷ []) (reply_of_save (Err why) ∷ []) new
       → Tells state old why new
   checkpoint_tells old new why sound (next, one, on, same) =
       let tells = as_sound old next step.Checkpoint (reply_of_save (Err why)) sound one in
-      subst (λ (h : Holding D). Tells state old why h) (sym same)
+      subst (λ (h : BookView D). Tells state old why h) (sym same)
       (save_tells old next tells.result why sound tells.told tells.saves.saves)
 
-  saving_tells : (a : Asked) (old new : Holding D) (why : Trouble) → IsSaving a
+  saving_tells : (a : Asked) (old new : BookView D) (why : Trouble) → IsSaving a
       → old.journal.broken ≡ false
       → StepsOn state old (steps_asked a) (reply_of_save (Err why) ∷ []) new
       → Tells state old why new
@@ -218,7 +217,7 @@ module _ {D : Type 0} (state : D → DiskState) where
       checkpoint_tells old new why sound row
   saving_tells _ old new why saving sound row = absurd saving
 
-  next_tells : (old new : Holding D) (why : Trouble) (left : List (List ℕ))
+  next_tells : (old new : BookView D) (why : Trouble) (left : List (List ℕ))
       → IsRunStopped (fault.Store why) left → old.journal.broken ≡ false
       → StepsOn state old (next_steps left) (reply_of_save (Err why) ∷ []) new
       → Tells state old why new
@@ -226,7 +225,7 @@ module _ {D : Type 0} (state : D → DiskState) where
   next_tells old new why (line ∷ left) stopped sound row =
       saving_tells (asked_of line) old new why stopped sound row
 
-  tells_later : (b c d : Holding D) (why : Trouble)
+  tells_later : (b c d : BookView D) (why : Trouble)
       → (state b.journal.disk).failures ≤ (state c.journal.disk).failures
       → Tells state c why d → Tells state b why d
   tells_later b c d why few (inl spent) = inl spent
@@ -237,7 +236,7 @@ module _ {D : Type 0} (state : D → DiskState) where
   })
 
   -- What became of it accounts for the fault, from the start of the row on.
-  row_accounts : (old middle new : Holding D) (why : RunFault) (left : List (List ℕ))
+  row_accounts : (old middle new : BookView D) (why : RunFault) (left : List (List ℕ))
       → (state old.journal.disk).failures ≤ (state middle.journal.disk).failures
       → middle.journal.broken ≡ false → IsRunStopped why left
       → Tries state middle why (next_steps left) new → Accounts state old why new
@@ -255,7 +254,7 @@ module _ {D : Type 0} (state : D → DiskState) where
   row_accounts old middle new fault.Memory left few sound stopped same =
       same_sound middle new sound same
 
-  tried_accounts : (old new : Holding D) (why : RunFault) (ran left : List (List ℕ))
+  tried_accounts : (old new : BookView D) (why : RunFault) (ran left : List (List ℕ))
       → old.journal.broken ≡ false → IsRunStopped why left
       → TriesLine state old why ran (next_steps left) new → Accounts state old why new
   tried_accounts old new why ran left sound stopped p =
@@ -268,27 +267,27 @@ module _ {D : Type 0} (state : D → DiskState) where
 
   pub run_accounts : (why : RunFault) (b c : BookView D) (r0 r1 w0 w1 : Option (List ℕ))
       → b.journal.broken ≡ false → RunStops state why b c r0 r1 w0 w1
-      → Accounts state (holding b) why (holding c)
+      → Accounts state b why c
   run_accounts why b c r0 r1 w0 w1 sound p =
-      tried_accounts (holding b) (holding c) why p.ran p.left sound p.stopped p.tried
+      tried_accounts b c why p.ran p.left sound p.stopped p.tried
 
   pub strict_accounts : (why : RunFault) (b c : BookView D) (r0 r1 w0 w1 : Option (List ℕ))
       → b.journal.broken ≡ false → StopsStrictly state why b c r0 r1 w0 w1
-      → Accounts state (holding b) why (holding c)
+      → Accounts state b why c
   strict_accounts why b c r0 r1 w0 w1 sound p =
-      tried_accounts (holding b) (holding c) why p.ran p.left sound p.stopped p.tried
+      tried_accounts b c why p.ran p.left sound p.stopped p.tried
 
   pub line_accounts : (why : RunFault) (line : List ℕ) (b c : BookView D)
       (w0 w1 : Option (List ℕ)) → b.journal.broken ≡ false
-      → LineStops state why line b c w0 w1 → Accounts state (holding b) why (holding c)
+      → LineStops state why line b c w0 w1 → Accounts state b why c
   line_accounts (fault.Store why) line b c w0 w1 sound p =
-      saving_tells (asked_of line) (holding b) (holding c) why p.0 sound p.3
+      saving_tells (asked_of line) b c why p.0 sound p.3
   line_accounts fault.Output line b c w0 w1 sound p =
       let taken = p.2 in
       λ broken. absurd (true_false c.journal.broken broken
-      (row_sound (holding b) (holding c) (steps_of (line ∷ [])) taken.answers sound taken.row
+      (row_sound b c (steps_of (line ∷ [])) taken.answers sound taken.row
       taken.fine))
   line_accounts fault.Memory line b c w0 w1 sound p =
-      same_sound (holding b) (holding c) sound p.3
+      same_sound b c sound p.3
   line_accounts fault.Input line b c w0 w1 sound p = absurd p
   line_accounts fault.InputTooLong line b c w0 w1 sound p = absurd p

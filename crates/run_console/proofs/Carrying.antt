@@ -3,10 +3,9 @@ use Rattle.std.specs.Prelude.{◌≡◌, List, Option, Result, Ok, Err, IfErr, I
 use Rattle.std.proofs.Common.{inl, inr, sym, subst}
 use Rattle.run_model.specs.declared.commands.Step.{Step}
 use Rattle.run_disk.specs.Disk.{DiskState, IsDisk}
-use Rattle.book_model.specs.Holdings.{CarriesOn, Holding, IsDurable}
+use Rattle.book_model.specs.Holdings.{CarriesOn, BookView, IsDurable}
 use Rattle.book_model.proofs.HoldingLemmas.{carries_after, carries_none}
 use Rattle.book_model.proofs.Rows.{row_carries}
-use Rattle.run_book.specs.Views.{BookView, holding}
 use Rattle.console_lines.specs.declared.faults.RunFault.{RunFault}
 use Rattle.console_lines.specs.declared.faults.RunFault.TheVariants as fault
 use Rattle.console_lines.specs.declared.strays.StrayLine.{StrayLine}
@@ -15,18 +14,18 @@ use Rattle.run_console.specs.Rows.{TakesAll, Tries, TriesLine}
 use Rattle.run_console.specs.Strict.{RunsStrictly, StopsStrictly}
 
 module _ {D : Type 0} (state : D → DiskState) (disk : (d : D) → IsDisk (state d)) where
-  takes_carry : (old new : Holding D) (steps : List Step) → IsDurable state old
+  takes_carry : (old new : BookView D) (steps : List Step) → IsDurable state old
       → TakesAll state old steps new → CarriesOn state old new
   takes_carry old new steps durable p =
       row_carries state old new steps p.answers disk durable p.row
 
-  same_carries : (old new : Holding D) → IsDurable state old → new ≡ old
+  same_carries : (old new : BookView D) → IsDurable state old → new ≡ old
       → CarriesOn state old new
   same_carries old new durable same =
-      subst (λ (h : Holding D). CarriesOn state old h) (sym same)
+      subst (λ (h : BookView D). CarriesOn state old h) (sym same)
       (carries_none state old (disk old.journal.disk) durable)
 
-  tries_carry : (old new : Holding D) (why : RunFault) (next : List Step) → IsDurable state old
+  tries_carry : (old new : BookView D) (why : RunFault) (next : List Step) → IsDurable state old
       → Tries state old why next new → CarriesOn state old new
   tries_carry old new (fault.Store why) next durable row =
       row_carries state old new next _ disk durable row
@@ -37,7 +36,7 @@ module _ {D : Type 0} (state : D → DiskState) (disk : (d : D) → IsDisk (stat
   tries_carry old new fault.InputTooLong next durable same = same_carries old new durable same
   tries_carry old new fault.Memory next durable same = same_carries old new durable same
 
-  tried_carries : (old new : Holding D) (why : RunFault) (ran : List (List ℕ))
+  tried_carries : (old new : BookView D) (why : RunFault) (ran : List (List ℕ))
       (next : List Step) → IsDurable state old → TriesLine state old why ran next new
       → CarriesOn state old new
   tried_carries old new why ran next durable p =
@@ -48,32 +47,32 @@ module _ {D : Type 0} (state : D → DiskState) (disk : (d : D) → IsDisk (stat
   -- ---- what a call says of both of its ends
 
   pub run_carries : (r : Result ⊤ RunFault) (b c : BookView D) (r0 r1 w0 w1 : Option (List ℕ))
-      → IsDurable state (holding b) → OnOk r (RunsAll state b c r0 r1 w0 w1)
+      → IsDurable state b → OnOk r (RunsAll state b c r0 r1 w0 w1)
       → IfErr r (λ why. RunStops state why b c r0 r1 w0 w1)
-      → CarriesOn state (holding b) (holding c)
+      → CarriesOn state b c
   run_carries (Ok done) b c r0 r1 w0 w1 durable all stops =
-      takes_carry (holding b) (holding c) _ durable all.taken
+      takes_carry b c _ durable all.taken
   run_carries (Err why) b c r0 r1 w0 w1 durable all stops =
-      tried_carries (holding b) (holding c) why stops.ran _ durable stops.tried
+      tried_carries b c why stops.ran _ durable stops.tried
 
   pub strict_carries : (r : Result (Option StrayLine) RunFault) (b c : BookView D)
-      (r0 r1 w0 w1 : Option (List ℕ)) → IsDurable state (holding b)
+      (r0 r1 w0 w1 : Option (List ℕ)) → IsDurable state b
       → IfOk r (λ stray. RunsStrictly state stray b c r0 r1 w0 w1)
       → IfErr r (λ why. StopsStrictly state why b c r0 r1 w0 w1)
-      → CarriesOn state (holding b) (holding c)
+      → CarriesOn state b c
   strict_carries (Ok stray) b c r0 r1 w0 w1 durable runs stops =
-      takes_carry (holding b) (holding c) _ durable runs.taken
+      takes_carry b c _ durable runs.taken
   strict_carries (Err why) b c r0 r1 w0 w1 durable runs stops =
-      tried_carries (holding b) (holding c) why stops.ran _ durable stops.tried
+      tried_carries b c why stops.ran _ durable stops.tried
 
   pub ran_carries : (lines : List (List ℕ)) (b c : BookView D) (before gathered : List ℕ)
-      (w0 w1 : Option (List ℕ)) → IsDurable state (holding b)
-      → Ran state lines b c before gathered w0 w1 → CarriesOn state (holding b) (holding c)
+      (w0 w1 : Option (List ℕ)) → IsDurable state b
+      → Ran state lines b c before gathered w0 w1 → CarriesOn state b c
   ran_carries lines b c before gathered w0 w1 durable ran =
-      takes_carry (holding b) (holding c) _ durable ran.taken
+      takes_carry b c _ durable ran.taken
 
   pub cut_carries : (why : RunFault) (lines : List (List ℕ)) (b c : BookView D)
-      (before : List ℕ) (w0 w1 : Option (List ℕ)) → IsDurable state (holding b)
-      → Cut state why lines b c before w0 w1 → CarriesOn state (holding b) (holding c)
+      (before : List ℕ) (w0 w1 : Option (List ℕ)) → IsDurable state b
+      → Cut state why lines b c before w0 w1 → CarriesOn state b c
   cut_carries why lines b c before w0 w1 durable cut =
-      tried_carries (holding b) (holding c) why cut.ran _ durable cut.tried
+      tried_carries b c why cut.ran _ durable cut.tried

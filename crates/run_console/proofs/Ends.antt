@@ -6,25 +6,22 @@ use Rattle.std.proofs.Common.{inl, inr, arith, refl, sym, ap, ◌∙◌, subst, 
 use Rattle.std.proofs.Common.{length-append}
 use Rattle.run_model.specs.declared.faults.Trouble.{Trouble}
 use Rattle.run_disk.specs.Disk.{DiskState}
-use Rattle.run_book.specs.Views.{BookView, holding}
+use Rattle.book_model.specs.Holdings.{BookView}
 use Rattle.console_lines.specs.declared.faults.RunFault.{RunFault}
 use Rattle.console_lines.specs.declared.faults.RunFault.TheVariants as fault
 use Rattle.console_lines.specs.Asked.{asked_of}
 use Rattle.console_lines.specs.Progress.{WritesPart}
 use Rattle.console_lines.specs.declared.replies.Reply.TheVariants as said
 use Rattle.console_lines.specs.Replies.{reply_line}
-use Rattle.console_lines.specs.Script.{replies, reply, steps_of}
+use Rattle.console_lines.specs.Script.{replies, reply, steps_of, after_line, after_lines}
 use Rattle.console_lines.proofs.Written.{appends_nothing, appends_then}
-use Rattle.book_model.specs.Holdings.{Holding}
 use Rattle.book_model.specs.Steps.{StepsOn, reply_of_save}
 use Rattle.run_console.specs.Rows.{TakesAll, TriesLine, first_steps}
 use Rattle.run_console.proofs.Rows.{takes_none, took_nothing, tried_nothing}
-use Rattle.run_console.specs.SessionLines.{IsSaving, plain, logged_after, logged_after_lines}
+use Rattle.run_console.specs.SessionLines.{IsSaving}
 use Rattle.run_console.specs.Progress.{Cut, EndStops, IsOfLine, IsStopped, LineRuns, LineStops}
-use Rattle.run_console.specs.Progress.{Ran, Told}
-use Rattle.run_console.specs.Progress.{Troubled, Untold, WritesTrouble, Wrote}
-use Rattle.run_console.proofs.Lines.{cut_then, cut_troubled, part_behind, part_more}
-use Rattle.run_console.proofs.Lines.{trouble_behind}
+use Rattle.run_console.specs.Progress.{Ran, Told, Troubled, Untold, WritesTrouble, Wrote}
+use Rattle.run_console.proofs.Lines.{cut_then, cut_troubled, part_behind, part_more, trouble_behind}
 
 -- ---- texts
 
@@ -72,7 +69,7 @@ ran_told state b g m w0 w1 room = record {
   written = room.written;
   replied = room.told;
   session = refl;
-  taken = takes_none state (holding b);
+  taken = takes_none state b;
 }
 
 -- A trouble behind the room that was made.
@@ -81,8 +78,8 @@ pub cut_stopped : {D : Type 0} (state : D → DiskState)
     (w0 w1 w2 : Option (List ℕ))
     → IsSaving (asked_of line)
     → c.session ≡ b.session
-    → StepsOn state (holding b) (steps_of (line ∷ [])) (reply_of_save (Err trouble) ∷ [])
-    (holding c)
+    → StepsOn state b (steps_of (line ∷ [])) (reply_of_save (Err trouble) ∷ [])
+    c
     → Told [] g m w0 w1
     → Troubled why trouble m w1 w2
     → Cut state why (line ∷ []) b c g w0 w2
@@ -129,7 +126,7 @@ line_runs state line b c h w0 w1 w2 ran all saved =
       session = ran.session;
       taken = ran.taken;
       written =
-          subst P (sym ran.replied ∙ append-nil (reply (plain b.session) line))
+          subst P (sym ran.replied ∙ append-nil (reply b.session line))
           (appends_then w0 w1 w2 ran.out h ran.written all);
       saved = saved;
     }
@@ -160,7 +157,7 @@ module _ {D : Type 0} (state : D → DiskState) (line : List ℕ) (b c : BookVie
       → IsStopped why (line ∷ [])
       → Wrote why [] w0 w1
       → c.session ≡ b.session
-      → TriesLine state (holding b) why [] (steps_of (line ∷ [])) (holding c)
+      → TriesLine state b why [] (steps_of (line ∷ [])) c
       → LineStops state why line b c w0 w1
   not_run fault.Output f stopped wrote same next = no_part w0 w1 _ wrote
   not_run (fault.Store why) f stopped wrote same next = (
@@ -168,12 +165,12 @@ module _ {D : Type 0} (state : D → DiskState) (line : List ℕ) (b c : BookVie
     same,
     wrote,
     subst
-        (λ (h : Holding D).
-        StepsOn state h (steps_of (line ∷ [])) (reply_of_save (Err why) ∷ []) (holding c))
-        (took_nothing state (holding b) next.middle next.taken) next.tried,
+        (λ (h : BookView D).
+        StepsOn state h (steps_of (line ∷ [])) (reply_of_save (Err why) ∷ []) c)
+        (took_nothing state b next.middle next.taken) next.tried,
   )
   not_run fault.Memory f stopped wrote same next =
-      (stopped, same, wrote, next.tried ∙ took_nothing state (holding b) next.middle next.taken)
+      (stopped, same, wrote, next.tried ∙ took_nothing state b next.middle next.taken)
   not_run fault.Input f stopped wrote same next = absurd f
   not_run fault.InputTooLong f stopped wrote same next = absurd f
 
@@ -181,15 +178,15 @@ module _ {D : Type 0} (state : D → DiskState) (line : List ℕ) (b c : BookVie
   was_run : (why : RunFault)
       → IsOfLine why
       → IsStopped why []
-      → Wrote why (reply (plain b.session) line) w0 w1
-      → c.session ≡ logged_after b.session line
-      → TriesLine state (holding b) why (line ∷ []) [] (holding c)
+      → Wrote why (reply b.session line) w0 w1
+      → c.session ≡ after_line b.session line
+      → TriesLine state b why (line ∷ []) [] c
       → LineStops state why line b c w0 w1
   was_run fault.Output f stopped wrote session next = (
     session,
     wrote,
-    subst (λ h. TakesAll state (holding b) (steps_of (line ∷ [])) h)
-        (sym (tried_nothing state next.middle (holding c) next.tried)) next.taken,
+    subst (λ h. TakesAll state b (steps_of (line ∷ [])) h)
+        (sym (tried_nothing state next.middle c next.tried)) next.taken,
   )
   was_run (fault.Store why) f stopped wrote session next = absurd stopped
   was_run fault.Memory f stopped wrote session next = absurd stopped
@@ -199,27 +196,27 @@ module _ {D : Type 0} (state : D → DiskState) (line : List ℕ) (b c : BookVie
   either_run : (why : RunFault) (ran left : List (List ℕ))
       → IsOfLine why
       → IsStopped why left
-      → Wrote why (replies (plain b.session) ran) w0 w1
-      → c.session ≡ logged_after_lines b.session ran
-      → TriesLine state (holding b) why ran (first_steps left) (holding c)
+      → Wrote why (replies b.session ran) w0 w1
+      → c.session ≡ after_lines b.session ran
+      → TriesLine state b why ran (first_steps left) c
       → ((ran ≡ []) × (left ≡ line ∷ [])) ⊎ ((ran ≡ line ∷ []) × (left ≡ []))
       → LineStops state why line b c w0 w1
   either_run why ran left f stopped wrote session next (inl none) =
-      let P : List (List ℕ) → Type 0 = λ l. Wrote why (replies (plain b.session) l) w0 w1 in
-      let Q : List (List ℕ) → Type 0 = λ l. c.session ≡ logged_after_lines b.session l in
+      let P : List (List ℕ) → Type 0 = λ l. Wrote why (replies b.session l) w0 w1 in
+      let Q : List (List ℕ) → Type 0 = λ l. c.session ≡ after_lines b.session l in
       not_run why f (subst (IsStopped why) none.1 stopped) (subst P none.0 wrote)
       (subst Q none.0 session)
-      (subst (λ l. TriesLine state (holding b) why [] (first_steps l) (holding c)) none.1
-      (subst (λ l. TriesLine state (holding b) why l (first_steps left) (holding c)) none.0 next))
+      (subst (λ l. TriesLine state b why [] (first_steps l) c) none.1
+      (subst (λ l. TriesLine state b why l (first_steps left) c) none.0 next))
   either_run why ran left f stopped wrote session next (inr all) =
-      let P : List (List ℕ) → Type 0 = λ l. Wrote why (replies (plain b.session) l) w0 w1 in
-      let Q : List (List ℕ) → Type 0 = λ l. c.session ≡ logged_after_lines b.session l in
+      let P : List (List ℕ) → Type 0 = λ l. Wrote why (replies b.session l) w0 w1 in
+      let Q : List (List ℕ) → Type 0 = λ l. c.session ≡ after_lines b.session l in
       let R : List ℕ → Type 0 = λ t. Wrote why t w0 w1 in
       was_run why f (subst (IsStopped why) all.1 stopped)
-      (subst R (append-nil (reply (plain b.session) line)) (subst P all.0 wrote))
+      (subst R (append-nil (reply b.session line)) (subst P all.0 wrote))
       (subst Q all.0 session)
-      (subst (λ l. TriesLine state (holding b) why (line ∷ []) (first_steps l) (holding c)) all.1
-      (subst (λ l. TriesLine state (holding b) why l (first_steps left) (holding c)) all.0 next))
+      (subst (λ l. TriesLine state b why (line ∷ []) (first_steps l) c) all.1
+      (subst (λ l. TriesLine state b why l (first_steps left) c) all.0 next))
 
   -- One line that was cut stopped.
   pub line_stops : (why : RunFault)

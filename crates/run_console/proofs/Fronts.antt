@@ -5,14 +5,13 @@ use Rattle.std.proofs.Common.{arith, inl, inr, refl, sym, ap, subst, ◌∙◌, 
 use Rattle.std.proofs.Common.{length-append}
 use Rattle.run_model.specs.Session.{Session}
 use Rattle.run_disk.specs.Disk.{DiskState}
-use Rattle.run_book.specs.Views.{BookView}
+use Rattle.book_model.specs.Holdings.{BookView}
 use Rattle.console_lines.specs.declared.faults.RunFault.{RunFault}
 use Rattle.console_lines.specs.declared.faults.RunFault.TheVariants as fault
 use Rattle.console_lines.specs.Lines.{whole_lines, open_line, lines_of}
 use Rattle.console_lines.specs.Progress.{IsFront}
 use Rattle.console_lines.specs.Script.{after_lines, closing, replies, script}
 use Rattle.console_lines.proofs.Steps.{replies-append}
-use Rattle.run_console.specs.SessionLines.{plain}
 use Rattle.run_console.specs.Progress.{BeginsScript, IsTold, IsWritten, RunStops, said_of, untried}
 
 -- The first of these lines, where the last one is left, are first ones without it.
@@ -136,13 +135,13 @@ pub stops_begin : {D : Type 0} (state : D → DiskState)
     → RunStops state why b c r0 r1 w0 w1
     → BeginsScript why b.session r0 r1 w0 w1
 stops_begin state why b c r0 r1 w0 w1 h =
-    let w = fronts_of why (plain b.session) h.ran h.left w0 w1 h.written in
+    let w = fronts_of why b.session h.ran h.left w0 w1 h.written in
     record {
       bytes = h.bytes;
       read = h.read;
       front = w.front;
       begins =
-          said_begins (plain b.session) h.bytes h.ran h.left r1 w.front h.lines_are
+          said_begins b.session h.bytes h.ran h.left r1 w.front h.lines_are
           (λ e. h.ended (ap (untried why) e ∙ none_untried why)) w.begins;
       told = w.told;
       trouble = w.trouble;

@@ -1,8 +1,8 @@
 -- A book that goes on over some lines.
 use Rattle.std.specs.Prelude.{◌≡◌, false}
-use Rattle.run_session.specs.Logged.{Logged}
+use Rattle.run_model.specs.Session.{Session}
 use Rattle.run_state.proofs.Staying.{stays_join, stays_same}
-use Rattle.run_book.specs.Views.{BookView}
+use Rattle.book_model.specs.Holdings.{BookView}
 use Rattle.run_console.specs.Progress.{Lasts}
 
 -- What is done stays so, and the book isn't broken.
@@ -13,5 +13,5 @@ pub record Goes {D : Type 0} (b c : BookView D) : Type 0 where
 pub goes_none : {D : Type 0} (b : BookView D) → b.journal.broken ≡ false → Goes b b
 goes_none b sound = record { sound = sound; lasts = stays_same b.session.state }
 
-pub lasts_then : (b c d : Logged) → Lasts b c → Lasts c d → Lasts b d
+pub lasts_then : (b c d : Session) → Lasts b c → Lasts c d → Lasts b d
 lasts_then b c d first second = stays_join b.state c.state d.state first second

@@ -10,12 +10,13 @@ pub mod Going
 pub mod Inspecting
 pub mod LineSteps
 pub mod Lines
+pub mod Looks
 pub mod Nights
 pub mod Parts
 pub mod Printing
+pub mod Quiet
 pub mod Rows
 pub mod Saving
-pub mod Sizes
 pub mod StrictLemmas
 pub mod Wholes
 pub mod Working

@@ -4,13 +4,12 @@ use Rattle.std.specs.Prelude.{Option, Some, None}
 use Rattle.std.specs.Option.{option_or}
 use Rattle.std.proofs.Common.{ap, sym, subst, refl, arith, ◌∙◌, append-nil}
 use Rattle.run_model.specs.Session.{Session}
-use Rattle.run_session.specs.Logged.{Logged}
 use Rattle.console_lines.specs.declared.asked.Asked.{Asked}
 use Rattle.console_lines.specs.declared.replies.Reply.{Reply}
 use Rattle.console_lines.specs.declared.replies.Reply.TheVariants as said
 use Rattle.console_lines.specs.Asked.{asked_of}
 use Rattle.console_lines.specs.Replies.{reply_line, reply_lines}
-use Rattle.console_lines.specs.Script.{closing, reply, replies_to}
+use Rattle.console_lines.specs.Script.{closing, reply, replies_to, after_asked, after_line}
 use Rattle.console_lines.specs.Strict.{stray_among, stray_at}
 use Rattle.console_lines.specs.declared.strays.Stray.{Stray}
 use Rattle.console_lines.proofs.StrayLemmas.{tallies_stay}
@@ -18,15 +17,15 @@ use Rattle.console_lines.specs.Tallies.{tallies_of}
 use Rattle.console_lines.specs.declared.asked.Asked.TheVariants as asked
 use Rattle.console_lines.specs.Progress.{kept}
 use Rattle.console_lines.proofs.Cuts.{asked_of_kept}
-use Rattle.run_console.specs.SessionLines.{IsSaving, is_tally, logged_asked, logged_after}
+use Rattle.run_console.specs.SessionLines.{IsSaving, is_tally}
 
 -- What a line asks for was run.
-pub line_obeyed : (b c : Logged) (line : List ℕ) (a : Asked)
+pub line_obeyed : (b c : Session) (line : List ℕ) (a : Asked)
     → a ≡ asked_of line
-    → c ≡ logged_asked b a
-    → c ≡ logged_after b line
-unfolding logged_after
-line_obeyed b c line a read h = h ∙ ap (logged_asked b) read
+    → c ≡ after_asked b a
+    → c ≡ after_line b line
+unfolding after_line
+line_obeyed b c line a read h = h ∙ ap (after_asked b) read
 
 -- What is written for a line's replies.
 pub line_replies : (s : Session) (line : List ℕ) (a : Asked) (r : List Reply)
@@ -65,12 +64,12 @@ line_tally s line asked.Flush read h = absurd (grind (arith, h))
 line_tally s line asked.Checkpoint read h = absurd (grind (arith, h))
 
 -- A tally leaves the session as it was.
-pub tally_leaves : (b : Logged) (line : List ℕ) (a : Asked)
+pub tally_leaves : (b : Session) (line : List ℕ) (a : Asked)
     → a ≡ asked_of line
     → is_tally a ≡ true
-    → b ≡ logged_after b line
-unfolding logged_after
-tally_leaves b line asked.Tally read h = ap (logged_asked b) read
+    → b ≡ after_line b line
+unfolding after_line
+tally_leaves b line asked.Tally read h = ap (after_asked b) read
 tally_leaves b line asked.Nothing read h = absurd (grind (arith, h))
 tally_leaves b line asked.BadLine read h = absurd (grind (arith, h))
 tally_leaves b line (asked.Refused why) read h = absurd (grind (arith, h))

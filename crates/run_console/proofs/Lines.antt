@@ -4,57 +4,48 @@ use Rattle.std.specs.Io.KnownBytes.{Appends}
 use Rattle.std.proofs.Common.{inl, inr, refl, sym, ap, ◌∙◌, subst, append_assoc, append-nil}
 use Rattle.run_model.specs.declared.faults.Trouble.{Trouble}
 use Rattle.run_state.proofs.Staying.{stays_join}
-use Rattle.run_session.specs.Logged.{Logged}
+use Rattle.run_model.specs.Session.{Session}
 use Rattle.run_disk.specs.Disk.{DiskState}
 use Rattle.book_model.specs.Steps.{StepsOn, reply_of_save}
-use Rattle.run_book.specs.Views.{BookView, holding}
+use Rattle.book_model.specs.Holdings.{BookView}
 use Rattle.console_lines.specs.declared.asked.Asked.TheVariants as asked
 use Rattle.console_lines.specs.declared.faults.RunFault.{RunFault}
 use Rattle.console_lines.specs.declared.faults.RunFault.TheVariants as fault
 use Rattle.console_lines.specs.Asked.{asked_of}
-use Rattle.console_lines.specs.Script.{after_lines, replies, reply, steps_of}
+use Rattle.console_lines.specs.Script.{after_lines, replies, reply, steps_of, after_line}
 use Rattle.console_lines.specs.Progress.{WritesPart}
 use Rattle.console_lines.proofs.Steps.{replies-append}
 use Rattle.console_lines.proofs.Written.{appends_nothing, appends_then, front_behind, front_more}
-use Rattle.run_console.specs.SessionLines.{IsSaving, plain, logged_after, logged_after_lines}
+use Rattle.run_console.specs.SessionLines.{IsSaving}
 use Rattle.run_console.specs.Progress.{Cut, IsStopped, Lasts, Ran, Told, Troubled, Untold, Wrote}
 use Rattle.run_console.specs.Progress.{WritesTrouble}
 use Rattle.run_console.specs.Rows.{TakesAll, TriesLine}
 use Rattle.run_console.proofs.Rows.{takes_lines, takes_none, takes_tally, tries_more}
-use Rattle.run_console.proofs.Sizes.{session_after}
 
 -- ---- the session
 
-logged_lines-append : (b : Logged) (xs ys : List (List ℕ))
-    → logged_after_lines b (xs ++ ys) ≡ logged_after_lines (logged_after_lines b xs) ys
-logged_lines-append b [] ys = refl
-logged_lines-append b (x ∷ xs) ys = logged_lines-append (logged_after b x) xs ys
+after_lines-append : (b : Session) (xs ys : List (List ℕ))
+    → after_lines b (xs ++ ys) ≡ after_lines (after_lines b xs) ys
+after_lines-append b [] ys = refl
+after_lines-append b (x ∷ xs) ys = after_lines-append (after_line b x) xs ys
 
 -- The session after these lines, and then those.
-logged_then : (xs ys : List (List ℕ)) (b c d : Logged)
-    → c ≡ logged_after_lines b xs
-    → d ≡ logged_after_lines c ys
-    → d ≡ logged_after_lines b (xs ++ ys)
-logged_then xs ys b c d h k =
-    k ∙ ap (λ x. logged_after_lines x ys) h ∙ sym (logged_lines-append b xs ys)
-
--- What is plain of it follows.
-pub plain_lines : (b : Logged) (lines : List (List ℕ))
-    → plain (logged_after_lines b lines) ≡ after_lines (plain b) lines
-plain_lines b [] = refl
-plain_lines b (line ∷ lines) =
-    plain_lines (logged_after b line) lines
-    ∙ ap (λ s. after_lines s lines) (session_after b line)
+session_then : (xs ys : List (List ℕ)) (b c d : Session)
+    → c ≡ after_lines b xs
+    → d ≡ after_lines c ys
+    → d ≡ after_lines b (xs ++ ys)
+session_then xs ys b c d h k =
+    k ∙ ap (λ x. after_lines x ys) h ∙ sym (after_lines-append b xs ys)
 
 -- The replies to these lines, and then to those.
-replies_then : (xs ys : List (List ℕ)) (b c : Logged)
-    → c ≡ logged_after_lines b xs
-    → replies (plain b) (xs ++ ys) ≡ replies (plain b) xs ++ replies (plain c) ys
+replies_then : (xs ys : List (List ℕ)) (b c : Session)
+    → c ≡ after_lines b xs
+    → replies b (xs ++ ys) ≡ replies b xs ++ replies c ys
 replies_then xs ys b c h =
-    replies-append (plain b) xs ys
-    ∙ ap (λ s. replies (plain b) xs ++ replies s ys) (sym (ap plain h ∙ plain_lines b xs))
+    replies-append b xs ys
+    ∙ ap (λ s. replies b xs ++ replies s ys) (sym h)
 
-pub lasts_then : (b c d : Logged) → Lasts b c → Lasts c d → Lasts b d
+pub lasts_then : (b c d : Session) → Lasts b c → Lasts c d → Lasts b d
 lasts_then b c d = stays_join b.state c.state d.state
 
 -- ---- what is written behind what was written
@@ -103,20 +94,20 @@ ran_nothing state b g w = record {
   written = appends_nothing w;
   replied = append-nil g;
   session = refl;
-  taken = takes_none state (holding b);
+  taken = takes_none state b;
 }
 
 -- One line was run, and its reply told.
 pub ran_line : {D : Type 0} (state : D → DiskState)
     (line : List ℕ) (b c : BookView D) (g h : List ℕ) (w0 w1 : Option (List ℕ))
-    → c.session ≡ logged_after b.session line
-    → TakesAll state (holding b) (steps_of (line ∷ [])) (holding c)
-    → Told (reply (plain b.session) line) g h w0 w1
+    → c.session ≡ after_line b.session line
+    → TakesAll state b (steps_of (line ∷ [])) c
+    → Told (reply b.session line) g h w0 w1
     → Ran state (line ∷ []) b c g h w0 w1
 ran_line state line b c g h w0 w1 session taken told = record {
   out = told.out;
   written = told.written;
-  replied = ap (λ t. g ++ t) (append-nil (reply (plain b.session) line)) ∙ told.told;
+  replied = ap (λ t. g ++ t) (append-nil (reply b.session line)) ∙ told.told;
   session = session;
   taken = taken;
 }
@@ -128,8 +119,8 @@ pub ran_then : {D : Type 0} (state : D → DiskState)
     → Ran state ys c d g h w1 w2
     → Ran state (xs ++ ys) b d f h w0 w2
 ran_then state xs ys b c d f g h w0 w1 w2 one two =
-    let s = replies (plain b.session) xs in
-    let t = replies (plain c.session) ys in
+    let s = replies b.session xs in
+    let t = replies c.session ys in
     record {
       out = one.out ++ two.out;
       written = appends_then w0 w1 w2 one.out two.out one.written two.written;
@@ -140,8 +131,8 @@ ran_then state xs ys b c d f g h w0 w1 w2 one two =
           ∙ append_assoc one.out g t
           ∙ ap (λ x. one.out ++ x) two.replied
           ∙ sym (append_assoc one.out two.out h);
-      session = logged_then xs ys b.session c.session d.session one.session two.session;
-      taken = takes_lines state (holding b) (holding c) (holding d) xs ys one.taken two.taken;
+      session = session_then xs ys b.session c.session d.session one.session two.session;
+      taken = takes_lines state b c d xs ys one.taken two.taken;
     }
 
 -- All that was gathered is written.
@@ -164,7 +155,7 @@ ran_written state lines b c f g w0 w1 w2 ran all = record {
 pub cut_before : {D : Type 0} (state : D → DiskState)
     (line : List ℕ) (b c : BookView D) (g : List ℕ) (w0 w1 : Option (List ℕ))
     → c.session ≡ b.session
-    → TriesLine state (holding b) fault.Output [] (steps_of (line ∷ [])) (holding c)
+    → TriesLine state b fault.Output [] (steps_of (line ∷ [])) c
     → WritesPart w0 w1 g
     → Cut state fault.Output (line ∷ []) b c g w0 w1
 cut_before state line b c g w0 w1 same tried cut =
@@ -183,8 +174,8 @@ cut_before state line b c g w0 w1 same tried cut =
 pub cut_untold : {D : Type 0} (state : D → DiskState)
     (why : RunFault) (line : List ℕ) (b : BookView D) (g : List ℕ) (w0 w1 : Option (List ℕ))
     → asked_of line ≡ asked.Tally
-    → b.session ≡ logged_after b.session line
-    → Untold why (reply (plain b.session) line) g w0 w1
+    → b.session ≡ after_line b.session line
+    → Untold why (reply b.session line) g w0 w1
     → Cut state why (line ∷ []) b b g w0 w1
 cut_untold state fault.Output line b g w0 w1 tally session cut =
     let P : List ℕ → Type 0 = λ t. WritesPart w0 w1 (g ++ t) in
@@ -193,11 +184,11 @@ cut_untold state fault.Output line b g w0 w1 tally session cut =
       left = [];
       lines_are = refl;
       stopped = tt;
-      written = subst P (sym (append-nil (reply (plain b.session) line))) cut;
+      written = subst P (sym (append-nil (reply b.session line))) cut;
       session = session;
       tried = record {
-        middle = holding b;
-        taken = takes_tally state (holding b) line tally;
+        middle = b;
+        taken = takes_tally state b line tally;
         tried = inl refl;
       };
     }
@@ -211,8 +202,8 @@ cut_untold state fault.Memory line b g w0 w1 tally session cut =
       written = subst P (sym (append-nil g)) cut;
       session = refl;
       tried = record {
-        middle = holding b;
-        taken = takes_none state (holding b);
+        middle = b;
+        taken = takes_none state b;
         tried = refl;
       };
     }
@@ -226,15 +217,15 @@ pub cut_troubled : {D : Type 0} (state : D → DiskState)
     (w0 w1 : Option (List ℕ))
     → IsSaving (asked_of line)
     → c.session ≡ b.session
-    → StepsOn state (holding b) (steps_of (line ∷ [])) (reply_of_save (Err trouble) ∷ [])
-    (holding c)
+    → StepsOn state b (steps_of (line ∷ [])) (reply_of_save (Err trouble) ∷ [])
+    c
     → Troubled why trouble g w0 w1
     → Cut state why (line ∷ []) b c g w0 w1
 cut_troubled state fault.Output trouble line b c g w0 w1 saving same row cut =
     cut_before state line b c g w0 w1 same
     (record {
-      middle = holding b;
-      taken = takes_none state (holding b);
+      middle = b;
+      taken = takes_none state b;
       tried = inr (reply_of_save (Err trouble) ∷ [], row);
     })
     cut
@@ -242,7 +233,7 @@ cut_troubled state (fault.Store why) trouble line b c g w0 w1 saving same row cu
     let P : List ℕ → Type 0 = λ t. WritesTrouble why t w0 w1 in
     let Q : Trouble → Type 0 = λ t. WritesTrouble t g w0 w1 in
     let R : Trouble → Type 0 = λ t.
-    StepsOn state (holding b) (steps_of (line ∷ [])) (reply_of_save (Err t) ∷ []) (holding c) in
+    StepsOn state b (steps_of (line ∷ [])) (reply_of_save (Err t) ∷ []) c in
     record {
       ran = [];
       left = line ∷ [];
@@ -251,8 +242,8 @@ cut_troubled state (fault.Store why) trouble line b c g w0 w1 saving same row cu
       written = subst P (sym (append-nil g)) (subst Q (sym cut.0) cut.1);
       session = same;
       tried = record {
-        middle = holding b;
-        taken = takes_none state (holding b);
+        middle = b;
+        taken = takes_none state b;
         tried = subst R (sym cut.0) row;
       };
     }
@@ -277,7 +268,7 @@ cut_written state lines b c f g w0 w1 w2 ran cut =
       stopped = tt;
       written = subst P (sym ran.replied) (part_behind ran.out g w0 w1 w2 ran.written cut);
       session = ran.session;
-      tried = record { middle = holding c; taken = ran.taken; tried = inl refl };
+      tried = record { middle = c; taken = ran.taken; tried = inl refl };
     }
 
 -- These lines were run, and those were cut.
@@ -289,8 +280,8 @@ pub cut_then : {D : Type 0} (state : D → DiskState)
     → Cut state why (xs ++ ys) b d f w0 w2
 cut_then state why xs ys b c d f g w0 w1 w2 one two =
     let P : List ℕ → Type 0 = λ t. Wrote why t w0 w2 in
-    let s = replies (plain b.session) xs in
-    let t = replies (plain c.session) two.ran in
+    let s = replies b.session xs in
+    let t = replies c.session two.ran in
     record {
       ran = xs ++ two.ran;
       left = two.left;
@@ -303,11 +294,11 @@ cut_then state why xs ys b c d f g w0 w1 w2 one two =
           ∙ ap (λ x. x ++ t) one.replied
           ∙ append_assoc one.out g t))
           (wrote_behind why one.out (g ++ t) w0 w1 w2 one.written two.written);
-      session = logged_then xs two.ran b.session c.session d.session one.session two.session;
+      session = session_then xs two.ran b.session c.session d.session one.session two.session;
       tried = record {
         middle = two.tried.middle;
         taken =
-            takes_lines state (holding b) (holding c) two.tried.middle xs two.ran one.taken
+            takes_lines state b c two.tried.middle xs two.ran one.taken
             two.tried.taken;
         tried = two.tried.tried;
       };
@@ -340,6 +331,6 @@ cut_more state why xs ys b c f w0 w1 h = record {
   tried = record {
     middle = h.tried.middle;
     taken = h.tried.taken;
-    tried = tries_more state h.tried.middle (holding c) why h.left ys h.tried.tried;
+    tried = tries_more state h.tried.middle c why h.left ys h.tried.tried;
   };
 }

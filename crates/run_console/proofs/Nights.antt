@@ -10,15 +10,13 @@ use Rattle.run_model.specs.State.{State}
 use Rattle.run_disk.specs.Disk.{DiskState, IsAtRest}
 use Rattle.run_disk.specs.Runs.{LeavesOnly}
 use Rattle.run_disk.proofs.RunLemmas.{leaves_only_more}
-use Rattle.run_session.specs.Logged.{Replays, begun_at}
-use Rattle.run_session.proofs.Replaying.{count_is}
-use Rattle.book_model.specs.Holdings.{Holding, IsDurable, IsSafe}
+use Rattle.run_model.specs.Session.{begun_at}
+use Rattle.run_session.specs.Replays.{Replays}
+use Rattle.book_model.specs.Holdings.{BookView, IsDurable, IsSafe}
 use Rattle.book_model.specs.Openings.{Opens}
 use Rattle.book_model.specs.Stores.{Stores, StoresFront, StoresOpened, restarted}
 use Rattle.book_model.proofs.HoldingLemmas.{saved_stores, stores_fewer}
 use Rattle.book_model.proofs.Storing.{stores_one}
-use Rattle.run_book.specs.Views.{BookView, holding}
-use Rattle.run_crew.specs.Desks.{history_of}
 use Rattle.run_crew.specs.Openings.{CarriesFrom, is_work, opened_of}
 use Rattle.run_console.specs.Crews.{AcksNight, KeepsNight, StoresNight}
 use Rattle.run_console.proofs.Working.{no_history}
@@ -39,14 +37,14 @@ opened_night p work x (inr after) =
     })
 
 module _ {D : Type 0} (state : D → DiskState) (given : D) (b : BookView D)
-    (opens : Opens state given (Ok (holding b))) (begun : b.session ≡ begun_at b.session.start)
+    (opens : Opens state given (Ok b)) (begun : b.session ≡ begun_at b.session.start)
     (honest : (state given).honest) (rest : IsAtRest (state given)) (p : State)
-    (stores : Stores (state given).now p) (h : Holding D)
-    (on : CarriesFrom (opened_of state (holding b)) state h) where
+    (stores : Stores (state given).now p) (h : BookView D)
+    (on : CarriesFrom (opened_of state b) state h) where
   start : b.session.start ≡ restarted p
   start =
       let opened = opens.answer in
-      opened.opened.start
+      ap (λ s. s.start) opened.opened.session
       ∙ ap restarted (stores_one (state given).now opened.stored p
       (opened.found.stores honest) stores)
 
@@ -57,25 +55,25 @@ module _ {D : Type 0} (state : D → DiskState) (given : D) (b : BookView D)
   rest_then = subst (λ d. IsAtRest (state d)) (sym opens.answer.opened.origin) rest
 
   pub keeps_night : (left : D) → h.journal.disk ≡ left
-      → KeepsNight p h.history (state given) (state left)
+      → KeepsNight p h.session.history (state given) (state left)
   keeps_night left is =
-      let only : list_all is_work h.history ≡ true =
+      let only : list_all is_work h.session.history ≡ true =
       ap (λ l. list_all is_work l) (on.more ∙ ap (λ l. l ++ on.added) (no_history b begun))
       ∙ on.only refl in
       let least = b.durable - b.session.start.count in
       record {
         only = only;
         any_moment =
-            subst (λ d. LeavesOnly (StoresNight p h.history) (state given) (state d)) is
+            subst (λ d. LeavesOnly (StoresNight p h.session.history) (state given) (state d)) is
             (leaves_only_more
-            (StoresOpened p) (StoresFront b.session.start h.history least)
-            (StoresNight p h.history)
+            (StoresOpened p) (StoresFront b.session.start h.session.history least)
+            (StoresNight p h.session.history)
             (state given) (state b.journal.disk) (state h.journal.disk)
             (opens.any_moment honest rest p stores) (on.any_moment honest_then rest_then)
-            (λ x s. opened_night p h.history x s)
+            (λ x s. opened_night p h.session.history x s)
             (λ x s.
-            inr (stores_fewer (restarted p) h.history least 0 x (omega arith)
-            (subst (λ q. StoresFront q h.history least x) start s))));
+            inr (stores_fewer (restarted p) h.session.history least 0 x (omega arith)
+            (subst (λ q. StoresFront q h.session.history least x) start s))));
       }
 
   pub safe_night : IsSafe state h
@@ -84,36 +82,35 @@ module _ {D : Type 0} (state : D → DiskState) (given : D) (b : BookView D)
     rest = on.rest rest_then;
   }
 
-  pub start_night : h.start ≡ restarted p
+  pub start_night : h.session.start ≡ restarted p
   start_night = on.start ∙ start
 
 module _ {D : Type 0} (state : D → DiskState) (given : D) (b : BookView D)
-    (opens : Opens state given (Ok (holding b))) (begun : b.session ≡ begun_at b.session.start)
+    (opens : Opens state given (Ok b)) (begun : b.session ≡ begun_at b.session.start)
     (honest : (state given).honest) (rest : IsAtRest (state given)) (p : State)
     (stores : Stores (state given).now p) (d : BookView D)
-    (on : CarriesFrom (opened_of state (holding b)) state (holding d)) where
+    (on : CarriesFrom (opened_of state b) state d) where
   pub acks_night : (left : D) (n : ℕ) → d.journal.disk ≡ left → Replays d.session
-      → IsDurable state (holding d) → n ≡ d.session.state.count → d.durable ≡ n
-      → AcksNight p (history_of d) n (state left)
+      → IsDurable state d → n ≡ d.session.state.count → d.durable ≡ n
+      → AcksNight p d.session.history n (state left)
   acks_night left n is replays durable counted acked =
-      let safe = safe_night state given b opens begun honest rest p stores (holding d) on in
+      let safe = safe_night state given b opens begun honest rest p stores d on in
       record {
         state = d.session.state;
-        reached = ap (λ q. run q (history_of d))
-            (sym (start_night state given b opens begun honest rest p stores (holding d) on))
+        reached = ap (λ q. run q d.session.history)
+            (sym (start_night state given b opens begun honest rest p stores d on))
             ∙ replays.replays;
         counted = counted;
         stores = subst
             (λ e. (x : List ℕ) → (state e).images x → Stores x d.session.state) is
             (λ x image.
-            saved_stores state (holding d) d.session.state x durable safe
-            (acked ∙ counted ∙ count_is d.session replays) replays.replays image);
+            saved_stores state d x durable safe (acked ∙ counted) replays.replays image);
       }
 
   pub acks_told : (left : D) (r : Result ℕ Trouble) → d.journal.disk ≡ left → Replays d.session
-      → IsDurable state (holding d)
+      → IsDurable state d
       → IfOk r (λ count. (count ≡ d.session.state.count) × (d.durable ≡ count))
-      → IfOk r (λ n. AcksNight p (history_of d) n (state left))
+      → IfOk r (λ n. AcksNight p d.session.history n (state left))
   acks_told left (Ok n) is replays durable acked =
       acks_night left n is replays durable acked.0 acked.1
   acks_told left (Err why) is replays durable acked = tt

@@ -4,7 +4,7 @@ use Rattle.std.specs.Prelude.{Option, length}
 use Rattle.std.specs.Io.KnownBytes.{Appends}
 use Rattle.std.proofs.Common.{sym, ap, ◌∙◌, subst}
 use Rattle.run_disk.specs.Disk.{DiskState}
-use Rattle.run_book.specs.Views.{BookView}
+use Rattle.book_model.specs.Holdings.{BookView}
 use Rattle.console_lines.specs.declared.lines.TheConstants.{LONGEST_LINE}
 use Rattle.console_lines.specs.declared.faults.RunFault.{RunFault}
 use Rattle.console_lines.specs.Lines.{whole_lines, open_line}
@@ -12,8 +12,7 @@ use Rattle.console_lines.specs.Progress.{kept}
 use Rattle.console_lines.proofs.Splits.{line_ends, line_goes_on, kept_more, kept_full}
 use Rattle.console_lines.proofs.Splits.{whole_lines-append, open_line-append}
 use Rattle.run_console.specs.Progress.{Cut, PartRan, Ran}
-use Rattle.run_console.proofs.Lines.{cut_more, cut_then, ran_nothing, ran_then}
-use Rattle.run_console.proofs.Lines.{ran_written}
+use Rattle.run_console.proofs.Lines.{cut_more, cut_then, ran_nothing, ran_then, ran_written}
 
 -- ---- one byte after another
 

@@ -1,6 +1,5 @@
 -- What a step is answered, and what is printed for a line that asks for it.
-use Rattle.std.specs.Prelude.{◌≡◌, ℕ, List, [], ◌∷◌, Some, Result, Ok, Err, false}
-use Rattle.std.specs.Prelude.{unwrap_or}
+use Rattle.std.specs.Prelude.{◌≡◌, ℕ, List, [], ◌∷◌, Some, Result, Ok, Err, false, unwrap_or}
 use Rattle.std.proofs.Common.{arith, refl, ap, subst, ◌∙◌, append-nil}
 use Rattle.run_model.specs.declared.answers.Reply.TheVariants as told
 use Rattle.run_model.specs.declared.commands.Step.{Step}
@@ -10,9 +9,9 @@ use Rattle.run_model.specs.Session.{Session, replied, reply_of_step}
 use Rattle.run_model.specs.Session as model
 use Rattle.run_model.specs.Replies as decided
 use Rattle.run_disk.specs.Disk.{DiskState}
-use Rattle.book_model.specs.Holdings.{Holding, IsSession}
+use Rattle.book_model.specs.Holdings.{BookView, IsReached}
 use Rattle.book_model.specs.Plays.{Plays}
-use Rattle.book_model.specs.Steps.{playing_in}
+use Rattle.book_model.specs.Steps.{playing}
 use Rattle.book_model.proofs.Playing.{plays_sound}
 use Rattle.book_model.proofs.Rows.{row_steps}
 use Rattle.book_model.proofs.Stepping.{steps_play}
@@ -79,14 +78,14 @@ line_printed s line x e =
 -- ---- a row
 
 -- Where none was answered by a fault, steps were answered as the session says.
-pub row_answered : {D : Type 0} (state : D → DiskState) (old new : Holding D) (s : Session)
-    (lines : List (List ℕ)) → old.journal.broken ≡ false → IsSession old s
+pub row_answered : {D : Type 0} (state : D → DiskState) (old new : BookView D)
+    (lines : List (List ℕ)) → old.journal.broken ≡ false → IsReached old
     → (taken : TakesAll state old (steps_of lines) new)
-    → taken.answers ≡ model.replies s (steps_of lines)
-row_answered state old new s lines sound is taken =
+    → taken.answers ≡ model.replies old.session (steps_of lines)
+row_answered state old new lines sound reached taken =
     let steps = steps_of lines in
-    let from = steps_play state old new steps taken.answers s is
+    let from = steps_play state old new steps taken.answers reached
     (row_steps state old new steps taken.answers taken.row) in
-    (plays_sound s (playing_in new from.last) steps taken.answers
-    (subst (λ k. Plays (record { session = s; broken = k }) steps taken.answers
-    (playing_in new from.last)) sound from.plays) taken.fine).0
+    (plays_sound old.session (playing new) steps taken.answers
+    (subst (λ k. Plays (record { session = old.session; broken = k }) steps taken.answers
+    (playing new)) sound from.plays) taken.fine).0

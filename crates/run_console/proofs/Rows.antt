@@ -11,7 +11,7 @@ use Rattle.run_model.specs.declared.faults.Trouble.{Trouble}
 use Rattle.run_model.specs.declared.refusals.Refusal.{Refusal}
 use Rattle.run_model.specs.Session.{replied}
 use Rattle.run_disk.specs.Disk.{DiskState}
-use Rattle.book_model.specs.Holdings.{CarriesOn, Holding}
+use Rattle.book_model.specs.Holdings.{CarriesOn, BookView}
 use Rattle.book_model.specs.Plays.{is_fault}
 use Rattle.book_model.specs.Steps.{AnswersStep, StepsOn, reply_of_save}
 use Rattle.book_model.proofs.Playing.{or_false}
@@ -54,17 +54,17 @@ no_fault f (Err why) none = refl
 module _ {D : Type 0} (state : D → DiskState) where
   -- ---- one step
 
-  pub takes_none : (h : Holding D) → TakesAll state h [] h
+  pub takes_none : (h : BookView D) → TakesAll state h [] h
   takes_none h = record { answers = []; row = refl; fine = refl }
 
   -- A tally takes none.
-  pub takes_tally : (h : Holding D) (line : List ℕ) → asked_of line ≡ asked.Tally
+  pub takes_tally : (h : BookView D) (line : List ℕ) → asked_of line ≡ asked.Tally
       → TakesAll state h (steps_of (line ∷ [])) h
   takes_tally h line tally =
       subst (λ (a : Asked). TakesAll state h (steps_asked a) h) (sym tally) (takes_none h)
 
   -- A command, a start or a finish.
-  pub takes_step : {X : Type 0} (old new : Holding D) (x : Step) (f : X → Reply)
+  pub takes_step : {X : Type 0} (old new : BookView D) (x : Step) (f : X → Reply)
       (r : Result X Refusal) → ((a : X) → is_fault (f a) ≡ false)
       → AnswersStep state old x (replied f r) new → CarriesOn state old new
       → TakesAll state old (x ∷ []) new
@@ -75,7 +75,7 @@ module _ {D : Type 0} (state : D → DiskState) where
   }
 
   -- A flush or a checkpoint that is done.
-  pub takes_save : (old new : Holding D) (x : Step) (result : Result ℕ Trouble) (n : ℕ)
+  pub takes_save : (old new : BookView D) (x : Step) (result : Result ℕ Trouble) (n : ℕ)
       → result ≡ Ok n → AnswersStep state old x (reply_of_save result) new
       → CarriesOn state old new → TakesAll state old (x ∷ []) new
   takes_save old new x result n is answers on = record {
@@ -86,7 +86,7 @@ module _ {D : Type 0} (state : D → DiskState) where
   }
 
   -- And one that isn't.
-  pub tries_save : (old new : Holding D) (x : Step) (result : Result ℕ Trouble) (why : Trouble)
+  pub tries_save : (old new : BookView D) (x : Step) (result : Result ℕ Trouble) (why : Trouble)
       → result ≡ Err why → AnswersStep state old x (reply_of_save result) new
       → CarriesOn state old new → StepsOn state old (x ∷ []) (reply_of_save (Err why) ∷ []) new
   tries_save old new x result why is answers on =
@@ -95,7 +95,7 @@ module _ {D : Type 0} (state : D → DiskState) where
 
   -- ---- some steps
 
-  pub takes_join : (a b c : Holding D) (xs ys : List Step) → TakesAll state a xs b
+  pub takes_join : (a b c : BookView D) (xs ys : List Step) → TakesAll state a xs b
       → TakesAll state b ys c → TakesAll state a (xs ++ ys) c
   takes_join a b c xs ys p q = record {
     answers = p.answers ++ q.answers;
@@ -103,28 +103,28 @@ module _ {D : Type 0} (state : D → DiskState) where
     fine = none_either p.answers q.answers p.fine q.fine;
   }
 
-  pub takes_lines : (a b c : Holding D) (xs ys : List (List ℕ)) → TakesAll state a (steps_of xs) b
+  pub takes_lines : (a b c : BookView D) (xs ys : List (List ℕ)) → TakesAll state a (steps_of xs) b
       → TakesAll state b (steps_of ys) c → TakesAll state a (steps_of (xs ++ ys)) c
   takes_lines a b c xs ys p q =
       subst (λ l. TakesAll state a l c) (sym (steps_of-append xs ys))
       (takes_join a b c (steps_of xs) (steps_of ys) p q)
 
   -- No step leaves the book as it was.
-  nothing_row : (a b : Holding D) (answers : List Reply) → StepsOn state a [] answers b → b ≡ a
+  nothing_row : (a b : BookView D) (answers : List Reply) → StepsOn state a [] answers b → b ≡ a
   nothing_row a b [] row = row
   nothing_row a b (r ∷ answers) row = absurd row
 
-  pub took_nothing : (a b : Holding D) → TakesAll state a [] b → b ≡ a
+  pub took_nothing : (a b : BookView D) → TakesAll state a [] b → b ≡ a
   took_nothing a b p = nothing_row a b p.answers p.row
 
   -- ---- the step that was next
 
   -- There was none.
-  pub tried_nothing : (a b : Holding D) → Tries state a fault.Output [] b → b ≡ a
+  pub tried_nothing : (a b : BookView D) → Tries state a fault.Output [] b → b ≡ a
   tried_nothing a b (inl same) = same
   tried_nothing a b (inr row) = nothing_row a b row.0 row.1
 
-  tries_any : (a b : Holding D) (why : RunFault) (steps : List Step) → Tries state a why [] b
+  tries_any : (a b : BookView D) (why : RunFault) (steps : List Step) → Tries state a why [] b
       → Tries state a why steps b
   tries_any a b fault.Output steps p = inl (tried_nothing a b p)
   tries_any a b (fault.Store why) steps p = absurd p
@@ -133,19 +133,19 @@ module _ {D : Type 0} (state : D → DiskState) where
   tries_any a b fault.Memory steps p = p
 
   -- More lines are behind those that are left.
-  pub tries_more : (a b : Holding D) (why : RunFault) (left more : List (List ℕ))
+  pub tries_more : (a b : BookView D) (why : RunFault) (left more : List (List ℕ))
       → Tries state a why (first_steps left) b → Tries state a why (first_steps (left ++ more)) b
   tries_more a b why [] more p = tries_any a b why (first_steps more) p
   tries_more a b why (line ∷ left) more p = p
 
   -- Or the end of the input is.
-  pub tries_next : (a b : Holding D) (why : RunFault) (left : List (List ℕ))
+  pub tries_next : (a b : BookView D) (why : RunFault) (left : List (List ℕ))
       → Tries state a why (first_steps left) b → Tries state a why (next_steps left) b
   tries_next a b why [] p = tries_any a b why (step.Flush ∷ []) p
   tries_next a b why (line ∷ left) p = p
 
   -- A step that the store stopped, behind its trouble.
-  pub tries_troubled : (old new : Holding D) (why : RunFault) (trouble : Trouble)
+  pub tries_troubled : (old new : BookView D) (why : RunFault) (trouble : Trouble)
       (steps : List Step) (g : List ℕ) (w0 w1 : Option (List ℕ))
       → StepsOn state old steps (reply_of_save (Err trouble) ∷ []) new
       → Troubled why trouble g w0 w1 → Tries state old why steps new

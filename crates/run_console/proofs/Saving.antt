@@ -5,40 +5,31 @@ use Rattle.run_model.specs.declared.faults.Trouble.{Trouble}
 use Rattle.run_disk.specs.Disk.{DiskState}
 use Rattle.run_state.specs.Lasting.{Stays}
 use Rattle.run_state.proofs.Staying.{stays_same}
-use Rattle.run_session.specs.Logged.{Logged, Replays}
-use Rattle.run_session.proofs.Replaying.{count_is}
-use Rattle.book_model.specs.Holdings.{Saves}
-use Rattle.run_book.specs.Views.{BookView, holding}
+use Rattle.run_model.specs.Session.{Session}
+use Rattle.book_model.specs.Holdings.{Saves, BookView}
 use Rattle.run_console.specs.Progress.{Lasts}
 
 -- The session stays, and so does what is done.
-pub lasts_kept : (b d : Logged) → d ≡ b → Lasts b d
-lasts_kept b d same = subst (λ (s : Logged). Stays b.state s.state) (sym same) (stays_same b.state)
+pub lasts_kept : (b d : Session) → d ≡ b → Lasts b d
+lasts_kept b d same = subst (λ (s : Session). Stays b.state s.state) (sym same) (stays_same b.state)
 
 module _ {D : Type 0} (state : D → DiskState) (b d : BookView D) where
   -- The answer is the number of all events.
-  pub counted : (r : Result ℕ Trouble)
-      → Replays b.session
-      → Saves state (holding b) r (holding d)
-      → IfOk r (λ n. n ≡ b.session.state.count)
-  counted (Err e) replays saves = tt
-  counted (Ok n) replays saves =
-      saves.answer.counted ∙ sym (count_is b.session replays)
+  pub counted : (r : Result ℕ Trouble) → Saves state b r d → IfOk r (λ n. n ≡ b.session.state.count)
+  counted (Err e) saves = tt
+  counted (Ok n) saves = saves.answer.counted
 
   -- They are durable then.
-  pub saved : (r : Result ℕ Trouble)
-      → Replays b.session
-      → d.session ≡ b.session
-      → Saves state (holding b) r (holding d)
+  pub saved : (r : Result ℕ Trouble) → Saves state b r d
       → OnOk r (d.durable ≡ d.session.state.count)
-  saved (Err e) replays same saves = tt
-  saved (Ok n) replays same saves =
-      saves.answer.durable ∙ saves.answer.counted ∙ sym (count_is b.session replays)
-      ∙ ap (λ (s : Logged). s.state.count) (sym same)
+  saved (Err e) saves = tt
+  saved (Ok n) saves =
+      saves.answer.durable ∙ saves.answer.counted
+      ∙ ap (λ (s : Session). s.state.count) (sym saves.session)
 
   -- And the book isn't broken.
   pub sound : (r : Result ℕ Trouble)
-      → Saves state (holding b) r (holding d)
+      → Saves state b r d
       → OnOk r (d.journal.broken ≡ false)
   sound (Err e) saves = tt
   sound (Ok n) saves = saves.answer.sound

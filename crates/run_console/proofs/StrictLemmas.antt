@@ -7,9 +7,8 @@ use Rattle.std.proofs.Common.{arith, inl, inr, refl, sym, ap, ◌∙◌, subst, 
 use Rattle.std.proofs.Common.{length-append}
 use Rattle.std.proofs.lemmas.List.{length-take, length-take-le, take-append-le}
 use Rattle.run_model.specs.Session.{Session}
-use Rattle.run_session.specs.Logged.{Logged}
 use Rattle.run_disk.specs.Disk.{DiskState}
-use Rattle.run_book.specs.Views.{BookView, holding}
+use Rattle.book_model.specs.Holdings.{BookView}
 use Rattle.console_lines.specs.declared.lines.TheConstants.{LONGEST_INPUT, LONGEST_LINE}
 use Rattle.console_lines.specs.declared.faults.RunFault.{RunFault}
 use Rattle.console_lines.specs.declared.faults.RunFault.TheVariants as fault
@@ -29,63 +28,54 @@ use Rattle.run_model.specs.declared.commands.Step.{Step}
 use Rattle.run_model.specs.declared.commands.Step.TheVariants as step
 use Rattle.run_console.specs.Rows.{TakesAll, Tries, next_steps}
 use Rattle.run_console.proofs.Rows.{takes_join, tries_more, tries_next}
-use Rattle.run_console.specs.SessionLines.{plain, logged_after_lines}
 use Rattle.run_console.specs.Progress.{Cut, EndStops, IsOfLine, IsReached, IsRunStopped, IsStopped}
-use Rattle.run_console.specs.Progress.{IsWritten, PartRan, Ran, Told}
-use Rattle.run_console.specs.Progress.{untried}
+use Rattle.run_console.specs.Progress.{IsWritten, PartRan, Ran, Told, untried}
 use Rattle.run_console.specs.Strict.{Clean, Found, IsReadFor, PartClean, PartCut, PartStrays}
-use Rattle.run_console.specs.Strict.{PartRuns, RanStrictly, ReadsClean, ReadsStrictly}
-use Rattle.run_console.specs.Strict.{RunsStrictly}
+use Rattle.run_console.specs.Strict.{PartRuns, RanStrictly, ReadsClean, ReadsStrictly, RunsStrictly}
 use Rattle.run_console.specs.Strict.{StopsStrictly, lines_to}
-use Rattle.run_console.proofs.Lines.{cut_then, cut_written, plain_lines, ran_then}
-use Rattle.run_console.proofs.Lines.{stopped_more}
+use Rattle.run_console.proofs.Lines.{cut_then, cut_written, ran_then, stopped_more}
 use Rattle.run_console.proofs.Parts.{part_ends, part_full, part_more}
 use Rattle.run_console.proofs.Wholes.{end_stops, end_told, end_wrote, reached_in, stopped_so}
 use Rattle.run_console.proofs.Wholes.{left_over, reached_end, written_so}
 
 -- ---- lines
 
--- The session behind these lines, by its plain side.
-plain_after : (b c : Logged) (xs : List (List ℕ)) → c ≡ logged_after_lines b xs
-    → after_lines (plain b) xs ≡ plain c
-plain_after b c xs h = sym (ap plain h ∙ plain_lines b xs)
-
 -- The search goes on from there.
-search_on : (n m : ℕ) (b c : Logged) (xs ys : List (List ℕ))
-    → c ≡ logged_after_lines b xs
-    → Clean n m (plain b) xs
-    → stray_from n (plain b) (xs ++ ys) ≡ stray_from m (plain c) ys
+search_on : (n m : ℕ) (b c : Session) (xs ys : List (List ℕ))
+    → c ≡ after_lines b xs
+    → Clean n m b xs
+    → stray_from n b (xs ++ ys) ≡ stray_from m c ys
 search_on n m b c xs ys session clean =
-    none_then n (plain b) xs ys clean.none
-    ∙ ap (λ i. stray_from i (after_lines (plain b) xs) ys) (sym clean.next)
-    ∙ ap (λ t. stray_from m t ys) (plain_after b c xs session)
+    none_then n b xs ys clean.none
+    ∙ ap (λ i. stray_from i (after_lines b xs) ys) (sym clean.next)
+    ∙ ap (λ t. stray_from m t ys) (sym session)
 
 -- And so do the lines that are run.
-run_on : (n m : ℕ) (b c : Logged) (xs ys : List (List ℕ))
-    → c ≡ logged_after_lines b xs
-    → Clean n m (plain b) xs
-    → strict_lines (plain b) (xs ++ ys) ≡ xs ++ strict_lines (plain c) ys
+run_on : (n m : ℕ) (b c : Session) (xs ys : List (List ℕ))
+    → c ≡ after_lines b xs
+    → Clean n m b xs
+    → strict_lines b (xs ++ ys) ≡ xs ++ strict_lines c ys
 run_on n m b c xs ys session clean =
-    lines_then n (plain b) xs ys clean.none
-    ∙ ap (λ t. xs ++ strict_lines t ys) (plain_after b c xs session)
+    lines_then n b xs ys clean.none
+    ∙ ap (λ t. xs ++ strict_lines t ys) (sym session)
 
 -- None of these strays, and none of those.
-pub clean_then : (n m k : ℕ) (b c : Logged) (xs ys : List (List ℕ))
-    → c ≡ logged_after_lines b xs
-    → Clean n m (plain b) xs
-    → Clean m k (plain c) ys
-    → Clean n k (plain b) (xs ++ ys)
+pub clean_then : (n m k : ℕ) (b c : Session) (xs ys : List (List ℕ))
+    → c ≡ after_lines b xs
+    → Clean n m b xs
+    → Clean m k c ys
+    → Clean n k b (xs ++ ys)
 clean_then n m k b c xs ys session one two = record {
   none = search_on n m b c xs ys session one ∙ two.none;
   next = omega (arith, one.next, two.next, length-append xs ys);
 }
 
 -- None of these strays, and the last of those does.
-pub found_then : (n m : ℕ) (b c : Logged) (xs ys : List (List ℕ)) (stray : StrayLine)
-    → c ≡ logged_after_lines b xs
-    → Clean n m (plain b) xs
-    → Found m (plain c) ys stray
-    → Found n (plain b) (xs ++ ys) stray
+pub found_then : (n m : ℕ) (b c : Session) (xs ys : List (List ℕ)) (stray : StrayLine)
+    → c ≡ after_lines b xs
+    → Clean n m b xs
+    → Found m c ys stray
+    → Found n b (xs ++ ys) stray
 found_then n m b c xs ys stray session one two = record {
   found = search_on n m b c xs ys session one ∙ two.found;
   all = run_on n m b c xs ys session one ∙ ap (λ l. xs ++ l) two.all;
@@ -108,19 +98,19 @@ pub clean_ends : {D : Type 0} (state : D → DiskState)
     (w0 w1 w2 : Option (List ℕ))
     → PartClean state n m begun part b c tail f g w0 w1
     → Ran state (open_line begun part ∷ []) c d g h w1 w2
-    → stray_at (plain c.session) (open_line begun part) ≡ None
+    → stray_at c.session (open_line begun part) ≡ None
     → more ≡ []
     → PartClean state n (m + 1) begun (part ++ 10 ∷ []) b d more f h w0 w2
 clean_ends state n m begun part more b c d tail f g h w0 w1 w2 so_far ran stays none =
     let line = open_line begun part in
-    let P : List (List ℕ) → Type 0 = λ lines. Clean n (m + 1) (plain b.session) lines in
+    let P : List (List ℕ) → Type 0 = λ lines. Clean n (m + 1) b.session lines in
     record {
       runs = part_ends state begun part more b c d tail f g h w0 w1 w2 so_far.runs ran none;
       clean =
           subst P (sym (line_ends begun part).0)
           (clean_then n m (m + 1) b.session c.session (whole_lines begun part) (line ∷ [])
           so_far.runs.ran.session
-          so_far.clean (clean_line m (plain c.session) line stays));
+          so_far.clean (clean_line m c.session line stays));
     }
 
 -- Another byte ends none.
@@ -128,11 +118,11 @@ clean_on : {D : Type 0} (state : D → DiskState)
     (n m : ℕ) (begun part : List ℕ) (byte : ℕ) (b c : BookView D) (more f g : List ℕ)
     (w0 w1 : Option (List ℕ))
     → (byte == 10) ≡ false
-    → Clean n m (plain b.session) (whole_lines begun part)
+    → Clean n m b.session (whole_lines begun part)
     → PartRan state begun (part ++ byte ∷ []) b c more f g w0 w1
     → PartClean state n m begun (part ++ byte ∷ []) b c more f g w0 w1
 clean_on state n m begun part byte b c more f g w0 w1 other clean ran =
-    let P : List (List ℕ) → Type 0 = λ lines. Clean n m (plain b.session) lines in
+    let P : List (List ℕ) → Type 0 = λ lines. Clean n m b.session lines in
     record { runs = ran; clean = subst P (sym (line_goes_on begun part byte other).0) clean }
 
 pub clean_more : {D : Type 0} (state : D → DiskState)
@@ -164,7 +154,7 @@ pub part_strays : {D : Type 0} (state : D → DiskState)
     → all ≡ part ++ 10 ∷ behind
     → PartClean state n m begun part b c tail f g w0 w1
     → Ran state (open_line begun part ∷ []) c d g h w1 w2
-    → stray_at (plain c.session) (open_line begun part) ≡ Some why
+    → stray_at c.session (open_line begun part) ≡ Some why
     → PartStrays state (record { number = m; why = why }) n begun all b d f h w0 w2
 part_strays state n m begun all part behind b c d tail f g h w0 w1 w2 why e so_far ran strays =
     let line = open_line begun part in
@@ -176,7 +166,7 @@ part_strays state n m begun all part behind b c d tail f g h w0 w1 w2 why e so_f
       ran = ran_then state lines (line ∷ []) b c d f g h w0 w1 w2 so_far.runs.ran ran;
       found =
           found_then n m b.session c.session lines (line ∷ []) (record { number = m; why = why })
-          so_far.runs.ran.session so_far.clean (found_line m (plain c.session) line why strays);
+          so_far.runs.ran.session so_far.clean (found_line m c.session line why strays);
     }
 
 -- An LF ends a line that stops.
@@ -209,10 +199,10 @@ few_lines begun (x ∷ bytes) =
 pub clean_parts : {D : Type 0} (state : D → DiskState)
     (n m : ℕ) (xs ys tail : List ℕ) (b c : BookView D) (w0 w1 : Option (List ℕ))
     → PartClean state 1 n [] xs b c tail [] [] w0 w1
-    → Clean n m (plain c.session) (whole_lines (open_line [] xs) ys)
-    → Clean 1 m (plain b.session) (whole_lines [] (xs ++ ys))
+    → Clean n m c.session (whole_lines (open_line [] xs) ys)
+    → Clean 1 m b.session (whole_lines [] (xs ++ ys))
 clean_parts state n m xs ys tail b c w0 w1 one two =
-    let P : List (List ℕ) → Type 0 = λ lines. Clean 1 m (plain b.session) lines in
+    let P : List (List ℕ) → Type 0 = λ lines. Clean 1 m b.session lines in
     subst P (sym (whole_lines-append [] xs ys))
     (clean_then 1 n m b.session c.session (whole_lines [] xs) (whole_lines (open_line [] xs) ys)
     one.runs.ran.session one.clean two)
@@ -266,7 +256,7 @@ pub ran_to_stray : {D : Type 0} (state : D → DiskState)
     → RanStrictly state (Some stray) b d g r0 r2 w0 w2
 ran_to_stray state n bytes part tail g b c d stray r0 r1 r2 w0 w1 w2 read more within few so_far
     strays =
-    let s = plain b.session in
+    let s = b.session in
     let all = bytes ++ part in
     let front = bytes ++ strays.front in
     let first = whole_lines [] bytes in
@@ -302,21 +292,21 @@ ran_to_stray state n bytes part tail g b c d stray r0 r1 r2 w0 w1 w2 read more w
 -- ---- the last line
 
 -- All lines but the last are clean, and so the last one is run, too.
-last_lines : (m : ℕ) (b c : Logged) (bytes : List ℕ)
-    → c ≡ logged_after_lines b (whole_lines [] bytes)
-    → Clean 1 m (plain b) (whole_lines [] bytes)
-    → strict_lines_of (plain b) bytes ≡ lines_of bytes
+last_lines : (m : ℕ) (b c : Session) (bytes : List ℕ)
+    → c ≡ after_lines b (whole_lines [] bytes)
+    → Clean 1 m b (whole_lines [] bytes)
+    → strict_lines_of b bytes ≡ lines_of bytes
 last_lines m b c bytes session clean =
     run_on 1 m b c (whole_lines [] bytes) (open_line [] bytes ∷ []) session clean
-    ∙ ap (λ l. whole_lines [] bytes ++ l) (strict_one (plain c) (open_line [] bytes))
+    ∙ ap (λ l. whole_lines [] bytes ++ l) (strict_one c (open_line [] bytes))
 
-last_stray : (m : ℕ) (c : Logged) (line : List ℕ) (why : Option Stray)
-    → why ≡ stray_at (plain c) line
+last_stray : (m : ℕ) (c : Session) (line : List ℕ) (why : Option Stray)
+    → why ≡ stray_at c line
     → (stray : Option StrayLine)
     → stray ≡ option_map (λ x. record { number = m; why = x }) why
-    → stray ≡ stray_from m (plain c) (line ∷ [])
-last_stray m c line None h stray e = e ∙ sym (none_one m (plain c) line (sym h))
-last_stray m c line (Some x) h stray e = e ∙ sym (stray_one m (plain c) line x (sym h))
+    → stray ≡ stray_from m c (line ∷ [])
+last_stray m c line None h stray e = e ∙ sym (none_one m c line (sym h))
+last_stray m c line (Some x) h stray e = e ∙ sym (stray_one m c line x (sym h))
 
 -- The last line was run, whether it strays or not.
 pub ran_to_end : {D : Type 0} (state : D → DiskState)
@@ -324,7 +314,7 @@ pub ran_to_end : {D : Type 0} (state : D → DiskState)
     (r0 r1 w0 w1 w2 : Option (List ℕ))
     → (reads : ReadsClean state m b c tail r0 r1 w0 w1)
     → Ran state (open_line [] reads.reads.bytes ∷ []) c d [] g w1 w2
-    → why ≡ stray_at (plain c.session) (open_line [] reads.reads.bytes)
+    → why ≡ stray_at c.session (open_line [] reads.reads.bytes)
     → stray ≡ option_map (λ x. record { number = m; why = x }) why
     → RanStrictly state stray b d g r0 r1 w0 w2
 ran_to_end state m b c d tail g stray why r0 r1 w0 w1 w2 reads last is e =
@@ -372,7 +362,7 @@ stops_of : {D : Type 0} (state : D → DiskState)
     → IsOfLine why
     → Consumes r0 r1 bytes
     → length bytes ≤ LONGEST_INPUT + 1
-    → strict_lines_of (plain b.session) bytes ≡ lines ++ more
+    → strict_lines_of b.session bytes ≡ lines ++ more
     → Cut state why lines b d [] w0 w1
     → (more ≡ [] → IsReadFor lines bytes r1)
     → StopsStrictly state why b d r0 r1 w0 w1
@@ -399,10 +389,10 @@ stops_of state why bytes lines more b d r0 r1 w0 w1 f read few is cut reads =
         middle = cut.tried.middle;
         taken = cut.tried.taken;
         tried =
-            tries_next state cut.tried.middle (holding d) why left
-            (tries_more state cut.tried.middle (holding d) why cut.left more cut.tried.tried);
+            tries_next state cut.tried.middle d why left
+            (tries_more state cut.tried.middle d why cut.left more cut.tried.tried);
       };
-      written = written_so why (plain b.session) cut.ran left w0 w1 cut.written;
+      written = written_so why b.session cut.ran left w0 w1 cut.written;
     }
 
 -- The lines of a strict run begin with those up to some LF, where none before the last strays.
@@ -439,7 +429,7 @@ pub stops_in_part : {D : Type 0} (state : D → DiskState)
     → StopsStrictly state why b d r0 r2 w0 w2
 stops_in_part state why n bytes part tail b c d r0 r1 r2 w0 w1 w2 f read more within few so_far cut
     =
-    let s = plain b.session in
+    let s = b.session in
     let all = bytes ++ part in
     let front = bytes ++ cut.front in
     let before = whole_lines [] bytes in
@@ -486,7 +476,7 @@ stops_behind_part state n m bytes part tail more g b c d r0 r1 r2 w0 w1 w2 w3 re
     let tried = cut_written state (before ++ here) b d [] g w0 w2 w3 both cut in
     let lines = whole_lines-append [] bytes part in
     let clean = clean_parts state n m bytes part tail b c w0 w1 so_far ran.clean in
-    let R : List (List ℕ) → Type 0 = λ l. d.session ≡ logged_after_lines b.session l in
+    let R : List (List ℕ) → Type 0 = λ l. d.session ≡ after_lines b.session l in
     stops_of state fault.Output all (before ++ here) (last ∷ []) b d r0 r2 w0 w3 tt
     (consumes_then r0 r1 r2 bytes part read next) within
     (last_lines m b.session d.session all (subst R (sym lines) both.session) clean
@@ -502,9 +492,9 @@ pub stops_reading_strictly : {D : Type 0} (state : D → DiskState)
     → IsReached why bytes (whole_lines [] bytes)
     → ((left : List (List ℕ)) → untried why left ≡ left)
     → ((left : List (List ℕ)) → IsRunStopped why left)
-    → (Appends w0 w1 (replies (plain b.session) (whole_lines [] bytes))
-    → IsWritten why (plain b.session) (whole_lines [] bytes) (open_line [] bytes ∷ []) w0 w1)
-    → ((steps : List Step) → Tries state (holding c) why steps (holding c))
+    → (Appends w0 w1 (replies b.session (whole_lines [] bytes))
+    → IsWritten why b.session (whole_lines [] bytes) (open_line [] bytes ∷ []) w0 w1)
+    → ((steps : List Step) → Tries state c why steps c)
     → StopsStrictly state why b c r0 r1 w0 w1
 stops_reading_strictly state why n bytes tail b c r0 r1 w0 w1 read clean reached all_left stopped
     written not_tried =
@@ -522,7 +512,7 @@ stops_reading_strictly state why n bytes tail b c r0 r1 w0 w1 read clean reached
       reached = reached;
       session = ran.session;
       tried = record {
-        middle = holding c;
+        middle = c;
         taken = ran.taken;
         tried = not_tried (next_steps left);
       };
@@ -555,11 +545,11 @@ pub stops_closing_strictly : {D : Type 0} (state : D → DiskState)
     (r0 r1 w0 w2 w3 : Option (List ℕ))
     → RanStrictly state stray b d g r0 r1 w0 w2
     → e.session ≡ d.session
-    → EndStops why (closing (plain d.session)) g w2 w3
-    → Tries state (holding d) why (step.Flush ∷ []) (holding e)
+    → EndStops why (closing d.session) g w2 w3
+    → Tries state d why (step.Flush ∷ []) e
     → StopsStrictly state why b e r0 r1 w0 w3
 stops_closing_strictly state why b d e g stray r0 r1 w0 w2 w3 ran same end flushed =
-    let lines = strict_lines_of (plain b.session) ran.bytes in
+    let lines = strict_lines_of b.session ran.bytes in
     let P : List (List ℕ) → Type 0 = λ l. IsReadFor l ran.bytes r1 in
     record {
       bytes = ran.bytes;
@@ -568,10 +558,10 @@ stops_closing_strictly state why b d e g stray r0 r1 w0 w2 w3 ran same end flush
       left = [];
       lines_are = sym (append-nil lines);
       read_for = λ _. subst P (sym (append-nil lines)) ran.read_for;
-      stopped = end_stops why (closing (plain d.session)) g w2 w3 end;
-      reached = reached_end why (closing (plain d.session)) g w2 w3 ran.bytes lines end ran.within;
+      stopped = end_stops why (closing d.session) g w2 w3 end;
+      reached = reached_end why (closing d.session) g w2 w3 ran.bytes lines end ran.within;
       session = same ∙ ran.ran.session;
-      tried = record { middle = holding d; taken = ran.ran.taken; tried = flushed };
+      tried = record { middle = d; taken = ran.ran.taken; tried = flushed };
       written = end_wrote state why b d lines g w0 w2 w3 ran.ran end;
     }
 
@@ -581,12 +571,12 @@ pub runs_strictly : {D : Type 0} (state : D → DiskState)
     (r0 r1 w0 w2 w3 : Option (List ℕ))
     → RanStrictly state stray old mid g r0 r1 w0 w2
     → new.session ≡ mid.session
-    → Told (closing (plain mid.session)) g [] w2 w3
-    → TakesAll state (holding mid) (step.Flush ∷ []) (holding new)
+    → Told (closing mid.session) g [] w2 w3
+    → TakesAll state mid (step.Flush ∷ []) new
     → new.durable ≡ new.session.state.count
     → RunsStrictly state stray old new r0 r1 w0 w3
 runs_strictly state stray old mid new g r0 r1 w0 w2 w3 ran same told flushed saved =
-    let lines = strict_lines_of (plain old.session) ran.bytes in
+    let lines = strict_lines_of old.session ran.bytes in
     record {
       bytes = ran.bytes;
       read = ran.read;
@@ -596,7 +586,7 @@ runs_strictly state stray old mid new g r0 r1 w0 w2 w3 ran same told flushed sav
       within = ran.within;
       session = same ∙ ran.ran.session;
       taken =
-          takes_join state (holding old) (holding mid) (holding new) (steps_of lines)
+          takes_join state old mid new (steps_of lines)
           (step.Flush ∷ []) ran.ran.taken flushed;
       written = end_told state old mid lines g w0 w2 w3 ran.ran told;
       saved = saved;

@@ -1,13 +1,12 @@
 -- A whole input: what was read of it, and how its run ended.
-use Rattle.std.specs.Prelude.{◌≡◌, ◌≤◌, ◌+◌, ◌-◌, min, ℕ, List, [], ◌∷◌, ◌++◌}
-use Rattle.std.specs.Prelude.{Option, length, take}
+use Rattle.std.specs.Prelude.{◌≡◌, ◌≤◌, ◌+◌, ◌-◌, min, ℕ, List, [], ◌∷◌, ◌++◌, Option, length, take}
 use Rattle.std.specs.Io.KnownBytes.{Appends, Consumes, IsAtEnd}
 use Rattle.std.proofs.Common.{arith, refl, sym, ap, ◌∙◌, subst, append_assoc, append-nil}
 use Rattle.std.proofs.Common.{length-append}
 use Rattle.std.proofs.lemmas.List.{length-take, length-take-le}
 use Rattle.run_model.specs.Session.{Session}
 use Rattle.run_disk.specs.Disk.{DiskState}
-use Rattle.run_book.specs.Views.{BookView, holding}
+use Rattle.book_model.specs.Holdings.{BookView}
 use Rattle.console_lines.specs.declared.lines.TheConstants.{LONGEST_INPUT}
 use Rattle.console_lines.specs.declared.faults.RunFault.{RunFault}
 use Rattle.console_lines.specs.declared.faults.RunFault.TheVariants as fault
@@ -20,11 +19,10 @@ use Rattle.run_model.specs.declared.commands.Step.{Step}
 use Rattle.run_model.specs.declared.commands.Step.TheVariants as step
 use Rattle.run_console.specs.Rows.{TakesAll, Tries, next_steps}
 use Rattle.run_console.proofs.Rows.{takes_join, tries_more, tries_next}
-use Rattle.run_console.specs.SessionLines.{plain}
 use Rattle.run_console.specs.Progress.{Cut, EndStops, IsOfLine, IsReached, IsRunStopped, IsStopped}
 use Rattle.run_console.specs.Progress.{IsWritten, PartRan, Ran, ReadsAll, RunStops, RunsAll, Told}
 use Rattle.run_console.specs.Progress.{WritesTrouble, Wrote, said_of, untried}
-use Rattle.run_console.proofs.Lines.{cut_then, part_behind, part_more, plain_lines}
+use Rattle.run_console.proofs.Lines.{cut_then, part_behind, part_more}
 use Rattle.run_console.proofs.Lines.{ran_then, trouble_behind}
 
 -- ---- what is read
@@ -82,9 +80,9 @@ pub stops_reading : {D : Type 0} (state : D → DiskState)
     → IsReached why bytes (whole_lines [] bytes)
     → ((left : List (List ℕ)) → untried why left ≡ left)
     → ((left : List (List ℕ)) → IsRunStopped why left)
-    → (Appends w0 w1 (replies (plain b.session) (whole_lines [] bytes))
-    → IsWritten why (plain b.session) (whole_lines [] bytes) (open_line [] bytes ∷ []) w0 w1)
-    → ((steps : List Step) → Tries state (holding c) why steps (holding c))
+    → (Appends w0 w1 (replies b.session (whole_lines [] bytes))
+    → IsWritten why b.session (whole_lines [] bytes) (open_line [] bytes ∷ []) w0 w1)
+    → ((steps : List Step) → Tries state c why steps c)
     → RunStops state why b c r0 r1 w0 w1
 stops_reading state why bytes tail b c r0 r1 w0 w1 read part reached all_left stopped written
     not_tried =
@@ -102,7 +100,7 @@ stops_reading state why bytes tail b c r0 r1 w0 w1 read part reached all_left st
       reached = reached;
       session = ran.session;
       tried = record {
-        middle = holding c;
+        middle = c;
         taken = ran.taken;
         tried = not_tried (next_steps left);
       };
@@ -175,7 +173,7 @@ stops_in_a_part state why bytes part tail b c d r0 r1 r2 w0 w1 w2 f read more fe
     let all = bytes ++ part in
     let behind = whole_lines (open_line [] bytes) part in
     let last = open_line [] all in
-    let s = plain b.session in
+    let s = b.session in
     let whole =
     cut_then state why (whole_lines [] bytes) behind b c d [] [] w0 w1 w2 so_far.ran cut in
     record {
@@ -194,8 +192,8 @@ stops_in_a_part state why bytes part tail b c d r0 r1 r2 w0 w1 w2 f read more fe
         middle = whole.tried.middle;
         taken = whole.tried.taken;
         tried =
-            tries_next state whole.tried.middle (holding d) why (whole.left ++ last ∷ [])
-            (tries_more state whole.tried.middle (holding d) why whole.left (last ∷ [])
+            tries_next state whole.tried.middle d why (whole.left ++ last ∷ [])
+            (tries_more state whole.tried.middle d why whole.left (last ∷ [])
             whole.tried.tried);
       };
       written = written_before why s whole.ran whole.left last w0 w2 whole.written;
@@ -218,15 +216,15 @@ all_ran state b c d tail g r0 r1 w0 w1 w2 reads last =
 pub end_told : {D : Type 0} (state : D → DiskState)
     (b d : BookView D) (lines : List (List ℕ)) (g : List ℕ) (w0 w2 w3 : Option (List ℕ))
     → Ran state lines b d [] g w0 w2
-    → Told (closing (plain d.session)) g [] w2 w3
-    → Appends w0 w3 (replies (plain b.session) lines ++ closing
-    (after_lines (plain b.session) lines))
+    → Told (closing d.session) g [] w2 w3
+    → Appends w0 w3 (replies b.session lines ++ closing
+    (after_lines b.session lines))
 end_told state b d lines g w0 w2 w3 ran told =
     let P : List ℕ → Type 0 = λ x. Appends w0 w3 x in
-    let end = closing (plain d.session) in
-    let text : said_of (plain b.session) lines [] ≡ ran.out ++ told.out =
-    ap (λ t. replies (plain b.session) lines ++ closing t) (sym
-    (ap plain ran.session ∙ plain_lines b.session lines))
+    let end = closing d.session in
+    let text : said_of b.session lines [] ≡ ran.out ++ told.out =
+    ap (λ t. replies b.session lines ++ closing t) (sym
+    ran.session)
     ∙ ap (λ x. x ++ end) ran.replied
     ∙ append_assoc ran.out g end
     ∙ ap (λ x. ran.out ++ x) (told.told ∙ append-nil told.out) in
@@ -256,15 +254,14 @@ pub end_wrote : {D : Type 0} (state : D → DiskState) (why : RunFault) (b d : B
     (lines : List (List ℕ)) (g : List ℕ)
     (w0 w2 w3 : Option (List ℕ))
     → Ran state lines b d [] g w0 w2
-    → EndStops why (closing (plain d.session)) g w2 w3
-    → IsWritten why (plain b.session) lines [] w0 w3
+    → EndStops why (closing d.session) g w2 w3
+    → IsWritten why b.session lines [] w0 w3
 end_wrote state fault.Output b d lines g w0 w2 w3 ran h =
     let P : List ℕ → Type 0 = λ x. WritesPart w0 w3 x in
-    let s = plain b.session in
-    let end = closing (plain d.session) in
+    let s = b.session in
+    let end = closing d.session in
     let text : said_of s lines [] ≡ ran.out ++ (g ++ end) =
-    ap (λ t. replies s lines ++ closing t) (sym (ap plain ran.session ∙ plain_lines b.session
-    lines))
+    ap (λ t. replies s lines ++ closing t) (sym ran.session)
     ∙ ap (λ x. x ++ end) ran.replied
     ∙ append_assoc ran.out g end in
     subst P (sym text) (part_behind ran.out (g ++ end) w0 w2 w3 ran.written h)
@@ -281,8 +278,8 @@ pub runs_all : {D : Type 0} (state : D → DiskState)
     → (reads : ReadsAll state b c tail r0 r1 w0 w1)
     → Ran state (open_line [] reads.bytes ∷ []) c d [] g w1 w2
     → e.session ≡ d.session
-    → Told (closing (plain d.session)) g [] w2 w3
-    → TakesAll state (holding d) (step.Flush ∷ []) (holding e)
+    → Told (closing d.session) g [] w2 w3
+    → TakesAll state d (step.Flush ∷ []) e
     → e.durable ≡ e.session.state.count
     → RunsAll state b e r0 r1 w0 w3
 runs_all state b c d e tail g r0 r1 w0 w1 w2 w3 reads last same told flushed saved =
@@ -294,7 +291,7 @@ runs_all state b c d e tail g r0 r1 w0 w1 w2 w3 reads last same told flushed sav
       within = reads.within;
       session = same ∙ ran.session;
       taken =
-          takes_join state (holding b) (holding d) (holding e) (steps_of (lines_of reads.bytes))
+          takes_join state b d e (steps_of (lines_of reads.bytes))
           (step.Flush ∷ []) ran.taken flushed;
       written = end_told state b d (lines_of reads.bytes) g w0 w2 w3 ran told;
       saved = saved;
@@ -353,9 +350,9 @@ stops_in_the_last state why b c d tail r0 r1 w0 w1 w2 f reads cut =
         middle = whole.tried.middle;
         taken = whole.tried.taken;
         tried =
-            tries_next state whole.tried.middle (holding d) why whole.left whole.tried.tried;
+            tries_next state whole.tried.middle d why whole.left whole.tried.tried;
       };
-      written = written_so why (plain b.session) whole.ran whole.left w0 w2 whole.written;
+      written = written_so why b.session whole.ran whole.left w0 w2 whole.written;
     }
 
 -- The last flush stopped, or the writer failed behind it.
@@ -364,8 +361,8 @@ pub stops_closing : {D : Type 0} (state : D → DiskState)
     → (reads : ReadsAll state b c tail r0 r1 w0 w1)
     → Ran state (open_line [] reads.bytes ∷ []) c d [] g w1 w2
     → e.session ≡ d.session
-    → EndStops why (closing (plain d.session)) g w2 w3
-    → Tries state (holding d) why (step.Flush ∷ []) (holding e)
+    → EndStops why (closing d.session) g w2 w3
+    → Tries state d why (step.Flush ∷ []) e
     → RunStops state why b e r0 r1 w0 w3
 stops_closing state why b c d e tail g r0 r1 w0 w1 w2 w3 reads last same end flushed =
     let bytes = reads.bytes in
@@ -378,11 +375,11 @@ stops_closing state why b c d e tail g r0 r1 w0 w1 w2 w3 reads last same end flu
       left = [];
       lines_are = sym (append-nil lines);
       ended = λ _. reads.ended;
-      stopped = end_stops why (closing (plain d.session)) g w2 w3 end;
+      stopped = end_stops why (closing d.session) g w2 w3 end;
       reached =
-          reached_end why (closing (plain d.session)) g w2 w3 bytes lines end
+          reached_end why (closing d.session) g w2 w3 bytes lines end
           (omega (arith, reads.within));
       session = same ∙ ran.session;
-      tried = record { middle = holding d; taken = ran.taken; tried = flushed };
+      tried = record { middle = d; taken = ran.taken; tried = flushed };
       written = end_wrote state why b d lines g w0 w2 w3 ran end;
     }

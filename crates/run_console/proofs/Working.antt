@@ -1,40 +1,33 @@
 -- What a night of workers leaves.
 use Rattle.std.proofs.Common.{◌∙◌, arith, ap, sym}
 use Rattle.std.specs.Prelude.{◌≡◌, ◌≤◌, ◌+◌, ℕ, [], Result, Ok, Err, IfOk}
-use Rattle.std.specs.Prelude.{length}
 use Rattle.run_model.specs.declared.faults.Trouble.{Trouble}
-use Rattle.record_view.specs.Records.{events_in}
-use Rattle.record_view.proofs.Walks.{events_in_records, no_records}
 use Rattle.run_disk.specs.Disk.{DiskState}
-use Rattle.run_session.specs.Logged.{Logged, Replays, begun_at}
-use Rattle.run_session.proofs.Replaying.{count_is}
-use Rattle.book_model.specs.Holdings.{Saves}
-use Rattle.run_book.specs.Views.{BookView, holding}
-use Rattle.run_crew.specs.Desks.{finishes_of, history_of, starts_of}
+use Rattle.run_model.specs.Session.{Session, begun_at}
+use Rattle.book_model.specs.Holdings.{Saves, BookView}
+use Rattle.run_crew.specs.Desks.{finishes_of, starts_of}
 
 -- A book that was just opened has no history.
 pub no_history : {D : Type 0} (b : BookView D) → b.session ≡ begun_at b.session.start
-    → history_of b ≡ []
+    → b.session.history ≡ []
 no_history b begun =
-    ap (λ (s : Logged). events_in s.log) begun ∙ events_in_records [] [] no_records
+    ap (λ (s : Session). s.history) begun
 
 pub no_starts : {D : Type 0} (b : BookView D) → b.session ≡ begun_at b.session.start
-    → starts_of (history_of b) ≡ 0
+    → starts_of b.session.history ≡ 0
 no_starts b begun = ap starts_of (no_history b begun)
 
 pub no_finishes : {D : Type 0} (b : BookView D) → b.session ≡ begun_at b.session.start
-    → finishes_of (history_of b) ≡ 0
+    → finishes_of b.session.history ≡ 0
 no_finishes b begun = ap finishes_of (no_history b begun)
 
 -- A flush acknowledges all events.
 pub acknowledged : {D : Type 0} (state : D → DiskState) (b d : BookView D) (r : Result ℕ Trouble)
-    → Replays d.session → d.session ≡ b.session → Saves state (holding b) r (holding d)
+    → Saves state b r d
     → IfOk r (λ count. (count ≡ d.session.state.count) × (d.durable ≡ count))
-acknowledged state b d (Err why) replays same saves = tt
-acknowledged state b d (Ok n) replays same saves = (
-  saves.answer.counted
-      ∙ ap (λ (s : Logged). s.start.count + length (events_in s.log)) (sym same)
-      ∙ sym (count_is d.session replays),
+acknowledged state b d (Err why) saves = tt
+acknowledged state b d (Ok n) saves = (
+  saves.answer.counted ∙ ap (λ (s : Session). s.state.count) (sym saves.session),
   saves.answer.durable,
 )
 

@@ -1,7 +1,6 @@
 -- A night of worker threads over a store: what it leaves, and what is told of it.
 use Rattle.std.specs.Prelude.{◌≡◌, ◌⊎◌, ◌≤◌, ◌+◌, ◌++◌, ℕ, List, length, Bool, Option, Result, Ok}
-use Rattle.std.specs.Prelude.{Err, Some, true}
-use Rattle.std.specs.Prelude.{⊤, [], codes, is_ok, IfOk, MatchResult, OnOk}
+use Rattle.std.specs.Prelude.{Err, Some, true, ⊤, [], codes, is_ok, IfOk, MatchResult, OnOk}
 use Rattle.std.specs.Fmt.{decimal}
 use Rattle.std.specs.Io.KnownBytes.{Appends}
 use Rattle.std.specs.List.{list_all}
@@ -15,15 +14,15 @@ use Rattle.run_model.specs.Event.{Event}
 use Rattle.run_model.specs.State.{State}
 use Rattle.run_disk.specs.Disk.{DiskState, IsAtRest}
 use Rattle.run_disk.specs.Runs.{LeavesOnly}
-use Rattle.run_session.specs.Logged.{Replays, begun_at}
-use Rattle.book_model.specs.Holdings.{Flushes, Holding, IsDurable}
+use Rattle.run_model.specs.Session.{begun_at}
+use Rattle.run_session.specs.Replays.{Replays}
+use Rattle.book_model.specs.Holdings.{Flushes, BookView, IsDurable}
 use Rattle.book_model.specs.Openings.{HasOpened, OpensNot}
 use Rattle.book_model.specs.Stores.{Stores, StoresFront, StoresOpened, restarted}
-use Rattle.run_book.specs.Views.{BookView, holding}
 use Rattle.run_crew.specs.declared.audits.Strayed.{Strayed}
 use Rattle.run_crew.specs.declared.notes.Note.{Note}
 use Rattle.run_crew.specs.Audits.{HasStrayed, IsComplete, made_at}
-use Rattle.run_crew.specs.Desks.{DeskView, finishes_of, history_of, starts_of}
+use Rattle.run_crew.specs.Desks.{DeskView, finishes_of, starts_of}
 use Rattle.run_crew.specs.Notes.{all_notes, noted}
 use Rattle.run_crew.specs.Openings.{Carries, From, Known, is_work, opened_of}
 use Rattle.console_lines.specs.declared.faults.RunFault.{RunFault}
@@ -74,7 +73,7 @@ IsTold audited starts finishes flushed answer w0 w1 =
 
 -- This disk is that of a book that carries on from what is known of it.
 pub record WasLeft {D : Type 0} (state : D → DiskState) (known : Known) (left : D) : Type 0 where
-  pub book : Holding D
+  pub book : BookView D
   pub carries : Carries known state book
   pub disk : book.journal.disk ≡ left
 
@@ -88,19 +87,19 @@ pub record IsWorked {D : Type 0} (state : D → DiskState) (known : Known) (work
     pub book : BookView D
     pub desk : DeskView D
     pub lists : List (List Note)
-    pub flushes : Flushes state (holding book) flushed (holding desk.book)
+    pub flushes : Flushes state book flushed desk.book
     pub session : desk.book.session ≡ book.session
-    pub carries : Carries known state (holding desk.book)
+    pub carries : Carries known state desk.book
     pub disk : desk.book.journal.disk ≡ left
     pub acked : IfOk flushed (λ count. (count ≡ desk.book.session.state.count)
         × (desk.book.durable ≡ count))
     pub replays : Replays desk.book.session
-    pub durable : IsDurable state (holding desk.book)
+    pub durable : IsDurable state desk.book
     pub audit : MatchResult audited (λ _. IsComplete desk lists)
         (λ strayed. HasStrayed desk lists strayed)
     pub exactly : OnOk audited (IsPermutation (made_at desk) (all_notes lists))
-    pub started : starts ≡ starts_of (history_of desk.book)
-    pub finished : finishes ≡ finishes_of (history_of desk.book)
+    pub started : starts ≡ starts_of desk.book.session.history
+    pub finished : finishes ≡ finishes_of desk.book.session.history
     pub each_has_a_list : length lists ≡ workers
     pub each_is_noted : finishes ≡ noted lists
     pub each_was_started : finishes ≤ starts
@@ -137,15 +136,15 @@ abbrev pub CrewEnds : {D : Type 0} → (D → DiskState) → (given : D) → (wo
 CrewEnds {D = D} state given workers answer left w0 w1 =
     ((why : Fault) × (answer ≡ Err (stopped why)) × OpensNot state given why left × (w1 ≡ w0)
     × Promises (state given) (λ p. LeavesOnly (StoresOpened p) (state given) (state left)))
-    ⊎ ((b : BookView D) × HasOpened state given (holding b)
+    ⊎ ((b : BookView D) × HasOpened state given b
     × (b.session ≡ begun_at b.session.start)
     × (((answer ≡ Err Memory) × (w1 ≡ w0)
     × Promises (state given) (λ p. (work : List Event)
     × KeepsNight p work (state given) (state left)))
     ⊎ ((audited : Result ⊤ Strayed) × (starts : ℕ) × (finishes : ℕ) × (flushed : Result ℕ Trouble)
-    × (worked : IsWorked state (From (opened_of state (holding b))) workers audited starts
+    × (worked : IsWorked state (From (opened_of state b)) workers audited starts
     finishes flushed left)
     × IsTold audited starts finishes flushed answer w0 w1
     × Promises (state given) (λ p.
-    KeepsNight p (history_of worked.desk.book) (state given) (state left)
-    × IfOk flushed (λ n. AcksNight p (history_of worked.desk.book) n (state left))))))
+    KeepsNight p worked.desk.book.session.history (state given) (state left)
+    × IfOk flushed (λ n. AcksNight p worked.desk.book.session.history n (state left))))))

@@ -5,11 +5,10 @@ use Rattle.std.specs.Io.KnownBytes.{Appends, Consumes, IsAtEnd}
 use Rattle.run_model.specs.declared.faults.Trouble.{Trouble}
 use Rattle.run_model.specs.Session.{Session}
 use Rattle.run_state.specs.Lasting.{Stays}
-use Rattle.run_session.specs.Logged.{Logged}
 use Rattle.run_disk.specs.Disk.{DiskState}
 use Rattle.run_model.specs.declared.commands.Step.TheVariants as step
 use Rattle.book_model.specs.Steps.{StepsOn, reply_of_save}
-use Rattle.run_book.specs.Views.{BookView, holding}
+use Rattle.book_model.specs.Holdings.{BookView}
 use Rattle.console_lines.specs.declared.asked.Asked.{Asked}
 use Rattle.console_lines.specs.declared.asked.Asked.TheVariants as asked
 use Rattle.console_lines.specs.declared.lines.TheConstants.{LONGEST_INPUT}
@@ -22,14 +21,14 @@ use Rattle.console_lines.specs.Lines.{whole_lines, open_line, lines_of}
 use Rattle.console_lines.specs.Progress.{IsFront, WritesPart, kept}
 use Rattle.console_lines.specs.Replies.{reply_line}
 use Rattle.console_lines.specs.Script.{after_lines, closing, replies, replies_to, reply, script}
-use Rattle.console_lines.specs.Script.{steps_of}
+use Rattle.console_lines.specs.Script.{steps_of, after_line, after_lines}
 use Rattle.run_console.specs.Rows.{TakesAll, TriesLine, first_steps, next_steps, steps_asked}
-use Rattle.run_console.specs.SessionLines.{IsSaving, plain, logged_after, logged_after_lines}
+use Rattle.run_console.specs.SessionLines.{IsSaving}
 
 -- What is done or has ended stays so: each scope that was done is done still, for the same reason
 -- and with the same cause, each task that had ended is as it ended, and each group keeps its first
 -- error.
-abbrev pub Lasts : Logged → Logged → Type 0
+abbrev pub Lasts : Session → Session → Type 0
 Lasts b c = Stays b.state c.state
 
 -- Behind a text that was written, a front of the line of a trouble was written.
@@ -48,10 +47,10 @@ pub record RunsAll {D : Type 0} (state : D → DiskState) (b c : BookView D)
   pub read : Consumes r0 r1 bytes
   pub ended : IsAtEnd r1
   pub within : length bytes ≤ LONGEST_INPUT
-  pub session : c.session ≡ logged_after_lines b.session (lines_of bytes)
-  pub taken : TakesAll state (holding b) (steps_of (lines_of bytes) ++ step.Flush ∷ [])
-      (holding c)
-  pub written : Appends w0 w1 (script (plain b.session) bytes)
+  pub session : c.session ≡ after_lines b.session (lines_of bytes)
+  pub taken : TakesAll state b (steps_of (lines_of bytes) ++ step.Flush ∷ [])
+      c
+  pub written : Appends w0 w1 (script b.session bytes)
   pub saved : c.durable ≡ c.session.state.count
 
 -- What is replied to the lines that were run; where no line is left, the closing line is behind.
@@ -110,9 +109,9 @@ pub record RunStops {D : Type 0} (state : D → DiskState)
   pub ended : untried why left ≡ [] → IsAtEnd r1
   pub stopped : IsRunStopped why left
   pub reached : IsReached why bytes ran
-  pub session : c.session ≡ logged_after_lines b.session ran
-  pub tried : TriesLine state (holding b) why ran (next_steps left) (holding c)
-  pub written : IsWritten why (plain b.session) ran left w0 w1
+  pub session : c.session ≡ after_lines b.session ran
+  pub tried : TriesLine state b why ran (next_steps left) c
+  pub written : IsWritten why b.session ran left w0 w1
 
 -- What was written of a trouble's line: a front of it where the store stopped the run, else
 -- nothing.
@@ -124,13 +123,13 @@ IsTold _ told = told ≡ []
 -- LF ended, or, where the input was read to its end, of its script. Where the store stopped the
 -- run, a front of its trouble's line stands behind.
 pub record BeginsScript
-    (why : RunFault) (b : Logged) (r0 r1 w0 w1 : Option (List ℕ))
+    (why : RunFault) (b : Session) (r0 r1 w0 w1 : Option (List ℕ))
     : Type 0 where
   pub bytes : List ℕ
   pub read : Consumes r0 r1 bytes
   pub front : List ℕ
-  pub begins : IsFront front (replies (plain b) (whole_lines [] bytes))
-      ⊎ (IsAtEnd r1 × IsFront front (script (plain b) bytes))
+  pub begins : IsFront front (replies b (whole_lines [] bytes))
+      ⊎ (IsAtEnd r1 × IsFront front (script b bytes))
   pub told : List ℕ
   pub trouble : IsTold why told
   pub written : Appends w0 w1 (front ++ told)
@@ -141,9 +140,9 @@ pub record BeginsScript
 -- durable behind a flush and a checkpoint.
 pub record LineRuns {D : Type 0} (state : D → DiskState) (line : List ℕ) (b c : BookView D)
     (w0 w1 : Option (List ℕ)) : Type 0 where
-  pub session : c.session ≡ logged_after b.session line
-  pub taken : TakesAll state (holding b) (steps_of (line ∷ [])) (holding c)
-  pub written : Appends w0 w1 (reply (plain b.session) line)
+  pub session : c.session ≡ after_line b.session line
+  pub taken : TakesAll state b (steps_of (line ∷ [])) c
+  pub written : Appends w0 w1 (reply b.session line)
   pub saved : IsSaving (asked_of line) → c.durable ≡ c.session.state.count
 
 -- A line stopped. Where the writer failed, it was run, and a front of its reply was written, and
@@ -154,14 +153,14 @@ abbrev pub LineStops :
     {D : Type 0} → (D → DiskState) → RunFault → List ℕ → BookView D → BookView D
     → Option (List ℕ) → Option (List ℕ) → Type 0
 LineStops state fault.Output line b c w0 w1 =
-    (c.session ≡ logged_after b.session line) × WritesPart w0 w1 (reply (plain b.session) line)
-    × TakesAll state (holding b) (steps_of (line ∷ [])) (holding c)
+    (c.session ≡ after_line b.session line) × WritesPart w0 w1 (reply b.session line)
+    × TakesAll state b (steps_of (line ∷ [])) c
 LineStops state (fault.Store why) line b c w0 w1 =
     IsSaving (asked_of line) × (c.session ≡ b.session) × WritesTrouble why [] w0 w1
-    × StepsOn state (holding b) (steps_of (line ∷ [])) (reply_of_save (Err why) ∷ []) (holding c)
+    × StepsOn state b (steps_of (line ∷ [])) (reply_of_save (Err why) ∷ []) c
 LineStops state fault.Memory line b c w0 w1 =
     (asked_of line ≡ asked.Tally) × (c.session ≡ b.session) × Appends w0 w1 []
-    × (holding c ≡ holding b)
+    × (c ≡ b)
 LineStops state _ line b c w0 w1 = ⊥
 
 -- ---- for private functions: no public contract cites what follows
@@ -177,8 +176,8 @@ IsOfLine _ = Unit {0}
 -- It was done, and this is what it is replied: its step was taken, where it asks for one.
 pub record Does {D : Type 0} (state : D → DiskState) (a : Asked) (b c : BookView D)
     (answers : List Reply) : Type 0 where
-  pub taken : TakesAll state (holding b) (steps_asked a) (holding c)
-  pub replied : answers ≡ replies_to (plain b.session) a
+  pub taken : TakesAll state b (steps_asked a) c
+  pub replied : answers ≡ replies_to b.session a
   pub sound : c.journal.broken ≡ false
   pub lasts : Lasts b.session c.session
 
@@ -186,7 +185,7 @@ pub record Does {D : Type 0} (state : D → DiskState) (a : Asked) (b c : BookVi
 pub record Fails {D : Type 0} (state : D → DiskState) (a : Asked) (why : Trouble)
     (b c : BookView D) : Type 0 where
   pub saving : IsSaving a
-  pub tried : StepsOn state (holding b) (steps_asked a) (reply_of_save (Err why) ∷ []) (holding c)
+  pub tried : StepsOn state b (steps_asked a) (reply_of_save (Err why) ∷ []) c
   pub kept : c.session ≡ b.session
   pub lasts : Lasts b.session c.session
 
@@ -199,9 +198,9 @@ pub record Ran {D : Type 0} (state : D → DiskState)
     : Type 0 where
   pub out : List ℕ
   pub written : Appends w0 w1 out
-  pub replied : before ++ replies (plain b.session) lines ≡ out ++ gathered
-  pub session : c.session ≡ logged_after_lines b.session lines
-  pub taken : TakesAll state (holding b) (steps_of lines) (holding c)
+  pub replied : before ++ replies b.session lines ≡ out ++ gathered
+  pub session : c.session ≡ after_lines b.session lines
+  pub taken : TakesAll state b (steps_of lines) c
 
 -- What was written of a text, by what stopped: all of it, behind it a front of the line of a
 -- trouble, or, where the writer failed, a front of it and not all.
@@ -220,9 +219,9 @@ pub record Cut {D : Type 0} (state : D → DiskState)
   pub left : List (List ℕ)
   pub lines_are : lines ≡ ran ++ left
   pub stopped : IsStopped why left
-  pub written : Wrote why (before ++ replies (plain b.session) ran) w0 w1
-  pub session : c.session ≡ logged_after_lines b.session ran
-  pub tried : TriesLine state (holding b) why ran (first_steps left) (holding c)
+  pub written : Wrote why (before ++ replies b.session ran) w0 w1
+  pub session : c.session ≡ after_lines b.session ran
+  pub tried : TriesLine state b why ran (first_steps left) c
 
 -- A text went behind what was gathered before: the first bytes were written, and the rest is
 -- gathered.

@@ -5,7 +5,7 @@ use Rattle.run_model.specs.declared.answers.Reply.{Reply}
 use Rattle.run_model.specs.declared.commands.Step.{Step}
 use Rattle.run_model.specs.declared.commands.Step.TheVariants as step
 use Rattle.run_disk.specs.Disk.{DiskState}
-use Rattle.book_model.specs.Holdings.{Holding}
+use Rattle.book_model.specs.Holdings.{BookView}
 use Rattle.book_model.specs.Plays.{is_fault}
 use Rattle.book_model.specs.Steps.{StepsOn, reply_of_save}
 use Rattle.run_model.specs.declared.answers.Reply.TheVariants as told
@@ -19,8 +19,8 @@ use Rattle.console_lines.specs.Script.{step_of, steps_of}
 
 -- The book took these steps, one after another, and carried on by each. None was answered by a
 -- fault.
-pub record TakesAll {D : Type 0} (state : D → DiskState) (old : Holding D) (steps : List Step)
-    (new : Holding D) : Type 0 where
+pub record TakesAll {D : Type 0} (state : D → DiskState) (old : BookView D) (steps : List Step)
+    (new : BookView D) : Type 0 where
   pub answers : List Reply
   pub row : StepsOn state old steps answers new
   pub fine : list_any is_fault answers ≡ false
@@ -28,7 +28,7 @@ pub record TakesAll {D : Type 0} (state : D → DiskState) (old : Holding D) (st
 -- What became of the step that was next, by what stopped: a fault of the store is its answer;
 -- where the writer failed it was answered, or not tried; behind any other fault it wasn't tried.
 abbrev pub Tries :
-    {D : Type 0} → (D → DiskState) → Holding D → RunFault → List Step → Holding D → Type 0
+    {D : Type 0} → (D → DiskState) → BookView D → RunFault → List Step → BookView D → Type 0
 Tries state old (fault.Store why) steps new =
     StepsOn state old steps (reply_of_save (Err why) ∷ []) new
 Tries state old fault.Output steps new =
@@ -46,9 +46,9 @@ next_steps [] = step.Flush ∷ []
 next_steps (line ∷ left) = steps_of (line ∷ [])
 
 -- The steps of these lines were taken, and this became of the next.
-pub record TriesLine {D : Type 0} (state : D → DiskState) (old : Holding D) (why : RunFault)
-    (ran : List (List ℕ)) (next : List Step) (new : Holding D) : Type 0 where
-  pub middle : Holding D
+pub record TriesLine {D : Type 0} (state : D → DiskState) (old : BookView D) (why : RunFault)
+    (ran : List (List ℕ)) (next : List Step) (new : BookView D) : Type 0 where
+  pub middle : BookView D
   pub taken : TakesAll state old (steps_of ran) middle
   pub tried : Tries state middle why next new
 

@@ -5,18 +5,17 @@ use Rattle.std.specs.Io.KnownBytes.{Appends, Consumes, IsAtEnd}
 use Rattle.run_model.specs.Session.{Session}
 use Rattle.run_disk.specs.Disk.{DiskState}
 use Rattle.run_model.specs.declared.commands.Step.TheVariants as step
-use Rattle.run_book.specs.Views.{BookView, holding}
+use Rattle.book_model.specs.Holdings.{BookView}
 use Rattle.console_lines.specs.declared.lines.TheConstants.{LONGEST_INPUT}
 use Rattle.console_lines.specs.declared.faults.RunFault.{RunFault}
 use Rattle.console_lines.specs.declared.strays.StrayLine.{StrayLine}
 use Rattle.console_lines.specs.Lines.{whole_lines, open_line, lines_of}
 use Rattle.console_lines.specs.Strict.{stray_from, stray_in, strict_lines, strict_lines_of}
-use Rattle.console_lines.specs.Script.{steps_of}
+use Rattle.console_lines.specs.Script.{steps_of, after_lines}
 use Rattle.console_lines.specs.Strict.{strict_script}
 use Rattle.run_console.specs.Progress.{Cut, IsReached, IsRunStopped, IsWritten, PartRan, Ran}
 use Rattle.run_console.specs.Progress.{ReadsAll, untried}
 use Rattle.run_console.specs.Rows.{TakesAll, TriesLine, next_steps}
-use Rattle.run_console.specs.SessionLines.{plain, logged_after_lines}
 
 -- These lines stand first in what was read, with an LF behind the last of them, and fewer than so
 -- many bytes were read behind it.
@@ -40,15 +39,15 @@ pub record RunsStrictly {D : Type 0} (state : D → DiskState)
     : Type 0 where
   pub bytes : List ℕ
   pub read : Consumes r0 r1 bytes
-  pub stray_is : stray ≡ stray_in (plain old.session) bytes
-  pub read_for : IsReadFor (strict_lines_of (plain old.session) bytes) bytes r1
+  pub stray_is : stray ≡ stray_in old.session bytes
+  pub read_for : IsReadFor (strict_lines_of old.session bytes) bytes r1
   pub ended : stray ≡ None → IsAtEnd r1 × (length bytes ≤ LONGEST_INPUT)
   pub within : length bytes ≤ LONGEST_INPUT + 1
   pub session : new.session ≡
-      logged_after_lines old.session (strict_lines_of (plain old.session) bytes)
-  pub taken : TakesAll state (holding old)
-      (steps_of (strict_lines_of (plain old.session) bytes) ++ step.Flush ∷ []) (holding new)
-  pub written : Appends w0 w1 (strict_script (plain old.session) bytes)
+      after_lines old.session (strict_lines_of old.session bytes)
+  pub taken : TakesAll state old
+      (steps_of (strict_lines_of old.session bytes) ++ step.Flush ∷ []) new
+  pub written : Appends w0 w1 (strict_script old.session bytes)
   pub saved : new.durable ≡ new.session.state.count
 
 -- A strict run stopped, as a run does: the first lines up to the first that strays were run, and no
@@ -60,13 +59,13 @@ pub record StopsStrictly {D : Type 0} (state : D → DiskState)
   pub read : Consumes r0 r1 bytes
   pub ran : List (List ℕ)
   pub left : List (List ℕ)
-  pub lines_are : strict_lines_of (plain b.session) bytes ≡ ran ++ left
+  pub lines_are : strict_lines_of b.session bytes ≡ ran ++ left
   pub read_for : untried why left ≡ [] → IsReadFor (ran ++ left) bytes r1
   pub stopped : IsRunStopped why left
   pub reached : IsReached why bytes ran
-  pub session : c.session ≡ logged_after_lines b.session ran
-  pub tried : TriesLine state (holding b) why ran (next_steps left) (holding c)
-  pub written : IsWritten why (plain b.session) ran left w0 w1
+  pub session : c.session ≡ after_lines b.session ran
+  pub tried : TriesLine state b why ran (next_steps left) c
+  pub written : IsWritten why b.session ran left w0 w1
 
 -- ---- for private functions: no public contract cites what follows
 
@@ -95,7 +94,7 @@ pub record PartStrays {D : Type 0} (state : D → DiskState)
   pub behind : List ℕ
   pub part_is : part ≡ front ++ 10 ∷ behind
   pub ran : Ran state (lines_to begun front) b c before gathered w0 w1
-  pub found : Found n (plain b.session) (lines_to begun front) stray
+  pub found : Found n b.session (lines_to begun front) stray
 
 -- No line of it strays, and all were run.
 pub record PartClean {D : Type 0} (state : D → DiskState)
@@ -103,7 +102,7 @@ pub record PartClean {D : Type 0} (state : D → DiskState)
     (w0 w1 : Option (List ℕ))
     : Type 0 where
   pub runs : PartRan state begun part b c tail before gathered w0 w1
-  pub clean : Clean n m (plain b.session) (whole_lines begun part)
+  pub clean : Clean n m b.session (whole_lines begun part)
 
 -- One of both.
 abbrev pub PartRuns :
@@ -123,7 +122,7 @@ pub record PartCut {D : Type 0} (state : D → DiskState)
   pub front : List ℕ
   pub behind : List ℕ
   pub part_is : part ≡ front ++ 10 ∷ behind
-  pub none : stray_from n (plain b.session) (whole_lines begun front) ≡ None
+  pub none : stray_from n b.session (whole_lines begun front) ≡ None
   pub cut : Cut state why (lines_to begun front) b c before w0 w1
 
 -- The input was read to its end, and no line that an LF ends strays.
@@ -131,7 +130,7 @@ pub record ReadsClean {D : Type 0} (state : D → DiskState)
     (m : ℕ) (b c : BookView D) (tail : List ℕ) (r0 r1 w0 w1 : Option (List ℕ))
     : Type 0 where
   pub reads : ReadsAll state b c tail r0 r1 w0 w1
-  pub clean : Clean 1 m (plain b.session) (whole_lines [] reads.bytes)
+  pub clean : Clean 1 m b.session (whole_lines [] reads.bytes)
 
 -- The lines of a strict run were run, and their replies written or gathered.
 pub record RanStrictly {D : Type 0} (state : D → DiskState)
@@ -140,11 +139,11 @@ pub record RanStrictly {D : Type 0} (state : D → DiskState)
     : Type 0 where
   pub bytes : List ℕ
   pub read : Consumes r0 r1 bytes
-  pub stray_is : stray ≡ stray_in (plain b.session) bytes
-  pub read_for : IsReadFor (strict_lines_of (plain b.session) bytes) bytes r1
+  pub stray_is : stray ≡ stray_in b.session bytes
+  pub read_for : IsReadFor (strict_lines_of b.session bytes) bytes r1
   pub ended : stray ≡ None → IsAtEnd r1 × (length bytes ≤ LONGEST_INPUT)
   pub within : length bytes ≤ LONGEST_INPUT + 1
-  pub ran : Ran state (strict_lines_of (plain b.session) bytes) b c [] gathered w0 w1
+  pub ran : Ran state (strict_lines_of b.session bytes) b c [] gathered w0 w1
 
 -- They were up to the line that strays; else all but the last of the input were.
 abbrev pub ReadsStrictly :

@@ -6,7 +6,7 @@ use Rattle.run_model.specs.declared.faults.Fault.TheVariants.{DiskFailed, Number
 use Rattle.run_model.specs.declared.faults.Trouble.{Trouble}
 use Rattle.run_model.specs.declared.faults.Trouble.TheVariants.{Faulty}
 use Rattle.run_disk.specs.Disk.{DiskState, last_moment}
-use Rattle.book_model.specs.Holdings.{Holding}
+use Rattle.book_model.specs.Holdings.{BookView}
 use Rattle.console_lines.specs.declared.faults.RunFault.{RunFault}
 use Rattle.console_lines.specs.declared.faults.RunFault.TheVariants as fault
 
@@ -16,34 +16,34 @@ stopped of_store.Memory = fault.Memory
 stopped why = fault.Store (Faulty why)
 
 -- A device call failed since, or the disk is spent.
-abbrev pub DeviceFails : {D : Type 0} → (D → DiskState) → Holding D → Holding D → Type 0
+abbrev pub DeviceFails : {D : Type 0} → (D → DiskState) → BookView D → BookView D → Type 0
 DeviceFails state old new =
     ((state old.journal.disk).failures < (state new.journal.disk).failures)
     ⊎ ((state new.journal.disk).clock ≡ last_moment)
 
 -- The trouble is that no generation is left for a checkpoint, and the book isn't broken.
-pub record TellsSpent {D : Type 0} (why : Trouble) (new : Holding D) : Type 0 where
+pub record TellsSpent {D : Type 0} (why : Trouble) (new : BookView D) : Type 0 where
   pub told : why ≡ Faulty NumbersSpent
   pub sound : new.journal.broken ≡ false
   pub last : new.journal.generation ≡ 2 ^ 63 - 1
 
 -- The trouble is that a device call failed since, or the disk is spent, and the book is broken.
-pub record TellsFailed {D : Type 0} (state : D → DiskState) (old : Holding D) (why : Trouble)
-    (new : Holding D) : Type 0 where
+pub record TellsFailed {D : Type 0} (state : D → DiskState) (old : BookView D) (why : Trouble)
+    (new : BookView D) : Type 0 where
   pub told : why ≡ Faulty DiskFailed
   pub broken : new.journal.broken ≡ true
   pub cause : DeviceFails state old new
 
 -- The trouble is one of these two.
 abbrev pub Tells :
-    {D : Type 0} → (D → DiskState) → Holding D → Trouble → Holding D → Type 0
+    {D : Type 0} → (D → DiskState) → BookView D → Trouble → BookView D → Type 0
 Tells state old why new = TellsSpent why new ⊎ TellsFailed state old why new
 
 -- What a fault that stopped a run over a book that wasn't broken says of its store: the fault of
 -- the store tells its trouble; where the writer failed, a book that is broken had a trouble, too,
 -- whose line wasn't written; behind any other fault the book isn't broken.
 abbrev pub Accounts :
-    {D : Type 0} → (D → DiskState) → Holding D → RunFault → Holding D → Type 0
+    {D : Type 0} → (D → DiskState) → BookView D → RunFault → BookView D → Type 0
 Accounts state old (fault.Store why) new = Tells state old why new
 Accounts state old fault.Output new = new.journal.broken ≡ true → DeviceFails state old new
 Accounts state old _ new = new.journal.broken ≡ false

@@ -1,29 +1,32 @@
 //! The console over a book: a line is run and replied to, and so is each line of an input.
 
-ghost use Rattle.std.specs.Prelude.{◌≡◌, ◌∷◌, [], Err, List, ℕ, true, false, OnOk, IfErr};
-ghost use Rattle.std.specs.Prelude.{IfOk};
+ghost use Rattle.std.specs.Prelude.{◌≡◌, ◌∷◌, ◌+◌, ◌++◌, ◌≤◌, [], Err, List, ℕ, true, false};
+ghost use Rattle.std.specs.Prelude.{OnOk, IfErr, IfOk};
 ghost use Rattle.std.specs.Option.{option_to_list};
+ghost use Rattle.arrayvec.specs.ArrayVec.{array_vec_len};
 ghost use Rattle.book_model.specs.Holdings.{CarriesOn};
-ghost use Rattle.run_book.specs.Views.{holding};
 ghost use Rattle.run_model.specs.declared.commands.Step.TheVariants as step;
 ghost use Rattle.run_model.specs.declared.faults.Trouble.TheVariants.{Refused};
 ghost use Rattle.run_model.specs.declared.refusals.Refusal.TheVariants.{Broken};
 ghost use Rattle.console_lines.specs.Asked.{asked_of};
-ghost use Rattle.console_lines.specs.Script.{closing};
+ghost use Rattle.console_lines.specs.Replies.{reply_lines};
+ghost use Rattle.console_lines.specs.Script.{closing, scope_reply};
+ghost use Rattle.console_lines.specs.declared.gathers.TheConstants.{LONGEST_REPLY};
 ghost use Rattle.console_lines.specs.Strict.{stray_among, stray_at};
 ghost use Rattle.run_console.specs.Progress.{BeginsScript, Cut, EndStops, IsOfLine, Lasts};
 ghost use Rattle.run_console.specs.Progress.{LineRuns, LineStops, Ran, RunStops, RunsAll, Told};
 ghost use Rattle.run_console.specs.Rows.{TakesAll, Tries};
-ghost use Rattle.run_console.specs.SessionLines.{IsSaving, is_tally, plain};
+ghost use Rattle.run_console.specs.SessionLines.{IsSaving, is_tally};
 
 use crate::answers::{flush, reply_to};
 use crate::inputs::{OpenLine, run_whole_lines};
 use crate::tallies::gather_tally;
 use crate::writings::{Gathered, gather_reply, make_room, stop, write_gathered};
-use console_lines::{Asked, Reply, RunFault, Stray, read_line};
+use console_lines::{Asked, Reply, RunFault, Stray, gather_scope, read_line};
 use run_book::Book;
 use run_disk::RunDisk;
-use run_model::{Refusal, Trouble};
+use run_model::{Name, Refusal, Trouble};
+use run_state::{LookView, State};
 use std::alloc::Allocator;
 use std::io::{Read, Write};
 
@@ -64,7 +67,7 @@ pub fn run<A: Allocator + Copy, R: Read, W: Write, D: RunDisk, B: Allocator>(
         → (result ≡ Err (RunFault.Store (Refused Broken))) × (book.new ≡ book.old)
         × (input.new ≡ input.old) × (output.new ≡ output.old) }
     ensures lasts { Lasts book.old.session book.new.session }
-    ensures carries_on { CarriesOn D.state (holding book.old) (holding book.new) }
+    ensures carries_on { CarriesOn D.state book.old book.new }
 {
     let _durable = book.durable();
     if book.is_broken() {
@@ -95,7 +98,7 @@ pub fn line<A: Allocator + Copy, W: Write, D: RunDisk, B: Allocator>(
         → (result ≡ Err (RunFault.Store (Refused Broken))) × (book.new ≡ book.old)
         × (output.new ≡ output.old) }
     ensures lasts { Lasts book.old.session book.new.session }
-    ensures carries_on { CarriesOn D.state (holding book.old) (holding book.new) }
+    ensures carries_on { CarriesOn D.state book.old book.new }
 {
     let _durable = book.durable();
     if book.is_broken() {
@@ -136,16 +139,16 @@ pub fn close<W: Write, D: RunDisk, B: Allocator>(
     book: &mut Book<D, B>,
 ) -> Result<(), RunFault>
     requires sound { book.old.journal.broken ≡ false }
-    ensures whole { OnOk result (Told (closing (plain book.old.session)) gathered.old.items []
+    ensures whole { OnOk result (Told (closing book.old.session) gathered.old.items []
         (W.contents output.old) (W.contents output.new)) }
     ensures stops { IfErr result (λ fault. EndStops fault
-        (closing (plain book.old.session)) gathered.old.items
+        (closing book.old.session) gathered.old.items
         (W.contents output.old) (W.contents output.new)) }
     ensures session { book.new.session ≡ book.old.session }
-    ensures taken { OnOk result (TakesAll D.state (holding book.old) (step.Flush ∷ [])
-        (holding book.new)) }
-    ensures tried { IfErr result (λ fault. Tries D.state (holding book.old) fault
-        (step.Flush ∷ []) (holding book.new)) }
+    ensures taken { OnOk result (TakesAll D.state book.old (step.Flush ∷ [])
+        book.new) }
+    ensures tried { IfErr result (λ fault. Tries D.state book.old fault
+        (step.Flush ∷ []) book.new) }
     ensures saved { OnOk result (book.new.durable ≡ book.new.session.state.count) }
     ensures lasts { Lasts book.old.session book.new.session }
 {
@@ -176,7 +179,7 @@ pub fn gather_line<A: Allocator + Copy, W: Write, D: RunDisk, B: Allocator>(
         → IfErr result (λ fault. Cut D.state fault (line ∷ []) book.old book.new
         gathered.old.items (W.contents output.old) (W.contents output.new)) }
     ensures strays { (line : List ℕ) → asked_of line ≡ asked_of bytes.now
-        → IfOk result (λ why. why ≡ stray_at (plain book.old.session) line) }
+        → IfOk result (λ why. why ≡ stray_at book.old.session line) }
     ensures fault { IfErr result IsOfLine }
     ensures sound { OnOk result (book.new.journal.broken ≡ false) }
     ensures saved { IsSaving (asked_of bytes.now)
@@ -189,6 +192,9 @@ pub fn gather_line<A: Allocator + Copy, W: Write, D: RunDisk, B: Allocator>(
         return Ok(None);
     }
     make_room(gathered, output)?;
+    if let Asked::Scope(name) = &asked {
+        return Ok(gather_look(name, book.state(), gathered));
+    }
     match reply_to(&asked, book) {
         Ok(reply) => {
             let why = stray_of(&reply);
@@ -196,6 +202,33 @@ pub fn gather_line<A: Allocator + Copy, W: Write, D: RunDisk, B: Allocator>(
             Ok(why)
         }
         Err(trouble) => Err(stop(trouble, gathered, output)),
+    }
+}
+
+/// Gathers how the scope of this name is. Its cause is lent by the state, since this is what is
+/// asked most often. It answers why the line strays, where it does.
+fn gather_look<B: Allocator>(
+    name: &Name,
+    state: &State<B>,
+    gathered: &mut Gathered,
+) -> Option<Stray>
+    requires { array_vec_len gathered.old + LONGEST_REPLY ≤ 8192 }
+    ensures told { gathered.new.items
+        ≡ gathered.old.items ++ reply_lines (scope_reply state.now name.now ∷ []) }
+    ensures strays { result ≡ stray_among (scope_reply state.now name.now ∷ []) }
+{
+    match state
+        .find_scope(name)
+        .and_then(|scope| state.look_view(scope))
+    {
+        Some(LookView { done, deadline }) => {
+            gather_scope(done, deadline, gathered);
+            None
+        }
+        None => {
+            Reply::Refused(Refusal::NoSuchScope).gather(gathered);
+            Some(Stray::Refused(Refusal::NoSuchScope))
+        }
     }
 }
 

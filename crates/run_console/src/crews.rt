@@ -1,12 +1,10 @@
 //! A night of worker threads over a store, and what is told of it.
 
-ghost use Rattle.std.specs.Prelude.{◌≡◌, ◌+◌, ◌++◌, ◌<◌, ◌≤◌, codes, length, vec_len};
-ghost use Rattle.std.specs.Prelude.{IfErr, IfOk};
+ghost use Rattle.std.specs.Prelude.{◌≡◌, ◌+◌, ◌++◌, ◌<◌, ◌≤◌, codes, length, vec_len, IfErr, IfOk};
 ghost use Rattle.std.specs.Fmt.{decimal};
 ghost use Rattle.arrayvec.specs.ArrayVec.{array_vec_len};
 ghost use Rattle.run_model.specs.declared.faults.Fault.TheVariants.{Memory};
-ghost use Rattle.run_session.specs.Logged.{begun_at};
-ghost use Rattle.run_book.specs.Views.{holding};
+ghost use Rattle.run_model.specs.Session.{begun_at};
 ghost use Rattle.run_crew.specs.Openings.{Carries};
 ghost use Rattle.console_lines.specs.Gathers.{Gathers};
 ghost use Rattle.run_console.specs.Crews.{CrewEnds, IsTold, IsWorked, WasLeft, audit_line};
@@ -118,7 +116,7 @@ fn work<
     requires finishes { (finishes.name ≡ F.name) × (finishes.parts ≡ F.parts)
         × (vec_len jobs < F.parts) }
     requires begun { book.session ≡ begun_at book.session.start }
-    requires carries { Carries O.opening D.state (holding book) }
+    requires carries { Carries O.opening D.state book }
     ensures worked { IfOk result.0 (λ night. IsWorked D.state O.opening (vec_len jobs)
         night.audited night.starts night.finishes night.flushed result.1) }
     ensures left { WasLeft D.state O.opening result.1 }

@@ -5,15 +5,17 @@
 
 ghost use Rattle.std.specs.Io.{ReadsAtMost};
 ghost use Rattle.std.specs.Io.KnownBytes.{ReadConsumes};
-ghost use Rattle.std.specs.Prelude.{◌≡◌, [], false, List, ℕ, OnOk, IfErr};
+ghost use Rattle.std.specs.Prelude.{◌≡◌, [], ◌∷◌, ◌++◌, false, List, ℕ, OnOk, IfErr};
 ghost use Rattle.console_lines.specs.Lines.{whole_lines};
 ghost use Rattle.console_lines.specs.Progress.{kept};
-ghost use Rattle.run_console.specs.Progress.{Cut, IsOfLine, Lasts, PartRan, ReadsAll, RunStops};
+ghost use Rattle.run_console.specs.Progress.{Cut, IsOfLine, Lasts, PartRan, Ran, ReadsAll};
+ghost use Rattle.run_console.specs.Progress.{RunStops};
 
 use crate::consoles::gather_line;
 use crate::writings::{Gathered, write_gathered};
 use arrayvec::ArrayVec;
 use console_lines::{LONGEST_INPUT, LONGEST_LINE, RunFault};
+use memchr::memchr;
 use run_book::Book;
 use run_disk::RunDisk;
 use std::alloc::Allocator;
@@ -89,15 +91,58 @@ fn run_part<A: Allocator + Copy, W: Write, D: RunDisk, B: Allocator>(
     ensures sound { OnOk result (book.new.journal.broken ≡ false) }
     ensures lasts { Lasts book.old.session book.new.session }
 {
-    for byte in part {
-        if *byte == b'\n' {
-            gather_line(alloc, tail.as_slice(), gathered, output, book)?;
-            tail.clear();
-        } else if !tail.is_full() {
-            tail.push(*byte);
-        }
+    let mut rest = part;
+    while let Some(end) = memchr(b'\n', rest) {
+        end_line(alloc, &rest[..end], output, book, tail, gathered)?;
+        rest = &rest[end + 1..];
     }
+    keep(rest, tail);
     Ok(())
+}
+
+/// Runs the line that these bytes end, and gathers its reply. A line that was not begun before
+/// them is lent from them, and not copied.
+fn end_line<A: Allocator + Copy, W: Write, D: RunDisk, B: Allocator>(
+    alloc: A,
+    end: &[u8],
+    output: &mut W,
+    book: &mut Book<D, B>,
+    tail: &mut OpenLine,
+    gathered: &mut Gathered,
+) -> Result<(), RunFault>
+    requires sound { book.old.journal.broken ≡ false }
+    ensures ran { (begun : List ℕ) → tail.old.items ≡ kept begun
+        → OnOk result (Ran D.state ((begun ++ end.now) ∷ []) book.old book.new
+        gathered.old.items gathered.new.items
+        (W.contents output.old) (W.contents output.new)) }
+    ensures none { OnOk result (tail.new.items ≡ []) }
+    ensures cut { (begun : List ℕ) → tail.old.items ≡ kept begun
+        → IfErr result (λ fault. Cut D.state fault ((begun ++ end.now) ∷ [])
+        book.old book.new gathered.old.items
+        (W.contents output.old) (W.contents output.new)) }
+    ensures fault { IfErr result IsOfLine }
+    ensures sound { OnOk result (book.new.journal.broken ≡ false) }
+    ensures lasts { Lasts book.old.session book.new.session }
+{
+    if tail.is_empty() {
+        gather_line(alloc, end, gathered, output, book)?;
+        return Ok(());
+    }
+    keep(end, tail);
+    gather_line(alloc, tail.as_slice(), gathered, output, book)?;
+    tail.clear();
+    Ok(())
+}
+
+/// Keeps so many of these bytes as there is room for, behind those that are kept.
+fn keep(bytes: &[u8], tail: &mut OpenLine)
+    ensures { tail.new.items ≡ kept (tail.old.items ++ bytes.now) }
+{
+    let most = tail.remaining_capacity().min(bytes.len());
+    match tail.try_extend_from_slice(&bytes[..most]) {
+        Ok(()) => (),
+        Err(_) => unreachable!(),
+    }
 }
 
 /// Reads some bytes; none where the input is at its end.

@@ -5,8 +5,7 @@
 ghost use Rattle.std.specs.Prelude.{◌≡◌, List, Option, ℕ, Some, false};
 ghost use Rattle.run_model.specs.declared.commands.Step.{Step};
 ghost use Rattle.run_model.specs.Session.{Session, replies, reply_of_step};
-ghost use Rattle.book_model.specs.Holdings.{Holding, IsSession};
-ghost use Rattle.run_book.specs.Views.{BookView, holding};
+ghost use Rattle.book_model.specs.Holdings.{BookView, IsReached};
 ghost use Rattle.console_lines.specs.declared.faults.RunFault.{RunFault};
 ghost use Rattle.console_lines.specs.Asked.{asked_of};
 ghost use Rattle.console_lines.specs.Replies.{reply_line};
@@ -21,10 +20,9 @@ use run_disk::RunDisk;
 /// What is printed for a line that asks for a step is what the step was answered: the steps of
 /// lines that were run were answered as the session says, and a line's reply is that answer's line.
 pub fn what_is_printed_is_what_was_answered<D: RunDisk>()
-    ensures row { (old new : Holding D) (s : Session) (lines : List (List ℕ))
-        → old.journal.broken ≡ false → IsSession old s
-        → (taken : TakesAll D.state old (steps_of lines) new)
-        → taken.answers ≡ replies s (steps_of lines) }
+    ensures row { (old new : BookView D) (lines : List (List ℕ)) → old.journal.broken ≡ false
+        → IsReached old → (taken : TakesAll D.state old (steps_of lines) new)
+        → taken.answers ≡ replies old.session (steps_of lines) }
     ensures line { (s : Session) (line : List ℕ) (x : Step) → step_of (asked_of line) ≡ Some x
         → reply s line ≡ reply_line (printed (reply_of_step s x)) }
 {}
@@ -35,12 +33,12 @@ pub fn what_is_printed_is_what_was_answered<D: RunDisk>()
 pub fn a_fault_that_stops_a_run_has_its_cause<D: RunDisk>()
     ensures run { (why : RunFault) (b c : BookView D) (r0 r1 w0 w1 : Option (List ℕ))
         → b.journal.broken ≡ false → RunStops D.state why b c r0 r1 w0 w1
-        → Accounts D.state (holding b) why (holding c) }
+        → Accounts D.state b why c }
     ensures strict { (why : RunFault) (b c : BookView D) (r0 r1 w0 w1 : Option (List ℕ))
         → b.journal.broken ≡ false → StopsStrictly D.state why b c r0 r1 w0 w1
-        → Accounts D.state (holding b) why (holding c) }
+        → Accounts D.state b why c }
     ensures line { (why : RunFault) (line : List ℕ) (b c : BookView D)
         (w0 w1 : Option (List ℕ)) → b.journal.broken ≡ false
         → LineStops D.state why line b c w0 w1
-        → Accounts D.state (holding b) why (holding c) }
+        → Accounts D.state b why c }
 {}

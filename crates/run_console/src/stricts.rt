@@ -3,7 +3,6 @@
 ghost use Rattle.std.specs.Prelude.{◌≡◌, ◌<◌, ◌+◌, ◌^◌, [], Err, List, ℕ, true, false, length};
 ghost use Rattle.std.specs.Prelude.{IfErr, IfOk, OnOk};
 ghost use Rattle.book_model.specs.Holdings.{CarriesOn};
-ghost use Rattle.run_book.specs.Views.{holding};
 ghost use Rattle.run_model.specs.declared.faults.Trouble.TheVariants.{Refused};
 ghost use Rattle.run_model.specs.declared.refusals.Refusal.TheVariants.{Broken};
 ghost use Rattle.console_lines.specs.Progress.{kept};
@@ -50,7 +49,7 @@ pub fn run_strict<A: Allocator + Copy, R: Read, W: Write, D: RunDisk, B: Allocat
         → (result ≡ Err (RunFault.Store (Refused Broken))) × (book.new ≡ book.old)
         × (input.new ≡ input.old) × (output.new ≡ output.old) }
     ensures lasts { Lasts book.old.session book.new.session }
-    ensures carries_on { CarriesOn D.state (holding book.old) (holding book.new) }
+    ensures carries_on { CarriesOn D.state book.old book.new }
 {
     let _durable = book.durable();
     if book.is_broken() {

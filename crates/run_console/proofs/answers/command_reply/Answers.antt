@@ -1,9 +1,8 @@
 use Rattle.std.proofs.Common.{refl, sym, ap}
-use Rattle.std.specs.Prelude.{length}
 use Rattle.run_model.specs.declared.answers.Reply.TheVariants as told
 use Rattle.run_model.specs.declared.commands.Step.TheVariants as step
 use Rattle.run_model.specs.Replies.{reply}
-use Rattle.run_session.specs.Logged.{after_command}
+use Rattle.run_model.specs.Session.{after_step}
 use Rattle.console_lines.specs.declared.asked.Asked.TheVariants as asked
 use Rattle.console_lines.specs.declared.replies.Reply.TheVariants as said
 use Rattle.console_lines.specs.Script.{answered}
@@ -16,8 +15,8 @@ returns-in-Ok-clause-does g c =
     does_step g.D.RunDisk.state (asked.Command c.args.call.now) (step.Command c.args.call.now)
     told.Answer said.Answered
     c.args.book.now c.command.new.self
-    (after_command s c.args.call.now) c.command.result
-    (reply s.state (length s.log) c.args.call.now) _ refl refl (λ y. refl)
+    (after_step s (step.Command c.args.call.now)) c.command.result
+    (reply s.state s.log c.args.call.now) _ refl refl (λ y. refl)
     c.requires c.command.ensures.reply c.command.ensures.after c.command.ensures.answers
     c.command.ensures.carries_on c.command.ensures.stays
     (ap (answered said.Answered) (sym c.in-Ok.is))
@@ -28,8 +27,8 @@ returns-in-Err-clause-does g c =
     does_step g.D.RunDisk.state (asked.Command c.args.call.now) (step.Command c.args.call.now)
     told.Answer said.Answered
     c.args.book.now c.command.new.self
-    (after_command s c.args.call.now) c.command.result
-    (reply s.state (length s.log) c.args.call.now) _ refl refl (λ y. refl)
+    (after_step s (step.Command c.args.call.now)) c.command.result
+    (reply s.state s.log c.args.call.now) _ refl refl (λ y. refl)
     c.requires c.command.ensures.reply c.command.ensures.after c.command.ensures.answers
     c.command.ensures.carries_on c.command.ensures.stays
     (ap (answered said.Answered) (sym c.in-Err.is))

@@ -2,7 +2,7 @@ use Rattle.std.proofs.Common.{refl, sym, ap}
 use Rattle.run_model.specs.declared.answers.Reply.TheVariants as told
 use Rattle.run_model.specs.declared.commands.Step.TheVariants as step
 use Rattle.run_model.specs.Replies.{reply_finish}
-use Rattle.run_session.specs.Logged.{after_finish}
+use Rattle.run_model.specs.Session.{after_step}
 use Rattle.console_lines.specs.declared.asked.Asked.TheVariants as asked
 use Rattle.console_lines.specs.declared.replies.Reply.TheVariants as said
 use Rattle.console_lines.specs.Script.{answered}
@@ -16,7 +16,8 @@ returns-in-Ok-clause-does g c =
     (step.Finish c.args.task c.args.outcome.now)
     told.Finished said.Finished
     c.args.book.now c.finish.new.self
-    (after_finish s c.args.task c.args.outcome.now) c.finish.result
+    (after_step s
+    (step.Finish c.args.task c.args.outcome.now)) c.finish.result
     (reply_finish s.state c.args.task c.args.outcome.now) _ refl refl (λ y. refl)
     c.requires c.finish.ensures.reply c.finish.ensures.after c.finish.ensures.answers
     c.finish.ensures.carries_on c.finish.ensures.stays
@@ -29,7 +30,8 @@ returns-in-Err-clause-does g c =
     (step.Finish c.args.task c.args.outcome.now)
     told.Finished said.Finished
     c.args.book.now c.finish.new.self
-    (after_finish s c.args.task c.args.outcome.now) c.finish.result
+    (after_step s
+    (step.Finish c.args.task c.args.outcome.now)) c.finish.result
     (reply_finish s.state c.args.task c.args.outcome.now) _ refl refl (λ y. refl)
     c.requires c.finish.ensures.reply c.finish.ensures.after c.finish.ensures.answers
     c.finish.ensures.carries_on c.finish.ensures.stays

@@ -9,7 +9,7 @@ use Rattle.console_lines.specs.declared.replies.Reply.{Reply}
 use Rattle.console_lines.specs.declared.replies.Reply.TheVariants as said
 use Rattle.console_lines.specs.Script.{group_reply, scope_reply, task_reply, value_reply}
 use Rattle.run_console.specs.Progress.{Does, Fails}
-use Rattle.run_console.specs.SessionLines.{logged_asked}
+use Rattle.console_lines.specs.Script.{after_asked}
 use Rattle.run_console.proofs.Doing.{does_none, said_of}
 use Rattle.run_console.proofs.answers.reply_to.Goals as goal
 
@@ -118,7 +118,7 @@ pub returns-in-Flush-clause-session : goal.returns-in-Flush-clause-session
 returns-in-Flush-clause-session g c =
     on_ok_weaker c.flush_reply.result
     (λ h. c.flush_reply.ensures.session
-    ∙ ap (logged_asked c.args.book.now.session) (sym c.in-Flush.is))
+    ∙ ap (after_asked c.args.book.now.session) (sym c.in-Flush.is))
     c.flush_reply.ensures.saved
 
 pub returns-in-Flush-clause-saved : goal.returns-in-Flush-clause-saved
@@ -140,7 +140,7 @@ pub returns-in-Checkpoint-clause-session : goal.returns-in-Checkpoint-clause-ses
 returns-in-Checkpoint-clause-session g c =
     on_ok_weaker c.checkpoint_reply.result
     (λ h. c.checkpoint_reply.ensures.session
-    ∙ ap (logged_asked c.args.book.now.session) (sym c.in-Checkpoint.is))
+    ∙ ap (after_asked c.args.book.now.session) (sym c.in-Checkpoint.is))
     c.checkpoint_reply.ensures.saved
 
 pub returns-in-Checkpoint-clause-saved : goal.returns-in-Checkpoint-clause-saved

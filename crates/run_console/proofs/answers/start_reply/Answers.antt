@@ -1,9 +1,8 @@
 use Rattle.std.proofs.Common.{refl, sym, ap}
-use Rattle.std.specs.Prelude.{length}
 use Rattle.run_model.specs.declared.answers.Reply.TheVariants as told
 use Rattle.run_model.specs.declared.commands.Step.TheVariants as step
 use Rattle.run_model.specs.Replies.{reply_start}
-use Rattle.run_session.specs.Logged.{after_start}
+use Rattle.run_model.specs.Session.{after_step}
 use Rattle.console_lines.specs.declared.asked.Asked.TheVariants as asked
 use Rattle.console_lines.specs.declared.replies.Reply.TheVariants as said
 use Rattle.console_lines.specs.Script.{answered}
@@ -16,8 +15,8 @@ returns-in-Ok-clause-does g c =
     does_step g.D.RunDisk.state asked.Start step.Start
     told.Started said.Started
     c.args.book.now c.start.new.self
-    (after_start s) c.start.result
-    (reply_start s.state (length s.log)) _ refl refl (λ y. refl)
+    (after_step s step.Start) c.start.result
+    (reply_start s.state s.log) _ refl refl (λ y. refl)
     c.requires c.start.ensures.reply c.start.ensures.after c.start.ensures.answers
     c.start.ensures.carries_on c.start.ensures.stays
     (ap (answered said.Started) (sym c.in-Ok.is))
@@ -28,8 +27,8 @@ returns-in-Err-clause-does g c =
     does_step g.D.RunDisk.state asked.Start step.Start
     told.Started said.Started
     c.args.book.now c.start.new.self
-    (after_start s) c.start.result
-    (reply_start s.state (length s.log)) _ refl refl (λ y. refl)
+    (after_step s step.Start) c.start.result
+    (reply_start s.state s.log) _ refl refl (λ y. refl)
     c.requires c.start.ensures.reply c.start.ensures.after c.start.ensures.answers
     c.start.ensures.carries_on c.start.ensures.stays
     (ap (answered said.Started) (sym c.in-Err.is))

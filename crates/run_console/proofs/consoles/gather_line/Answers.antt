@@ -5,23 +5,24 @@ use Rattle.std.proofs.lemmas.Result.{err_from_is_err_and}
 use Rattle.run_model.specs.State.{State}
 use Rattle.run_model.specs.Session.{Session}
 use Rattle.console_lines.specs.declared.asked.Asked.{Asked}
+use Rattle.console_lines.specs.declared.asked.Asked.TheVariants as asked
 use Rattle.run_state.proofs.Staying.{stays_same}
 use Rattle.console_lines.specs.Asked.{asked_of}
 use Rattle.console_lines.specs.Replies.{reply_lines}
-use Rattle.console_lines.specs.Script.{reply}
+use Rattle.console_lines.specs.Script.{reply, scope_reply}
 use Rattle.console_lines.specs.Tallies.{tallies_of}
 use Rattle.console_lines.specs.declared.replies.Reply.TheVariants as said
 use Rattle.run_console.specs.Progress.{Told, Untold}
-use Rattle.run_console.specs.SessionLines.{IsSaving, is_tally, plain}
+use Rattle.run_console.specs.SessionLines.{IsSaving, is_tally}
 use Rattle.run_console.proofs.Ends.{cut_stopped, of_line, of_tally, told_more}
 use Rattle.run_console.proofs.LineSteps.{line_obeyed, line_replies, line_strays, line_tally}
 use Rattle.run_console.proofs.LineSteps.{saves_no_tally, tally_asked, tally_leaves, tally_stays}
+use Rattle.run_console.proofs.Looks.{looks}
 use Rattle.run_console.proofs.Lines.{cut_before, cut_untold, ran_line}
 use Rattle.book_model.specs.Steps.{StepsOn, reply_of_save}
 use Rattle.run_console.specs.Rows.{TakesAll, steps_asked}
 use Rattle.run_console.proofs.Rows.{takes_none, takes_tally}
 use Rattle.run_console.proofs.consoles.gather_line.Goals as goal
-use Rattle.run_book.specs.Views.{holding}
 
 -- ---- a tally
 
@@ -47,15 +48,15 @@ returns-then-is_tally-clause-ran g c = λ line e.
     ran_line g.D.RunDisk.state line b b f h w0 w1
     (tally_leaves b.session line c.read_line-asked.result read
     (sym c.is_tally.ensures ∙ c.if-is_tally.true))
-    (takes_tally g.D.RunDisk.state (holding b) line (tally_asked line c.read_line-asked.result read
+    (takes_tally g.D.RunDisk.state b line (tally_asked line c.read_line-asked.result read
     (sym c.is_tally.ensures ∙ c.if-is_tally.true)))
-    (subst P (tallied (plain b.session) c.state.result.now line c.read_line-asked.result
+    (subst P (tallied b.session c.state.result.now line c.read_line-asked.result
     c.state.ensures.state read (sym c.is_tally.ensures ∙ c.if-is_tally.true))
     c.in_ok-gather_tally.ensures.told)
 
 pub returns-then-is_tally-clause-strays : goal.returns-then-is_tally-clause-strays
 returns-then-is_tally-clause-strays g c = λ line e.
-    tally_stays (plain c.args.book.now.session) line c.read_line-asked.result
+    tally_stays c.args.book.now.session line c.read_line-asked.result
     (c.read_line-asked.ensures ∙ sym e) (sym c.is_tally.ensures ∙ c.if-is_tally.true)
 
 pub returns-in_err-gather_tally-clause-cut : goal.returns-in_err-gather_tally-clause-cut
@@ -72,7 +73,7 @@ returns-in_err-gather_tally-clause-cut g c = λ line e.
     (tally_asked line c.read_line-asked.result read (sym c.is_tally.ensures ∙ c.if-is_tally.true))
     (tally_leaves b.session line c.read_line-asked.result read
     (sym c.is_tally.ensures ∙ c.if-is_tally.true))
-    (subst (λ t. Untold why t f w0 w1) (tallied (plain b.session) c.state.result.now line
+    (subst (λ t. Untold why t f w0 w1) (tallied b.session c.state.result.now line
     c.read_line-asked.result
     c.state.ensures.state read (sym c.is_tally.ensures ∙ c.if-is_tally.true))
     c.in_err-gather_tally.ensures.untold))
@@ -109,13 +110,58 @@ returns-in_err-make_room-clause-cut g c = λ line e.
     (g.W.Write.contents c.args.output.now)
     (g.W.Write.contents c.make_room.new.output) refl
     (record {
-      middle = holding b;
-      taken = takes_none g.D.RunDisk.state (holding b);
+      middle = b;
+      taken = takes_none g.D.RunDisk.state b;
       tried = inl refl;
     }) c.in_err-make_room.ensures.cut)
 
 pub returns-in_err-make_room-clause-lasts : goal.returns-in_err-make_room-clause-lasts
 returns-in_err-make_room-clause-lasts g c = stays_same c.args.book.now.session.state
+
+-- ---- a look
+
+pub gather_look-requires : goal.gather_look-requires
+gather_look-requires g c = omega (arith, c.in_ok-make_room.ensures.room)
+
+pub returns-in-Scope-clause-ran : goal.returns-in-Scope-clause-ran
+returns-in-Scope-clause-ran g c = λ line e.
+    let b = c.args.book.now in
+    let f = c.args.gathered.now.items in
+    let m = c.make_room.new.gathered.items in
+    let h = c.gather_look.new.gathered.items in
+    let w0 = g.W.Write.contents c.args.output.now in
+    let w1 = g.W.Write.contents c.make_room.new.output in
+    let a = asked.Scope c.in-Scope.name in
+    let p = c.state-in-Scope.result.now in
+    let said = scope_reply p c.in-Scope.name ∷ [] in
+    let read : a ≡ asked_of line = sym c.in-Scope.is ∙ c.read_line-asked.ensures ∙ sym e in
+    let does = looks g.D.RunDisk.state b p c.in-Scope.name c.requires.sound
+    c.state-in-Scope.ensures.state in
+    ran_line g.D.RunDisk.state line b b f h w0 w1
+    (line_obeyed b.session b.session line a read refl)
+    (subst (λ (q : Asked). TakesAll g.D.RunDisk.state b (steps_asked q) b) read
+    does.taken)
+    (told_more (reply b.session line) f m h w0 w1 c.in_ok-make_room.ensures.told
+    (c.gather_look.ensures.told
+    ∙ ap (λ t. m ++ t) (line_replies b.session line a said read does.replied)))
+
+pub returns-in-Scope-clause-strays : goal.returns-in-Scope-clause-strays
+returns-in-Scope-clause-strays g c = λ line e.
+    let b = c.args.book.now in
+    let p = c.state-in-Scope.result.now in
+    let does = looks g.D.RunDisk.state b p c.in-Scope.name c.requires.sound
+    c.state-in-Scope.ensures.state in
+    c.gather_look.ensures.strays
+    ∙ line_strays b.session line (asked.Scope c.in-Scope.name)
+    (scope_reply p c.in-Scope.name ∷ [])
+    (sym c.in-Scope.is ∙ c.read_line-asked.ensures ∙ sym e) does.replied
+
+pub returns-in-Scope-clause-saved : goal.returns-in-Scope-clause-saved
+returns-in-Scope-clause-saved g c = λ saving.
+    absurd (subst IsSaving (sym c.read_line-asked.ensures ∙ c.in-Scope.is) saving)
+
+pub returns-in-Scope-clause-lasts : goal.returns-in-Scope-clause-lasts
+returns-in-Scope-clause-lasts g c = stays_same c.args.book.now.session.state
 
 -- ---- a trouble
 
@@ -127,8 +173,8 @@ returns-in-Err-clause-cut g c = λ line e.
     (g.W.Write.contents c.args.output.now) (g.W.Write.contents c.make_room.new.output)
     (g.W.Write.contents c.stop.new.output)
     (subst IsSaving read c.in-Err.ensures.fails.saving) c.in-Err.ensures.fails.kept
-    (subst (λ (a : Asked). StepsOn g.D.RunDisk.state (holding c.args.book.now) (steps_asked a)
-    (reply_of_save (Err c.in-Err.trouble) ∷ []) (holding c.reply_to.new.book)) read
+    (subst (λ (a : Asked). StepsOn g.D.RunDisk.state c.args.book.now (steps_asked a)
+    (reply_of_save (Err c.in-Err.trouble) ∷ []) c.reply_to.new.book) read
     c.in-Err.ensures.fails.tried)
     c.in_ok-make_room.ensures.told c.stop.ensures
 
@@ -159,18 +205,18 @@ returns-in-Ok-clause-ran g c = λ line e.
     let read = c.read_line-asked.ensures ∙ sym e in
     ran_line g.D.RunDisk.state line b d f h w0 w1 (line_obeyed b.session d.session line a read
     c.in-Ok.ensures.session)
-    (subst (λ (q : Asked). TakesAll g.D.RunDisk.state (holding b) (steps_asked q) (holding d)) read
+    (subst (λ (q : Asked). TakesAll g.D.RunDisk.state b (steps_asked q) d) read
     c.in-Ok.ensures.does.taken)
-    (told_more (reply (plain b.session) line) f m h w0 w1 c.in_ok-make_room.ensures.told
+    (told_more (reply b.session line) f m h w0 w1 c.in_ok-make_room.ensures.told
     (c.gather_reply.ensures
     ∙ ap (λ t. m ++ t)
-    (line_replies (plain b.session) line a (option_to_list c.in-Ok.reply) read
+    (line_replies b.session line a (option_to_list c.in-Ok.reply) read
     c.in-Ok.ensures.does.replied)))
 
 pub returns-in-Ok-clause-strays : goal.returns-in-Ok-clause-strays
 returns-in-Ok-clause-strays g c = λ line e.
     c.stray_of-why.ensures
-    ∙ line_strays (plain c.args.book.now.session) line c.read_line-asked.result
+    ∙ line_strays c.args.book.now.session line c.read_line-asked.result
     (option_to_list c.in-Ok.reply) (c.read_line-asked.ensures ∙ sym e) c.in-Ok.ensures.does.replied
 
 pub returns-in-Ok-clause-lasts : goal.returns-in-Ok-clause-lasts

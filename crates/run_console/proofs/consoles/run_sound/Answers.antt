@@ -6,14 +6,12 @@ use Rattle.console_lines.specs.Script.{closing}
 use Rattle.console_lines.specs.declared.faults.RunFault.{RunFault}
 use Rattle.run_console.specs.Progress.{Cut, EndStops, Ran, RunStops}
 use Rattle.run_console.specs.Rows.{TakesAll, Tries}
-use Rattle.run_console.specs.SessionLines.{plain}
 use Rattle.run_console.proofs.Going.{lasts_then}
 use Rattle.run_console.proofs.LineSteps.{both_ok, both_then, same_asked}
 use Rattle.run_console.proofs.Wholes.{runs_all, stops_closing, stops_in_the_last}
 use Rattle.run_console.proofs.consoles.run_sound.Given.{Over}
 use Rattle.run_console.proofs.consoles.run_sound.Goals as goal
 use Rattle.run_console.proofs.consoles.run_sound.Goals.{After-close}
-use Rattle.run_book.specs.Views.{holding}
 
 -- ---- the last line
 
@@ -63,7 +61,7 @@ returns-clause-all g c =
     let state = g.D.RunDisk.state in
     let d = c.gather_line.new.book in
     let e = c.close.new.book in
-    let Taken : Type 0 = TakesAll state (holding d) (step.Flush ∷ []) (holding e) in
+    let Taken : Type 0 = TakesAll state d (step.Flush ∷ []) e in
     let Saved : Type 0 = e.durable ≡ e.session.state.count in
     both_ok c.close.result
     (λ h (then : Taken × Saved). runs_all state c.args.book.now c.run_whole_lines.new.book d e
@@ -89,9 +87,9 @@ returns-clause-stops g c =
     let w1 = g.W.Write.contents c.run_whole_lines.new.output in
     let w2 = g.W.Write.contents c.gather_line.new.output in
     let w3 = g.W.Write.contents c.close.new.output in
-    let Ends : RunFault → Type 0 = λ why. EndStops why (closing (plain d.session)) f w2 w3 in
+    let Ends : RunFault → Type 0 = λ why. EndStops why (closing d.session) f w2 w3 in
     let Flushed : RunFault → Type 0 = λ why.
-    Tries state (holding d) why (step.Flush ∷ []) (holding e) in
+    Tries state d why (step.Flush ∷ []) e in
     let Stops : RunFault → Type 0 = λ why. RunStops state why b e r0 r1 w0 w3 in
     both_then c.close.result Ends Flushed Stops
     (λ why h flushed. stops_closing state why b c.run_whole_lines.new.book d e

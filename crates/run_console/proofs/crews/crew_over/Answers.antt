@@ -1,7 +1,6 @@
 use Rattle.std.proofs.Common.{◌≡◌, ◌∙◌, Err, ap, inl, inr, refl, subst}
 use Rattle.std.specs.Prelude.{IfErr, IfOk, vec_len}
 use Rattle.run_model.specs.declared.faults.Fault.TheVariants as fault
-use Rattle.run_book.specs.Views.{holding}
 use Rattle.run_crew.specs.Openings.{From, opened_of}
 use Rattle.run_console.specs.Crews.{IsWorked}
 use Rattle.run_console.specs.Troubles.{stopped}
@@ -33,7 +32,7 @@ returns-in-Err-night g c =
         ap Err (c.stopped-in-Err-night.ensures ∙ ap stopped told),
         refl,
         λ honest rest p stores. (
-          left.book.history,
+          left.book.session.history,
           keeps_night state c.args.disk b c.in-Ok.ensures.opens c.in-Ok.ensures.session honest rest
               p stores left.book left.carries c.work-night.result.1 left.disk,
         ),
@@ -46,7 +45,7 @@ returns-in-Ok-night g c =
     let b = c.in-Ok.book in
     let night = c.in-Ok-night.night in
     let left = c.work-night.result.1 in
-    let worked = subst (λ r. IfOk r (λ n. IsWorked state (From (opened_of state (holding b)))
+    let worked = subst (λ r. IfOk r (λ n. IsWorked state (From (opened_of state b))
     (vec_len c.args.jobs) n.audited n.starts n.finishes n.flushed left)) c.in-Ok-night.is
     c.work-night.ensures.worked in
     inr (
@@ -62,7 +61,7 @@ returns-in-Ok-night g c =
         c.tell.ensures,
         λ honest rest p stores. (
           keeps_night state c.args.disk b c.in-Ok.ensures.opens c.in-Ok.ensures.session honest rest
-              p stores (holding worked.desk.book) worked.carries left worked.disk,
+              p stores worked.desk.book worked.carries left worked.disk,
           acks_told state c.args.disk b c.in-Ok.ensures.opens c.in-Ok.ensures.session honest rest
               p stores worked.desk.book worked.carries left night.flushed worked.disk
               worked.replays worked.durable worked.acked,

@@ -1,4 +1,3 @@
-use Rattle.run_book.specs.Views.{holding}
 use Rattle.run_crew.specs.Openings.{From, opened_of}
 use Rattle.run_console.proofs.crews.crew_over.Given as goal
 
@@ -9,4 +8,4 @@ abbrev pub ghosts-work-F-Ledger : goal.ghosts-work-F-Ledger
 ghosts-work-F-Ledger g a = record { name = a.finishes.name; parts = a.finishes.parts }
 
 abbrev pub ghosts-work-O-Opening : goal.ghosts-work-O-Opening
-ghosts-work-O-Opening g a = record { opening = From (opened_of g.D.RunDisk.state (holding a.book)) }
+ghosts-work-O-Opening g a = record { opening = From (opened_of g.D.RunDisk.state a.book) }

@@ -1,5 +1,5 @@
 use Rattle.std.proofs.Common.{◌∙◌, ap, sym}
-use Rattle.run_book.specs.Views.{BookView, holding}
+use Rattle.book_model.specs.Holdings.{BookView}
 use Rattle.run_crew.specs.Desks.{DeskView}
 use Rattle.run_crew.specs.Notes.{noted}
 use Rattle.run_crew.specs.Seats.{SeatView}
@@ -23,14 +23,14 @@ returns-clause-worked g c =
       desk = c.flush-flushed.new.self;
       lists = c.as_slice.result.now;
       flushes = c.flush-flushed.ensures.flushes;
-      session = c.flush-flushed.ensures.session;
+      session = c.flush-flushed.ensures.flushes.saves.session;
       carries = c.book-book.ensures.carries;
       disk = sym (c.into_disk-disk.ensures
           ∙ ap (λ (b : BookView _). b.journal.disk) c.into_book-2.ensures.book
           ∙ ap (λ (d : DeskView _). d.book.journal.disk) c.settle-starts.ensures.same.0);
       acked = acknowledged g.D.RunDisk.state c.into_inner-desk.result.book
-          c.flush-flushed.new.self.book c.flush-flushed.result c.book-book.ensures.replays
-          c.flush-flushed.ensures.session c.flush-flushed.ensures.flushes.saves;
+          c.flush-flushed.new.self.book c.flush-flushed.result
+          c.flush-flushed.ensures.flushes.saves;
       replays = c.book-book.ensures.replays;
       durable = c.book-book.ensures.images;
       audit = c.audit-audited.ensures.answer;
@@ -45,7 +45,7 @@ returns-clause-worked g c =
 
 pub returns-in-Err-clause-left : goal.returns-in-Err-clause-left
 returns-in-Err-clause-left g c = record {
-  book = holding c.into_inner-desk.result.book;
+  book = c.into_inner-desk.result.book;
   carries = c.into_book.ensures.carries;
   disk = sym (c.into_disk.ensures
       ∙ ap (λ (b : BookView _). b.journal.disk) c.into_book.ensures.book);
@@ -53,7 +53,7 @@ returns-in-Err-clause-left g c = record {
 
 pub returns-clause-left : goal.returns-clause-left
 returns-clause-left g c = record {
-  book = holding c.settle-starts.new.self.book;
+  book = c.settle-starts.new.self.book;
   carries = c.into_book-2.ensures.carries;
   disk = sym (c.into_disk-disk.ensures
       ∙ ap (λ (b : BookView _). b.journal.disk) c.into_book-2.ensures.book);
