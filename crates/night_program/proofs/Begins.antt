@@ -5,15 +5,13 @@ use Rattle.run_model.specs.declared.faults.Fault.{Fault}
 use Rattle.run_model.specs.declared.layouts.Layout.{Layout}
 use Rattle.run_model.specs.declared.layouts.Layout.TheVariants.{Small, Large}
 use Rattle.run_model.specs.Layouts.{store_len}
-use Rattle.run_model.specs.Session.{opened}
+use Rattle.run_model.specs.Session.{opened, begun_at}
 use Rattle.run_model.specs.State.{State, formatted}
 use Rattle.run_disk.specs.Disk.{DiskState, IsDisk}
-use Rattle.run_session.specs.Logged.{begun_at}
 use Rattle.book_model.specs.Openings.{HasFormatted, HasOpened}
 use Rattle.book_model.specs.Stores.{Stores, restarted}
 use Rattle.book_model.proofs.Storing.{stores_one}
-use Rattle.run_book.specs.Views.{BookView, holding}
-use Rattle.run_console.specs.SessionLines.{plain}
+use Rattle.book_model.specs.Holdings.{BookView}
 
 -- The number of bytes tells the layout.
 small_is : (size : ℕ) (layout : Layout)
@@ -43,29 +41,29 @@ module _ {D : Type 0} (state : D → DiskState) (first given : D) where
       → (state first).honest
       → (state first).size ≡ store_len Small
       → HasFormatted (state first) (state given)
-      → HasOpened state given (holding b)
+      → HasOpened state given b
       → b.session ≡ begun_at b.session.start
-      → plain b.session ≡ opened Small
+      → b.session ≡ opened Small
   begins b is_disk honest size made opened begun =
       let start : b.session.start ≡ restarted (formatted Small) =
-      opened.opened.start
+      ap (λ s. s.start) opened.opened.session
       ∙ ap restarted (found_is opened.stored is_disk honest size made opened.found.stores) in
-      ap plain begun ∙ ap (λ (p : State). plain (begun_at p)) start
+      begun ∙ ap begun_at start
 
   pub book_begins : (r : Result (BookView D) Fault)
       → IsDisk (state given)
       → (state first).honest
       → (state first).size ≡ store_len Small
       → HasFormatted (state first) (state given)
-      → IfOk r (λ b. HasOpened state given (holding b))
+      → IfOk r (λ b. HasOpened state given b)
       → IfOk r (λ b. b.session ≡ begun_at b.session.start)
-      → IfOk r (λ b. plain b.session ≡ opened Small)
+      → IfOk r (λ b. b.session ≡ opened Small)
   book_begins (Ok b) is_disk honest size made opened begun =
       begins b is_disk honest size made opened begun
   book_begins (Err e) is_disk honest size made opened begun = tt
 
   pub book_sound : (r : Result (BookView D) Fault)
-      → IfOk r (λ b. HasOpened state given (holding b))
+      → IfOk r (λ b. HasOpened state given b)
       → IfOk r (λ b. b.journal.broken ≡ false)
   book_sound (Ok b) opened = opened.opened.sound
   book_sound (Err e) opened = tt

@@ -9,13 +9,12 @@ use Rattle.run_model.specs.Session.{opened}
 use Rattle.run_disk.specs.declared.memory_disks.MemoryDisk.{MemoryDisk}
 use Rattle.run_disk.specs.Disk.{DiskState}
 use Rattle.run_disk.specs.MemoryDisks.{state_of}
-use Rattle.run_book.specs.Views.{BookView}
+use Rattle.book_model.specs.Holdings.{BookView}
 use Rattle.console_lines.specs.declared.faults.RunFault.{RunFault}
 use Rattle.console_lines.specs.declared.faults.RunFault.TheVariants.{Output}
 use Rattle.console_lines.specs.declared.strays.StrayLine.{StrayLine}
 use Rattle.console_lines.specs.Progress.{WritesPart}
 use Rattle.run_console.specs.Progress.{BeginsScript, RunStops, RunsAll}
-use Rattle.run_console.specs.SessionLines.{plain}
 use Rattle.run_console.specs.Strict.{RunsStrictly, StopsStrictly}
 use Rattle.night_program.specs.Demos.{DemoEnds, IsRun, IsUnrun, StrictDemoEnds}
 use Rattle.night_program.specs.Stores.{Prints, Runs, RunsStrict}
@@ -49,7 +48,7 @@ ran_strict state (Err why) r0 r1 w0 w1 b c runs stops = stops
 -- So of a strict run over a book in memory that was just opened.
 pub strict_demo_ends : (r : Result (Option StrayLine) RunFault)
     (r0 r1 w0 w1 : Option (List ℕ)) (b c : BookView (MemoryDisk Global))
-    → plain b.session ≡ opened Small
+    → b.session ≡ opened Small
     → IfOk r (λ stray. RunsStrictly state_of stray b c r0 r1 w0 w1)
     → IfErr r (λ why. StopsStrictly state_of why b c r0 r1 w0 w1)
     → StrictDemoEnds r r0 r1 w0 w1

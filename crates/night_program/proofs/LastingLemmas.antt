@@ -6,14 +6,13 @@ use Rattle.run_model.specs.State.{State, formatted}
 use Rattle.run_disk.specs.Disk.{DiskState, IsAtRest, IsDisk}
 use Rattle.run_disk.specs.Runs.{LeavesOnly}
 use Rattle.run_disk.proofs.RunLemmas.{leaves_only_more}
-use Rattle.book_model.specs.Holdings.{CarriesOn, Holding, IsSafe, acked}
+use Rattle.book_model.specs.Holdings.{CarriesOn, BookView, IsSafe, acked}
 use Rattle.book_model.specs.Openings.{HasFormatted, Opens}
 use Rattle.book_model.specs.Standing.{LiesWith}
 use Rattle.book_model.specs.Stores.{Stores, StoresFront, StoresOpened, restarted}
 use Rattle.book_model.proofs.HoldingLemmas.{stores_fewer}
 use Rattle.book_model.proofs.Storing.{stores_one}
 use Rattle.console_lines.specs.declared.faults.RunFault.{RunFault}
-use Rattle.run_crew.specs.Desks.{history_of}
 use Rattle.run_console.specs.Crews.{CrewEnds, StoresNight}
 use Rattle.run_console.proofs.Nights.{opened_night}
 use Rattle.night_program.specs.Lasting.{FindsLeft, StoresWork}
@@ -28,48 +27,48 @@ module _ {D : Type 0} (state : D → DiskState) where
   formatted_is_found given left next made disk honest finds =
       made.stores honest (state next).now (disk.only_now (state next).now finds.content)
 
-  start_is : (given : D) (p : State) (b : Holding D) → LiesWith state given p
-      → Opens state given (Ok b) → b.start ≡ restarted p
+  start_is : (given : D) (p : State) (b : BookView D) → LiesWith state given p
+      → Opens state given (Ok b) → b.session.start ≡ restarted p
   start_is given p b lies opens =
-      opens.answer.opened.start
+      ap (λ s. s.start) opens.answer.opened.session
       ∙ ap restarted (stores_one (state given).now opens.answer.stored p
       (opens.answer.found.stores lies.honest) lies.stores)
 
-  safe_then : (given : D) (p : State) (b : Holding D) → LiesWith state given p
+  safe_then : (given : D) (p : State) (b : BookView D) → LiesWith state given p
       → Opens state given (Ok b) → IsSafe state b
   safe_then given p b lies opens = record {
     honest = opens.answer.opened.passed.honest lies.honest;
     rest = subst (λ d. IsAtRest (state d)) (sym opens.answer.opened.origin) lies.rest;
   }
 
-  pub cut_is_found : (given next : D) (p : State) (b c : Holding D) → LiesWith state given p
+  pub cut_is_found : (given next : D) (p : State) (b c : BookView D) → LiesWith state given p
       → Opens state given (Ok b) → CarriesOn state b c
       → FindsLeft state given c.journal.disk next
-      → StoresNight p c.history (state next).now
+      → StoresNight p c.session.history (state next).now
   cut_is_found given next p b c lies opens on finds =
-      let all : LeavesOnly (StoresNight p c.history) (state given) (state c.journal.disk) =
-      leaves_only_more (StoresOpened p) (StoresFront c.start c.history (acked b))
-      (StoresNight p c.history) (state given) (state b.journal.disk) (state c.journal.disk)
+      let all : LeavesOnly (StoresNight p c.session.history) (state given) (state c.journal.disk) =
+      leaves_only_more (StoresOpened p) (StoresFront c.session.start c.session.history (acked b))
+      (StoresNight p c.session.history) (state given) (state b.journal.disk) (state c.journal.disk)
       (opens.any_moment lies.honest lies.rest p lies.stores)
       (on.any_moment (safe_then given p b lies opens))
-      (λ x s. opened_night p c.history x s)
+      (λ x s. opened_night p c.session.history x s)
       (λ x s.
-      inr (stores_fewer (restarted p) c.history (acked b) 0 x (omega arith)
-      (subst (λ q. StoresFront q c.history (acked b) x)
+      inr (stores_fewer (restarted p) c.session.history (acked b) 0 x (omega arith)
+      (subst (λ q. StoresFront q c.session.history (acked b) x)
       (on.start ∙ start_is given p b lies opens) s))) in
       all.each (state next).now finds.content
 
-  pub held_is_found : (given next : D) (p : State) (b m c : Holding D) → LiesWith state given p
+  pub held_is_found : (given next : D) (p : State) (b m c : BookView D) → LiesWith state given p
       → Opens state given (Ok b) → CarriesOn state b m → CarriesOn state m c
       → FindsLeft state m.journal.disk c.journal.disk next
-      → StoresFront (restarted p) c.history (acked m) (state next).now
+      → StoresFront (restarted p) c.session.history (acked m) (state next).now
   held_is_found given next p b m c lies opens first second finds =
       let safe = safe_then given p b lies opens in
       let left = second.any_moment (record {
         honest = first.passed.honest safe.honest;
         rest = subst (λ d. IsAtRest (state d)) (sym first.origin) safe.rest;
       }) in
-      subst (λ q. StoresFront q c.history (acked m) (state next).now)
+      subst (λ q. StoresFront q c.session.history (acked m) (state next).now)
       (second.start ∙ first.start ∙ start_is given p b lies opens)
       (left.each (state next).now finds.content)
 
@@ -97,7 +96,7 @@ module _ {D : Type 0} (state : D → DiskState) where
       finds =
       let kept = (promises lies.honest lies.rest p lies.stores).0 in
       record {
-        work = history_of worked.desk.book;
+        work = worked.desk.book.session.history;
         only = kept.only;
         stores = kept.any_moment.each (state next).now finds.content;
       }

@@ -6,15 +6,13 @@ use Rattle.std.specs.Io.KnownBytes.{Appends}
 use Rattle.run_model.specs.declared.faults.Fault.{Fault}
 use Rattle.run_model.specs.State.{State}
 use Rattle.run_disk.specs.Disk.{DiskState, IsAtRest}
-use Rattle.book_model.specs.Holdings.{CarriesOn}
-use Rattle.book_model.specs.Openings.{FormatsNot, HasFormatted, HasRecovered, Opens}
-use Rattle.book_model.specs.Openings.{RecoversNone}
+use Rattle.book_model.specs.Holdings.{CarriesOn, BookView}
+use Rattle.book_model.specs.Openings.{FormatsNot, HasFormatted, HasRecovered, Opens, RecoversNone}
 use Rattle.book_model.specs.declared.migrations.MigrateFault.{MigrateFault}
 use Rattle.book_model.specs.declared.migrations.MigrateFault.TheVariants as of_two
 use Rattle.book_model.specs.Migrations.{Migrates}
-use Rattle.run_session.specs.Logged.{begun_at}
+use Rattle.run_model.specs.Session.{begun_at}
 use Rattle.run_book.specs.Renewals.{Renews}
-use Rattle.run_book.specs.Views.{BookView, holding}
 use Rattle.console_lines.specs.declared.faults.RunFault.{RunFault}
 use Rattle.console_lines.specs.declared.faults.RunFault.TheVariants.{Memory, Output}
 use Rattle.console_lines.specs.declared.strays.StrayLine.{StrayLine}
@@ -72,11 +70,11 @@ pub record RunsOver {D : Type 0} (state : D → DiskState) (Ran : BookView D →
     (given left : D) : Type 0 where
   pub before : BookView D
   pub after : BookView D
-  pub opened : Opens state given (Ok (holding before))
+  pub opened : Opens state given (Ok before)
   pub begun : before.session ≡ begun_at before.session.start
   pub runs : Ran before after
   pub lasts : Lasts before.session after.session
-  pub carries_on : CarriesOn state (holding before) (holding after)
+  pub carries_on : CarriesOn state before after
   pub disk : left ≡ after.journal.disk
 
 -- The store was opened, and the input run over it so. Or it was not opened, and nothing was read or

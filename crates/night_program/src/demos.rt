@@ -3,11 +3,8 @@
 ghost use Rattle.std.specs.Prelude.{◌≡◌, false, IfErr, IfOk, OnOk};
 ghost use Rattle.run_model.specs.declared.layouts.Layout.TheVariants.{Small};
 ghost use Rattle.run_model.specs.Layouts.{store_len};
-ghost use Rattle.run_model.specs.Session.{opened};
-ghost use Rattle.run_session.specs.Logged.{begun_at};
+ghost use Rattle.run_model.specs.Session.{opened, begun_at};
 ghost use Rattle.book_model.specs.Openings.{HasFormatted, HasOpened};
-ghost use Rattle.run_book.specs.Views.{holding};
-ghost use Rattle.run_console.specs.SessionLines.{plain};
 ghost use Rattle.night_program.specs.Demos.{IsRun, IsUnopened, IsUnrun, StrictDemoEnds};
 
 use console_lines::{RunFault, StrayLine};
@@ -64,7 +61,7 @@ fn not_opened(fault: Fault) -> RunFault
 
 /// A book over a small disk in memory, which was just formatted and opened.
 fn small_book(alloc: Global) -> Result<Book<MemoryDisk>, Fault>
-    ensures opened { IfOk result (λ book. plain book.session ≡ opened Small) }
+    ensures opened { IfOk result (λ book. book.session ≡ opened Small) }
     ensures sound { IfOk result (λ book. book.journal.broken ≡ false) }
 {
     let disk = MemoryDisk::new(alloc, SMALL_STORE)?;
@@ -75,7 +72,7 @@ fn small_book(alloc: Global) -> Result<Book<MemoryDisk>, Fault>
 fn new_book<D: RunDisk + Drop>(alloc: Global, disk: D) -> Result<Book<D>, Fault>
     requires honest { (D.state disk).honest }
     requires size { (D.state disk).size ≡ store_len Small }
-    ensures opened { IfOk result (λ book. plain book.session ≡ opened Small) }
+    ensures opened { IfOk result (λ book. book.session ≡ opened Small) }
     ensures sound { IfOk result (λ book. book.journal.broken ≡ false) }
 {
     let formatted = format(disk)?;
@@ -94,7 +91,7 @@ fn format<D: RunDisk + Drop>(disk: D) -> Result<D, Fault>
 
 /// A book that was just opened over a disk.
 fn open<D: RunDisk + Drop>(alloc: Global, disk: D) -> Result<Book<D>, Fault>
-    ensures opened { IfOk result (λ book. HasOpened D.state disk (holding book)) }
+    ensures opened { IfOk result (λ book. HasOpened D.state disk book) }
     ensures session { IfOk result (λ book. book.session ≡ begun_at book.session.start) }
 {
     match Book::open(alloc, disk) {

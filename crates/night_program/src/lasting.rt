@@ -3,7 +3,7 @@
 ghost use Rattle.std.specs.Prelude.{◌≡◌, ℕ, List, Bool, Option, Ok, Result, ⊤};
 ghost use Rattle.std.specs.Io.KnownBytes.{Appends};
 ghost use Rattle.run_model.specs.State.{State, formatted};
-ghost use Rattle.book_model.specs.Holdings.{CarriesOn, Holding, acked};
+ghost use Rattle.book_model.specs.Holdings.{CarriesOn, BookView, acked};
 ghost use Rattle.book_model.specs.Openings.{HasFormatted, Opens};
 ghost use Rattle.book_model.specs.Standing.{LiesWith};
 ghost use Rattle.book_model.specs.Stores.{Stores, StoresFront, restarted};
@@ -25,14 +25,14 @@ pub fn a_store_lasts_from_run_to_run<D: RunDisk>()
     ensures format { (given left next : D) → (made : HasFormatted (D.state given) (D.state left))
         → (D.state given).honest → FindsLeft D.state left left next
         → Stores (D.state next).now (formatted made.layout) }
-    ensures cut { (given next : D) (p : State) (b c : Holding D) → LiesWith D.state given p
+    ensures cut { (given next : D) (p : State) (b c : BookView D) → LiesWith D.state given p
         → Opens D.state given (Ok b) → CarriesOn D.state b c
         → FindsLeft D.state given c.journal.disk next
-        → StoresNight p c.history (D.state next).now }
-    ensures held { (given next : D) (p : State) (b m c : Holding D) → LiesWith D.state given p
+        → StoresNight p c.session.history (D.state next).now }
+    ensures held { (given next : D) (p : State) (b m c : BookView D) → LiesWith D.state given p
         → Opens D.state given (Ok b) → CarriesOn D.state b m → CarriesOn D.state m c
         → FindsLeft D.state m.journal.disk c.journal.disk next
-        → StoresFront (restarted p) c.history (acked m) (D.state next).now }
+        → StoresFront (restarted p) c.session.history (acked m) (D.state next).now }
     ensures crew { (given left next : D) (p : State) (workers : ℕ) (answer : Result Bool RunFault)
         (w0 w1 : Option (List ℕ)) → LiesWith D.state given p
         → CrewEnds D.state given workers answer left w0 w1

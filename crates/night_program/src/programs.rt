@@ -4,8 +4,7 @@ ghost use Rattle.std.specs.Prelude.{◌≡◌, map, vec_len, IfErr, IfOk};
 ghost use Rattle.std.specs.String.{string_bytes};
 ghost use Rattle.night_program.specs.Programs.{Does, DoesFormat, DoesInspect, DoesMigrate};
 ghost use Rattle.night_program.specs.Files.{Makes};
-ghost use Rattle.night_program.specs.Programs.{DoesRenew, DoesScript, IsLeft, IsRefused};
-ghost use Rattle.night_program.specs.Programs.{RunsWords};
+ghost use Rattle.night_program.specs.Programs.{DoesRenew, DoesScript, IsLeft, IsRefused, RunsWords};
 
 use crate::crews::crew_file;
 use crate::demos::{demo, demo_strict};

@@ -2,7 +2,6 @@
 
 ghost use Rattle.std.specs.Prelude.{◌≡◌, false};
 ghost use Rattle.book_model.specs.Holdings.{CarriesOn};
-ghost use Rattle.run_book.specs.Views.{holding};
 ghost use Rattle.run_console.specs.Progress.{Lasts};
 ghost use Rattle.night_program.specs.Stores.{Runs, RunsStrict};
 ghost use Rattle.night_program.specs.Timed.{DoesTimed, RunsTimed, StrictTimedEnds, TimedEnds};
@@ -104,7 +103,7 @@ fn run_timed<D: RunDisk, C: MachineTime, R: Read, W: Write>(
         (W.contents output.old) (W.contents output.new)) (R.remaining input.old)
         book.old book.new }
     ensures lasts { Lasts book.old.session book.new.session }
-    ensures carries_on { CarriesOn D.state (holding book.old) (holding book.new) }
+    ensures carries_on { CarriesOn D.state book.old book.new }
 {
     let mut lines = TimedInput::new(book.state().clock(), clock, input);
     run(alloc, &mut lines, output, book)
@@ -123,7 +122,7 @@ fn run_timed_strict<D: RunDisk, C: MachineTime, R: Read, W: Write>(
         (W.contents output.old) (W.contents output.new)) (R.remaining input.old)
         book.old book.new }
     ensures lasts { Lasts book.old.session book.new.session }
-    ensures carries_on { CarriesOn D.state (holding book.old) (holding book.new) }
+    ensures carries_on { CarriesOn D.state book.old book.new }
 {
     let mut lines = TimedInput::new(book.state().clock(), clock, input);
     run_strict(alloc, &mut lines, output, book)

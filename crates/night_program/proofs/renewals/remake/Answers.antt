@@ -16,3 +16,13 @@ returns-in-Err-sizes_on g c =
         c.in-Err-sizes_on.ensures.none,
       ),
     )
+
+pub returns-in-Ok-sizes_on : goal.returns-in-Ok-sizes_on
+returns-in-Ok-sizes_on g c =
+    record {
+      seen = c.sizes_on.new.disk;
+      made = c.in-Ok-renew.made;
+      before = c.in-Ok.ensures.found;
+      renewed = c.in-Ok-renew.ensures.renews;
+      behind = c.in-Ok-sizes_on.ensures.found;
+    }

@@ -3,6 +3,9 @@ use Rattle.night_program.proofs.stores.show.Goals as goal
 pub returns-in-Whole-clause-cut : goal.returns-in-Whole-clause-cut
 returns-in-Whole-clause-cut g c = rw c.in-Whole.is c.inspect.ensures.cut
 
+pub returns-in-Tasks-clause-whole : goal.returns-in-Tasks-clause-whole
+returns-in-Tasks-clause-whole g c = rw c.in-Tasks.is c.list_tasks.ensures.whole
+
 pub returns-in-Tasks-clause-cut : goal.returns-in-Tasks-clause-cut
 returns-in-Tasks-clause-cut g c = rw c.in-Tasks.is c.list_tasks.ensures.cut
 

@@ -1,0 +1,45 @@
+use Rattle.std.proofs.Common.{inl, inr, List, refl, subst, ℕ}
+use Rattle.night_program.proofs.replacements.put_renewed.Goals as goal
+
+pub returns-in-Ok-put : goal.returns-in-Ok-put
+returns-in-Ok-put g c =
+    record {
+      read = c.remake-done.new.old;
+      left = c.remake-done.result.1;
+      done = c.remake-done.result.0;
+      remakes = c.remake-done.ensures;
+      puts = rw c.in-Ok.is (inl (
+        rw c.requires.named at c.in-Ok-put.ensures.put,
+        (c.print_sizes.result, c.print_sizes.ensures, c.done_over.ensures),
+      ));
+    }
+
+pub returns-in-Ok : goal.returns-in-Ok
+returns-in-Ok g c =
+    record {
+      read = c.remake-done.new.old;
+      left = c.remake-done.result.1;
+      done = c.remake-done.result.0;
+      remakes = c.remake-done.ensures;
+      puts = rw c.in-Ok.is (inr (
+        rw c.requires.named at c.in-Err-put.ensures.not,
+        (c.no_file.result, refl, c.no_file.ensures),
+        refl,
+      ));
+    }
+
+pub returns : goal.returns
+returns g c =
+    let Gone : List ℕ → Type 0 = λ name.
+    g.F.Files.seen.removes c.args.files.now name c.remove.new.self in
+    record {
+      read = c.remake-done.new.old;
+      left = c.remake-done.result.1;
+      done = c.remake-done.result.0;
+      remakes = c.remake-done.ensures;
+      puts = rw c.in-Err.is (
+        subst Gone c.requires.named c.remove.ensures,
+        c.done_over_two.ensures,
+        refl,
+      );
+    }
