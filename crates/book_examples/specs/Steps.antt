@@ -12,7 +12,7 @@ use Rattle.run_disk.specs.Files.{file_state}
 use Rattle.model_examples.specs.Calls.{acked, checkpoint, derive, faulty, flush, refused}
 use Rattle.model_examples.specs.Calls.{scope_made}
 use Rattle.model_examples.specs.Nights.{new_store}
-use Rattle.book_model.specs.Holdings.{BookView}
+use Rattle.book_model.specs.Books.{BookView}
 use Rattle.book_examples.specs.Plays.{after_three, first_events, first_three, three_replies}
 
 -- ---- a disk

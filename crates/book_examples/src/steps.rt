@@ -12,7 +12,7 @@ ghost use Rattle.run_disk.specs.Disk.{last_moment};
 ghost use Rattle.model_examples.specs.Calls.{acked, checkpoint, faulty, flush, refused};
 ghost use Rattle.model_examples.specs.Calls.{scope_made, start};
 ghost use Rattle.model_examples.specs.Nights.{new_store};
-ghost use Rattle.book_model.specs.Holdings.{BookView};
+ghost use Rattle.book_model.specs.Books.{BookView};
 ghost use Rattle.book_model.specs.Nights.{HasKeptSince};
 ghost use Rattle.book_model.specs.Openings.{Formats, Opens, Recovers};
 ghost use Rattle.book_model.specs.Plays.{taken};

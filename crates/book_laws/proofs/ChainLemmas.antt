@@ -24,14 +24,14 @@ use Rattle.run_journal.specs.Pairs.{AreZeros}
 use Rattle.run_journal.proofs.LayoutLemmas.{one_layout}
 use Rattle.run_session.specs.Replays.{Replays}
 use Rattle.model_laws.proofs.Interrupts.{restarted as interrupted}
-use Rattle.book_model.specs.Holdings.{CarriesOn, BookView, IsOpened, IsUnsaved, acked}
+use Rattle.book_model.specs.Books.{CarriesOn, BookView, IsOpened, IsUnsaved, acked}
 use Rattle.book_model.specs.Nights.{opened_from}
 use Rattle.book_model.specs.Openings.{Formats, FormatsNot, HasFormatted, Opens, StopsFormat}
 use Rattle.book_model.specs.Plays.{Playing, Plays, is_device_failure, session_behind, sound, taken}
 use Rattle.book_model.specs.Steps.{PlaysInto, playing}
 use Rattle.book_model.specs.Stores.{Stores, StoresFront, StoresNothingOr, StoresOpened, restarted}
 use Rattle.book_model.proofs.FrontLemmas.{front_here, front_kept}
-use Rattle.book_model.proofs.HoldingLemmas.{carries_after, stores_fewer}
+use Rattle.book_model.proofs.BookLemmas.{carries_after, stores_fewer}
 use Rattle.book_model.proofs.NightLemmas.{is_night, opened_safe}
 use Rattle.book_model.proofs.OpeningLemmas.{formats_cause, opens_again, opens_cause}
 use Rattle.book_model.proofs.Playing.{accepted_run, not_refused, stuck_refuses, taken_keep}

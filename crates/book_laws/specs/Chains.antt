@@ -13,7 +13,7 @@ use Rattle.run_model.specs.State.{State}
 use Rattle.run_disk.specs.Disk.{DiskState, last_moment}
 use Rattle.run_disk.specs.Runs.{LeavesOnly}
 use Rattle.model_laws.specs.Restarts.{IsRestart}
-use Rattle.book_model.specs.Holdings.{CarriesOn, BookView, IsOpened}
+use Rattle.book_model.specs.Books.{CarriesOn, BookView, IsOpened}
 use Rattle.book_model.specs.Nights.{HasKept, opened_from}
 use Rattle.book_model.specs.Plays.{Playing, Plays, sound, taken}
 use Rattle.book_model.specs.Steps.{PlaysInto}

@@ -10,7 +10,7 @@ use Rattle.run_model.specs.Session.{Session, is_ack}
 use Rattle.run_model.specs.State.{State}
 use Rattle.run_disk.specs.Disk.{DiskState, IsAtRest, IsDisk}
 use Rattle.model_laws.proofs.RunLemmas.{run_counts}
-use Rattle.book_model.specs.Holdings.{BookView, CarriesOn, IsOpened, IsReached, acked}
+use Rattle.book_model.specs.Books.{BookView, CarriesOn, IsOpened, IsReached, acked}
 use Rattle.book_model.specs.Machines.{Goes, Machine, Move, Open, OpenInVain, Running}
 use Rattle.book_model.specs.Machines.{Runs, Stop, Stored, Take, TakesAll, opened_at, took}
 use Rattle.book_model.specs.Openings.{Opens}
@@ -19,7 +19,7 @@ use Rattle.book_model.specs.Standing.{Closed, CutsOpening, CutsSteps, Does, Does
 use Rattle.book_model.specs.Standing.{HoldsAs, LiesWith, Opened, Standing, StandsAs}
 use Rattle.book_model.specs.Steps.{AnswersStep, StepsOn, playing}
 use Rattle.book_model.specs.Stores.{StoresFront, StoresOpened, restarted}
-use Rattle.book_model.proofs.HoldingLemmas.{left_any_moment, safe_on}
+use Rattle.book_model.proofs.BookLemmas.{left_any_moment, safe_on}
 use Rattle.book_model.proofs.NightLemmas.{opened_playing, opened_safe}
 use Rattle.book_model.proofs.Playing.{ack_is, acked_is, some_none, sound_acked}
 use Rattle.book_model.proofs.Rows.{row_carries}

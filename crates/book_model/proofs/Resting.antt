@@ -7,7 +7,7 @@ use Rattle.run_model.specs.declared.answers.Reply.{Reply}
 use Rattle.run_model.specs.declared.commands.Step.{Step}
 use Rattle.run_model.specs.declared.commands.Step.TheVariants as step
 use Rattle.run_model.specs.declared.faults.Trouble.{Trouble}
-use Rattle.book_model.specs.Holdings.{BookView, IsSafe, Saves}
+use Rattle.book_model.specs.Books.{BookView, IsSafe, Saves}
 use Rattle.book_model.specs.Steps.{AnswersSound, AnswersStep, AnswersWhere, Refuses, Steps, Takes}
 use Rattle.book_model.proofs.Stepping.{broken_stays}
 

@@ -1,4 +1,4 @@
-pub mod Holdings
+pub mod Books
 pub mod Machines
 pub mod ManyNights
 pub mod Meanings

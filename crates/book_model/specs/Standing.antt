@@ -5,7 +5,7 @@ use Rattle.run_model.specs.declared.commands.Step.{Step}
 use Rattle.run_model.specs.declared.faults.Fault.{Fault}
 use Rattle.run_model.specs.State.{State}
 use Rattle.run_disk.specs.Disk.{DiskState, IsAtRest}
-use Rattle.book_model.specs.Holdings.{BookView, CarriesOn, IsDurable, IsReached, IsSafe, acked}
+use Rattle.book_model.specs.Books.{BookView, CarriesOn, IsDurable, IsReached, IsSafe, acked}
 use Rattle.book_model.specs.Machines.{GoesOn, Machine, Move, Open, OpenInVain, Running, Runs}
 use Rattle.book_model.specs.Machines.{Stop, Stored, Take}
 use Rattle.book_model.specs.Openings.{Opens, disk_behind}

@@ -5,8 +5,8 @@
 //! too, since definitions speak of it.
 #![tactic(auto)]
 
+pub mod books;
 pub mod fronts;
-pub mod holdings;
 pub mod machines;
 pub mod meanings;
 pub mod migrations;

@@ -12,7 +12,7 @@ ghost use Rattle.record_view.specs.Image.{image};
 ghost use Rattle.run_disk.specs.Disk.{last_moment};
 ghost use Rattle.run_disk.specs.Runs.{OnlyReads};
 ghost use Rattle.run_journal.specs.Pairs.{HasNoPairBut};
-ghost use Rattle.book_model.specs.Holdings.{BookView};
+ghost use Rattle.book_model.specs.Books.{BookView};
 ghost use Rattle.book_model.specs.Nights.{HasKept};
 ghost use Rattle.book_model.specs.Openings.{Formats, HasFailedCheckpoint, Opens, OpensNot};
 ghost use Rattle.book_model.specs.Openings.{Recovers};

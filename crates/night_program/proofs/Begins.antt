@@ -11,7 +11,7 @@ use Rattle.run_disk.specs.Disk.{DiskState, IsDisk}
 use Rattle.book_model.specs.Openings.{HasFormatted, HasOpened}
 use Rattle.book_model.specs.Stores.{Stores, restarted}
 use Rattle.book_model.proofs.Storing.{stores_one}
-use Rattle.book_model.specs.Holdings.{BookView}
+use Rattle.book_model.specs.Books.{BookView}
 
 -- The number of bytes tells the layout.
 small_is : (size : ℕ) (layout : Layout)

@@ -9,7 +9,7 @@ use Rattle.run_model.specs.Session.{opened}
 use Rattle.run_disk.specs.declared.memory_disks.MemoryDisk.{MemoryDisk}
 use Rattle.run_disk.specs.Disk.{DiskState}
 use Rattle.run_disk.specs.MemoryDisks.{state_of}
-use Rattle.book_model.specs.Holdings.{BookView}
+use Rattle.book_model.specs.Books.{BookView}
 use Rattle.console_lines.specs.declared.faults.RunFault.{RunFault}
 use Rattle.console_lines.specs.declared.faults.RunFault.TheVariants.{Output}
 use Rattle.console_lines.specs.declared.strays.StrayLine.{StrayLine}

@@ -6,11 +6,11 @@ use Rattle.run_model.specs.State.{State, formatted}
 use Rattle.run_disk.specs.Disk.{DiskState, IsAtRest, IsDisk}
 use Rattle.run_disk.specs.Runs.{LeavesOnly}
 use Rattle.run_disk.proofs.RunLemmas.{leaves_only_more}
-use Rattle.book_model.specs.Holdings.{CarriesOn, BookView, IsSafe, acked}
+use Rattle.book_model.specs.Books.{CarriesOn, BookView, IsSafe, acked}
 use Rattle.book_model.specs.Openings.{HasFormatted, Opens}
 use Rattle.book_model.specs.Standing.{LiesWith}
 use Rattle.book_model.specs.Stores.{Stores, StoresFront, StoresOpened, restarted}
-use Rattle.book_model.proofs.HoldingLemmas.{stores_fewer}
+use Rattle.book_model.proofs.BookLemmas.{stores_fewer}
 use Rattle.book_model.proofs.Storing.{stores_one}
 use Rattle.console_lines.specs.declared.faults.RunFault.{RunFault}
 use Rattle.run_console.specs.Crews.{CrewEnds, StoresNight}

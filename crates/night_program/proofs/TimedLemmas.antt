@@ -1,7 +1,7 @@
 -- A run over an input with the time before its lines.
 use Rattle.std.specs.Prelude.{◌≡◌, ℕ, List, Option}
 use Rattle.std.proofs.Common.{ap, subst, ◌∙◌}
-use Rattle.book_model.specs.Holdings.{BookView}
+use Rattle.book_model.specs.Books.{BookView}
 use Rattle.timed_input.specs.Timed.{timed_known}
 use Rattle.night_program.specs.Timed.{RunsTimed}
 

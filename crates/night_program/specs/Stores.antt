@@ -6,7 +6,7 @@ use Rattle.std.specs.Io.KnownBytes.{Appends}
 use Rattle.run_model.specs.declared.faults.Fault.{Fault}
 use Rattle.run_model.specs.State.{State}
 use Rattle.run_disk.specs.Disk.{DiskState, IsAtRest}
-use Rattle.book_model.specs.Holdings.{CarriesOn, BookView}
+use Rattle.book_model.specs.Books.{CarriesOn, BookView}
 use Rattle.book_model.specs.Openings.{FormatsNot, HasFormatted, HasRecovered, Opens, RecoversNone}
 use Rattle.book_model.specs.declared.migrations.MigrateFault.{MigrateFault}
 use Rattle.book_model.specs.declared.migrations.MigrateFault.TheVariants as of_two

@@ -1,7 +1,7 @@
 -- A script whose input comes with the machine's time before its lines.
 use Rattle.std.specs.Prelude.{◌≡◌, ◌⊎◌, ℕ, Bool, true, false, List, Option, ⊤, Result}
 use Rattle.run_disk.specs.Disk.{DiskState}
-use Rattle.book_model.specs.Holdings.{BookView}
+use Rattle.book_model.specs.Books.{BookView}
 use Rattle.console_lines.specs.declared.faults.RunFault.{RunFault}
 use Rattle.console_lines.specs.declared.strays.StrayLine.{StrayLine}
 use Rattle.timed_input.specs.Timed.{timed_known}

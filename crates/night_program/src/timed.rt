@@ -1,7 +1,7 @@
 //! A script whose input comes with the machine's time before its lines.
 
 ghost use Rattle.std.specs.Prelude.{◌≡◌, false};
-ghost use Rattle.book_model.specs.Holdings.{CarriesOn};
+ghost use Rattle.book_model.specs.Books.{CarriesOn};
 ghost use Rattle.run_console.specs.Progress.{Lasts};
 ghost use Rattle.night_program.specs.Stores.{Runs, RunsStrict};
 ghost use Rattle.night_program.specs.Timed.{DoesTimed, RunsTimed, StrictTimedEnds, TimedEnds};

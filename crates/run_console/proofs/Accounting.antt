@@ -10,7 +10,7 @@ use Rattle.run_model.specs.declared.faults.Fault.TheVariants.{DiskFailed}
 use Rattle.run_model.specs.declared.faults.Trouble.{Trouble}
 use Rattle.run_model.specs.declared.faults.Trouble.TheVariants as trouble
 use Rattle.run_disk.specs.Disk.{DiskState}
-use Rattle.book_model.specs.Holdings.{BookView, IsUnsaved, Saves}
+use Rattle.book_model.specs.Books.{BookView, IsUnsaved, Saves}
 use Rattle.book_model.specs.Plays.{is_fault}
 use Rattle.book_model.specs.Steps.{AnswersSound, AnswersStep, AnswersWhere, StepsOn, Takes}
 use Rattle.book_model.specs.Steps.{reply_of_save}

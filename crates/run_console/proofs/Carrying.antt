@@ -3,8 +3,8 @@ use Rattle.std.specs.Prelude.{◌≡◌, List, Option, Result, Ok, Err, IfErr, I
 use Rattle.std.proofs.Common.{inl, inr, sym, subst}
 use Rattle.run_model.specs.declared.commands.Step.{Step}
 use Rattle.run_disk.specs.Disk.{DiskState, IsDisk}
-use Rattle.book_model.specs.Holdings.{CarriesOn, BookView, IsDurable}
-use Rattle.book_model.proofs.HoldingLemmas.{carries_after, carries_none}
+use Rattle.book_model.specs.Books.{CarriesOn, BookView, IsDurable}
+use Rattle.book_model.proofs.BookLemmas.{carries_after, carries_none}
 use Rattle.book_model.proofs.Rows.{row_carries}
 use Rattle.console_lines.specs.declared.faults.RunFault.{RunFault}
 use Rattle.console_lines.specs.declared.faults.RunFault.TheVariants as fault

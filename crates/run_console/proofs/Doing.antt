@@ -10,7 +10,7 @@ use Rattle.run_model.specs.State.{State}
 use Rattle.run_disk.specs.Disk.{DiskState}
 use Rattle.run_state.specs.Lasting.{Stays}
 use Rattle.run_state.proofs.Staying.{stays_same}
-use Rattle.book_model.specs.Holdings.{CarriesOn, BookView}
+use Rattle.book_model.specs.Books.{CarriesOn, BookView}
 use Rattle.book_model.specs.Plays.{is_fault}
 use Rattle.book_model.specs.Steps.{AnswersStep}
 use Rattle.run_book.specs.Views.{unless_broken, with_session}

@@ -2,7 +2,7 @@
 use Rattle.std.specs.Prelude.{◌≡◌, false}
 use Rattle.run_model.specs.Session.{Session}
 use Rattle.run_state.proofs.Staying.{stays_join, stays_same}
-use Rattle.book_model.specs.Holdings.{BookView}
+use Rattle.book_model.specs.Books.{BookView}
 use Rattle.run_console.specs.Progress.{Lasts}
 
 -- What is done stays so, and the book isn't broken.

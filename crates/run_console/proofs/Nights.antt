@@ -12,10 +12,10 @@ use Rattle.run_disk.specs.Runs.{LeavesOnly}
 use Rattle.run_disk.proofs.RunLemmas.{leaves_only_more}
 use Rattle.run_model.specs.Session.{begun_at}
 use Rattle.run_session.specs.Replays.{Replays}
-use Rattle.book_model.specs.Holdings.{BookView, IsDurable, IsSafe}
+use Rattle.book_model.specs.Books.{BookView, IsDurable, IsSafe}
 use Rattle.book_model.specs.Openings.{Opens}
 use Rattle.book_model.specs.Stores.{Stores, StoresFront, StoresOpened, restarted}
-use Rattle.book_model.proofs.HoldingLemmas.{saved_stores, stores_fewer}
+use Rattle.book_model.proofs.BookLemmas.{saved_stores, stores_fewer}
 use Rattle.book_model.proofs.Storing.{stores_one}
 use Rattle.run_crew.specs.Openings.{CarriesFrom, is_work, opened_of}
 use Rattle.run_console.specs.Crews.{AcksNight, KeepsNight, StoresNight}

@@ -4,7 +4,7 @@ use Rattle.std.specs.Prelude.{Option, length}
 use Rattle.std.specs.Io.KnownBytes.{Appends}
 use Rattle.std.proofs.Common.{sym, ap, ◌∙◌, subst}
 use Rattle.run_disk.specs.Disk.{DiskState}
-use Rattle.book_model.specs.Holdings.{BookView}
+use Rattle.book_model.specs.Books.{BookView}
 use Rattle.console_lines.specs.declared.lines.TheConstants.{LONGEST_LINE}
 use Rattle.console_lines.specs.declared.faults.RunFault.{RunFault}
 use Rattle.console_lines.specs.Lines.{whole_lines, open_line}

@@ -9,7 +9,7 @@ use Rattle.run_model.specs.Session.{Session, replied, reply_of_step}
 use Rattle.run_model.specs.Session as model
 use Rattle.run_model.specs.Replies as decided
 use Rattle.run_disk.specs.Disk.{DiskState}
-use Rattle.book_model.specs.Holdings.{BookView, IsReached}
+use Rattle.book_model.specs.Books.{BookView, IsReached}
 use Rattle.book_model.specs.Plays.{Plays}
 use Rattle.book_model.specs.Steps.{playing}
 use Rattle.book_model.proofs.Playing.{plays_sound}

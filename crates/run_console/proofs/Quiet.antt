@@ -7,7 +7,7 @@ use Rattle.std.proofs.lemmas.List.{length-drop, length-take-le, take_all, take_m
 use Rattle.std.proofs.Math.Seq.{split_at, take-append-add}
 use Rattle.memchr.specs.Find.{Nowhere, Passes, is_byte}
 use Rattle.run_disk.specs.Disk.{DiskState}
-use Rattle.book_model.specs.Holdings.{BookView}
+use Rattle.book_model.specs.Books.{BookView}
 use Rattle.console_lines.specs.declared.faults.RunFault.{RunFault}
 use Rattle.console_lines.specs.Lines.{whole_lines, open_line}
 use Rattle.console_lines.specs.Progress.{kept}

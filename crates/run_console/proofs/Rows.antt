@@ -11,7 +11,7 @@ use Rattle.run_model.specs.declared.faults.Trouble.{Trouble}
 use Rattle.run_model.specs.declared.refusals.Refusal.{Refusal}
 use Rattle.run_model.specs.Session.{replied}
 use Rattle.run_disk.specs.Disk.{DiskState}
-use Rattle.book_model.specs.Holdings.{CarriesOn, BookView}
+use Rattle.book_model.specs.Books.{CarriesOn, BookView}
 use Rattle.book_model.specs.Plays.{is_fault}
 use Rattle.book_model.specs.Steps.{AnswersStep, StepsOn, reply_of_save}
 use Rattle.book_model.proofs.Playing.{or_false}

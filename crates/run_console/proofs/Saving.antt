@@ -6,7 +6,7 @@ use Rattle.run_disk.specs.Disk.{DiskState}
 use Rattle.run_state.specs.Lasting.{Stays}
 use Rattle.run_state.proofs.Staying.{stays_same}
 use Rattle.run_model.specs.Session.{Session}
-use Rattle.book_model.specs.Holdings.{Saves, BookView}
+use Rattle.book_model.specs.Books.{Saves, BookView}
 use Rattle.run_console.specs.Progress.{Lasts}
 
 -- The session stays, and so does what is done.

@@ -4,7 +4,7 @@ use Rattle.std.specs.Prelude.{◌≡◌, ◌≤◌, ◌+◌, ℕ, [], Result, Ok
 use Rattle.run_model.specs.declared.faults.Trouble.{Trouble}
 use Rattle.run_disk.specs.Disk.{DiskState}
 use Rattle.run_model.specs.Session.{Session, begun_at}
-use Rattle.book_model.specs.Holdings.{Saves, BookView}
+use Rattle.book_model.specs.Books.{Saves, BookView}
 use Rattle.run_crew.specs.Desks.{finishes_of, starts_of}
 
 -- A book that was just opened has no history.

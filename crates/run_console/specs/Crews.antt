@@ -16,7 +16,7 @@ use Rattle.run_disk.specs.Disk.{DiskState, IsAtRest}
 use Rattle.run_disk.specs.Runs.{LeavesOnly}
 use Rattle.run_model.specs.Session.{begun_at}
 use Rattle.run_session.specs.Replays.{Replays}
-use Rattle.book_model.specs.Holdings.{Flushes, BookView, IsDurable}
+use Rattle.book_model.specs.Books.{Flushes, BookView, IsDurable}
 use Rattle.book_model.specs.Openings.{HasOpened, OpensNot}
 use Rattle.book_model.specs.Stores.{Stores, StoresFront, StoresOpened, restarted}
 use Rattle.run_crew.specs.declared.audits.Strayed.{Strayed}

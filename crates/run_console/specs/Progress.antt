@@ -8,7 +8,7 @@ use Rattle.run_state.specs.Lasting.{Stays}
 use Rattle.run_disk.specs.Disk.{DiskState}
 use Rattle.run_model.specs.declared.commands.Step.TheVariants as step
 use Rattle.book_model.specs.Steps.{StepsOn, reply_of_save}
-use Rattle.book_model.specs.Holdings.{BookView}
+use Rattle.book_model.specs.Books.{BookView}
 use Rattle.console_lines.specs.declared.asked.Asked.{Asked}
 use Rattle.console_lines.specs.declared.asked.Asked.TheVariants as asked
 use Rattle.console_lines.specs.declared.lines.TheConstants.{LONGEST_INPUT}

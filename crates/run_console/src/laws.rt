@@ -5,7 +5,7 @@
 ghost use Rattle.std.specs.Prelude.{◌≡◌, List, Option, ℕ, Some, false};
 ghost use Rattle.run_model.specs.declared.commands.Step.{Step};
 ghost use Rattle.run_model.specs.Session.{Session, replies, reply_of_step};
-ghost use Rattle.book_model.specs.Holdings.{BookView, IsReached};
+ghost use Rattle.book_model.specs.Books.{BookView, IsReached};
 ghost use Rattle.console_lines.specs.declared.faults.RunFault.{RunFault};
 ghost use Rattle.console_lines.specs.Asked.{asked_of};
 ghost use Rattle.console_lines.specs.Replies.{reply_line};

@@ -20,9 +20,9 @@ use Rattle.run_model.specs.State.{State}
 use Rattle.run_model.specs.Tasks.{first_ready}
 use Rattle.run_disk.specs.Disk.{DiskState, IsAtRest}
 use Rattle.run_disk.proofs.RunLemmas.{leaves_only_more}
-use Rattle.book_model.specs.Holdings.{CarriesOn, BookView, acked}
+use Rattle.book_model.specs.Books.{CarriesOn, BookView, acked}
 use Rattle.book_model.specs.Stores.{StoresFront}
-use Rattle.book_model.proofs.HoldingLemmas.{passed_more, stores_fewer, stores_more}
+use Rattle.book_model.proofs.BookLemmas.{passed_more, stores_fewer, stores_more}
 use Rattle.run_book.specs.Views.{with_session}
 use Rattle.run_crew.specs.Openings.{Carries, CarriesFrom, From, Known, Opened, Unsaid}
 use Rattle.run_crew.specs.Openings.{is_work, obeys, opened_of}

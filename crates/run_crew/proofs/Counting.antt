@@ -12,7 +12,7 @@ use Rattle.run_model.specs.Replies.{decide, event_of, if_room, is_full, is_repea
 use Rattle.run_model.specs.Replies.{refusals, unless}
 use Rattle.run_model.specs.Session.{event_of_step, made}
 use Rattle.run_model.specs.State.{State}
-use Rattle.book_model.specs.Holdings.{BookView}
+use Rattle.book_model.specs.Books.{BookView}
 use Rattle.model_laws.specs.Kinds.{is_finish, is_start}
 use Rattle.model_laws.proofs.Commanding.{command_event}
 use Rattle.run_crew.proofs.Carrying.{added_by}

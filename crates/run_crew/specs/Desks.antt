@@ -5,7 +5,7 @@ use Rattle.run_model.specs.Event.{Event}
 use Rattle.run_model.specs.State.{State}
 use Rattle.run_model.specs.Replies.{is_task_done}
 use Rattle.model_laws.specs.Kinds.{is_finish, is_start}
-use Rattle.book_model.specs.Holdings.{BookView}
+use Rattle.book_model.specs.Books.{BookView}
 
 -- A desk has a book, and knows how many events there had been when the desk was made.
 pub record DeskView (D : Type 0) : Type 0 where

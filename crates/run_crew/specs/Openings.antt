@@ -6,7 +6,7 @@ use Rattle.run_model.specs.Event as event
 use Rattle.run_model.specs.Session.{Session}
 use Rattle.run_disk.specs.Disk.{DiskState, IsAtRest}
 use Rattle.run_disk.specs.Runs.{LeavesOnly, Passed}
-use Rattle.book_model.specs.Holdings.{BookView}
+use Rattle.book_model.specs.Books.{BookView}
 use Rattle.book_model.specs.Stores.{StoresFront}
 
 -- What a book held at one moment, and the states of its disk then and as it was given to its

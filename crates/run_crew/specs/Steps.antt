@@ -4,7 +4,7 @@ use Rattle.run_model.specs.declared.answers.Reply.{Reply}
 use Rattle.run_model.specs.declared.commands.Step.{Step}
 use Rattle.run_disk.specs.Disk.{DiskState}
 use Rattle.run_state.specs.Lasting.{Stays}
-use Rattle.book_model.specs.Holdings.{CarriesOn}
+use Rattle.book_model.specs.Books.{CarriesOn}
 use Rattle.book_model.specs.Steps.{AnswersStep}
 use Rattle.run_crew.specs.Desks.{DeskView}
 

@@ -8,7 +8,7 @@ ghost use Rattle.run_model.specs.Allowed.{run};
 ghost use Rattle.run_model.specs.Replies.{reply, reply_finish, reply_start};
 ghost use Rattle.run_model.specs.Session.{after_step, replied};
 ghost use Rattle.run_session.specs.Replays.{Replays};
-ghost use Rattle.book_model.specs.Holdings.{CarriesOn, Checkpoints, Flushes, IsDurable, IsSafe};
+ghost use Rattle.book_model.specs.Books.{CarriesOn, Checkpoints, Flushes, IsDurable, IsSafe};
 ghost use Rattle.book_model.specs.Stores.{Stores};
 ghost use Rattle.run_book.specs.Views.{unless_broken, with_session};
 ghost use Rattle.run_crew.specs.Desks.{DeskView, finishes_of, is_done_for, starts_of};

@@ -6,7 +6,7 @@ ghost use Rattle.run_model.specs.declared.faults.Trouble.{Trouble};
 ghost use Rattle.run_model.specs.declared.refusals.Refusal.{Refusal};
 ghost use Rattle.run_model.specs.declared.tasks.Outcome.{Outcome};
 ghost use Rattle.run_model.specs.Replies.{reply_finish, reply_start};
-ghost use Rattle.book_model.specs.Holdings.{Flushes, IsDurable};
+ghost use Rattle.book_model.specs.Books.{Flushes, IsDurable};
 ghost use Rattle.run_book.specs.Views.{unless_broken};
 ghost use Rattle.run_crew.specs.Desks.{is_done_for};
 ghost use Rattle.run_crew.specs.Seats.{one_finish, one_start};

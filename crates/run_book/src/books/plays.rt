@@ -4,7 +4,7 @@ ghost use Rattle.std.specs.Prelude.{◌≡◌, ◌+◌, ◌≤◌, length, vec_c
 ghost use Rattle.run_model.specs.declared.answers.Reply.TheVariants as reply;
 ghost use Rattle.run_model.specs.Session.{replied};
 ghost use Rattle.run_state.specs.Lasting.{Stays};
-ghost use Rattle.book_model.specs.Holdings.{CarriesOn};
+ghost use Rattle.book_model.specs.Books.{CarriesOn};
 ghost use Rattle.book_model.specs.Steps.{AnswersStep, PlaysInto, reply_of_save};
 
 use super::Book;

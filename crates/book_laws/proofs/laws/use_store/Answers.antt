@@ -1,7 +1,7 @@
 use Rattle.std.proofs.Common.{◌≤◌, subst, sym}
 use Rattle.run_disk.specs.Disk.{IsAtRest}
 use Rattle.book_model.proofs.NightLemmas.{opened_safe}
-use Rattle.book_model.proofs.HoldingLemmas.{safe_on}
+use Rattle.book_model.proofs.BookLemmas.{safe_on}
 use Rattle.run_model.specs.declared.faults.Trouble.TheVariants.{Faulty}
 use Rattle.book_laws.specs.Chains.{HasStayed, StopsFor}
 use Rattle.book_laws.proofs.ChainLemmas.{lasted, over_honest, saved_state, stayed, stayed_again}

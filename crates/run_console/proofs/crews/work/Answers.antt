@@ -1,5 +1,5 @@
 use Rattle.std.proofs.Common.{◌∙◌, ap, sym}
-use Rattle.book_model.specs.Holdings.{BookView}
+use Rattle.book_model.specs.Books.{BookView}
 use Rattle.run_crew.specs.Desks.{DeskView}
 use Rattle.run_crew.specs.Notes.{noted}
 use Rattle.run_crew.specs.Seats.{SeatView}

@@ -1,5 +1,5 @@
-use Rattle.book_model.proofs.HoldingLemmas.{carries_after, carries_more, carries_none}
-use Rattle.book_model.proofs.holdings.a_book_carries_on.Goals as goal
+use Rattle.book_model.proofs.BookLemmas.{carries_after, carries_more, carries_none}
+use Rattle.book_model.proofs.books.a_book_carries_on.Goals as goal
 
 pub returns-clause-none : goal.returns-clause-none
 returns-clause-none g c h durable =

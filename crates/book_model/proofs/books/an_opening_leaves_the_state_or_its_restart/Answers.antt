@@ -1,5 +1,5 @@
 use Rattle.book_model.proofs.NightLemmas.{leaves_sized, opening_leaves}
-use Rattle.book_model.proofs.holdings.an_opening_leaves_the_state_or_its_restart.Goals as goal
+use Rattle.book_model.proofs.books.an_opening_leaves_the_state_or_its_restart.Goals as goal
 
 pub returns : goal.returns
 returns g c layout old new p image fresh batches was means honest whole run =

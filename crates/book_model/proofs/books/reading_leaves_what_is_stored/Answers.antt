@@ -1,5 +1,5 @@
-use Rattle.book_model.proofs.HoldingLemmas.{reads_leave}
-use Rattle.book_model.proofs.holdings.reading_leaves_what_is_stored.Goals as goal
+use Rattle.book_model.proofs.BookLemmas.{reads_leave}
+use Rattle.book_model.proofs.books.reading_leaves_what_is_stored.Goals as goal
 
 pub returns : goal.returns
 returns g c old new p rest reads stores =

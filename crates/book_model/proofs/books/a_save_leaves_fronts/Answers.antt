@@ -1,7 +1,7 @@
 use Rattle.std.proofs.Common.{[], ◌∷◌, ◌++◌}
-use Rattle.book_model.specs.Holdings.{acked}
+use Rattle.book_model.specs.Books.{acked}
 use Rattle.book_model.proofs.NightLemmas.{flush_means, leaves_sized, saves_leave}
-use Rattle.book_model.proofs.holdings.a_save_leaves_fronts.Goals as goal
+use Rattle.book_model.proofs.books.a_save_leaves_fronts.Goals as goal
 
 pub returns-clause-flush : goal.returns-clause-flush
 returns-clause-flush g c h new p pending settled le all are honest whole run =

@@ -1,5 +1,5 @@
 use Rattle.book_model.proofs.NightLemmas.{kept_stores, whole_opening}
-use Rattle.book_model.proofs.holdings.an_opening_loses_nothing_from_its_first_read_on.Goals as goal
+use Rattle.book_model.proofs.books.an_opening_loses_nothing_from_its_first_read_on.Goals as goal
 
 pub returns-clause-any_moment : goal.returns-clause-any_moment
 returns-clause-any_moment g c layout given read new p image fresh batches =

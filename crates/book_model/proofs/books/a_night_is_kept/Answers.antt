@@ -1,5 +1,5 @@
 use Rattle.book_model.proofs.NightLemmas.{kept_from_opening, kept_night, kept_since}
-use Rattle.book_model.proofs.holdings.a_night_is_kept.Goals as goal
+use Rattle.book_model.proofs.books.a_night_is_kept.Goals as goal
 
 pub returns-clause-any_moment : goal.returns-clause-any_moment
 returns-clause-any_moment g c = kept_since g.D.RunDisk.state

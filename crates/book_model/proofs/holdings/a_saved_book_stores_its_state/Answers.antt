@@ -1,5 +1,0 @@
-use Rattle.book_model.proofs.HoldingLemmas.{saved_stores}
-use Rattle.book_model.proofs.holdings.a_saved_book_stores_its_state.Goals as goal
-
-pub returns : goal.returns
-returns g c = saved_stores g.D.RunDisk.state
