@@ -57,8 +57,7 @@ pub fn a_running_task_can_finish()
 /// The log has its reserve when a state with no more tasks than there can be is opened, and keeps
 /// it at every step; so it never grows past its greatest length.
 pub fn the_log_keeps_its_reserve()
-    ensures opening { (p : State) → length p.work.tasks ≤ MOST_TASKS
-        → HasReserve (begun_at p) }
+    ensures opening { (p : State) → length p.work.tasks ≤ MOST_TASKS → HasReserve (begun_at p) }
     ensures steps { (s : Session) (steps : List Step) → list_all can_be_written steps ≡ true
         → HasReserve s → HasReserve (session_after s steps) }
     ensures short { (s : Session) → HasReserve s → s.log ≤ SESSION_LEN }

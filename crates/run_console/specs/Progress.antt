@@ -48,8 +48,7 @@ pub record RunsAll {D : Type 0} (state : D → DiskState) (b c : BookView D)
   pub ended : IsAtEnd r1
   pub within : length bytes ≤ LONGEST_INPUT
   pub session : c.session ≡ after_lines b.session (lines_of bytes)
-  pub taken : TakesAll state b (steps_of (lines_of bytes) ++ step.Flush ∷ [])
-      c
+  pub taken : TakesAll state b (steps_of (lines_of bytes) ++ step.Flush ∷ []) c
   pub written : Appends w0 w1 (script b.session bytes)
   pub saved : c.durable ≡ c.session.state.count
 

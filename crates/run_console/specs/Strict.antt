@@ -43,8 +43,7 @@ pub record RunsStrictly {D : Type 0} (state : D → DiskState)
   pub read_for : IsReadFor (strict_lines_of old.session bytes) bytes r1
   pub ended : stray ≡ None → IsAtEnd r1 × (length bytes ≤ LONGEST_INPUT)
   pub within : length bytes ≤ LONGEST_INPUT + 1
-  pub session : new.session ≡
-      after_lines old.session (strict_lines_of old.session bytes)
+  pub session : new.session ≡ after_lines old.session (strict_lines_of old.session bytes)
   pub taken : TakesAll state old
       (steps_of (strict_lines_of old.session bytes) ++ step.Flush ∷ []) new
   pub written : Appends w0 w1 (strict_script old.session bytes)

@@ -35,8 +35,7 @@ pub record TellsFailed {D : Type 0} (state : D → DiskState) (old : BookView D)
   pub cause : DeviceFails state old new
 
 -- The trouble is one of these two.
-abbrev pub Tells :
-    {D : Type 0} → (D → DiskState) → BookView D → Trouble → BookView D → Type 0
+abbrev pub Tells : {D : Type 0} → (D → DiskState) → BookView D → Trouble → BookView D → Type 0
 Tells state old why new = TellsSpent why new ⊎ TellsFailed state old why new
 
 -- What a fault that stopped a run over a book that wasn't broken says of its store: the fault of

@@ -145,8 +145,7 @@ pub fn close<W: Write, D: RunDisk, B: Allocator>(
         (closing book.old.session) gathered.old.items
         (W.contents output.old) (W.contents output.new)) }
     ensures session { book.new.session ≡ book.old.session }
-    ensures taken { OnOk result (TakesAll D.state book.old (step.Flush ∷ [])
-        book.new) }
+    ensures taken { OnOk result (TakesAll D.state book.old (step.Flush ∷ []) book.new) }
     ensures tried { IfErr result (λ fault. Tries D.state book.old fault
         (step.Flush ∷ []) book.new) }
     ensures saved { OnOk result (book.new.durable ≡ book.new.session.state.count) }

@@ -34,8 +34,7 @@ impl<D: RunDisk, A: Allocator> Book<D, A> {
     /// Takes one step, as the call of its name does, and answers as that call. A broken book
     /// refuses it as `Broken`.
     pub fn step(&mut self, step: &Step) -> Reply
-        ensures answers { AnswersStep D.state self.old step.now result
-            self.new }
+        ensures answers { AnswersStep D.state self.old step.now result self.new }
         ensures carries_on { CarriesOn D.state self.old self.new }
         ensures stays { Stays self.old.session.state self.new.session.state }
     {
