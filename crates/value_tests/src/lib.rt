@@ -19,6 +19,8 @@ mod meanings;
 #[cfg(test)]
 mod moments;
 #[cfg(test)]
+mod own_words;
+#[cfg(test)]
 mod records;
 #[cfg(test)]
 mod replies;
@@ -28,6 +30,8 @@ mod rows;
 mod rules;
 #[cfg(test)]
 mod values;
+#[cfg(test)]
+mod word_cases;
 #[cfg(test)]
 mod word_mistakes;
 #[cfg(test)]
