@@ -9,8 +9,8 @@ ghost use Rattle.console_lines.specs.Words.{words_in, lent};
 
 use crate::asked::Asked;
 use crate::task_lines::read_task_line;
-use crate::words::{is_word, last_word, next_word};
-use run_model::{Command, Limit, Name, Refusal};
+use crate::words::{last_word, next_word};
+use run_model::{Command, Limit, Name, Refusal, is_spelled};
 use written_moment::read_number;
 
 /// What a line with this first word asks of groups or, else, of tasks or of the store; `None` for a
@@ -19,19 +19,19 @@ pub(crate) fn read_group_line(word: &[u8], left: Option<&[u8]>) -> Option<Asked>
     ensures { unwrap_or result Asked.BadLine
         ≡ group_line_of word.now (words_in (lent left.entry)) }
 {
-    if is_word(word, b"group") {
+    if is_spelled(word, b"group") {
         read_group(left)
-    } else if is_word(word, b"bare") {
+    } else if is_spelled(word, b"bare") {
         read_bare(left)
-    } else if is_word(word, b"limit") {
+    } else if is_spelled(word, b"limit") {
         read_limit(left)
-    } else if is_word(word, b"go") {
+    } else if is_spelled(word, b"go") {
         read_go(left)
-    } else if is_word(word, b"try") {
+    } else if is_spelled(word, b"try") {
         read_try(left)
-    } else if is_word(word, b"wait") {
+    } else if is_spelled(word, b"wait") {
         read_wait(left)
-    } else if is_word(word, b"result") {
+    } else if is_spelled(word, b"result") {
         read_result(left)
     } else {
         read_task_line(word, left)
@@ -112,7 +112,7 @@ fn read_result(left: Option<&[u8]>) -> Option<Asked>
 fn limit_of(word: &[u8]) -> Option<Limit>
     ensures { result ≡ limit_of word.now }
 {
-    if is_word(word, b"none") {
+    if is_spelled(word, b"none") {
         return Some(Limit::none());
     }
     limit_at(read_number(word)?)

@@ -12,8 +12,8 @@ use crate::asked::Asked;
 use crate::causes::read_cause;
 use crate::group_lines::read_group_line;
 use crate::wishes::read_wish;
-use crate::words::{is_word, last_word, next_word};
-use run_model::{Command, Moment, Name, Refusal, Wish};
+use crate::words::{last_word, next_word};
+use run_model::{Command, Moment, Name, Refusal, Wish, is_spelled};
 use written_moment::read_moment;
 
 /// The most bytes of a line, without its end. A longer one is a bad line.
@@ -41,15 +41,15 @@ fn read_words(line: Option<&[u8]>) -> Option<Asked>
         ≡ asked_by (words_in (lent line.entry)) }
 {
     let (word, left) = next_word(line)?;
-    if is_word(word, b"derive") {
+    if is_spelled(word, b"derive") {
         read_derive(left)
-    } else if is_word(word, b"cancel") {
+    } else if is_spelled(word, b"cancel") {
         read_cancel(left)
-    } else if is_word(word, b"advance") {
+    } else if is_spelled(word, b"advance") {
         read_advance(left)
-    } else if is_word(word, b"scope") {
+    } else if is_spelled(word, b"scope") {
         read_scope(left)
-    } else if is_word(word, b"value") {
+    } else if is_spelled(word, b"value") {
         read_value(left)
     } else {
         read_group_line(word, left)

@@ -11,8 +11,8 @@ ghost use Rattle.console_lines.specs.TaskLines.{texts_in_outcome};
 ghost use Rattle.console_lines.specs.Words.{words_in, lent};
 
 use crate::asked::Asked;
-use crate::words::{is_word, last_word, next_word};
-use run_model::{Command, Outcome, Refusal, Text};
+use crate::words::{last_word, next_word};
+use run_model::{Command, Outcome, Refusal, Text, is_spelled};
 use written_moment::read_number;
 
 /// What a line with this first word asks of tasks or of the store; `None` for a bad line.
@@ -20,19 +20,19 @@ pub(crate) fn read_task_line(word: &[u8], left: Option<&[u8]>) -> Option<Asked>
     ensures { unwrap_or result Asked.BadLine
         ≡ task_line_of word.now (words_in (lent left.entry)) }
 {
-    if is_word(word, b"start") {
+    if is_spelled(word, b"start") {
         read_start(left)
-    } else if is_word(word, b"finish") {
+    } else if is_spelled(word, b"finish") {
         read_finish(left)
-    } else if is_word(word, b"retry") {
+    } else if is_spelled(word, b"retry") {
         read_retry(left)
-    } else if is_word(word, b"task") {
+    } else if is_spelled(word, b"task") {
         read_task(left)
-    } else if is_word(word, b"tally") {
+    } else if is_spelled(word, b"tally") {
         read_tally(left)
-    } else if is_word(word, b"flush") {
+    } else if is_spelled(word, b"flush") {
         read_flush(left)
-    } else if is_word(word, b"checkpoint") {
+    } else if is_spelled(word, b"checkpoint") {
         read_checkpoint(left)
     } else {
         None
@@ -67,9 +67,9 @@ fn read_outcome(number: u64, left: Option<&[u8]>) -> Option<Asked>
         Asked.BadLine }
 {
     let (word, left) = next_word(left)?;
-    if is_word(word, b"ok") {
+    if is_spelled(word, b"ok") {
         read_success(number, left)
-    } else if is_word(word, b"error") {
+    } else if is_spelled(word, b"error") {
         read_failure(number, left)
     } else {
         None

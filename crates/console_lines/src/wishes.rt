@@ -10,25 +10,25 @@ ghost use Rattle.console_lines.specs.Checked.{names_in_wish, texts_in_wish};
 ghost use Rattle.console_lines.specs.Words.{words_in, lent};
 
 use crate::causes::read_cause;
-use crate::words::{is_word, next_word};
-use run_model::{Moment, Name, Refusal, Text, Wish};
+use crate::words::next_word;
+use run_model::{Moment, Name, Refusal, Text, Wish, is_spelled};
 use written_moment::{read_moment, read_number};
 
 /// The wish of this kind with what is left behind it.
 pub(crate) fn read_wish(kind: &[u8], left: Option<&[u8]>) -> Option<Result<Wish, Refusal>>
     ensures { result ≡ option_map judged (wish_of kind.now (words_in (lent left.entry))) }
 {
-    if is_word(kind, b"cancel") {
+    if is_spelled(kind, b"cancel") {
         read_alone(Wish::Cancel, left)
-    } else if is_word(kind, b"cause") {
+    } else if is_spelled(kind, b"cause") {
         read_alone(Wish::Cause, left)
-    } else if is_word(kind, b"detached") {
+    } else if is_spelled(kind, b"detached") {
         read_alone(Wish::Detached, left)
-    } else if is_word(kind, b"deadline") {
+    } else if is_spelled(kind, b"deadline") {
         read_deadline(left)
-    } else if is_word(kind, b"timeout") {
+    } else if is_spelled(kind, b"timeout") {
         read_timeout(left)
-    } else if is_word(kind, b"value") {
+    } else if is_spelled(kind, b"value") {
         read_value(left)
     } else {
         None

@@ -3,7 +3,6 @@
 //! What is left of a line is the bytes behind a space, and `None` behind the last word.
 
 ghost use Rattle.std.specs.Prelude.{◌≡◌, ◌==◌, [], ◌∷◌, MatchOption, position};
-ghost use Rattle.std.specs.Str.{bytes_eq};
 ghost use Rattle.console_lines.specs.Words.{words_in, only_word, lent};
 
 /// The next word and what is left behind it, and `None` where no word is left.
@@ -28,22 +27,6 @@ pub(crate) fn last_word(left: Option<&[u8]>) -> Option<&[u8]>
         Some(_) => None,
         None => Some(word),
     }
-}
-
-/// Says whether a word is spelled so. Both are short, and what `==` of slices calls is made for
-/// long ones.
-pub(crate) fn is_word(word: &[u8], spelled: &[u8]) -> bool
-    ensures { result ≡ bytes_eq word.now spelled.now }
-{
-    if word.len() != spelled.len() {
-        return false;
-    }
-    for i in 0..word.len() {
-        if word[i] != spelled[i] {
-            return false;
-        }
-    }
-    true
 }
 
 /// The place of the first space.

@@ -8,8 +8,7 @@ ghost use Rattle.std.specs.Str.{bytes_eq};
 ghost use Rattle.scope_tree.specs.Names.{home, names_of, AreNamed};
 
 use crate::chains::{CHAINS, Chains};
-use record_view::is_same_name;
-use run_model::Scope;
+use run_model::{Scope, is_spelled};
 use std::alloc::Allocator;
 
 /// Spreads neighbouring names over the chains: 2 to the 32nd divided by the golden ratio, and odd.
@@ -37,7 +36,7 @@ pub fn place_of<A: Allocator>(scopes: &[Scope], names: &Chains<A>, name: &[u8]) 
 {
     let mut at = names.last(home(name));
     while let Some(n) = at {
-        if is_same_name(name, scopes[n as usize].name.as_bytes()) {
+        if is_spelled(name, scopes[n as usize].name.as_bytes()) {
             return at;
         }
         at = names.before(n);

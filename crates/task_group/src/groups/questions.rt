@@ -15,8 +15,7 @@ ghost use Rattle.task_group.specs.Checks.{was_waited};
 
 use crate::groups::Groups;
 use crate::rows::{admits, group_look, is_from, is_running, phase_of as stage_phase};
-use record_view::is_same_name;
-use run_model::{Group, GroupLook, Layout, MOST_GROUPS, Phase, Task};
+use run_model::{Group, GroupLook, Layout, MOST_GROUPS, Phase, Task, is_spelled};
 use std::alloc::Allocator;
 
 impl<A: Allocator> Groups<A> {
@@ -148,5 +147,5 @@ fn place_of(groups: &[Group], name: &[u8]) -> Option<usize>
 {
     groups
         .iter()
-        .position(|row| is_same_name(name, row.name.as_bytes()))
+        .position(|row| is_spelled(name, row.name.as_bytes()))
 }
