@@ -1,4 +1,4 @@
--- What is made a `str` is ASCII: a name, and the line of a tally.
+-- The line of a tally is ASCII, which is made a `str`.
 use Rattle.std.specs.Prelude.{◌≡◌, ℕ, ◌<◌, true, List, [], ◌∷◌, ◌++◌, codes}
 use Rattle.std.specs.Fmt.{decimal}
 use Rattle.std.specs.List.{All, list_all}
@@ -16,38 +16,6 @@ use Rattle.console_lines.specs.declared.tallies.Counts.{Counts}
 use Rattle.console_lines.specs.declared.tallies.Tally.{Tally}
 use Rattle.console_lines.specs.Replies.{counts_text, reply_line}
 
--- ---- a word of ours
-
-below_128 : (b : ℕ) → is_text_byte b ≡ true → b < 128
-below_128 b h = grind (arith, nat_tests, common_steps)
-
-text_bytes : (bytes : List ℕ) → list_all is_text_byte bytes ≡ true → All (λ b. b < 128) bytes
-text_bytes [] h = All-nil _
-text_bytes (b ∷ bytes) h =
-    let first : is_text_byte b ≡ true = grind (arith, common_steps) in
-    let more : list_all is_text_byte bytes ≡ true = grind (arith, common_steps) in
-    All-cons (λ n. n < 128) b bytes (below_128 b first) (text_bytes bytes more)
-
--- ---- a name
-
-name_below_128 : (b : ℕ) → is_name_byte b ≡ true → b < 128
-name_below_128 b h = grind (arith, nat_tests, common_steps)
-
-name_bytes : (bytes : List ℕ) → list_all is_name_byte bytes ≡ true → All (λ b. b < 128) bytes
-name_bytes [] h = All-nil _
-name_bytes (b ∷ bytes) h =
-    let first : is_name_byte b ≡ true = grind (arith, common_steps) in
-    let more : list_all is_name_byte bytes ≡ true = grind (arith, common_steps) in
-    All-cons (λ n. n < 128) b bytes (name_below_128 b first) (name_bytes bytes more)
-
--- The bytes of a name are ASCII.
-pub name_is_ascii : (bytes : List ℕ) → IsName bytes → IsAscii bytes
-name_is_ascii bytes h =
-    let all : list_all is_name_byte bytes ≡ true = grind (arith, common_steps) in
-    IsAscii-from_all bytes (name_bytes bytes all)
-
--- ---- the line of a tally
-
 -- Each byte of it is below 128. As a record it names its bytes.
 record IsPlain (bytes : List ℕ) : Type 0 where
   ascii : IsAscii bytes
@@ -56,7 +24,7 @@ both : (xs ys : List ℕ) → IsPlain xs → IsPlain ys → IsPlain (xs ++ ys)
 both xs ys h k = record { ascii = IsAscii-append xs ys h.ascii k.ascii }
 
 word : (bytes : List ℕ) → list_all is_text_byte bytes ≡ true → IsPlain bytes
-word bytes h = record { ascii = IsAscii-from_all bytes (text_bytes bytes h) }
+word bytes h = record { ascii = text_bytes_are_ascii bytes h }
 
 count : (n : ℕ) → n < 65536 → IsPlain (decimal n)
 count n h = record { ascii = IsAscii-decimal n (omega (arith, h)) }

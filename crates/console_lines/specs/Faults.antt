@@ -3,7 +3,7 @@ use Rattle.std.specs.Prelude.{ℕ, List, codes}
 use Rattle.console_lines.specs.declared.faults.RunFault.{RunFault}
 use Rattle.console_lines.specs.declared.faults.RunFault.TheVariants.{Input, Output, InputTooLong}
 use Rattle.console_lines.specs.declared.faults.RunFault.TheVariants.{Memory, Store}
-use Rattle.console_lines.specs.Replies.{trouble_text}
+use Rattle.run_model.specs.Faults.{trouble_text}
 
 -- Why a run ended before its input did.
 abbrev pub stop_text : RunFault → List ℕ

@@ -9,37 +9,13 @@ use Rattle.run_model.specs.declared.answers.Answer.{Answer}
 use Rattle.run_model.specs.declared.answers.Answer.TheVariants as answer
 use Rattle.run_model.specs.declared.answers.GroupLook.{GroupLook}
 use Rattle.run_model.specs.declared.answers.TaskInfo.{TaskInfo}
-use Rattle.run_model.specs.declared.refusals.Refusal.{Refusal}
-use Rattle.run_model.specs.declared.refusals.Refusal.TheVariants as refusal
-use Rattle.run_model.specs.declared.faults.Fault.{Fault}
-use Rattle.run_model.specs.declared.faults.Trouble.{Trouble}
-use Rattle.run_model.specs.declared.faults.Trouble.TheVariants as trouble
-use Rattle.run_model.specs.Faults.{fault_number, fault_name}
-use Rattle.run_model.specs.Refusals.{refusal_number, refusal_name}
+use Rattle.run_model.specs.Faults.{trouble_text}
+use Rattle.run_model.specs.Refusals.{refusal_text}
 use Rattle.run_model.specs.Reasons.{reason_text}
 use Rattle.console_lines.specs.declared.replies.Reply.{Reply}
 use Rattle.console_lines.specs.declared.replies.Reply.TheVariants as reply
 use Rattle.console_lines.specs.declared.tallies.Counts.{Counts}
 use Rattle.console_lines.specs.declared.tallies.Tally.{Tally}
-
--- A refusal's number and name.
-abbrev pub numbered : Refusal → List ℕ
-numbered why = codes "refused " ++ decimal (refusal_number why) ++ codes " " ++ refusal_name why
-
--- A refusal, as in `refused 12 AlreadyDone`. The unfinished tasks are counted behind the name.
-abbrev pub refusal_text : Refusal → List ℕ
-refusal_text (refusal.Unfinished count) =
-    numbered (refusal.Unfinished count) ++ codes " " ++ decimal count
-refusal_text why = numbered why
-
--- A fault, as in `fault 2 DiskFailed`.
-abbrev pub fault_text : Fault → List ℕ
-fault_text why = codes "fault " ++ decimal (fault_number why) ++ codes " " ++ fault_name why
-
--- Why a flush or a checkpoint was not done: it was refused, or it failed.
-abbrev pub trouble_text : Trouble → List ℕ
-trouble_text (trouble.Refused why) = refusal_text why
-trouble_text (trouble.Faulty why) = fault_text why
 
 -- How far a task is.
 abbrev pub phase_text : Phase → List ℕ

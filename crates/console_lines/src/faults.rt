@@ -3,14 +3,13 @@
 ghost use Rattle.std.specs.Prelude.{Some};
 ghost use Rattle.console_lines.specs.Faults.{stop_text};
 
-use crate::shown::ShownTrouble;
 use run_model::Trouble;
+use std::error::Error;
 use std::fmt;
-use thiserror::Error;
 
-/// Why a run ended before its input did. It is printed as [`ShownFault`] is.
-#[derive(Clone, Copy, Debug, PartialEq, Eq, Error)]
-#[error("{}", ShownFault(*self))]
+/// Why a run ended before its input did. It is shown as `input`, `output`, `input too long`,
+/// `fault 3 NotAStore` and likewise.
+#[derive(Clone, Copy, Debug, PartialEq, Eq)]
 pub enum RunFault {
     /// The input could not be read.
     Input,
@@ -24,20 +23,18 @@ pub enum RunFault {
     Store(Trouble),
 }
 
-/// A fault as it is printed: `input`, `output`, `input too long`, `fault 3 NotAStore` and likewise.
-#[derive(Clone, Copy)]
-pub struct ShownFault(pub RunFault);
-
-impl fmt::Display for ShownFault {
-    ghost output = { λ shown. Some (stop_text shown.0) };
+impl fmt::Display for RunFault {
+    ghost output = { λ fault. Some (stop_text fault) };
 
     fn fmt<W: fmt::Write>(&self, f: &mut fmt::Formatter<W>) -> fmt::Result {
-        match self.0 {
+        match self {
             RunFault::Input => f.write_str("input"),
             RunFault::Output => f.write_str("output"),
             RunFault::InputTooLong => f.write_str("input too long"),
             RunFault::Memory => f.write_str("fault 1 Memory"),
-            RunFault::Store(trouble) => write!(f, "{}", ShownTrouble(trouble)),
+            RunFault::Store(trouble) => write!(f, "{trouble}"),
         }
     }
 }
+
+impl Error for RunFault {}

@@ -5,18 +5,17 @@ ghost use Rattle.std.specs.Prelude.{◌≡◌, ◌++◌, ◌+◌, ◌<◌, ◌�
 ghost use Rattle.std.specs.Prelude.{Some, codes, length};
 ghost use Rattle.std.specs.Fmt.{decimal};
 ghost use Rattle.arrayvec.specs.ArrayVec.{array_vec_len};
-ghost use Rattle.run_model.specs.Faults.{fault_name};
+ghost use Rattle.run_model.specs.Faults.{fault_name, fault_text, trouble_text};
 ghost use Rattle.run_model.specs.Reasons.{reason_text};
-ghost use Rattle.run_model.specs.Refusals.{refusal_name};
+ghost use Rattle.run_model.specs.Refusals.{refusal_name, refusal_text};
 ghost use Rattle.run_model.specs.Texts.{IsText};
 ghost use Rattle.console_lines.specs.declared.gathers.TheConstants.{LONGEST_REPLY};
 ghost use Rattle.console_lines.specs.Gathers.{Gathers, ended_text, failed_text, limited_text};
 ghost use Rattle.console_lines.specs.Gathers.{waited_text};
 ghost use Rattle.console_lines.specs.Replies.{answer_text, counts_text, deadline_text, ending_text};
-ghost use Rattle.console_lines.specs.Replies.{error_text, fault_text, group_text, limit_text};
-ghost use Rattle.console_lines.specs.Replies.{phase_text, refusal_text, reply_line, reply_text};
-ghost use Rattle.console_lines.specs.Replies.{scope_text, started_text, tally_text, task_text};
-ghost use Rattle.console_lines.specs.Replies.{trouble_text, yes_or_no};
+ghost use Rattle.console_lines.specs.Replies.{error_text, group_text, limit_text, phase_text};
+ghost use Rattle.console_lines.specs.Replies.{reply_line, reply_text, scope_text, started_text};
+ghost use Rattle.console_lines.specs.Replies.{tally_text, task_text, yes_or_no};
 
 use crate::replies::Reply;
 use crate::tallies::{Counts, Tally};

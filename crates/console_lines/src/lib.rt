@@ -21,7 +21,6 @@ mod listings;
 pub mod nights;
 mod replies;
 mod rows;
-mod shown;
 mod strays;
 pub mod strict_nights;
 mod tallies;
@@ -34,12 +33,11 @@ mod words;
 
 pub use asked::Asked;
 pub use entries::{Entry, LONGEST_ENTRY};
-pub use faults::{RunFault, ShownFault};
+pub use faults::RunFault;
 pub use gathers::{LONGEST_REPLY, gather_scope};
 pub use lines::{LONGEST_INPUT, LONGEST_LINE, read_line};
 pub use replies::Reply;
 pub use rows::{LONGEST_ROW, Row};
-pub use shown::ShownName;
 pub use strays::{Stray, StrayLine};
 pub use tallies::{Counts, Tally};
 pub use trees::{

@@ -4,7 +4,6 @@ ghost use Rattle.std.specs.Prelude.{◌≡◌, Some};
 ghost use Rattle.console_lines.specs.Strict.{stray_of, stray_text};
 
 use crate::replies::Reply;
-use crate::shown::ShownRefusal;
 use run_model::Refusal;
 use std::fmt;
 
@@ -47,7 +46,7 @@ impl fmt::Display for StrayLine {
         let number = self.number;
         match self.why {
             Stray::BadLine => write!(f, "line {number}: bad line"),
-            Stray::Refused(refusal) => write!(f, "line {number}: {}", ShownRefusal(refusal)),
+            Stray::Refused(refusal) => write!(f, "line {number}: {refusal}"),
         }
     }
 }

@@ -7,10 +7,10 @@
 
 use anyhow::Result;
 use run_book::Book;
-use run_console::{crew, run, stopped};
+use run_console::{crew, run};
 use run_crew::{Job, OpenGate, Turn};
 use run_disk::FileDisk;
-use run_model::{Fault, Layout, Name, TaskInfo, Text};
+use run_model::{Layout, Name, TaskInfo, Text};
 use std::fs;
 use std::fs::OpenOptions;
 use std::io::Read;
@@ -63,19 +63,19 @@ fn disk(rt: &HostRuntime) -> Result<FileDisk> {
     options.read(true).write(true).create(true);
     let file = options.open(rt, "jobs.store")?;
     file.set_len(Layout::Small.store_len())?;
-    Ok(FileDisk::new(file).map_err(|_| stopped(Fault::DiskFailed))?)
+    Ok(FileDisk::new(file)?)
 }
 
 /// Opens the store, runs lines over it and prints their replies. What was running is interrupted by
 /// the opening.
 fn type_lines<R: Read>(rt: &HostRuntime, disk: FileDisk, lines: &mut R) -> Result<()> {
-    let mut book = Book::open(rt.alloc(), disk).map_err(|e| stopped(e.0))?;
+    let mut book = Book::open(rt.alloc(), disk).map_err(|e| e.0)?;
     Ok(run(rt.alloc(), lines, &mut rt.stdout(), &mut book)?)
 }
 
 fn main(rt: HostRuntime) -> Result<()> {
     let alloc = rt.alloc();
-    let new = Book::format(disk(&rt)?).map_err(|e| stopped(e.0))?;
+    let new = Book::format(disk(&rt)?).map_err(|e| e.0)?;
     type_lines(&rt, new, &mut rt.stdin())?;
     type_lines(&rt, disk(&rt)?, &mut b"task 0\nretry 0\n".as_slice())?;
     let mut workers: Vec<Vec<Box<dyn Job + Send>>> = Vec::new(alloc);

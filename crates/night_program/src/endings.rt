@@ -7,7 +7,7 @@ ghost use Rattle.night_program.specs.Endings.{unknown_line, words_status};
 
 use crate::failures::{Failure, FileFailure};
 use crate::known::UnknownJob;
-use console_lines::{RunFault, ShownFault, ShownName, StrayLine};
+use console_lines::{RunFault, StrayLine};
 use night_words::WordsFault;
 use std::io::Write;
 
@@ -112,7 +112,7 @@ fn tell_unknown<E: Write>(unknown: &UnknownJob, errors: &mut E) -> bool
     ensures { Tells result (unknown_line unknown.now)
         (E.contents errors.old) (E.contents errors.new) }
 {
-    let job = ShownName(&unknown.job);
+    let job = &unknown.job;
     let tasks = unknown.tasks;
     writeln!(errors, "night: unknown job {job}; tasks {tasks}").is_ok()
 }
@@ -123,7 +123,7 @@ fn tell<E: Write>(failure: &Failure<'_>, errors: &mut E) -> bool
     ensures { Tells result (failure_lines failure.now)
         (E.contents errors.old) (E.contents errors.new) }
 {
-    let line = ShownFault(failure.fault);
+    let line = failure.fault;
     if writeln!(errors, "night: {line}").is_err() {
         return false;
     }

@@ -1,7 +1,7 @@
 //! The texts of the faults that end a run.
 
 use crate::asserts::{done, holds};
-use console_lines::{RunFault, ShownFault};
+use console_lines::RunFault;
 use run_model::{Fault, Refusal, Trouble};
 use std::alloc::Global;
 use std::process::Abort;
@@ -33,12 +33,10 @@ static FAULTS: [(RunFault, &str); 9] = [
     ),
 ];
 
-/// Asserts the text of a fault, as the program shows it and as its own type does.
+/// Asserts the text of a fault.
 fn assert_text(rt: &impl Abort, alloc: Global, row: usize, fault: RunFault, text: &str) {
-    let shown = done(rt, ShownFault(fault).to_string(alloc), "text");
+    let shown = done(rt, fault.to_string(alloc), "text");
     holds(rt, shown.as_str() == text, "shown", row);
-    let derived = done(rt, fault.to_string(alloc), "text");
-    holds(rt, derived.as_str() == text, "derived", row);
 }
 
 #[test]

@@ -4,13 +4,15 @@
 //! Between two syncs a written range may hold any bytes after a crash, and the places outside keep
 //! theirs. After a sync a crash leaves what reads give.
 
-ghost use Rattle.std.specs.Prelude.{◌≡◌, ◌≤◌, ◌+◌, length, OnOk, slice_range};
+ghost use Rattle.std.specs.Prelude.{◌≡◌, ◌≤◌, ◌+◌, length, OnOk, Some, slice_range};
 ghost use Rattle.run_disk.specs.Disk.{DiskState, IsDisk};
 ghost use Rattle.run_disk.specs.Calls.{Calls, Reads, Writes, Syncs};
 
 use run_model::Fault;
+use std::error::Error;
+use std::fmt;
 
-/// A call of the device failed.
+/// A call of the device failed. It is shown as the fault is that it is: `fault 2 DiskFailed`.
 #[derive(Clone, Copy, Debug, PartialEq, Eq)]
 pub struct DiskFailed;
 
@@ -23,6 +25,19 @@ impl From<DiskFailed> for Fault {
         Fault::DiskFailed
     }
 }
+
+impl fmt::Display for DiskFailed {
+    ghost use Rattle.run_model.specs.declared.faults.Fault.TheVariants.{DiskFailed};
+    ghost use Rattle.run_model.specs.Faults.{fault_text};
+
+    ghost output = { λ _. Some (fault_text DiskFailed) };
+
+    fn fmt<W: fmt::Write>(&self, f: &mut fmt::Formatter<W>) -> fmt::Result {
+        write!(f, "{}", Fault::from(*self))
+    }
+}
+
+impl Error for DiskFailed {}
 
 /// A disk of a fixed size. Each read, write and sync is counted, and so is each that fails; at
 /// 2^64 - 1 of them the disk is spent, and each further call fails and changes nothing.

@@ -1,7 +1,11 @@
--- The numbers and names of faults.
-use Rattle.std.specs.Prelude.{ℕ, List, codes}
+-- The numbers, names and texts of faults, and of what a flush or a checkpoint fails with.
+use Rattle.std.specs.Prelude.{ℕ, List, ◌++◌, codes}
+use Rattle.std.specs.Fmt.{decimal}
 use Rattle.run_model.specs.declared.faults.Fault.{Fault}
 use Rattle.run_model.specs.declared.faults.Fault.TheVariants as fault
+use Rattle.run_model.specs.declared.faults.Trouble.{Trouble}
+use Rattle.run_model.specs.declared.faults.Trouble.TheVariants as trouble
+use Rattle.run_model.specs.Refusals.{refusal_text}
 
 -- The number that is printed.
 abbrev pub fault_number : Fault → ℕ
@@ -28,3 +32,12 @@ fault_name fault.BadBatch = codes "BadBatch"
 fault_name fault.BadRecord = codes "BadRecord"
 fault_name fault.BadEvent = codes "BadEvent"
 fault_name fault.NumbersSpent = codes "NumbersSpent"
+
+-- A fault, as in `fault 2 DiskFailed`.
+abbrev pub fault_text : Fault → List ℕ
+fault_text why = codes "fault " ++ decimal (fault_number why) ++ codes " " ++ fault_name why
+
+-- Why a flush or a checkpoint was not done: it was refused, or it failed.
+abbrev pub trouble_text : Trouble → List ℕ
+trouble_text (trouble.Refused why) = refusal_text why
+trouble_text (trouble.Faulty why) = fault_text why

@@ -1,12 +1,14 @@
 //! A [`Fault`] is what went wrong with a store, a device or the memory; a [`Trouble`] is why a
 //! flush or a checkpoint was not done.
 
-ghost use Rattle.std.specs.Prelude.{◌≡◌};
-ghost use Rattle.run_model.specs.Faults.{fault_number, fault_name};
+ghost use Rattle.std.specs.Prelude.{◌≡◌, Some};
+ghost use Rattle.run_model.specs.Faults.{fault_name, fault_number, fault_text, trouble_text};
 
 use crate::refusals::Refusal;
+use std::error::Error;
+use std::fmt;
 
-/// What went wrong with a store, a device or the memory.
+/// What went wrong with a store, a device or the memory. It is shown as `fault 2 DiskFailed`.
 #[derive(Clone, Copy, Debug, PartialEq, Eq)]
 pub enum Fault {
     /// The memory that was asked for was refused.
@@ -69,7 +71,19 @@ impl Fault {
     }
 }
 
-/// Why a flush or a checkpoint was not done.
+impl fmt::Display for Fault {
+    ghost output = { λ fault. Some (fault_text fault) };
+
+    fn fmt<W: fmt::Write>(&self, f: &mut fmt::Formatter<W>) -> fmt::Result {
+        let number = self.number();
+        let name = self.name();
+        write!(f, "fault {number} {name}")
+    }
+}
+
+impl Error for Fault {}
+
+/// Why a flush or a checkpoint was not done. It is shown as the refusal or the fault is.
 #[derive(Clone, Copy, Debug, PartialEq, Eq)]
 pub enum Trouble {
     /// The book refuses it.
@@ -77,3 +91,16 @@ pub enum Trouble {
     /// The device failed, or the store's numbers are used up.
     Faulty(Fault),
 }
+
+impl fmt::Display for Trouble {
+    ghost output = { λ trouble. Some (trouble_text trouble) };
+
+    fn fmt<W: fmt::Write>(&self, f: &mut fmt::Formatter<W>) -> fmt::Result {
+        match self {
+            Trouble::Refused(refusal) => write!(f, "{refusal}"),
+            Trouble::Faulty(fault) => write!(f, "{fault}"),
+        }
+    }
+}
+
+impl Error for Trouble {}

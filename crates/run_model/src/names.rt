@@ -4,7 +4,7 @@ ghost use Rattle.std.specs.Cmp.{partial_equiv_from_equiv};
 ghost use Rattle.std.specs.Cmp.Lexicographic.{nat_list_eq_equiv};
 ghost use Rattle.std.specs.List.{list_all};
 ghost use Rattle.std.specs.Option.{SomeIff};
-ghost use Rattle.std.specs.Prelude.{◌≡◌, List, ⊤, ℕ};
+ghost use Rattle.std.specs.Prelude.{◌≡◌, List, Some, ⊤, ℕ};
 ghost use Rattle.std.specs.Str.{bytes_eq};
 ghost use Rattle.run_model.specs.Texts.{IsName, is_name, is_name_byte};
 
@@ -12,8 +12,9 @@ use crate::bounds::NAME_LEN;
 use arrayvec::ArrayVec;
 use std::alloc::AllocError;
 use std::marker::Model;
+use std::{fmt, str};
 
-/// A name: 1 to 32 bytes of `a` to `z`, `0` to `9`, `-` and `_`.
+/// A name: 1 to 32 bytes of `a` to `z`, `0` to `9`, `-` and `_`. It is shown as they are.
 #[derive(Debug, Drop)]
 pub struct Name {
     bytes: ArrayVec<u8, NAME_LEN>,
@@ -66,6 +67,14 @@ impl Name {
             Ok(()) => Name { bytes },
             Err(_) => unreachable!(),
         }
+    }
+}
+
+impl fmt::Display for Name {
+    ghost output = { λ name. Some name };
+
+    fn fmt<W: fmt::Write>(&self, f: &mut fmt::Formatter<W>) -> fmt::Result {
+        f.write_str(str::from_utf8(self.as_bytes()).unwrap())
     }
 }
 

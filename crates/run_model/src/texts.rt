@@ -4,7 +4,7 @@ ghost use Rattle.std.specs.Cmp.{partial_equiv_from_equiv};
 ghost use Rattle.std.specs.Cmp.Lexicographic.{nat_list_eq_equiv};
 ghost use Rattle.std.specs.List.{list_all};
 ghost use Rattle.std.specs.Option.{SomeIff};
-ghost use Rattle.std.specs.Prelude.{◌≡◌, List, ⊤, ℕ};
+ghost use Rattle.std.specs.Prelude.{◌≡◌, List, Some, ⊤, ℕ};
 ghost use Rattle.std.specs.Str.{bytes_eq};
 ghost use Rattle.run_model.specs.Texts.{IsText, is_text, is_text_byte};
 
@@ -12,8 +12,9 @@ use crate::bounds::TEXT_LEN;
 use arrayvec::ArrayVec;
 use std::alloc::AllocError;
 use std::marker::Model;
+use std::{fmt, str};
 
-/// A text: 1 to 64 bytes of printable ASCII, 0x20 to 0x7E.
+/// A text: 1 to 64 bytes of printable ASCII, 0x20 to 0x7E. It is shown as they are.
 #[derive(Debug, Drop)]
 pub struct Text {
     bytes: ArrayVec<u8, TEXT_LEN>,
@@ -66,6 +67,14 @@ impl Text {
             Ok(()) => Text { bytes },
             Err(_) => unreachable!(),
         }
+    }
+}
+
+impl fmt::Display for Text {
+    ghost output = { λ text. Some text };
+
+    fn fmt<W: fmt::Write>(&self, f: &mut fmt::Formatter<W>) -> fmt::Result {
+        f.write_str(str::from_utf8(self.as_bytes()).unwrap())
     }
 }
 
