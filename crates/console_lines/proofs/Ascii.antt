@@ -1,16 +1,14 @@
 -- The line of a tally is ASCII, which is made a `str`.
 use Rattle.std.specs.Prelude.{◌≡◌, ℕ, ◌<◌, true, List, [], ◌∷◌, ◌++◌, codes}
 use Rattle.std.specs.Fmt.{decimal}
-use Rattle.std.specs.List.{All, list_all}
+use Rattle.std.specs.List.{list_all}
 use Rattle.std.specs.Str.{IsAscii}
 use Rattle.std.proofs.Common.{arith, refl}
-use Rattle.std.proofs.lemmas.Bool.Decides.{nat_tests}
 use Rattle.std.proofs.lemmas.Fmt.{IsAscii-decimal}
-use Rattle.std.proofs.lemmas.Grind.{common_steps}
-use Rattle.std.proofs.lemmas.List.Elements.{All-nil, All-cons}
 use Rattle.std.proofs.lemmas.Str.{IsAscii-append}
-use Rattle.std.proofs.lemmas.Str.Ascii.{IsAscii-cons, IsAscii-from_all, IsAscii-nil}
-use Rattle.run_model.specs.Texts.{is_text_byte, is_name_byte, IsName}
+use Rattle.std.proofs.lemmas.Str.Ascii.{IsAscii-cons, IsAscii-nil}
+use Rattle.run_model.specs.Texts.{is_text_byte, IsName}
+use Rattle.run_model.proofs.AsciiLemmas.{name_is_ascii, text_bytes_are_ascii}
 use Rattle.console_lines.specs.declared.replies.Reply.TheVariants as said
 use Rattle.console_lines.specs.declared.tallies.Counts.{Counts}
 use Rattle.console_lines.specs.declared.tallies.Tally.{Tally}
