@@ -1,6 +1,7 @@
 // Times the calls of Go's package context over the trees of main.rt.txt: a chain, a star and a
 // random tree of 1,023 contexts. Each figure is the least of 300 rounds, for one call, in tenths of
-// a nanosecond.
+// a nanosecond. In a second tree of each shape context 1 has the one deadline and context 2 the one
+// value, and the last sixteen contexts are asked for both, 64 times.
 package main
 
 import (
@@ -79,6 +80,44 @@ func round(parent []int, b best, sum *int) {
 	b.add("err of a done context", time.Since(start))
 }
 
+// key is what the one value is found by.
+type key struct{}
+
+// reach asks the last contexts of a tree for what the first two have.
+func reach(parent []int, b best, sum *int) {
+	at := make([]context.Context, scopes+1)
+	at[0] = context.Background()
+	for n := 1; n <= scopes; n++ {
+		var cancel context.CancelFunc
+		under := at[max(parent[n], min(n-1, 2))]
+		switch n {
+		case 1:
+			at[n], cancel = context.WithDeadline(under, time.Now().Add(time.Hour))
+		case 2:
+			at[n], cancel = context.WithCancel(context.WithValue(under, key{}, "eu"))
+		default:
+			at[n], cancel = context.WithCancel(under)
+		}
+		defer cancel()
+	}
+
+	start := time.Now()
+	for i := 0; i < 1024; i++ {
+		if _, ok := at[scopes-i%16].Deadline(); ok {
+			*sum++
+		}
+	}
+	b.add("deadline", time.Since(start))
+
+	start = time.Now()
+	for i := 0; i < 1024; i++ {
+		if at[scopes-i%16].Value(key{}) != nil {
+			*sum++
+		}
+	}
+	b.add("value", time.Since(start))
+}
+
 func main() {
 	calls := []struct {
 		what string
@@ -89,11 +128,14 @@ func main() {
 		{"err of a done context", scopes},
 		{"cancel of a leaf", 10},
 		{"cancel, a context ended", scopes - 10},
+		{"deadline", 1024},
+		{"value", 1024},
 	}
 	for _, shape := range []string{"chain", "star", "random"} {
 		b, sum, parent := best{}, 0, parents(shape)
 		for i := 0; i < 300; i++ {
 			round(parent, b, &sum)
+			reach(parent, b, &sum)
 		}
 		fmt.Printf("%s, in tenths of a nanosecond (sum %d)\n", shape, sum)
 		for _, call := range calls {
