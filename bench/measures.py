@@ -65,9 +65,9 @@ def figures(rows, count, best=max):
 
 @contextlib.contextmanager
 def program_of(bench):
-    """The program of a bench: the one that a variable of the bench's name names, or one that is
-    proved and built in a copy of the repository, which goes again."""
-    given = os.environ.get(bench.upper())
+    """The program of a bench: the one that NAME_BENCH names, as BOOK_BENCH, or one that is proved
+    and built in a copy of the repository, which goes again."""
+    given = os.environ.get(f"{bench.upper()}_BENCH")
     if given:
         yield os.path.abspath(given)
         return
