@@ -20,11 +20,6 @@ pub passing_row : {X : Type 0} (test : X → Bool) (o : Option X) → option_map
 passing_row test None e = cc
 passing_row test (Some row) e = (row, refl, e)
 
--- What a test says of a row that is there.
-pub row_tested : {X : Type 0} (test : X → Bool) (o : Option X) (row : X) → o ≡ Some row
-    → option_map_or test o false ≡ test row
-row_tested test o row found = ap (λ x. option_map_or test x false) found
-
 -- Where a test of the row of a number holds, there are more rows than that.
 pub passing_within : {X : Type 0} (test : X → Bool) (rows : List X) (n : ℕ)
     → option_map_or test (slice_get rows n) false ≡ true → n < length rows
