@@ -1,0 +1,57 @@
+-- What it says that no test of a list of refusals holds.
+use Rattle.std.proofs.Common.{◌≡◌, Bool, true, false, not, ◌&&◌, if◌then◌else◌, List, [], ◌∷◌}
+use Rattle.std.proofs.Common.{Result, Ok, Err, refl, ap, ◌∙◌}
+use Rattle.std.proofs.lemmas.Bool.{and_from, and_parts, not-true, not_from_false}
+use Rattle.run_model.specs.declared.refusals.Refusal.{Refusal}
+use Rattle.run_model.specs.Allowed.{holds_none, tested, unless}
+use Rattle.run_model.specs.Replies.{and_then}
+
+-- Each of the tests fails.
+abbrev pub Passes : List (Bool × Refusal) → Type 0
+Passes [] = Unit {0}
+Passes (t ∷ tests) = (t.0 ≡ false) × Passes tests
+
+pub each_fails : (tests : List (Bool × Refusal)) → holds_none tests ≡ true → Passes tests
+each_fails [] none = tt
+each_fails (t ∷ tests) none =
+    let parts = and_parts (not t.0) (holds_none tests) none in
+    (not-true t.0 parts.0, each_fails tests parts.1)
+
+pub none_holds : (tests : List (Bool × Refusal)) → Passes tests → holds_none tests ≡ true
+none_holds [] passes = refl
+none_holds (t ∷ tests) passes =
+    and_from _ _ (not_from_false t.0 passes.0) (none_holds tests passes.1)
+
+-- Where no test holds, the answer is what stands behind them.
+pub unless_none : {X : Type 0} (tests : List (Bool × Refusal)) (answer : Result X Refusal)
+    → holds_none tests ≡ true → unless tests answer ≡ answer
+unless_none [] answer none = refl
+unless_none (t ∷ tests) answer none =
+    let parts = and_parts (not t.0) (holds_none tests) none in
+    ap (λ b. if b then Err t.1 else unless tests answer) (not-true t.0 parts.0)
+    ∙ unless_none tests answer parts.1
+
+one_passes : {X : Type 0} (holds : Bool) (why : Refusal) (rest : Result X Refusal) (x : X)
+    → (if holds then Err why else rest) ≡ Ok x → (holds ≡ false) × (rest ≡ Ok x)
+one_passes true why rest x e = cc
+one_passes false why rest x e = (refl, e)
+
+-- And only there it is an Ok.
+pub unless_Ok : {X : Type 0} (tests : List (Bool × Refusal)) (answer : Result X Refusal) (x : X)
+    → unless tests answer ≡ Ok x → (holds_none tests ≡ true) × (answer ≡ Ok x)
+unless_Ok [] answer x e = (refl, e)
+unless_Ok (t ∷ tests) answer x e =
+    let one = one_passes t.0 t.1 (unless tests answer) x e in
+    let rest = unless_Ok tests answer x one.1 in
+    (and_from _ _ (not_from_false t.0 one.0) rest.0, rest.1)
+
+-- The tests by themselves, and then the answer.
+pub unless_tested : {X : Type 0} (tests : List (Bool × Refusal)) (answer : Result X Refusal)
+    → unless tests answer ≡ and_then (tested tests) (λ _. answer)
+unless_tested [] answer = refl
+unless_tested (t ∷ tests) answer =
+    elim t.0 as
+    (λ b.
+    (if b then Err t.1 else unless tests answer)
+    ≡ and_then (if b then Err t.1 else tested tests) (λ _. answer))
+    [ true ↦ refl | false ↦ unless_tested tests answer ]
