@@ -22,6 +22,11 @@ none_holds [] passes = refl
 none_holds (t ∷ tests) passes =
     and_from _ _ (not_from_false t.0 passes.0) (none_holds tests passes.1)
 
+-- Where the first test asks that something isn't so, it is so.
+pub is_first : (b rest : Bool) → (not (not b) && rest) ≡ true → b ≡ true
+is_first true rest none = refl
+is_first false rest none = none
+
 -- Where no test holds, the answer is what stands behind them.
 pub unless_none : {X : Type 0} (tests : List (Bool × Refusal)) (answer : Result X Refusal)
     → holds_none tests ≡ true → unless tests answer ≡ answer
