@@ -26,7 +26,7 @@ use run_model::Group;
 
 /// The row of a group. It lives as long as the bytes that it was read from are lent, and copies
 /// none of them.
-#[derive(Clone, Copy, Debug, PartialEq, Eq)]
+#[derive(Clone, Copy, PartialEq, Eq)]
 pub struct GroupRow<'a> {
     /// What it is called.
     pub name: &'a [u8],

@@ -19,7 +19,7 @@ use crate::puts::{put_byte, put_u16, put_u64};
 use run_model::{Layout, MOST_GROUPS};
 
 /// How an image is spelled. Both are read, and the second alone is written.
-#[derive(Clone, Copy, Debug, PartialEq, Eq)]
+#[derive(Clone, Copy, PartialEq, Eq)]
 pub enum ImageVersion {
     /// Without links: no task is a retry.
     One,
@@ -28,7 +28,7 @@ pub enum ImageVersion {
 }
 
 /// What stands in front of the rows of an image.
-#[derive(Clone, Copy, Debug, PartialEq, Eq)]
+#[derive(Clone, Copy, PartialEq, Eq)]
 pub struct ImageHead {
     /// How the rows are spelled.
     pub version: ImageVersion,

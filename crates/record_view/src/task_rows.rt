@@ -29,7 +29,7 @@ use run_model::{Stage, Task};
 const NO_LINK: u16 = 65_535;
 
 /// How far a task is.
-#[derive(Clone, Copy, Debug, PartialEq, Eq)]
+#[derive(Clone, Copy, PartialEq, Eq)]
 pub enum StageView<'a> {
     /// Not started.
     Fresh,
@@ -45,7 +45,7 @@ pub enum StageView<'a> {
 
 /// The row of a task. It lives as long as the bytes that it was read from are lent, and copies
 /// none of them.
-#[derive(Clone, Copy, Debug, PartialEq, Eq)]
+#[derive(Clone, Copy, PartialEq, Eq)]
 pub struct TaskRow<'a> {
     /// The number of its group.
     pub group: u16,

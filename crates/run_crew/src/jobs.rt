@@ -44,7 +44,7 @@ pub trait Gate {
 }
 
 /// A gate that lets each turn pass.
-#[derive(Clone, Copy, Debug)]
+#[derive(Clone, Copy)]
 pub struct OpenGate;
 
 impl Gate for OpenGate {

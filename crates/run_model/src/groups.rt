@@ -8,7 +8,7 @@ use crate::names::Name;
 use crate::texts::Text;
 
 /// The row of a group. Its number is its place.
-#[derive(Debug, Drop, PartialEq, Eq)]
+#[derive(Drop, PartialEq, Eq)]
 pub struct Group {
     /// What it is called.
     pub name: Name,

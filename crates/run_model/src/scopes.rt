@@ -34,7 +34,7 @@ impl Reason {
 }
 
 /// What a scope is.
-#[derive(Debug, Drop, PartialEq, Eq)]
+#[derive(Drop, PartialEq, Eq)]
 pub enum Kind {
     /// Never done: scope 0 alone.
     Root,
@@ -70,7 +70,7 @@ impl Kind {
 }
 
 /// A scope's own first cancellation.
-#[derive(Debug, Drop, PartialEq, Eq)]
+#[derive(Drop, PartialEq, Eq)]
 pub struct Hit {
     /// The number of the event that it came with.
     pub event: u64,
@@ -97,7 +97,7 @@ impl Hit {
 }
 
 /// The row of a scope. Its number is its place.
-#[derive(Debug, Drop, PartialEq, Eq)]
+#[derive(Drop, PartialEq, Eq)]
 pub struct Scope {
     /// What it is called.
     pub name: Name,
