@@ -14,18 +14,17 @@ use Rattle.run_model.specs.declared.tasks.Task.{Task}
 use Rattle.run_model.specs.Questions.{group_look_of, look_of, task_look_of}
 use Rattle.run_model.specs.Rules.{IsConsistent}
 use Rattle.run_model.specs.Scopes.{AreOrdered, deadline_of, ending, line_within, text_under}
-use Rattle.run_model.specs.Scopes.{upwards}
-use Rattle.run_model.specs.Scopes.{value_of}
+use Rattle.run_model.specs.Scopes.{upwards, value_of}
 use Rattle.run_model.specs.State.{State}
 use Rattle.run_model.specs.Tasks.{is_admitted, phase_by, unfinished_in}
-use Rattle.state_renewal.specs.Renewed.{new_number}
+use Rattle.state_renewal.specs.Renewed.{new_number, Part, group_anew, scope_anew, state_anew}
+use Rattle.state_renewal.specs.Renewed.{task_anew}
 use Rattle.renewal_laws.specs.Alike.{GoOnAlike, group_look_anew, task_look_anew}
-use Rattle.renewal_laws.specs.GoingOn.{Part, group_anew, scope_anew, state_anew, task_anew}
-use Rattle.renewal_laws.proofs.Chains.{deadline_told, ending_told, line_told, scopes_anew}
-use Rattle.renewal_laws.proofs.Chains.{value_told}
+use Rattle.state_renewal.proofs.Chains.{deadline_told, ending_told, line_told, scopes_anew}
+use Rattle.state_renewal.proofs.Chains.{value_told}
 use Rattle.renewal_laws.proofs.Goes.{Goes}
-use Rattle.renewal_laws.proofs.Rows.{anew_get}
-use Rattle.renewal_laws.proofs.Works.{admitted_anew, first_anew, unfinished_same}
+use Rattle.state_renewal.proofs.RowsAnew.{anew_get}
+use Rattle.state_renewal.proofs.Works.{admitted_anew, first_anew, unfinished_same}
 
 -- ---- scopes
 

@@ -11,10 +11,10 @@ use Rattle.run_model.specs.declared.tasks.Task.{Task}
 use Rattle.run_model.specs.Rules.{HasGroup, IsConsistent}
 use Rattle.run_model.specs.Scopes.{is_root}
 use Rattle.run_model.specs.State.{State, WorkState}
-use Rattle.state_renewal.specs.Renewed.{keeps_group, keeps_scope, keeps_task}
+use Rattle.state_renewal.specs.Renewed.{keeps_group, keeps_scope, keeps_task, Part}
 use Rattle.state_renewal.proofs.Keeps.{owner_kept, parent_kept, scope_kept, task_is_kept}
 use Rattle.state_renewal.proofs.Keeps.{unwaited_kept}
-use Rattle.renewal_laws.specs.GoingOn.{Part, going_on, goes_on}
+use Rattle.renewal_laws.specs.GoingOn.{going_on, goes_on}
 
 -- Each row has this of its number and itself.
 abbrev pub EachRow : {X : Type 0} → (ℕ → X → Type 0) → List X → Type 0

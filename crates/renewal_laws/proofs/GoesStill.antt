@@ -25,7 +25,8 @@ use Rattle.run_model.specs.WorkChanges.{after_end, after_interrupt, after_retry,
 use Rattle.run_model.specs.WorkChanges.{group_of_task, groups_after, interruption, retried_row}
 use Rattle.run_model.specs.WorkChanges.{stage_of, with_error, with_limit, with_stage, with_wait}
 use Rattle.run_model.proofs.RowLemmas.{at_row_cases, length-at_row, map_cases, push_cases}
-use Rattle.renewal_laws.specs.GoingOn.{Part, names_part}
+use Rattle.state_renewal.specs.Renewed.{Part}
+use Rattle.state_renewal.specs.Told.{names_part}
 use Rattle.renewal_laws.proofs.Goes.{EachRow, Goes, GroupsGo, ScopesGo, TasksGo, WithGroup}
 use Rattle.renewal_laws.proofs.Goes.{WithParent, WithScope, WorkGoes}
 

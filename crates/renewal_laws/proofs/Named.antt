@@ -1,6 +1,5 @@
 -- Commands that name what goes on ask both stores for the same event.
-use Rattle.std.proofs.Common.{◌≡◌, ℕ, true, List, length, refl, sym}
-use Rattle.std.proofs.Common.{ap, ◌∙◌}
+use Rattle.std.proofs.Common.{◌≡◌, ℕ, true, List, length, refl, sym, ap, ◌∙◌}
 use Rattle.std.specs.Prelude.{is_none, unwrap_or}
 use Rattle.run_model.specs.declared.commands.Command.{Command}
 use Rattle.run_model.specs.declared.commands.Command.TheVariants as command
@@ -10,9 +9,9 @@ use Rattle.run_model.specs.Replies.{scope_of}
 use Rattle.run_model.specs.Rules.{IsConsistent}
 use Rattle.run_model.specs.State.{State, group_named, scope_named}
 use Rattle.model_laws.proofs.Tests.{passing}
-use Rattle.state_renewal.specs.Renewed.{new_number}
+use Rattle.state_renewal.specs.Renewed.{new_number, Part, state_anew}
 use Rattle.renewal_laws.specs.Answered.{calls_part, command_anew, has_group_on, has_scope_on}
-use Rattle.renewal_laws.specs.GoingOn.{Part, event_anew, names_part, state_anew}
+use Rattle.state_renewal.specs.Told.{event_anew, names_part}
 use Rattle.renewal_laws.proofs.Names.{group_named_anew, scope_named_anew}
 
 -- A scope of this name is found in both stores, and goes on.

@@ -1,7 +1,6 @@
 -- What goes on is found by its name, under its new number.
 use Rattle.std.proofs.Common.{◌≡◌, ℕ, Bool, true, false, List, [], Option, Some, None, get_or}
-use Rattle.std.proofs.Common.{slice_get, refl, sym}
-use Rattle.std.proofs.Common.{ap, ◌∙◌}
+use Rattle.std.proofs.Common.{slice_get, refl, sym, ap, ◌∙◌}
 use Rattle.std.specs.Option.{option_map}
 use Rattle.std.specs.Prelude.{is_none, position}
 use Rattle.std.specs.Str.{bytes_eq}
@@ -12,9 +11,9 @@ use Rattle.run_model.specs.Rows.{new_group, root}
 use Rattle.run_model.specs.Rules.{IsConsistent}
 use Rattle.run_model.specs.State.{State, group_named, scope_named}
 use Rattle.run_model.proofs.NameLemmas.{name_is_free}
-use Rattle.state_renewal.specs.Renewed.{new_number}
-use Rattle.renewal_laws.specs.GoingOn.{Part, group_anew, rows_anew, scope_anew, state_anew}
-use Rattle.renewal_laws.proofs.Rows.{anew_get}
+use Rattle.state_renewal.specs.Renewed.{new_number, Part, group_anew, rows_anew, scope_anew}
+use Rattle.state_renewal.specs.Renewed.{state_anew}
+use Rattle.state_renewal.proofs.RowsAnew.{anew_get}
 
 -- A row that a search for a name finds.
 record IsNamed

@@ -1,6 +1,6 @@
 -- What holds of a store that goes on, and of the renewed one, at any time since the renewal.
-use Rattle.std.proofs.Common.{◌≡◌, ◌⊎◌, ◌<◌, ◌≤◌, ◌&&◌, ℕ, true, false, List, length, map}
-use Rattle.std.proofs.Common.{Option, Some, None, inl, inr, refl, sym, ap, subst, ◌∙◌}
+use Rattle.std.proofs.Common.{◌≡◌, ◌⊎◌, ◌<◌, ◌≤◌, ◌&&◌, ℕ, true, false, List, length, map, Option}
+use Rattle.std.proofs.Common.{Some, None, inl, inr, refl, sym, ap, subst, ◌∙◌}
 use Rattle.std.specs.Prelude.{is_some}
 use Rattle.std.proofs.lemmas.Bool.{both_ways, cases_lt, false≢true, true_from_ne_false}
 use Rattle.run_model.specs.declared.commands.Command.{Command}
@@ -17,22 +17,22 @@ use Rattle.run_model.specs.State.{State}
 use Rattle.run_model.specs.Tasks.{is_unfinished}
 use Rattle.model_laws.proofs.Stays.{endings_run}
 use Rattle.model_laws.proofs.WellFormed.{well_formed_consistent}
-use Rattle.state_renewal.specs.Renewed.{keeps_scope, new_number, renewed}
-use Rattle.state_renewal.specs.Told.{has_place}
+use Rattle.state_renewal.specs.Renewed.{keeps_scope, new_number, renewed, state_anew}
+use Rattle.state_renewal.specs.Told.{has_place, event_anew, names_part}
 use Rattle.state_renewal.proofs.Keeps.{live_kept, there}
 use Rattle.state_renewal.proofs.RulesKept.{rules_kept}
 use Rattle.renewal_laws.specs.Alike.{GoOnAlike}
 use Rattle.renewal_laws.specs.Answered.{answer_anew, calls_part, command_anew, reply_anew}
 use Rattle.renewal_laws.specs.Answered.{started_anew}
-use Rattle.renewal_laws.specs.GoingOn.{GoesOn, event_anew, going_on, names_part, state_anew}
-use Rattle.renewal_laws.proofs.Again.{renewed_same}
+use Rattle.renewal_laws.specs.GoingOn.{GoesOn, going_on}
+use Rattle.state_renewal.proofs.Twice.{renewed_same}
 use Rattle.renewal_laws.proofs.Alike.{alike}
-use Rattle.renewal_laws.proofs.Allowed.{allowed_same}
+use Rattle.state_renewal.proofs.Refusals.{allowed_same}
 use Rattle.renewal_laws.proofs.Begins.{begins}
 use Rattle.renewal_laws.proofs.Goes.{goes_before, goes_first, goes_later}
 use Rattle.renewal_laws.proofs.Replies.{commands_alike, finishes_alike, starts_alike}
 use Rattle.renewal_laws.proofs.Runs.{Both, IsLed, led}
-use Rattle.renewal_laws.proofs.Works.{gone_ended}
+use Rattle.state_renewal.proofs.Works.{gone_ended}
 
 both_first : (p : State) → IsConsistent p → Both (going_on p) p
 both_first p consistent = record {

@@ -14,8 +14,8 @@ use Rattle.run_model.specs.declared.refusals.Refusal.{Refusal}
 use Rattle.run_model.specs.declared.refusals.Refusal.TheVariants as refusal
 use Rattle.run_model.specs.declared.tasks.Task.{Task}
 use Rattle.run_model.specs.Allowed.{admits_one_more, has_group_room, has_kind, has_scope_room}
-use Rattle.run_model.specs.Allowed.{is_cancellable, is_group_name_free, is_idle}
-use Rattle.run_model.specs.Allowed.{is_open, is_scope_name_free, takes_cause}
+use Rattle.run_model.specs.Allowed.{is_cancellable, is_group_name_free, is_idle, is_open}
+use Rattle.run_model.specs.Allowed.{is_scope_name_free, takes_cause}
 use Rattle.run_model.specs.Records.{record_len}
 use Rattle.run_model.specs.Replies.{event_of, group_of, has_waited, is_full, is_past_moments}
 use Rattle.run_model.specs.Replies.{is_repeated, lacks_group, refusals, scope_of}
@@ -23,26 +23,25 @@ use Rattle.run_model.specs.Rules.{IsConsistent}
 use Rattle.run_model.specs.Scopes.{is_done}
 use Rattle.run_model.specs.State.{State}
 use Rattle.run_model.specs.Step.{step}
-use Rattle.run_model.specs.Tasks.{is_interrupted, is_running}
-use Rattle.run_model.specs.Tasks.{is_unfinished, running_count, unfinished_in}
+use Rattle.run_model.specs.Tasks.{is_interrupted, is_running, is_unfinished, running_count}
+use Rattle.run_model.specs.Tasks.{unfinished_in}
 use Rattle.run_model.specs.WorkChanges.{group_of_task, retried_row}
 use Rattle.model_laws.proofs.Tests.{all_four}
-use Rattle.state_renewal.specs.Renewed.{new_number}
+use Rattle.state_renewal.specs.Renewed.{new_number, Part, group_anew, state_anew, task_anew}
+use Rattle.state_renewal.specs.Renewed.{tree_anew, work_anew}
 use Rattle.state_renewal.specs.Told.{has_place}
 use Rattle.state_renewal.proofs.Keeps.{count_cons}
 use Rattle.state_renewal.proofs.Numbers.{number_less, number_up}
 use Rattle.renewal_laws.specs.Answered.{calls_part, command_anew}
-use Rattle.renewal_laws.specs.GoingOn.{Part, group_anew, state_anew, task_anew, tree_anew}
-use Rattle.renewal_laws.specs.GoingOn.{work_anew}
-use Rattle.renewal_laws.proofs.Allowed.{done_anew, group_free, group_room, kind_anew, scope_free}
-use Rattle.renewal_laws.proofs.Allowed.{scope_room, task_room}
+use Rattle.state_renewal.proofs.Refusals.{done_anew, group_free, group_room, kind_anew, scope_free}
+use Rattle.state_renewal.proofs.Refusals.{scope_room, task_room}
 use Rattle.renewal_laws.proofs.Goes.{Goes, WorkGoes}
 use Rattle.renewal_laws.proofs.Named.{group_on, scope_on}
-use Rattle.renewal_laws.proofs.Numbers.{count_all_anew}
-use Rattle.renewal_laws.proofs.Rows.{anew_get, length-anew}
+use Rattle.state_renewal.proofs.PassAnew.{count_all_anew}
+use Rattle.state_renewal.proofs.RowsAnew.{anew_get, length-anew}
 use Rattle.renewal_laws.proofs.Squares.{group_goes, group_of_anew}
-use Rattle.renewal_laws.proofs.Works.{gone_ended, idle_anew, open_anew, retried_anew}
-use Rattle.renewal_laws.proofs.Works.{running_unfinished, seat_anew, stage_same, unfinished_same}
+use Rattle.state_renewal.proofs.Works.{gone_ended, idle_anew, open_anew, retried_anew}
+use Rattle.state_renewal.proofs.Works.{running_unfinished, seat_anew, stage_same, unfinished_same}
 
 -- The tests of a command, each with its refusal.
 abbrev Tests : Type 0

@@ -1,7 +1,6 @@
 -- A command, a start or a finish that names what goes on is answered alike by both stores.
 use Rattle.std.proofs.Common.{◌≡◌, ◌+◌, ◌*◌, ◌==◌, ℕ, Bool, true, false, not, List, [], ◌∷◌}
-use Rattle.std.proofs.Common.{length, Option, Some, None, slice_get, refl, sym, ap, ◌∙◌}
-use Rattle.std.proofs.Common.{arith}
+use Rattle.std.proofs.Common.{length, Option, Some, None, slice_get, refl, sym, ap, ◌∙◌, arith}
 use Rattle.std.specs.Option.{ok_or, option_and_then, option_map, option_map_or}
 use Rattle.std.specs.Prelude.{if◌then◌else◌, nat_le, nat_lt, Result, Ok, Err, unwrap_or}
 use Rattle.std.proofs.lemmas.Bool.{eq-eqb}
@@ -20,51 +19,33 @@ use Rattle.run_model.specs.declared.tasks.Task.{Task}
 use Rattle.run_model.specs.Event.{Event}
 use Rattle.run_model.specs.Event as event
 use Rattle.run_model.specs.Records.{record_len}
-use Rattle.run_model.specs.Replies.{and_then, answer_of, event_of, group_of, is_full}
-use Rattle.run_model.specs.Replies.{is_repeated, is_task_done, refusals, reply, reply_finish}
-use Rattle.run_model.specs.Replies.{reply_start, started_of, state_after, submission, unless}
+use Rattle.run_model.specs.Replies.{and_then, answer_of, event_of, group_of, is_full, is_repeated}
+use Rattle.run_model.specs.Replies.{is_task_done, refusals, reply, reply_finish, reply_start}
+use Rattle.run_model.specs.Replies.{started_of, state_after, submission, unless}
 use Rattle.run_model.specs.Rules.{IsConsistent}
 use Rattle.run_model.specs.Scopes.{is_done}
 use Rattle.run_model.specs.State.{State, WorkState}
 use Rattle.run_model.specs.Step.{step}
-use Rattle.run_model.specs.Tasks.{first_ready, is_admitted, is_ready, is_running, is_running_task}
-use Rattle.run_model.specs.Tasks.{phase_by, phase_of, running_count, task_numbers}
+use Rattle.run_model.specs.Tasks.{first_ready, is_ready, is_running, is_running_task, phase_of}
+use Rattle.run_model.specs.Tasks.{running_count, task_numbers}
 use Rattle.model_laws.proofs.Tests.{found_passes}
-use Rattle.state_renewal.specs.Renewed.{new_number}
+use Rattle.state_renewal.specs.Renewed.{new_number, Part, group_anew, scope_anew, state_anew}
+use Rattle.state_renewal.specs.Renewed.{task_anew, work_anew}
 use Rattle.state_renewal.specs.Told.{has_place}
 use Rattle.renewal_laws.specs.Answered.{answer_anew, calls_part, command_anew, reply_anew}
 use Rattle.renewal_laws.specs.Answered.{started_anew}
-use Rattle.renewal_laws.specs.GoingOn.{Part, group_anew, scope_anew, state_anew}
-use Rattle.renewal_laws.specs.GoingOn.{task_anew, work_anew}
-use Rattle.renewal_laws.proofs.Allowed.{done_anew}
-use Rattle.renewal_laws.proofs.Goes.{Goes, TasksGo}
+use Rattle.state_renewal.proofs.Refusals.{done_anew}
+use Rattle.renewal_laws.proofs.Goes.{Goes}
 use Rattle.renewal_laws.proofs.GoesStill.{goes_still}
 use Rattle.renewal_laws.proofs.Named.{event_names, event_told, group_on}
 use Rattle.renewal_laws.proofs.Refused.{full_same, past_anew, refusals_same, repeated_same}
 use Rattle.renewal_laws.proofs.Refused.{running_same}
-use Rattle.renewal_laws.proofs.Rows.{anew_get, length-anew}
+use Rattle.state_renewal.proofs.RowsAnew.{anew_get, length-anew}
 use Rattle.renewal_laws.proofs.Runs.{Both, both_step}
 use Rattle.renewal_laws.proofs.Steps.{step_anew}
-use Rattle.renewal_laws.proofs.Works.{admitted_anew, first_anew, ready_goes, stage_same}
+use Rattle.state_renewal.proofs.Works.{first_anew, ready_goes, stage_same}
 
 -- ---- answers
-
-phase_anew : (part : Part) (w : WorkState) (n : ℕ) → TasksGo part w.tasks
-    → part.tasks n ≡ true → phase_of (work_anew part w) (new_number part.tasks n) ≡ phase_of w n
-phase_anew part w n go is =
-    ap (option_map (λ row. phase_by
-    (is_admitted (work_anew part w) (new_number part.tasks n) row) row.stage))
-    (anew_get part.tasks (task_anew part) w.tasks n is)
-    ∙ by_row (slice_get w.tasks n) refl
-  where
-    by_row : (o : Option Task) → slice_get w.tasks n ≡ o
-        → option_map (λ row. phase_by
-        (is_admitted (work_anew part w) (new_number part.tasks n) row) row.stage)
-        (option_map (task_anew part) o)
-        ≡ option_map (λ row. phase_by (is_admitted w n row) row.stage) o
-    by_row None at = refl
-    by_row (Some row) at =
-        ap (λ b. Some (phase_by b row.stage)) (admitted_anew part w n row go at is)
 
 -- A task that was submitted has the next number, and is as far in both.
 submission_anew : (part : Part) (p q : State) → Goes part p → Goes part q

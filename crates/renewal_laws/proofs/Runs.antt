@@ -1,6 +1,6 @@
 -- Events that name what goes on lead both stores the same way.
-use Rattle.std.proofs.Common.{◌≡◌, Bool, true, false, List, [], ◌∷◌, map, Some, None}
-use Rattle.std.proofs.Common.{refl, ap, subst, ◌∙◌}
+use Rattle.std.proofs.Common.{◌≡◌, Bool, true, false, List, [], ◌∷◌, map, Some, None, refl, ap}
+use Rattle.std.proofs.Common.{subst, ◌∙◌}
 use Rattle.std.specs.Option.{option_and_then}
 use Rattle.std.specs.Prelude.{if◌then◌else◌}
 use Rattle.std.proofs.lemmas.Bool.{and_parts}
@@ -11,8 +11,10 @@ use Rattle.run_model.specs.Rules.{IsConsistent}
 use Rattle.run_model.specs.State.{State}
 use Rattle.run_model.specs.Step.{step}
 use Rattle.model_laws.proofs.StateSteps.{kept_by}
-use Rattle.renewal_laws.specs.GoingOn.{Part, all_name_part, event_anew, names_part, state_anew}
-use Rattle.renewal_laws.proofs.Allowed.{allowed_anew}
+use Rattle.state_renewal.specs.Renewed.{Part, state_anew}
+use Rattle.renewal_laws.specs.GoingOn.{all_name_part}
+use Rattle.state_renewal.specs.Told.{event_anew, names_part}
+use Rattle.state_renewal.proofs.Refusals.{allowed_anew}
 use Rattle.renewal_laws.proofs.Goes.{Goes}
 use Rattle.renewal_laws.proofs.GoesStill.{goes_still}
 use Rattle.renewal_laws.proofs.Steps.{step_anew}

@@ -1,6 +1,6 @@
 -- What a change makes of what goes on is what goes on of what it makes.
-use Rattle.std.proofs.Common.{◌≡◌, ℕ, Bool, true, false, List, [], ◌∷◌, ◌++◌, length}
-use Rattle.std.proofs.Common.{Option, Some, None, slice_get, refl, sym, ap, ◌∙◌, arith}
+use Rattle.std.proofs.Common.{◌≡◌, ℕ, Bool, true, false, List, [], ◌∷◌, ◌++◌, length, Option, Some}
+use Rattle.std.proofs.Common.{None, slice_get, refl, sym, ap, ◌∙◌, arith}
 use Rattle.std.specs.Option.{option_and_then, option_map, option_map_or}
 use Rattle.std.specs.Prelude.{if◌then◌else◌}
 use Rattle.run_model.specs.declared.groups.Group.{Group}
@@ -18,11 +18,10 @@ use Rattle.run_model.specs.WorkChanges.{after_end, after_go, after_limit, after_
 use Rattle.run_model.specs.WorkChanges.{after_wait, group_of_task, groups_after, retried_row}
 use Rattle.run_model.specs.WorkChanges.{with_error, with_limit, with_stage, with_wait}
 use Rattle.model_laws.proofs.Ends.{owner_found}
-use Rattle.state_renewal.specs.Renewed.{new_number}
-use Rattle.renewal_laws.specs.GoingOn.{Part, group_anew, rows_anew, scope_anew, task_anew}
-use Rattle.renewal_laws.specs.GoingOn.{tree_anew, work_anew}
+use Rattle.state_renewal.specs.Renewed.{new_number, Part, group_anew, rows_anew, scope_anew}
+use Rattle.state_renewal.specs.Renewed.{task_anew, tree_anew, work_anew}
 use Rattle.renewal_laws.proofs.Goes.{GroupsGo, WorkGoes}
-use Rattle.renewal_laws.proofs.Rows.{anew_at, anew_get, anew_map, anew_push, length-anew}
+use Rattle.state_renewal.proofs.RowsAnew.{anew_at, anew_get, anew_map, anew_push, length-anew}
 
 -- ---- the tree
 
@@ -107,7 +106,7 @@ ended_anew part e w g cause t go is =
         cancel_anew part e s cause t
         (ap part.scopes (sym owner.1.scope) ∙ (go.each g owner.0 owner.1.found).scope is)
 
-pub group_of_anew : (part : Part) (w : WorkState) (n : ℕ) → part.tasks n ≡ true
+group_of_anew : (part : Part) (w : WorkState) (n : ℕ) → part.tasks n ≡ true
     → group_of_task (work_anew part w) (new_number part.tasks n)
     ≡ new_number part.groups (group_of_task w n)
 group_of_anew part w n is =
@@ -122,7 +121,7 @@ group_of_anew part w n is =
     by_row None = length-anew part.groups (group_anew part) w.groups
     by_row (Some row) = refl
 
-pub group_goes : (part : Part) (w : WorkState) (n : ℕ) → WorkGoes part w → part.tasks n ≡ true
+group_goes : (part : Part) (w : WorkState) (n : ℕ) → WorkGoes part w → part.tasks n ≡ true
     → part.groups (group_of_task w n) ≡ true
 group_goes part w n go is = by_row (slice_get w.tasks n) refl
   where

@@ -14,8 +14,8 @@ use Rattle.run_model.specs.declared.scopes.Scope.{Scope}
 use Rattle.run_model.specs.declared.tasks.Task.{Task}
 use Rattle.run_model.specs.Rows.{root}
 use Rattle.run_model.specs.Rules.{HasScope, HasGroup, HasTask, IsConsistent}
-use Rattle.run_model.specs.Scopes.{is_root, upwards, line_within, line, before_detached}
-use Rattle.run_model.specs.Scopes.{hit_at, least_hit, is_done, AreOrdered}
+use Rattle.run_model.specs.Scopes.{is_root, upwards, line_within, line, before_detached, hit_at}
+use Rattle.run_model.specs.Scopes.{least_hit, is_done, AreOrdered}
 use Rattle.run_model.specs.State.{State}
 use Rattle.run_model.specs.Tasks.{is_unfinished}
 use Rattle.model_laws.specs.Hits.{is_on}
@@ -223,7 +223,7 @@ pub count_cons : {X : Type 0} (test : X → Bool) (row : X) (rows : List X)
     → count_by test (row ∷ rows) ≡ (if test row then 1 else 0) + count_by test rows
 count_cons test row rows = sum_by-cons (λ x. if test x then 1 else 0) row rows
 
-count_found : {X : Type 0} (test : X → Bool) (rows : List X) (n : ℕ) (x : X)
+pub count_found : {X : Type 0} (test : X → Bool) (rows : List X) (n : ℕ) (x : X)
     → slice_get rows n ≡ Some x → test x ≡ true → 1 ≤ count_by test rows
 count_found test [] n x found is = absurd (none-some x found)
 count_found test (row ∷ rows) zero x found is =

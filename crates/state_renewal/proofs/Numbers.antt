@@ -1,9 +1,10 @@
 -- Rows that are kept and told anew: where each comes from, and where it goes.
-use Rattle.std.proofs.Common.{◌≡◌, ◌⊎◌, ◌<◌, ◌≤◌, ℕ, zero, suc, Bool, true, false, List, [], ◌∷◌}
-use Rattle.std.proofs.Common.{length, map, Some, slice_get, inl, inr, refl, sym, ap, subst, ◌∙◌}
-use Rattle.std.proofs.Common.{arith}
+use Rattle.std.proofs.Common.{◌≡◌, ◌⊎◌, ◌<◌, ◌≤◌, ◌==◌, ℕ, zero, suc, Bool, true, false, List, []}
+use Rattle.std.proofs.Common.{◌∷◌, length, map, Some, slice_get, inl, inr, refl, sym, ap, subst}
+use Rattle.std.proofs.Common.{◌∙◌, arith}
 use Rattle.std.specs.Option.{option_map}
-use Rattle.std.proofs.lemmas.Bool.{cases_order}
+use Rattle.std.specs.Prelude.{nat_lt}
+use Rattle.std.proofs.lemmas.Bool.{cases_eq, cases_lt, cases_order, eq-eqb, le-ltb, lt-ltb, ne_eqb}
 use Rattle.std.proofs.lemmas.List.{length-map}
 use Rattle.std.proofs.lemmas.Option.{none-some, slice_get-map}
 use Rattle.run_model.proofs.RowLemmas.{map_cases}
@@ -73,6 +74,33 @@ number_same keeps n m is_n is_m same = by_order (cases_order n m)
         let apart = number_less keeps n m is_n less in absurd (omega (arith, apart, same))
     by_order (inr (inr less)) =
         let apart = number_less keeps m n is_m less in absurd (omega (arith, apart, same))
+
+pub same_number : (keeps : ℕ → Bool) (a b : ℕ) → keeps a ≡ true → keeps b ≡ true
+    → (new_number keeps a == new_number keeps b) ≡ (a == b)
+same_number keeps a b is_a is_b = by_cases (cases_eq a b)
+  where
+    by_cases : (a ≡ b) ⊎ (a ≡ b → ⊥) → (new_number keeps a == new_number keeps b) ≡ (a == b)
+    by_cases (inl e) =
+        eq-eqb (new_number keeps a) (new_number keeps b) (ap (new_number keeps) e)
+        ∙ sym (eq-eqb a b e)
+    by_cases (inr other) =
+        ne_eqb (new_number keeps a) (new_number keeps b)
+        (λ e. other (number_same keeps a b is_a is_b e))
+        ∙ sym (ne_eqb a b other)
+
+-- A row stays before another, or behind it.
+pub less_same : (goes : ℕ → Bool) (n many : ℕ) → goes n ≡ true
+    → nat_lt (new_number goes n) (new_number goes many) ≡ nat_lt n many
+less_same goes n many is = by_order (cases_lt n many)
+  where
+    by_order : (n < many) ⊎ (many ≤ n)
+        → nat_lt (new_number goes n) (new_number goes many) ≡ nat_lt n many
+    by_order (inl less) =
+        lt-ltb (new_number goes n) (new_number goes many) (number_less goes n many is less)
+        ∙ sym (lt-ltb n many less)
+    by_order (inr more) =
+        le-ltb (new_number goes n) (new_number goes many) (number_up goes many n more)
+        ∙ sym (le-ltb n many more)
 
 -- ---- the rows that are kept
 

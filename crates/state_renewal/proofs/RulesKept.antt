@@ -1,13 +1,12 @@
 -- A consistent state is consistent when it is renewed.
-use Rattle.std.proofs.Common.{◌≡◌, ◌⊎◌, ◌<◌, ℕ, Bool, true, false, length, Option, Some}
-use Rattle.std.proofs.Common.{None, slice_get, refl, sym, ap, subst, ◌∙◌, arith}
-use Rattle.std.specs.Option.{option_map, option_map_or, option_and_then}
+use Rattle.std.proofs.Common.{◌≡◌, ◌⊎◌, ◌<◌, ℕ, Bool, true, false, length, Option, Some, None}
+use Rattle.std.proofs.Common.{slice_get, refl, sym, ap, subst, ◌∙◌, arith}
+use Rattle.std.specs.Option.{option_map, option_and_then}
 use Rattle.std.specs.Prelude.{IsSome, IsTrue, is_some}
 use Rattle.std.proofs.lemmas.Bool.{both_ways}
 use Rattle.std.proofs.lemmas.Option.{none-some, same_Some, slice_get_within, option_and_then_some}
 use Rattle.run_model.specs.declared.groups.Group.{Group}
 use Rattle.run_model.specs.declared.scopes.Hit.{Hit}
-use Rattle.run_model.specs.declared.scopes.Kind.{Kind}
 use Rattle.run_model.specs.declared.scopes.Scope.{Scope}
 use Rattle.run_model.specs.declared.tasks.Task.{Task}
 use Rattle.run_model.specs.Allowed.{has_kind}
@@ -19,12 +18,13 @@ use Rattle.run_model.specs.Scopes.{is_root, own_hit, AreOrdered}
 use Rattle.run_model.specs.State.{State}
 use Rattle.run_model.specs.Tasks.{is_running, unfinished_in, is_admitted}
 use Rattle.state_renewal.specs.Renewed.{new_number, keeps_scope, keeps_group, keeps_task}
-use Rattle.state_renewal.specs.Renewed.{scope_told, group_told, task_told, renewed}
+use Rattle.state_renewal.specs.Renewed.{scope_told, group_told, task_told, kept_part, renewed}
 use Rattle.state_renewal.proofs.Numbers.{are_told, number_less, number_same}
 use Rattle.state_renewal.proofs.Keeps.{there, parent_kept, root_kept, owner_kept, scope_kept}
 use Rattle.state_renewal.proofs.Keeps.{task_is_kept}
-use Rattle.state_renewal.proofs.Works.{unfinished_same, task_error_same, group_stays, task_stays}
-use Rattle.state_renewal.proofs.Works.{admitted_same}
+use Rattle.state_renewal.proofs.Chains.{kind_anew}
+use Rattle.state_renewal.proofs.Works.{admitted_anew, group_stays, task_error_same, task_stays}
+use Rattle.state_renewal.proofs.Works.{unfinished_same}
 
 -- ---- where a new row comes from
 
@@ -260,14 +260,6 @@ owner_from p m k row consistent owns =
       told = of.told;
     }
 
-pub kind_found : (test : Kind → Bool) (p : State) (s : ℕ) (o : Option Scope)
-    → slice_get p.tree.scopes s ≡ o → IsTrue (option_map_or (λ row. test row.kind) o false)
-    → keeps_scope p s ≡ true
-    → IsTrue (has_kind test (renewed p).tree (new_number (keeps_scope p) s))
-kind_found test p s None at is stays = absurd (both_ways false refl is)
-kind_found test p s (Some row) at is stays =
-    ap (λ o. option_map_or (λ row. test row.kind) o false) (scope_stays p s row at stays) ∙ is
-
 group_scopes_kept : (p : State) → IsConsistent p → AreGroupScopes (renewed p)
 group_scopes_kept p consistent = record {
   owned =
@@ -299,8 +291,8 @@ group_scopes_kept p consistent = record {
       λ m k row owns.
       let x = owner_from p m k row consistent owns in
       subst (λ s. IsTrue (has_kind is_group_kind (renewed p).tree s)) (sym x.scope)
-      (kind_found is_group_kind p x.s (slice_get p.tree.scopes x.s) refl
-      (old.own x.g x.s x.old x.owns) x.is_kept);
+      (kind_anew is_group_kind (kept_part p) p.tree x.s x.is_kept
+      ∙ old.own x.g x.s x.old x.owns);
 }
   where
     old : AreGroupScopes p
@@ -313,11 +305,8 @@ admitted_kept p consistent = record {
   running =
       λ m row found is.
       let of = task_from p m row found in
-      let within = consistent.numbered.groups of.n of.old of.found in
-      let group = there p.work.groups of.old.group within in
       let was =
-      admitted_same p of.n of.old group.0 group.1
-      (sym (task_is_kept p of.n of.old of.found) ∙ of.is_kept)
+      admitted_anew (kept_part p) p.work of.n of.old (task_is_kept p) of.found of.is_kept
       ∙ consistent.admitted.running of.n of.old of.found
       (ap (λ r. is_running r.stage) (sym of.told) ∙ is) in
       ap (λ n. is_admitted (renewed p).work n row) of.number
@@ -327,7 +316,7 @@ admitted_kept p consistent = record {
       λ m row found is.
       let of = group_from p m row found in
       ap (λ g. unfinished_in g (renewed p).work.tasks) of.number
-      ∙ unfinished_same p of.g of.is_kept
+      ∙ unfinished_same (kept_part p) p.work of.g (task_is_kept p) of.is_kept
       ∙ consistent.admitted.waited of.g of.old of.found (ap (λ r. r.waited) (sym of.told) ∙ is);
 }
 
@@ -346,7 +335,8 @@ errors_kept p consistent = record {
       λ m row found.
       let of = group_from p m row found in
       let same : has_task_error (renewed p).work m ≡ has_task_error p.work of.g =
-      ap (has_task_error (renewed p).work) of.number ∙ task_error_same p of.g of.is_kept in
+      ap (has_task_error (renewed p).work) of.number
+      ∙ task_error_same (kept_part p) p.work of.g (task_is_kept p) of.is_kept in
       let error : is_some row.error ≡ is_some of.old.error = ap (λ r. is_some r.error) of.told in
       let was = consistent.errors.exact of.g of.old of.found in
       (λ is. same ∙ was.0 (sym error ∙ is), λ is. error ∙ was.1 (sym same ∙ is));
@@ -367,15 +357,15 @@ link_from new None m is = absurd (none-some m is)
 link_from new (Some n) m is = (n, refl, sym (same_Some (new n) m is))
 
 -- A link of the new state was one of the old.
-pub record IsLinkOf (p : State) (m k : ℕ) (row : Task) : Type 0 where
-  pub of : IsTaskOf p m row
-  pub n : ℕ
-  pub link : of.old.retry_of ≡ Some n
-  pub number : k ≡ new_number (keeps_task p) n
-  pub linked : (old : Task) × HasTask p.work n old × IsRetry of.n of.old n old
-  pub is_kept : keeps_task p n ≡ true
+record IsLinkOf (p : State) (m k : ℕ) (row : Task) : Type 0 where
+  of : IsTaskOf p m row
+  n : ℕ
+  link : of.old.retry_of ≡ Some n
+  number : k ≡ new_number (keeps_task p) n
+  linked : (old : Task) × HasTask p.work n old × IsRetry of.n of.old n old
+  is_kept : keeps_task p n ≡ true
 
-pub linked_from : (p : State) (m k : ℕ) (row : Task) → IsConsistent p
+linked_from : (p : State) (m k : ℕ) (row : Task) → IsConsistent p
     → HasTask (renewed p).work m row → row.retry_of ≡ Some k → IsLinkOf p m k row
 linked_from p m k row consistent found is =
     let x = task_from p m row found in
