@@ -22,7 +22,7 @@ use Rattle.state_renewal.specs.Renewed.{task_anew}
 use Rattle.renewal_laws.specs.Alike.{GoOnAlike, group_look_anew, task_look_anew}
 use Rattle.state_renewal.proofs.Chains.{deadline_told, ending_told, line_told, scopes_anew}
 use Rattle.state_renewal.proofs.Chains.{value_told}
-use Rattle.renewal_laws.proofs.Goes.{Goes}
+use Rattle.renewal_laws.proofs.Goes.{Goes, hangs}
 use Rattle.state_renewal.proofs.RowsAnew.{anew_get}
 use Rattle.state_renewal.proofs.Works.{admitted_anew, first_anew, unfinished_same}
 
@@ -63,7 +63,7 @@ looks_alike part p ordered anew go s is = by_row (slice_get p.tree.scopes s) ref
         ∙ sym (ap (option_map
         (λ row. look row.name (ending p.tree.scopes s) (deadline_of p.tree.scopes s))) at)
     by_row (Some row) at =
-        let told = line_told part p.tree.scopes ordered anew go.scopes s row at is in
+        let told = line_told part p.tree.scopes ordered anew go.scopes.each s row at is in
         ap (option_map (λ row. look row.name (ending rows new) (deadline_of rows new)))
         (scope_at part p.tree.scopes s (Some row) at is)
         ∙ ap (λ o. Some (look row.name o (deadline_of rows new)))
@@ -95,7 +95,7 @@ values_alike part p ordered anew go s key is = by_row (slice_get p.tree.scopes s
         ∙ sym (no_value p.tree.scopes s key at)
     by_row (Some row) at =
         value_told part p.tree.scopes s key
-        (line_told part p.tree.scopes ordered anew go.scopes s row at is)
+        (line_told part p.tree.scopes ordered anew go.scopes.each s row at is)
 
 -- ---- groups and tasks
 
@@ -115,7 +115,7 @@ groups_alike : (part : Part) (p : State) → Goes part p → (g : ℕ) → part.
 groups_alike part p go g is =
     ap (λ k. option_map (group_look k)
     (slice_get (state_anew part p).work.groups (new_number part.groups g)))
-    (unfinished_same part p.work g go.work.tasks is)
+    (unfinished_same part p.work g go.work.tasks.each is)
     ∙ ap (option_map (group_look (unfinished_in g p.work.tasks)))
     (anew_get part.groups (group_anew part) p.work.groups g is)
     ∙ by_row (slice_get p.work.groups g)
@@ -154,7 +154,7 @@ tasks_alike part p go n is =
     by_row None at = refl
     by_row (Some row) at =
         ap (λ b. Some (task_look (phase_by b row.stage) (task_anew part row)))
-        (admitted_anew part p.work n row go.work.tasks at is)
+        (admitted_anew part p.work n row go.work.tasks.each at is)
 
 pub alike : (part : Part) (p : State) → IsConsistent p → IsConsistent (state_anew part p)
     → Goes part p → GoOnAlike part p (state_anew part p)
@@ -163,5 +163,5 @@ alike part p consistent anew go = record {
   values = values_alike part p consistent.numbered.ordered anew.numbered.ordered go;
   groups = groups_alike part p go;
   tasks = tasks_alike part p go;
-  next = first_anew part p consistent go.work;
+  next = first_anew part p consistent (hangs part p go).work;
 }

@@ -27,8 +27,8 @@ use Rattle.run_model.specs.WorkChanges.{stage_of, with_error, with_limit, with_s
 use Rattle.run_model.proofs.RowLemmas.{at_row_cases, length-at_row, map_cases, push_cases}
 use Rattle.state_renewal.specs.Renewed.{Part}
 use Rattle.state_renewal.specs.Told.{names_part}
-use Rattle.renewal_laws.proofs.Goes.{EachRow, Goes, GroupsGo, ScopesGo, TasksGo, WithGroup}
-use Rattle.renewal_laws.proofs.Goes.{WithParent, WithScope, WorkGoes}
+use Rattle.state_renewal.proofs.Hangs.{EachRow, WithGroup, WithParent, WithScope}
+use Rattle.renewal_laws.proofs.Goes.{Goes, GroupsGo, ScopesGo, TasksGo, WorkGoes}
 
 -- ---- rows
 

@@ -5,8 +5,7 @@ pub mod Squares
 pub mod Steps
 pub mod Alike
 pub mod Runs
-pub mod Names
 pub mod Named
-pub mod Refused
+pub mod Decided
 pub mod Replies
 pub mod Over

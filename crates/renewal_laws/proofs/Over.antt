@@ -29,9 +29,9 @@ use Rattle.state_renewal.proofs.Twice.{renewed_same}
 use Rattle.renewal_laws.proofs.Alike.{alike}
 use Rattle.state_renewal.proofs.Refusals.{allowed_same}
 use Rattle.renewal_laws.proofs.Begins.{begins}
-use Rattle.renewal_laws.proofs.Goes.{goes_before, goes_first, goes_later}
+use Rattle.renewal_laws.proofs.Goes.{goes_before, goes_first, goes_later, hangs}
 use Rattle.renewal_laws.proofs.Replies.{commands_alike, finishes_alike, starts_alike}
-use Rattle.renewal_laws.proofs.Runs.{Both, IsLed, led}
+use Rattle.renewal_laws.proofs.Runs.{Both, IsLed, are_both, led}
 use Rattle.state_renewal.proofs.Works.{gone_ended}
 
 both_first : (p : State) → IsConsistent p → Both (going_on p) p
@@ -65,8 +65,7 @@ pub allowed_alike : (p q : State) (events : List Event) (e : Event) → GoesOn p
     → allowed q e
     ≡ (allowed (state_anew (going_on p) q) (event_anew (going_on p) e) && has_place q e)
 allowed_alike p q events e goes is =
-    let both = (led_on p q events goes).both in
-    allowed_same (going_on p) q e both.old both.new both.go is
+    allowed_same (going_on p) q e (are_both (going_on p) q (led_on p q events goes).both) is
 
 pub replies_alike : (p q : State) (events : List Event) (log : ℕ) (call : Command)
     → GoesOn p events q → calls_part (going_on p) q call ≡ true
@@ -85,7 +84,8 @@ pub finish_alike : (p q : State) (events : List Event) (n : ℕ) (outcome : Outc
     → GoesOn p events q → (going_on p).tasks n ≡ true
     → reply_finish (state_anew (going_on p) q) (new_number (going_on p).tasks n) outcome
     ≡ reply_finish q n outcome
-finish_alike p q events n outcome goes is = finishes_alike (going_on p) q n outcome is
+finish_alike p q events n outcome goes is = 
+    finishes_alike (going_on p) q n outcome (led_on p q events goes).both is
 
 -- ---- what doesn't go on
 
@@ -130,12 +130,12 @@ pub tasks_gone : (p q : State) (events : List Event) (n : ℕ) (row : Task)
     → is_unfinished row.stage ≡ false
 tasks_gone p q events n row goes found gone =
     let both = (led_on p q events goes).both in
-    gone_ended (going_on p) q n row both.old both.go.work found gone
+    gone_ended (going_on p) q n row both.old (hangs (going_on p) q both.go).work found gone
 
 -- ---- renewed again
 
 pub renewed_alike : (p q : State) (events : List Event) → GoesOn p events q
     → renewed (state_anew (going_on p) q) ≡ renewed q
 renewed_alike p q events goes =
-    renewed_same (going_on p) q (led_on p q events goes).both
-    (λ s gone. scopes_gone p q events s goes gone)
+    renewed_same (going_on p) q (are_both (going_on p) q (led_on p q events goes).both)
+    (λ s row found gone. scopes_gone p q events s goes gone)

@@ -15,7 +15,7 @@ use Rattle.run_model.specs.WorkChanges.{stage_of}
 use Rattle.state_renewal.specs.Renewed.{new_number, Part, scope_anew, state_anew, tree_anew}
 use Rattle.state_renewal.specs.Renewed.{work_anew}
 use Rattle.state_renewal.specs.Told.{event_anew, names_part}
-use Rattle.renewal_laws.proofs.Goes.{Goes, WorkGoes}
+use Rattle.renewal_laws.proofs.Goes.{Goes, WorkGoes, hangs}
 use Rattle.renewal_laws.proofs.GoesStill.{work_ended}
 use Rattle.state_renewal.proofs.RowsAnew.{length-anew}
 use Rattle.renewal_laws.proofs.Squares.{advance_anew, cancel_anew, derive_anew, end_anew}
@@ -76,9 +76,9 @@ tree_step part p (event.Wait g) consistent go is =
     ended_anew part (p.count + 1) p.work g None p.tree go.work.groups is
 tree_step part p event.Restart consistent go is =
     ap (fold (λ t n. after_task_end (p.count + 1) (work_anew part p.work) n (Some interruption) t)
-    (tree_anew part p.tree)) (running_anew part p consistent go.work)
+    (tree_anew part p.tree)) (running_anew part p consistent (hangs part p go).work)
     ∙ tasks_end_anew part (p.count + 1) p.work (running_tasks p.work) p.tree go.work
-    (all_running_go part p consistent go.work)
+    (all_running_go part p consistent (hangs part p go).work)
 
 work_step : (part : Part) (p : State) (e : Event) → IsConsistent p → Goes part p
     → names_part part e ≡ true
@@ -106,9 +106,9 @@ work_step part p (event.Finish n outcome) consistent go is =
     end_anew part n (stage_of outcome) (error_of outcome) p.work go.work is
 work_step part p (event.Wait g) consistent go is = wait_anew part g p.work is
 work_step part p event.Restart consistent go is =
-    ap (fold after_interrupt (work_anew part p.work)) (running_anew part p consistent go.work)
+    ap (fold after_interrupt (work_anew part p.work)) (running_anew part p consistent (hangs part p go).work)
     ∙ interrupts_anew part (running_tasks p.work) p.work go.work
-    (all_running_go part p consistent go.work)
+    (all_running_go part p consistent (hangs part p go).work)
 
 -- The state of this count, tree and work.
 abbrev state_of : ℕ → TreeState → WorkState → State
