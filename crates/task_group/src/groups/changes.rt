@@ -1,22 +1,21 @@
-//! What changes groups and tasks. Each change has as its condition that its test answers `Ok`.
+//! What changes groups and tasks. Each change has as its condition what its test asks for.
 
 ghost use Rattle.std.specs.Prelude.{◌≡◌, ◌<◌, ◌≤◌, ◌+◌, ◌++◌, false, fold, length, is_some, IsTrue};
-ghost use Rattle.std.specs.Prelude.{Ok, Some};
+ghost use Rattle.std.specs.Prelude.{◌&&◌, Some, not};
 ghost use Rattle.std.specs.Option.{IfSome, option_copied, option_to_list};
 ghost use Rattle.run_model.specs.declared.bounds.TheConstants.{MOST_GROUPS};
 ghost use Rattle.run_model.specs.declared.tasks.Phase.TheVariants.{Ready};
-ghost use Rattle.run_model.specs.Allowed.{is_open};
+ghost use Rattle.run_model.specs.Allowed.{admits_one_more, has_group_room, has_task_room, is_idle};
+ghost use Rattle.run_model.specs.Allowed.{is_group_name_free, is_open};
 ghost use Rattle.run_model.specs.Layouts.{most_tasks};
 ghost use Rattle.run_model.specs.Step.{own_scope};
 ghost use Rattle.run_model.specs.Tasks.{first_ready, is_running_task, is_unfinished, phase_of};
-ghost use Rattle.run_model.specs.Tasks.{running_tasks};
+ghost use Rattle.run_model.specs.Tasks.{is_interrupted_task, is_retried, running_tasks};
 ghost use Rattle.run_model.specs.Texts.{IsName, IsText};
 ghost use Rattle.run_model.specs.WorkChanges.{after_make, after_limit, after_go, after_retry};
 ghost use Rattle.run_model.specs.WorkChanges.{after_start, after_finish, after_end, after_wait};
 ghost use Rattle.run_model.specs.WorkChanges.{after_interrupt, group_of_task, interruption};
 ghost use Rattle.task_group.specs.Admitting.{AdmitsOldest, phase_new};
-ghost use Rattle.task_group.specs.Checks.{tested, make_refusals, limit_refusals, go_refusals};
-ghost use Rattle.task_group.specs.Checks.{try_refusals, retry_refusals, wait_refusals, was_waited};
 ghost use Rattle.task_group.specs.Lasting.{EndsStay};
 ghost use Rattle.task_group.specs.Outcomes.{outcome_with};
 ghost use Rattle.task_group.specs.Restarting.{RestartsTasks};
@@ -41,7 +40,7 @@ impl<A: Allocator> Groups<A> {
     /// may be.
     pub fn make(&mut self, name: &[u8], scope: u16, bare: bool) -> u16
         requires name { IsName name.now }
-        requires accepted { tested (make_refusals self.old name.now) ≡ Ok tt }
+        requires accepted { IsTrue (is_group_name_free self.old name.now && has_group_room self.old) }
         ensures number { result ≡ length self.old.groups }
         ensures after { self.new ≡ after_make name.now scope bare self.old }
         ensures stays { EndsStay self.old self.new }
@@ -65,7 +64,7 @@ impl<A: Allocator> Groups<A> {
     /// Changes the limit of a group, none of whose tasks is unfinished. [`Groups::check_limit`]
     /// says whether it may be.
     pub fn set_limit(&mut self, group: u16, limit: Limit)
-        requires accepted { tested (limit_refusals self.old group) ≡ Ok tt }
+        requires accepted { IsTrue (is_open self.old group && is_idle self.old group) }
         ensures after { self.new ≡ after_limit group limit self.old }
         ensures stays { EndsStay self.old self.new }
     {
@@ -75,9 +74,8 @@ impl<A: Allocator> Groups<A> {
     /// Submits a task, and gives its number: it is ready where the limit admits one more, else
     /// held. [`Groups::check_go`] says whether it may be.
     pub fn go(&mut self, group: u16, job: &[u8], argument: &[u8]) -> u16
-        requires job { IsName job.now }
-        requires argument { IsName argument.now }
-        requires accepted { tested (go_refusals self.old group) ≡ Ok tt }
+        requires names { IsName job.now × IsName argument.now }
+        requires accepted { IsTrue (is_open self.old group && has_task_room self.old) }
         ensures number { result ≡ length self.old.tasks }
         ensures after { self.new ≡ after_go group job.now argument.now self.old }
         ensures phase { phase_of self.new result ≡ Some (phase_new self.old group) }
@@ -89,9 +87,9 @@ impl<A: Allocator> Groups<A> {
     /// Submits a task that is ready at once, and gives its number. [`Groups::check_try`] says
     /// whether it may be.
     pub fn try_go(&mut self, group: u16, job: &[u8], argument: &[u8]) -> u16
-        requires job { IsName job.now }
-        requires argument { IsName argument.now }
-        requires accepted { tested (try_refusals self.old group) ≡ Ok tt }
+        requires names { IsName job.now × IsName argument.now }
+        requires accepted { IsTrue (is_open self.old group && has_task_room self.old
+            && admits_one_more self.old group) }
         ensures number { result ≡ length self.old.tasks }
         ensures after { self.new ≡ after_go group job.now argument.now self.old }
         ensures phase { phase_of self.new result ≡ Some Ready }
@@ -103,7 +101,9 @@ impl<A: Allocator> Groups<A> {
     /// Submits an interrupted task anew, with the same job and argument in the same group, and
     /// gives the new task's number. [`Groups::check_retry`] says whether it may be.
     pub fn retry(&mut self, task: u16) -> u16
-        requires accepted { tested (retry_refusals self.old task) ≡ Ok tt }
+        requires accepted { IsTrue (is_interrupted_task self.old task
+            && not (is_retried self.old task) && is_open self.old (group_of_task self.old task)
+            && has_task_room self.old) }
         ensures number { result ≡ length self.old.tasks }
         ensures after { self.new ≡ after_retry task self.old }
         ensures phase { phase_of self.new result
@@ -152,11 +152,10 @@ impl<A: Allocator> Groups<A> {
     }
 
     /// Waits for a group whose tasks have all finished. Tells the scope that is to be cancelled,
-    /// without a cause: the group's own, unless it is bare. [`Groups::check_wait`] says whether it
-    /// may be; a group is waited for once, and [`Groups::was_waited`] says whether it was.
+    /// without a cause: the group's own, unless it is bare. A group is waited for once.
+    /// [`Groups::check_wait`] says whether it may be.
     pub fn wait(&mut self, group: u16) -> Option<u16>
-        requires accepted { tested (wait_refusals self.old group) ≡ Ok tt }
-        requires first { was_waited self.old group ≡ false }
+        requires accepted { IsTrue (is_open self.old group && is_idle self.old group) }
         ensures told { result ≡ own_scope self.old group }
         ensures after { self.new ≡ after_wait group self.old }
         ensures stays { EndsStay self.old self.new }

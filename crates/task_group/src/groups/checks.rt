@@ -1,16 +1,16 @@
 //! Tests: each says why a change is refused, the first reason that holds in the order in which they
 //! are asked, and `Ok` exactly where none does. None takes memory.
 
-ghost use Rattle.std.specs.Prelude.{◌≡◌, ◌<◌, is_ok, length};
-ghost use Rattle.run_model.specs.Allowed.{has_group_room, is_group_name_free};
-ghost use Rattle.run_model.specs.Event.{Retry};
+ghost use Rattle.std.specs.Prelude.{◌≡◌, ◌<◌, ◌∷◌, ℕ, List, Option, [], length, not, true};
+ghost use Rattle.run_model.specs.declared.refusals.Refusal.TheVariants as refusal;
+ghost use Rattle.run_model.specs.declared.tasks.Outcome.{Outcome};
+ghost use Rattle.run_model.specs.Allowed.{has_group_room, has_scope, is_group_name_free, refusals};
+ghost use Rattle.run_model.specs.Allowed.{tested};
+ghost use Rattle.run_model.specs.Event.{Bare, Finish, Go, Retry, SetLimit, TryGo, Wait};
+ghost use Rattle.run_model.specs.State.{TreeState};
 ghost use Rattle.run_model.specs.Tasks.{is_interrupted_task, is_retried};
 ghost use Rattle.run_model.specs.WorkChanges.{group_of_task};
-ghost use Rattle.task_group.specs.Checks.{Decides, DecidesFinish, DecidesGo, DecidesLimit};
-ghost use Rattle.task_group.specs.Checks.{DecidesMake, DecidesTry, DecidesWait};
-ghost use Rattle.task_group.specs.Checks.{tested, make_refusals, name_refusals, room_refusals};
-ghost use Rattle.task_group.specs.Checks.{limit_refusals, go_refusals, try_refusals};
-ghost use Rattle.task_group.specs.Checks.{retry_refusals, wait_refusals, finish_refusals};
+ghost use Rattle.task_group.specs.Checks.{Answers};
 
 use crate::groups::Groups;
 use crate::rows::is_interrupted;
@@ -21,8 +21,9 @@ impl<A: Allocator> Groups<A> {
     /// Says why a group of this name can't be made: `NameTaken`, `TooManyGroups`, the first that
     /// holds.
     pub fn check_make(&self, name: &[u8]) -> Result<(), Refusal>
-        ensures refusal { result ≡ tested (make_refusals self.now name.now) }
-        ensures decides { DecidesMake self.now name.now result }
+        ensures { (count : ℕ) (tree : TreeState) (s : ℕ) → has_scope tree s ≡ true
+            → result ≡ tested (refusals
+            (record { count = count; tree = tree; work = self.now }) (Bare name.now s)) }
     {
         self.check_name(name)?;
         self.check_room()
@@ -30,8 +31,8 @@ impl<A: Allocator> Groups<A> {
 
     /// The first part of [`Groups::check_make`]: `NameTaken`.
     pub fn check_name(&self, name: &[u8]) -> Result<(), Refusal>
-        ensures refusal { result ≡ tested (name_refusals self.now name.now) }
-        ensures decides { is_ok result ≡ is_group_name_free self.now name.now }
+        ensures { result
+            ≡ tested ((not (is_group_name_free self.now name.now), refusal.NameTaken) ∷ []) }
     {
         if self.find(name).is_some() {
             return Err(Refusal::NameTaken);
@@ -41,8 +42,8 @@ impl<A: Allocator> Groups<A> {
 
     /// The second part of [`Groups::check_make`]: `TooManyGroups`.
     pub fn check_room(&self) -> Result<(), Refusal>
-        ensures refusal { result ≡ tested (room_refusals self.now) }
-        ensures decides { is_ok result ≡ has_group_room self.now }
+        ensures { result
+            ≡ tested ((not (has_group_room self.now), refusal.TooManyGroups) ∷ []) }
     {
         if MOST_GROUPS <= self.groups.len() {
             return Err(Refusal::TooManyGroups);
@@ -53,8 +54,7 @@ impl<A: Allocator> Groups<A> {
     /// Says why the limit of a group can't be set: `NoSuchGroup`, `Waited`, `LimitWhileActive`,
     /// the first that holds.
     pub fn check_limit(&self, group: u16) -> Result<(), Refusal>
-        ensures refusal { result ≡ tested (limit_refusals self.now group) }
-        ensures decides { DecidesLimit self.now group result }
+        ensures { (limit : Option ℕ) → Answers self.now (SetLimit group limit) result }
     {
         let Some(row) = self.groups.get(group as usize) else {
             return Err(Refusal::NoSuchGroup);
@@ -71,8 +71,7 @@ impl<A: Allocator> Groups<A> {
     /// Says why a task can't be submitted to a group: `NoSuchGroup`, `Waited`, `TooManyTasks`, the
     /// first that holds.
     pub fn check_go(&self, group: u16) -> Result<(), Refusal>
-        ensures refusal { result ≡ tested (go_refusals self.now group) }
-        ensures decides { DecidesGo self.now group result }
+        ensures { (job argument : List ℕ) → Answers self.now (Go group job argument) result }
     {
         let Some(row) = self.groups.get(group as usize) else {
             return Err(Refusal::NoSuchGroup);
@@ -89,8 +88,7 @@ impl<A: Allocator> Groups<A> {
     /// Says why a task that is to be ready at once can't be submitted: as [`Groups::check_go`],
     /// then `AtLimit`.
     pub fn check_try(&self, group: u16) -> Result<(), Refusal>
-        ensures refusal { result ≡ tested (try_refusals self.now group) }
-        ensures decides { DecidesTry self.now group result }
+        ensures { (job argument : List ℕ) → Answers self.now (TryGo group job argument) result }
     {
         self.check_go(group)?;
         if !self.has_seat(group) {
@@ -102,8 +100,7 @@ impl<A: Allocator> Groups<A> {
     /// Says why a task can't be submitted anew: `NoSuchTask`, `NotInterrupted`, `AlreadyRetried`,
     /// `Waited`, `TooManyTasks`, the first that holds.
     pub fn check_retry(&self, task: u16) -> Result<(), Refusal>
-        ensures refusal { result ≡ tested (retry_refusals self.now task) }
-        ensures decides { Decides self.now (Retry task) result }
+        ensures { Answers self.now (Retry task) result }
     {
         if self.tasks.len() <= task as usize {
             return Err(Refusal::NoSuchTask);
@@ -117,10 +114,10 @@ impl<A: Allocator> Groups<A> {
         self.check_go(self.group_of(task))
     }
 
-    /// Says why a group can't be waited for: `NoSuchGroup`, `Unfinished`, the first that holds.
+    /// Says why a group can't be waited for: `NoSuchGroup`, `Unfinished`, `Waited`, the first that
+    /// holds. A caller that answers a second wait as the first asks [`Groups::was_waited`] before.
     pub fn check_wait(&self, group: u16) -> Result<(), Refusal>
-        ensures refusal { result ≡ tested (wait_refusals self.now group) }
-        ensures decides { DecidesWait self.now group result }
+        ensures { Answers self.now (Wait group) result }
     {
         if self.groups.len() <= group as usize {
             return Err(Refusal::NoSuchGroup);
@@ -129,13 +126,15 @@ impl<A: Allocator> Groups<A> {
         if unfinished != 0 {
             return Err(Refusal::Unfinished(unfinished));
         }
+        if self.was_waited(group) {
+            return Err(Refusal::Waited);
+        }
         Ok(())
     }
 
     /// Says why a task can't be finished: `NoSuchTask`, `NotRunning`, the first that holds.
     pub fn check_finish(&self, task: u16) -> Result<(), Refusal>
-        ensures refusal { result ≡ tested (finish_refusals self.now task) }
-        ensures decides { DecidesFinish self.now task result }
+        ensures { (outcome : Outcome) → Answers self.now (Finish task outcome) result }
     {
         if self.tasks.len() <= task as usize {
             return Err(Refusal::NoSuchTask);

@@ -8,10 +8,10 @@ ghost use Rattle.run_model.specs.declared.bounds.TheConstants.{MOST_GROUPS};
 ghost use Rattle.run_model.specs.Allowed.{admits_one_more};
 ghost use Rattle.run_model.specs.Layouts.{most_tasks};
 ghost use Rattle.run_model.specs.Questions.{group_look_of};
+ghost use Rattle.run_model.specs.Replies.{has_waited};
 ghost use Rattle.run_model.specs.State.{TreeState, group_named};
 ghost use Rattle.run_model.specs.Tasks.{first_ready, is_running_task, phase_of, running_count};
 ghost use Rattle.run_model.specs.Tasks.{unfinished_in};
-ghost use Rattle.task_group.specs.Checks.{was_waited};
 
 use crate::groups::Groups;
 use crate::rows::{admits, group_look, is_from, is_running, phase_of as stage_phase};
@@ -63,7 +63,7 @@ impl<A: Allocator> Groups<A> {
 
     /// Says whether there is a group of this number that was waited for.
     pub fn was_waited(&self, group: u16) -> bool
-        ensures { result ≡ was_waited self.now group }
+        ensures { result ≡ has_waited self.now group }
     {
         match self.groups.get(group as usize) {
             Some(row) => row.waited,
