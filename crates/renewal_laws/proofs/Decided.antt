@@ -1,13 +1,11 @@
 -- An event that names what goes on is decided alike by both stores.
 use Rattle.std.proofs.Common.{◌≡◌, ◌&&◌, ◌+◌, ◌*◌, ℕ, Bool, true, false, not, List, [], ◌∷◌}
-use Rattle.std.proofs.Common.{Option, Some, None, slice_get, refl, ap, ◌∙◌}
-use Rattle.std.specs.Option.{option_map, option_map_or}
+use Rattle.std.proofs.Common.{Option, Some, refl, ap, ◌∙◌}
 use Rattle.std.specs.Prelude.{Result, Ok, Err, if◌then◌else◌, nat_lt}
 use Rattle.std.proofs.lemmas.Bool.{both_ways, false_from_ne_true}
 use Rattle.run_model.specs.declared.bounds.TheConstants.{FINISH_ROOM, SESSION_LEN}
 use Rattle.run_model.specs.declared.commands.Command.{Command}
 use Rattle.run_model.specs.declared.commands.Command.TheVariants as command
-use Rattle.run_model.specs.declared.groups.Group.{Group}
 use Rattle.run_model.specs.declared.refusals.Refusal.{Refusal}
 use Rattle.run_model.specs.declared.refusals.Refusal.TheVariants as refusal
 use Rattle.run_model.specs.Allowed.{allowed, holds_none, refusals, unless}
@@ -20,8 +18,7 @@ use Rattle.run_model.specs.Rules.{IsConsistent}
 use Rattle.run_model.specs.State.{State}
 use Rattle.run_model.specs.Step.{step}
 use Rattle.run_model.specs.Tasks.{is_running, is_unfinished, running_count}
-use Rattle.state_renewal.specs.Renewed.{new_number, Part, group_anew, state_anew, task_anew}
-use Rattle.state_renewal.specs.Renewed.{work_anew}
+use Rattle.state_renewal.specs.Renewed.{Part, group_anew, state_anew, task_anew, work_anew}
 use Rattle.state_renewal.specs.Told.{event_anew, has_place, names_part}
 use Rattle.renewal_laws.specs.Answered.{reply_anew, calls_part, command_anew}
 use Rattle.state_renewal.proofs.Refusals.{refusals_anew}
@@ -31,23 +28,10 @@ use Rattle.renewal_laws.proofs.Steps.{step_anew}
 use Rattle.state_renewal.proofs.Hangs.{WorkHangs}
 use Rattle.renewal_laws.proofs.Named.{group_on}
 use Rattle.state_renewal.proofs.PassAnew.{count_all_anew}
-use Rattle.state_renewal.proofs.RowsAnew.{anew_get}
+use Rattle.state_renewal.proofs.RowsAnew.{test_anew}
 use Rattle.state_renewal.proofs.Works.{gone_ended, running_unfinished}
 
 -- ---- repeated waits
-
-waited_anew : (part : Part) (p : State) (g : ℕ) → part.groups g ≡ true
-    → has_waited (state_anew part p).work (new_number part.groups g) ≡ has_waited p.work g
-waited_anew part p g is =
-    ap (λ o. option_map_or (λ group. group.waited) o false)
-    (anew_get part.groups (group_anew part) p.work.groups g is)
-    ∙ by_row (slice_get p.work.groups g)
-  where
-    by_row : (o : Option Group)
-        → option_map_or (λ group. group.waited) (option_map (group_anew part) o) false
-        ≡ option_map_or (λ group. group.waited) o false
-    by_row None = refl
-    by_row (Some row) = refl
 
 pub repeated_same : (part : Part) (p : State) (call : Command)
     → IsConsistent (state_anew part p) → calls_part part p call ≡ true
@@ -63,7 +47,9 @@ repeated_same part p (command.TryGo group job argument) anew is = refl
 repeated_same part p (command.Retry n) anew is = refl
 repeated_same part p (command.Wait group) anew is =
     let on = group_on part p group anew is in
-    ap (has_waited (state_anew part p).work) on.1 ∙ waited_anew part p (group_of p group) on.0
+    ap (has_waited (state_anew part p).work) on.1
+    ∙ test_anew (λ row. row.waited) part.groups (group_anew part) p.work.groups (group_of p group)
+    (λ row. refl) on.0
 
 -- ---- the room of the log
 

@@ -8,7 +8,6 @@ use Rattle.run_model.specs.declared.answers.Answer.TheVariants as answer
 use Rattle.run_model.specs.declared.answers.Started.{Started}
 use Rattle.run_model.specs.declared.commands.Command.{Command}
 use Rattle.run_model.specs.declared.commands.Command.TheVariants as command
-use Rattle.run_model.specs.declared.groups.Group.{Group}
 use Rattle.run_model.specs.declared.refusals.Refusal.{Refusal}
 use Rattle.run_model.specs.declared.refusals.Refusal.TheVariants as refusal
 use Rattle.run_model.specs.declared.tasks.Outcome.{Outcome}
@@ -18,8 +17,8 @@ use Rattle.run_model.specs.Event.{Event}
 use Rattle.run_model.specs.Event as event
 use Rattle.run_model.specs.Allowed.{refusals, unless}
 use Rattle.run_model.specs.Replies.{decided, and_then, answer_of, event_of, group_of, is_repeated}
-use Rattle.run_model.specs.Replies.{is_task_done, reply, reply_finish, reply_start}
-use Rattle.run_model.specs.Replies.{started_of, state_after, submission}
+use Rattle.run_model.specs.Replies.{is_task_done, reply, reply_finish, reply_start, started_of}
+use Rattle.run_model.specs.Replies.{state_after, submission}
 use Rattle.run_model.specs.Rules.{IsConsistent}
 use Rattle.run_model.specs.Scopes.{is_done}
 use Rattle.run_model.specs.State.{State, WorkState}
@@ -38,7 +37,7 @@ use Rattle.renewal_laws.proofs.Goes.{Goes, hangs}
 use Rattle.renewal_laws.proofs.GoesStill.{goes_still}
 use Rattle.renewal_laws.proofs.Decided.{decided_alike, repeated_same, tests_alike}
 use Rattle.renewal_laws.proofs.Named.{IsAskedAnew, asked_anew, group_on}
-use Rattle.state_renewal.proofs.RowsAnew.{anew_get, length-anew}
+use Rattle.state_renewal.proofs.RowsAnew.{length-anew, row_anew}
 use Rattle.renewal_laws.proofs.Runs.{Both, are_both}
 use Rattle.renewal_laws.proofs.Steps.{step_anew}
 use Rattle.state_renewal.proofs.Works.{first_anew, phase_anew, ready_goes}
@@ -60,14 +59,8 @@ error_anew : (part : Part) (w : WorkState) (g : ℕ) → part.groups g ≡ true
     (slice_get (work_anew part w).groups (new_number part.groups g))
     ≡ option_and_then (λ row. row.error) (slice_get w.groups g)
 error_anew part w g is =
-    ap (option_and_then (λ row. row.error)) (anew_get part.groups (group_anew part) w.groups g is)
-    ∙ by_row (slice_get w.groups g)
-  where
-    by_row : (o : Option Group)
-        → option_and_then (λ row. row.error) (option_map (group_anew part) o)
-        ≡ option_and_then (λ row. row.error) o
-    by_row None = refl
-    by_row (Some row) = refl
+    row_anew (option_and_then (λ row. row.error)) (option_and_then (λ row. row.error)) part.groups
+    (group_anew part) w.groups g refl (λ row at. refl) is
 
 answers_anew : (part : Part) (p q : State) (call : Command) → IsConsistent (state_anew part p)
     → Goes part p → Goes part q → calls_part part p call ≡ true
@@ -145,21 +138,16 @@ done_same : (part : Part) (p : State) (n : ℕ) (row : Task) → Both part p
     → slice_get p.work.tasks n ≡ Some row → part.tasks n ≡ true
     → is_task_done (state_anew part p) (task_anew part row) ≡ is_task_done p row
 done_same part p n row both at is =
-    ap (λ o. option_map_or (λ group. is_done (state_anew part p).tree.scopes group.scope) o false)
-    (anew_get part.groups (group_anew part) p.work.groups row.group goes)
-    ∙ by_group (slice_get p.work.groups row.group) refl
+    row_anew
+    (λ o. option_map_or (λ group. is_done (state_anew part p).tree.scopes group.scope) o false)
+    (λ o. option_map_or (λ group. is_done p.tree.scopes group.scope) o false) part.groups
+    (group_anew part) p.work.groups row.group refl
+    (λ group found.
+    done_anew part p (are_both part p both) group.scope
+    ((both.go.work.groups.each row.group group found).scope goes)) goes
   where
     goes : part.groups row.group ≡ true
     goes = sym (both.go.work.tasks.each n row at) ∙ is
-
-    by_group : (o : Option Group) → slice_get p.work.groups row.group ≡ o
-        → option_map_or (λ group. is_done (state_anew part p).tree.scopes group.scope)
-        (option_map (group_anew part) o) false
-        ≡ option_map_or (λ group. is_done p.tree.scopes group.scope) o false
-    by_group None found = refl
-    by_group (Some group) found =
-        done_anew part p (are_both part p both) group.scope
-        ((both.go.work.groups.each row.group group found).scope goes)
 
 abbrev started_at : ℕ → ℕ → Bool → Task → Started
 started_at count n done row = record {
@@ -172,20 +160,15 @@ started_same : (part : Part) (p : State) (n : ℕ) → Both part p → part.task
     → started_of (state_anew part p) (new_number part.tasks n)
     ≡ option_map (started_anew part) (started_of p n)
 started_same part p n both is =
-    ap (option_map (λ row. started_at p.count (new_number part.tasks n)
+    row_anew
+    (option_map (λ row. started_at p.count (new_number part.tasks n)
     (is_task_done (state_anew part p) row) row))
-    (anew_get part.tasks (task_anew part) p.work.tasks n is)
-    ∙ by_row (slice_get p.work.tasks n) refl
-  where
-    by_row : (o : Option Task) → slice_get p.work.tasks n ≡ o
-        → option_map (λ row. started_at p.count (new_number part.tasks n)
-        (is_task_done (state_anew part p) row) row) (option_map (task_anew part) o)
-        ≡ option_map (started_anew part)
-        (option_map (λ row. started_at p.count n (is_task_done p row) row) o)
-    by_row None at = refl
-    by_row (Some row) at =
-        ap (λ b. Some (started_at p.count (new_number part.tasks n) b row))
-        (done_same part p n row both at is)
+    (λ o. option_map (started_anew part)
+    (option_map (λ row. started_at p.count n (is_task_done p row) row) o)) part.tasks
+    (task_anew part) p.work.tasks n refl
+    (λ row at.
+    ap (λ b. Some (started_at p.count (new_number part.tasks n) b row))
+    (done_same part p n row both at is)) is
 
 ok_or_anew : {X : Type 0} (tell : X → X) (o : Option X) (why : Refusal)
     → ok_or (option_map tell o) why ≡ reply_anew tell (ok_or o why)

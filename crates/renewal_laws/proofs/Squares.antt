@@ -22,6 +22,7 @@ use Rattle.state_renewal.specs.Renewed.{new_number, Part, group_anew, rows_anew,
 use Rattle.state_renewal.specs.Renewed.{task_anew, tree_anew, work_anew}
 use Rattle.renewal_laws.proofs.Goes.{GroupsGo, WorkGoes}
 use Rattle.state_renewal.proofs.RowsAnew.{anew_at, anew_get, anew_map, anew_push, length-anew}
+use Rattle.state_renewal.proofs.RowsAnew.{row_anew}
 
 -- ---- the tree
 
@@ -69,23 +70,16 @@ own_anew : (part : Part) (w : WorkState) (g : ℕ) → part.groups g ≡ true
     → own_scope (work_anew part w) (new_number part.groups g)
     ≡ option_map (new_number part.scopes) (own_scope w g)
 own_anew part w g is =
-    ap (option_and_then (λ group. if group.bare then None else Some group.scope))
-    (anew_get part.groups (group_anew part) w.groups g is)
-    ∙ by_row (slice_get w.groups g)
+    row_anew (option_and_then (λ group. if group.bare then None else Some group.scope))
+    (λ o. option_map (new_number part.scopes)
+    (option_and_then (λ group. if group.bare then None else Some group.scope) o)) part.groups
+    (group_anew part) w.groups g refl (λ row at. by_bare row.bare row.scope) is
   where
     by_bare : (b : Bool) (s : ℕ)
         → (if b then None else Some (new_number part.scopes s))
         ≡ option_map (new_number part.scopes) (if b then None else Some s)
     by_bare true s = refl
     by_bare false s = refl
-
-    by_row : (o : Option Group)
-        → option_and_then (λ group. if group.bare then None else Some group.scope)
-        (option_map (group_anew part) o)
-        ≡ option_map (new_number part.scopes)
-        (option_and_then (λ group. if group.bare then None else Some group.scope) o)
-    by_row None = refl
-    by_row (Some row) = by_bare row.bare row.scope
 
 pub ended_anew : (part : Part) (e : ℕ) (w : WorkState) (g : ℕ) (cause : Option (List ℕ))
     (t : TreeState) → GroupsGo part w.groups → part.groups g ≡ true
@@ -110,16 +104,10 @@ group_of_anew : (part : Part) (w : WorkState) (n : ℕ) → part.tasks n ≡ tru
     → group_of_task (work_anew part w) (new_number part.tasks n)
     ≡ new_number part.groups (group_of_task w n)
 group_of_anew part w n is =
-    ap (λ o. option_map_or (λ task. task.group) o (length (work_anew part w).groups))
-    (anew_get part.tasks (task_anew part) w.tasks n is)
-    ∙ by_row (slice_get w.tasks n)
-  where
-    by_row : (o : Option Task)
-        → option_map_or (λ task. task.group) (option_map (task_anew part) o)
-        (length (work_anew part w).groups)
-        ≡ new_number part.groups (option_map_or (λ task. task.group) o (length w.groups))
-    by_row None = length-anew part.groups (group_anew part) w.groups
-    by_row (Some row) = refl
+    row_anew (λ o. option_map_or (λ task. task.group) o (length (work_anew part w).groups))
+    (λ o. new_number part.groups (option_map_or (λ task. task.group) o (length w.groups)))
+    part.tasks (task_anew part) w.tasks n (length-anew part.groups (group_anew part) w.groups)
+    (λ row at. refl) is
 
 group_goes : (part : Part) (w : WorkState) (n : ℕ) → WorkGoes part w → part.tasks n ≡ true
     → part.groups (group_of_task w n) ≡ true

@@ -106,7 +106,8 @@ work_step part p (event.Finish n outcome) consistent go is =
     end_anew part n (stage_of outcome) (error_of outcome) p.work go.work is
 work_step part p (event.Wait g) consistent go is = wait_anew part g p.work is
 work_step part p event.Restart consistent go is =
-    ap (fold after_interrupt (work_anew part p.work)) (running_anew part p consistent (hangs part p go).work)
+    ap (fold after_interrupt (work_anew part p.work))
+    (running_anew part p consistent (hangs part p go).work)
     ∙ interrupts_anew part (running_tasks p.work) p.work go.work
     (all_running_go part p consistent (hangs part p go).work)
 

@@ -3,7 +3,7 @@ use Rattle.std.proofs.Common.{◌≡◌, ◌<◌, ◌==◌, ℕ, zero, suc, Bool
 use Rattle.std.proofs.Common.{map, Option, Some, None, slice_get, refl, sym, ap, subst, ◌∙◌, arith}
 use Rattle.std.proofs.Common.{Less, Equal, Greater}
 use Rattle.std.specs.List.{filter_map, cons_option, AllByRecursion}
-use Rattle.std.specs.Option.{option_map, option_map_or}
+use Rattle.std.specs.Option.{option_map}
 use Rattle.std.specs.Ordering.{nat_cmp, ordering_then, is_lt}
 use Rattle.std.specs.Prelude.{is_some, nat_lt}
 use Rattle.run_model.specs.declared.scopes.Hit.{Hit}
@@ -22,7 +22,7 @@ use Rattle.state_renewal.specs.Renewed.{tree_anew}
 use Rattle.state_renewal.proofs.Numbers.{less_same, same_number}
 use Rattle.state_renewal.proofs.Keeps.{parent_there}
 use Rattle.state_renewal.proofs.Hangs.{AreBoth, ScopesHang}
-use Rattle.state_renewal.proofs.RowsAnew.{anew_get}
+use Rattle.state_renewal.proofs.RowsAnew.{anew_get, test_anew}
 
 -- The scopes that go on, told anew.
 abbrev pub scopes_anew : Part → List Scope → List Scope
@@ -220,15 +220,7 @@ ending_told part old s told =
 pub kind_anew : (test : Kind → Bool) (part : Part) (t : TreeState) (s : ℕ) → part.scopes s ≡ true
     → has_kind test (tree_anew part t) (new_number part.scopes s) ≡ has_kind test t s
 kind_anew test part t s is =
-    ap (λ o. option_map_or (λ row. test row.kind) o false)
-    (anew_get part.scopes (scope_anew part) t.scopes s is)
-    ∙ by_row (slice_get t.scopes s)
-  where
-    by_row : (o : Option Scope)
-        → option_map_or (λ row. test row.kind) (option_map (scope_anew part) o) false
-        ≡ option_map_or (λ row. test row.kind) o false
-    by_row None = refl
-    by_row (Some row) = refl
+    test_anew (λ row. test row.kind) part.scopes (scope_anew part) t.scopes s (λ row. refl) is
 
 not_done : (rows : List Scope) (s : ℕ) → slice_get rows s ≡ None → is_done rows s ≡ false
 not_done rows s at =

@@ -119,23 +119,21 @@ number_behind keeps (suc n) =
     ap (one_more_if (keeps (suc n))) (number_behind keeps n)
     ∙ more_swapped (keeps (suc n)) (keeps zero) (new_number (λ k. keeps (suc k)) n)
 
-behind_first : {X : Type 0} (b : Bool) (row : X) (rows : List X) (n : ℕ)
-    → slice_get (in_front_if b row rows) (one_more_if b n) ≡ slice_get rows n
-behind_first true row rows n = refl
-behind_first false row rows n = refl
+front_get : {X : Type 0} (b : Bool) (r : X) (rows : List X) (n : ℕ)
+    → slice_get (in_front_if b r rows) (one_more_if b n) ≡ slice_get rows n
+front_get true r rows n = refl
+front_get false r rows n = refl
 
-pub kept_forth : {X : Type 0} (keeps : ℕ → Bool) (rows : List X) (n : ℕ) (row : X)
-    → slice_get rows n ≡ Some row → keeps n ≡ true
-    → slice_get (kept keeps rows) (new_number keeps n) ≡ Some row
-kept_forth keeps [] n row found is = absurd (none-some row found)
-kept_forth keeps (r ∷ rows) zero row found is =
-    subst (λ b. slice_get (in_front_if b r (kept (λ n. keeps (suc n)) rows)) zero ≡ Some row)
-    (sym is) found
-kept_forth keeps (r ∷ rows) (suc n) row found is =
-    ap (slice_get (kept keeps (r ∷ rows))) (number_behind keeps n)
-    ∙ behind_first (keeps zero) r (kept (λ k. keeps (suc k)) rows)
-    (new_number (λ k. keeps (suc k)) n)
-    ∙ kept_forth (λ k. keeps (suc k)) rows n row found is
+pub kept_get : {X : Type 0} (goes : ℕ → Bool) (rows : List X) (n : ℕ) → goes n ≡ true
+    → slice_get (kept goes rows) (new_number goes n) ≡ slice_get rows n
+kept_get goes [] n is = refl
+kept_get goes (r ∷ rows) zero is =
+    ap (λ b. slice_get (in_front_if b r (kept (λ n. goes (suc n)) rows)) zero) is
+kept_get goes (r ∷ rows) (suc n) is =
+    ap (slice_get (kept goes (r ∷ rows))) (number_behind goes n)
+    ∙ front_get (goes zero) r (kept (λ n. goes (suc n)) rows)
+    (new_number (λ n. goes (suc n)) n)
+    ∙ kept_get (λ n. goes (suc n)) rows n is
 
 -- Where the row of this new number comes from.
 pub record ComesFrom
@@ -211,7 +209,7 @@ are_told keeps tell rows = record {
   forth =
       λ n row found is.
       slice_get-map tell (kept keeps rows) (new_number keeps n)
-      ∙ ap (option_map tell) (kept_forth keeps rows n row found is);
+      ∙ ap (option_map tell) (kept_get keeps rows n is ∙ found);
   back =
       λ m row found.
       let old = map_cases tell m (kept keeps rows) row found in

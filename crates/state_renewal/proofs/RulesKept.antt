@@ -3,7 +3,6 @@ use Rattle.std.proofs.Common.{◌≡◌, ◌⊎◌, ◌<◌, ℕ, Bool, true, fa
 use Rattle.std.proofs.Common.{slice_get, refl, sym, ap, subst, ◌∙◌, arith}
 use Rattle.std.specs.Option.{option_map, option_and_then}
 use Rattle.std.specs.Prelude.{IsSome, IsTrue, is_some}
-use Rattle.std.proofs.lemmas.Bool.{both_ways}
 use Rattle.std.proofs.lemmas.Option.{none-some, same_Some, slice_get_within, option_and_then_some}
 use Rattle.run_model.specs.declared.groups.Group.{Group}
 use Rattle.run_model.specs.declared.scopes.Hit.{Hit}
@@ -20,11 +19,13 @@ use Rattle.run_model.specs.Tasks.{is_running, unfinished_in, is_admitted}
 use Rattle.state_renewal.specs.Renewed.{new_number, keeps_scope, keeps_group, keeps_task}
 use Rattle.state_renewal.specs.Renewed.{scope_told, group_told, task_told, kept_part, renewed}
 use Rattle.state_renewal.proofs.Numbers.{are_told, number_less, number_same}
-use Rattle.state_renewal.proofs.Keeps.{there, parent_kept, root_kept, owner_kept, scope_kept}
+use Rattle.state_renewal.proofs.Keeps.{parent_kept, root_kept, owner_kept, scope_kept}
 use Rattle.state_renewal.proofs.Keeps.{task_is_kept}
 use Rattle.state_renewal.proofs.Chains.{kind_anew}
 use Rattle.state_renewal.proofs.Works.{admitted_anew, group_stays, task_error_same, task_stays}
 use Rattle.state_renewal.proofs.Works.{unfinished_same}
+use Rattle.model_laws.proofs.Places.{row_there}
+use Rattle.state_renewal.proofs.RowsAnew.{row_anew}
 
 -- ---- where a new row comes from
 
@@ -163,7 +164,7 @@ numbered_kept p consistent = record {
       λ m row found.
       let of = group_from p m row found in
       let within = old.scopes of.g of.old of.found in
-      let scope = there p.tree.scopes of.old.scope within in
+      let scope = row_there p.tree.scopes of.old.scope within in
       subst (λ s. s < length (renewed p).tree.scopes) (ap (λ r. r.scope) (sym of.told))
       (slice_get_within (renewed p).tree.scopes (new_number (keeps_scope p) of.old.scope)
       (scope_told p scope.0)
@@ -172,7 +173,7 @@ numbered_kept p consistent = record {
   groups =
       λ m row found.
       let of = task_from p m row found in
-      let group = there p.work.groups of.old.group (old.groups of.n of.old of.found) in
+      let group = row_there p.work.groups of.old.group (old.groups of.n of.old of.found) in
       subst (λ g. g < length (renewed p).work.groups) (ap (λ r. r.group) (sym of.told))
       (slice_get_within (renewed p).work.groups (new_number (keeps_group p) of.old.group)
       (group_told p group.0)
@@ -322,13 +323,6 @@ admitted_kept p consistent = record {
 
 -- ---- 6. errors
 
-hit_stays : (p : State) (s : ℕ) (o : Option Scope) → slice_get p.tree.scopes s ≡ o
-    → IsSome (option_and_then (λ row. row.hit) o) → keeps_scope p s ≡ true
-    → IsSome (own_hit (renewed p).tree.scopes (new_number (keeps_scope p) s))
-hit_stays p s None at is stays = absurd (both_ways false refl is)
-hit_stays p s (Some row) at is stays =
-    ap (λ o. is_some (option_and_then (λ row. row.hit) o)) (scope_stays p s row at stays) ∙ is
-
 errors_kept : (p : State) → IsConsistent p → AreErrors (renewed p)
 errors_kept p consistent = record {
   exact =
@@ -344,9 +338,11 @@ errors_kept p consistent = record {
       λ m k row owns end.
       let x = owner_from p m k row consistent owns in
       subst (λ s. IsSome (own_hit (renewed p).tree.scopes s)) (sym x.scope)
-      (hit_stays p x.s (slice_get p.tree.scopes x.s) refl
-      (consistent.errors.ended x.g x.s x.old x.owns
-      (subst (λ r. IsSome r.error ⊎ (r.waited ≡ true)) x.told end)) x.is_kept);
+      (ap is_some
+      (row_anew (option_and_then (λ row. row.hit)) (option_and_then (λ row. row.hit))
+      (keeps_scope p) (scope_told p) p.tree.scopes x.s refl (λ row at. refl) x.is_kept)
+      ∙ consistent.errors.ended x.g x.s x.old x.owns
+      (subst (λ r. IsSome r.error ⊎ (r.waited ≡ true)) x.told end));
 }
 
 -- ---- 7. links

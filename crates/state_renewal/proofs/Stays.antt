@@ -14,10 +14,10 @@ use Rattle.state_renewal.specs.Renewed.{kept_part, renewed}
 use Rattle.state_renewal.proofs.Chains.{IsLineTold, both_lines, deadline_told, ending_told}
 use Rattle.state_renewal.proofs.Chains.{value_told}
 use Rattle.state_renewal.proofs.Hangs.{AreBoth, kept_hangs}
-use Rattle.state_renewal.proofs.Keeps.{live_kept, unwaited_kept, unfinished_kept, task_is_kept}
+use Rattle.state_renewal.proofs.Keeps.{live_kept, unwaited_kept, task_is_kept}
 use Rattle.state_renewal.proofs.RulesKept.{rules_kept, scope_stays}
 use Rattle.state_renewal.proofs.Works.{first_anew, group_stays, phase_anew, task_stays}
-use Rattle.state_renewal.proofs.Works.{unfinished_same}
+use Rattle.state_renewal.proofs.Works.{unfinished_same, unfinished_goes}
 
 pub kept_both : (p : State) → IsConsistent p → AreBoth (kept_part p) p
 kept_both p consistent =
@@ -67,5 +67,6 @@ pub keeps_unfinished : (p : State) → IsConsistent p → KeepsUnfinished p
 keeps_unfinished p consistent = record {
   scopes = live_kept p;
   groups = unwaited_kept p;
-  tasks = λ n row. unfinished_kept p n row consistent;
+  tasks = λ n row.
+      unfinished_goes (kept_part p) p n row consistent (kept_hangs p consistent).work;
 }

@@ -1,13 +1,12 @@
 -- What a renewal leaves of a store that was renewed before is what it leaves of the old one.
 use Rattle.std.proofs.Common.{◌≡◌, ◌==◌, ◌&&◌, ◌||◌, ℕ, zero, suc, Bool, true, false, not, List}
 use Rattle.std.proofs.Common.{[], ◌∷◌, length, map, Option, Some, None, slice_get, inl, inr, refl}
-use Rattle.std.proofs.Common.{sym, ap, subst, ◌∙◌}
-use Rattle.std.specs.List.{AllByRecursion}
+use Rattle.std.proofs.Common.{sym, ap, ◌∙◌}
 use Rattle.std.specs.Option.{option_map, option_map_or}
 use Rattle.std.proofs.lemmas.Bool.{and_from, and_left, and_parts, both_ways, eqb-true}
 use Rattle.std.proofs.lemmas.Bool.{false_from_ne_true, false≢true, not-true, or_cases}
 use Rattle.std.proofs.lemmas.Bool.{true_from_ne_false}
-use Rattle.std.proofs.lemmas.Option.{none-some, same_Some, slice_get_within}
+use Rattle.std.proofs.lemmas.Option.{slice_get_within}
 use Rattle.run_model.specs.declared.groups.Group.{Group}
 use Rattle.run_model.specs.declared.scopes.Scope.{Scope}
 use Rattle.run_model.specs.declared.tasks.Task.{Task}
@@ -22,7 +21,7 @@ use Rattle.state_renewal.specs.Renewed.{keeps_group, keeps_scope, keeps_task, ke
 use Rattle.state_renewal.specs.Renewed.{new_number, one_more_if, renewed, scope_numbers}
 use Rattle.state_renewal.specs.Renewed.{scope_told, task_told, Part, group_anew, rows_anew}
 use Rattle.state_renewal.specs.Renewed.{scope_anew, state_anew, task_anew}
-use Rattle.state_renewal.proofs.Keeps.{found_any, live_kept, number_get}
+use Rattle.state_renewal.proofs.Keeps.{found_any, live_kept, number_get, all_at}
 use Rattle.state_renewal.proofs.Numbers.{are_told, number_behind, same_number}
 use Rattle.state_renewal.proofs.Hangs.{AreBoth}
 use Rattle.state_renewal.proofs.Stays.{kept_both}
@@ -135,12 +134,6 @@ row_on rows t s on = by_row (slice_get rows t) refl
     by_row None at =
         absurd (false≢true (sym (ap (λ o. is_on s (upwards (line_within t rows) t o)) at) ∙ on))
     by_row (Some row) at = (row, at)
-
-all_at : (P : Numbered → Type 0) (rows : List Numbered) → AllByRecursion P rows → (n : ℕ)
-    (r : Numbered) → slice_get rows n ≡ Some r → P r
-all_at P [] all n r found = absurd (none-some r found)
-all_at P (x ∷ rows) all zero r found = subst P (same_Some x r found) all.0
-all_at P (x ∷ rows) all (suc n) r found = all_at P rows all.1 n r found
 
 -- A scope is on the line told anew where it was on the line.
 on_anew : (part : Part) (s : ℕ) (rows : List Numbered) → AllGo part rows → part.scopes s ≡ true

@@ -1,12 +1,12 @@
 -- What is asked of groups and tasks that go on is answered alike.
 use Rattle.std.proofs.Common.{◌≡◌, ◌==◌, ◌&&◌, ℕ, Bool, true, false, not, List, [], ◌∷◌, cond}
 use Rattle.std.proofs.Common.{length, map, take, Option, Some, None, slice_get, refl, sym, ap, ◌∙◌}
-use Rattle.std.proofs.Common.{arith}
+use Rattle.std.proofs.Common.{arith, ◌+◌, ◌≤◌, zero, suc}
 use Rattle.std.specs.List.{AllByRecursion, filter, find, range_with_len}
 use Rattle.std.specs.Option.{option_and_then, option_map, option_map_or}
 use Rattle.std.proofs.lemmas.Bool.{and_from, and_left, and_parts, both_ways, eq-eqb, eqb-true}
-use Rattle.std.proofs.lemmas.Bool.{false_from_ne_true, false≢true, true_from_ne_false}
-use Rattle.std.proofs.lemmas.Option.{slice_get_past}
+use Rattle.std.proofs.lemmas.Bool.{false_from_ne_true, true_from_ne_false}
+use Rattle.std.proofs.lemmas.Option.{slice_get_past, none-some, same_Some}
 use Rattle.run_model.specs.declared.groups.Group.{Group}
 use Rattle.run_model.specs.declared.tasks.Stage.{Stage}
 use Rattle.run_model.specs.declared.tasks.Stage.TheVariants as stage
@@ -21,40 +21,28 @@ use Rattle.run_model.specs.Tasks.{task_numbers, unfinished_in}
 use Rattle.run_model.specs.WorkChanges.{group_of_task}
 use Rattle.state_renewal.specs.Renewed.{new_number, Part, group_anew, task_anew, work_anew}
 use Rattle.state_renewal.specs.Renewed.{keeps_group, keeps_task, group_told, task_told, renewed}
-use Rattle.state_renewal.proofs.Keeps.{count_found, there}
+use Rattle.state_renewal.proofs.Keeps.{count_cons}
 use Rattle.state_renewal.proofs.Numbers.{are_told, same_number}
 use Rattle.state_renewal.proofs.Hangs.{TasksHang, WorkHangs}
 use Rattle.state_renewal.proofs.PassAnew.{PassesAnew, RowsPass, any_anew, count_all_anew}
 use Rattle.state_renewal.proofs.PassAnew.{count_anew, find_anew, picks_anew}
-use Rattle.state_renewal.proofs.RowsAnew.{anew_get, length-anew}
+use Rattle.state_renewal.proofs.RowsAnew.{length-anew, row_anew, test_anew}
+use Rattle.model_laws.proofs.Places.{row_there}
+use Rattle.model_laws.proofs.Tests.{passing}
+use Rattle.std.specs.Prelude.{count_by, if◌then◌else◌}
 
 -- ---- groups
 
 pub open_anew : (part : Part) (w : WorkState) (g : ℕ) → part.groups g ≡ true
     → is_open (work_anew part w) (new_number part.groups g) ≡ is_open w g
 open_anew part w g is =
-    ap (λ o. option_map_or (λ group. not group.waited) o false)
-    (anew_get part.groups (group_anew part) w.groups g is)
-    ∙ by_row (slice_get w.groups g)
-  where
-    by_row : (o : Option Group)
-        → option_map_or (λ group. not group.waited) (option_map (group_anew part) o) false
-        ≡ option_map_or (λ group. not group.waited) o false
-    by_row None = refl
-    by_row (Some row) = refl
+    test_anew (λ group. not group.waited) part.groups (group_anew part) w.groups g (λ row. refl) is
 
-pub limit_same : (part : Part) (w : WorkState) (g : ℕ) → part.groups g ≡ true
+limit_same : (part : Part) (w : WorkState) (g : ℕ) → part.groups g ≡ true
     → limit_of (work_anew part w) (new_number part.groups g) ≡ limit_of w g
 limit_same part w g is =
-    ap (option_and_then (λ group. group.limit))
-    (anew_get part.groups (group_anew part) w.groups g is)
-    ∙ by_row (slice_get w.groups g)
-  where
-    by_row : (o : Option Group)
-        → option_and_then (λ group. group.limit) (option_map (group_anew part) o)
-        ≡ option_and_then (λ group. group.limit) o
-    by_row None = refl
-    by_row (Some row) = refl
+    row_anew (option_and_then (λ group. group.limit)) (option_and_then (λ group. group.limit))
+    part.groups (group_anew part) w.groups g refl (λ row at. refl) is
 
 -- ---- unfinished tasks
 
@@ -136,21 +124,28 @@ admitted_anew part w n row go found is =
 pub phase_anew : (part : Part) (w : WorkState) (n : ℕ) → TasksHang part w.tasks
     → part.tasks n ≡ true → phase_of (work_anew part w) (new_number part.tasks n) ≡ phase_of w n
 phase_anew part w n go is =
-    ap (option_map (λ row. phase_by
+    row_anew
+    (option_map (λ row. phase_by
     (is_admitted (work_anew part w) (new_number part.tasks n) row) row.stage))
-    (anew_get part.tasks (task_anew part) w.tasks n is)
-    ∙ by_row (slice_get w.tasks n) refl
-  where
-    by_row : (o : Option Task) → slice_get w.tasks n ≡ o
-        → option_map (λ row. phase_by
-        (is_admitted (work_anew part w) (new_number part.tasks n) row) row.stage)
-        (option_map (task_anew part) o)
-        ≡ option_map (λ row. phase_by (is_admitted w n row) row.stage) o
-    by_row None at = refl
-    by_row (Some row) at =
-        ap (λ b. Some (phase_by b row.stage)) (admitted_anew part w n row go at is)
+    (option_map (λ row. phase_by (is_admitted w n row) row.stage)) part.tasks (task_anew part)
+    w.tasks n refl
+    (λ row at. ap (λ b. Some (phase_by b row.stage)) (admitted_anew part w n row go at is)) is
 
 -- ---- what doesn't go on has ended
+
+count_first : (b : Bool) (n : ℕ) → b ≡ true → 1 ≤ (if b then 1 else 0) + n
+count_first true n is = omega arith
+count_first false n is = absurd (both_ways false refl is)
+
+count_found : {X : Type 0} (test : X → Bool) (rows : List X) (n : ℕ) (x : X)
+    → slice_get rows n ≡ Some x → test x ≡ true → 1 ≤ count_by test rows
+count_found test [] n x found is = absurd (none-some x found)
+count_found test (row ∷ rows) zero x found is =
+    rw (count_cons test row rows)
+    (count_first (test row) (count_by test rows) (ap test (same_Some row x found) ∙ is))
+count_found test (row ∷ rows) (suc n) x found is =
+    let rest = count_found test rows n x found is in
+    rw (count_cons test row rows) (omega (arith, rest))
 
 -- A task that doesn't go on has ended.
 pub gone_ended : (part : Part) (p : State) (n : ℕ) (row : Task) → IsConsistent p
@@ -159,7 +154,7 @@ pub gone_ended : (part : Part) (p : State) (n : ℕ) (row : Task) → IsConsiste
 gone_ended part p n row consistent go found goes =
     false_from_ne_true (is_unfinished row.stage)
     (λ is.
-    let group = there p.work.groups row.group (consistent.numbered.groups n row found) in
+    let group = row_there p.work.groups row.group (consistent.numbered.groups n row found) in
     let waited =
     (go.groups row.group group.0 group.1).gone (sym (go.tasks n row found) ∙ goes) in
     let none = consistent.admitted.waited row.group group.0 group.1 waited in
@@ -169,6 +164,15 @@ gone_ended part p n row consistent go found goes =
     (and_from (row.group == row.group) (is_unfinished row.stage)
     (eq-eqb row.group row.group refl) is) in
     absurd (omega (arith, some, none)))
+
+-- A task that hasn't ended goes on.
+pub unfinished_goes : (part : Part) (p : State) (n : ℕ) (row : Task) → IsConsistent p
+    → WorkHangs part p.work → HasTask p.work n row → is_unfinished row.stage ≡ true
+    → part.tasks n ≡ true
+unfinished_goes part p n row consistent go found is =
+    true_from_ne_false (part.tasks n)
+    (λ gone.
+    both_ways (is_unfinished row.stage) (gone_ended part p n row consistent go found gone) is)
 
 -- ---- running tasks
 
@@ -192,29 +196,14 @@ pub stage_same : (test : Stage → Bool) (part : Part) (w : WorkState) (n : ℕ)
     (slice_get (work_anew part w).tasks (new_number part.tasks n)) false
     ≡ option_map_or (λ task. test task.stage) (slice_get w.tasks n) false
 stage_same test part w n is =
-    ap (λ o. option_map_or (λ task. test task.stage) o false)
-    (anew_get part.tasks (task_anew part) w.tasks n is)
-    ∙ by_row (slice_get w.tasks n)
-  where
-    by_row : (o : Option Task)
-        → option_map_or (λ task. test task.stage) (option_map (task_anew part) o) false
-        ≡ option_map_or (λ task. test task.stage) o false
-    by_row None = refl
-    by_row (Some row) = refl
+    test_anew (λ task. test task.stage) part.tasks (task_anew part) w.tasks n (λ row. refl) is
 
 -- A task that runs goes on.
 running_goes : (part : Part) (p : State) (n : ℕ) → IsConsistent p → WorkHangs part p.work
     → is_running_task p.work n ≡ true → part.tasks n ≡ true
-running_goes part p n consistent go is = by_row (slice_get p.work.tasks n) refl is
-  where
-    by_row : (o : Option Task) → slice_get p.work.tasks n ≡ o
-        → option_map_or (λ task. is_running task.stage) o false ≡ true → part.tasks n ≡ true
-    by_row None at none = absurd (false≢true none)
-    by_row (Some row) at runs =
-        true_from_ne_false (part.tasks n)
-        (λ goes.
-        both_ways (is_unfinished row.stage) (gone_ended part p n row consistent go at goes)
-        (running_unfinished row.stage runs))
+running_goes part p n consistent go is =
+    let row = passing (λ task. is_running task.stage) (slice_get p.work.tasks n) is in
+    unfinished_goes part p n row.0 consistent go row.1 (running_unfinished row.0.stage row.2)
 
 running_pass : (part : Part) (p : State) → IsConsistent p → WorkHangs part p.work
     → PassesAnew part.tasks (is_running_task p.work) (is_running_task (work_anew part p.work))
@@ -258,34 +247,21 @@ ready_same : (part : Part) (p : State) (n : ℕ) → TasksHang part p.work.tasks
     → part.tasks n ≡ true
     → is_ready (work_anew part p.work) (new_number part.tasks n) ≡ is_ready p.work n
 ready_same part p n go is =
-    ap (λ o. option_map_or (λ task. is_fresh task.stage
+    row_anew
+    (λ o. option_map_or (λ task. is_fresh task.stage
     && is_admitted (work_anew part p.work) (new_number part.tasks n) task) o false)
-    (anew_get part.tasks (task_anew part) p.work.tasks n is)
-    ∙ by_row (slice_get p.work.tasks n) refl
-  where
-    by_row : (o : Option Task) → slice_get p.work.tasks n ≡ o
-        → option_map_or (λ task. is_fresh task.stage
-        && is_admitted (work_anew part p.work) (new_number part.tasks n) task)
-        (option_map (task_anew part) o) false
-        ≡ option_map_or (λ task. is_fresh task.stage && is_admitted p.work n task) o false
-    by_row None at = refl
-    by_row (Some row) at =
-        ap (λ b. is_fresh row.stage && b) (admitted_anew part p.work n row go at is)
+    (λ o. option_map_or (λ task. is_fresh task.stage && is_admitted p.work n task) o false)
+    part.tasks (task_anew part) p.work.tasks n refl
+    (λ row at. ap (λ b. is_fresh row.stage && b) (admitted_anew part p.work n row go at is)) is
 
 pub ready_goes : (part : Part) (p : State) (n : ℕ) → IsConsistent p → WorkHangs part p.work
     → is_ready p.work n ≡ true → part.tasks n ≡ true
-ready_goes part p n consistent go is = by_row (slice_get p.work.tasks n) refl is
-  where
-    by_row : (o : Option Task) → slice_get p.work.tasks n ≡ o
-        → option_map_or (λ task. is_fresh task.stage && is_admitted p.work n task) o false ≡ true
-        → part.tasks n ≡ true
-    by_row None at none = absurd (false≢true none)
-    by_row (Some row) at ready =
-        let parts = and_parts (is_fresh row.stage) (is_admitted p.work n row) ready in
-        true_from_ne_false (part.tasks n)
-        (λ goes.
-        both_ways (is_unfinished row.stage) (gone_ended part p n row consistent go at goes)
-        (fresh_unfinished row.stage parts.0))
+ready_goes part p n consistent go is =
+    let row =
+    passing (λ task. is_fresh task.stage && is_admitted p.work n task) (slice_get p.work.tasks n)
+    is in
+    let fresh = and_parts (is_fresh row.0.stage) (is_admitted p.work n row.0) row.2 in
+    unfinished_goes part p n row.0 consistent go row.1 (fresh_unfinished row.0.stage fresh.0)
 
 pub first_anew : (part : Part) (p : State) → IsConsistent p → WorkHangs part p.work
     → first_ready (work_anew part p.work)
@@ -347,25 +323,21 @@ retried_anew part p n consistent go is =
 -- ---- the group of a retried task
 
 none_open : (w : WorkState) → is_open w (length w.groups) ≡ false
-none_open w = ap (λ o. option_map_or (λ group. not group.waited) o false) (slice_get_past w.groups (length w.groups) (omega arith))
+none_open w =
+    ap (λ o. option_map_or (λ group. not group.waited) o false)
+    (slice_get_past w.groups (length w.groups) (omega arith))
 
 pub retry_open : (part : Part) (w : WorkState) (n : ℕ) → TasksHang part w.tasks
     → part.tasks n ≡ true
     → is_open (work_anew part w) (group_of_task (work_anew part w) (new_number part.tasks n))
     ≡ is_open w (group_of_task w n)
 retry_open part w n go is =
-    ap (λ o. is_open (work_anew part w)
+    row_anew
+    (λ o. is_open (work_anew part w)
     (option_map_or (λ task. task.group) o (length (work_anew part w).groups)))
-    (anew_get part.tasks (task_anew part) w.tasks n is)
-    ∙ by_row (slice_get w.tasks n) refl
-  where
-    by_row : (o : Option Task) → slice_get w.tasks n ≡ o
-        → is_open (work_anew part w)
-        (option_map_or (λ task. task.group) (option_map (task_anew part) o)
-        (length (work_anew part w).groups))
-        ≡ is_open w (option_map_or (λ task. task.group) o (length w.groups))
-    by_row None at = none_open (work_anew part w) ∙ sym (none_open w)
-    by_row (Some row) at = open_anew part w row.group (sym (go n row at) ∙ is)
+    (λ o. is_open w (option_map_or (λ task. task.group) o (length w.groups))) part.tasks
+    (task_anew part) w.tasks n (none_open (work_anew part w) ∙ sym (none_open w))
+    (λ row at. open_anew part w row.group (sym (go n row at) ∙ is)) is
 
 -- ---- rows that are kept
 

@@ -121,11 +121,15 @@ kept_part p = record {
   tasks = keeps_task p;
 }
 
--- A kept scope, group and task, told anew.
+-- A scope that is kept, told anew.
 abbrev pub scope_told : State → Scope → Scope
 scope_told p = scope_anew (kept_part p)
+
+-- A group that is kept, told anew.
 abbrev pub group_told : State → Group → Group
 group_told p = group_anew (kept_part p)
+
+-- A task that is kept, told anew.
 abbrev pub task_told : State → Task → Task
 task_told p = task_anew (kept_part p)
 

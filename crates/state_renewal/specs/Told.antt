@@ -1,4 +1,4 @@
--- Events that name only what goes on, told anew; and whether an event has its place.
+-- Events that name what is of a part alone, told anew; and whether an event has its place.
 use Rattle.std.specs.Prelude.{Bool, true, ◌&&◌}
 use Rattle.run_model.specs.Event.{Event}
 use Rattle.run_model.specs.Event as event
