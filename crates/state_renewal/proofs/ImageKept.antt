@@ -115,7 +115,7 @@ scope_ranged : (p : State)
     → IsTrue (is_kept_scope row)
 scope_ranged p all m row found =
     let of = scope_from p (suc m) row found in
-    by_number of.s of.old of.number of.found (ap is_kept_scope of.told)
+    by_number of.n of.old of.number of.found (ap is_kept_scope of.told)
   where
     by_number : (s : ℕ) (old : Scope) → suc m ≡ new_number (keeps_scope p) s
         → slice_get p.tree.scopes s ≡ Some old
@@ -175,7 +175,7 @@ has_image version layout bytes p is = record {
         let of = group_from p m row found in
         ap is_kept_group of.told
         ∙ group_in_range p of.old
-        (all_at (λ r. IsTrue (is_kept_group r)) p.work.groups is.ranged.groups of.g of.old
+        (all_at (λ r. IsTrue (is_kept_group r)) p.work.groups is.ranged.groups of.n of.old
         of.found));
     tasks =
         all_from (λ row. IsTrue (is_kept_task Two row)) (renewed p).work.tasks

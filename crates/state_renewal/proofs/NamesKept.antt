@@ -39,13 +39,13 @@ names_kept p consistent = record {
       none_of (λ r. r.name) (renewed p).tree.scopes name
       (λ m row found same.
       let of = scope_from p m row found in
-      other of.s of.old of.found of.is_kept (ap (λ r. r.name) (sym of.told) ∙ same));
+      other of.n of.old of.found of.is_kept (ap (λ r. r.name) (sym of.told) ∙ same));
   other_groups =
       λ name other.
       none_of (λ r. r.name) (renewed p).work.groups name
       (λ m row found same.
       let of = group_from p m row found in
-      other of.g of.old of.found of.is_kept (ap (λ r. r.name) (sym of.told) ∙ same));
+      other of.n of.old of.found of.is_kept (ap (λ r. r.name) (sym of.told) ∙ same));
 }
   where
     rules : IsConsistent (renewed p)

@@ -136,12 +136,12 @@ kept_get goes (r ∷ rows) (suc n) is =
     ∙ kept_get (λ n. goes (suc n)) rows n is
 
 -- Where the row of this new number comes from.
-pub record ComesFrom
+record ComesFrom
     {X : Type 0} (keeps : ℕ → Bool) (rows : List X) (m : ℕ) (row : X) : Type 0 where
-  pub number : ℕ
-  pub found : slice_get rows number ≡ Some row
-  pub is_kept : keeps number ≡ true
-  pub told : m ≡ new_number keeps number
+  number : ℕ
+  found : slice_get rows number ≡ Some row
+  is_kept : keeps number ≡ true
+  told : m ≡ new_number keeps number
 
 comes_behind : {X : Type 0} (keeps : ℕ → Bool) (r : X) (rows : List X) (m : ℕ) (row : X)
     → ComesFrom (λ k. keeps (suc k)) rows m row
@@ -153,7 +153,7 @@ comes_behind keeps r rows m row from = record {
   told = ap (one_more_if (keeps zero)) from.told ∙ sym (number_behind keeps from.number);
 }
 
-pub kept_back : {X : Type 0} (keeps : ℕ → Bool) (rows : List X) (m : ℕ) (row : X)
+kept_back : {X : Type 0} (keeps : ℕ → Bool) (rows : List X) (m : ℕ) (row : X)
     → slice_get (kept keeps rows) m ≡ Some row → ComesFrom keeps rows m row
 kept_back keeps [] m row found = absurd (none-some row found)
 kept_back keeps (r ∷ rows) m row found =
@@ -189,14 +189,24 @@ length-kept keeps (r ∷ rows) =
 
 -- ---- told anew
 
+-- A row of the old ones that is kept, and is this one of the new.
+pub record IsOf
+    {X : Type 0} (keeps : ℕ → Bool) (tell : X → X) (rows : List X) (m : ℕ) (row : X) : Type 0
+  where
+    pub n : ℕ
+    pub old : X
+    pub found : slice_get rows n ≡ Some old
+    pub is_kept : keeps n ≡ true
+    pub number : m ≡ new_number keeps n
+    pub told : row ≡ tell old
+
 -- The new rows are the old ones that are kept, each told anew, in the old order.
 pub record AreTold
     {X : Type 0} (keeps : ℕ → Bool) (tell : X → X) (old new : List X) : Type 0 where
   pub few : length new ≤ length old
   pub forth : (n : ℕ) (row : X) → slice_get old n ≡ Some row → keeps n ≡ true
       → slice_get new (new_number keeps n) ≡ Some (tell row)
-  pub back : (m : ℕ) (row : X) → slice_get new m ≡ Some row
-      → (old_row : X) × ComesFrom keeps old m old_row × (row ≡ tell old_row)
+  pub back : (m : ℕ) (row : X) → slice_get new m ≡ Some row → IsOf keeps tell old m row
 
 pub are_told : {X : Type 0} (keeps : ℕ → Bool) (tell : X → X) (rows : List X)
     → AreTold keeps tell rows (map tell (kept keeps rows))
@@ -213,5 +223,13 @@ are_told keeps tell rows = record {
   back =
       λ m row found.
       let old = map_cases tell m (kept keeps rows) row found in
-      (old.0, kept_back keeps rows m old.0 old.1, old.2);
+      let from = kept_back keeps rows m old.0 old.1 in
+      record {
+        n = from.number;
+        old = old.0;
+        found = from.found;
+        is_kept = from.is_kept;
+        number = from.told;
+        told = old.2;
+      };
 }

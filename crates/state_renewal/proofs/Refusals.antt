@@ -73,9 +73,9 @@ free_anew d name goes tell wanted rows same free =
     unpassed d (λ row. bytes_eq wanted (name row)) (rows_anew goes tell rows)
     (λ m row found passes.
     let old = (are_told goes tell rows).back m row found in
-    name_is_free name wanted rows free old.1.number old.0 old.1.found
-    (sym (same old.0)
-    ∙ ap name (sym old.2)
+    name_is_free name wanted rows free old.n old.old old.found
+    (sym (same old.old)
+    ∙ ap name (sym old.told)
     ∙ sym ((bytes_eq-Decides wanted (name row)).0 passes)))
 
 scope_free : (part : Part) (t : TreeState) (name : List ℕ)

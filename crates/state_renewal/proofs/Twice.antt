@@ -3,10 +3,8 @@ use Rattle.std.proofs.Common.{◌≡◌, ◌==◌, ◌&&◌, ◌||◌, ℕ, zero
 use Rattle.std.proofs.Common.{[], ◌∷◌, length, map, Option, Some, None, slice_get, inl, inr, refl}
 use Rattle.std.proofs.Common.{sym, ap, ◌∙◌}
 use Rattle.std.specs.Option.{option_map, option_map_or}
-use Rattle.std.proofs.lemmas.Bool.{and_from, and_left, and_parts, both_ways, eqb-true}
-use Rattle.std.proofs.lemmas.Bool.{false_from_ne_true, false≢true, not-true, or_cases}
-use Rattle.std.proofs.lemmas.Bool.{true_from_ne_false}
-use Rattle.std.proofs.lemmas.Option.{slice_get_within}
+use Rattle.std.proofs.lemmas.Bool.{and_left, and_parts, both_ways, eqb-true, false_from_ne_true}
+use Rattle.std.proofs.lemmas.Bool.{false≢true, not-true, or_cases, true_from_ne_false}
 use Rattle.run_model.specs.declared.groups.Group.{Group}
 use Rattle.run_model.specs.declared.scopes.Scope.{Scope}
 use Rattle.run_model.specs.declared.tasks.Task.{Task}
@@ -14,20 +12,21 @@ use Rattle.run_model.specs.Rules.{HasScope, IsConsistent}
 use Rattle.run_model.specs.Scopes.{Numbered, is_done, line, line_within, upwards}
 use Rattle.run_model.specs.State.{State}
 use Rattle.model_laws.specs.Hits.{is_on}
-use Rattle.model_laws.proofs.FirstErrors.{any_found}
 use Rattle.model_laws.proofs.Tests.{passing}
 use Rattle.state_renewal.specs.Renewed.{group_told, hosts_unwaited, in_front_if, is_needed, kept}
 use Rattle.state_renewal.specs.Renewed.{keeps_group, keeps_scope, keeps_task, kept_part}
 use Rattle.state_renewal.specs.Renewed.{new_number, one_more_if, renewed, scope_numbers}
 use Rattle.state_renewal.specs.Renewed.{scope_told, task_told, Part, group_anew, rows_anew}
 use Rattle.state_renewal.specs.Renewed.{scope_anew, state_anew, task_anew}
-use Rattle.state_renewal.proofs.Keeps.{found_any, live_kept, number_get, all_at}
-use Rattle.state_renewal.proofs.Numbers.{are_told, number_behind, same_number}
+use Rattle.state_renewal.proofs.Keeps.{found_any, live_kept, all_at}
+use Rattle.state_renewal.proofs.Numbers.{number_behind, same_number}
 use Rattle.state_renewal.proofs.Hangs.{AreBoth}
 use Rattle.state_renewal.proofs.Stays.{kept_both}
 use Rattle.state_renewal.proofs.Chains.{AllGo, both_lines, done_anew, told_at}
-use Rattle.state_renewal.proofs.PassAnew.{any_anew}
-use Rattle.state_renewal.proofs.RowsAnew.{anew_get, kept_map}
+use Rattle.state_renewal.proofs.PassAnew.{any_anew, some_anew}
+use Rattle.state_renewal.proofs.RowsAnew.{anew_get, kept_map, length-anew}
+use Rattle.std.specs.List.{list_any, range_with_len}
+use Rattle.model_laws.proofs.Places.{row_there}
 
 -- ---- rows that are kept of those that go on
 
@@ -118,11 +117,6 @@ same_rows p scopes a groups b tasks c s g t =
     ∙ ap (with_rows p a b) t
 
 -- ---- what is needed
-
-same_bools : (a b : Bool) → (a ≡ true → b ≡ true) → (b ≡ true → a ≡ true) → a ≡ b
-same_bools true b forth back = sym (forth refl)
-same_bools false true forth back = back refl
-same_bools false false forth back = refl
 
 -- A scope on whose line another one is has a row.
 row_on : (rows : List Scope) (t s : ℕ) → is_on s (line rows t) ≡ true
@@ -221,52 +215,27 @@ module _ (part : Part) (p : State) (both : AreBoth part p) (done : GoneAreDone p
       ∙ all_at (λ r. part.scopes r.0 ≡ true) (line p.tree.scopes by.1)
       (told by.1 row.0 row.1 (needed_goes by.1 row.0 row.1 parts.0)) on.0 on.1 on.2
 
-  scope_again : (s : ℕ) → part.scopes s ≡ true → keeps_scope p s ≡ true
-      → keeps_scope (state_anew part p) (new_number part.scopes s) ≡ true
-  scope_again s is kept_p =
-      let by = found_any (λ t. is_needed p t && is_on s (line p.tree.scopes t))
-      (scope_numbers p.tree) kept_p in
-      let parts = and_parts (is_needed p by.1) (is_on s (line p.tree.scopes by.1)) by.3 in
-      let row = row_on p.tree.scopes by.1 s parts.1 in
-      let goes = needed_goes by.1 row.0 row.1 parts.0 in
-      let q : State = state_anew part p in
-      let t = new_number part.scopes by.1 in
-      let new = new_number part.scopes s in
-      any_found (λ t. is_needed q t && is_on new (line q.tree.scopes t)) (scope_numbers q.tree) t t
-      (number_get (length q.tree.scopes) t
-      (slice_get_within q.tree.scopes t (scope_anew part row.0)
-      (anew_get part.scopes (scope_anew part) p.tree.scopes by.1 goes
-      ∙ ap (option_map (scope_anew part)) row.1)))
-      (and_from (is_needed q t) (is_on new (line q.tree.scopes t))
-      (needed_same by.1 goes ∙ parts.0) (on_same by.1 s row.0 row.1 goes is ∙ parts.1))
-
-  scope_before : (s : ℕ) → part.scopes s ≡ true
-      → keeps_scope (state_anew part p) (new_number part.scopes s) ≡ true
-      → keeps_scope p s ≡ true
-  scope_before s is kept_q =
-      let q : State = state_anew part p in
-      let new = new_number part.scopes s in
-      let by = found_any (λ t. is_needed q t && is_on new (line q.tree.scopes t))
-      (scope_numbers q.tree) kept_q in
-      let parts = and_parts (is_needed q by.1) (is_on new (line q.tree.scopes by.1)) by.3 in
-      let row = row_on q.tree.scopes by.1 new parts.1 in
-      let old = (are_told part.scopes (scope_anew part) p.tree.scopes).back by.1 row.0 row.1 in
-      let t = old.1.number in
-      let at = old.1.told in
-      any_found (λ t. is_needed p t && is_on s (line p.tree.scopes t)) (scope_numbers p.tree) t t
-      (number_get (length p.tree.scopes) t
-      (slice_get_within p.tree.scopes t old.0 old.1.found))
-      (and_from (is_needed p t) (is_on s (line p.tree.scopes t))
-      (sym (needed_same t old.1.is_kept) ∙ ap (is_needed q) (sym at) ∙ parts.0)
-      (sym (on_same t s old.0 old.1.found old.1.is_kept is)
-      ∙ ap (λ k. is_on new (line q.tree.scopes k)) (sym at)
-      ∙ parts.1))
-
   keeps_same : (s : ℕ) → part.scopes s ≡ true
       → keeps_scope (state_anew part p) (new_number part.scopes s) ≡ keeps_scope p s
   keeps_same s is =
-      same_bools (keeps_scope (state_anew part p) (new_number part.scopes s)) (keeps_scope p s)
-      (scope_before s is) (scope_again s is)
+      let q : State = state_anew part p in
+      let new = new_number part.scopes s in
+      ap (λ many. list_any (λ t. is_needed q t && is_on new (line q.tree.scopes t))
+      (range_with_len 0 many)) (length-anew part.scopes (scope_anew part) p.tree.scopes)
+      ∙ some_anew part.scopes (λ t. is_needed p t && is_on s (line p.tree.scopes t))
+      (λ t. is_needed q t && is_on new (line q.tree.scopes t)) (length p.tree.scopes)
+      (record {
+        on = λ t less goes.
+            let row = row_there p.tree.scopes t less in
+            ap (λ b. b && is_on new (line q.tree.scopes (new_number part.scopes t)))
+            (needed_same t goes)
+            ∙ ap (λ b. is_needed p t && b) (on_same t s row.0 row.1 goes is);
+        gone = λ t less gone.
+            let row = row_there p.tree.scopes t less in
+            and_left (is_needed p t) (is_on s (line p.tree.scopes t))
+            (false_from_ne_true (is_needed p t)
+            (λ needed. both_ways (part.scopes t) gone (needed_goes t row.0 row.1 needed)));
+      })
 
   scopes_within : IsWithin part.scopes (keeps_scope p) (keeps_scope (state_anew part p))
   scopes_within = record {
