@@ -14,20 +14,20 @@ use Rattle.state_renewal.proofs.Hangs.{EachRow, Hangs, kept_hangs, WithGroup, Wi
 use Rattle.state_renewal.proofs.Hangs.{WithScope}
 use Rattle.renewal_laws.specs.GoingOn.{going_on, goes_on}
 
--- Of the scopes all that are made later go on, and parents with them.
-pub record ScopesGo (part : Part) (rows : List Scope) : Type 0 where
-  pub later : (s : ℕ) → length rows ≤ s → part.scopes s ≡ true
-  pub each : EachRow (WithParent part) rows
+-- Of some rows all that are made later go on, and each row has this of its number and itself.
+pub record RowsGo {X : Type 0} (goes : ℕ → Bool) (P : ℕ → X → Type 0) (rows : List X) : Type 0
+  where
+    pub later : (n : ℕ) → length rows ≤ n → goes n ≡ true
+    pub each : EachRow P rows
 
--- Of the groups all that are made later go on, and scopes with them.
-pub record GroupsGo (part : Part) (rows : List Group) : Type 0 where
-  pub later : (g : ℕ) → length rows ≤ g → part.groups g ≡ true
-  pub each : EachRow (WithScope part) rows
+abbrev pub ScopesGo : Part → List Scope → Type 0
+ScopesGo part rows = RowsGo part.scopes (WithParent part) rows
 
--- Of the tasks all that are made later go on, and groups with them.
-pub record TasksGo (part : Part) (rows : List Task) : Type 0 where
-  pub later : (n : ℕ) → length rows ≤ n → part.tasks n ≡ true
-  pub each : EachRow (WithGroup part) rows
+abbrev pub GroupsGo : Part → List Group → Type 0
+GroupsGo part rows = RowsGo part.groups (WithScope part) rows
+
+abbrev pub TasksGo : Part → List Task → Type 0
+TasksGo part rows = RowsGo part.tasks (WithGroup part) rows
 
 pub record WorkGoes (part : Part) (w : WorkState) : Type 0 where
   pub groups : GroupsGo part w.groups
