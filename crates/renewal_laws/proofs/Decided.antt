@@ -29,7 +29,8 @@ use Rattle.state_renewal.proofs.Hangs.{WorkHangs}
 use Rattle.renewal_laws.proofs.Named.{group_on}
 use Rattle.state_renewal.proofs.PassAnew.{count_all_anew}
 use Rattle.state_renewal.proofs.RowsAnew.{test_anew}
-use Rattle.state_renewal.proofs.Works.{gone_ended, running_unfinished}
+use Rattle.state_renewal.proofs.Works.{gone_ended}
+use Rattle.model_laws.proofs.Admission.{running_unfinished}
 
 -- ---- repeated waits
 

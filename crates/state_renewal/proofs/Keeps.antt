@@ -2,12 +2,10 @@
 use Rattle.std.proofs.Common.{◌≡◌, ◌⊎◌, ◌<◌, ◌+◌, ◌==◌, ◌&&◌, ◌||◌, ℕ, zero, suc, Bool, true}
 use Rattle.std.proofs.Common.{false, not, cond, List, [], ◌∷◌, length, Option, Some, None}
 use Rattle.std.proofs.Common.{slice_get, inl, inr, refl, sym, ap, subst, ◌∙◌, is_some, arith}
-use Rattle.std.specs.List.{list_any, range_with_len, filter_map, AllByRecursion}
+use Rattle.std.specs.List.{range_with_len, filter_map, AllByRecursion}
 use Rattle.std.specs.Option.{option_map, option_map_or}
-use Rattle.std.specs.Prelude.{count_by, if◌then◌else◌}
 use Rattle.std.proofs.lemmas.Bool.{and_parts, and_from, or_cases, or_left, or_right, eq-eqb}
 use Rattle.std.proofs.lemmas.Bool.{eqb-true, false≢true}
-use Rattle.std.proofs.lemmas.List.Sums.{sum_by-cons}
 use Rattle.std.proofs.lemmas.Option.{same_Some, slice_get_within, none-some}
 use Rattle.run_model.specs.declared.groups.Group.{Group}
 use Rattle.run_model.specs.declared.scopes.Scope.{Scope}
@@ -20,7 +18,7 @@ use Rattle.run_model.specs.State.{State}
 use Rattle.model_laws.specs.Hits.{is_on}
 use Rattle.model_laws.specs.Searches.{above}
 use Rattle.model_laws.proofs.Lines.{line_up}
-use Rattle.model_laws.proofs.FirstErrors.{any_found}
+use Rattle.model_laws.proofs.FirstErrors.{any_found, found_any}
 use Rattle.state_renewal.specs.Renewed.{hosts_unwaited, is_needed, scope_numbers, keeps_scope}
 use Rattle.state_renewal.specs.Renewed.{keeps_group, keeps_task}
 use Rattle.model_laws.proofs.Places.{row_there}
@@ -36,16 +34,6 @@ range_get a (suc n) (suc i) less =
 
 pub number_get : (n i : ℕ) → i < n → slice_get (range_with_len 0 n) i ≡ Some i
 number_get n i less = let e : 0 + i ≡ i = omega arith in range_get 0 n i less ∙ ap Some e
-
--- Where a test passes among some, one of them passes it.
-pub found_any : {X : Type 0} (test : X → Bool) (rows : List X) → list_any test rows ≡ true
-    → (n : ℕ) × (x : X) × (slice_get rows n ≡ Some x) × (test x ≡ true)
-found_any test [] is = absurd (false≢true is)
-found_any test (row ∷ rows) is =
-    elim (or_cases (test row) (list_any test rows) is) [
-      | inl here ↦ (0, row, refl, here)
-      | inr later ↦ (let x = found_any test rows later in (suc x.0, x.1, x.2, x.3))
-    ]
 
 pub all_at : {X : Type 0} (P : X → Type 0) (rows : List X) → AllByRecursion P rows → (n : ℕ) (x : X)
     → slice_get rows n ≡ Some x → P x
@@ -213,7 +201,3 @@ pub task_is_kept : (p : State) (n : ℕ) (row : Task) → HasTask p.work n row
     → keeps_task p n ≡ keeps_group p row.group
 task_is_kept p n row found =
     ap (λ o. option_map_or (λ task. keeps_group p task.group) o false) found
-
-pub count_cons : {X : Type 0} (test : X → Bool) (row : X) (rows : List X)
-    → count_by test (row ∷ rows) ≡ (if test row then 1 else 0) + count_by test rows
-count_cons test row rows = sum_by-cons (λ x. if test x then 1 else 0) row rows

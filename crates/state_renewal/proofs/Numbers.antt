@@ -192,13 +192,13 @@ length-kept keeps (r ∷ rows) =
 -- A row of the old ones that is kept, and is this one of the new.
 pub record IsOf
     {X : Type 0} (keeps : ℕ → Bool) (tell : X → X) (rows : List X) (m : ℕ) (row : X) : Type 0
-    where
-  pub n : ℕ
-  pub old : X
-  pub found : slice_get rows n ≡ Some old
-  pub is_kept : keeps n ≡ true
-  pub number : m ≡ new_number keeps n
-  pub told : row ≡ tell old
+  where
+    pub n : ℕ
+    pub old : X
+    pub found : slice_get rows n ≡ Some old
+    pub is_kept : keeps n ≡ true
+    pub number : m ≡ new_number keeps n
+    pub told : row ≡ tell old
 
 -- The new rows are the old ones that are kept, each told anew, in the old order.
 pub record AreTold

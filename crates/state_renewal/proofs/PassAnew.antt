@@ -9,7 +9,7 @@ use Rattle.std.proofs.lemmas.List.{take_all}
 use Rattle.std.proofs.lemmas.List.Elements.{filter-append}
 use Rattle.std.proofs.lemmas.List.Folds.{find-append}
 use Rattle.state_renewal.specs.Renewed.{in_front_if, kept, new_number, one_more_if, rows_anew}
-use Rattle.state_renewal.proofs.Keeps.{count_cons}
+use Rattle.model_laws.proofs.Admission.{count_cons}
 use Rattle.state_renewal.proofs.Numbers.{number_behind}
 use Rattle.state_renewal.proofs.RowsAnew.{length-anew}
 

@@ -12,9 +12,9 @@ use Rattle.run_model.specs.Scopes.{is_root, upwards, line_within, line, AreOrder
 use Rattle.model_laws.specs.Hits.{is_on}
 use Rattle.model_laws.specs.Searches.{above}
 use Rattle.model_laws.proofs.Lines.{line_up}
-use Rattle.model_laws.proofs.FirstErrors.{any_found}
+use Rattle.model_laws.proofs.FirstErrors.{any_found, found_any}
 use Rattle.state_renewal.specs.Marks.{is_flagged, is_above_flagged}
-use Rattle.state_renewal.proofs.Keeps.{number_get, found_any, line_self, line_passes}
+use Rattle.state_renewal.proofs.Keeps.{number_get, line_self, line_passes}
 use Rattle.model_laws.proofs.Places.{row_there}
 
 -- The last k scopes raised their flags.

@@ -18,7 +18,7 @@ use Rattle.state_renewal.specs.Renewed.{keeps_group, keeps_scope, keeps_task, ke
 use Rattle.state_renewal.specs.Renewed.{new_number, one_more_if, renewed, scope_numbers}
 use Rattle.state_renewal.specs.Renewed.{scope_told, task_told, Part, group_anew, rows_anew}
 use Rattle.state_renewal.specs.Renewed.{scope_anew, state_anew, task_anew}
-use Rattle.state_renewal.proofs.Keeps.{found_any, live_kept, all_at}
+use Rattle.state_renewal.proofs.Keeps.{live_kept, all_at}
 use Rattle.state_renewal.proofs.Numbers.{number_behind, same_number}
 use Rattle.state_renewal.proofs.Hangs.{AreBoth}
 use Rattle.state_renewal.proofs.Stays.{kept_both}
@@ -27,6 +27,7 @@ use Rattle.state_renewal.proofs.PassAnew.{any_anew, some_anew}
 use Rattle.state_renewal.proofs.RowsAnew.{anew_get, kept_map, length-anew}
 use Rattle.std.specs.List.{list_any, range_with_len}
 use Rattle.model_laws.proofs.Places.{row_there}
+use Rattle.model_laws.proofs.FirstErrors.{found_any}
 
 -- ---- rows that are kept of those that go on
 

@@ -1,15 +1,14 @@
 -- What is asked of groups and tasks that go on is answered alike.
 use Rattle.std.proofs.Common.{◌≡◌, ◌==◌, ◌&&◌, ℕ, Bool, true, false, not, List, [], ◌∷◌, cond}
 use Rattle.std.proofs.Common.{length, map, take, Option, Some, None, slice_get, refl, sym, ap, ◌∙◌}
-use Rattle.std.proofs.Common.{arith, ◌+◌, ◌≤◌, zero, suc}
+use Rattle.std.proofs.Common.{arith}
 use Rattle.std.specs.List.{AllByRecursion, filter, find, range_with_len}
 use Rattle.std.specs.Option.{option_and_then, option_map, option_map_or}
 use Rattle.std.proofs.lemmas.Bool.{and_from, and_left, and_parts, both_ways, eq-eqb, eqb-true}
 use Rattle.std.proofs.lemmas.Bool.{false_from_ne_true, true_from_ne_false}
-use Rattle.std.proofs.lemmas.Option.{slice_get_past, none-some, same_Some}
+use Rattle.std.proofs.lemmas.Option.{slice_get_past}
 use Rattle.run_model.specs.declared.groups.Group.{Group}
 use Rattle.run_model.specs.declared.tasks.Stage.{Stage}
-use Rattle.run_model.specs.declared.tasks.Stage.TheVariants as stage
 use Rattle.run_model.specs.declared.tasks.Task.{Task}
 use Rattle.run_model.specs.Allowed.{admits_one_more, is_idle, is_open}
 use Rattle.run_model.specs.Rules.{HasGroup, HasTask, IsConsistent, has_task_error}
@@ -21,15 +20,14 @@ use Rattle.run_model.specs.Tasks.{task_numbers, unfinished_in}
 use Rattle.run_model.specs.WorkChanges.{group_of_task}
 use Rattle.state_renewal.specs.Renewed.{new_number, Part, group_anew, task_anew, work_anew}
 use Rattle.state_renewal.specs.Renewed.{keeps_group, keeps_task, group_told, task_told, renewed}
-use Rattle.state_renewal.proofs.Keeps.{count_cons}
+use Rattle.model_laws.proofs.Admission.{count_found, running_unfinished}
 use Rattle.state_renewal.proofs.Numbers.{are_told, same_number}
 use Rattle.state_renewal.proofs.Hangs.{TasksHang, WorkHangs}
 use Rattle.state_renewal.proofs.PassAnew.{PassesAnew, RowsPass, any_anew, count_all_anew}
 use Rattle.state_renewal.proofs.PassAnew.{count_anew, find_anew, picks_anew}
 use Rattle.state_renewal.proofs.RowsAnew.{length-anew, row_anew, test_anew}
 use Rattle.model_laws.proofs.Places.{row_there}
-use Rattle.model_laws.proofs.Tests.{passing}
-use Rattle.std.specs.Prelude.{count_by, if◌then◌else◌}
+use Rattle.model_laws.proofs.Tests.{passing, fresh_stage}
 
 -- ---- groups
 
@@ -133,20 +131,6 @@ phase_anew part w n go is =
 
 -- ---- what doesn't go on has ended
 
-count_first : (b : Bool) (n : ℕ) → b ≡ true → 1 ≤ (if b then 1 else 0) + n
-count_first true n is = omega arith
-count_first false n is = absurd (both_ways false refl is)
-
-count_found : {X : Type 0} (test : X → Bool) (rows : List X) (n : ℕ) (x : X)
-    → slice_get rows n ≡ Some x → test x ≡ true → 1 ≤ count_by test rows
-count_found test [] n x found is = absurd (none-some x found)
-count_found test (row ∷ rows) zero x found is =
-    rw (count_cons test row rows)
-    (count_first (test row) (count_by test rows) (ap test (same_Some row x found) ∙ is))
-count_found test (row ∷ rows) (suc n) x found is =
-    let rest = count_found test rows n x found is in
-    rw (count_cons test row rows) (omega (arith, rest))
-
 -- A task that doesn't go on has ended.
 pub gone_ended : (part : Part) (p : State) (n : ℕ) (row : Task) → IsConsistent p
     → WorkHangs part p.work → HasTask p.work n row → part.tasks n ≡ false
@@ -175,20 +159,6 @@ unfinished_goes part p n row consistent go found is =
     both_ways (is_unfinished row.stage) (gone_ended part p n row consistent go found gone) is)
 
 -- ---- running tasks
-
-pub running_unfinished : (s : Stage) → is_running s ≡ true → is_unfinished s ≡ true
-running_unfinished stage.Fresh is = refl
-running_unfinished stage.Running is = refl
-running_unfinished stage.Success is = is
-running_unfinished (stage.Failure text) is = is
-running_unfinished stage.Interrupted is = is
-
-fresh_unfinished : (s : Stage) → is_fresh s ≡ true → is_unfinished s ≡ true
-fresh_unfinished stage.Fresh is = refl
-fresh_unfinished stage.Running is = refl
-fresh_unfinished stage.Success is = is
-fresh_unfinished (stage.Failure text) is = is
-fresh_unfinished stage.Interrupted is = is
 
 pub stage_same : (test : Stage → Bool) (part : Part) (w : WorkState) (n : ℕ)
     → part.tasks n ≡ true
@@ -261,7 +231,7 @@ ready_goes part p n consistent go is =
     passing (λ task. is_fresh task.stage && is_admitted p.work n task) (slice_get p.work.tasks n)
     is in
     let fresh = and_parts (is_fresh row.0.stage) (is_admitted p.work n row.0) row.2 in
-    unfinished_goes part p n row.0 consistent go row.1 (fresh_unfinished row.0.stage fresh.0)
+    unfinished_goes part p n row.0 consistent go row.1 (fresh_stage row.0.stage fresh.0).0
 
 pub first_anew : (part : Part) (p : State) → IsConsistent p → WorkHangs part p.work
     → first_ready (work_anew part p.work)
