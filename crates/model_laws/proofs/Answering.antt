@@ -9,12 +9,13 @@ use Rattle.run_model.specs.declared.refusals.Refusal.TheVariants as refusal
 use Rattle.run_model.specs.Event.{Event}
 use Rattle.run_model.specs.State.{State}
 use Rattle.run_model.specs.Step as change
-use Rattle.run_model.specs.Replies.{decide, refusals, is_repeated, is_full, if_room, and_then}
+use Rattle.run_model.specs.Allowed.{holds_none, refusals}
+use Rattle.run_model.specs.Replies.{decide, is_repeated, is_full, if_room, and_then}
 use Rattle.run_model.specs.Replies.{event_of, answer_of, state_after}
 use Rattle.run_model.specs.Session.{Session, made, with_event, replied}
 use Rattle.model_laws.specs.Answers.{Answered}
-use Rattle.model_laws.proofs.Passing.{Passes, unrefused, unless_passes, repeated_unrefused}
-use Rattle.model_laws.proofs.Passing.{new_unrefused}
+use Rattle.run_model.proofs.RefusalLemmas.{unless_Ok}
+use Rattle.model_laws.proofs.Passing.{new_decide, repeated_decide}
 
 -- ---- the decision behind an answer
 
@@ -30,11 +31,10 @@ decided_state s r o decided =
     ap (λ (x : Result (Option Event) Refusal). (with_event s (made x)).state) decided
     ∙ state_of_event s o
 
--- The command passes each test, and this is decided, answered and left.
+-- This is decided, answered and left.
 pub record Decision (s : Session) (call : Command) (a : Answer) (q : State) : Type 0 where
   pub event : Option Event
-  pub passes : Passes (refusals s.state call)
-  pub decided : unrefused s.state s.log call ≡ Ok event
+  pub decided : decide s.state s.log call ≡ Ok event
   pub answer : answer_of s.state q call ≡ a
   pub leaves : state_after s.state event ≡ q
 
@@ -53,20 +53,18 @@ decision_behind s call a q answered =
     let r : Result (Option Event) Refusal = decide p s.log call in
     let behind = accepted_answer s call a r answered.replied in
     let left = sym (decided_state s r behind.0 behind.1) ∙ answered.leaves in
-    let passed = unless_passes (refusals p call) (unrefused p s.log call) behind.0 behind.1 in
     record {
       event = behind.0;
-      passes = passed.0;
-      decided = passed.1;
+      decided = behind.1;
       answer = ap (λ (t : State). answer_of p t call) (sym left) ∙ behind.2;
       leaves = left;
     }
 
 -- ---- what is carried out
 
--- The command passes each test, and is carried out as its event.
+-- The command isn't refused, and is carried out as its event.
 pub record CarriedOut (s : Session) (call : Command) (a : Answer) (q : State) : Type 0 where
-  pub passes : Passes (refusals s.state call)
+  pub may : holds_none (refusals s.state (event_of s.state call)) ≡ true
   pub answer : answer_of s.state q call ≡ a
   pub leaves : q ≡ change.step s.state (event_of s.state call)
 
@@ -84,12 +82,15 @@ pub carried_out : (s : Session) (call : Command) (a : Answer) (q : State)
 carried_out s call a q new answered =
     let p : State = s.state in
     let behind = decision_behind s call a q answered in
-    let fits = sym (new_unrefused p s.log call new) ∙ behind.decided in
-    let event = room_made p s.log (event_of p call) behind.event fits in
+    let made : Event = event_of p call in
+    let decided = sym (new_decide p s.log call new) ∙ behind.decided in
+    let passed = unless_Ok (refusals p made) (if_room p s.log made) behind.event decided in
     record {
-      passes = behind.passes;
+      may = passed.0;
       answer = behind.answer;
-      leaves = sym behind.leaves ∙ ap (state_after p) event;
+      leaves =
+          sym behind.leaves
+          ∙ ap (state_after p) (room_made p s.log made behind.event passed.1);
     }
 
 same_Ok : {o : Option Event} → ◌≡◌ {A = Result (Option Event) Refusal} (Ok None) (Ok o)
@@ -102,5 +103,5 @@ pub repeated_out : (s : Session) (call : Command) (a : Answer) (q : State)
     → (q ≡ s.state) × (answer_of s.state q call ≡ a)
 repeated_out s call a q repeated answered =
     let behind = decision_behind s call a q answered in
-    let none = same_Ok (sym (repeated_unrefused s.state s.log call repeated) ∙ behind.decided) in
+    let none = same_Ok (sym (repeated_decide s.state s.log call repeated) ∙ behind.decided) in
     (sym behind.leaves ∙ ap (state_after s.state) none, behind.answer)

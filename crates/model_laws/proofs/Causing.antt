@@ -1,14 +1,15 @@
 -- Which kinds of scope a command cancels, and which take a cause.
-use Rattle.std.proofs.Common.{◌≡◌, ℕ, true, false, ◌||◌, List, Option, Some, None, is_none}
-use Rattle.std.proofs.Common.{IsSomeAnd, slice_get, inl, inr, refl, ap}
+use Rattle.std.proofs.Common.{◌≡◌, ℕ, true, false, List, Option, Some, None, IsSomeAnd, slice_get}
+use Rattle.std.proofs.Common.{inl, inr, refl, ap}
 use Rattle.std.specs.Option.{option_map, option_map_or}
-use Rattle.std.proofs.lemmas.Bool.{and_parts}
+use Rattle.std.proofs.lemmas.Bool.{not-false}
 use Rattle.run_model.specs.declared.scopes.Kind.{Kind}
 use Rattle.run_model.specs.declared.scopes.Kind.TheVariants as kind
 use Rattle.run_model.specs.declared.scopes.Scope.{Scope}
 use Rattle.run_model.specs.Event as event
 use Rattle.run_model.specs.State.{State}
-use Rattle.run_model.specs.Allowed.{allowed, has_kind, is_cancellable, takes_cause}
+use Rattle.run_model.specs.Allowed.{allowed, is_cancellable, refusals, takes_cause}
+use Rattle.run_model.proofs.RefusalLemmas.{each_fails}
 use Rattle.model_laws.specs.Decided.{scope_kind, IsCancelledByCommand}
 
 only_cause : (k : Kind) → takes_cause k ≡ true → k ≡ kind.Cause
@@ -39,18 +40,14 @@ cancelled_row : (o : Option Scope) → option_map_or (λ row. is_cancellable row
 cancelled_row None e = cc
 cancelled_row (Some row) e = only_three row.kind e
 
-tested : (p : State) (s : ℕ) (cause : Option (List ℕ)) → allowed p (event.Cancel s cause) ≡ true
-    → (has_kind is_cancellable p.tree s ≡ true)
-    × ((is_none cause || has_kind takes_cause p.tree s) ≡ true)
-tested p s cause ok =
-    let all = and_parts _ _ ok in
-    and_parts _ _ all.0
-
 pub cause_scope : (p : State) (s : ℕ) (text : List ℕ)
     → allowed p (event.Cancel s (Some text)) ≡ true → scope_kind p s ≡ Some kind.Cause
-cause_scope p s text ok = cause_row (slice_get p.tree.scopes s) (tested p s (Some text) ok).1
+cause_scope p s text may =
+    let parts = each_fails (refusals p (event.Cancel s (Some text))) may in
+    cause_row (slice_get p.tree.scopes s) (not-false _ parts.1.1.0)
 
 pub cancelled_scope : (p : State) (s : ℕ) (cause : Option (List ℕ))
     → allowed p (event.Cancel s cause) ≡ true → IsSomeAnd (scope_kind p s) IsCancelledByCommand
-cancelled_scope p s cause ok =
-    cancelled_row (slice_get p.tree.scopes s) (tested p s cause ok).0
+cancelled_scope p s cause may =
+    let parts = each_fails (refusals p (event.Cancel s cause)) may in
+    cancelled_row (slice_get p.tree.scopes s) (not-false _ parts.1.0)

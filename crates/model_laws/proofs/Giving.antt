@@ -1,6 +1,6 @@
 -- What is decided as an event that has a record is a command that can be given.
-use Rattle.std.proofs.Common.{◌≡◌, ◌<◌, ◌≤◌, ◌+◌, ◌^◌, ℕ, true, false, ◌&&◌, nat_lt, List, Some, Ok}
-use Rattle.std.proofs.Common.{refl, sym, ap, ◌∙◌, arith, leb-true, lt-ltb, lit<}
+use Rattle.std.proofs.Common.{◌≡◌, ◌<◌, ◌≤◌, ◌+◌, ◌^◌, ℕ, Bool, true, not, ◌&&◌, nat_lt, List}
+use Rattle.std.proofs.Common.{Some, Ok, refl, sym, ap, ◌∙◌, arith, leb-true, lt-ltb, lit<}
 use Rattle.std.proofs.lemmas.Bool.{and_parts, and_from}
 use Rattle.run_model.specs.declared.bounds.TheConstants.{GREATEST_MOMENT}
 use Rattle.run_model.specs.declared.commands.Command.{Command}
@@ -11,23 +11,24 @@ use Rattle.run_model.specs.Event.{Event}
 use Rattle.run_model.specs.State.{State}
 use Rattle.run_model.specs.Texts.{is_name}
 use Rattle.run_model.specs.Records.{is_recorded, is_recorded_kind, is_row_number, is_moment}
-use Rattle.run_model.specs.Allowed.{is_scope_name_free, is_group_name_free}
-use Rattle.run_model.specs.Replies.{decide, refusals, event_of, kind_made, scope_of, group_of}
+use Rattle.run_model.specs.Allowed.{has_group, has_scope, holds_none, refusals}
+use Rattle.run_model.specs.Replies.{decide, event_of, kind_made, scope_of, group_of}
 use Rattle.model_laws.specs.Decided.{is_wish, is_command, AreNamed}
-use Rattle.model_laws.proofs.Passing.{Passes, decided_leads}
+use Rattle.run_model.proofs.RefusalLemmas.{is_first}
+use Rattle.model_laws.proofs.Passing.{command_leads}
 use Rattle.model_laws.proofs.Names.{named_scope, named_group}
 
 -- A name that is found is the name of a row.
-found_scope_name : (p : State) (name : List ℕ) → AreNamed p
-    → is_scope_name_free p.tree name ≡ false → is_name name ≡ true
-found_scope_name p name named taken =
-    let row = named_scope p name taken in
+found_scope_name : (p : State) (name : List ℕ) (rest : Bool) → AreNamed p
+    → (not (not (has_scope p.tree (scope_of p name))) && rest) ≡ true → is_name name ≡ true
+found_scope_name p name rest named may =
+    let row = named_scope p name (is_first _ rest may) in
     ap is_name (sym row.2) ∙ named.scopes (scope_of p name) row.0 row.1
 
-found_group_name : (p : State) (name : List ℕ) → AreNamed p
-    → is_group_name_free p.work name ≡ false → is_name name ≡ true
-found_group_name p name named taken =
-    let row = named_group p name taken in
+found_group_name : (p : State) (name : List ℕ) (rest : Bool) → AreNamed p
+    → (not (not (has_group p.work (group_of p name))) && rest) ≡ true → is_name name ≡ true
+found_group_name p name rest named may =
+    let row = named_group p name (is_first _ rest may) in
     ap is_name (sym row.2) ∙ named.groups (group_of p name) row.0 row.1
 
 -- Seconds that lead to a moment are few.
@@ -61,37 +62,36 @@ submission_given g group job argument named e =
     let front = and_parts _ _ all.0 in
     and_from _ _ (and_from _ _ named front.1) all.1
 
-passing_given : (p : State) (call : Command) → AreNamed p → Passes (refusals p call)
+unrefused_given : (p : State) (call : Command) → AreNamed p
+    → holds_none (refusals p (event_of p call)) ≡ true
     → is_recorded (event_of p call) ≡ true → is_command call ≡ true
-passing_given p (command.Derive name parent w) named passes e =
+unrefused_given p (command.Derive name parent w) named may e =
     let all = and_parts _ _ e in
     let front = and_parts _ _ all.0 in
-    and_from _ _ (and_from _ _ front.0 (found_scope_name p parent named passes.0))
+    and_from _ _ (and_from _ _ front.0 (found_scope_name p parent _ named may))
     (made_wish p.tree.clock w all.1)
-passing_given p (command.Cancel scope cause) named passes e =
+unrefused_given p (command.Cancel scope cause) named may e =
     let all = and_parts _ _ e in
-    and_from _ _ (found_scope_name p scope named passes.0) all.1
-passing_given p (command.Advance moment) named passes e = e
-passing_given p (command.Group name parent) named passes e =
+    and_from _ _ (found_scope_name p scope _ named may) all.1
+unrefused_given p (command.Advance moment) named may e = e
+unrefused_given p (command.Group name parent) named may e =
     let all = and_parts _ _ e in
-    and_from _ _ all.0 (found_scope_name p parent named passes.0)
-passing_given p (command.Bare name scope) named passes e =
+    and_from _ _ all.0 (found_scope_name p parent _ named may)
+unrefused_given p (command.Bare name scope) named may e =
     let all = and_parts _ _ e in
-    and_from _ _ all.0 (found_scope_name p scope named passes.0)
-passing_given p (command.SetLimit group limit) named passes e =
+    and_from _ _ all.0 (found_scope_name p scope _ named may)
+unrefused_given p (command.SetLimit group limit) named may e =
     let all = and_parts _ _ e in
-    and_from _ _ (found_group_name p group named passes.0) all.1
-passing_given p (command.Go group job argument) named passes e =
-    submission_given (group_of p group) group job argument (found_group_name p group named passes.0)
-    e
-passing_given p (command.TryGo group job argument) named passes e =
-    submission_given (group_of p group) group job argument (found_group_name p group named passes.0)
-    e
-passing_given p (command.Retry n) named passes e = e
-passing_given p (command.Wait group) named passes e = found_group_name p group named passes.0
+    and_from _ _ (found_group_name p group _ named may) all.1
+unrefused_given p (command.Go group job argument) named may e =
+    submission_given (group_of p group) group job argument (found_group_name p group _ named may) e
+unrefused_given p (command.TryGo group job argument) named may e =
+    submission_given (group_of p group) group job argument (found_group_name p group _ named may) e
+unrefused_given p (command.Retry n) named may e = e
+unrefused_given p (command.Wait group) named may e = found_group_name p group _ named may
 
 pub decided_given : (p : State) (log : ℕ) (call : Command) (event : Event) → AreNamed p
     → is_recorded event ≡ true → decide p log call ≡ Ok (Some event) → is_command call ≡ true
 decided_given p log call event named recorded e =
-    let leads = decided_leads p log call event e in
-    passing_given p call named leads.passes (ap is_recorded leads.asks ∙ recorded)
+    let leads = command_leads p log call event e in
+    unrefused_given p call named leads.may (ap is_recorded leads.asks ∙ recorded)

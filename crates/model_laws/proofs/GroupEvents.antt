@@ -9,7 +9,6 @@ use Rattle.model_laws.proofs.Links.{links_beside}
 use Rattle.run_model.specs.declared.scopes.Kind.TheVariants as kind
 use Rattle.run_model.specs.Allowed.{has_scope, is_scope_name_free, is_group_name_free}
 use Rattle.run_model.specs.Allowed.{has_scope_room, has_group_room}
-use Rattle.run_model.specs.Event.{Event}
 use Rattle.run_model.specs.Event as event
 use Rattle.run_model.specs.Rows.{new_scope, new_group}
 use Rattle.run_model.specs.Rules.{IsConsistent}

@@ -16,16 +16,18 @@ use Rattle.run_model.specs.declared.tasks.Stage.TheVariants as stage
 use Rattle.run_model.specs.declared.answers.Answer.TheVariants as answer
 use Rattle.run_model.specs.declared.commands.Command.TheVariants as command
 use Rattle.run_model.specs.declared.commands.Wish.{Wish}
+use Rattle.run_model.specs.Event as event
 use Rattle.run_model.specs.State.{State, WorkState}
 use Rattle.run_model.specs.Rows.{new_scope, new_group, new_task}
 use Rattle.run_model.specs.TreeChanges.{with_hit, hit_due, tick}
 use Rattle.run_model.specs.Rules.{HasTask}
 use Rattle.run_model.specs.WorkChanges.{after_go, retried_row}
 use Rattle.run_model.specs.Tasks.{is_admitted, phase_by, phase_of, admits, limit_of, unfinished_in}
-use Rattle.run_model.specs.Allowed.{admits_one_more}
+use Rattle.run_model.specs.Allowed.{admits_one_more, refusals}
 use Rattle.run_model.specs.Questions.{task_look_of}
 use Rattle.run_model.specs.Replies.{submission, kind_made, scope_of, group_of}
 use Rattle.run_model.specs.Session.{Session}
+use Rattle.run_model.proofs.RefusalLemmas.{each_fails}
 use Rattle.model_laws.specs.Answers.{Answered, SeesGroup, seen_name, task_seen}
 use Rattle.model_laws.proofs.Answering.{carried_out}
 use Rattle.model_laws.proofs.Places.{pushed_row}
@@ -172,7 +174,8 @@ tried_seen s group job argument n told q answered =
     let done = carried_out s (command.TryGo group job argument) a q refl answered in
     let pushed = ap (λ (t : State). t.work.tasks) done.leaves in
     let new = submitted s.state row n told q pushed done.answer in
-    let room = not-false (admits_one_more w g) done.passes.1.1.1.0 in
+    let parts = each_fails (refusals s.state (event.TryGo g job argument)) done.may in
+    let room = not-false (admits_one_more w g) parts.1.1.1.0 in
     let admitted =
     ap (λ (t : State). is_admitted t.work (length w.tasks) row) done.leaves
     ∙ new_admitted w g job argument room in

@@ -1,20 +1,16 @@
 -- The row of a name, and the name of a row.
-use Rattle.std.proofs.Common.{position, ◌≡◌, ℕ, Bool, true, false, not, List, length, Option, Some}
-use Rattle.std.proofs.Common.{None, is_none, slice_get, unwrap_or, bytes_eq, refl, sym, ap, ◌∙◌}
-use Rattle.std.proofs.Common.{lt-ltb, ltb-true}
-use Rattle.std.proofs.lemmas.Bool.{not-true}
+use Rattle.std.proofs.Common.{position, ◌≡◌, ◌<◌, ◌&&◌, not, ℕ, Bool, true, List, length, Option}
+use Rattle.std.proofs.Common.{Some, None, slice_get, unwrap_or, bytes_eq, refl, sym, ap, arith}
+use Rattle.std.proofs.Common.{ltb-true}
 use Rattle.std.proofs.lemmas.Slice.Eq.{bytes_eq-Decides}
-use Rattle.std.proofs.lemmas.Option.{slice_get_within}
 use Rattle.run_model.specs.declared.scopes.Scope.{Scope}
 use Rattle.run_model.specs.declared.groups.Group.{Group}
-use Rattle.run_model.specs.State.{State, scope_named, group_named}
-use Rattle.run_model.specs.Allowed.{is_scope_name_free, is_group_name_free, has_scope, has_kind}
-use Rattle.run_model.specs.Allowed.{is_open}
-use Rattle.run_model.specs.Replies.{scope_of, group_of, has_waited}
-use Rattle.run_model.specs.declared.scopes.Kind.{Kind}
+use Rattle.run_model.specs.State.{State}
+use Rattle.run_model.specs.Allowed.{has_group, has_scope}
+use Rattle.run_model.specs.Replies.{scope_of, group_of}
 use Rattle.run_model.specs.Rules.{AreNumbered}
-use Rattle.model_laws.proofs.Places.{row_there, row_at_place, place_of_row, passing_row, row_tested}
-use Rattle.model_laws.proofs.Places.{passing_within}
+use Rattle.run_model.proofs.RefusalLemmas.{is_first}
+use Rattle.model_laws.proofs.Places.{row_there, row_at_place, place_of_row}
 
 -- ---- rows with names
 
@@ -47,87 +43,51 @@ place_of_name {X} name_of rows n row distinct found =
         let alike = (bytes_eq-Decides (name_of row) (name_of other)).0 same in
         sym (distinct n m row other found there alike)
 
--- ---- the row of a name
+-- The number of the row of this name. Where there is none, it is a number that no row has.
+abbrev pub named : {X : Type 0} → (X → List ℕ) → List X → List ℕ → ℕ
+named name_of rows name =
+    unwrap_or (position (λ row. bytes_eq name (name_of row)) rows) (length rows)
 
-has_value : {X : Type 0} (o : Option X) → is_none o ≡ false → (x : X) × (o ≡ Some x)
-has_value None e = cc
-has_value (Some x) e = (x, refl)
+found_below : (o : Option ℕ) (len : ℕ) → unwrap_or o len < len → o ≡ Some (unwrap_or o len)
+found_below None len less = absurd (omega (arith, less))
+found_below (Some n) len less = refl
 
--- The number that is read where there is a value.
-number_read : (o : Option ℕ) (else n : ℕ) → o ≡ Some n → unwrap_or o else ≡ n
-number_read o else n at = ap (λ (x : Option ℕ). unwrap_or x else) at
+row_of_name : {X : Type 0} (name_of : X → List ℕ) (rows : List X) (name : List ℕ)
+    → named name_of rows name < length rows
+    → (row : X) × (slice_get rows (named name_of rows name) ≡ Some row) × (name_of row ≡ name)
+row_of_name name_of rows name less =
+    named_row name_of rows name (named name_of rows name)
+    (found_below (position (λ row. bytes_eq name (name_of row)) rows) (length rows) less)
 
-pub named_scope : (p : State) (name : List ℕ) → is_scope_name_free p.tree name ≡ false
+name_of_row : {X : Type 0} (name_of : X → List ℕ) (rows : List X) (n : ℕ)
+    → AreDistinct name_of rows → n < length rows
+    → (name : List ℕ) × (named name_of rows name ≡ n)
+name_of_row name_of rows n distinct less =
+    let row = row_there rows n less in
+    let at = place_of_name name_of rows n row.0 distinct row.1 in
+    (name_of row.0, ap (λ (o : Option ℕ). unwrap_or o (length rows)) at)
+
+-- ---- scopes and groups
+
+pub named_scope : (p : State) (name : List ℕ) → has_scope p.tree (scope_of p name) ≡ true
     → (row : Scope) × (slice_get p.tree.scopes (scope_of p name) ≡ Some row) × (row.name ≡ name)
-named_scope p name taken =
-    let at = has_value (scope_named p.tree name) taken in
-    let row = named_row (λ row. row.name) p.tree.scopes name at.0 at.1 in
-    let same = number_read (scope_named p.tree name) (length p.tree.scopes) at.0 at.1 in
-    (row.0, ap (slice_get p.tree.scopes) same ∙ row.1, row.2)
+named_scope p name there =
+    row_of_name (λ row. row.name) p.tree.scopes name (ltb-true _ _ there)
 
-pub named_group : (p : State) (name : List ℕ) → is_group_name_free p.work name ≡ false
+pub named_group : (p : State) (name : List ℕ) → has_group p.work (group_of p name) ≡ true
     → (row : Group) × (slice_get p.work.groups (group_of p name) ≡ Some row) × (row.name ≡ name)
-named_group p name taken =
-    let at = has_value (group_named p.work name) taken in
-    let row = named_row (λ row. row.name) p.work.groups name at.0 at.1 in
-    let same = number_read (group_named p.work name) (length p.work.groups) at.0 at.1 in
-    (row.0, ap (slice_get p.work.groups) same ∙ row.1, row.2)
+named_group p name there =
+    row_of_name (λ row. row.name) p.work.groups name (ltb-true _ _ there)
 
-pub named_scope_there : (p : State) (name : List ℕ) → is_scope_name_free p.tree name ≡ false
-    → has_scope p.tree (scope_of p name) ≡ true
-named_scope_there p name taken =
-    let row = named_scope p name taken in
-    lt-ltb _ _ (slice_get_within p.tree.scopes (scope_of p name) row.0 row.1)
+-- The name of the scope, or of the group, that the first test asks for.
+pub name_of_scope : (p : State) (s : ℕ) (rest : Bool) → AreNumbered p
+    → (not (not (has_scope p.tree s)) && rest) ≡ true → (name : List ℕ) × (scope_of p name ≡ s)
+name_of_scope p s rest numbered may =
+    name_of_row (λ row. row.name) p.tree.scopes s numbered.scope_names
+    (ltb-true _ _ (is_first (has_scope p.tree s) rest may))
 
-pub named_group_open : (p : State) (name : List ℕ) → is_group_name_free p.work name ≡ false
-    → has_waited p (group_of p name) ≡ false → is_open p.work (group_of p name) ≡ true
-named_group_open p name taken new =
-    let row = named_group p name taken in
-    let found = slice_get p.work.groups (group_of p name) in
-    let unwaited = sym (row_tested (λ group. group.waited) found row.0 row.1) ∙ new in
-    row_tested (λ group. not group.waited) found row.0 row.1 ∙ ap not unwaited
-
--- ---- the name of a row
-
--- A name by which the scope of this number is found.
-pub record NamesScope (p : State) (s : ℕ) (name : List ℕ) : Type 0 where
-  pub taken : is_scope_name_free p.tree name ≡ false
-  pub at : scope_of p name ≡ s
-
--- A name by which the group of this number is found.
-pub record NamesGroup (p : State) (g : ℕ) (name : List ℕ) : Type 0 where
-  pub taken : is_group_name_free p.work name ≡ false
-  pub at : group_of p name ≡ g
-
-pub name_of_scope : (p : State) (s : ℕ) → AreNumbered p → has_scope p.tree s ≡ true
-    → (name : List ℕ) × NamesScope p s name
-name_of_scope p s numbered there =
-    let rows : List Scope = p.tree.scopes in
-    let row = row_there rows s (ltb-true s (length rows) there) in
-    let at = place_of_name (λ row. row.name) rows s row.0 numbered.scope_names row.1 in
-    let number = number_read (scope_named p.tree row.0.name) (length rows) s at in
-    (row.0.name, record { taken = ap (λ (o : Option ℕ). is_none o) at; at = number })
-
-pub name_of_kind : (test : Kind → Bool) (p : State) (s : ℕ) → AreNumbered p
-    → has_kind test p.tree s ≡ true → (name : List ℕ) × NamesScope p s name
-name_of_kind test p s numbered e =
-    let within = passing_within (λ row. test row.kind) p.tree.scopes s e in
-    name_of_scope p s numbered (lt-ltb _ _ within)
-
--- An open group was not waited for.
-pub record NamesOpen (p : State) (g : ℕ) (name : List ℕ) : Type 0 where
-  pub named : NamesGroup p g name
-  pub new : has_waited p (group_of p name) ≡ false
-
-pub name_of_open : (p : State) (g : ℕ) → AreNumbered p → is_open p.work g ≡ true
-    → (name : List ℕ) × NamesOpen p g name
-name_of_open p g numbered e =
-    let rows : List Group = p.work.groups in
-    let row = passing_row (λ group. not group.waited) (slice_get rows g) e in
-    let at = place_of_name (λ row. row.name) rows g row.0 numbered.group_names row.1 in
-    let number = number_read (group_named p.work row.0.name) (length rows) g at in
-    let named : NamesGroup p g row.0.name =
-    record { taken = ap (λ (o : Option ℕ). is_none o) at; at = number } in
-    let unwaited = row_tested (λ group. group.waited) (slice_get rows g) row.0 row.1 in
-    let new = ap (has_waited p) number ∙ unwaited ∙ not-true row.0.waited row.2 in
-    (row.0.name, record { named = named; new = new })
+pub name_of_group : (p : State) (g : ℕ) (rest : Bool) → AreNumbered p
+    → (not (not (has_group p.work g)) && rest) ≡ true → (name : List ℕ) × (group_of p name ≡ g)
+name_of_group p g rest numbered may =
+    name_of_row (λ row. row.name) p.work.groups g numbered.group_names
+    (ltb-true _ _ (is_first (has_group p.work g) rest may))

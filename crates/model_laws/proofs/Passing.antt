@@ -1,38 +1,15 @@
 -- What is decided passes each test, and what passes each test is decided.
-use Rattle.std.proofs.Common.{◌≡◌, ℕ, Bool, true, false, if◌then◌else◌, List, [], ◌∷◌, Some, None}
-use Rattle.std.proofs.Common.{Option, Result, Ok, Err, refl, sym, ap, ◌∙◌}
+use Rattle.std.proofs.Common.{◌≡◌, ℕ, Bool, true, false, if◌then◌else◌, Some, None}
+use Rattle.std.proofs.Common.{Result, Ok, Err, refl, sym, ap, ◌∙◌}
 use Rattle.run_model.specs.declared.refusals.Refusal.{Refusal}
 use Rattle.run_model.specs.declared.refusals.Refusal.TheVariants as refusal
 use Rattle.run_model.specs.declared.commands.Command.{Command}
 use Rattle.run_model.specs.Event.{Event}
 use Rattle.run_model.specs.State.{State}
-use Rattle.run_model.specs.Replies.{refusals, unless, and_then, is_repeated, is_full, if_room}
-use Rattle.run_model.specs.Replies.{event_of, decide}
-
--- None of the tests holds.
-abbrev pub Passes : List (Bool × Refusal) → Type 0
-Passes [] = Unit {0}
-Passes (t ∷ tests) = (t.0 ≡ false) × Passes tests
-
-one_passes : {X : Type 0} (held : Bool) (why : Refusal) (rest : Result X Refusal) (y : X)
-    → (if held then Err why else rest) ≡ Ok y → (held ≡ false) × (rest ≡ Ok y)
-one_passes true why rest y e = cc
-one_passes false why rest y e = (refl, e)
-
-pub unless_passes : {X : Type 0} (tests : List (Bool × Refusal)) (answer : Result X Refusal) (y : X)
-    → unless tests answer ≡ Ok y → Passes tests × (answer ≡ Ok y)
-unless_passes [] answer y e = (tt, e)
-unless_passes (t ∷ tests) answer y e =
-    let one = one_passes t.0 t.1 (unless tests answer) y e in
-    let rest = unless_passes tests answer y one.1 in
-    ((one.0, rest.0), rest.1)
-
-pub passes_unless : {X : Type 0} (tests : List (Bool × Refusal)) (answer : Result X Refusal)
-    → Passes tests → unless tests answer ≡ answer
-passes_unless [] answer passes = refl
-passes_unless (t ∷ tests) answer passes =
-    ap (λ (b : Bool). if b then Err t.1 else unless tests answer) passes.0
-    ∙ passes_unless tests answer passes.1
+use Rattle.run_model.specs.Allowed.{refusals, holds_none}
+use Rattle.run_model.specs.Replies.{and_then, is_repeated, is_full, if_room, event_of, decided}
+use Rattle.run_model.specs.Replies.{decide}
+use Rattle.run_model.proofs.RefusalLemmas.{unless_Ok, unless_none}
 
 pub and_then_Ok :
     {X Y : Type 0} (r : Result X Refusal) (f : X → Result Y Refusal) (y : Y)
@@ -57,60 +34,48 @@ pub fits_room : (p : State) (log : ℕ) (made : Event) → is_full p log made �
 fits_room p log made fits =
     ap (λ (b : Bool). if b then Err refusal.SessionFull else Ok (Some made)) fits
 
+-- ---- decisions
+
+-- What was asked for isn't refused, finds room, and is this event.
+pub record Leads (p : State) (log : ℕ) (asked event : Event) : Type 0 where
+  pub may : holds_none (refusals p asked) ≡ true
+  pub room : is_full p log event ≡ false
+  pub asks : asked ≡ event
+
+pub decided_leads : (p : State) (log : ℕ) (asked event : Event)
+    → decided p log asked ≡ Ok (Some event) → Leads p log asked event
+decided_leads p log asked event e =
+    let passed = unless_Ok (refusals p asked) (if_room p log asked) (Some event) e in
+    let fits = room_fits p log asked event passed.1 in
+    record {
+      may = passed.0;
+      room = sym (ap (is_full p log) fits.1) ∙ fits.0;
+      asks = fits.1;
+    }
+
+pub fits_decided : (p : State) (log : ℕ) (event : Event) → holds_none (refusals p event) ≡ true
+    → is_full p log event ≡ false → decided p log event ≡ Ok (Some event)
+fits_decided p log event may fits =
+    unless_none (refusals p event) (if_room p log event) may ∙ fits_room p log event fits
+
 -- ---- commands
 
--- The command passes, is no repeated wait, finds room, and asks for the event.
-pub record Leads (p : State) (log : ℕ) (call : Command) (event : Event) : Type 0 where
-  pub passes : Passes (refusals p call)
-  pub new : is_repeated p call ≡ false
-  pub room : is_full p log event ≡ false
-  pub asks : event_of p call ≡ event
+pub repeated_decide : (p : State) (log : ℕ) (call : Command) → is_repeated p call ≡ true
+    → decide p log call ≡ Ok None
+repeated_decide p log call repeated =
+    ap (λ (b : Bool). if b then Ok None else decided p log (event_of p call)) repeated
 
--- What is answered where no test holds.
-abbrev pub unrefused : State → ℕ → Command → Result (Option Event) Refusal
-unrefused p log call =
-    if is_repeated p call then Ok None else if_room p log (event_of p call)
+pub new_decide : (p : State) (log : ℕ) (call : Command) → is_repeated p call ≡ false
+    → decide p log call ≡ decided p log (event_of p call)
+new_decide p log call new =
+    ap (λ (b : Bool). if b then Ok None else decided p log (event_of p call)) new
 
-none_made : {event : Event}
-    → ◌≡◌ {A = Result (Option Event) Refusal} (Ok None) (Ok (Some event)) → ⊥
-none_made e = cc
-
-pub repeated_unrefused : (p : State) (log : ℕ) (call : Command) → is_repeated p call ≡ true
-    → unrefused p log call ≡ Ok None
-repeated_unrefused p log call repeated =
-    ap (λ (b : Bool). if b then Ok None else if_room p log (event_of p call)) repeated
-
-pub new_unrefused : (p : State) (log : ℕ) (call : Command) → is_repeated p call ≡ false
-    → unrefused p log call ≡ if_room p log (event_of p call)
-new_unrefused p log call new =
-    ap (λ (b : Bool). if b then Ok None else if_room p log (event_of p call)) new
-
-rest_leads : (p : State) (log : ℕ) (call : Command) (event : Event) → Passes (refusals p call)
-    → unrefused p log call ≡ Ok (Some event) → Leads p log call event
-rest_leads p log call event passes e = go (is_repeated p call) refl
+pub command_leads : (p : State) (log : ℕ) (call : Command) (event : Event)
+    → decide p log call ≡ Ok (Some event) → Leads p log (event_of p call) event
+command_leads p log call event e = go (is_repeated p call) e
   where
-    go : (repeated : Bool) → is_repeated p call ≡ repeated → Leads p log call event
-    go true new = absurd (none_made (sym (repeated_unrefused p log call new) ∙ e))
-    go false new =
-        let made = sym (new_unrefused p log call new) ∙ e in
-        let fits = room_fits p log (event_of p call) event made in
-        record {
-          passes = passes;
-          new = new;
-          room = sym (ap (is_full p log) fits.1) ∙ fits.0;
-          asks = fits.1;
-        }
-
-pub decided_leads : (p : State) (log : ℕ) (call : Command) (event : Event)
-    → decide p log call ≡ Ok (Some event) → Leads p log call event
-decided_leads p log call event e =
-    let passed = unless_passes (refusals p call) (unrefused p log call) (Some event) e in
-    rest_leads p log call event passed.0 passed.1
-
-pub leads_decided : (p : State) (log : ℕ) (call : Command) (event : Event)
-    → Leads p log call event → decide p log call ≡ Ok (Some event)
-leads_decided p log call event leads =
-    passes_unless (refusals p call) (unrefused p log call) leads.passes
-    ∙ new_unrefused p log call leads.new
-    ∙ ap (if_room p log) leads.asks
-    ∙ fits_room p log event leads.room
+    go : (repeated : Bool)
+        → (if repeated then Ok None else decided p log (event_of p call)) ≡ Ok (Some event)
+        → Leads p log (event_of p call) event
+    go true e = cc
+    go false e = decided_leads p log (event_of p call) event e

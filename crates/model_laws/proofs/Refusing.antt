@@ -18,9 +18,8 @@ use Rattle.run_model.specs.Replies.{answer_of, state_after, is_task_done}
 use Rattle.run_model.specs.Session.{Session, made, event_of_step, with_event, session_after}
 use Rattle.run_model.specs.Session.{replied, reply_of_step}
 use Rattle.model_laws.proofs.Places.{row_there}
-use Rattle.model_laws.proofs.Passing.{and_then_Ok}
 use Rattle.model_laws.proofs.Searching.{first_is_least, ready_within}
-use Rattle.model_laws.proofs.StartingReplies.{ok_or_Ok}
+use Rattle.model_laws.proofs.StartingReplies.{start_first}
 
 -- A decision whose answer can't be refused any more is refused itself.
 refused_decision : {X : Type 0} (r : Result (Option Event) Refusal)
@@ -54,11 +53,10 @@ start_answered : (p : State) (log : ℕ) (o : Option Event) → decide_start p l
     → (x : Started)
     × (ok_or (option_and_then (started_of p) (first_ready p.work)) refusal.NothingReady ≡ Ok x)
 start_answered p log o e =
-    let found = and_then_Ok (ok_or (first_ready p.work) refusal.NothingReady) _ o e in
-    let first = ok_or_Ok (first_ready p.work) refusal.NothingReady found.0 found.1 in
-    let least = first_is_least p.work found.0 first in
+    let found = start_first p log o e in
+    let least = first_is_least p.work found.0 found.1 in
     let task = row_there p.work.tasks found.0 (ready_within p.work found.0 least.ready) in
-    row_started p found.0 task.0 first task.1
+    row_started p found.0 task.0 found.1 task.1
 
 -- A refused step makes no event.
 refused_none : (s : Session) (x : Step) (why : Refusal)

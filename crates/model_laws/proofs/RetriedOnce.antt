@@ -1,23 +1,24 @@
 -- A task that was retried is not retried again.
-use Rattle.std.proofs.Common.{◌≡◌, ◌&&◌, ℕ, Bool, true, false, not, List, [], ◌∷◌, ◌++◌, length}
+use Rattle.std.proofs.Common.{◌≡◌, ℕ, true, false, List, [], ◌∷◌, ◌++◌, length}
 use Rattle.std.proofs.Common.{Option}
 use Rattle.std.proofs.Common.{Some, None, slice_get, refl, ap, subst, ◌∙◌}
 use Rattle.std.specs.Option.{option_map, option_map_or}
-use Rattle.std.proofs.lemmas.Bool.{both_ways}
+use Rattle.std.proofs.lemmas.Bool.{both_ways, false_from_ne_true, not-false}
 use Rattle.std.proofs.lemmas.Option.{same_Some, slice_get_within, slice_get-map, cond_some}
 use Rattle.std.proofs.lemmas.Option.{option_and_then_some}
 use Rattle.run_model.specs.declared.tasks.Stage.{Stage}
 use Rattle.run_model.specs.declared.tasks.Stage.TheVariants as stage
 use Rattle.run_model.specs.declared.tasks.Task.{Task}
-use Rattle.run_model.specs.Allowed.{allowed, after, run, has_task_room, is_open}
+use Rattle.run_model.specs.Allowed.{allowed, after, refusals, run}
 use Rattle.run_model.specs.Event.{Event}
 use Rattle.run_model.specs.Event as event
 use Rattle.run_model.specs.Rows.{at_row}
 use Rattle.run_model.specs.Rules.{HasTask}
 use Rattle.run_model.specs.State.{State, WorkState}
 use Rattle.run_model.specs.Step.{step}
-use Rattle.run_model.specs.Tasks.{is_interrupted, is_interrupted_task, is_retried}
-use Rattle.run_model.specs.WorkChanges.{with_stage, retried_row, stage_of, group_of_task}
+use Rattle.run_model.specs.Tasks.{is_interrupted, is_retried}
+use Rattle.run_model.specs.WorkChanges.{with_stage, retried_row, stage_of}
+use Rattle.run_model.proofs.RefusalLemmas.{each_fails}
 use Rattle.run_model.proofs.RowLemmas.{slice_get-push_left, slice_get-push_last}
 use Rattle.model_laws.specs.Restarts.{task_restarted}
 use Rattle.model_laws.specs.Retries.{IsTriedAnew, KeepsLink}
@@ -25,7 +26,7 @@ use Rattle.model_laws.proofs.Interrupts.{restarted}
 use Rattle.model_laws.proofs.Links.{retried_by}
 use Rattle.model_laws.proofs.Shapes.{alike_at}
 use Rattle.model_laws.proofs.TaskEvents.{retry_found}
-use Rattle.model_laws.proofs.Tests.{passing, all_four}
+use Rattle.model_laws.proofs.Tests.{passing}
 
 pub tried_anew : (p : State) (n : ℕ) (row : Task) → HasTask p.work n row
     → IsTriedAnew p n row (step p (event.Retry n))
@@ -102,18 +103,12 @@ still (event ∷ events) p q n has led =
     let new = link_after p next event has.0 has.1 first has.2 in
     still events next q n (has.0, new.0, new.1, new.2 ∙ has.3) rest)
 
-refused : (a b c d : Bool) → b ≡ true → (a && not b && c && d) ≡ false
-refused false b c d is = refl
-refused true true c d is = refl
-refused true false c d is = absurd (both_ways false refl is)
-
 pub retried_once : (p q : State) (n : ℕ) (events : List Event) → allowed p (event.Retry n) ≡ true
     → run (step p (event.Retry n)) events ≡ Some q → allowed q (event.Retry n) ≡ false
 retried_once p q n events may led =
-    let parts =
-    all_four (is_interrupted_task p.work n) (not (is_retried p.work n))
-    (is_open p.work (group_of_task p.work n)) (has_task_room p.work) may in
-    let row = passing (λ task. is_interrupted task.stage) (slice_get p.work.tasks n) parts.0 in
+    let parts = each_fails (refusals p (event.Retry n)) may in
+    let row = passing (λ task. is_interrupted task.stage) (slice_get p.work.tasks n)
+    (not-false _ parts.1.0) in
     let now : Retried (step p (event.Retry n)) n = (
       length p.work.tasks,
       retried_row n row.0,
@@ -122,6 +117,7 @@ retried_once p q n events may led =
       refl,
     ) in
     let then = still events (step p (event.Retry n)) q n now led in
-    refused (is_interrupted_task q.work n) (is_retried q.work n)
-    (is_open q.work (group_of_task q.work n)) (has_task_room q.work)
-    (retried_by q.work then.0 n then.1 then.2 then.3)
+    false_from_ne_true (allowed q (event.Retry n))
+    (λ again.
+    both_ways (is_retried q.work n) (each_fails (refusals q (event.Retry n)) again).1.1.0
+    (retried_by q.work then.0 n then.1 then.2 then.3))

@@ -1,11 +1,10 @@
 -- What each event leaves of the tree follows from what was there.
-use Rattle.std.proofs.Common.{◌≡◌, ◌<◌, ℕ, Bool, true, false, ◌&&◌, List, [], ◌∷◌, length, Option}
-use Rattle.std.proofs.Common.{Some, None, refl, arith}
+use Rattle.std.proofs.Common.{◌≡◌, ◌<◌, ℕ, Bool, true, ◌&&◌, List, [], ◌∷◌, length, Option}
+use Rattle.std.proofs.Common.{Some, None, not, arith}
 use Rattle.std.specs.List.{fold}
 use Rattle.std.specs.Option.{option_map_or}
-use Rattle.std.proofs.lemmas.Bool.{ltb-true}
+use Rattle.std.proofs.lemmas.Bool.{and_parts, leb-false, ltb-true}
 use Rattle.run_model.specs.declared.scopes.Kind.TheVariants as kind
-use Rattle.run_model.specs.declared.scopes.Kind.{Kind}
 use Rattle.run_model.specs.Event.{Event}
 use Rattle.run_model.specs.Event as event
 use Rattle.run_model.specs.State.{State, TreeState, WorkState}
@@ -13,8 +12,8 @@ use Rattle.run_model.specs.Tasks.{running_tasks}
 use Rattle.run_model.specs.TreeChanges.{after_cancel}
 use Rattle.run_model.specs.WorkChanges.{group_of_task, error_of, interruption}
 use Rattle.run_model.specs.Step.{own_scope, after_group_cancel, after_task_end, tree_after}
-use Rattle.run_model.specs.Allowed.{allowed, is_derivable, has_scope, is_scope_name_free}
-use Rattle.run_model.specs.Allowed.{is_group_name_free, has_scope_room, has_group_room}
+use Rattle.run_model.specs.Allowed.{allowed, has_scope, refusals}
+use Rattle.run_model.proofs.RefusalLemmas.{each_fails, is_first}
 use Rattle.model_laws.proofs.Follows.{TreeFollows, tree_same, tree_joins, derive_follows}
 use Rattle.model_laws.proofs.Follows.{cancel_follows, advance_follows}
 
@@ -40,40 +39,23 @@ task_ends_follow e w error (n ∷ tasks) t =
     tree_joins e t (after_task_end e w n error t) _ (task_end_follows e w n error t)
     (task_ends_follow e w error tasks (after_task_end e w n error t))
 
-first_of_five : (a b c d e : Bool) → (a && b && c && d && e) ≡ true → a ≡ true
-first_of_five true b c d e all = refl
-first_of_five false b c d e all = all
-
-second_of_four : (a b c d : Bool) → (a && b && c && d) ≡ true → b ≡ true
-second_of_four a true c d all = refl
-second_of_four true false c d all = all
-second_of_four false false c d all = all
-
 -- The parent that a derive or a group names is there.
-derive_known : (p : State) (name : List ℕ) (parent : ℕ) (kind : Kind)
-    → allowed p (event.Derive name parent kind) ≡ true → parent < length p.tree.scopes
-derive_known p name parent kind may =
-    ltb-true parent (length p.tree.scopes)
-    (second_of_four (is_derivable kind) (has_scope p.tree parent) (is_scope_name_free p.tree name)
-    (has_scope_room p.tree) may)
-
-group_known : (p : State) (name : List ℕ) (parent : ℕ) → allowed p (event.Group name parent) ≡ true
-    → parent < length p.tree.scopes
-group_known p name parent may =
-    ltb-true parent (length p.tree.scopes)
-    (first_of_five (has_scope p.tree parent) (is_scope_name_free p.tree name)
-    (is_group_name_free p.work name) (has_scope_room p.tree) (has_group_room p.work) may)
+known : (p : State) (parent : ℕ) (rest : Bool)
+    → (not (not (has_scope p.tree parent)) && rest) ≡ true → parent < length p.tree.scopes
+known p parent rest may = ltb-true parent _ (is_first (has_scope p.tree parent) rest may)
 
 pub event_follows : (e : ℕ) (p : State) (event : Event) → allowed p event ≡ true
     → TreeFollows e p.tree (tree_after e p event)
 event_follows e p (event.Derive name parent kind) may =
-    derive_follows e name parent kind p.tree (derive_known p name parent kind may)
+    let parts = and_parts _ _ may in
+    derive_follows e name parent kind p.tree (known p parent _ parts.1)
 event_follows e p (event.Cancel s cause) may = cancel_follows e s cause p.tree
 event_follows e p (event.Advance moment) may =
-    let less = ltb-true p.tree.clock moment may in
+    let parts = each_fails (refusals p (event.Advance moment)) may in
+    let less = leb-false moment p.tree.clock parts.0 in
     advance_follows e moment p.tree (omega arith)
 event_follows e p (event.Group name parent) may =
-    derive_follows e name parent kind.Group p.tree (group_known p name parent may)
+    derive_follows e name parent kind.Group p.tree (known p parent _ may)
 event_follows e p (event.Bare name s) may = tree_same e p.tree
 event_follows e p (event.SetLimit g limit) may = tree_same e p.tree
 event_follows e p (event.Go g job argument) may = tree_same e p.tree

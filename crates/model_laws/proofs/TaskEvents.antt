@@ -9,7 +9,6 @@ use Rattle.run_model.specs.declared.tasks.Outcome.TheVariants as outcome
 use Rattle.run_model.specs.declared.tasks.Stage.TheVariants as stage
 use Rattle.run_model.specs.declared.tasks.Task.{Task}
 use Rattle.run_model.specs.Allowed.{has_task_room, is_open, is_first_ready}
-use Rattle.run_model.specs.Event.{Event}
 use Rattle.run_model.specs.Event as event
 use Rattle.run_model.specs.Rows.{new_task}
 use Rattle.run_model.specs.Rules.{IsConsistent, HasTask, AreLinked, IsRetry}

@@ -12,7 +12,6 @@ use Rattle.run_model.specs.declared.scopes.Kind.{Kind}
 use Rattle.run_model.specs.declared.scopes.Scope.{Scope}
 use Rattle.run_model.specs.Allowed.{has_kind, is_derivable, is_cancellable, has_scope}
 use Rattle.run_model.specs.Allowed.{is_scope_name_free, has_scope_room}
-use Rattle.run_model.specs.Event.{Event}
 use Rattle.run_model.specs.Event as event
 use Rattle.run_model.specs.Rows.{new_scope}
 use Rattle.run_model.specs.Rules.{IsConsistent, can_be_hit}

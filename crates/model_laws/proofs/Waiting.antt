@@ -21,13 +21,14 @@ use Rattle.run_model.specs.Tasks.{first_ready}
 use Rattle.run_model.specs.Replies.{state_after, is_task_done, started_of, reply_start}
 use Rattle.run_model.specs.Replies.{decide_start, has_waited, group_of}
 use Rattle.run_model.specs.Session.{Session, replied}
+use Rattle.run_model.proofs.RefusalLemmas.{is_first}
 use Rattle.model_laws.specs.Answers.{Replied, Answered, SeesStart, SeesWait}
 use Rattle.model_laws.proofs.Answering.{carried_out, repeated_out, room_made, decided_state}
 use Rattle.model_laws.proofs.Names.{named_group}
 use Rattle.model_laws.proofs.Passing.{and_then_Ok}
 use Rattle.model_laws.proofs.Places.{changed_row, passing_row}
 use Rattle.model_laws.proofs.Seeing.{group_waited, group_told, task_found}
-use Rattle.model_laws.proofs.StartingReplies.{ok_or_Ok}
+use Rattle.model_laws.proofs.StartingReplies.{ok_or_Ok, start_first}
 
 -- ---- waits
 
@@ -51,7 +52,7 @@ waited_seen_row q g row error found waited e =
     }
 
 again_seen : (s : Session) (group : List ℕ) (error : Option (List ℕ)) (q : State)
-    → has_waited s.state (group_of s.state group) ≡ true
+    → has_waited s.state.work (group_of s.state group) ≡ true
     → Answered s (command.Wait group) (answer.Waited error) q
     → SeesWait q (group_of s.state group) error
 again_seen s group error q waited answered =
@@ -62,14 +63,14 @@ again_seen s group error q waited answered =
     waited_seen_row q g row.0 error found row.2 same.1
 
 first_seen : (s : Session) (group : List ℕ) (error : Option (List ℕ)) (q : State)
-    → has_waited s.state (group_of s.state group) ≡ false
+    → has_waited s.state.work (group_of s.state group) ≡ false
     → Answered s (command.Wait group) (answer.Waited error) q
     → SeesWait q (group_of s.state group) error
 first_seen s group error q new answered =
     let g : ℕ = group_of s.state group in
     let rows : List Group = s.state.work.groups in
     let done = carried_out s (command.Wait group) (answer.Waited error) q new answered in
-    let row = named_group s.state group done.passes.0 in
+    let row = named_group s.state group (is_first _ _ done.may) in
     let changed = ap (λ (t : State). t.work.groups) done.leaves in
     let found = changed_row with_wait g rows q.work.groups row.0 changed row.1 in
     waited_seen_row q g (with_wait row.0) error found refl done.answer
@@ -77,9 +78,9 @@ first_seen s group error q new answered =
 pub waited_seen : (s : Session) (group : List ℕ) (error : Option (List ℕ)) (q : State)
     → Answered s (command.Wait group) (answer.Waited error) q
     → SeesWait q (group_of s.state group) error
-waited_seen s group error q answered = go (has_waited s.state (group_of s.state group)) refl
+waited_seen s group error q answered = go (has_waited s.state.work (group_of s.state group)) refl
   where
-    go : (repeated : Bool) → has_waited s.state (group_of s.state group) ≡ repeated
+    go : (repeated : Bool) → has_waited s.state.work (group_of s.state group) ≡ repeated
         → SeesWait q (group_of s.state group) error
     go true waited = again_seen s group error q waited answered
     go false new = first_seen s group error q new answered
@@ -133,13 +134,12 @@ starts s started q answered =
     let p : State = s.state in
     let accepted = accepted_start (reply_start p s.log) started answered.replied in
     let outer = and_then_Ok (decide_start p s.log) _ started accepted in
-    let inner = and_then_Ok (ok_or (first_ready p.work) refusal.NothingReady) _ outer.0 outer.1 in
-    let first = ok_or_Ok (first_ready p.work) refusal.NothingReady inner.0 inner.1 in
+    let inner = start_first p s.log outer.0 outer.1 in
     let made = room_made p s.log (event.Start inner.0) outer.0 inner.2 in
     let left = decided_state s (decide_start p s.log) outer.0 outer.1 in
     record {
       task = inner.0;
-      begun = begins p started inner.0 first outer.2;
+      begun = begins p started inner.0 inner.1 outer.2;
       leaves = sym answered.leaves ∙ left ∙ ap (state_after p) made;
     }
 

@@ -39,7 +39,7 @@ pub fn what_is_refused_changes_nothing()
     ensures refused { (s : Session) (x : Step) (why : Refusal)
         → reply_of_step s x ≡ reply.Refused why → session_after s (x ∷ []) ≡ s }
     ensures repeated_wait { (s : Session) (group : List ℕ)
-        → has_waited s.state (group_of s.state group) ≡ true
+        → has_waited s.state.work (group_of s.state group) ≡ true
         → session_after s (step.Command (command.Wait group) ∷ []) ≡ s }
     ensures flush { (s : Session) → session_after s (step.Flush ∷ []) ≡ s }
     ensures checkpoint { (s : Session) → session_after s (step.Checkpoint ∷ []) ≡ s }
