@@ -4,7 +4,6 @@ use Rattle.std.proofs.Common.{Option, Some, None, Result, Ok, Err, refl}
 use Rattle.std.specs.List.{list_any}
 use Rattle.std.specs.Option.{ok_or, option_and_then}
 use Rattle.run_model.specs.declared.commands.Command.{Command}
-use Rattle.run_model.specs.declared.commands.Command.TheVariants as command
 use Rattle.run_model.specs.declared.commands.Step.{Step}
 use Rattle.run_model.specs.declared.commands.Step.TheVariants as step
 use Rattle.run_model.specs.declared.answers.Reply.{Reply}
@@ -15,10 +14,11 @@ use Rattle.run_model.specs.Event.{Event}
 use Rattle.run_model.specs.Event as event
 use Rattle.run_model.specs.State.{State}
 use Rattle.run_model.specs.Tasks.{first_ready}
-use Rattle.run_model.specs.Replies.{refusals, unless, if_room, is_full, is_repeated, and_then}
-use Rattle.run_model.specs.Replies.{decide, decide_start, decide_finish, finish_refusals, event_of}
-use Rattle.run_model.specs.Replies.{started_of}
+use Rattle.run_model.specs.Allowed.{refusals, unless}
+use Rattle.run_model.specs.Replies.{if_room, is_full, is_repeated, and_then, decided, decide}
+use Rattle.run_model.specs.Replies.{decide_start, decide_finish, event_of, started_of}
 use Rattle.run_model.specs.Session.{Session, replied, reply_of_step}
+use Rattle.model_laws.proofs.StartingReplies.{start_of}
 use Rattle.book_model.specs.Plays.{is_broken, is_broken_reply}
 
 -- A result is a refusal as Broken.
@@ -59,39 +59,38 @@ if_room_sound p log made = go (is_full p log made)
     go true = refl
     go false = refl
 
-refusals_sound : (p : State) (call : Command)
-    → list_any (λ t. is_broken t.1) (refusals p call) ≡ false
-refusals_sound p (command.Derive name parent wish) = refl
-refusals_sound p (command.Cancel scope cause) = refl
-refusals_sound p (command.Advance moment) = refl
-refusals_sound p (command.Group name parent) = refl
-refusals_sound p (command.Bare name scope) = refl
-refusals_sound p (command.SetLimit group limit) = refl
-refusals_sound p (command.Go group job argument) = refl
-refusals_sound p (command.TryGo group job argument) = refl
-refusals_sound p (command.Retry n) = refl
-refusals_sound p (command.Wait group) = refl
+refusals_sound : (p : State) (made : Event)
+    → list_any (λ t. is_broken t.1) (refusals p made) ≡ false
+refusals_sound p (event.Derive name parent kind) = refl
+refusals_sound p (event.Cancel s cause) = refl
+refusals_sound p (event.Advance moment) = refl
+refusals_sound p (event.Group name parent) = refl
+refusals_sound p (event.Bare name s) = refl
+refusals_sound p (event.SetLimit g limit) = refl
+refusals_sound p (event.Go g job argument) = refl
+refusals_sound p (event.TryGo g job argument) = refl
+refusals_sound p (event.Retry n) = refl
+refusals_sound p (event.Start n) = refl
+refusals_sound p (event.Finish n outcome) = refl
+refusals_sound p (event.Wait g) = refl
+refusals_sound p event.Restart = refl
+
+decided_sound : (p : State) (log : ℕ) (made : Event) → broken_result (decided p log made) ≡ false
+decided_sound p log made =
+    unless_sound (refusals p made) (if_room p log made) (refusals_sound p made)
+    (if_room_sound p log made)
 
 decide_sound : (p : State) (log : ℕ) (call : Command) → broken_result (decide p log call) ≡ false
-decide_sound p log call =
-    unless_sound (refusals p call)
-    (if is_repeated p call then Ok None else if_room p log (event_of p call))
-    (refusals_sound p call) (go (is_repeated p call))
+decide_sound p log call = go (is_repeated p call)
   where
     go : (b : Bool)
-        → broken_result (if b then Ok None else if_room p log (event_of p call)) ≡ false
+        → broken_result (if b then Ok None else decided p log (event_of p call)) ≡ false
     go true = refl
-    go false = if_room_sound p log (event_of p call)
+    go false = decided_sound p log (event_of p call)
 
 ok_or_sound : {X : Type 0} (o : Option X) → broken_result (ok_or o refusal.NothingReady) ≡ false
 ok_or_sound None = refl
 ok_or_sound (Some x) = refl
-
-start_sound : (p : State) (log : ℕ) → broken_result (decide_start p log) ≡ false
-start_sound p log =
-    and_then_sound (ok_or (first_ready p.work) refusal.NothingReady)
-    (λ n. if_room p log (event.Start n)) (ok_or_sound (first_ready p.work))
-    (λ n. if_room_sound p log (event.Start n))
 
 replied_sound : {X : Type 0} (f : X → Reply) (r : Result X Refusal)
     → ((x : X) → is_broken_reply (f x) ≡ false) → broken_result r ≡ false
@@ -105,13 +104,13 @@ never_broken s (step.Command call) =
     (and_then_sound (decide s.state s.log call) _ (decide_sound s.state s.log call) (λ made. refl))
 never_broken s step.Start =
     replied_sound reply.Started _ (λ x. refl)
-    (and_then_sound (decide_start s.state s.log) _ (start_sound s.state s.log)
+    (and_then_sound (decide_start s.state s.log) _ (decided_sound s.state s.log (start_of s.state))
     (λ made.
     ok_or_sound (option_and_then (started_of s.state) (first_ready s.state.work))))
 never_broken s (step.Finish n outcome) =
     replied_sound reply.Finished _ (λ x. refl)
     (and_then_sound (decide_finish s.state n outcome) _
-    (unless_sound (finish_refusals s.state n) (Ok (Some (event.Finish n outcome))) refl refl)
+    (unless_sound (refusals s.state (event.Finish n outcome)) _ refl refl)
     (λ made. refl))
 never_broken s step.Flush = refl
 never_broken s step.Checkpoint = refl

@@ -94,9 +94,6 @@ comes_not_before a b so =
     at_least a.1.event a.1.moment a.0 b.1.event b.1.moment b.0 _ _ _ (ranks a.1.event b.1.event)
     (ranks a.1.moment b.1.moment) (ranks a.0 b.0) so.by
 
-not_before_itself : (a : ℕ × Hit) → IsNotBefore a a
-not_before_itself a = record { by = omega arith }
-
 not_before_joins : (a b c : ℕ × Hit) → IsNotBefore a b → IsNotBefore b c → IsNotBefore a c
 not_before_joins a b c first second =
     record {

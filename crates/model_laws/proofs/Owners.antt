@@ -1,6 +1,6 @@
 -- Each group scope stays that of exactly one group, and each group but a bare one keeps its scope.
-use Rattle.std.proofs.Common.{◌≡◌, ◌⊎◌, ◌<◌, ℕ, Bool, true, false, [], ◌∷◌, ◌++◌, length, Option}
-use Rattle.std.proofs.Common.{Some, None, slice_get, inl, inr, refl, sym, ap, ◌∙◌, arith}
+use Rattle.std.proofs.Common.{◌≡◌, ◌⊎◌, ◌<◌, ℕ, Bool, true, false, [], ◌∷◌, ◌++◌, length}
+use Rattle.std.proofs.Common.{slice_get, inl, inr, sym, ap, ◌∙◌, arith}
 use Rattle.std.specs.Option.{option_map_or}
 use Rattle.std.proofs.lemmas.Bool.{both_ways}
 use Rattle.std.proofs.lemmas.Option.{slice_get_within}
@@ -11,19 +11,14 @@ use Rattle.run_model.specs.Allowed.{has_kind}
 use Rattle.run_model.specs.Rules.{AreGroupScopes, HasScope, HasGroup, Owns, is_group_kind}
 use Rattle.run_model.specs.State.{State, TreeState, WorkState}
 use Rattle.run_model.proofs.RowLemmas.{push_cases, slice_get-push_left, slice_get-push_last}
+use Rattle.model_laws.proofs.Tests.{passing}
 use Rattle.model_laws.proofs.Shapes.{AreAlike, IsSameScope, IsSameGroup}
 
 -- ---- a scope of a kind
 
-kind_found : (test : Kind → Bool) (o : Option Scope)
-    → option_map_or (λ row. test row.kind) o false ≡ true
-    → (row : Scope) × (o ≡ Some row) × (test row.kind ≡ true)
-kind_found test None is = absurd (both_ways false refl is)
-kind_found test (Some row) is = (row, refl, is)
-
 pub kind_row : (test : Kind → Bool) (t : TreeState) (s : ℕ) → has_kind test t s ≡ true
     → (row : Scope) × HasScope t s row × (test row.kind ≡ true)
-kind_row test t s is = kind_found test (slice_get t.scopes s) is
+kind_row test t s is = passing (λ row. test row.kind) (slice_get t.scopes s) is
 
 pub row_kind : (test : Kind → Bool) (t : TreeState) (s : ℕ) (row : Scope) → HasScope t s row
     → test row.kind ≡ true → has_kind test t s ≡ true

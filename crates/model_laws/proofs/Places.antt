@@ -1,6 +1,6 @@
 -- The first row that passes a test: where it is, and what it is.
 use Rattle.std.proofs.Common.{◌++◌, ◌≡◌, ◌<◌, ℕ, zero, suc, Bool, true, false, List, [], ◌∷◌}
-use Rattle.std.proofs.Common.{length, get_or, Option, Some, None, slice_get, position, cond, refl}
+use Rattle.std.proofs.Common.{length, get_or, Some, None, slice_get, position, cond, refl}
 use Rattle.std.proofs.Common.{ap, ◌∙◌, arith, lt-ltb, ltb}
 use Rattle.std.proofs.lemmas.Option.{none-some, slice_get_within, slice_get-get_or}
 use Rattle.std.proofs.lemmas.Option.{get_or_from_slice_get}
@@ -10,26 +10,16 @@ use Rattle.std.proofs.lemmas.List.Sums.{position_or_len_is}
 use Rattle.std.specs.List.{position_or_len}
 use Rattle.std.specs.Option.{option_map, option_map_or}
 use Rattle.run_model.specs.Rows.{at_row}
+use Rattle.model_laws.proofs.Tests.{passing}
 use Rattle.run_model.proofs.RowLemmas.{slice_get-push_last, slice_get-at_row_same}
 
 -- ---- a row that passes a test
-
--- Where a test of a row holds, there is a row, and it passes.
-pub passing_row : {X : Type 0} (test : X → Bool) (o : Option X) → option_map_or test o false ≡ true
-    → (row : X) × (o ≡ Some row) × (test row ≡ true)
-passing_row test None e = cc
-passing_row test (Some row) e = (row, refl, e)
-
--- What a test says of a row that is there.
-pub row_tested : {X : Type 0} (test : X → Bool) (o : Option X) (row : X) → o ≡ Some row
-    → option_map_or test o false ≡ test row
-row_tested test o row found = ap (λ x. option_map_or test x false) found
 
 -- Where a test of the row of a number holds, there are more rows than that.
 pub passing_within : {X : Type 0} (test : X → Bool) (rows : List X) (n : ℕ)
     → option_map_or test (slice_get rows n) false ≡ true → n < length rows
 passing_within test rows n e =
-    let row = passing_row test (slice_get rows n) e in
+    let row = passing test (slice_get rows n) e in
     slice_get_within rows n row.0 row.1
 
 -- ---- places

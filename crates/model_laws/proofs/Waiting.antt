@@ -26,9 +26,10 @@ use Rattle.model_laws.specs.Answers.{Replied, Answered, SeesStart, SeesWait}
 use Rattle.model_laws.proofs.Answering.{carried_out, repeated_out, room_made, decided_state}
 use Rattle.model_laws.proofs.Names.{named_group}
 use Rattle.model_laws.proofs.Passing.{and_then_Ok}
-use Rattle.model_laws.proofs.Places.{changed_row, passing_row}
+use Rattle.model_laws.proofs.Places.{changed_row}
 use Rattle.model_laws.proofs.Seeing.{group_waited, group_told, task_found}
 use Rattle.model_laws.proofs.StartingReplies.{ok_or_Ok, start_first}
+use Rattle.model_laws.proofs.Tests.{passing}
 
 -- ---- waits
 
@@ -58,7 +59,7 @@ again_seen : (s : Session) (group : List ℕ) (error : Option (List ℕ)) (q : S
 again_seen s group error q waited answered =
     let g : ℕ = group_of s.state group in
     let same = repeated_out s (command.Wait group) (answer.Waited error) q waited answered in
-    let row = passing_row (λ group. group.waited) (slice_get s.state.work.groups g) waited in
+    let row = passing (λ group. group.waited) (slice_get s.state.work.groups g) waited in
     let found = ap (λ (t : State). slice_get t.work.groups g) same.0 ∙ row.1 in
     waited_seen_row q g row.0 error found row.2 same.1
 

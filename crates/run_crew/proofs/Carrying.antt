@@ -3,23 +3,22 @@ use Rattle.std.proofs.Common.{◌≡◌, ◌≤◌, ◌-◌, ◌++◌, ◌∷◌
 use Rattle.std.proofs.Common.{Option, None}
 use Rattle.std.proofs.Common.{Some, refl, sym, subst, ap, ◌∙◌, arith, append_assoc, append-nil}
 use Rattle.std.specs.Prelude.{Result, Ok, Err, if◌then◌else◌, ◌&&◌, option_to_list}
-use Rattle.std.specs.Option.{ok_or}
 use Rattle.std.specs.List.{list_all}
 use Rattle.std.proofs.lemmas.List.Folds.{list_all-append}
 use Rattle.run_model.specs.declared.commands.Step.{Step}
 use Rattle.run_model.specs.declared.commands.Step.TheVariants as step
 use Rattle.run_model.specs.declared.refusals.Refusal.{Refusal}
-use Rattle.run_model.specs.declared.refusals.Refusal.TheVariants.{SessionFull, NothingReady}
+use Rattle.run_model.specs.declared.refusals.Refusal.TheVariants.{SessionFull}
 use Rattle.run_model.specs.declared.tasks.Outcome.{Outcome}
 use Rattle.run_model.specs.Event.{Event}
 use Rattle.run_model.specs.Event as event
-use Rattle.run_model.specs.Replies.{and_then, decide_start, finish_refusals, if_room, is_full}
-use Rattle.run_model.specs.Replies.{unless}
+use Rattle.run_model.specs.Allowed.{refusals, unless}
+use Rattle.run_model.specs.Replies.{decide_start, if_room, is_full}
 use Rattle.run_model.specs.Session.{after_step, event_of_step, made, with_event}
 use Rattle.run_model.specs.State.{State}
-use Rattle.run_model.specs.Tasks.{first_ready}
 use Rattle.run_disk.specs.Disk.{DiskState, IsAtRest}
 use Rattle.run_disk.proofs.RunLemmas.{leaves_only_more}
+use Rattle.model_laws.proofs.StartingReplies.{start_of}
 use Rattle.book_model.specs.Books.{CarriesOn, BookView, acked}
 use Rattle.book_model.specs.Stores.{StoresFront}
 use Rattle.book_model.proofs.BookLemmas.{passed_more, stores_fewer, stores_more}
@@ -38,18 +37,17 @@ room_works p log e is =
     elim (is_full p log e) as (λ b. works (if b then Err SessionFull else Ok (Some e)) ≡ true)
     [ true ↦ refl | false ↦ ap (λ b. b && true) is ]
 
-decide_start_works : (p : State) (log : ℕ) → works (decide_start p log) ≡ true
-decide_start_works p log =
-    elim (first_ready p.work) as (λ o.
-    works (and_then (ok_or o NothingReady) (λ n. if_room p log (event.Start n))) ≡ true)
-    [ None ↦ refl | Some n ↦ room_works p log (event.Start n) refl ]
-
 unless_works : (tests : List (Bool × Refusal)) (answer : Result (Option Event) Refusal)
     → works answer ≡ true → works (unless tests answer) ≡ true
 unless_works [] answer is = is
 unless_works (t ∷ tests) answer is =
     elim t.0 as (λ b. works (if b then Err t.1 else unless tests answer) ≡ true)
     [ true ↦ refl | false ↦ unless_works tests answer is ]
+
+decide_start_works : (p : State) (log : ℕ) → works (decide_start p log) ≡ true
+decide_start_works p log =
+    unless_works (refusals p (start_of p)) (if_room p log (start_of p))
+    (room_works p log (start_of p) refl)
 
 -- The events that a step adds: none where the book is broken.
 abbrev pub added_by : {D : Type 0} → BookView D → Step → List Event
@@ -86,7 +84,7 @@ pub finish_works : {D : Type 0} (b : BookView D) (n : ℕ) (outcome : Outcome)
     → list_all is_work (added_by b (step.Finish n outcome)) ≡ true
 finish_works b n outcome =
     added_works b (step.Finish n outcome)
-    (unless_works (finish_refusals b.session.state n) (Ok (Some (event.Finish n outcome))) refl)
+    (unless_works (refusals b.session.state (event.Finish n outcome)) _ refl)
 
 -- ---- going on
 

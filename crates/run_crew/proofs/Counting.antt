@@ -8,8 +8,8 @@ use Rattle.run_model.specs.declared.refusals.Refusal.{Refusal}
 use Rattle.run_model.specs.declared.commands.Step.TheVariants as step
 use Rattle.run_model.specs.declared.refusals.Refusal.TheVariants.{SessionFull}
 use Rattle.run_model.specs.Event.{Event}
-use Rattle.run_model.specs.Replies.{decide, event_of, if_room, is_full, is_repeated}
-use Rattle.run_model.specs.Replies.{refusals, unless}
+use Rattle.run_model.specs.Allowed.{refusals, unless}
+use Rattle.run_model.specs.Replies.{decide, decided, event_of, if_room, is_full, is_repeated}
 use Rattle.run_model.specs.Session.{event_of_step, made}
 use Rattle.run_model.specs.State.{State}
 use Rattle.book_model.specs.Books.{BookView}
@@ -35,17 +35,14 @@ decide_none :
     (test : Event → Bool) (p : State) (log : ℕ) (call : Command)
     → count_by test (event_of p call ∷ []) ≡ 0 → count_made test (decide p log call) ≡ 0
 decide_none test p log call none =
-    let room : count_made test (if_room p log (event_of p call)) ≡ 0 =
-    elim (is_full p log (event_of p call)) as (λ b.
-    count_made test (if b then Err SessionFull else Ok (Some (event_of p call))) ≡ 0)
+    let asked = event_of p call in
+    let room : count_made test (if_room p log asked) ≡ 0 =
+    elim (is_full p log asked) as (λ b.
+    count_made test (if b then Err SessionFull else Ok (Some asked)) ≡ 0)
     [ true ↦ refl | false ↦ none ] in
-    let answer : count_made test
-    (if is_repeated p call then Ok None else if_room p log (event_of p call)) ≡ 0 =
     elim (is_repeated p call) as (λ b.
-    count_made test (if b then Ok None else if_room p log (event_of p call)) ≡ 0)
-    [ true ↦ refl | false ↦ room ] in
-    unless_none test (refusals p call)
-    (if is_repeated p call then Ok None else if_room p log (event_of p call)) answer
+    count_made test (if b then Ok None else decided p log asked) ≡ 0)
+    [ true ↦ refl | false ↦ unless_none test (refusals p asked) (if_room p log asked) room ]
 
 none_of : (test : Event → Bool) (e : Event) → test e ≡ false → count_by test (e ∷ []) ≡ 0
 none_of test e not =
