@@ -1,23 +1,56 @@
-use Rattle.std.proofs.Common.{true, false, sym, ◌∙◌}
-use Rattle.task_group.proofs.Deciding.{try_asked, try_decided}
+use Rattle.std.proofs.Common.{◌≡◌, ℕ, not, List, [], ◌∷◌, length, Result, Ok, Err, ap, sym}
+use Rattle.std.proofs.Common.{◌∙◌, rules}
+use Rattle.std.proofs.lemmas.Bool.{ltb-true, not-false}
+use Rattle.run_model.specs.declared.refusals.Refusal.{Refusal}
+use Rattle.run_model.specs.declared.refusals.Refusal.TheVariants as refusal
+use Rattle.run_model.specs.Allowed.{admits_one_more, refusals, tested}
+use Rattle.run_model.specs.Event as event
+use Rattle.run_model.specs.Replies.{and_then}
+use Rattle.run_model.specs.State.{TreeState, WorkState, new_tree}
+use Rattle.run_model.proofs.RefusalLemmas.{each_fails, unless_Ok, unless_tested}
+use Rattle.task_group.specs.Checks.{Answers}
 use Rattle.task_group.proofs.groups.Groups.check_try.Goals as goal
 
-pub returns-then-not-has_seat-clause-refusal : goal.returns-then-not-has_seat-clause-refusal
-returns-then-not-has_seat-clause-refusal g c =
-    sym
-    (try_asked c.args.self.now c.args.group false (sym c.in_ok-check_go.ensures.refusal)
-    (sym c.has_seat.ensures ∙ c.if-not-has_seat.true))
+-- A task that is to be ready at once is asked what each task is, and for its seat.
+try_asked : (w : WorkState) (g : ℕ) (answer : Result (Unit {0}) Refusal)
+    (job argument : List ℕ) (count : ℕ) (tree : TreeState)
+    → ((job argument : List ℕ) → Answers w (event.Go g job argument) answer)
+    → and_then answer (λ _. tested ((not (admits_one_more w g), refusal.AtLimit) ∷ []))
+    ≡ tested (refusals (record { count = count; tree = tree; work = w })
+    (event.TryGo g job argument))
+try_asked w g answer job argument count tree asked =
+    let seat : Result (Unit {0}) Refusal =
+    tested ((not (admits_one_more w g), refusal.AtLimit) ∷ []) in
+    ap (λ a. and_then a (λ _. seat)) (asked job argument count tree)
+    ∙ sym (unless_tested
+    (refusals (record { count = count; tree = tree; work = w }) (event.Go g job argument)) seat)
 
-pub returns-then-not-has_seat-clause-decides : goal.returns-then-not-has_seat-clause-decides
-returns-then-not-has_seat-clause-decides g c =
-    try_decided c.args.self.now c.args.group _ (returns-then-not-has_seat-clause-refusal g c)
+pub returns-in_err-check_go : goal.returns-in_err-check_go
+returns-in_err-check_go g c job argument count tree =
+    let same : c.from_residual.result ≡ Err c.in_err-check_go.field-0.0 = search rules in
+    same
+    ∙ try_asked c.args.self.now c.args.group (Err c.in_err-check_go.field-0.0) job argument count
+    tree c.in_err-check_go.ensures
 
-pub returns-clause-refusal : goal.returns-clause-refusal
-returns-clause-refusal g c =
-    sym
-    (try_asked c.args.self.now c.args.group true (sym c.in_ok-check_go.ensures.refusal)
-    (sym c.has_seat.ensures ∙ c.if-not-has_seat.false))
+pub has_seat-requires : goal.has_seat-requires
+has_seat-requires g c =
+    let w = c.args.self.now in
+    let asked = refusals (record { count = 0; tree = new_tree w.layout; work = w })
+    (event.Go c.args.group [] []) in
+    let none = (unless_Ok asked (Ok tt) tt
+    (sym (c.in_ok-check_go.ensures [] [] 0 (new_tree w.layout)))).0 in
+    ltb-true c.args.group (length w.groups) (not-false _ (each_fails asked none).0)
 
-pub returns-clause-decides : goal.returns-clause-decides
-returns-clause-decides g c =
-    try_decided c.args.self.now c.args.group _ (returns-clause-refusal g c)
+pub returns-then-not-has_seat : goal.returns-then-not-has_seat
+returns-then-not-has_seat g c job argument count tree =
+    ap (λ b. tested ((not b, refusal.AtLimit) ∷ []))
+    (sym c.if-not-has_seat.true ∙ c.has_seat.ensures)
+    ∙ try_asked c.args.self.now c.args.group (Ok tt) job argument count tree
+    c.in_ok-check_go.ensures
+
+pub returns : goal.returns
+returns g c job argument count tree =
+    ap (λ b. tested ((not b, refusal.AtLimit) ∷ []))
+    (sym c.if-not-has_seat.false ∙ c.has_seat.ensures)
+    ∙ try_asked c.args.self.now c.args.group (Ok tt) job argument count tree
+    c.in_ok-check_go.ensures
