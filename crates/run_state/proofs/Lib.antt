@@ -1,5 +1,4 @@
-pub mod AllowLemmas
-pub mod Decisions
+pub mod Checking
 pub mod Ending
 pub mod Imaging
 pub mod Keeping

@@ -1,25 +1,28 @@
 -- What a call asks for, before the session's log is asked for room.
-use Rattle.std.specs.Prelude.{◌≡◌, ℕ, true, if◌then◌else◌, [], ◌∷◌, Option, Some, None, Result, Ok}
-use Rattle.std.specs.Prelude.{IsTrue}
+use Rattle.std.specs.Prelude.{◌≡◌, ℕ, true, Option, Some, None, Result, Ok, IsTrue}
 use Rattle.std.specs.Option.{option_and_then, ok_or, IfSome}
 use Rattle.run_model.specs.declared.answers.Started.{Started}
 use Rattle.run_model.specs.declared.commands.Command.{Command}
 use Rattle.run_model.specs.declared.commands.Wish.{Wish}
 use Rattle.run_model.specs.declared.refusals.Refusal.{Refusal}
-use Rattle.run_model.specs.declared.refusals.Refusal.TheVariants.{MomentOutOfRange, NothingReady}
+use Rattle.run_model.specs.declared.refusals.Refusal.TheVariants.{NothingReady}
 use Rattle.run_model.specs.declared.scopes.Kind.{Kind}
 use Rattle.run_model.specs.Allowed.{allowed}
 use Rattle.run_model.specs.Event.{Event}
-use Rattle.run_model.specs.Records.{is_recorded}
+use Rattle.run_model.specs.Records.{is_recorded, is_recorded_kind}
 use Rattle.run_model.specs.State.{State}
 use Rattle.run_model.specs.Tasks.{first_ready}
-use Rattle.run_model.specs.Replies.{refusals, unless, event_of, if_room, is_repeated, started_of}
-use Rattle.run_model.specs.Replies.{is_past_moments, kind_made}
+use Rattle.run_model.specs.Replies.{event_of, if_room, kind_made, started_of}
 
--- The event that a command asks for, none where it repeats a wait, or the first refusal.
-abbrev pub asked : State → Command → Result (Option Event) Refusal
-asked p call =
-    unless (refusals p call) (Ok (if is_repeated p call then None else Some (event_of p call)))
+-- The command asks for this event, which has a record.
+pub record IsAsked (p : State) (call : Command) (event : Event) : Type 0 where
+  pub same : event ≡ event_of p call
+  pub recorded : IsTrue (is_recorded event)
+
+-- The wish makes this kind at this clock, and a record can have it.
+pub record IsWished (clock : ℕ) (wish : Wish) (kind : Kind) : Type 0 where
+  pub same : kind ≡ kind_made clock wish
+  pub recorded : IsTrue (is_recorded_kind kind)
 
 -- An event is accepted if the log, which has so many bytes, has room for it.
 abbrev pub room_for : State → ℕ → Option Event → Result (Option Event) Refusal
@@ -38,8 +41,3 @@ IsRecorded made = IfSome made (λ event. IsTrue (is_recorded event))
 -- number of the event, and whether the task's scope is done.
 abbrev pub start_asked : State → Result Started Refusal
 start_asked p = ok_or (option_and_then (started_of p) (first_ready p.work)) NothingReady
-
--- The kind that a wish makes at this clock, unless its timeout leads past the greatest moment.
-abbrev pub kind_wished : ℕ → Wish → Result Kind Refusal
-kind_wished clock wish =
-    unless ((is_past_moments clock wish, MomentOutOfRange) ∷ []) (Ok (kind_made clock wish))

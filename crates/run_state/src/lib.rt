@@ -7,7 +7,6 @@
 //! when it is made.
 #![tactic(auto)]
 
-mod allowing;
 mod asking;
 mod hits;
 mod outcomes;

@@ -89,6 +89,9 @@ impl<A: Allocator> State<A> {
 
     /// Writes the image of the renewed state at the front of the buffer, for a store of a layout
     /// that has room for it, and gives its length. Takes no memory.
+    ///
+    /// What goes on and the layout come from the caller, and so two clauses more than those of
+    /// [`State::write_image`].
     pub fn write_renewed<B: Allocator>(
         &self,
         renewal: &Renewal<B>,

@@ -1,37 +1,46 @@
 //! What a wish asks for: the kind of scope that is derived now.
 
 ghost use Rattle.std.specs.Option.{option_copied};
-ghost use Rattle.std.specs.Prelude.{◌≡◌, Ok, IfOk, IsTrue};
-ghost use Rattle.run_model.specs.Records.{is_optional_text, is_recorded_kind};
-ghost use Rattle.run_model.specs.Replies.{and_then};
+ghost use Rattle.std.specs.Prelude.{◌≡◌, [], ◌∷◌, false, IsTrue};
+ghost use Rattle.run_model.specs.declared.refusals.Refusal.TheVariants as refusal;
+ghost use Rattle.run_model.specs.Allowed.{is_past_moments, tested};
+ghost use Rattle.run_model.specs.Records.{is_optional_text};
+ghost use Rattle.run_model.specs.Replies.{kind_made};
 ghost use Rattle.record_view.specs.Views.{kind_of};
-ghost use Rattle.run_state.specs.Asked.{kind_wished};
+ghost use Rattle.run_state.specs.Asked.{IsWished};
 
 use record_view::KindView;
-use run_model::{Refusal, Text, Wish};
-use scope_tree::Tree;
-use std::alloc::Allocator;
+use run_model::{GREATEST_MOMENT, Moment, Refusal, Text, Wish};
 
-/// The kind that a wish makes now, as it is recorded: a timeout is the deadline that it gives.
-/// `MomentOutOfRange` where that is past the greatest moment.
-pub fn wished_kind<'a, A: Allocator>(
-    tree: &Tree<A>,
-    wish: &'a Wish,
-) -> Result<KindView<'a>, Refusal>
-    ensures kind { and_then result (λ kind. Ok (kind_of kind))
-        ≡ kind_wished tree.now.clock wish.now }
-    ensures recorded { IfOk result (λ kind. IsTrue (is_recorded_kind (kind_of kind))) }
+/// The kind that a wish makes now: a timeout is the deadline that it gives, or one that is past the
+/// greatest moment like it.
+pub fn wished_kind<'a>(clock: Moment, wish: &'a Wish) -> KindView<'a>
+    ensures past { is_past_moments (kind_of result) ≡ is_past_moments (kind_made clock wish.now) }
+    ensures kind { is_past_moments (kind_of result) ≡ false
+        → IsWished clock wish.now (kind_of result) }
 {
     match wish {
-        Wish::Cancel => Ok(KindView::Cancel),
-        Wish::Cause => Ok(KindView::Cause),
-        Wish::Deadline(moment, cause) => Ok(KindView::Deadline(moment.get(), bytes_of(cause))),
+        Wish::Cancel => KindView::Cancel,
+        Wish::Cause => KindView::Cause,
+        Wish::Deadline(moment, cause) => KindView::Deadline(moment.get(), bytes_of(cause)),
         Wish::Timeout(seconds, cause) => {
-            let moment = tree.deadline_after(*seconds)?;
-            Ok(KindView::Deadline(moment.get(), bytes_of(cause)))
+            KindView::Deadline(clock.get().saturating_add(*seconds), bytes_of(cause))
         }
-        Wish::Value(key, text) => Ok(KindView::Value(key.as_bytes(), text.as_bytes())),
-        Wish::Detached => Ok(KindView::Detached),
+        Wish::Value(key, text) => KindView::Value(key.as_bytes(), text.as_bytes()),
+        Wish::Detached => KindView::Detached,
+    }
+}
+
+/// Says why a scope of this kind can't be derived: `MomentOutOfRange`.
+pub fn check_kind(kind: &KindView) -> Result<(), Refusal>
+    ensures { result
+        ≡ tested ((is_past_moments (kind_of kind.now), refusal.MomentOutOfRange) ∷ []) }
+{
+    match kind {
+        KindView::Deadline(moment, _) if GREATEST_MOMENT < *moment => {
+            Err(Refusal::MomentOutOfRange)
+        }
+        _ => Ok(()),
     }
 }
 
