@@ -36,7 +36,7 @@ count_first : (b : Bool) (n : ℕ) → b ≡ true → 1 ≤ (if b then 1 else 0)
 count_first true n is = omega arith
 count_first false n is = absurd (both_ways false refl is)
 
-count_cons : {X : Type 0} (test : X → Bool) (row : X) (rows : List X)
+pub count_cons : {X : Type 0} (test : X → Bool) (row : X) (rows : List X)
     → count_by test (row ∷ rows) ≡ (if test row then 1 else 0) + count_by test rows
 count_cons test row rows = sum_by-cons (λ x. if test x then 1 else 0) row rows
 
@@ -76,7 +76,7 @@ count_pushed test (row ∷ rows) new not =
     ∙ ap (λ n. (if test row then 1 else 0) + n) (count_pushed test rows new not)
     ∙ sym (count_cons test row rows)
 
-count_found : {X : Type 0} (test : X → Bool) (rows : List X) (n : ℕ) (x : X)
+pub count_found : {X : Type 0} (test : X → Bool) (rows : List X) (n : ℕ) (x : X)
     → slice_get rows n ≡ Some x → test x ≡ true → 1 ≤ count_by test rows
 count_found test [] n x found is = absurd (none-some x found)
 count_found test (row ∷ rows) zero x found is =
@@ -88,7 +88,7 @@ count_found test (row ∷ rows) (suc n) x found is =
 
 -- ---- ranks
 
-running_unfinished : (s : Stage) → is_running s ≡ true → is_unfinished s ≡ true
+pub running_unfinished : (s : Stage) → is_running s ≡ true → is_unfinished s ≡ true
 running_unfinished stage.Fresh is = refl
 running_unfinished stage.Running is = refl
 running_unfinished stage.Success is = is

@@ -53,7 +53,7 @@ any_found test (row ∷ rows) zero x found is =
 any_found test (row ∷ rows) (suc n) x found is =
     or_right (test row) (list_any test rows) (any_found test rows n x found is)
 
-found_any : {X : Type 0} (test : X → Bool) (rows : List X) → list_any test rows ≡ true
+pub found_any : {X : Type 0} (test : X → Bool) (rows : List X) → list_any test rows ≡ true
     → (n : ℕ) × (x : X) × (slice_get rows n ≡ Some x) × (test x ≡ true)
 found_any test [] is = absurd (both_ways false refl is)
 found_any test (row ∷ rows) is =

@@ -15,7 +15,7 @@ use Rattle.model_laws.proofs.Places.{row_there, row_at_place, place_of_row}
 -- ---- rows with names
 
 -- The row that a name is found at has this name.
-named_row : {X : Type 0} (name_of : X → List ℕ) (rows : List X) (name : List ℕ) (n : ℕ)
+pub named_row : {X : Type 0} (name_of : X → List ℕ) (rows : List X) (name : List ℕ) (n : ℕ)
     → position (λ row. bytes_eq name (name_of row)) rows ≡ Some n
     → (row : X) × (slice_get rows n ≡ Some row) × (name_of row ≡ name)
 named_row name_of rows name n at =
@@ -23,12 +23,12 @@ named_row name_of rows name n at =
     (row.0, row.1, sym ((bytes_eq-Decides name (name_of row.0)).0 row.2))
 
 -- No two of the rows have one name.
-abbrev AreDistinct : {X : Type 0} → (X → List ℕ) → List X → Type 0
+abbrev pub AreDistinct : {X : Type 0} → (X → List ℕ) → List X → Type 0
 AreDistinct {X} name_of rows = (m n : ℕ) (a b : X) → slice_get rows m ≡ Some a
     → slice_get rows n ≡ Some b → name_of a ≡ name_of b → m ≡ n
 
 -- A row's name is found at the row's number.
-place_of_name : {X : Type 0} (name_of : X → List ℕ) (rows : List X) (n : ℕ) (row : X)
+pub place_of_name : {X : Type 0} (name_of : X → List ℕ) (rows : List X) (n : ℕ) (row : X)
     → AreDistinct name_of rows → slice_get rows n ≡ Some row
     → position (λ other. bytes_eq (name_of row) (name_of other)) rows ≡ Some n
 place_of_name {X} name_of rows n row distinct found =

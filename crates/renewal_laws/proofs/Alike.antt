@@ -14,18 +14,17 @@ use Rattle.run_model.specs.declared.tasks.Task.{Task}
 use Rattle.run_model.specs.Questions.{group_look_of, look_of, task_look_of}
 use Rattle.run_model.specs.Rules.{IsConsistent}
 use Rattle.run_model.specs.Scopes.{AreOrdered, deadline_of, ending, line_within, text_under}
-use Rattle.run_model.specs.Scopes.{upwards}
-use Rattle.run_model.specs.Scopes.{value_of}
+use Rattle.run_model.specs.Scopes.{upwards, value_of}
 use Rattle.run_model.specs.State.{State}
 use Rattle.run_model.specs.Tasks.{is_admitted, phase_by, unfinished_in}
-use Rattle.state_renewal.specs.Renewed.{new_number}
+use Rattle.state_renewal.specs.Renewed.{new_number, Part, group_anew, scope_anew, state_anew}
+use Rattle.state_renewal.specs.Renewed.{task_anew}
 use Rattle.renewal_laws.specs.Alike.{GoOnAlike, group_look_anew, task_look_anew}
-use Rattle.renewal_laws.specs.GoingOn.{Part, group_anew, scope_anew, state_anew, task_anew}
-use Rattle.renewal_laws.proofs.Chains.{deadline_told, ending_told, line_told, scopes_anew}
-use Rattle.renewal_laws.proofs.Chains.{value_told}
-use Rattle.renewal_laws.proofs.Goes.{Goes}
-use Rattle.renewal_laws.proofs.Rows.{anew_get}
-use Rattle.renewal_laws.proofs.Works.{admitted_anew, first_anew, unfinished_same}
+use Rattle.state_renewal.proofs.Chains.{deadline_told, ending_told, line_told, scopes_anew}
+use Rattle.state_renewal.proofs.Chains.{value_told}
+use Rattle.renewal_laws.proofs.Goes.{Goes, hangs}
+use Rattle.state_renewal.proofs.RowsAnew.{anew_get, row_anew}
+use Rattle.state_renewal.proofs.Works.{admitted_anew, first_anew, unfinished_same}
 
 -- ---- scopes
 
@@ -36,43 +35,26 @@ look name end deadline = record {
   deadline = deadline;
 }
 
--- The scope of the row's new number, where there is a row.
-scope_at : (part : Part) (rows : List Scope) (s : ℕ) (o : Option Scope)
-    → slice_get rows s ≡ o → part.scopes s ≡ true
-    → slice_get (scopes_anew part rows) (new_number part.scopes s)
-    ≡ option_map (scope_anew part) o
-scope_at part rows s o at is =
-    anew_get part.scopes (scope_anew part) rows s is ∙ ap (option_map (scope_anew part)) at
-
 looks_alike : (part : Part) (p : State) → AreOrdered p.tree.scopes
     → AreOrdered (state_anew part p).tree.scopes → Goes part p → (s : ℕ)
     → part.scopes s ≡ true
     → look_of (state_anew part p) (new_number part.scopes s) ≡ look_of p s
-looks_alike part p ordered anew go s is = by_row (slice_get p.tree.scopes s) refl
+looks_alike part p ordered anew go s is =
+    row_anew (option_map (λ row. look row.name (ending rows new) (deadline_of rows new)))
+    (option_map (λ row. look row.name (ending p.tree.scopes s) (deadline_of p.tree.scopes s)))
+    part.scopes (scope_anew part) p.tree.scopes s refl
+    (λ row at.
+    let told = line_told part p.tree.scopes ordered anew go.scopes.each s row at is in
+    ap (λ o. Some (look row.name o (deadline_of rows new)))
+    (ending_told part p.tree.scopes s told)
+    ∙ ap (λ o. Some (look row.name (ending p.tree.scopes s) o))
+    (deadline_told part p.tree.scopes s told)) is
   where
     new : ℕ
     new = new_number part.scopes s
 
     rows : List Scope
     rows = scopes_anew part p.tree.scopes
-
-    by_row : (o : Option Scope) → slice_get p.tree.scopes s ≡ o
-        → look_of (state_anew part p) new ≡ look_of p s
-    by_row None at =
-        ap (option_map (λ row. look row.name (ending rows new) (deadline_of rows new)))
-        (scope_at part p.tree.scopes s None at is)
-        ∙ sym (ap (option_map
-        (λ row. look row.name (ending p.tree.scopes s) (deadline_of p.tree.scopes s))) at)
-    by_row (Some row) at =
-        let told = line_told part p.tree.scopes ordered anew go.scopes s row at is in
-        ap (option_map (λ row. look row.name (ending rows new) (deadline_of rows new)))
-        (scope_at part p.tree.scopes s (Some row) at is)
-        ∙ ap (λ o. Some (look row.name o (deadline_of rows new)))
-        (ending_told part p.tree.scopes s told)
-        ∙ ap (λ o. Some (look row.name (ending p.tree.scopes s) o))
-        (deadline_told part p.tree.scopes s told)
-        ∙ sym (ap (option_map
-        (λ row. look row.name (ending p.tree.scopes s) (deadline_of p.tree.scopes s))) at)
 
 no_value : (rows : List Scope) (s : ℕ) (key : List ℕ) → slice_get rows s ≡ None
     → value_of rows s key ≡ None
@@ -92,11 +74,12 @@ values_alike part p ordered anew go s key is = by_row (slice_get p.tree.scopes s
         ≡ value_of p.tree.scopes s key
     by_row None at =
         no_value (state_anew part p).tree.scopes (new_number part.scopes s) key
-        (scope_at part p.tree.scopes s None at is)
+        (anew_get part.scopes (scope_anew part) p.tree.scopes s is
+        ∙ ap (option_map (scope_anew part)) at)
         ∙ sym (no_value p.tree.scopes s key at)
     by_row (Some row) at =
         value_told part p.tree.scopes s key
-        (line_told part p.tree.scopes ordered anew go.scopes s row at is)
+        (line_told part p.tree.scopes ordered anew go.scopes.each s row at is)
 
 -- ---- groups and tasks
 
@@ -116,17 +99,13 @@ groups_alike : (part : Part) (p : State) → Goes part p → (g : ℕ) → part.
 groups_alike part p go g is =
     ap (λ k. option_map (group_look k)
     (slice_get (state_anew part p).work.groups (new_number part.groups g)))
-    (unfinished_same part p.work g go.work.tasks is)
-    ∙ ap (option_map (group_look (unfinished_in g p.work.tasks)))
-    (anew_get part.groups (group_anew part) p.work.groups g is)
-    ∙ by_row (slice_get p.work.groups g)
+    (unfinished_same part p.work g go.work.tasks.each is)
+    ∙ row_anew (option_map (group_look unfinished))
+    (λ o. option_map (group_look_anew part) (option_map (group_look unfinished) o)) part.groups
+    (group_anew part) p.work.groups g refl (λ row at. refl) is
   where
-    by_row : (o : Option Group)
-        → option_map (group_look (unfinished_in g p.work.tasks)) (option_map (group_anew part) o)
-        ≡ option_map (group_look_anew part)
-        (option_map (group_look (unfinished_in g p.work.tasks)) o)
-    by_row None = refl
-    by_row (Some row) = refl
+    unfinished : ℕ
+    unfinished = unfinished_in g p.work.tasks
 
 abbrev task_look : Phase → Task → TaskLook
 task_look phase row = record {
@@ -141,21 +120,15 @@ tasks_alike : (part : Part) (p : State) → Goes part p → (n : ℕ) → part.t
     → task_look_of (state_anew part p) (new_number part.tasks n)
     ≡ option_map (task_look_anew part) (task_look_of p n)
 tasks_alike part p go n is =
-    ap (option_map (λ row. task_look
+    row_anew
+    (option_map (λ row. task_look
     (phase_by (is_admitted (state_anew part p).work (new_number part.tasks n) row) row.stage) row))
-    (anew_get part.tasks (task_anew part) p.work.tasks n is)
-    ∙ by_row (slice_get p.work.tasks n) refl
-  where
-    by_row : (o : Option Task) → slice_get p.work.tasks n ≡ o
-        → option_map (λ row. task_look
-        (phase_by (is_admitted (state_anew part p).work (new_number part.tasks n) row) row.stage)
-        row) (option_map (task_anew part) o)
-        ≡ option_map (task_look_anew part)
-        (option_map (λ row. task_look (phase_by (is_admitted p.work n row) row.stage) row) o)
-    by_row None at = refl
-    by_row (Some row) at =
-        ap (λ b. Some (task_look (phase_by b row.stage) (task_anew part row)))
-        (admitted_anew part p.work n row go.work.tasks at is)
+    (λ o. option_map (task_look_anew part)
+    (option_map (λ row. task_look (phase_by (is_admitted p.work n row) row.stage) row) o))
+    part.tasks (task_anew part) p.work.tasks n refl
+    (λ row at.
+    ap (λ b. Some (task_look (phase_by b row.stage) (task_anew part row)))
+    (admitted_anew part p.work n row go.work.tasks.each at is)) is
 
 pub alike : (part : Part) (p : State) → IsConsistent p → IsConsistent (state_anew part p)
     → Goes part p → GoOnAlike part p (state_anew part p)
@@ -164,5 +137,5 @@ alike part p consistent anew go = record {
   values = values_alike part p consistent.numbered.ordered anew.numbered.ordered go;
   groups = groups_alike part p go;
   tasks = tasks_alike part p go;
-  next = first_anew part p consistent go.work;
+  next = first_anew part p consistent (hangs part p go).work;
 }

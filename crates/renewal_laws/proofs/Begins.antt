@@ -3,35 +3,18 @@ use Rattle.std.proofs.Common.{◌≡◌, ◌<◌, ◌≤◌, ℕ, Bool, List, le
 use Rattle.std.proofs.Common.{slice_get, false, true, refl, sym, ap, ◌∙◌, arith}
 use Rattle.std.specs.Option.{option_map}
 use Rattle.std.proofs.lemmas.Option.{slice_get_within, same_Some}
-use Rattle.run_model.specs.declared.groups.Group.{Group}
 use Rattle.run_model.specs.declared.scopes.Scope.{Scope}
-use Rattle.run_model.specs.declared.tasks.Task.{Task}
 use Rattle.run_model.specs.Rows.{root}
 use Rattle.run_model.specs.Rules.{HasScope, IsConsistent}
 use Rattle.run_model.specs.Scopes.{is_root}
 use Rattle.run_model.specs.State.{State}
 use Rattle.state_renewal.specs.Renewed.{group_told, keeps_group, keeps_scope, keeps_task, kept}
-use Rattle.state_renewal.specs.Renewed.{new_number, renewed, scope_told, task_told}
-use Rattle.renewal_laws.specs.GoingOn.{going_on, goes_on, group_anew, rows_anew, scope_anew}
-use Rattle.renewal_laws.specs.GoingOn.{state_anew, task_anew}
+use Rattle.state_renewal.specs.Renewed.{new_number, renewed, scope_told, task_told, group_anew}
+use Rattle.state_renewal.specs.Renewed.{rows_anew, scope_anew, state_anew, task_anew}
+use Rattle.renewal_laws.specs.GoingOn.{going_on, goes_on}
 use Rattle.renewal_laws.proofs.Goes.{goes_before}
-use Rattle.renewal_laws.proofs.Rows.{kept_same, number_agrees, told_same}
-
--- The state with these rows in place of its own.
-abbrev pub with_rows : State → List Scope → List Group → List Task → State
-with_rows p scopes groups tasks = record {
-  count = p.count;
-  tree = record p.tree { scopes = scopes };
-  work = record p.work { groups = groups; tasks = tasks };
-}
-
-pub same_rows : (p : State) (scopes a : List Scope) (groups b : List Group) (tasks c : List Task)
-    → scopes ≡ a → groups ≡ b → tasks ≡ c
-    → with_rows p scopes groups tasks ≡ with_rows p a b c
-same_rows p scopes a groups b tasks c s g t =
-    ap (λ rows. with_rows p rows groups tasks) s
-    ∙ ap (λ rows. with_rows p a rows tasks) g
-    ∙ ap (with_rows p a b) t
+use Rattle.state_renewal.proofs.Twice.{same_rows}
+use Rattle.state_renewal.proofs.RowsAnew.{kept_same, number_agrees, told_same}
 
 -- A row before the end, or the end, has the number that the renewal gives it.
 number_first : (many : ℕ) (keeps : ℕ → Bool) (n : ℕ) → n ≤ many

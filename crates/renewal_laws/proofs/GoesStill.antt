@@ -25,36 +25,50 @@ use Rattle.run_model.specs.WorkChanges.{after_end, after_interrupt, after_retry,
 use Rattle.run_model.specs.WorkChanges.{group_of_task, groups_after, interruption, retried_row}
 use Rattle.run_model.specs.WorkChanges.{stage_of, with_error, with_limit, with_stage, with_wait}
 use Rattle.run_model.proofs.RowLemmas.{at_row_cases, length-at_row, map_cases, push_cases}
-use Rattle.renewal_laws.specs.GoingOn.{Part, names_part}
-use Rattle.renewal_laws.proofs.Goes.{EachRow, Goes, GroupsGo, ScopesGo, TasksGo, WithGroup}
-use Rattle.renewal_laws.proofs.Goes.{WithParent, WithScope, WorkGoes}
+use Rattle.state_renewal.specs.Renewed.{Part}
+use Rattle.state_renewal.specs.Told.{names_part}
+use Rattle.state_renewal.proofs.Hangs.{WithGroup, WithParent, WithScope}
+use Rattle.renewal_laws.proofs.Goes.{Goes, GroupsGo, ScopesGo, TasksGo, WorkGoes, RowsGo}
 
 -- ---- rows
 
-each_push : {X : Type 0} (P : ℕ → X → Type 0) (rows : List X) (new : X) → EachRow P rows
-    → P (length rows) new → EachRow P (rows ++ new ∷ [])
-each_push P rows new each is n row found =
-    elim (push_cases rows new n row found) [
-      | inl old ↦ each n row old
-      | inr last ↦ subst (λ k. P k row) (sym last.0) (subst (P (length rows)) (sym last.1) is)
-    ]
+rows_push : {X : Type 0} (goes : ℕ → Bool) (P : ℕ → X → Type 0) (rows : List X) (new : X)
+    → RowsGo goes P rows → P (length rows) new → RowsGo goes P (rows ++ new ∷ [])
+rows_push goes P rows new go is = record {
+  later = λ n more. let long = length_push rows new in go.later n (omega (arith, more, long));
+  each =
+      λ n row found.
+      elim (push_cases rows new n row found) [
+        | inl old ↦ go.each n row old
+        | inr last ↦ subst (λ k. P k row) (sym last.0) (subst (P (length rows)) (sym last.1) is)
+      ];
+}
 
-each_at : {X : Type 0} (P : ℕ → X → Type 0) (change : X → X) (k : ℕ) (rows : List X)
-    → EachRow P rows → ((n : ℕ) (x : X) → P n x → P n (change x))
-    → EachRow P (at_row change k rows)
-each_at P change k rows each keeps n row found =
-    elim (at_row_cases change k n rows row found) [
-      | inl other ↦ each n row other.1
-      | inr same ↦
-          subst (P n) (sym same.changed) (keeps n same.old (each n same.old same.found))
-    ]
+rows_at : {X : Type 0} (goes : ℕ → Bool) (P : ℕ → X → Type 0) (change : X → X) (k : ℕ)
+    (rows : List X) → RowsGo goes P rows → ((n : ℕ) (x : X) → P n x → P n (change x))
+    → RowsGo goes P (at_row change k rows)
+rows_at goes P change k rows go keeps = record {
+  later =
+      λ n more. let same = length-at_row change k rows in go.later n (omega (arith, more, same));
+  each =
+      λ n row found.
+      elim (at_row_cases change k n rows row found) [
+        | inl other ↦ go.each n row other.1
+        | inr same ↦
+            subst (P n) (sym same.changed) (keeps n same.old (go.each n same.old same.found))
+      ];
+}
 
-each_map : {X : Type 0} (P : ℕ → X → Type 0) (change : X → X) (rows : List X)
-    → EachRow P rows → ((n : ℕ) (x : X) → P n x → P n (change x))
-    → EachRow P (map change rows)
-each_map P change rows each keeps n row found =
-    let old = map_cases change n rows row found in
-    subst (P n) (sym old.2) (keeps n old.0 (each n old.0 old.1))
+rows_map : {X : Type 0} (goes : ℕ → Bool) (P : ℕ → X → Type 0) (change : X → X)
+    (rows : List X) → RowsGo goes P rows → ((n : ℕ) (x : X) → P n x → P n (change x))
+    → RowsGo goes P (map change rows)
+rows_map goes P change rows go keeps = record {
+  later = λ n more. let same = length-map rows change in go.later n (omega (arith, more, same));
+  each =
+      λ n row found.
+      let old = map_cases change n rows row found in
+      subst (P n) (sym old.2) (keeps n old.0 (go.each n old.0 old.1));
+}
 
 -- ---- scopes
 
@@ -70,36 +84,15 @@ tick_is P e clock row is hit_is = by_hit (hit_due e clock row.kind)
 scopes_derive : (part : Part) (e clock : ℕ) (name : List ℕ) (parent : ℕ) (k : Kind)
     (rows : List Scope) → ScopesGo part rows → part.scopes parent ≡ true
     → ScopesGo part (rows ++ tick e clock (new_scope name parent k) ∷ [])
-scopes_derive part e clock name parent k rows go is = record {
-  later =
-      λ s more.
-      let long = length_push rows (tick e clock (new_scope name parent k)) in
-      go.later s (omega (arith, more, long));
-  each =
-      each_push (WithParent part) rows (tick e clock (new_scope name parent k)) go.each
-      (tick_is (WithParent part (length rows)) e clock (new_scope name parent k)
-      (λ below goes. is) (λ hit below goes. is));
-}
+scopes_derive part e clock name parent k rows go is =
+    rows_push part.scopes (WithParent part) rows (tick e clock (new_scope name parent k)) go
+    (tick_is (WithParent part (length rows)) e clock (new_scope name parent k)
+    (λ below goes. is) (λ hit below goes. is))
 
 scopes_hit : (part : Part) (hit : Hit) (s : ℕ) (rows : List Scope) → ScopesGo part rows
     → ScopesGo part (at_row (with_hit hit) s rows)
-scopes_hit part hit s rows go = record {
-  later =
-      λ n more.
-      let same = length-at_row (with_hit hit) s rows in go.later n (omega (arith, more, same));
-  each = each_at (WithParent part) (with_hit hit) s rows go.each (λ n x is. is);
-}
-
-scopes_tick : (part : Part) (e clock : ℕ) (rows : List Scope) → ScopesGo part rows
-    → ScopesGo part (map (tick e clock) rows)
-scopes_tick part e clock rows go = record {
-  later =
-      λ n more.
-      let same = length-map rows (tick e clock) in go.later n (omega (arith, more, same));
-  each =
-      each_map (WithParent part) (tick e clock) rows go.each
-      (λ n x is. tick_is (WithParent part n) e clock x is (λ hit. is));
-}
+scopes_hit part hit s rows go =
+    rows_at part.scopes (WithParent part) (with_hit hit) s rows go (λ n x is. is)
 
 scopes_ended : (part : Part) (e : ℕ) (w : WorkState) (g : ℕ) (cause : Option (List ℕ))
     (t : TreeState) → ScopesGo part t.scopes
@@ -132,59 +125,34 @@ scopes_tasks part e w (n ∷ ns) t go =
 groups_push : (part : Part) (name : List ℕ) (s : ℕ) (b : Bool) (rows : List Group)
     → GroupsGo part rows → part.scopes s ≡ true
     → GroupsGo part (rows ++ new_group name s b ∷ [])
-groups_push part name s b rows go is = record {
-  later =
-      λ n more.
-      let long = length_push rows (new_group name s b) in go.later n (omega (arith, more, long));
-  each =
-      each_push (WithScope part) rows (new_group name s b) go.each
-      (record {
-        scope = λ goes. is;
-        own = λ own goes. go.later (length rows) (omega arith);
-        gone =
-            λ goes.
-            absurd (both_ways (part.groups (length rows)) goes
-            (go.later (length rows) (omega arith)));
-      });
-}
-
-groups_change : (part : Part) (change : Group → Group) (g : ℕ) (rows : List Group)
-    → ((n : ℕ) (x : Group) → WithScope part n x → WithScope part n (change x))
-    → GroupsGo part rows → GroupsGo part (at_row change g rows)
-groups_change part change g rows keeps go = record {
-  later =
-      λ n more. let same = length-at_row change g rows in go.later n (omega (arith, more, same));
-  each = each_at (WithScope part) change g rows go.each keeps;
-}
+groups_push part name s b rows go is =
+    let last = go.later (length rows) (omega arith) in
+    rows_push part.groups (WithScope part) rows (new_group name s b) go
+    (record {
+      scope = λ goes. is;
+      own = λ own goes. last;
+      gone = λ gone. absurd (both_ways (part.groups (length rows)) gone last);
+    })
 
 groups_error : (part : Part) (g : ℕ) (error : Option (List ℕ)) (rows : List Group)
     → GroupsGo part rows → GroupsGo part (groups_after g error rows)
 groups_error part g None rows go = go
 groups_error part g (Some text) rows go =
-    groups_change part (with_error text) g rows
-    (λ n x is. record { scope = is.scope; own = is.own; gone = is.gone }) go
+    rows_at part.groups (WithScope part) (with_error text) g rows go
+    (λ n x is. record { scope = is.scope; own = is.own; gone = is.gone })
 
 -- ---- tasks
 
 tasks_push : (part : Part) (new : Task) (rows : List Task) → TasksGo part rows
     → part.groups new.group ≡ true → TasksGo part (rows ++ new ∷ [])
-tasks_push part new rows go is = record {
-  later =
-      λ n more. let long = length_push rows new in go.later n (omega (arith, more, long));
-  each =
-      each_push (WithGroup part) rows new go.each
-      (go.later (length rows) (omega arith) ∙ sym is);
-}
+tasks_push part new rows go is =
+    rows_push part.tasks (WithGroup part) rows new go
+    (go.later (length rows) (omega arith) ∙ sym is)
 
 tasks_stage : (part : Part) (to : Stage) (n : ℕ) (rows : List Task) → TasksGo part rows
     → TasksGo part (at_row (with_stage to) n rows)
-tasks_stage part to n rows go = record {
-  later =
-      λ m more.
-      let same = length-at_row (with_stage to) n rows in
-      go.later m (omega (arith, more, same));
-  each = each_at (WithGroup part) (with_stage to) n rows go.each (λ m x is. is);
-}
+tasks_stage part to n rows go =
+    rows_at part.tasks (WithGroup part) (with_stage to) n rows go (λ m x is. is)
 
 pub work_ended : (part : Part) (n : ℕ) (to : Stage) (error : Option (List ℕ))
     (w : WorkState) → WorkGoes part w → WorkGoes part (after_end n to error w)
@@ -224,7 +192,8 @@ tree_goes part p (event.Derive name parent k) go is =
 tree_goes part p (event.Cancel s cause) go is =
     scopes_hit part (cancellation (p.count + 1) p.tree.clock cause) s p.tree.scopes go.scopes
 tree_goes part p (event.Advance moment) go is =
-    scopes_tick part (p.count + 1) moment p.tree.scopes go.scopes
+    rows_map part.scopes (WithParent part) (tick (p.count + 1) moment) p.tree.scopes go.scopes
+    (λ n x is. tick_is (WithParent part n) (p.count + 1) moment x is (λ hit. is))
 tree_goes part p (event.Group name parent) go is =
     scopes_derive part (p.count + 1) p.tree.clock name parent kind.Group p.tree.scopes go.scopes
     is
@@ -258,8 +227,8 @@ work_goes part p (event.Bare name s) go is = record {
 }
 work_goes part p (event.SetLimit g limit) go is = record {
   groups =
-      groups_change part (with_limit limit) g p.work.groups
-      (λ n x with. record { scope = with.scope; own = with.own; gone = with.gone }) go.work.groups;
+      rows_at part.groups (WithScope part) (with_limit limit) g p.work.groups go.work.groups
+      (λ n x with. record { scope = with.scope; own = with.own; gone = with.gone });
   tasks = go.work.tasks;
 }
 work_goes part p (event.Go g job argument) go is = record {
@@ -279,9 +248,8 @@ work_goes part p (event.Finish n outcome) go is =
     work_ended part n (stage_of outcome) (error_of outcome) p.work go.work
 work_goes part p (event.Wait g) go is = record {
   groups =
-      groups_change part with_wait g p.work.groups
-      (λ n x with. record { scope = with.scope; own = with.own; gone = λ goes. refl })
-      go.work.groups;
+      rows_at part.groups (WithScope part) with_wait g p.work.groups go.work.groups
+      (λ n x with. record { scope = with.scope; own = with.own; gone = λ goes. refl });
   tasks = go.work.tasks;
 }
 work_goes part p event.Restart go is =

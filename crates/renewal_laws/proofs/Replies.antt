@@ -1,17 +1,13 @@
 -- A command, a start or a finish that names what goes on is answered alike by both stores.
-use Rattle.std.proofs.Common.{◌≡◌, ◌+◌, ◌*◌, ◌==◌, ℕ, Bool, true, false, not, List, [], ◌∷◌}
-use Rattle.std.proofs.Common.{length, Option, Some, None, slice_get, refl, sym, ap, ◌∙◌}
-use Rattle.std.proofs.Common.{arith}
+use Rattle.std.proofs.Common.{◌≡◌, ◌+◌, ℕ, Bool, true, false, length, Option, Some, None}
+use Rattle.std.proofs.Common.{slice_get, refl, sym, ap, ◌∙◌, arith}
 use Rattle.std.specs.Option.{ok_or, option_and_then, option_map, option_map_or}
-use Rattle.std.specs.Prelude.{if◌then◌else◌, nat_le, nat_lt, Result, Ok, Err, unwrap_or}
-use Rattle.std.proofs.lemmas.Bool.{eq-eqb}
+use Rattle.std.specs.Prelude.{if◌then◌else◌, Result, Ok, Err, unwrap_or}
 use Rattle.run_model.specs.declared.answers.Answer.{Answer}
 use Rattle.run_model.specs.declared.answers.Answer.TheVariants as answer
 use Rattle.run_model.specs.declared.answers.Started.{Started}
-use Rattle.run_model.specs.declared.bounds.TheConstants.{FINISH_ROOM, SESSION_LEN}
 use Rattle.run_model.specs.declared.commands.Command.{Command}
 use Rattle.run_model.specs.declared.commands.Command.TheVariants as command
-use Rattle.run_model.specs.declared.groups.Group.{Group}
 use Rattle.run_model.specs.declared.refusals.Refusal.{Refusal}
 use Rattle.run_model.specs.declared.refusals.Refusal.TheVariants as refusal
 use Rattle.run_model.specs.declared.tasks.Outcome.{Outcome}
@@ -19,52 +15,34 @@ use Rattle.run_model.specs.declared.tasks.Phase.TheVariants as phase
 use Rattle.run_model.specs.declared.tasks.Task.{Task}
 use Rattle.run_model.specs.Event.{Event}
 use Rattle.run_model.specs.Event as event
-use Rattle.run_model.specs.Records.{record_len}
-use Rattle.run_model.specs.Replies.{and_then, answer_of, event_of, group_of, is_full}
-use Rattle.run_model.specs.Replies.{is_repeated, is_task_done, refusals, reply, reply_finish}
-use Rattle.run_model.specs.Replies.{reply_start, started_of, state_after, submission, unless}
+use Rattle.run_model.specs.Allowed.{refusals, unless}
+use Rattle.run_model.specs.Replies.{decided, and_then, answer_of, event_of, group_of, is_repeated}
+use Rattle.run_model.specs.Replies.{is_task_done, reply, reply_finish, reply_start, started_of}
+use Rattle.run_model.specs.Replies.{state_after, submission}
 use Rattle.run_model.specs.Rules.{IsConsistent}
 use Rattle.run_model.specs.Scopes.{is_done}
 use Rattle.run_model.specs.State.{State, WorkState}
 use Rattle.run_model.specs.Step.{step}
-use Rattle.run_model.specs.Tasks.{first_ready, is_admitted, is_ready, is_running, is_running_task}
-use Rattle.run_model.specs.Tasks.{phase_by, phase_of, running_count, task_numbers}
+use Rattle.run_model.specs.Tasks.{first_ready, is_ready, phase_of, task_numbers}
+use Rattle.model_laws.proofs.Allowing.{unrefused_allowed}
 use Rattle.model_laws.proofs.Tests.{found_passes}
-use Rattle.state_renewal.specs.Renewed.{new_number}
-use Rattle.state_renewal.specs.Told.{has_place}
+use Rattle.state_renewal.specs.Renewed.{new_number, Part, group_anew, scope_anew, state_anew}
+use Rattle.state_renewal.specs.Renewed.{task_anew, work_anew}
+use Rattle.state_renewal.specs.Told.{event_anew, has_place}
 use Rattle.renewal_laws.specs.Answered.{answer_anew, calls_part, command_anew, reply_anew}
 use Rattle.renewal_laws.specs.Answered.{started_anew}
-use Rattle.renewal_laws.specs.GoingOn.{Part, group_anew, scope_anew, state_anew}
-use Rattle.renewal_laws.specs.GoingOn.{task_anew, work_anew}
-use Rattle.renewal_laws.proofs.Allowed.{done_anew}
-use Rattle.renewal_laws.proofs.Goes.{Goes, TasksGo}
+use Rattle.state_renewal.proofs.Chains.{done_anew}
+use Rattle.state_renewal.proofs.Refusals.{refusals_anew}
+use Rattle.renewal_laws.proofs.Goes.{Goes, hangs}
 use Rattle.renewal_laws.proofs.GoesStill.{goes_still}
-use Rattle.renewal_laws.proofs.Named.{event_names, event_told, group_on}
-use Rattle.renewal_laws.proofs.Refused.{full_same, past_anew, refusals_same, repeated_same}
-use Rattle.renewal_laws.proofs.Refused.{running_same}
-use Rattle.renewal_laws.proofs.Rows.{anew_get, length-anew}
-use Rattle.renewal_laws.proofs.Runs.{Both, both_step}
+use Rattle.renewal_laws.proofs.Decided.{decided_alike, repeated_same, tests_alike}
+use Rattle.renewal_laws.proofs.Named.{IsAskedAnew, asked_anew, group_on}
+use Rattle.state_renewal.proofs.RowsAnew.{length-anew, row_anew}
+use Rattle.renewal_laws.proofs.Runs.{Both, are_both}
 use Rattle.renewal_laws.proofs.Steps.{step_anew}
-use Rattle.renewal_laws.proofs.Works.{admitted_anew, first_anew, ready_goes, stage_same}
+use Rattle.state_renewal.proofs.Works.{first_anew, phase_anew, ready_goes}
 
 -- ---- answers
-
-phase_anew : (part : Part) (w : WorkState) (n : ℕ) → TasksGo part w.tasks
-    → part.tasks n ≡ true → phase_of (work_anew part w) (new_number part.tasks n) ≡ phase_of w n
-phase_anew part w n go is =
-    ap (option_map (λ row. phase_by
-    (is_admitted (work_anew part w) (new_number part.tasks n) row) row.stage))
-    (anew_get part.tasks (task_anew part) w.tasks n is)
-    ∙ by_row (slice_get w.tasks n) refl
-  where
-    by_row : (o : Option Task) → slice_get w.tasks n ≡ o
-        → option_map (λ row. phase_by
-        (is_admitted (work_anew part w) (new_number part.tasks n) row) row.stage)
-        (option_map (task_anew part) o)
-        ≡ option_map (λ row. phase_by (is_admitted w n row) row.stage) o
-    by_row None at = refl
-    by_row (Some row) at =
-        ap (λ b. Some (phase_by b row.stage)) (admitted_anew part w n row go at is)
 
 -- A task that was submitted has the next number, and is as far in both.
 submission_anew : (part : Part) (p q : State) → Goes part p → Goes part q
@@ -74,21 +52,15 @@ submission_anew part p q go_p go_q =
     ap (λ n. answer.Task n (unwrap_or (phase_of (work_anew part q.work) n) phase.Held))
     (length-anew part.tasks (task_anew part) p.work.tasks)
     ∙ ap (λ o. answer.Task (new_number part.tasks many) (unwrap_or o phase.Held))
-    (phase_anew part q.work many go_q.work.tasks (go_p.work.tasks.later many (omega arith)))
+    (phase_anew part q.work many go_q.work.tasks.each (go_p.work.tasks.later many (omega arith)))
 
 error_anew : (part : Part) (w : WorkState) (g : ℕ) → part.groups g ≡ true
     → option_and_then (λ row. row.error)
     (slice_get (work_anew part w).groups (new_number part.groups g))
     ≡ option_and_then (λ row. row.error) (slice_get w.groups g)
 error_anew part w g is =
-    ap (option_and_then (λ row. row.error)) (anew_get part.groups (group_anew part) w.groups g is)
-    ∙ by_row (slice_get w.groups g)
-  where
-    by_row : (o : Option Group)
-        → option_and_then (λ row. row.error) (option_map (group_anew part) o)
-        ≡ option_and_then (λ row. row.error) o
-    by_row None = refl
-    by_row (Some row) = refl
+    row_anew (option_and_then (λ row. row.error)) (option_and_then (λ row. row.error)) part.groups
+    (group_anew part) w.groups g refl (λ row at. refl) is
 
 answers_anew : (part : Part) (p q : State) (call : Command) → IsConsistent (state_anew part p)
     → Goes part p → Goes part q → calls_part part p call ≡ true
@@ -114,67 +86,19 @@ answers_anew part p q (command.Retry n) anew go_p go_q is = submission_anew part
 answers_anew part p q (command.Wait group) anew go_p go_q is =
     let on = group_on part p group anew is in
     ap (λ g. answer.Waited
-    (option_and_then (λ row. row.error) (slice_get (work_anew part q.work).groups g))) on.told
-    ∙ ap answer.Waited (error_anew part q.work (group_of p group) on.goes)
+    (option_and_then (λ row. row.error) (slice_get (work_anew part q.work).groups g))) on.1
+    ∙ ap answer.Waited (error_anew part q.work (group_of p group) on.0)
 
 -- ---- commands
-
--- A reply by its tests: whether the call is repeated, whether the log is full, and the event.
-abbrev reply_by : {X : Type 0} → List (Bool × Refusal) → Bool → Bool → Event
-    → (Option Event → X) → Result X Refusal
-reply_by tests repeated full e answered =
-    and_then (unless tests
-    (if repeated then Ok None else (if full then Err refusal.SessionFull else Ok (Some e))))
-    (λ made. Ok (answered made))
-
--- Where both answer alike, they reply alike.
-reply_by_anew : {X : Type 0} (tell : X → X) (tests : List (Bool × Refusal)) (repeated full : Bool)
-    (e f : Event) (new old : Option Event → X) → new None ≡ tell (old None)
-    → new (Some f) ≡ tell (old (Some e))
-    → reply_by tests repeated full f new ≡ reply_anew tell (reply_by tests repeated full e old)
-reply_by_anew tell [] true full e f new old none some = ap Ok none
-reply_by_anew tell [] false true e f new old none some = refl
-reply_by_anew tell [] false false e f new old none some = ap Ok some
-reply_by_anew {X = X} tell (t ∷ tests) repeated full e f new old none some =
-    by_test t.0 (reply_by_anew tell tests repeated full e f new old none some)
-  where
-    rest_new : Result (Option Event) Refusal
-    rest_new =
-        unless tests
-        (if repeated then Ok None else (if full then Err refusal.SessionFull else Ok (Some f)))
-
-    rest_old : Result (Option Event) Refusal
-    rest_old =
-        unless tests
-        (if repeated then Ok None else (if full then Err refusal.SessionFull else Ok (Some e)))
-
-    by_test : (b : Bool)
-        → and_then rest_new (λ made. Ok (new made))
-        ≡ reply_anew tell (and_then rest_old (λ made. Ok (old made)))
-        → and_then (if b then Err t.1 else rest_new) (λ made. Ok (new made))
-        ≡ reply_anew tell (and_then (if b then Err t.1 else rest_old) (λ made. Ok (old made)))
-    by_test true rest = refl
-    by_test false rest = rest
 
 pub commands_alike : (part : Part) (p : State) (log : ℕ) (call : Command) → Both part p
     → calls_part part p call ≡ true → has_place p (event_of p call) ≡ true
     → reply (state_anew part p) log (command_anew part call)
     ≡ reply_anew (answer_anew part) (reply p log call)
 commands_alike part p log call both is place =
-    ap (λ tests. reply_by tests (is_repeated new call_new) (is_full new log e_new) e_new answered)
-    (refusals_same part p call both.old both.new both.go is place)
-    ∙ ap (λ b. reply_by (refusals p call) b (is_full new log e_new) e_new answered)
-    (repeated_same part p call both.new is)
-    ∙ ap (λ b. reply_by (refusals p call) (is_repeated p call) b e_new answered)
-    (full_same part p log call both.old both.go.work)
-    ∙ reply_by_anew (answer_anew part) (refusals p call) (is_repeated p call)
-    (is_full p log e) e e_new answered (λ made. answer_of p (state_after p made) call)
-    (answers_anew part p p call both.new both.go both.go is)
-    (ap (λ q. answer_of new q call_new)
-    (ap (step new) (event_told part p call both.new is)
-    ∙ step_anew part p e both.old both.go (event_names part p call both.new is))
-    ∙ answers_anew part p (step p e) call both.new both.go
-    (goes_still part p e both.go (event_names part p call both.new is)) is)
+    ap (λ b. answered_by b (event_of new call_new)) (repeated_same part p call both.new is)
+    ∙ ap (answered_by (is_repeated p call)) asked.told
+    ∙ by_repeated (is_repeated p call)
   where
     new : State
     new = state_anew part p
@@ -185,11 +109,28 @@ commands_alike part p log call both is place =
     e : Event
     e = event_of p call
 
-    e_new : Event
-    e_new = event_of new call_new
+    asked : IsAskedAnew part p call
+    asked = asked_anew part p call both.new is
 
-    answered : Option Event → Answer
-    answered made = answer_of new (state_after new made) call_new
+    answered : Option Event → Result Answer Refusal
+    answered made = Ok (answer_of p (state_after p made) call)
+
+    answered_new : Option Event → Result Answer Refusal
+    answered_new made = Ok (answer_of new (state_after new made) call_new)
+
+    answered_by : Bool → Event → Result Answer Refusal
+    answered_by b f = and_then (if b then Ok None else decided new log f) answered_new
+
+    by_repeated : (b : Bool) → answered_by b (event_anew part e)
+        ≡ reply_anew (answer_anew part)
+        (and_then (if b then Ok None else decided p log e) answered)
+    by_repeated true = ap Ok (answers_anew part p p call both.new both.go both.go is)
+    by_repeated false =
+        decided_alike (answer_anew part) part p log e answered_new answered both asked.names place
+        (unrefused_allowed p call)
+        (ap Ok (ap (λ q. answer_of new q call_new) (step_anew part p e both.old both.go asked.names)
+        ∙ answers_anew part p (step p e) call both.new both.go
+        (goes_still part p e both.go asked.names) is))
 
 -- ---- starts
 
@@ -197,21 +138,16 @@ done_same : (part : Part) (p : State) (n : ℕ) (row : Task) → Both part p
     → slice_get p.work.tasks n ≡ Some row → part.tasks n ≡ true
     → is_task_done (state_anew part p) (task_anew part row) ≡ is_task_done p row
 done_same part p n row both at is =
-    ap (λ o. option_map_or (λ group. is_done (state_anew part p).tree.scopes group.scope) o false)
-    (anew_get part.groups (group_anew part) p.work.groups row.group goes)
-    ∙ by_group (slice_get p.work.groups row.group) refl
+    row_anew
+    (λ o. option_map_or (λ group. is_done (state_anew part p).tree.scopes group.scope) o false)
+    (λ o. option_map_or (λ group. is_done p.tree.scopes group.scope) o false) part.groups
+    (group_anew part) p.work.groups row.group refl
+    (λ group found.
+    done_anew part p (are_both part p both) group.scope
+    ((both.go.work.groups.each row.group group found).scope goes)) goes
   where
     goes : part.groups row.group ≡ true
     goes = sym (both.go.work.tasks.each n row at) ∙ is
-
-    by_group : (o : Option Group) → slice_get p.work.groups row.group ≡ o
-        → option_map_or (λ group. is_done (state_anew part p).tree.scopes group.scope)
-        (option_map (group_anew part) o) false
-        ≡ option_map_or (λ group. is_done p.tree.scopes group.scope) o false
-    by_group None found = refl
-    by_group (Some group) found =
-        done_anew part p both.old both.new both.go group.scope
-        ((both.go.work.groups.each row.group group found).scope goes)
 
 abbrev started_at : ℕ → ℕ → Bool → Task → Started
 started_at count n done row = record {
@@ -224,127 +160,86 @@ started_same : (part : Part) (p : State) (n : ℕ) → Both part p → part.task
     → started_of (state_anew part p) (new_number part.tasks n)
     ≡ option_map (started_anew part) (started_of p n)
 started_same part p n both is =
-    ap (option_map (λ row. started_at p.count (new_number part.tasks n)
+    row_anew
+    (option_map (λ row. started_at p.count (new_number part.tasks n)
     (is_task_done (state_anew part p) row) row))
-    (anew_get part.tasks (task_anew part) p.work.tasks n is)
-    ∙ by_row (slice_get p.work.tasks n) refl
-  where
-    by_row : (o : Option Task) → slice_get p.work.tasks n ≡ o
-        → option_map (λ row. started_at p.count (new_number part.tasks n)
-        (is_task_done (state_anew part p) row) row) (option_map (task_anew part) o)
-        ≡ option_map (started_anew part)
-        (option_map (λ row. started_at p.count n (is_task_done p row) row) o)
-    by_row None at = refl
-    by_row (Some row) at =
-        ap (λ b. Some (started_at p.count (new_number part.tasks n) b row))
-        (done_same part p n row both at is)
+    (λ o. option_map (started_anew part)
+    (option_map (λ row. started_at p.count n (is_task_done p row) row) o)) part.tasks
+    (task_anew part) p.work.tasks n refl
+    (λ row at.
+    ap (λ b. Some (started_at p.count (new_number part.tasks n) b row))
+    (done_same part p n row both at is)) is
 
--- The log has no room for the record of a start, and for the finishes of so many tasks.
-abbrev is_full_by : ℕ → ℕ → Bool
-is_full_by log running =
-    nat_lt SESSION_LEN (log + record_len (event.Start 0) + FINISH_ROOM * running)
-
--- A start is as long in both logs, and leaves as many tasks running.
-start_full : (part : Part) (p : State) (log n : ℕ) → Both part p → first_ready p.work ≡ Some n
-    → part.tasks n ≡ true
-    → is_full (state_anew part p) log (event.Start (new_number part.tasks n))
-    ≡ is_full p log (event.Start n)
-start_full part p log n both at is =
-    let may = ap (λ o. option_map_or (λ first. first == n) o false) at ∙ eq-eqb n n refl in
-    let then_both = both_step part p (event.Start n) both is may in
-    ap (λ q. is_full_by log (running_count q.work.tasks))
-    (step_anew part p (event.Start n) both.old both.go is)
-    ∙ ap (is_full_by log)
-    (running_same part (step p (event.Start n)) then_both.old then_both.go.work)
-
-abbrev start_by : Option ℕ → (ℕ → Bool) → (ℕ → Option Started) → Result Started Refusal
-start_by first full started =
-    and_then (and_then (ok_or first refusal.NothingReady)
-    (λ n. if full n then Err refusal.SessionFull else Ok (Some (event.Start n))))
-    (λ made. ok_or (option_and_then started first) refusal.NothingReady)
-
-start_by_anew : (part : Part) (n : ℕ) (full : Bool) (started : Option Started)
-    → (if full then Err refusal.SessionFull
-    else ok_or (option_map (started_anew part) started) refusal.NothingReady)
-    ≡ reply_anew (started_anew part)
-    (if full then Err refusal.SessionFull else ok_or started refusal.NothingReady)
-start_by_anew part n true started = refl
-start_by_anew part n false None = refl
-start_by_anew part n false (Some started) = refl
-
-chosen : {X Y : Type 0} (b : Bool) (x y : Result X Refusal) (f : X → Result Y Refusal)
-    → and_then (if b then x else y) f ≡ (if b then and_then x f else and_then y f)
-chosen true x y f = refl
-chosen false x y f = refl
-
-start_some : (n : ℕ) (full : ℕ → Bool) (started : ℕ → Option Started)
-    → start_by (Some n) full started
-    ≡ (if full n then Err refusal.SessionFull else ok_or (started n) refusal.NothingReady)
-start_some n full started =
-    chosen (full n) (Err refusal.SessionFull) (Ok (Some (event.Start n)))
-    (λ made. ok_or (started n) refusal.NothingReady)
+ok_or_anew : {X : Type 0} (tell : X → X) (o : Option X) (why : Refusal)
+    → ok_or (option_map tell o) why ≡ reply_anew tell (ok_or o why)
+ok_or_anew tell None why = refl
+ok_or_anew tell (Some x) why = refl
 
 pub starts_alike : (part : Part) (p : State) (log : ℕ) → Both part p
     → reply_start (state_anew part p) log
     ≡ reply_anew (started_anew part) (reply_start p log)
 starts_alike part p log both =
-    ap (λ first. start_by first full_new started_new) (first_anew part p both.old both.go.work)
+    ap (λ first. start_by (unwrap_or first (length new.work.tasks)) first)
+    (first_anew part p both.old (hangs part p both.go).work)
     ∙ by_first (first_ready p.work) refl
   where
-    full_new : ℕ → Bool
-    full_new n = is_full (state_anew part p) log (event.Start n)
+    new : State
+    new = state_anew part p
 
-    full : ℕ → Bool
-    full n = is_full p log (event.Start n)
+    started : Option ℕ → Option Event → Result Started Refusal
+    started first made = ok_or (option_and_then (started_of p) first) refusal.NothingReady
 
-    started_new : ℕ → Option Started
-    started_new = started_of (state_anew part p)
+    started_new : Option ℕ → Option Event → Result Started Refusal
+    started_new first made = ok_or (option_and_then (started_of new) first) refusal.NothingReady
 
-    started : ℕ → Option Started
-    started = started_of p
+    start_by : ℕ → Option ℕ → Result Started Refusal
+    start_by n first = and_then (decided new log (event.Start n)) (started_new first)
+
+    by_number : (n : ℕ) (first : Option ℕ) → part.tasks n ≡ true
+        → ok_or (option_and_then (started_of new) (option_map (new_number part.tasks) first))
+        refusal.NothingReady
+        ≡ reply_anew (started_anew part)
+        (ok_or (option_and_then (started_of p) first) refusal.NothingReady)
+        → start_by (new_number part.tasks n) (option_map (new_number part.tasks) first)
+        ≡ reply_anew (started_anew part)
+        (and_then (decided p log (event.Start n)) (started first))
+    by_number n first is same =
+        decided_alike (started_anew part) part p log (event.Start n)
+        (started_new (option_map (new_number part.tasks) first)) (started first) both is refl
+        (λ none. none) same
 
     by_first : (o : Option ℕ) → first_ready p.work ≡ o
-        → start_by (option_map (new_number part.tasks) o) full_new started_new
-        ≡ reply_anew (started_anew part) (start_by o full started)
-    by_first None at = refl
+        → start_by (unwrap_or (option_map (new_number part.tasks) o) (length new.work.tasks))
+        (option_map (new_number part.tasks) o)
+        ≡ reply_anew (started_anew part)
+        (and_then (decided p log (event.Start (unwrap_or o (length p.work.tasks)))) (started o))
+    by_first None at =
+        ap (λ n. start_by n None) (length-anew part.tasks (task_anew part) p.work.tasks)
+        ∙ by_number (length p.work.tasks) None
+        (both.go.work.tasks.later (length p.work.tasks) (omega arith)) refl
     by_first (Some n) at =
         let is =
-        ready_goes part p n both.old both.go.work
+        ready_goes part p n both.old (hangs part p both.go).work
         (found_passes (is_ready p.work) (task_numbers p.work) n at) in
-        let new = new_number part.tasks n in
-        start_some new full_new started_new
-        ∙ ap (λ b. if b then Err refusal.SessionFull
-        else ok_or (started_new new) refusal.NothingReady) (start_full part p log n both at is)
-        ∙ ap (λ o. if full n then Err refusal.SessionFull else ok_or o refusal.NothingReady)
-        (started_same part p n both is)
-        ∙ start_by_anew part n (full n) (started n)
-        ∙ ap (reply_anew (started_anew part)) (sym (start_some n full started))
+        by_number n (Some n) is
+        (ap (λ o. ok_or o refusal.NothingReady) (started_same part p n both is)
+        ∙ ok_or_anew (started_anew part) (started_of p n) refusal.NothingReady)
 
 -- ---- finishes
 
-finish_by : (past runs : Bool) (count : ℕ) (e f : Event)
-    → and_then (unless ((past, refusal.NoSuchTask) ∷ (not runs, refusal.NotRunning) ∷ [])
-    (Ok (Some f))) (λ made. Ok (count + 1))
-    ≡ and_then (unless ((past, refusal.NoSuchTask) ∷ (not runs, refusal.NotRunning) ∷ [])
-    (Ok (Some e))) (λ made. Ok (count + 1))
-finish_by true runs count e f = refl
-finish_by false true count e f = refl
-finish_by false false count e f = refl
+same_told : {X : Type 0} (r : Result X Refusal) → reply_anew (λ x. x) r ≡ r
+same_told (Ok x) = refl
+same_told (Err why) = refl
 
-abbrev finish_at : Bool → Bool → Event → ℕ → Result ℕ Refusal
-finish_at past runs e count =
-    and_then (unless ((past, refusal.NoSuchTask) ∷ (not runs, refusal.NotRunning) ∷ [])
-    (Ok (Some e))) (λ made. Ok (count + 1))
-
-pub finishes_alike : (part : Part) (p : State) (n : ℕ) (outcome : Outcome)
+pub finishes_alike : (part : Part) (p : State) (n : ℕ) (outcome : Outcome) → Both part p
     → part.tasks n ≡ true
     → reply_finish (state_anew part p) (new_number part.tasks n) outcome
     ≡ reply_finish p n outcome
-finishes_alike part p n outcome is =
-    let new = new_number part.tasks n in
-    ap (λ b. finish_at b (is_running_task (work_anew part p.work) new) (event.Finish new outcome)
-    p.count) (past_anew part p n is)
-    ∙ ap (λ b. finish_at (nat_le (length p.work.tasks) n) b (event.Finish new outcome) p.count)
-    (stage_same is_running part p.work n is)
-    ∙ finish_by (nat_le (length p.work.tasks) n) (is_running_task p.work n) p.count
-    (event.Finish n outcome) (event.Finish new outcome)
+finishes_alike part p n outcome both is =
+    let e : Event = event.Finish n outcome in
+    let f : Event = event.Finish (new_number part.tasks n) outcome in
+    let made : Option Event → Result ℕ Refusal = λ made. Ok (p.count + 1) in
+    ap (λ tests. and_then (unless tests (Ok (Some f))) made)
+    (refusals_anew part p e (are_both part p both) is refl)
+    ∙ tests_alike (λ k. k) (refusals p e) false false f e made made (λ none. refl) refl
+    ∙ same_told (reply_finish p n outcome)

@@ -1,6 +1,6 @@
 -- Events that name what goes on lead both stores the same way.
-use Rattle.std.proofs.Common.{◌≡◌, Bool, true, false, List, [], ◌∷◌, map, Some, None}
-use Rattle.std.proofs.Common.{refl, ap, subst, ◌∙◌}
+use Rattle.std.proofs.Common.{◌≡◌, Bool, true, false, List, [], ◌∷◌, map, Some, None, refl, ap}
+use Rattle.std.proofs.Common.{subst, ◌∙◌}
 use Rattle.std.specs.Option.{option_and_then}
 use Rattle.std.specs.Prelude.{if◌then◌else◌}
 use Rattle.std.proofs.lemmas.Bool.{and_parts}
@@ -11,9 +11,12 @@ use Rattle.run_model.specs.Rules.{IsConsistent}
 use Rattle.run_model.specs.State.{State}
 use Rattle.run_model.specs.Step.{step}
 use Rattle.model_laws.proofs.StateSteps.{kept_by}
-use Rattle.renewal_laws.specs.GoingOn.{Part, all_name_part, event_anew, names_part, state_anew}
-use Rattle.renewal_laws.proofs.Allowed.{allowed_anew}
-use Rattle.renewal_laws.proofs.Goes.{Goes}
+use Rattle.state_renewal.specs.Renewed.{Part, state_anew}
+use Rattle.renewal_laws.specs.GoingOn.{all_name_part}
+use Rattle.state_renewal.specs.Told.{event_anew, names_part}
+use Rattle.state_renewal.proofs.Refusals.{allowed_anew}
+use Rattle.state_renewal.proofs.Hangs.{AreBoth}
+use Rattle.renewal_laws.proofs.Goes.{Goes, hangs}
 use Rattle.renewal_laws.proofs.GoesStill.{goes_still}
 use Rattle.renewal_laws.proofs.Steps.{step_anew}
 
@@ -23,6 +26,9 @@ pub record Both (part : Part) (p : State) : Type 0 where
   pub new : IsConsistent (state_anew part p)
   pub go : Goes part p
 
+pub are_both : (part : Part) (p : State) → Both part p → AreBoth part p
+are_both part p both = record { old = both.old; new = both.new; hangs = hangs part p both.go }
+
 pub both_step : (part : Part) (p : State) (e : Event) → Both part p → names_part part e ≡ true
     → allowed p e ≡ true → Both part (step p e)
 both_step part p e both is may = record {
@@ -30,7 +36,7 @@ both_step part p e both is may = record {
   new =
       subst IsConsistent (step_anew part p e both.old both.go is)
       (kept_by (state_anew part p) (event_anew part e) both.new
-      (allowed_anew part p e both.old both.new both.go is may));
+      (allowed_anew part p e (are_both part p both) is may));
   go = goes_still part p e both.go is;
 }
 
@@ -62,7 +68,7 @@ led part (e ∷ events) p q both are has =
           run =
               ap (λ b. option_and_then (λ r. run r (map (event_anew part) events))
               (if b then Some (step (state_anew part p) (event_anew part e)) else None))
-              (allowed_anew part p e both.old both.new both.go parts.0 may)
+              (allowed_anew part p e (are_both part p both) parts.0 may)
               ∙ ap (λ r. run r (map (event_anew part) events))
               (step_anew part p e both.old both.go parts.0)
               ∙ rest.run;

@@ -1,6 +1,6 @@
 -- What a change makes of what goes on is what goes on of what it makes.
-use Rattle.std.proofs.Common.{◌≡◌, ℕ, Bool, true, false, List, [], ◌∷◌, ◌++◌, length}
-use Rattle.std.proofs.Common.{Option, Some, None, slice_get, refl, sym, ap, ◌∙◌, arith}
+use Rattle.std.proofs.Common.{◌≡◌, ℕ, Bool, true, false, List, [], ◌∷◌, ◌++◌, length, Option, Some}
+use Rattle.std.proofs.Common.{None, slice_get, refl, sym, ap, ◌∙◌, arith}
 use Rattle.std.specs.Option.{option_and_then, option_map, option_map_or}
 use Rattle.std.specs.Prelude.{if◌then◌else◌}
 use Rattle.run_model.specs.declared.groups.Group.{Group}
@@ -18,11 +18,11 @@ use Rattle.run_model.specs.WorkChanges.{after_end, after_go, after_limit, after_
 use Rattle.run_model.specs.WorkChanges.{after_wait, group_of_task, groups_after, retried_row}
 use Rattle.run_model.specs.WorkChanges.{with_error, with_limit, with_stage, with_wait}
 use Rattle.model_laws.proofs.Ends.{owner_found}
-use Rattle.state_renewal.specs.Renewed.{new_number}
-use Rattle.renewal_laws.specs.GoingOn.{Part, group_anew, rows_anew, scope_anew, task_anew}
-use Rattle.renewal_laws.specs.GoingOn.{tree_anew, work_anew}
+use Rattle.state_renewal.specs.Renewed.{new_number, Part, group_anew, rows_anew, scope_anew}
+use Rattle.state_renewal.specs.Renewed.{task_anew, tree_anew, work_anew}
 use Rattle.renewal_laws.proofs.Goes.{GroupsGo, WorkGoes}
-use Rattle.renewal_laws.proofs.Rows.{anew_at, anew_get, anew_map, anew_push, length-anew}
+use Rattle.state_renewal.proofs.RowsAnew.{anew_at, anew_get, anew_map, anew_push, length-anew}
+use Rattle.state_renewal.proofs.RowsAnew.{row_anew}
 
 -- ---- the tree
 
@@ -70,23 +70,16 @@ own_anew : (part : Part) (w : WorkState) (g : ℕ) → part.groups g ≡ true
     → own_scope (work_anew part w) (new_number part.groups g)
     ≡ option_map (new_number part.scopes) (own_scope w g)
 own_anew part w g is =
-    ap (option_and_then (λ group. if group.bare then None else Some group.scope))
-    (anew_get part.groups (group_anew part) w.groups g is)
-    ∙ by_row (slice_get w.groups g)
+    row_anew (option_and_then (λ group. if group.bare then None else Some group.scope))
+    (λ o. option_map (new_number part.scopes)
+    (option_and_then (λ group. if group.bare then None else Some group.scope) o)) part.groups
+    (group_anew part) w.groups g refl (λ row at. by_bare row.bare row.scope) is
   where
     by_bare : (b : Bool) (s : ℕ)
         → (if b then None else Some (new_number part.scopes s))
         ≡ option_map (new_number part.scopes) (if b then None else Some s)
     by_bare true s = refl
     by_bare false s = refl
-
-    by_row : (o : Option Group)
-        → option_and_then (λ group. if group.bare then None else Some group.scope)
-        (option_map (group_anew part) o)
-        ≡ option_map (new_number part.scopes)
-        (option_and_then (λ group. if group.bare then None else Some group.scope) o)
-    by_row None = refl
-    by_row (Some row) = by_bare row.bare row.scope
 
 pub ended_anew : (part : Part) (e : ℕ) (w : WorkState) (g : ℕ) (cause : Option (List ℕ))
     (t : TreeState) → GroupsGo part w.groups → part.groups g ≡ true
@@ -107,22 +100,16 @@ ended_anew part e w g cause t go is =
         cancel_anew part e s cause t
         (ap part.scopes (sym owner.1.scope) ∙ (go.each g owner.0 owner.1.found).scope is)
 
-pub group_of_anew : (part : Part) (w : WorkState) (n : ℕ) → part.tasks n ≡ true
+group_of_anew : (part : Part) (w : WorkState) (n : ℕ) → part.tasks n ≡ true
     → group_of_task (work_anew part w) (new_number part.tasks n)
     ≡ new_number part.groups (group_of_task w n)
 group_of_anew part w n is =
-    ap (λ o. option_map_or (λ task. task.group) o (length (work_anew part w).groups))
-    (anew_get part.tasks (task_anew part) w.tasks n is)
-    ∙ by_row (slice_get w.tasks n)
-  where
-    by_row : (o : Option Task)
-        → option_map_or (λ task. task.group) (option_map (task_anew part) o)
-        (length (work_anew part w).groups)
-        ≡ new_number part.groups (option_map_or (λ task. task.group) o (length w.groups))
-    by_row None = length-anew part.groups (group_anew part) w.groups
-    by_row (Some row) = refl
+    row_anew (λ o. option_map_or (λ task. task.group) o (length (work_anew part w).groups))
+    (λ o. new_number part.groups (option_map_or (λ task. task.group) o (length w.groups)))
+    part.tasks (task_anew part) w.tasks n (length-anew part.groups (group_anew part) w.groups)
+    (λ row at. refl) is
 
-pub group_goes : (part : Part) (w : WorkState) (n : ℕ) → WorkGoes part w → part.tasks n ≡ true
+group_goes : (part : Part) (w : WorkState) (n : ℕ) → WorkGoes part w → part.tasks n ≡ true
     → part.groups (group_of_task w n) ≡ true
 group_goes part w n go is = by_row (slice_get w.tasks n) refl
   where

@@ -1,6 +1,6 @@
 -- What an event makes of what goes on is what goes on of what it makes.
-use Rattle.std.proofs.Common.{◌≡◌, ◌+◌, ℕ, true, false, List, [], ◌∷◌, length, map}
-use Rattle.std.proofs.Common.{Some, None, refl, ap, ◌∙◌, arith}
+use Rattle.std.proofs.Common.{◌≡◌, ◌+◌, ℕ, true, false, List, [], ◌∷◌, length, map, Some, None}
+use Rattle.std.proofs.Common.{refl, ap, ◌∙◌, arith}
 use Rattle.std.specs.List.{AllByRecursion, fold}
 use Rattle.run_model.specs.declared.scopes.Kind.TheVariants as kind
 use Rattle.run_model.specs.declared.tasks.Stage.TheVariants as stage
@@ -12,17 +12,16 @@ use Rattle.run_model.specs.Step.{after_task_end, step, tree_after, work_after}
 use Rattle.run_model.specs.Tasks.{running_tasks}
 use Rattle.run_model.specs.WorkChanges.{after_interrupt, after_make, error_of, interruption}
 use Rattle.run_model.specs.WorkChanges.{stage_of}
-use Rattle.state_renewal.specs.Renewed.{new_number}
-use Rattle.renewal_laws.specs.GoingOn.{Part, event_anew, names_part, scope_anew, state_anew}
-use Rattle.renewal_laws.specs.GoingOn.{tree_anew, work_anew}
-use Rattle.renewal_laws.proofs.Goes.{Goes, WorkGoes}
+use Rattle.state_renewal.specs.Renewed.{new_number, Part, scope_anew, state_anew, tree_anew}
+use Rattle.state_renewal.specs.Renewed.{work_anew}
+use Rattle.state_renewal.specs.Told.{event_anew, names_part}
+use Rattle.renewal_laws.proofs.Goes.{Goes, WorkGoes, hangs}
 use Rattle.renewal_laws.proofs.GoesStill.{work_ended}
-use Rattle.renewal_laws.proofs.Rows.{length-anew}
+use Rattle.state_renewal.proofs.RowsAnew.{length-anew}
 use Rattle.renewal_laws.proofs.Squares.{advance_anew, cancel_anew, derive_anew, end_anew}
-use Rattle.renewal_laws.proofs.Squares.{ended_anew}
-use Rattle.renewal_laws.proofs.Squares.{go_anew, limit_anew, make_anew, retry_anew, stage_anew}
-use Rattle.renewal_laws.proofs.Squares.{task_end_anew, wait_anew}
-use Rattle.renewal_laws.proofs.Works.{all_running_go, running_anew}
+use Rattle.renewal_laws.proofs.Squares.{ended_anew, go_anew, limit_anew, make_anew, retry_anew}
+use Rattle.renewal_laws.proofs.Squares.{stage_anew, task_end_anew, wait_anew}
+use Rattle.state_renewal.proofs.Works.{all_running_go, running_anew}
 
 -- ---- a restart
 
@@ -77,9 +76,9 @@ tree_step part p (event.Wait g) consistent go is =
     ended_anew part (p.count + 1) p.work g None p.tree go.work.groups is
 tree_step part p event.Restart consistent go is =
     ap (fold (λ t n. after_task_end (p.count + 1) (work_anew part p.work) n (Some interruption) t)
-    (tree_anew part p.tree)) (running_anew part p consistent go.work)
+    (tree_anew part p.tree)) (running_anew part p consistent (hangs part p go).work)
     ∙ tasks_end_anew part (p.count + 1) p.work (running_tasks p.work) p.tree go.work
-    (all_running_go part p consistent go.work)
+    (all_running_go part p consistent (hangs part p go).work)
 
 work_step : (part : Part) (p : State) (e : Event) → IsConsistent p → Goes part p
     → names_part part e ≡ true
@@ -107,9 +106,10 @@ work_step part p (event.Finish n outcome) consistent go is =
     end_anew part n (stage_of outcome) (error_of outcome) p.work go.work is
 work_step part p (event.Wait g) consistent go is = wait_anew part g p.work is
 work_step part p event.Restart consistent go is =
-    ap (fold after_interrupt (work_anew part p.work)) (running_anew part p consistent go.work)
+    ap (fold after_interrupt (work_anew part p.work))
+    (running_anew part p consistent (hangs part p go).work)
     ∙ interrupts_anew part (running_tasks p.work) p.work go.work
-    (all_running_go part p consistent go.work)
+    (all_running_go part p consistent (hangs part p go).work)
 
 -- The state of this count, tree and work.
 abbrev state_of : ℕ → TreeState → WorkState → State

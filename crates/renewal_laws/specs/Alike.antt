@@ -7,8 +7,7 @@ use Rattle.run_model.specs.Questions.{look_of, group_look_of, task_look_of}
 use Rattle.run_model.specs.Scopes.{value_of}
 use Rattle.run_model.specs.State.{State}
 use Rattle.run_model.specs.Tasks.{first_ready}
-use Rattle.state_renewal.specs.Renewed.{new_number}
-use Rattle.renewal_laws.specs.GoingOn.{Part}
+use Rattle.state_renewal.specs.Renewed.{new_number, Part}
 
 -- What is seen of a group, told by its scope's new number.
 abbrev pub group_look_anew : Part → GroupLook → GroupLook

@@ -8,8 +8,7 @@ use Rattle.run_model.specs.declared.commands.Command.{Command}
 use Rattle.run_model.specs.declared.commands.Command.TheVariants as command
 use Rattle.run_model.specs.declared.refusals.Refusal.{Refusal}
 use Rattle.run_model.specs.State.{State, group_named, scope_named}
-use Rattle.state_renewal.specs.Renewed.{new_number}
-use Rattle.renewal_laws.specs.GoingOn.{Part}
+use Rattle.state_renewal.specs.Renewed.{new_number, Part}
 
 -- There is a scope of this name, and it goes on.
 abbrev pub has_scope_on : Part → State → List ℕ → Bool

@@ -12,10 +12,10 @@ ghost use Rattle.run_model.specs.Event.{Derive};
 ghost use Rattle.run_model.specs.Replies.{reply};
 ghost use Rattle.run_model.specs.State.{formatted};
 ghost use Rattle.state_renewal.specs.Examples.{detached_part, retried};
-ghost use Rattle.state_renewal.specs.Renewed.{renewed};
+ghost use Rattle.state_renewal.specs.Renewed.{renewed, state_anew};
 ghost use Rattle.renewal_laws.specs.Examples.{day, day_anew, day_left, first_night, second_day};
-ghost use Rattle.renewal_laws.specs.GoingOn.{GoesOn, all_name_part, event_anew, going_on};
-ghost use Rattle.renewal_laws.specs.GoingOn.{names_part, state_anew};
+ghost use Rattle.renewal_laws.specs.GoingOn.{GoesOn, all_name_part, going_on};
+ghost use Rattle.state_renewal.specs.Told.{event_anew, names_part};
 
 /// A day's events name what goes on, and are told by the new numbers. They lead the renewed store
 /// to what goes on of the old one; what is made on that day has the next numbers.

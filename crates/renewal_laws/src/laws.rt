@@ -17,12 +17,12 @@ ghost use Rattle.run_model.specs.Rules.{HasGroup, HasTask, IsConsistent};
 ghost use Rattle.run_model.specs.Scopes.{is_done};
 ghost use Rattle.run_model.specs.State.{State};
 ghost use Rattle.run_model.specs.Tasks.{is_unfinished};
-ghost use Rattle.state_renewal.specs.Renewed.{new_number, renewed};
-ghost use Rattle.state_renewal.specs.Told.{has_place};
+ghost use Rattle.state_renewal.specs.Renewed.{new_number, renewed, state_anew};
+ghost use Rattle.state_renewal.specs.Told.{has_place, event_anew, names_part};
 ghost use Rattle.renewal_laws.specs.Alike.{GoOnAlike};
 ghost use Rattle.renewal_laws.specs.Answered.{answer_anew, calls_part, command_anew, reply_anew};
 ghost use Rattle.renewal_laws.specs.Answered.{started_anew};
-ghost use Rattle.renewal_laws.specs.GoingOn.{GoesOn, event_anew, going_on, names_part, state_anew};
+ghost use Rattle.renewal_laws.specs.GoingOn.{GoesOn, going_on};
 
 /// The renewed state is what goes on of the old one. And whatever the old one is then led to, the
 /// same events are allowed of the renewed one, and lead it to what goes on of that.

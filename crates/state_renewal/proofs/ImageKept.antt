@@ -1,13 +1,13 @@
 -- The image of a renewed state: each field of its rows is in range, where the old ones were.
-use Rattle.std.proofs.Common.{◌≡◌, ◌<◌, ◌≤◌, ◌+◌, ◌^◌, ◌&&◌, ℕ, zero, suc, Bool, true, List}
-use Rattle.std.proofs.Common.{[], ◌∷◌, length, drop, Option, Some, None, slice_get, refl, sym, ap}
+use Rattle.std.proofs.Common.{◌≡◌, ◌<◌, ◌≤◌, ◌+◌, ◌^◌, ◌&&◌, ℕ, zero, suc, Bool, true, List, []}
+use Rattle.std.proofs.Common.{◌∷◌, length, drop, Option, Some, None, slice_get, refl, sym, ap}
 use Rattle.std.proofs.Common.{subst, ◌∙◌, arith}
 use Rattle.std.specs.List.{AllByRecursion}
 use Rattle.std.specs.Option.{option_map}
 use Rattle.std.specs.Prelude.{IsTrue, nat_lt}
 use Rattle.std.proofs.lemmas.Bool.{and_parts, and_from, ltb-true, lt-ltb, false≢true}
 use Rattle.std.proofs.lemmas.List.{length-drop}
-use Rattle.std.proofs.lemmas.Option.{none-some, same_Some, slice_get_within}
+use Rattle.std.proofs.lemmas.Option.{slice_get_within}
 use Rattle.run_model.specs.declared.bounds.TheConstants.{MOST_GROUPS}
 use Rattle.run_model.specs.declared.groups.Group.{Group}
 use Rattle.run_model.specs.declared.layouts.Layout.{Layout}
@@ -29,14 +29,9 @@ use Rattle.state_renewal.specs.Renewed.{new_number, keeps_scope, keeps_group, ke
 use Rattle.state_renewal.specs.Renewed.{scope_told, group_told, task_told, renewed}
 use Rattle.state_renewal.proofs.Numbers.{number_at_most}
 use Rattle.state_renewal.proofs.RulesKept.{scope_from, group_from, task_from, rules_kept}
+use Rattle.state_renewal.proofs.Keeps.{all_at}
 
 -- ---- all rows
-
-pub all_at : {X : Type 0} (P : X → Type 0) (rows : List X) → AllByRecursion P rows → (n : ℕ) (x : X)
-    → slice_get rows n ≡ Some x → P x
-all_at P [] all n x found = absurd (none-some x found)
-all_at P (row ∷ rows) all zero x found = subst P (same_Some row x found) all.0
-all_at P (row ∷ rows) all (suc n) x found = all_at P rows all.1 n x found
 
 all_from : {X : Type 0} (P : X → Type 0) (rows : List X)
     → ((n : ℕ) (x : X) → slice_get rows n ≡ Some x → P x) → AllByRecursion P rows
@@ -51,13 +46,13 @@ behind_get (row ∷ rows) n = refl
 
 -- ---- fields
 
-pub from_five : (a b c d e : Bool) → a ≡ true → b ≡ true → c ≡ true → d ≡ true → e ≡ true
+from_five : (a b c d e : Bool) → a ≡ true → b ≡ true → c ≡ true → d ≡ true → e ≡ true
     → (a && b && c && d && e) ≡ true
 from_five a b c d e is_a is_b is_c is_d is_e =
     and_from (a && b && c && d) e
     (and_from (a && b && c) d (and_from (a && b) c (and_from a b is_a is_b) is_c) is_d) is_e
 
-pub lesser_number : (most n m : ℕ) → m ≤ n → IsTrue (nat_lt n most) → IsTrue (nat_lt m most)
+lesser_number : (most n m : ℕ) → m ≤ n → IsTrue (nat_lt n most) → IsTrue (nat_lt m most)
 lesser_number most n m less is =
     let below : n < most = ltb-true n most is in lt-ltb m most (omega (arith, less, below))
 
@@ -120,7 +115,7 @@ scope_ranged : (p : State)
     → IsTrue (is_kept_scope row)
 scope_ranged p all m row found =
     let of = scope_from p (suc m) row found in
-    by_number of.s of.old of.number of.found (ap is_kept_scope of.told)
+    by_number of.n of.old of.number of.found (ap is_kept_scope of.told)
   where
     by_number : (s : ℕ) (old : Scope) → suc m ≡ new_number (keeps_scope p) s
         → slice_get p.tree.scopes s ≡ Some old
@@ -180,7 +175,7 @@ has_image version layout bytes p is = record {
         let of = group_from p m row found in
         ap is_kept_group of.told
         ∙ group_in_range p of.old
-        (all_at (λ r. IsTrue (is_kept_group r)) p.work.groups is.ranged.groups of.g of.old
+        (all_at (λ r. IsTrue (is_kept_group r)) p.work.groups is.ranged.groups of.n of.old
         of.found));
     tasks =
         all_from (λ row. IsTrue (is_kept_task Two row)) (renewed p).work.tasks

@@ -1,38 +1,29 @@
 -- What is kept: what is above a kept scope, the scope of a kept group, and what isn't finished.
-use Rattle.std.proofs.Common.{◌≡◌, ◌⊎◌, ◌<◌, ◌≤◌, ◌+◌, ◌==◌, ◌&&◌, ◌||◌, ℕ, zero, suc, Bool, true}
+use Rattle.std.proofs.Common.{◌≡◌, ◌⊎◌, ◌<◌, ◌+◌, ◌==◌, ◌&&◌, ◌||◌, ℕ, zero, suc, Bool, true}
 use Rattle.std.proofs.Common.{false, not, cond, List, [], ◌∷◌, length, Option, Some, None}
 use Rattle.std.proofs.Common.{slice_get, inl, inr, refl, sym, ap, subst, ◌∙◌, is_some, arith}
-use Rattle.std.specs.List.{list_any, range_with_len, filter_map}
+use Rattle.std.specs.List.{range_with_len, filter_map, AllByRecursion}
 use Rattle.std.specs.Option.{option_map, option_map_or}
-use Rattle.std.specs.Prelude.{count_by, if◌then◌else◌}
 use Rattle.std.proofs.lemmas.Bool.{and_parts, and_from, or_cases, or_left, or_right, eq-eqb}
-use Rattle.std.proofs.lemmas.Bool.{eqb-true, false≢true, both_ways}
-use Rattle.std.proofs.lemmas.List.Sums.{sum_by-cons}
-use Rattle.std.proofs.lemmas.Option.{none-some, same_Some, slice_get_within}
+use Rattle.std.proofs.lemmas.Bool.{eqb-true, false≢true}
+use Rattle.std.proofs.lemmas.Option.{same_Some, slice_get_within, none-some}
 use Rattle.run_model.specs.declared.groups.Group.{Group}
 use Rattle.run_model.specs.declared.scopes.Scope.{Scope}
 use Rattle.run_model.specs.declared.tasks.Task.{Task}
 use Rattle.run_model.specs.Rows.{root}
-use Rattle.run_model.specs.Rules.{HasScope, HasGroup, HasTask, IsConsistent}
-use Rattle.run_model.specs.Scopes.{is_root, upwards, line_within, line, before_detached}
-use Rattle.run_model.specs.Scopes.{hit_at, least_hit, is_done, AreOrdered}
+use Rattle.run_model.specs.Rules.{HasScope, HasGroup, HasTask}
+use Rattle.run_model.specs.Scopes.{is_root, upwards, line_within, line, before_detached, hit_at}
+use Rattle.run_model.specs.Scopes.{least_hit, is_done, AreOrdered}
 use Rattle.run_model.specs.State.{State}
-use Rattle.run_model.specs.Tasks.{is_unfinished}
 use Rattle.model_laws.specs.Hits.{is_on}
 use Rattle.model_laws.specs.Searches.{above}
 use Rattle.model_laws.proofs.Lines.{line_up}
-use Rattle.model_laws.proofs.FirstErrors.{any_found}
+use Rattle.model_laws.proofs.FirstErrors.{any_found, found_any}
 use Rattle.state_renewal.specs.Renewed.{hosts_unwaited, is_needed, scope_numbers, keeps_scope}
 use Rattle.state_renewal.specs.Renewed.{keeps_group, keeps_task}
+use Rattle.model_laws.proofs.Places.{row_there}
 
 -- ---- rows
-
--- There is a row of each number below the length.
-pub there : {X : Type 0} (rows : List X) (n : ℕ) → n < length rows
-    → (row : X) × (slice_get rows n ≡ Some row)
-there [] n less = absurd (omega (arith, less))
-there (r ∷ rows) zero less = (r, refl)
-there (r ∷ rows) (suc n) less = there rows n (omega (arith, less))
 
 pub range_get : (a n i : ℕ) → i < n → slice_get (range_with_len a n) i ≡ Some (a + i)
 range_get a zero i less = absurd (omega (arith, less))
@@ -44,15 +35,11 @@ range_get a (suc n) (suc i) less =
 pub number_get : (n i : ℕ) → i < n → slice_get (range_with_len 0 n) i ≡ Some i
 number_get n i less = let e : 0 + i ≡ i = omega arith in range_get 0 n i less ∙ ap Some e
 
--- Where a test passes among some, one of them passes it.
-pub found_any : {X : Type 0} (test : X → Bool) (rows : List X) → list_any test rows ≡ true
-    → (n : ℕ) × (x : X) × (slice_get rows n ≡ Some x) × (test x ≡ true)
-found_any test [] is = absurd (false≢true is)
-found_any test (row ∷ rows) is =
-    elim (or_cases (test row) (list_any test rows) is) [
-      | inl here ↦ (0, row, refl, here)
-      | inr later ↦ (let x = found_any test rows later in (suc x.0, x.1, x.2, x.3))
-    ]
+pub all_at : {X : Type 0} (P : X → Type 0) (rows : List X) → AllByRecursion P rows → (n : ℕ) (x : X)
+    → slice_get rows n ≡ Some x → P x
+all_at P [] all n x found = absurd (none-some x found)
+all_at P (row ∷ rows) all zero x found = subst P (same_Some row x found) all.0
+all_at P (row ∷ rows) all (suc n) x found = all_at P rows all.1 n x found
 
 -- ---- lines
 
@@ -83,7 +70,7 @@ pub parent_there : (rows : List Scope) → AreOrdered rows → (s : ℕ) (row : 
 parent_there rows ordered s row found below =
     let lower = ordered s row found below in
     let within = slice_get_within rows s row found in
-    there rows row.parent (omega (arith, lower, within))
+    row_there rows row.parent (omega (arith, lower, within))
 
 passes_at : (rows : List Scope) → AreOrdered rows → (t s : ℕ) (row r : Scope)
     → PassesBelow rows t s row → slice_get rows s ≡ Some row → is_root row.kind ≡ false
@@ -198,7 +185,7 @@ scope_kept p g row found within is =
     by_cause : (not row.waited ≡ true) ⊎ ((not row.bare && keeps_scope p row.scope) ≡ true)
         → keeps_scope p row.scope ≡ true
     by_cause (inl unwaited) =
-        let scope = there p.tree.scopes row.scope within in
+        let scope = row_there p.tree.scopes row.scope within in
         needed_kept p row.scope scope.0 scope.1
         (or_right (not (is_done p.tree.scopes row.scope)) (hosts_unwaited p.work row.scope)
         (any_found (λ group. not group.waited && group.scope == row.scope) p.work.groups g row
@@ -214,44 +201,3 @@ pub task_is_kept : (p : State) (n : ℕ) (row : Task) → HasTask p.work n row
     → keeps_task p n ≡ keeps_group p row.group
 task_is_kept p n row found =
     ap (λ o. option_map_or (λ task. keeps_group p task.group) o false) found
-
-count_first : (b : Bool) (n : ℕ) → b ≡ true → 1 ≤ (if b then 1 else 0) + n
-count_first true n is = omega arith
-count_first false n is = absurd (both_ways false refl is)
-
-pub count_cons : {X : Type 0} (test : X → Bool) (row : X) (rows : List X)
-    → count_by test (row ∷ rows) ≡ (if test row then 1 else 0) + count_by test rows
-count_cons test row rows = sum_by-cons (λ x. if test x then 1 else 0) row rows
-
-count_found : {X : Type 0} (test : X → Bool) (rows : List X) (n : ℕ) (x : X)
-    → slice_get rows n ≡ Some x → test x ≡ true → 1 ≤ count_by test rows
-count_found test [] n x found is = absurd (none-some x found)
-count_found test (row ∷ rows) zero x found is =
-    rw (count_cons test row rows)
-    (count_first (test row) (count_by test rows) (ap test (same_Some row x found) ∙ is))
-count_found test (row ∷ rows) (suc n) x found is =
-    let rest = count_found test rows n x found is in
-    rw (count_cons test row rows) (omega (arith, rest))
-
--- In a consistent state each unfinished task is kept.
-pub unfinished_kept : (p : State) (n : ℕ) (row : Task) → IsConsistent p → HasTask p.work n row
-    → is_unfinished row.stage ≡ true → keeps_task p n ≡ true
-unfinished_kept p n row consistent found is =
-    task_is_kept p n row found
-    ∙ unwaited_kept p row.group group.0 group.1 (by_wait group.0.waited refl)
-  where
-    group : (g : Group) × HasGroup p.work row.group g
-    group = there p.work.groups row.group (consistent.numbered.groups n row found)
-
-    some : 1 ≤ count_by (λ task. task.group == row.group && is_unfinished task.stage) p.work.tasks
-    some =
-        count_found (λ task. task.group == row.group && is_unfinished task.stage) p.work.tasks n row
-        found
-        (and_from (row.group == row.group) (is_unfinished row.stage)
-        (eq-eqb row.group row.group refl) is)
-
-    by_wait : (b : Bool) → group.0.waited ≡ b → b ≡ false
-    by_wait false e = refl
-    by_wait true e =
-        let none = consistent.admitted.waited row.group group.0 group.1 e in
-        absurd (omega (arith, some, none))

@@ -1,9 +1,10 @@
 -- Rows that are kept and told anew: where each comes from, and where it goes.
-use Rattle.std.proofs.Common.{◌≡◌, ◌⊎◌, ◌<◌, ◌≤◌, ℕ, zero, suc, Bool, true, false, List, [], ◌∷◌}
-use Rattle.std.proofs.Common.{length, map, Some, slice_get, inl, inr, refl, sym, ap, subst, ◌∙◌}
-use Rattle.std.proofs.Common.{arith}
+use Rattle.std.proofs.Common.{◌≡◌, ◌⊎◌, ◌<◌, ◌≤◌, ◌==◌, ℕ, zero, suc, Bool, true, false, List, []}
+use Rattle.std.proofs.Common.{◌∷◌, length, map, Some, slice_get, inl, inr, refl, sym, ap, subst}
+use Rattle.std.proofs.Common.{◌∙◌, arith}
 use Rattle.std.specs.Option.{option_map}
-use Rattle.std.proofs.lemmas.Bool.{cases_order}
+use Rattle.std.specs.Prelude.{nat_lt}
+use Rattle.std.proofs.lemmas.Bool.{cases_eq, cases_lt, cases_order, eq-eqb, le-ltb, lt-ltb, ne_eqb}
 use Rattle.std.proofs.lemmas.List.{length-map}
 use Rattle.std.proofs.lemmas.Option.{none-some, slice_get-map}
 use Rattle.run_model.proofs.RowLemmas.{map_cases}
@@ -74,6 +75,33 @@ number_same keeps n m is_n is_m same = by_order (cases_order n m)
     by_order (inr (inr less)) =
         let apart = number_less keeps m n is_m less in absurd (omega (arith, apart, same))
 
+pub same_number : (keeps : ℕ → Bool) (a b : ℕ) → keeps a ≡ true → keeps b ≡ true
+    → (new_number keeps a == new_number keeps b) ≡ (a == b)
+same_number keeps a b is_a is_b = by_cases (cases_eq a b)
+  where
+    by_cases : (a ≡ b) ⊎ (a ≡ b → ⊥) → (new_number keeps a == new_number keeps b) ≡ (a == b)
+    by_cases (inl e) =
+        eq-eqb (new_number keeps a) (new_number keeps b) (ap (new_number keeps) e)
+        ∙ sym (eq-eqb a b e)
+    by_cases (inr other) =
+        ne_eqb (new_number keeps a) (new_number keeps b)
+        (λ e. other (number_same keeps a b is_a is_b e))
+        ∙ sym (ne_eqb a b other)
+
+-- A row stays before another, or behind it.
+pub less_same : (goes : ℕ → Bool) (n many : ℕ) → goes n ≡ true
+    → nat_lt (new_number goes n) (new_number goes many) ≡ nat_lt n many
+less_same goes n many is = by_order (cases_lt n many)
+  where
+    by_order : (n < many) ⊎ (many ≤ n)
+        → nat_lt (new_number goes n) (new_number goes many) ≡ nat_lt n many
+    by_order (inl less) =
+        lt-ltb (new_number goes n) (new_number goes many) (number_less goes n many is less)
+        ∙ sym (lt-ltb n many less)
+    by_order (inr more) =
+        le-ltb (new_number goes n) (new_number goes many) (number_up goes many n more)
+        ∙ sym (le-ltb n many more)
+
 -- ---- the rows that are kept
 
 more_swapped : (a b : Bool) (n : ℕ)
@@ -91,31 +119,29 @@ number_behind keeps (suc n) =
     ap (one_more_if (keeps (suc n))) (number_behind keeps n)
     ∙ more_swapped (keeps (suc n)) (keeps zero) (new_number (λ k. keeps (suc k)) n)
 
-behind_first : {X : Type 0} (b : Bool) (row : X) (rows : List X) (n : ℕ)
-    → slice_get (in_front_if b row rows) (one_more_if b n) ≡ slice_get rows n
-behind_first true row rows n = refl
-behind_first false row rows n = refl
+front_get : {X : Type 0} (b : Bool) (r : X) (rows : List X) (n : ℕ)
+    → slice_get (in_front_if b r rows) (one_more_if b n) ≡ slice_get rows n
+front_get true r rows n = refl
+front_get false r rows n = refl
 
-pub kept_forth : {X : Type 0} (keeps : ℕ → Bool) (rows : List X) (n : ℕ) (row : X)
-    → slice_get rows n ≡ Some row → keeps n ≡ true
-    → slice_get (kept keeps rows) (new_number keeps n) ≡ Some row
-kept_forth keeps [] n row found is = absurd (none-some row found)
-kept_forth keeps (r ∷ rows) zero row found is =
-    subst (λ b. slice_get (in_front_if b r (kept (λ n. keeps (suc n)) rows)) zero ≡ Some row)
-    (sym is) found
-kept_forth keeps (r ∷ rows) (suc n) row found is =
-    ap (slice_get (kept keeps (r ∷ rows))) (number_behind keeps n)
-    ∙ behind_first (keeps zero) r (kept (λ k. keeps (suc k)) rows)
-    (new_number (λ k. keeps (suc k)) n)
-    ∙ kept_forth (λ k. keeps (suc k)) rows n row found is
+pub kept_get : {X : Type 0} (goes : ℕ → Bool) (rows : List X) (n : ℕ) → goes n ≡ true
+    → slice_get (kept goes rows) (new_number goes n) ≡ slice_get rows n
+kept_get goes [] n is = refl
+kept_get goes (r ∷ rows) zero is =
+    ap (λ b. slice_get (in_front_if b r (kept (λ n. goes (suc n)) rows)) zero) is
+kept_get goes (r ∷ rows) (suc n) is =
+    ap (slice_get (kept goes (r ∷ rows))) (number_behind goes n)
+    ∙ front_get (goes zero) r (kept (λ n. goes (suc n)) rows)
+    (new_number (λ n. goes (suc n)) n)
+    ∙ kept_get (λ n. goes (suc n)) rows n is
 
 -- Where the row of this new number comes from.
-pub record ComesFrom
+record ComesFrom
     {X : Type 0} (keeps : ℕ → Bool) (rows : List X) (m : ℕ) (row : X) : Type 0 where
-  pub number : ℕ
-  pub found : slice_get rows number ≡ Some row
-  pub is_kept : keeps number ≡ true
-  pub told : m ≡ new_number keeps number
+  number : ℕ
+  found : slice_get rows number ≡ Some row
+  is_kept : keeps number ≡ true
+  told : m ≡ new_number keeps number
 
 comes_behind : {X : Type 0} (keeps : ℕ → Bool) (r : X) (rows : List X) (m : ℕ) (row : X)
     → ComesFrom (λ k. keeps (suc k)) rows m row
@@ -127,7 +153,7 @@ comes_behind keeps r rows m row from = record {
   told = ap (one_more_if (keeps zero)) from.told ∙ sym (number_behind keeps from.number);
 }
 
-pub kept_back : {X : Type 0} (keeps : ℕ → Bool) (rows : List X) (m : ℕ) (row : X)
+kept_back : {X : Type 0} (keeps : ℕ → Bool) (rows : List X) (m : ℕ) (row : X)
     → slice_get (kept keeps rows) m ≡ Some row → ComesFrom keeps rows m row
 kept_back keeps [] m row found = absurd (none-some row found)
 kept_back keeps (r ∷ rows) m row found =
@@ -163,14 +189,24 @@ length-kept keeps (r ∷ rows) =
 
 -- ---- told anew
 
+-- A row of the old ones that is kept, and is this one of the new.
+pub record IsOf
+    {X : Type 0} (keeps : ℕ → Bool) (tell : X → X) (rows : List X) (m : ℕ) (row : X) : Type 0
+  where
+    pub n : ℕ
+    pub old : X
+    pub found : slice_get rows n ≡ Some old
+    pub is_kept : keeps n ≡ true
+    pub number : m ≡ new_number keeps n
+    pub told : row ≡ tell old
+
 -- The new rows are the old ones that are kept, each told anew, in the old order.
 pub record AreTold
     {X : Type 0} (keeps : ℕ → Bool) (tell : X → X) (old new : List X) : Type 0 where
   pub few : length new ≤ length old
   pub forth : (n : ℕ) (row : X) → slice_get old n ≡ Some row → keeps n ≡ true
       → slice_get new (new_number keeps n) ≡ Some (tell row)
-  pub back : (m : ℕ) (row : X) → slice_get new m ≡ Some row
-      → (old_row : X) × ComesFrom keeps old m old_row × (row ≡ tell old_row)
+  pub back : (m : ℕ) (row : X) → slice_get new m ≡ Some row → IsOf keeps tell old m row
 
 pub are_told : {X : Type 0} (keeps : ℕ → Bool) (tell : X → X) (rows : List X)
     → AreTold keeps tell rows (map tell (kept keeps rows))
@@ -183,9 +219,17 @@ are_told keeps tell rows = record {
   forth =
       λ n row found is.
       slice_get-map tell (kept keeps rows) (new_number keeps n)
-      ∙ ap (option_map tell) (kept_forth keeps rows n row found is);
+      ∙ ap (option_map tell) (kept_get keeps rows n is ∙ found);
   back =
       λ m row found.
       let old = map_cases tell m (kept keeps rows) row found in
-      (old.0, kept_back keeps rows m old.0 old.1, old.2);
+      let from = kept_back keeps rows m old.0 old.1 in
+      record {
+        n = from.number;
+        old = old.0;
+        found = from.found;
+        is_kept = from.is_kept;
+        number = from.told;
+        told = old.2;
+      };
 }

@@ -1,7 +1,7 @@
 -- Flags that are raised from scopes to those above them, from the last scope to root.
-use Rattle.std.proofs.Common.{◌≡◌, ◌⊎◌, ◌<◌, ◌≤◌, ◌+◌, ◌==◌, ◌&&◌, ℕ, zero, suc, Bool, true}
-use Rattle.std.proofs.Common.{false, cond, List, [], length, Option, Some, None}
-use Rattle.std.proofs.Common.{slice_get, inl, inr, refl, sym, ap, subst, ◌∙◌, arith}
+use Rattle.std.proofs.Common.{◌≡◌, ◌⊎◌, ◌<◌, ◌≤◌, ◌+◌, ◌==◌, ◌&&◌, ℕ, zero, suc, Bool, true, false}
+use Rattle.std.proofs.Common.{cond, List, [], length, Option, Some, None, slice_get, inl, inr}
+use Rattle.std.proofs.Common.{refl, sym, ap, subst, ◌∙◌, arith}
 use Rattle.std.specs.List.{range_with_len}
 use Rattle.std.specs.Prelude.{slice_set}
 use Rattle.std.proofs.lemmas.Bool.{and_parts, and_from, or_cases, eqb-true, false≢true, cases_eq}
@@ -12,9 +12,10 @@ use Rattle.run_model.specs.Scopes.{is_root, upwards, line_within, line, AreOrder
 use Rattle.model_laws.specs.Hits.{is_on}
 use Rattle.model_laws.specs.Searches.{above}
 use Rattle.model_laws.proofs.Lines.{line_up}
-use Rattle.model_laws.proofs.FirstErrors.{any_found}
+use Rattle.model_laws.proofs.FirstErrors.{any_found, found_any}
 use Rattle.state_renewal.specs.Marks.{is_flagged, is_above_flagged}
-use Rattle.state_renewal.proofs.Keeps.{there, number_get, found_any, line_self, line_passes}
+use Rattle.state_renewal.proofs.Keeps.{number_get, line_self, line_passes}
+use Rattle.model_laws.proofs.Places.{row_there}
 
 -- The last k scopes raised their flags.
 pub record AreRaised (rows : List Scope) (before : List Bool) (k : ℕ) (flags : List Bool)
@@ -66,7 +67,7 @@ raised_first rows before size = record {
   size = size;
   right = λ s is.
       let within = flag_within before s is (less_or_not s (length before)) in
-      let row = there rows s (omega (arith, within, size)) in
+      let row = row_there rows s (omega (arith, within, size)) in
       above_from rows before s s (omega (arith, within, size)) is (line_self rows s row.0 row.1);
   stay = λ s is. is;
   closed = λ s row found past below is.

@@ -1,13 +1,11 @@
 -- A consistent state is consistent when it is renewed.
-use Rattle.std.proofs.Common.{◌≡◌, ◌⊎◌, ◌<◌, ℕ, Bool, true, false, length, Option, Some}
-use Rattle.std.proofs.Common.{None, slice_get, refl, sym, ap, subst, ◌∙◌, arith}
-use Rattle.std.specs.Option.{option_map, option_map_or, option_and_then}
+use Rattle.std.proofs.Common.{◌≡◌, ◌⊎◌, ◌<◌, ℕ, Bool, true, false, length, Option, Some, None}
+use Rattle.std.proofs.Common.{slice_get, refl, sym, ap, subst, ◌∙◌, arith}
+use Rattle.std.specs.Option.{option_map, option_and_then}
 use Rattle.std.specs.Prelude.{IsSome, IsTrue, is_some}
-use Rattle.std.proofs.lemmas.Bool.{both_ways}
 use Rattle.std.proofs.lemmas.Option.{none-some, same_Some, slice_get_within, option_and_then_some}
 use Rattle.run_model.specs.declared.groups.Group.{Group}
 use Rattle.run_model.specs.declared.scopes.Hit.{Hit}
-use Rattle.run_model.specs.declared.scopes.Kind.{Kind}
 use Rattle.run_model.specs.declared.scopes.Scope.{Scope}
 use Rattle.run_model.specs.declared.tasks.Task.{Task}
 use Rattle.run_model.specs.Allowed.{has_kind}
@@ -19,80 +17,41 @@ use Rattle.run_model.specs.Scopes.{is_root, own_hit, AreOrdered}
 use Rattle.run_model.specs.State.{State}
 use Rattle.run_model.specs.Tasks.{is_running, unfinished_in, is_admitted}
 use Rattle.state_renewal.specs.Renewed.{new_number, keeps_scope, keeps_group, keeps_task}
-use Rattle.state_renewal.specs.Renewed.{scope_told, group_told, task_told, renewed}
-use Rattle.state_renewal.proofs.Numbers.{are_told, number_less, number_same}
-use Rattle.state_renewal.proofs.Keeps.{there, parent_kept, root_kept, owner_kept, scope_kept}
+use Rattle.state_renewal.specs.Renewed.{scope_told, group_told, task_told, kept_part, renewed}
+use Rattle.state_renewal.proofs.Numbers.{are_told, number_less, number_same, IsOf}
+use Rattle.state_renewal.proofs.Keeps.{parent_kept, root_kept, owner_kept, scope_kept}
 use Rattle.state_renewal.proofs.Keeps.{task_is_kept}
-use Rattle.state_renewal.proofs.Works.{unfinished_same, task_error_same, group_stays, task_stays}
-use Rattle.state_renewal.proofs.Works.{admitted_same}
+use Rattle.state_renewal.proofs.Chains.{kind_anew}
+use Rattle.state_renewal.proofs.Works.{admitted_anew, group_stays, task_error_same, task_stays}
+use Rattle.state_renewal.proofs.Works.{unfinished_same}
+use Rattle.model_laws.proofs.Places.{row_there}
+use Rattle.state_renewal.proofs.RowsAnew.{row_anew}
 
 -- ---- where a new row comes from
 
--- A scope of the old state that is kept, and is this one of the new state.
-pub record IsScopeOf (p : State) (m : ℕ) (row : Scope) : Type 0 where
-  pub s : ℕ
-  pub old : Scope
-  pub found : HasScope p.tree s old
-  pub is_kept : keeps_scope p s ≡ true
-  pub number : m ≡ new_number (keeps_scope p) s
-  pub told : row ≡ scope_told p old
+abbrev pub IsScopeOf : State → ℕ → Scope → Type 0
+IsScopeOf p m row = IsOf (keeps_scope p) (scope_told p) p.tree.scopes m row
 
 pub scope_from : (p : State) (m : ℕ) (row : Scope) → HasScope (renewed p).tree m row
     → IsScopeOf p m row
 scope_from p m row found =
-    let old = (are_told (keeps_scope p) (scope_told p) p.tree.scopes).back m row found in
-    record {
-      s = old.1.number;
-      old = old.0;
-      found = old.1.found;
-      is_kept = old.1.is_kept;
-      number = old.1.told;
-      told = old.2;
-    }
+    (are_told (keeps_scope p) (scope_told p) p.tree.scopes).back m row found
 
--- A group of the old state that is kept, and is this one of the new state.
-pub record IsGroupOf (p : State) (m : ℕ) (row : Group) : Type 0 where
-  pub g : ℕ
-  pub old : Group
-  pub found : HasGroup p.work g old
-  pub is_kept : keeps_group p g ≡ true
-  pub number : m ≡ new_number (keeps_group p) g
-  pub told : row ≡ group_told p old
+abbrev pub IsGroupOf : State → ℕ → Group → Type 0
+IsGroupOf p m row = IsOf (keeps_group p) (group_told p) p.work.groups m row
 
 pub group_from : (p : State) (m : ℕ) (row : Group) → HasGroup (renewed p).work m row
     → IsGroupOf p m row
 group_from p m row found =
-    let old = (are_told (keeps_group p) (group_told p) p.work.groups).back m row found in
-    record {
-      g = old.1.number;
-      old = old.0;
-      found = old.1.found;
-      is_kept = old.1.is_kept;
-      number = old.1.told;
-      told = old.2;
-    }
+    (are_told (keeps_group p) (group_told p) p.work.groups).back m row found
 
--- A task of the old state that is kept, and is this one of the new state.
-pub record IsTaskOf (p : State) (m : ℕ) (row : Task) : Type 0 where
-  pub n : ℕ
-  pub old : Task
-  pub found : HasTask p.work n old
-  pub is_kept : keeps_task p n ≡ true
-  pub number : m ≡ new_number (keeps_task p) n
-  pub told : row ≡ task_told p old
+abbrev pub IsTaskOf : State → ℕ → Task → Type 0
+IsTaskOf p m row = IsOf (keeps_task p) (task_told p) p.work.tasks m row
 
 pub task_from : (p : State) (m : ℕ) (row : Task) → HasTask (renewed p).work m row
     → IsTaskOf p m row
 task_from p m row found =
-    let old = (are_told (keeps_task p) (task_told p) p.work.tasks).back m row found in
-    record {
-      n = old.1.number;
-      old = old.0;
-      found = old.1.found;
-      is_kept = old.1.is_kept;
-      number = old.1.told;
-      told = old.2;
-    }
+    (are_told (keeps_task p) (task_told p) p.work.tasks).back m row found
 
 pub scope_stays : (p : State) (s : ℕ) (row : Scope) → HasScope p.tree s row
     → keeps_scope p s ≡ true
@@ -115,9 +74,9 @@ ordered_kept p ordered m row found below =
     let of = scope_from p m row found in
     let was_below : is_root of.old.kind ≡ false = ap (λ x. is_root x.kind) (sym of.told) ∙ below in
     let less =
-    number_less (keeps_scope p) of.old.parent of.s
-    (parent_kept p of.s of.old ordered of.found was_below of.is_kept)
-    (ordered of.s of.old of.found was_below) in
+    number_less (keeps_scope p) of.old.parent of.n
+    (parent_kept p of.n of.old ordered of.found was_below of.is_kept)
+    (ordered of.n of.old of.found was_below) in
     let parent : row.parent ≡ new_number (keeps_scope p) of.old.parent =
     ap (λ x. x.parent) of.told in
     less_from parent of.number less
@@ -143,36 +102,36 @@ numbered_kept p consistent = record {
       let of = scope_from p m row found in
       of.number
       ∙ ap (new_number (keeps_scope p))
-      (old.one_root of.s of.old of.found (ap (λ x. is_root x.kind) (sym of.told) ∙ is));
+      (old.one_root of.n of.old of.found (ap (λ x. is_root x.kind) (sym of.told) ∙ is));
   scope_names =
       λ m k a b found_a found_b same.
       let x = scope_from p m a found_a in
       let y = scope_from p k b found_b in
-      met (keeps_scope p) m k x.s y.s x.number y.number
-      (old.scope_names x.s y.s x.old y.old x.found y.found
+      met (keeps_scope p) m k x.n y.n x.number y.number
+      (old.scope_names x.n y.n x.old y.old x.found y.found
       (ap (λ r. r.name) (sym x.told) ∙ same ∙ ap (λ r. r.name) y.told));
   group_names =
       λ m k a b found_a found_b same.
       let x = group_from p m a found_a in
       let y = group_from p k b found_b in
-      met (keeps_group p) m k x.g y.g x.number y.number
-      (old.group_names x.g y.g x.old y.old x.found y.found
+      met (keeps_group p) m k x.n y.n x.number y.number
+      (old.group_names x.n y.n x.old y.old x.found y.found
       (ap (λ r. r.name) (sym x.told) ∙ same ∙ ap (λ r. r.name) y.told));
   ordered = ordered_kept p old.ordered;
   scopes =
       λ m row found.
       let of = group_from p m row found in
-      let within = old.scopes of.g of.old of.found in
-      let scope = there p.tree.scopes of.old.scope within in
+      let within = old.scopes of.n of.old of.found in
+      let scope = row_there p.tree.scopes of.old.scope within in
       subst (λ s. s < length (renewed p).tree.scopes) (ap (λ r. r.scope) (sym of.told))
       (slice_get_within (renewed p).tree.scopes (new_number (keeps_scope p) of.old.scope)
       (scope_told p scope.0)
       (scope_stays p of.old.scope scope.0 scope.1
-      (scope_kept p of.g of.old of.found within of.is_kept)));
+      (scope_kept p of.n of.old of.found within of.is_kept)));
   groups =
       λ m row found.
       let of = task_from p m row found in
-      let group = there p.work.groups of.old.group (old.groups of.n of.old of.found) in
+      let group = row_there p.work.groups of.old.group (old.groups of.n of.old of.found) in
       subst (λ g. g < length (renewed p).work.groups) (ap (λ r. r.group) (sym of.told))
       (slice_get_within (renewed p).work.groups (new_number (keeps_group p) of.old.group)
       (group_told p group.0)
@@ -192,7 +151,7 @@ hit_from p m hit has =
     option_and_then_some (λ row. row.hit) (slice_get (renewed p).tree.scopes m) hit has
     (λ row found own.
     let of = scope_from p m row found in (
-      of.s,
+      of.n,
       ap (option_and_then (λ r. r.hit)) of.found ∙ ap (λ r. r.hit) (sym of.told) ∙ own,
     ))
 
@@ -201,7 +160,7 @@ hits_kept p old = record {
   kinds =
       λ m row found is.
       let of = scope_from p m row found in
-      let can = old.kinds of.s of.old of.found (ap (λ r. is_some r.hit) (sym of.told) ∙ is) in
+      let can = old.kinds of.n of.old of.found (ap (λ r. is_some r.hit) (sym of.told) ∙ is) in
       rw (of.told) can;
   counted = λ m hit has. (let was = hit_from p m hit has in old.counted was.0 hit was.1);
   past = record {
@@ -215,13 +174,13 @@ deadlines_kept p old = record {
   own =
       λ m row hit found has late.
       let of = scope_from p m row found in
-      let own = old.own of.s of.old hit of.found (ap (λ r. r.hit) (sym of.told) ∙ has) late in
+      let own = old.own of.n of.old hit of.found (ap (λ r. r.hit) (sym of.told) ∙ has) late in
       rw (of.told) own;
   come =
       λ m moment row found is reached.
       let of = scope_from p m row found in
       let kind : of.old.kind ≡ row.kind = ap (λ r. r.kind) (sym of.told) in
-      let has = old.come of.s moment of.old of.found (rw kind is) reached in
+      let has = old.come of.n moment of.old of.found (rw kind is) reached in
       rw (of.told) has;
 }
 
@@ -243,9 +202,9 @@ owner_from : (p : State) (m k : ℕ) (row : Group) → IsConsistent p
     → Owns (renewed p).work m row k → IsOwnerOf p m k row
 owner_from p m k row consistent owns =
     let of = group_from p m row owns.found in
-    let within = consistent.numbered.scopes of.g of.old of.found in
+    let within = consistent.numbered.scopes of.n of.old of.found in
     record {
-      g = of.g;
+      g = of.n;
       s = of.old.scope;
       old = of.old;
       owns = record {
@@ -254,19 +213,11 @@ owner_from p m k row consistent owns =
         scope = refl;
       };
       group_is_kept = of.is_kept;
-      is_kept = scope_kept p of.g of.old of.found within of.is_kept;
+      is_kept = scope_kept p of.n of.old of.found within of.is_kept;
       number = of.number;
       scope = sym owns.scope ∙ ap (λ r. r.scope) of.told;
       told = of.told;
     }
-
-pub kind_found : (test : Kind → Bool) (p : State) (s : ℕ) (o : Option Scope)
-    → slice_get p.tree.scopes s ≡ o → IsTrue (option_map_or (λ row. test row.kind) o false)
-    → keeps_scope p s ≡ true
-    → IsTrue (has_kind test (renewed p).tree (new_number (keeps_scope p) s))
-kind_found test p s None at is stays = absurd (both_ways false refl is)
-kind_found test p s (Some row) at is stays =
-    ap (λ o. option_map_or (λ row. test row.kind) o false) (scope_stays p s row at stays) ∙ is
 
 group_scopes_kept : (p : State) → IsConsistent p → AreGroupScopes (renewed p)
 group_scopes_kept p consistent = record {
@@ -274,7 +225,7 @@ group_scopes_kept p consistent = record {
       λ m row found is.
       let of = scope_from p m row found in
       let owner =
-      old.owned of.s of.old of.found (ap (λ r. is_group_kind r.kind) (sym of.told) ∙ is) in
+      old.owned of.n of.old of.found (ap (λ r. is_group_kind r.kind) (sym of.told) ∙ is) in
       let group_is : keeps_group p owner.0 ≡ true =
       owner_kept p owner.0 owner.1 owner.2.found owner.2.not_bare
       (ap (keeps_scope p) owner.2.scope ∙ of.is_kept) in (
@@ -299,8 +250,8 @@ group_scopes_kept p consistent = record {
       λ m k row owns.
       let x = owner_from p m k row consistent owns in
       subst (λ s. IsTrue (has_kind is_group_kind (renewed p).tree s)) (sym x.scope)
-      (kind_found is_group_kind p x.s (slice_get p.tree.scopes x.s) refl
-      (old.own x.g x.s x.old x.owns) x.is_kept);
+      (kind_anew is_group_kind (kept_part p) p.tree x.s x.is_kept
+      ∙ old.own x.g x.s x.old x.owns);
 }
   where
     old : AreGroupScopes p
@@ -313,11 +264,8 @@ admitted_kept p consistent = record {
   running =
       λ m row found is.
       let of = task_from p m row found in
-      let within = consistent.numbered.groups of.n of.old of.found in
-      let group = there p.work.groups of.old.group within in
       let was =
-      admitted_same p of.n of.old group.0 group.1
-      (sym (task_is_kept p of.n of.old of.found) ∙ of.is_kept)
+      admitted_anew (kept_part p) p.work of.n of.old (task_is_kept p) of.found of.is_kept
       ∙ consistent.admitted.running of.n of.old of.found
       (ap (λ r. is_running r.stage) (sym of.told) ∙ is) in
       ap (λ n. is_admitted (renewed p).work n row) of.number
@@ -327,36 +275,32 @@ admitted_kept p consistent = record {
       λ m row found is.
       let of = group_from p m row found in
       ap (λ g. unfinished_in g (renewed p).work.tasks) of.number
-      ∙ unfinished_same p of.g of.is_kept
-      ∙ consistent.admitted.waited of.g of.old of.found (ap (λ r. r.waited) (sym of.told) ∙ is);
+      ∙ unfinished_same (kept_part p) p.work of.n (task_is_kept p) of.is_kept
+      ∙ consistent.admitted.waited of.n of.old of.found (ap (λ r. r.waited) (sym of.told) ∙ is);
 }
 
 -- ---- 6. errors
-
-hit_stays : (p : State) (s : ℕ) (o : Option Scope) → slice_get p.tree.scopes s ≡ o
-    → IsSome (option_and_then (λ row. row.hit) o) → keeps_scope p s ≡ true
-    → IsSome (own_hit (renewed p).tree.scopes (new_number (keeps_scope p) s))
-hit_stays p s None at is stays = absurd (both_ways false refl is)
-hit_stays p s (Some row) at is stays =
-    ap (λ o. is_some (option_and_then (λ row. row.hit) o)) (scope_stays p s row at stays) ∙ is
 
 errors_kept : (p : State) → IsConsistent p → AreErrors (renewed p)
 errors_kept p consistent = record {
   exact =
       λ m row found.
       let of = group_from p m row found in
-      let same : has_task_error (renewed p).work m ≡ has_task_error p.work of.g =
-      ap (has_task_error (renewed p).work) of.number ∙ task_error_same p of.g of.is_kept in
+      let same : has_task_error (renewed p).work m ≡ has_task_error p.work of.n =
+      ap (has_task_error (renewed p).work) of.number
+      ∙ task_error_same (kept_part p) p.work of.n (task_is_kept p) of.is_kept in
       let error : is_some row.error ≡ is_some of.old.error = ap (λ r. is_some r.error) of.told in
-      let was = consistent.errors.exact of.g of.old of.found in
+      let was = consistent.errors.exact of.n of.old of.found in
       (λ is. same ∙ was.0 (sym error ∙ is), λ is. error ∙ was.1 (sym same ∙ is));
   ended =
       λ m k row owns end.
       let x = owner_from p m k row consistent owns in
       subst (λ s. IsSome (own_hit (renewed p).tree.scopes s)) (sym x.scope)
-      (hit_stays p x.s (slice_get p.tree.scopes x.s) refl
-      (consistent.errors.ended x.g x.s x.old x.owns
-      (subst (λ r. IsSome r.error ⊎ (r.waited ≡ true)) x.told end)) x.is_kept);
+      (ap is_some
+      (row_anew (option_and_then (λ row. row.hit)) (option_and_then (λ row. row.hit))
+      (keeps_scope p) (scope_told p) p.tree.scopes x.s refl (λ row at. refl) x.is_kept)
+      ∙ consistent.errors.ended x.g x.s x.old x.owns
+      (subst (λ r. IsSome r.error ⊎ (r.waited ≡ true)) x.told end));
 }
 
 -- ---- 7. links
@@ -367,15 +311,15 @@ link_from new None m is = absurd (none-some m is)
 link_from new (Some n) m is = (n, refl, sym (same_Some (new n) m is))
 
 -- A link of the new state was one of the old.
-pub record IsLinkOf (p : State) (m k : ℕ) (row : Task) : Type 0 where
-  pub of : IsTaskOf p m row
-  pub n : ℕ
-  pub link : of.old.retry_of ≡ Some n
-  pub number : k ≡ new_number (keeps_task p) n
-  pub linked : (old : Task) × HasTask p.work n old × IsRetry of.n of.old n old
-  pub is_kept : keeps_task p n ≡ true
+record IsLinkOf (p : State) (m k : ℕ) (row : Task) : Type 0 where
+  of : IsTaskOf p m row
+  n : ℕ
+  link : of.old.retry_of ≡ Some n
+  number : k ≡ new_number (keeps_task p) n
+  linked : (old : Task) × HasTask p.work n old × IsRetry of.n of.old n old
+  is_kept : keeps_task p n ≡ true
 
-pub linked_from : (p : State) (m k : ℕ) (row : Task) → IsConsistent p
+linked_from : (p : State) (m k : ℕ) (row : Task) → IsConsistent p
     → HasTask (renewed p).work m row → row.retry_of ≡ Some k → IsLinkOf p m k row
 linked_from p m k row consistent found is =
     let x = task_from p m row found in

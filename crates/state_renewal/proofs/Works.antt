@@ -1,174 +1,315 @@
--- What is counted and asked of the tasks of a group that is kept is what it was.
-use Rattle.std.proofs.Common.{◌≡◌, ◌⊎◌, ◌+◌, ◌==◌, ◌&&◌, ◌||◌, ℕ, zero, suc, Bool, true}
-use Rattle.std.proofs.Common.{false, List, [], ◌∷◌, length, map, take, Some}
-use Rattle.std.proofs.Common.{slice_get, inl, inr, refl, sym, ap, ◌∙◌, arith}
-use Rattle.std.specs.List.{list_any}
-use Rattle.std.specs.Option.{option_and_then}
-use Rattle.std.specs.Prelude.{count_by, if◌then◌else◌}
-use Rattle.std.proofs.lemmas.Bool.{cases_eq, eq-eqb, ne_eqb, eqb-true, both_ways, and_left}
-use Rattle.std.proofs.lemmas.Bool.{false_from_ne_true}
-use Rattle.std.proofs.lemmas.List.{take_all, length-map}
+-- What is asked of groups and tasks that go on is answered alike.
+use Rattle.std.proofs.Common.{◌≡◌, ◌==◌, ◌&&◌, ℕ, Bool, true, false, not, List, [], ◌∷◌, cond}
+use Rattle.std.proofs.Common.{length, map, take, Option, Some, None, slice_get, refl, sym, ap, ◌∙◌}
+use Rattle.std.proofs.Common.{arith}
+use Rattle.std.specs.List.{AllByRecursion, filter, find, range_with_len}
+use Rattle.std.specs.Option.{option_and_then, option_map, option_map_or}
+use Rattle.std.proofs.lemmas.Bool.{and_from, and_left, and_parts, both_ways, eq-eqb, eqb-true}
+use Rattle.std.proofs.lemmas.Bool.{false_from_ne_true, true_from_ne_false}
+use Rattle.std.proofs.lemmas.Option.{slice_get_past}
 use Rattle.run_model.specs.declared.groups.Group.{Group}
 use Rattle.run_model.specs.declared.tasks.Stage.{Stage}
 use Rattle.run_model.specs.declared.tasks.Task.{Task}
-use Rattle.run_model.specs.Rules.{HasGroup, HasTask, has_task_error}
-use Rattle.run_model.specs.State.{State}
-use Rattle.run_model.specs.Tasks.{is_unfinished, ended_in_error, unfinished_in, admits, limit_of}
-use Rattle.run_model.specs.Tasks.{is_admitted}
-use Rattle.state_renewal.specs.Renewed.{one_more_if, new_number, in_front_if, kept, keeps_group}
-use Rattle.state_renewal.specs.Renewed.{keeps_task, group_told, task_told, renewed}
-use Rattle.state_renewal.proofs.Numbers.{number_behind, number_same, length-kept, are_told}
-use Rattle.state_renewal.proofs.Keeps.{count_cons, task_is_kept}
+use Rattle.run_model.specs.Allowed.{admits_one_more, is_idle, is_open}
+use Rattle.run_model.specs.Rules.{HasGroup, HasTask, IsConsistent, has_task_error}
+use Rattle.run_model.specs.State.{State, WorkState}
+use Rattle.run_model.specs.Tasks.{admits, first_ready, is_admitted, is_fresh, is_ready, is_retried}
+use Rattle.run_model.specs.Tasks.{is_retry_of, is_running, is_running_task, is_unfinished}
+use Rattle.run_model.specs.Tasks.{ended_in_error, limit_of, phase_by, phase_of, running_tasks}
+use Rattle.run_model.specs.Tasks.{task_numbers, unfinished_in}
+use Rattle.run_model.specs.WorkChanges.{group_of_task}
+use Rattle.state_renewal.specs.Renewed.{new_number, Part, group_anew, task_anew, work_anew}
+use Rattle.state_renewal.specs.Renewed.{keeps_group, keeps_task, group_told, task_told, renewed}
+use Rattle.model_laws.proofs.Admission.{count_found, running_unfinished}
+use Rattle.state_renewal.proofs.Numbers.{are_told, same_number}
+use Rattle.state_renewal.proofs.Hangs.{TasksHang, WorkHangs}
+use Rattle.state_renewal.proofs.PassAnew.{PassesAnew, RowsPass, any_anew, count_all_anew}
+use Rattle.state_renewal.proofs.PassAnew.{count_anew, find_anew, picks_anew}
+use Rattle.state_renewal.proofs.RowsAnew.{length-anew, row_anew, test_anew}
+use Rattle.model_laws.proofs.Places.{row_there}
+use Rattle.model_laws.proofs.Tests.{passing, fresh_stage}
 
--- ---- rows that are counted
+-- ---- groups
 
--- The kept rows pass as they did, told anew, and what goes didn't pass.
-record PassAsBefore
-    {X : Type 0} (keeps : ℕ → Bool) (tell : X → X) (new_test test : X → Bool) (rows : List X)
-    : Type 0 where
-  pub kept : (n : ℕ) (x : X) → slice_get rows n ≡ Some x → keeps n ≡ true
-      → new_test (tell x) ≡ test x
-  pub gone : (n : ℕ) (x : X) → slice_get rows n ≡ Some x → keeps n ≡ false → test x ≡ false
+pub open_anew : (part : Part) (w : WorkState) (g : ℕ) → part.groups g ≡ true
+    → is_open (work_anew part w) (new_number part.groups g) ≡ is_open w g
+open_anew part w g is =
+    test_anew (λ group. not group.waited) part.groups (group_anew part) w.groups g (λ row. refl) is
 
-pass_behind : {X : Type 0} (keeps : ℕ → Bool) (tell : X → X) (new_test test : X → Bool) (r : X)
-    (rows : List X) → PassAsBefore keeps tell new_test test (r ∷ rows)
-    → PassAsBefore (λ k. keeps (suc k)) tell new_test test rows
-pass_behind keeps tell new_test test r rows pass =
-    record { kept = λ n. pass.kept (suc n); gone = λ n. pass.gone (suc n) }
+limit_same : (part : Part) (w : WorkState) (g : ℕ) → part.groups g ≡ true
+    → limit_of (work_anew part w) (new_number part.groups g) ≡ limit_of w g
+limit_same part w g is =
+    row_anew (option_and_then (λ group. group.limit)) (option_and_then (λ group. group.limit))
+    part.groups (group_anew part) w.groups g refl (λ row at. refl) is
 
-take_none : {X : Type 0} (n : ℕ) → take {A = X} n [] ≡ []
-take_none zero = refl
-take_none (suc n) = refl
+-- ---- unfinished tasks
 
--- The first row counts as it did, where those behind it do.
-count_behind : {X : Type 0} (tell : X → X) (new_test test : X → Bool) (r : X) (m n : ℕ)
-    (rest rows : List X) (b : Bool) → (b ≡ true → new_test (tell r) ≡ test r)
-    → (b ≡ false → test r ≡ false)
-    → count_by new_test (take m (map tell rest)) ≡ count_by test (take n rows)
-    → count_by new_test (take (one_more_if b m) (map tell (in_front_if b r rest)))
-    ≡ count_by test (take (suc n) (r ∷ rows))
-count_behind tell new_test test r m n rest rows true same gone behind =
-    count_cons new_test (tell r) (take m (map tell rest))
-    ∙ ap (λ b. (if b then 1 else 0) + count_by new_test (take m (map tell rest))) (same refl)
-    ∙ ap (λ k. (if test r then 1 else 0) + k) behind
-    ∙ sym (count_cons test r (take n rows))
-count_behind tell new_test test r m n rest rows false same gone behind =
-    let e : count_by test (take n rows) ≡ 0 + count_by test (take n rows) = omega arith in
-    behind ∙ e
-    ∙ ap (λ b. (if b then 1 else 0) + count_by test (take n rows)) (sym (gone refl))
-    ∙ sym (count_cons test r (take n rows))
-
--- As many kept rows pass before a kept one as rows passed before it.
-count_kept : {X : Type 0} (keeps : ℕ → Bool) (tell : X → X) (new_test test : X → Bool)
-    (rows : List X) (n : ℕ) → PassAsBefore keeps tell new_test test rows
-    → count_by new_test (take (new_number keeps n) (map tell (kept keeps rows)))
-    ≡ count_by test (take n rows)
-count_kept keeps tell new_test test [] n pass =
-    ap (count_by new_test) (take_none (new_number keeps n)) ∙ ap (count_by test) (sym (take_none n))
-count_kept keeps tell new_test test (r ∷ rows) zero pass = refl
-count_kept keeps tell new_test test (r ∷ rows) (suc n) pass =
-    ap (λ k. count_by new_test (take k (map tell (kept keeps (r ∷ rows))))) (number_behind keeps n)
-    ∙ count_behind tell new_test test r (new_number (λ k. keeps (suc k)) n) n
-    (kept (λ k. keeps (suc k)) rows) rows (keeps zero) (pass.kept zero r refl)
-    (pass.gone zero r refl)
-    (count_kept (λ k. keeps (suc k)) tell new_test test rows n
-    (pass_behind keeps tell new_test test r rows pass))
-
-count_all_kept : {X : Type 0} (keeps : ℕ → Bool) (tell : X → X) (new_test test : X → Bool)
-    (rows : List X) → PassAsBefore keeps tell new_test test rows
-    → count_by new_test (map tell (kept keeps rows)) ≡ count_by test rows
-count_all_kept keeps tell new_test test rows pass =
-    let many = length-kept keeps rows in
-    let same = length-map (kept keeps rows) tell in
-    ap (count_by new_test)
-    (sym (take_all (new_number keeps (length rows)) (map tell (kept keeps rows))
-    (omega (arith, many, same))))
-    ∙ count_kept keeps tell new_test test rows (length rows) pass
-    ∙ ap (count_by test) (take_all (length rows) rows (omega arith))
-
-any_behind : {X : Type 0} (tell : X → X) (new_test test : X → Bool) (r : X) (rest rows : List X)
-    (b : Bool) → (b ≡ true → new_test (tell r) ≡ test r) → (b ≡ false → test r ≡ false)
-    → list_any new_test (map tell rest) ≡ list_any test rows
-    → list_any new_test (map tell (in_front_if b r rest)) ≡ list_any test (r ∷ rows)
-any_behind tell new_test test r rest rows true same gone behind =
-    ap (λ b. b || list_any new_test (map tell rest)) (same refl) ∙ ap (λ b. test r || b) behind
-any_behind tell new_test test r rest rows false same gone behind =
-    behind ∙ ap (λ b. b || list_any test rows) (sym (gone refl))
-
--- A kept row passes exactly where a row passed.
-any_kept : {X : Type 0} (keeps : ℕ → Bool) (tell : X → X) (new_test test : X → Bool)
-    (rows : List X) → PassAsBefore keeps tell new_test test rows
-    → list_any new_test (map tell (kept keeps rows)) ≡ list_any test rows
-any_kept keeps tell new_test test [] pass = refl
-any_kept keeps tell new_test test (r ∷ rows) pass =
-    any_behind tell new_test test r (kept (λ k. keeps (suc k)) rows) rows (keeps zero)
-    (pass.kept zero r refl) (pass.gone zero r refl)
-    (any_kept (λ k. keeps (suc k)) tell new_test test rows
-    (pass_behind keeps tell new_test test r rows pass))
-
--- ---- tasks of a group
-
-pub same_number : (keeps : ℕ → Bool) (a b : ℕ) → keeps a ≡ true → keeps b ≡ true
-    → (new_number keeps a == new_number keeps b) ≡ (a == b)
-same_number keeps a b is_a is_b = by_cases (cases_eq a b)
-  where
-    by_cases : (a ≡ b) ⊎ (a ≡ b → ⊥) → (new_number keeps a == new_number keeps b) ≡ (a == b)
-    by_cases (inl e) =
-        eq-eqb (new_number keeps a) (new_number keeps b) (ap (new_number keeps) e)
-        ∙ sym (eq-eqb a b e)
-    by_cases (inr other) =
-        ne_eqb (new_number keeps a) (new_number keeps b)
-        (λ e. other (number_same keeps a b is_a is_b e))
-        ∙ sym (ne_eqb a b other)
-
--- Of a kept group, tasks at such stages are told as they were.
-of_group : (p : State) (g : ℕ) (at_stage : Stage → Bool) → keeps_group p g ≡ true
-    → PassAsBefore (keeps_task p) (task_told p)
-    (λ task. task.group == new_number (keeps_group p) g && at_stage task.stage)
-    (λ task. task.group == g && at_stage task.stage) p.work.tasks
-of_group p g at_stage is = record {
-  kept =
-      λ n x found stays.
+-- Of a group that goes on, tasks at such stages pass as they did.
+of_group : (part : Part) (w : WorkState) (g : ℕ) (at_stage : Stage → Bool)
+    → TasksHang part w.tasks → part.groups g ≡ true
+    → RowsPass part.tasks (task_anew part)
+    (λ task. task.group == g && at_stage task.stage)
+    (λ task. task.group == new_number part.groups g && at_stage task.stage) w.tasks
+of_group part w g at_stage go is = record {
+  on =
+      λ n x found goes.
       ap (λ b. b && at_stage x.stage)
-      (same_number (keeps_group p) x.group g (sym (task_is_kept p n x found) ∙ stays) is);
+      (same_number part.groups x.group g (sym (go n x found) ∙ goes) is);
   gone =
       λ n x found goes.
       and_left (x.group == g) (at_stage x.stage)
       (false_from_ne_true (x.group == g)
       (λ same.
-      both_ways (keeps_group p x.group) (sym (task_is_kept p n x found) ∙ goes)
-      (ap (keeps_group p) (eqb-true x.group g same) ∙ is)));
+      both_ways (part.groups x.group) (sym (go n x found) ∙ goes)
+      (ap part.groups (eqb-true x.group g same) ∙ is)));
 }
 
--- As many tasks of a kept group are unfinished before a task as before it in the old state.
-pub unfinished_before : (p : State) (g n : ℕ) → keeps_group p g ≡ true
-    → unfinished_in (new_number (keeps_group p) g)
-    (take (new_number (keeps_task p) n) (renewed p).work.tasks)
-    ≡ unfinished_in g (take n p.work.tasks)
-unfinished_before p g n is =
-    count_kept (keeps_task p) (task_told p)
-    (λ task. task.group == new_number (keeps_group p) g && is_unfinished task.stage)
-    (λ task. task.group == g && is_unfinished task.stage) p.work.tasks n
-    (of_group p g is_unfinished is)
+pub unfinished_before : (part : Part) (w : WorkState) (g n : ℕ) → TasksHang part w.tasks
+    → part.groups g ≡ true
+    → unfinished_in (new_number part.groups g)
+    (take (new_number part.tasks n) (work_anew part w).tasks)
+    ≡ unfinished_in g (take n w.tasks)
+unfinished_before part w g n go is =
+    count_anew part.tasks (task_anew part)
+    (λ task. task.group == g && is_unfinished task.stage)
+    (λ task. task.group == new_number part.groups g && is_unfinished task.stage) w.tasks n
+    (of_group part w g is_unfinished go is)
 
-pub unfinished_same : (p : State) (g : ℕ) → keeps_group p g ≡ true
-    → unfinished_in (new_number (keeps_group p) g) (renewed p).work.tasks
-    ≡ unfinished_in g p.work.tasks
-unfinished_same p g is =
-    count_all_kept (keeps_task p) (task_told p)
-    (λ task. task.group == new_number (keeps_group p) g && is_unfinished task.stage)
-    (λ task. task.group == g && is_unfinished task.stage) p.work.tasks
-    (of_group p g is_unfinished is)
+pub unfinished_same : (part : Part) (w : WorkState) (g : ℕ) → TasksHang part w.tasks
+    → part.groups g ≡ true
+    → unfinished_in (new_number part.groups g) (work_anew part w).tasks
+    ≡ unfinished_in g w.tasks
+unfinished_same part w g go is =
+    count_all_anew part.tasks (task_anew part)
+    (λ task. task.group == g && is_unfinished task.stage)
+    (λ task. task.group == new_number part.groups g && is_unfinished task.stage) w.tasks
+    (of_group part w g is_unfinished go is)
 
-pub task_error_same : (p : State) (g : ℕ) → keeps_group p g ≡ true
-    → has_task_error (renewed p).work (new_number (keeps_group p) g) ≡ has_task_error p.work g
-task_error_same p g is =
-    any_kept (keeps_task p) (task_told p)
-    (λ task. task.group == new_number (keeps_group p) g && ended_in_error task.stage)
-    (λ task. task.group == g && ended_in_error task.stage) p.work.tasks
-    (of_group p g ended_in_error is)
+pub task_error_same : (part : Part) (w : WorkState) (g : ℕ) → TasksHang part w.tasks
+    → part.groups g ≡ true
+    → has_task_error (work_anew part w) (new_number part.groups g) ≡ has_task_error w g
+task_error_same part w g go is =
+    any_anew part.tasks (task_anew part)
+    (λ task. task.group == g && ended_in_error task.stage)
+    (λ task. task.group == new_number part.groups g && ended_in_error task.stage) w.tasks
+    (of_group part w g ended_in_error go is)
 
--- ---- groups and tasks
+pub idle_anew : (part : Part) (w : WorkState) (g : ℕ) → TasksHang part w.tasks
+    → part.groups g ≡ true
+    → is_idle (work_anew part w) (new_number part.groups g) ≡ is_idle w g
+idle_anew part w g go is = ap (λ k. k == 0) (unfinished_same part w g go is)
+
+pub seat_anew : (part : Part) (w : WorkState) (g : ℕ) → TasksHang part w.tasks
+    → part.groups g ≡ true
+    → admits_one_more (work_anew part w) (new_number part.groups g) ≡ admits_one_more w g
+seat_anew part w g go is =
+    ap (λ limit. admits limit
+    (unfinished_in (new_number part.groups g) (work_anew part w).tasks)) (limit_same part w g is)
+    ∙ ap (admits (limit_of w g)) (unfinished_same part w g go is)
+
+pub admitted_anew : (part : Part) (w : WorkState) (n : ℕ) (row : Task) → TasksHang part w.tasks
+    → HasTask w n row → part.tasks n ≡ true
+    → is_admitted (work_anew part w) (new_number part.tasks n) (task_anew part row)
+    ≡ is_admitted w n row
+admitted_anew part w n row go found is =
+    let goes : part.groups row.group ≡ true = sym (go n row found) ∙ is in
+    ap (λ limit. is_unfinished row.stage && admits limit
+    (unfinished_in (new_number part.groups row.group)
+    (take (new_number part.tasks n) (work_anew part w).tasks))) (limit_same part w row.group goes)
+    ∙ ap (λ k. is_unfinished row.stage && admits (limit_of w row.group) k)
+    (unfinished_before part w row.group n go goes)
+
+pub phase_anew : (part : Part) (w : WorkState) (n : ℕ) → TasksHang part w.tasks
+    → part.tasks n ≡ true → phase_of (work_anew part w) (new_number part.tasks n) ≡ phase_of w n
+phase_anew part w n go is =
+    row_anew
+    (option_map (λ row. phase_by
+    (is_admitted (work_anew part w) (new_number part.tasks n) row) row.stage))
+    (option_map (λ row. phase_by (is_admitted w n row) row.stage)) part.tasks (task_anew part)
+    w.tasks n refl
+    (λ row at. ap (λ b. Some (phase_by b row.stage)) (admitted_anew part w n row go at is)) is
+
+-- ---- what doesn't go on has ended
+
+-- A task that doesn't go on has ended.
+pub gone_ended : (part : Part) (p : State) (n : ℕ) (row : Task) → IsConsistent p
+    → WorkHangs part p.work → HasTask p.work n row → part.tasks n ≡ false
+    → is_unfinished row.stage ≡ false
+gone_ended part p n row consistent go found goes =
+    false_from_ne_true (is_unfinished row.stage)
+    (λ is.
+    let group = row_there p.work.groups row.group (consistent.numbered.groups n row found) in
+    let waited =
+    (go.groups row.group group.0 group.1).gone (sym (go.tasks n row found) ∙ goes) in
+    let none = consistent.admitted.waited row.group group.0 group.1 waited in
+    let some =
+    count_found (λ task. task.group == row.group && is_unfinished task.stage) p.work.tasks n row
+    found
+    (and_from (row.group == row.group) (is_unfinished row.stage)
+    (eq-eqb row.group row.group refl) is) in
+    absurd (omega (arith, some, none)))
+
+-- A task that hasn't ended goes on.
+pub unfinished_goes : (part : Part) (p : State) (n : ℕ) (row : Task) → IsConsistent p
+    → WorkHangs part p.work → HasTask p.work n row → is_unfinished row.stage ≡ true
+    → part.tasks n ≡ true
+unfinished_goes part p n row consistent go found is =
+    true_from_ne_false (part.tasks n)
+    (λ gone.
+    both_ways (is_unfinished row.stage) (gone_ended part p n row consistent go found gone) is)
+
+-- ---- running tasks
+
+pub stage_same : (test : Stage → Bool) (part : Part) (w : WorkState) (n : ℕ)
+    → part.tasks n ≡ true
+    → option_map_or (λ task. test task.stage)
+    (slice_get (work_anew part w).tasks (new_number part.tasks n)) false
+    ≡ option_map_or (λ task. test task.stage) (slice_get w.tasks n) false
+stage_same test part w n is =
+    test_anew (λ task. test task.stage) part.tasks (task_anew part) w.tasks n (λ row. refl) is
+
+-- A task that runs goes on.
+running_goes : (part : Part) (p : State) (n : ℕ) → IsConsistent p → WorkHangs part p.work
+    → is_running_task p.work n ≡ true → part.tasks n ≡ true
+running_goes part p n consistent go is =
+    let row = passing (λ task. is_running task.stage) (slice_get p.work.tasks n) is in
+    unfinished_goes part p n row.0 consistent go row.1 (running_unfinished row.0.stage row.2)
+
+running_pass : (part : Part) (p : State) → IsConsistent p → WorkHangs part p.work
+    → PassesAnew part.tasks (is_running_task p.work) (is_running_task (work_anew part p.work))
+    (length p.work.tasks)
+running_pass part p consistent go = record {
+  on = λ n less goes. stage_same is_running part p.work n goes;
+  gone =
+      λ n less goes.
+      false_from_ne_true (is_running_task p.work n)
+      (λ is. both_ways (part.tasks n) goes (running_goes part p n consistent go is));
+}
+
+pub running_anew : (part : Part) (p : State) → IsConsistent p → WorkHangs part p.work
+    → running_tasks (work_anew part p.work)
+    ≡ map (new_number part.tasks) (running_tasks p.work)
+running_anew part p consistent go =
+    ap (λ many. filter (is_running_task (work_anew part p.work)) (range_with_len 0 many))
+    (length-anew part.tasks (task_anew part) p.work.tasks)
+    ∙ picks_anew part.tasks (is_running_task p.work) (is_running_task (work_anew part p.work))
+    (length p.work.tasks) (running_pass part p consistent go)
+
+all_filtered : (P : ℕ → Type 0) (test : ℕ → Bool) (ns : List ℕ)
+    → ((n : ℕ) → test n ≡ true → P n) → AllByRecursion P (filter test ns)
+all_filtered P test [] is = tt
+all_filtered P test (n ∷ ns) is = by_test (test n) refl (all_filtered P test ns is)
+  where
+    by_test : (b : Bool) → test n ≡ b → AllByRecursion P (filter test ns)
+        → AllByRecursion P (cond b (n ∷ filter test ns) (filter test ns))
+    by_test true passes rest = (is n passes, rest)
+    by_test false passes rest = rest
+
+pub all_running_go : (part : Part) (p : State) → IsConsistent p → WorkHangs part p.work
+    → AllByRecursion (λ n. part.tasks n ≡ true) (running_tasks p.work)
+all_running_go part p consistent go =
+    all_filtered (λ n. part.tasks n ≡ true) (is_running_task p.work) (task_numbers p.work)
+    (λ n is. running_goes part p n consistent go is)
+
+-- ---- the task that is started next
+
+ready_same : (part : Part) (p : State) (n : ℕ) → TasksHang part p.work.tasks
+    → part.tasks n ≡ true
+    → is_ready (work_anew part p.work) (new_number part.tasks n) ≡ is_ready p.work n
+ready_same part p n go is =
+    row_anew
+    (λ o. option_map_or (λ task. is_fresh task.stage
+    && is_admitted (work_anew part p.work) (new_number part.tasks n) task) o false)
+    (λ o. option_map_or (λ task. is_fresh task.stage && is_admitted p.work n task) o false)
+    part.tasks (task_anew part) p.work.tasks n refl
+    (λ row at. ap (λ b. is_fresh row.stage && b) (admitted_anew part p.work n row go at is)) is
+
+pub ready_goes : (part : Part) (p : State) (n : ℕ) → IsConsistent p → WorkHangs part p.work
+    → is_ready p.work n ≡ true → part.tasks n ≡ true
+ready_goes part p n consistent go is =
+    let row =
+    passing (λ task. is_fresh task.stage && is_admitted p.work n task) (slice_get p.work.tasks n)
+    is in
+    let fresh = and_parts (is_fresh row.0.stage) (is_admitted p.work n row.0) row.2 in
+    unfinished_goes part p n row.0 consistent go row.1 (fresh_stage row.0.stage fresh.0).0
+
+pub first_anew : (part : Part) (p : State) → IsConsistent p → WorkHangs part p.work
+    → first_ready (work_anew part p.work)
+    ≡ option_map (new_number part.tasks) (first_ready p.work)
+first_anew part p consistent go =
+    ap (λ many. find (is_ready (work_anew part p.work)) (range_with_len 0 many))
+    (length-anew part.tasks (task_anew part) p.work.tasks)
+    ∙ find_anew part.tasks (is_ready p.work) (is_ready (work_anew part p.work))
+    (length p.work.tasks)
+    (record {
+      on = λ n less goes. ready_same part p n go.tasks goes;
+      gone =
+          λ n less goes.
+          false_from_ne_true (is_ready p.work n)
+          (λ is. both_ways (part.tasks n) goes (ready_goes part p n consistent go is));
+    })
+
+-- ---- retries
+
+-- A task goes on exactly where the one that it is a retry of does.
+link_goes : (part : Part) (p : State) (k m : ℕ) (row : Task) → IsConsistent p
+    → TasksHang part p.work.tasks → HasTask p.work k row → row.retry_of ≡ Some m
+    → part.tasks m ≡ part.tasks k
+link_goes part p k m row consistent go found link =
+    let was = consistent.links.linked k m row found link in
+    go m was.0 was.1 ∙ ap part.groups (sym was.2.group) ∙ sym (go k row found)
+
+pub retried_anew : (part : Part) (p : State) (n : ℕ) → IsConsistent p
+    → TasksHang part p.work.tasks → part.tasks n ≡ true
+    → is_retried (work_anew part p.work) (new_number part.tasks n) ≡ is_retried p.work n
+retried_anew part p n consistent go is =
+    any_anew part.tasks (task_anew part) (is_retry_of n) (is_retry_of (new_number part.tasks n))
+    p.work.tasks
+    (record {
+      on = λ k x found goes. on k x found goes x.retry_of refl;
+      gone = λ k x found goes. gone k x found goes x.retry_of refl;
+    })
+  where
+    on : (k : ℕ) (x : Task) → HasTask p.work k x → part.tasks k ≡ true → (o : Option ℕ)
+        → x.retry_of ≡ o
+        → option_map_or (λ m. m == new_number part.tasks n)
+        (option_map (new_number part.tasks) o) false
+        ≡ option_map_or (λ m. m == n) o false
+    on k x found goes None at = refl
+    on k x found goes (Some m) at =
+        same_number part.tasks m n (link_goes part p k m x consistent go found at ∙ goes) is
+
+    gone : (k : ℕ) (x : Task) → HasTask p.work k x → part.tasks k ≡ false → (o : Option ℕ)
+        → x.retry_of ≡ o → option_map_or (λ m. m == n) o false ≡ false
+    gone k x found goes None at = refl
+    gone k x found goes (Some m) at =
+        false_from_ne_true (m == n)
+        (λ same.
+        both_ways (part.tasks n)
+        (ap part.tasks (sym (eqb-true m n same))
+        ∙ link_goes part p k m x consistent go found at
+        ∙ goes) is)
+
+-- ---- the group of a retried task
+
+none_open : (w : WorkState) → is_open w (length w.groups) ≡ false
+none_open w =
+    ap (λ o. option_map_or (λ group. not group.waited) o false)
+    (slice_get_past w.groups (length w.groups) (omega arith))
+
+pub retry_open : (part : Part) (w : WorkState) (n : ℕ) → TasksHang part w.tasks
+    → part.tasks n ≡ true
+    → is_open (work_anew part w) (group_of_task (work_anew part w) (new_number part.tasks n))
+    ≡ is_open w (group_of_task w n)
+retry_open part w n go is =
+    row_anew
+    (λ o. is_open (work_anew part w)
+    (option_map_or (λ task. task.group) o (length (work_anew part w).groups)))
+    (λ o. is_open w (option_map_or (λ task. task.group) o (length w.groups))) part.tasks
+    (task_anew part) w.tasks n (none_open (work_anew part w) ∙ sym (none_open w))
+    (λ row at. open_anew part w row.group (sym (go n row at) ∙ is)) is
+
+-- ---- rows that are kept
 
 pub group_stays : (p : State) (g : ℕ) (row : Group) → HasGroup p.work g row
     → keeps_group p g ≡ true
@@ -181,23 +322,3 @@ pub task_stays : (p : State) (n : ℕ) (row : Task) → HasTask p.work n row
     → HasTask (renewed p).work (new_number (keeps_task p) n) (task_told p row)
 task_stays p n row found is =
     (are_told (keeps_task p) (task_told p) p.work.tasks).forth n row found is
-
-pub limit_same : (p : State) (g : ℕ) (row : Group) → HasGroup p.work g row
-    → keeps_group p g ≡ true
-    → limit_of (renewed p).work (new_number (keeps_group p) g) ≡ limit_of p.work g
-limit_same p g row found is =
-    ap (option_and_then (λ group. group.limit)) (group_stays p g row found is)
-    ∙ sym (ap (option_and_then (λ group. group.limit)) found)
-
--- A task of a group is admitted where it was.
-pub admitted_same : (p : State) (n : ℕ) (row : Task) (group : Group)
-    → HasGroup p.work row.group group → keeps_group p row.group ≡ true
-    → is_admitted (renewed p).work (new_number (keeps_task p) n) (task_told p row)
-    ≡ is_admitted p.work n row
-admitted_same p n row group found is =
-    ap (λ limit. is_unfinished row.stage && admits limit
-    (unfinished_in (new_number (keeps_group p) row.group)
-    (take (new_number (keeps_task p) n) (renewed p).work.tasks)))
-    (limit_same p row.group group found is)
-    ∙ ap (λ k. is_unfinished row.stage && admits (limit_of p.work row.group) k)
-    (unfinished_before p row.group n is)

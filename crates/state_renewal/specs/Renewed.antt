@@ -64,34 +64,78 @@ abbrev pub kept : {X : Type 0} → (ℕ → Bool) → List X → List X
 kept keeps [] = []
 kept keeps (row ∷ rows) = in_front_if (keeps zero) row (kept (λ n. keeps (suc n)) rows)
 
--- ---- the rows told anew
+-- ---- a state told anew
+
+-- Some scopes, groups and tasks, by number.
+pub record Part : Type 0 where
+  pub scopes : ℕ → Bool
+  pub groups : ℕ → Bool
+  pub tasks : ℕ → Bool
 
 -- A scope is told by its parent's new number; all else of its row is as it was.
-abbrev pub scope_told : State → Scope → Scope
-scope_told p row = record row { parent = new_number (keeps_scope p) row.parent }
+abbrev pub scope_anew : Part → Scope → Scope
+scope_anew part row = record row { parent = new_number part.scopes row.parent }
 
 -- A group is told by its scope's new number; all else of its row is as it was.
-abbrev pub group_told : State → Group → Group
-group_told p row = record row { scope = new_number (keeps_scope p) row.scope }
+abbrev pub group_anew : Part → Group → Group
+group_anew part row = record row { scope = new_number part.scopes row.scope }
 
 -- A task is told by the new numbers of its group and of the task that it is a retry of; all else of
 -- its row is as it was.
-abbrev pub task_told : State → Task → Task
-task_told p row = record row {
-  group = new_number (keeps_group p) row.group;
-  retry_of = option_map (new_number (keeps_task p)) row.retry_of;
+abbrev pub task_anew : Part → Task → Task
+task_anew part row = record row {
+  group = new_number part.groups row.group;
+  retry_of = option_map (new_number part.tasks) row.retry_of;
 }
 
--- A renewed state has the kept rows, told by their new numbers. Its count, clock and layout stay.
-abbrev pub renewed : State → State
-renewed p = record {
-  count = p.count;
-  tree = record p.tree { scopes = map (scope_told p) (kept (keeps_scope p) p.tree.scopes) };
-  work = record p.work {
-    groups = map (group_told p) (kept (keeps_group p) p.work.groups);
-    tasks = map (task_told p) (kept (keeps_task p) p.work.tasks);
-  };
+-- The rows of the part, in order, each told anew.
+abbrev pub rows_anew : {X : Type 0} → (ℕ → Bool) → (X → X) → List X → List X
+rows_anew keeps tell rows = map tell (kept keeps rows)
+
+-- The tree of the scopes of the part.
+abbrev pub tree_anew : Part → TreeState → TreeState
+tree_anew part t = record t { scopes = rows_anew part.scopes (scope_anew part) t.scopes }
+
+-- The work of the groups and the tasks of the part.
+abbrev pub work_anew : Part → WorkState → WorkState
+work_anew part w = record w {
+  groups = rows_anew part.groups (group_anew part) w.groups;
+  tasks = rows_anew part.tasks (task_anew part) w.tasks;
 }
+
+-- The state of the part. Its count, clock and layout stay.
+abbrev pub state_anew : Part → State → State
+state_anew part p = record {
+  count = p.count;
+  tree = tree_anew part p.tree;
+  work = work_anew part p.work;
+}
+
+-- ---- a renewed state
+
+-- What is kept of a state.
+abbrev pub kept_part : State → Part
+kept_part p = record {
+  scopes = keeps_scope p;
+  groups = keeps_group p;
+  tasks = keeps_task p;
+}
+
+-- A scope that is kept, told anew.
+abbrev pub scope_told : State → Scope → Scope
+scope_told p = scope_anew (kept_part p)
+
+-- A group that is kept, told anew.
+abbrev pub group_told : State → Group → Group
+group_told p = group_anew (kept_part p)
+
+-- A task that is kept, told anew.
+abbrev pub task_told : State → Task → Task
+task_told p = task_anew (kept_part p)
+
+-- A renewed state has the kept rows, told by their new numbers.
+abbrev pub renewed : State → State
+renewed p = state_anew (kept_part p) p
 
 -- The renewed state in this layout.
 abbrev pub renewed_in : Layout → State → State

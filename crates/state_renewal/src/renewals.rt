@@ -13,8 +13,8 @@ ghost use Rattle.run_model.specs.Tasks.{first_ready};
 ghost use Rattle.state_renewal.specs.Kept.{AreNamesKept, IsRoomKept};
 ghost use Rattle.state_renewal.specs.Kept.{ScopeStays, GroupStays, TaskStays, KeepsUnfinished};
 ghost use Rattle.state_renewal.specs.Renewed.{keeps_scope, keeps_group, keeps_task, new_number};
-ghost use Rattle.state_renewal.specs.Renewed.{renewed};
-ghost use Rattle.state_renewal.specs.Told.{event_told, has_place, names_kept};
+ghost use Rattle.state_renewal.specs.Renewed.{kept_part, renewed};
+ghost use Rattle.state_renewal.specs.Told.{event_anew, has_place, names_part};
 
 /// A state that meets the seven rules meets them renewed: so it has an image, which is read again.
 pub fn a_renewed_state_meets_the_rules()
@@ -41,10 +41,12 @@ pub fn what_is_kept_is_as_it_was()
 /// An event that names only what is kept is allowed of the renewed state, told by the new numbers,
 /// where it was allowed; and where it wasn't, only for want of a free name or of room.
 pub fn what_is_allowed_stays()
-    ensures allowed { (p : State) (event : Event) → IsConsistent p → names_kept p event ≡ true
-        → allowed p event ≡ true → allowed (renewed p) (event_told p event) ≡ true }
-    ensures before { (p : State) (event : Event) → IsConsistent p → names_kept p event ≡ true
-        → has_place p event ≡ true → allowed (renewed p) (event_told p event) ≡ true
+    ensures allowed { (p : State) (event : Event) → IsConsistent p
+        → names_part (kept_part p) event ≡ true → allowed p event ≡ true
+        → allowed (renewed p) (event_anew (kept_part p) event) ≡ true }
+    ensures before { (p : State) (event : Event) → IsConsistent p
+        → names_part (kept_part p) event ≡ true → has_place p event ≡ true
+        → allowed (renewed p) (event_anew (kept_part p) event) ≡ true
         → allowed p event ≡ true }
 {}
 

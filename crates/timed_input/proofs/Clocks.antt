@@ -1,8 +1,9 @@
 -- No line moves a clock past the latest moment.
-use Rattle.std.specs.Prelude.{◌≡◌, ◌≤◌, ◌⊎◌, ◌+◌, max, nat_lt, Bool, true, false, if◌then◌else◌}
-use Rattle.std.specs.Prelude.{ℕ, List, [], ◌∷◌, Option, Some, None, Result, Ok, Err}
+use Rattle.std.specs.Prelude.{◌≡◌, ◌≤◌, ◌⊎◌, ◌+◌, max, nat_lt, Bool, true, false, if◌then◌else◌, ℕ}
+use Rattle.std.specs.Prelude.{List, [], ◌∷◌, length, unwrap_or, Option, Some, None, Result, Ok}
+use Rattle.std.specs.Prelude.{Err}
 use Rattle.std.specs.List.{All}
-use Rattle.std.specs.Option.{ok_or, option_map_or}
+use Rattle.std.specs.Option.{option_map_or}
 use Rattle.std.proofs.Common.{suc, arith, inl, inr, refl, sym, subst}
 use Rattle.std.proofs.lemmas.Bool.Decides.{nat_tests}
 use Rattle.run_model.specs.declared.bounds.TheConstants.{GREATEST_MOMENT}
@@ -17,9 +18,9 @@ use Rattle.run_model.specs.TreeChanges.{after_cancel}
 use Rattle.run_model.specs.WorkChanges.{error_of, group_of_task}
 use Rattle.run_model.specs.Tasks.{first_ready}
 use Rattle.run_model.specs.Step.{after_task_end, own_scope, step}
-use Rattle.run_model.specs.Replies.{decide, decide_finish, event_of, if_room}
-use Rattle.run_model.specs.Replies.{and_then, finish_refusals, refusals, is_full, is_repeated}
-use Rattle.run_model.specs.Replies.{unless}
+use Rattle.run_model.specs.Allowed.{refusals, unless}
+use Rattle.run_model.specs.Replies.{decide, decide_finish, decide_start, decided, event_of}
+use Rattle.run_model.specs.Replies.{if_room, is_full, is_repeated}
 use Rattle.run_model.specs.Session.{Session, made, with_event}
 use Rattle.console_lines.specs.declared.asked.Asked.{Asked}
 use Rattle.console_lines.specs.declared.asked.Asked.TheVariants as asked
@@ -90,6 +91,9 @@ unless_made [] answer e h = h
 unless_made ((true, why) ∷ tests) answer e h = inl refl
 unless_made ((false, why) ∷ tests) answer e h = unless_made tests answer e h
 
+decided_made : (p : State) (log : ℕ) (e : Event) → IsAtMost (made (decided p log e)) e
+decided_made p log e = unless_made (refusals p e) (if_room p log e) e (room_made p log e)
+
 repeated : (b : Bool) (answer : Result (Option Event) Refusal) (e : Event)
     → IsAtMost (made answer) e → IsAtMost (made (if b then Ok None else answer)) e
 repeated true answer e h = inl refl
@@ -126,15 +130,6 @@ later latest (asked.Command (command.Advance moment)) = omega arith
 later latest (asked.Command call) = omega arith
 later latest a = omega arith
 
-start_made : (p : State) (log : ℕ) (ready : Result ℕ Refusal) (latest : ℕ) (s : Session)
-    → s.state ≡ p
-    → clock_of s ≤ latest
-    → clock_of (with_event s (made (and_then ready (λ n. if_room p log (event.Start n))))) ≤ latest
-start_made p log (Err why) latest s e h = h
-start_made p log (Ok n) latest s e h =
-    after s (made (if_room p log (event.Start n))) (event.Start n) latest h
-    (room_made p log (event.Start n)) tt
-
 asked_within : (s : Session) (a : Asked) (latest : ℕ)
     → clock_of s ≤ latest → clock_of (after_asked s a) ≤ latest_asked latest a
 asked_within s asked.Nothing latest h = h
@@ -145,17 +140,17 @@ asked_within s (asked.Command call) latest h =
     after s (made (decide p s.log call)) (event_of p call)
     (latest_asked latest (asked.Command call))
     (omega (arith, h, later latest (asked.Command call)))
-    (unless_made (refusals p call)
-    (if is_repeated p call then Ok None else if_room p s.log (event_of p call)) (event_of p call)
-    (repeated (is_repeated p call) (if_room p s.log (event_of p call)) (event_of p call)
-    (room_made p s.log (event_of p call))))
+    (repeated (is_repeated p call) (decided p s.log (event_of p call)) (event_of p call)
+    (decided_made p s.log (event_of p call)))
     (command_within p call latest)
 asked_within s asked.Start latest h =
-    start_made s.state s.log (ok_or (first_ready s.state.work) refusal.NothingReady) latest s refl h
+    let n = unwrap_or (first_ready s.state.work) (length s.state.work.tasks) in
+    after s (made (decide_start s.state s.log)) (event.Start n) latest h
+    (decided_made s.state s.log (event.Start n)) tt
 asked_within s (asked.Finish n outcome) latest h =
-    after s (made (decide_finish s.state n outcome)) (event.Finish n outcome) latest h
-    (unless_made (finish_refusals s.state n) (Ok (Some (event.Finish n outcome)))
-    (event.Finish n outcome) (inr refl)) tt
+    let e : Event = event.Finish n outcome in
+    after s (made (decide_finish s.state n outcome)) e latest h
+    (unless_made (refusals s.state e) (Ok (Some e)) e (inr refl)) tt
 asked_within s (asked.Scope name) latest h = h
 asked_within s (asked.Value scope key) latest h = h
 asked_within s (asked.Task n) latest h = h

@@ -1,5 +1,4 @@
-use Rattle.state_renewal.proofs.AllowedKept.{allowed_told}
-use Rattle.state_renewal.proofs.AllowedBefore.{allowed_before}
+use Rattle.state_renewal.proofs.Refusals.{allowed_before, allowed_told}
 use Rattle.state_renewal.proofs.renewals.what_is_allowed_stays.Goals as goal
 
 pub returns-clause-allowed : goal.returns-clause-allowed

@@ -1,14 +1,13 @@
 -- Rows of which some go on, told anew: what is done to the rows is done to those that go on.
-use Rattle.std.proofs.Common.{◌≡◌, ◌<◌, ℕ, zero, suc, Bool, true, false, List}
-use Rattle.std.proofs.Common.{[], ◌∷◌, ◌++◌, length, map, Some, slice_get}
-use Rattle.std.proofs.Common.{refl, sym, ap, ◌∙◌, arith}
-use Rattle.std.specs.Option.{option_map}
+use Rattle.std.proofs.Common.{◌≡◌, ◌<◌, ℕ, zero, suc, Bool, true, false, List, [], ◌∷◌, ◌++◌}
+use Rattle.std.proofs.Common.{length, map, Some, slice_get, refl, sym, ap, ◌∙◌, arith, Option}
+use Rattle.std.proofs.Common.{None}
+use Rattle.std.specs.Option.{option_map, option_map_or}
 use Rattle.std.proofs.lemmas.List.{length-map}
 use Rattle.std.proofs.lemmas.Option.{slice_get-map}
 use Rattle.run_model.specs.Rows.{at_row}
-use Rattle.state_renewal.specs.Renewed.{in_front_if, kept, new_number, one_more_if}
-use Rattle.state_renewal.proofs.Numbers.{length-kept, number_behind}
-use Rattle.renewal_laws.specs.GoingOn.{rows_anew}
+use Rattle.state_renewal.specs.Renewed.{in_front_if, kept, new_number, one_more_if, rows_anew}
+use Rattle.state_renewal.proofs.Numbers.{length-kept, number_behind, kept_get}
 
 -- ---- a row at the end
 
@@ -102,22 +101,6 @@ anew_map goes tell change rows same =
 
 -- ---- rows by number
 
-front_get : {X : Type 0} (b : Bool) (r : X) (rows : List X) (n : ℕ)
-    → slice_get (in_front_if b r rows) (one_more_if b n) ≡ slice_get rows n
-front_get true r rows n = refl
-front_get false r rows n = refl
-
-kept_get : {X : Type 0} (goes : ℕ → Bool) (rows : List X) (n : ℕ) → goes n ≡ true
-    → slice_get (kept goes rows) (new_number goes n) ≡ slice_get rows n
-kept_get goes [] n is = refl
-kept_get goes (r ∷ rows) zero is =
-    ap (λ b. slice_get (in_front_if b r (kept (λ n. goes (suc n)) rows)) zero) is
-kept_get goes (r ∷ rows) (suc n) is =
-    ap (slice_get (kept goes (r ∷ rows))) (number_behind goes n)
-    ∙ front_get (goes zero) r (kept (λ n. goes (suc n)) rows)
-    (new_number (λ n. goes (suc n)) n)
-    ∙ kept_get (λ n. goes (suc n)) rows n is
-
 -- The row of the new number is the old one told anew, and there is none where there was none.
 pub anew_get : {X : Type 0} (goes : ℕ → Bool) (tell : X → X) (rows : List X) (n : ℕ)
     → goes n ≡ true
@@ -126,6 +109,28 @@ pub anew_get : {X : Type 0} (goes : ℕ → Bool) (tell : X → X) (rows : List 
 anew_get goes tell rows n is =
     slice_get-map tell (kept goes rows) (new_number goes n)
     ∙ ap (option_map tell) (kept_get goes rows n is)
+
+-- What is asked of the row of the new number, where each row is asked alike.
+pub row_anew : {X Y : Type 0} (new old : Option X → Y) (goes : ℕ → Bool) (tell : X → X)
+    (rows : List X) (n : ℕ) → new None ≡ old None
+    → ((row : X) → slice_get rows n ≡ Some row → new (Some (tell row)) ≡ old (Some row))
+    → goes n ≡ true
+    → new (slice_get (rows_anew goes tell rows) (new_number goes n)) ≡ old (slice_get rows n)
+row_anew {X = X} new old goes tell rows n none some is =
+    ap new (anew_get goes tell rows n is) ∙ by_row (slice_get rows n) refl
+  where
+    by_row : (o : Option X) → slice_get rows n ≡ o → new (option_map tell o) ≡ old o
+    by_row None at = none
+    by_row (Some row) at = some row at
+
+-- A test of the row of the new number.
+pub test_anew : {X : Type 0} (test : X → Bool) (goes : ℕ → Bool) (tell : X → X) (rows : List X)
+    (n : ℕ) → ((row : X) → test (tell row) ≡ test row) → goes n ≡ true
+    → option_map_or test (slice_get (rows_anew goes tell rows) (new_number goes n)) false
+    ≡ option_map_or test (slice_get rows n) false
+test_anew test goes tell rows n same is =
+    row_anew (λ o. option_map_or test o false) (λ o. option_map_or test o false) goes tell rows n
+    refl (λ row at. same row) is
 
 pub length-anew : {X : Type 0} (goes : ℕ → Bool) (tell : X → X) (rows : List X)
     → length (rows_anew goes tell rows) ≡ new_number goes (length rows)

@@ -1,26 +1,28 @@
 -- What is asked of a scope that goes on is answered alike.
-use Rattle.std.proofs.Common.{◌≡◌, ◌⊎◌, ◌<◌, ◌==◌, ℕ, zero, suc, Bool, true, false, cond, List}
-use Rattle.std.proofs.Common.{[], ◌∷◌, map, Option, Some, None, slice_get, inl, inr, refl}
-use Rattle.std.proofs.Common.{sym, ap, subst, ◌∙◌, arith, Less, Equal, Greater}
+use Rattle.std.proofs.Common.{◌≡◌, ◌<◌, ◌==◌, ℕ, zero, suc, Bool, true, false, cond, List, [], ◌∷◌}
+use Rattle.std.proofs.Common.{map, Option, Some, None, slice_get, refl, sym, ap, subst, ◌∙◌, arith}
+use Rattle.std.proofs.Common.{Less, Equal, Greater}
 use Rattle.std.specs.List.{filter_map, cons_option, AllByRecursion}
 use Rattle.std.specs.Option.{option_map}
 use Rattle.std.specs.Ordering.{nat_cmp, ordering_then, is_lt}
-use Rattle.std.specs.Prelude.{nat_lt}
-use Rattle.std.proofs.lemmas.Bool.{cases_order, lt-ltb, le-ltb}
+use Rattle.std.specs.Prelude.{is_some, nat_lt}
 use Rattle.run_model.specs.declared.scopes.Hit.{Hit}
+use Rattle.run_model.specs.declared.scopes.Kind.{Kind}
 use Rattle.run_model.specs.declared.scopes.Scope.{Scope}
+use Rattle.run_model.specs.Allowed.{has_kind}
+use Rattle.run_model.specs.Rules.{HasScope}
 use Rattle.run_model.specs.Scopes.{Numbered, is_root, is_detached, line, before_detached, chain}
 use Rattle.run_model.specs.Scopes.{hit_at, comes_before, first_of, least_hit, first_hit, ending}
 use Rattle.run_model.specs.Scopes.{own_deadline, least_moment, deadline_of, text_under, value_of}
-use Rattle.run_model.specs.Scopes.{AreOrdered}
+use Rattle.run_model.specs.Scopes.{AreOrdered, is_done, line_within, upwards}
+use Rattle.run_model.specs.State.{State, TreeState}
 use Rattle.model_laws.proofs.Lines.{line_up}
-use Rattle.state_renewal.specs.Renewed.{new_number}
-use Rattle.state_renewal.proofs.Numbers.{number_less}
+use Rattle.state_renewal.specs.Renewed.{new_number, Part, rows_anew, scope_anew, state_anew}
+use Rattle.state_renewal.specs.Renewed.{tree_anew}
+use Rattle.state_renewal.proofs.Numbers.{less_same, same_number}
 use Rattle.state_renewal.proofs.Keeps.{parent_there}
-use Rattle.state_renewal.proofs.Works.{same_number}
-use Rattle.renewal_laws.specs.GoingOn.{Part, rows_anew, scope_anew}
-use Rattle.renewal_laws.proofs.Goes.{ScopesGo}
-use Rattle.renewal_laws.proofs.Rows.{anew_get}
+use Rattle.state_renewal.proofs.Hangs.{AreBoth, ScopesHang}
+use Rattle.state_renewal.proofs.RowsAnew.{anew_get, test_anew}
 
 -- The scopes that go on, told anew.
 abbrev pub scopes_anew : Part → List Scope → List Scope
@@ -51,7 +53,7 @@ told_above part old row true up = (refl, tt)
 told_above part old row false up = ((up refl).is, (up refl).all)
 
 line_told_below : (part : Part) (old : List Scope) → AreOrdered old
-    → AreOrdered (scopes_anew part old) → ScopesGo part old → (t s : ℕ) (row : Scope) → s < t
+    → AreOrdered (scopes_anew part old) → ScopesHang part old → (t s : ℕ) (row : Scope) → s < t
     → slice_get old s ≡ Some row → part.scopes s ≡ true → IsLineTold part old s
 line_told_below part old ordered anew go zero s row less found is = absurd (omega (arith, less))
 line_told_below part old ordered anew go (suc t) s row less found is =
@@ -65,7 +67,7 @@ line_told_below part old ordered anew go (suc t) s row less found is =
     let lower = ordered s row found below in
     let up = parent_there old ordered s row found below in
     line_told_below part old ordered anew go t row.parent up.0 (omega (arith, less, lower)) up.1
-    (go.each s row found below is)) in
+    (go s row found below is)) in
     record {
       is =
           now
@@ -75,10 +77,16 @@ line_told_below part old ordered anew go (suc t) s row less found is =
     }
 
 pub line_told : (part : Part) (old : List Scope) → AreOrdered old
-    → AreOrdered (scopes_anew part old) → ScopesGo part old → (s : ℕ) (row : Scope)
+    → AreOrdered (scopes_anew part old) → ScopesHang part old → (s : ℕ) (row : Scope)
     → slice_get old s ≡ Some row → part.scopes s ≡ true → IsLineTold part old s
 line_told part old ordered anew go s row found is =
     line_told_below part old ordered anew go (suc s) s row (omega arith) found is
+
+pub both_lines : (part : Part) (p : State) → AreBoth part p → (s : ℕ) (row : Scope)
+    → HasScope p.tree s row → part.scopes s ≡ true → IsLineTold part p.tree.scopes s
+both_lines part p both s row found is =
+    line_told part p.tree.scopes both.old.numbered.ordered both.new.numbered.ordered
+    both.hangs.scopes s row found is
 
 -- ---- the chain
 
@@ -115,31 +123,13 @@ chain_told part old s told = ap before_detached told.is ∙ cut_told part (line 
 abbrev hit_told : Part → ℕ × Hit → ℕ × Hit
 hit_told part a = (new_number part.scopes a.0, a.1)
 
-less_same : (keeps : ℕ → Bool) (a b : ℕ) → keeps a ≡ true → keeps b ≡ true
-    → nat_lt (new_number keeps a) (new_number keeps b) ≡ nat_lt a b
-less_same keeps a b is_a is_b = by_order (cases_order a b)
-  where
-    by_order : (a ≡ b) ⊎ ((a < b) ⊎ (b < a))
-        → nat_lt (new_number keeps a) (new_number keeps b) ≡ nat_lt a b
-    by_order (inl e) =
-        let same : new_number keeps a ≡ new_number keeps b = ap (new_number keeps) e in
-        le-ltb (new_number keeps a) (new_number keeps b) (omega (arith, same))
-        ∙ sym (le-ltb a b (omega (arith, e)))
-    by_order (inr (inl less)) =
-        lt-ltb (new_number keeps a) (new_number keeps b) (number_less keeps a b is_a less)
-        ∙ sym (lt-ltb a b less)
-    by_order (inr (inr more)) =
-        let apart = number_less keeps b a is_b more in
-        le-ltb (new_number keeps a) (new_number keeps b) (omega (arith, apart))
-        ∙ sym (le-ltb a b (omega (arith, more)))
-
 before_same : (part : Part) (a b : ℕ × Hit) → part.scopes a.0 ≡ true → part.scopes b.0 ≡ true
     → comes_before (hit_told part a) (hit_told part b) ≡ comes_before a b
 before_same part a b is_a is_b =
     ap (λ c. is_lt (ordering_then (nat_cmp a.1.event b.1.event)
     (ordering_then (nat_cmp a.1.moment b.1.moment) (cond c Less
     (cond (new_number part.scopes a.0 == new_number part.scopes b.0) Equal Greater)))))
-    (less_same part.scopes a.0 b.0 is_a is_b)
+    (less_same part.scopes a.0 b.0 is_a)
     ∙ ap (λ c. is_lt (ordering_then (nat_cmp a.1.event b.1.event)
     (ordering_then (nat_cmp a.1.moment b.1.moment)
     (cond (nat_lt a.0 b.0) Less (cond c Equal Greater)))))
@@ -224,6 +214,35 @@ ending_told part old s told =
     ∙ ap (option_map (λ a. a.1))
     (least_told part (filter_map hit_at rows) (hits_go part rows all)).told
     ∙ untold part (first_hit old s)
+
+-- ---- kinds, and what is done
+
+pub kind_anew : (test : Kind → Bool) (part : Part) (t : TreeState) (s : ℕ) → part.scopes s ≡ true
+    → has_kind test (tree_anew part t) (new_number part.scopes s) ≡ has_kind test t s
+kind_anew test part t s is =
+    test_anew (λ row. test row.kind) part.scopes (scope_anew part) t.scopes s (λ row. refl) is
+
+not_done : (rows : List Scope) (s : ℕ) → slice_get rows s ≡ None → is_done rows s ≡ false
+not_done rows s at =
+    ap (λ o. is_some (option_map (λ a. a.1)
+    (least_hit (filter_map hit_at (before_detached (upwards (line_within s rows) s o)))))) at
+
+pub done_anew : (part : Part) (p : State) → AreBoth part p → (s : ℕ) → part.scopes s ≡ true
+    → is_done (state_anew part p).tree.scopes (new_number part.scopes s)
+    ≡ is_done p.tree.scopes s
+done_anew part p both s is = by_row (slice_get p.tree.scopes s) refl
+  where
+    by_row : (o : Option Scope) → slice_get p.tree.scopes s ≡ o
+        → is_done (scopes_anew part p.tree.scopes) (new_number part.scopes s)
+        ≡ is_done p.tree.scopes s
+    by_row None at =
+        not_done (scopes_anew part p.tree.scopes) (new_number part.scopes s)
+        (anew_get part.scopes (scope_anew part) p.tree.scopes s is
+        ∙ ap (option_map (scope_anew part)) at)
+        ∙ sym (not_done p.tree.scopes s at)
+    by_row (Some row) at =
+        ap is_some
+        (ending_told part p.tree.scopes s (both_lines part p both s row at is))
 
 -- ---- deadlines and values
 

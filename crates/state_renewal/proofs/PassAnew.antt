@@ -1,18 +1,17 @@
 -- The numbers of rows that pass a test, and how many rows pass it: those that go on alone.
-use Rattle.std.proofs.Common.{◌≡◌, ◌+◌, ◌<◌, ◌||◌, ℕ, zero, suc, Bool, true, false, cond}
-use Rattle.std.proofs.Common.{List, [], ◌∷◌, ◌++◌, length, map, take, Option, Some, None}
-use Rattle.std.proofs.Common.{slice_get, refl, sym, ap, ◌∙◌, arith}
+use Rattle.std.proofs.Common.{◌≡◌, ◌+◌, ◌<◌, ◌||◌, ℕ, zero, suc, Bool, true, false, cond, List, []}
+use Rattle.std.proofs.Common.{◌∷◌, ◌++◌, length, map, take, Option, Some, None, slice_get, refl}
+use Rattle.std.proofs.Common.{sym, ap, ◌∙◌, arith}
 use Rattle.std.specs.List.{filter, find, list_any, range_with_len}
 use Rattle.std.specs.Option.{option_map, option_or}
-use Rattle.std.specs.Prelude.{count_by, if◌then◌else◌}
+use Rattle.std.specs.Prelude.{count_by, if◌then◌else◌, is_some}
 use Rattle.std.proofs.lemmas.List.{take_all}
 use Rattle.std.proofs.lemmas.List.Elements.{filter-append}
 use Rattle.std.proofs.lemmas.List.Folds.{find-append}
-use Rattle.state_renewal.specs.Renewed.{in_front_if, kept, new_number, one_more_if}
-use Rattle.state_renewal.proofs.Keeps.{count_cons}
+use Rattle.state_renewal.specs.Renewed.{in_front_if, kept, new_number, one_more_if, rows_anew}
+use Rattle.model_laws.proofs.Admission.{count_cons}
 use Rattle.state_renewal.proofs.Numbers.{number_behind}
-use Rattle.renewal_laws.specs.GoingOn.{rows_anew}
-use Rattle.renewal_laws.proofs.Rows.{length-anew}
+use Rattle.state_renewal.proofs.RowsAnew.{length-anew}
 
 -- ---- numbers that pass
 
@@ -141,6 +140,27 @@ find_anew goes test new_test (suc n) pass =
         ∙ ap (λ b. option_or (find test (range_with_len 0 n)) (cond b (Some n) None))
         (pass.gone n (omega arith) is)
         ∙ or_none (find test (range_with_len 0 n))))
+
+any_is_found : (test : ℕ → Bool) (ns : List ℕ) → list_any test ns ≡ is_some (find test ns)
+any_is_found test [] = refl
+any_is_found test (n ∷ ns) =
+    elim (test n) as (λ b. (b || list_any test ns) ≡ is_some (cond b (Some n) (find test ns)))
+    [ true ↦ refl | false ↦ any_is_found test ns ]
+
+-- A number passes exactly where one passed.
+pub some_anew : (goes : ℕ → Bool) (test new_test : ℕ → Bool) (n : ℕ)
+    → PassesAnew goes test new_test n
+    → list_any new_test (range_with_len 0 (new_number goes n))
+    ≡ list_any test (range_with_len 0 n)
+some_anew goes test new_test n pass =
+    any_is_found new_test (range_with_len 0 (new_number goes n))
+    ∙ ap is_some (find_anew goes test new_test n pass)
+    ∙ told (find test (range_with_len 0 n))
+    ∙ sym (any_is_found test (range_with_len 0 n))
+  where
+    told : (o : Option ℕ) → is_some (option_map (new_number goes) o) ≡ is_some o
+    told None = refl
+    told (Some k) = refl
 
 -- ---- rows that pass
 

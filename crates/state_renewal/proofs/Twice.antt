@@ -1,36 +1,33 @@
 -- What a renewal leaves of a store that was renewed before is what it leaves of the old one.
-use Rattle.std.proofs.Common.{◌≡◌, ◌==◌, ◌&&◌, ◌||◌, ℕ, zero, suc, Bool, true, false, not}
-use Rattle.std.proofs.Common.{List, [], ◌∷◌, length, map, Option, Some, None, slice_get, inl, inr}
-use Rattle.std.proofs.Common.{refl, sym, ap, subst, ◌∙◌}
-use Rattle.std.specs.List.{AllByRecursion}
+use Rattle.std.proofs.Common.{◌≡◌, ◌==◌, ◌&&◌, ◌||◌, ℕ, zero, suc, Bool, true, false, not, List}
+use Rattle.std.proofs.Common.{[], ◌∷◌, length, map, Option, Some, None, slice_get, inl, inr, refl}
+use Rattle.std.proofs.Common.{sym, ap, ◌∙◌}
 use Rattle.std.specs.Option.{option_map, option_map_or}
-use Rattle.std.proofs.lemmas.Bool.{and_from, and_left, and_parts, both_ways, eqb-true}
-use Rattle.std.proofs.lemmas.Bool.{false_from_ne_true, false≢true, not-true, or_cases}
-use Rattle.std.proofs.lemmas.Bool.{true_from_ne_false}
-use Rattle.std.proofs.lemmas.Option.{none-some, same_Some, slice_get_within}
+use Rattle.std.proofs.lemmas.Bool.{and_left, and_parts, both_ways, eqb-true, false_from_ne_true}
+use Rattle.std.proofs.lemmas.Bool.{false≢true, not-true, or_cases, true_from_ne_false}
 use Rattle.run_model.specs.declared.groups.Group.{Group}
 use Rattle.run_model.specs.declared.scopes.Scope.{Scope}
 use Rattle.run_model.specs.declared.tasks.Task.{Task}
-use Rattle.run_model.specs.Rules.{HasScope}
+use Rattle.run_model.specs.Rules.{HasScope, IsConsistent}
 use Rattle.run_model.specs.Scopes.{Numbered, is_done, line, line_within, upwards}
 use Rattle.run_model.specs.State.{State}
 use Rattle.model_laws.specs.Hits.{is_on}
-use Rattle.model_laws.proofs.FirstErrors.{any_found}
 use Rattle.model_laws.proofs.Tests.{passing}
 use Rattle.state_renewal.specs.Renewed.{group_told, hosts_unwaited, in_front_if, is_needed, kept}
-use Rattle.state_renewal.specs.Renewed.{keeps_group, keeps_scope, keeps_task, new_number}
-use Rattle.state_renewal.specs.Renewed.{one_more_if, renewed, scope_numbers, scope_told, task_told}
-use Rattle.state_renewal.proofs.Keeps.{found_any, number_get}
-use Rattle.state_renewal.proofs.Numbers.{are_told, number_behind}
-use Rattle.state_renewal.proofs.Works.{same_number}
-use Rattle.renewal_laws.specs.GoingOn.{Part, group_anew, rows_anew, scope_anew, state_anew}
-use Rattle.renewal_laws.specs.GoingOn.{task_anew}
-use Rattle.renewal_laws.proofs.Allowed.{done_anew}
-use Rattle.renewal_laws.proofs.Begins.{same_rows}
-use Rattle.renewal_laws.proofs.Chains.{AllGo, line_told, told_at}
-use Rattle.renewal_laws.proofs.Numbers.{any_anew}
-use Rattle.renewal_laws.proofs.Rows.{anew_get, kept_map}
-use Rattle.renewal_laws.proofs.Runs.{Both}
+use Rattle.state_renewal.specs.Renewed.{keeps_group, keeps_scope, keeps_task, kept_part}
+use Rattle.state_renewal.specs.Renewed.{new_number, one_more_if, renewed, scope_numbers}
+use Rattle.state_renewal.specs.Renewed.{scope_told, task_told, Part, group_anew, rows_anew}
+use Rattle.state_renewal.specs.Renewed.{scope_anew, state_anew, task_anew}
+use Rattle.state_renewal.proofs.Keeps.{live_kept, all_at}
+use Rattle.state_renewal.proofs.Numbers.{number_behind, same_number}
+use Rattle.state_renewal.proofs.Hangs.{AreBoth}
+use Rattle.state_renewal.proofs.Stays.{kept_both}
+use Rattle.state_renewal.proofs.Chains.{AllGo, both_lines, done_anew, told_at}
+use Rattle.state_renewal.proofs.PassAnew.{any_anew, some_anew}
+use Rattle.state_renewal.proofs.RowsAnew.{anew_get, kept_map, length-anew}
+use Rattle.std.specs.List.{list_any, range_with_len}
+use Rattle.model_laws.proofs.Places.{row_there}
+use Rattle.model_laws.proofs.FirstErrors.{found_any}
 
 -- ---- rows that are kept of those that go on
 
@@ -104,12 +101,23 @@ rows_twice goes keeps again f g h rows within same =
     ∙ ap (λ rs. map f (map g rs)) (kept_twice goes keeps again rows within)
     ∙ map_twice f g h (kept keeps rows) same
 
--- ---- what is needed
+-- The state with these rows in place of its own.
+abbrev with_rows : State → List Scope → List Group → List Task → State
+with_rows p scopes groups tasks = record {
+  count = p.count;
+  tree = record p.tree { scopes = scopes };
+  work = record p.work { groups = groups; tasks = tasks };
+}
 
-same_bools : (a b : Bool) → (a ≡ true → b ≡ true) → (b ≡ true → a ≡ true) → a ≡ b
-same_bools true b forth back = sym (forth refl)
-same_bools false true forth back = back refl
-same_bools false false forth back = refl
+pub same_rows : (p : State) (scopes a : List Scope) (groups b : List Group) (tasks c : List Task)
+    → scopes ≡ a → groups ≡ b → tasks ≡ c
+    → with_rows p scopes groups tasks ≡ with_rows p a b c
+same_rows p scopes a groups b tasks c s g t =
+    ap (λ rows. with_rows p rows groups tasks) s
+    ∙ ap (λ rows. with_rows p a rows tasks) g
+    ∙ ap (with_rows p a b) t
+
+-- ---- what is needed
 
 -- A scope on whose line another one is has a row.
 row_on : (rows : List Scope) (t s : ℕ) → is_on s (line rows t) ≡ true
@@ -122,12 +130,6 @@ row_on rows t s on = by_row (slice_get rows t) refl
         absurd (false≢true (sym (ap (λ o. is_on s (upwards (line_within t rows) t o)) at) ∙ on))
     by_row (Some row) at = (row, at)
 
-all_at : (P : Numbered → Type 0) (rows : List Numbered) → AllByRecursion P rows → (n : ℕ)
-    (r : Numbered) → slice_get rows n ≡ Some r → P r
-all_at P [] all n r found = absurd (none-some r found)
-all_at P (x ∷ rows) all zero r found = subst P (same_Some x r found) all.0
-all_at P (x ∷ rows) all (suc n) r found = all_at P rows all.1 n r found
-
 -- A scope is on the line told anew where it was on the line.
 on_anew : (part : Part) (s : ℕ) (rows : List Numbered) → AllGo part rows → part.scopes s ≡ true
     → is_on (new_number part.scopes s) (map (told_at part) rows) ≡ is_on s rows
@@ -139,25 +141,27 @@ on_anew part s (r ∷ rows) all is =
 
 -- Each scope that doesn't go on is done.
 abbrev pub GoneAreDone : Part → State → Type 0
-GoneAreDone part p = (s : ℕ) → part.scopes s ≡ false → is_done p.tree.scopes s ≡ true
+GoneAreDone part p = (s : ℕ) (row : Scope) → HasScope p.tree s row → part.scopes s ≡ false
+    → is_done p.tree.scopes s ≡ true
 
-module _ (part : Part) (p : State) (both : Both part p) (done : GoneAreDone part p) where
+module _ (part : Part) (p : State) (both : AreBoth part p) (done : GoneAreDone part p) where
   hosts_go : (s : ℕ) → hosts_unwaited p.work s ≡ true → part.scopes s ≡ true
   hosts_go s is =
       let by = found_any (λ group. not group.waited && group.scope == s) p.work.groups is in
       let parts = and_parts (not by.1.waited) (by.1.scope == s) by.3 in
-      let with = both.go.work.groups.each by.0 by.1 by.2 in
+      let with = both.hangs.work.groups by.0 by.1 by.2 in
       ap part.scopes (sym (eqb-true by.1.scope s parts.1))
       ∙ with.scope (true_from_ne_false (part.groups by.0)
       (λ gone. both_ways by.1.waited (not-true by.1.waited parts.0) (with.gone gone)))
 
-  needed_goes : (s : ℕ) → is_needed p s ≡ true → part.scopes s ≡ true
-  needed_goes s is =
+  needed_goes : (s : ℕ) (row : Scope) → HasScope p.tree s row → is_needed p s ≡ true
+      → part.scopes s ≡ true
+  needed_goes s row found is =
       elim (or_cases (not (is_done p.tree.scopes s)) (hosts_unwaited p.work s) is) [
         | inl live ↦
             true_from_ne_false (part.scopes s)
             (λ gone. both_ways (is_done p.tree.scopes s)
-            (not-true (is_done p.tree.scopes s) live) (done s gone))
+            (not-true (is_done p.tree.scopes s) live) (done s row found gone))
         | inr hosts ↦ hosts_go s hosts
       ]
 
@@ -171,26 +175,24 @@ module _ (part : Part) (p : State) (both : Both part p) (done : GoneAreDone part
         on = λ g x found goes.
             ap (λ b. not x.waited && b)
             (same_number part.scopes x.scope s
-            ((both.go.work.groups.each g x found).scope goes) is);
+            ((both.hangs.work.groups g x found).scope goes) is);
         gone = λ g x found gone.
             and_left (not x.waited) (x.scope == s)
-            (ap not ((both.go.work.groups.each g x found).gone gone));
+            (ap not ((both.hangs.work.groups g x found).gone gone));
       })
 
   needed_same : (s : ℕ) → part.scopes s ≡ true
       → is_needed (state_anew part p) (new_number part.scopes s) ≡ is_needed p s
   needed_same s is =
       ap (λ b. not b || hosts_unwaited (state_anew part p).work (new_number part.scopes s))
-      (done_anew part p both.old both.new both.go s is)
+      (done_anew part p both s is)
       ∙ ap (λ b. not (is_done p.tree.scopes s) || b) (hosts_same s is)
 
   -- ---- what is kept
 
   told : (t : ℕ) (row : Scope) → HasScope p.tree t row → part.scopes t ≡ true
       → AllGo part (line p.tree.scopes t)
-  told t row found is =
-      (line_told part p.tree.scopes both.old.numbered.ordered both.new.numbered.ordered
-      both.go.scopes t row found is).all
+  told t row found is = (both_lines part p both t row found is).all
 
   on_same : (t s : ℕ) (row : Scope) → HasScope p.tree t row → part.scopes t ≡ true
       → part.scopes s ≡ true
@@ -198,8 +200,7 @@ module _ (part : Part) (p : State) (both : Both part p) (done : GoneAreDone part
       (line (state_anew part p).tree.scopes (new_number part.scopes t))
       ≡ is_on s (line p.tree.scopes t)
   on_same t s row found is_t is_s =
-      let line = line_told part p.tree.scopes both.old.numbered.ordered
-      both.new.numbered.ordered both.go.scopes t row found is_t in
+      let line = both_lines part p both t row found is_t in
       ap (is_on (new_number part.scopes s)) line.is
       ∙ on_anew part s (Rattle.run_model.specs.Scopes.line p.tree.scopes t) line.all is_s
 
@@ -213,54 +214,29 @@ module _ (part : Part) (p : State) (both : Both part p) (done : GoneAreDone part
       let on = found_any (λ r. r.0 == s) (line p.tree.scopes by.1) parts.1 in
       ap part.scopes (sym (eqb-true on.1.0 s on.3))
       ∙ all_at (λ r. part.scopes r.0 ≡ true) (line p.tree.scopes by.1)
-      (told by.1 row.0 row.1 (needed_goes by.1 parts.0)) on.0 on.1 on.2
-
-  scope_again : (s : ℕ) → part.scopes s ≡ true → keeps_scope p s ≡ true
-      → keeps_scope (state_anew part p) (new_number part.scopes s) ≡ true
-  scope_again s is kept_p =
-      let by = found_any (λ t. is_needed p t && is_on s (line p.tree.scopes t))
-      (scope_numbers p.tree) kept_p in
-      let parts = and_parts (is_needed p by.1) (is_on s (line p.tree.scopes by.1)) by.3 in
-      let row = row_on p.tree.scopes by.1 s parts.1 in
-      let goes = needed_goes by.1 parts.0 in
-      let q : State = state_anew part p in
-      let t = new_number part.scopes by.1 in
-      let new = new_number part.scopes s in
-      any_found (λ t. is_needed q t && is_on new (line q.tree.scopes t)) (scope_numbers q.tree) t t
-      (number_get (length q.tree.scopes) t
-      (slice_get_within q.tree.scopes t (scope_anew part row.0)
-      (anew_get part.scopes (scope_anew part) p.tree.scopes by.1 goes
-      ∙ ap (option_map (scope_anew part)) row.1)))
-      (and_from (is_needed q t) (is_on new (line q.tree.scopes t))
-      (needed_same by.1 goes ∙ parts.0) (on_same by.1 s row.0 row.1 goes is ∙ parts.1))
-
-  scope_before : (s : ℕ) → part.scopes s ≡ true
-      → keeps_scope (state_anew part p) (new_number part.scopes s) ≡ true
-      → keeps_scope p s ≡ true
-  scope_before s is kept_q =
-      let q : State = state_anew part p in
-      let new = new_number part.scopes s in
-      let by = found_any (λ t. is_needed q t && is_on new (line q.tree.scopes t))
-      (scope_numbers q.tree) kept_q in
-      let parts = and_parts (is_needed q by.1) (is_on new (line q.tree.scopes by.1)) by.3 in
-      let row = row_on q.tree.scopes by.1 new parts.1 in
-      let old = (are_told part.scopes (scope_anew part) p.tree.scopes).back by.1 row.0 row.1 in
-      let t = old.1.number in
-      let at = old.1.told in
-      any_found (λ t. is_needed p t && is_on s (line p.tree.scopes t)) (scope_numbers p.tree) t t
-      (number_get (length p.tree.scopes) t
-      (slice_get_within p.tree.scopes t old.0 old.1.found))
-      (and_from (is_needed p t) (is_on s (line p.tree.scopes t))
-      (sym (needed_same t old.1.is_kept) ∙ ap (is_needed q) (sym at) ∙ parts.0)
-      (sym (on_same t s old.0 old.1.found old.1.is_kept is)
-      ∙ ap (λ k. is_on new (line q.tree.scopes k)) (sym at)
-      ∙ parts.1))
+      (told by.1 row.0 row.1 (needed_goes by.1 row.0 row.1 parts.0)) on.0 on.1 on.2
 
   keeps_same : (s : ℕ) → part.scopes s ≡ true
       → keeps_scope (state_anew part p) (new_number part.scopes s) ≡ keeps_scope p s
   keeps_same s is =
-      same_bools (keeps_scope (state_anew part p) (new_number part.scopes s)) (keeps_scope p s)
-      (scope_before s is) (scope_again s is)
+      let q : State = state_anew part p in
+      let new = new_number part.scopes s in
+      ap (λ many. list_any (λ t. is_needed q t && is_on new (line q.tree.scopes t))
+      (range_with_len 0 many)) (length-anew part.scopes (scope_anew part) p.tree.scopes)
+      ∙ some_anew part.scopes (λ t. is_needed p t && is_on s (line p.tree.scopes t))
+      (λ t. is_needed q t && is_on new (line q.tree.scopes t)) (length p.tree.scopes)
+      (record {
+        on = λ t less goes.
+            let row = row_there p.tree.scopes t less in
+            ap (λ b. b && is_on new (line q.tree.scopes (new_number part.scopes t)))
+            (needed_same t goes)
+            ∙ ap (λ b. is_needed p t && b) (on_same t s row.0 row.1 goes is);
+        gone = λ t less gone.
+            let row = row_there p.tree.scopes t less in
+            and_left (is_needed p t) (is_on s (line p.tree.scopes t))
+            (false_from_ne_true (is_needed p t)
+            (λ needed. both_ways (part.scopes t) gone (needed_goes t row.0 row.1 needed)));
+      })
 
   scopes_within : IsWithin part.scopes (keeps_scope p) (keeps_scope (state_anew part p))
   scopes_within = record {
@@ -288,14 +264,14 @@ module _ (part : Part) (p : State) (both : Both part p) (done : GoneAreDone part
       group_row g is None at = refl
       group_row g is (Some row) at =
           ap (λ b. not row.waited || not row.bare && b)
-          (keeps_same row.scope ((both.go.work.groups.each g row at).scope is))
+          (keeps_same row.scope ((both.hangs.work.groups g row at).scope is))
 
   -- Only groups that go on are kept.
   group_goes : (g : ℕ) → keeps_group p g ≡ true → part.groups g ≡ true
   group_goes g is =
       let row = passing (λ group. not group.waited || not group.bare && keeps_scope p group.scope)
       (slice_get p.work.groups g) is in
-      let with = both.go.work.groups.each g row.0 row.1 in
+      let with = both.hangs.work.groups g row.0 row.1 in
       true_from_ne_false (part.groups g)
       (λ gone.
       elim (or_cases (not row.0.waited) (not row.0.bare && keeps_scope p row.0.scope) row.2) [
@@ -329,7 +305,7 @@ module _ (part : Part) (p : State) (both : Both part p) (done : GoneAreDone part
           ≡ option_map_or (λ task. keeps_group p task.group) o false
       task_row n is None at = refl
       task_row n is (Some row) at =
-          group_same row.group (sym (both.go.work.tasks.each n row at) ∙ is)
+          group_same row.group (sym (both.hangs.work.tasks n row at) ∙ is)
 
   tasks_within : IsWithin part.tasks (keeps_task p) (keeps_task (state_anew part p))
   tasks_within = record {
@@ -339,7 +315,7 @@ module _ (part : Part) (p : State) (both : Both part p) (done : GoneAreDone part
         (λ is.
         let row = passing (λ task. keeps_group p task.group) (slice_get p.work.tasks n) is in
         both_ways (part.tasks n) gone
-        (both.go.work.tasks.each n row.0 row.1 ∙ group_goes row.0.group row.2));
+        (both.hangs.work.tasks n row.0 row.1 ∙ group_goes row.0.group row.2));
   }
 
   -- ---- what is left
@@ -378,3 +354,12 @@ module _ (part : Part) (p : State) (both : Both part p) (done : GoneAreDone part
       }) (number_twice part.groups (keeps_group p) (keeps_group q) groups_within row.group)
       ∙ ap (λ o. record row { group = new_number (keeps_group p) row.group; retry_of = o })
       (link_twice row.retry_of)))
+
+-- ---- a renewed state is renewed
+
+pub renewed_again : (p : State) → IsConsistent p → renewed (renewed p) ≡ renewed p
+renewed_again p consistent =
+    renewed_same (kept_part p) p (kept_both p consistent)
+    (λ s row found gone.
+    true_from_ne_false (is_done p.tree.scopes s)
+    (λ live. both_ways (keeps_scope p s) gone (live_kept p s row found live)))

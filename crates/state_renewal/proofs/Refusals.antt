@@ -1,0 +1,278 @@
+-- An event that names only what goes on is refused alike in both states, but for names and room.
+use Rattle.std.proofs.Common.{◌≡◌, ◌&&◌, ◌==◌, ℕ, Bool, true, false, List, [], length, Option}
+use Rattle.std.proofs.Common.{Some, None, refl, sym, ap, ◌∙◌, arith}
+use Rattle.std.specs.Option.{option_map, option_map_or}
+use Rattle.std.specs.Prelude.{is_none, nat_lt, position}
+use Rattle.std.specs.Str.{bytes_eq}
+use Rattle.std.proofs.Math.Bool.{and-true, and-false}
+use Rattle.std.proofs.lemmas.Bool.{and_from, and_parts, both_ways, false_from_ne_true, lt-ltb}
+use Rattle.std.proofs.lemmas.Bool.{ltb-true, not-false}
+use Rattle.std.proofs.lemmas.Slice.Eq.{bytes_eq-Decides}
+use Rattle.run_model.proofs.NameLemmas.{name_is_free, unpassed}
+use Rattle.run_model.proofs.RefusalLemmas.{each_fails}
+use Rattle.run_model.specs.declared.bounds.TheConstants.{MOST_GROUPS}
+use Rattle.run_model.specs.Allowed.{allowed, has_group_room, has_scope_room, has_task_room}
+use Rattle.run_model.specs.Allowed.{holds_none, is_cancellable, is_derivable, is_first_ready}
+use Rattle.run_model.specs.Allowed.{is_group_name_free, is_scope_name_free, refusals, takes_cause}
+use Rattle.run_model.specs.Event.{Event}
+use Rattle.run_model.specs.Event as event
+use Rattle.run_model.specs.Layouts.{most_scopes, most_tasks}
+use Rattle.run_model.specs.Rows.{new_group, root}
+use Rattle.run_model.specs.Rules.{IsConsistent}
+use Rattle.run_model.specs.State.{State, TreeState, WorkState}
+use Rattle.run_model.specs.Tasks.{first_ready, is_interrupted, is_ready, is_running, task_numbers}
+use Rattle.model_laws.proofs.Tests.{found_passes}
+use Rattle.state_renewal.specs.Renewed.{Part, group_anew, kept_part, new_number, renewed}
+use Rattle.state_renewal.specs.Renewed.{rows_anew, scope_anew, state_anew, task_anew, tree_anew}
+use Rattle.state_renewal.specs.Renewed.{work_anew}
+use Rattle.state_renewal.specs.Told.{event_anew, has_place, names_part}
+use Rattle.state_renewal.proofs.Chains.{done_anew, kind_anew}
+use Rattle.state_renewal.proofs.Hangs.{AreBoth, WorkHangs}
+use Rattle.state_renewal.proofs.Numbers.{are_told, less_same, same_number}
+use Rattle.state_renewal.proofs.RowsAnew.{length-anew}
+use Rattle.state_renewal.proofs.Stays.{kept_both}
+use Rattle.state_renewal.proofs.Works.{first_anew, idle_anew, open_anew, ready_goes, retried_anew}
+use Rattle.state_renewal.proofs.Works.{retry_open, seat_anew, stage_same, unfinished_same}
+
+-- ---- tests that are the same
+
+there_anew : {X : Type 0} (goes : ℕ → Bool) (tell : X → X) (rows : List X) (n : ℕ)
+    → goes n ≡ true
+    → nat_lt (new_number goes n) (length (rows_anew goes tell rows)) ≡ nat_lt n (length rows)
+there_anew goes tell rows n is =
+    ap (nat_lt (new_number goes n)) (length-anew goes tell rows)
+    ∙ less_same goes n (length rows) is
+
+first_same : (part : Part) (p : State) (n : ℕ) → IsConsistent p → WorkHangs part p.work
+    → part.tasks n ≡ true
+    → is_first_ready (work_anew part p.work) (new_number part.tasks n)
+    ≡ is_first_ready p.work n
+first_same part p n consistent go is =
+    ap (λ o. option_map_or (λ first. first == new_number part.tasks n) o false)
+    (first_anew part p consistent go)
+    ∙ by_first (first_ready p.work) refl
+  where
+    by_first : (o : Option ℕ) → first_ready p.work ≡ o
+        → option_map_or (λ first. first == new_number part.tasks n)
+        (option_map (new_number part.tasks) o) false
+        ≡ option_map_or (λ first. first == n) o false
+    by_first None at = refl
+    by_first (Some first) at =
+        same_number part.tasks first n
+        (ready_goes part p first consistent go
+        (found_passes (is_ready p.work) (task_numbers p.work) first at)) is
+
+-- ---- names and room
+
+-- A name that no row has, no row has that goes on.
+free_anew : {X : Type 0} (d : X) (name : X → List ℕ) (goes : ℕ → Bool) (tell : X → X)
+    (wanted : List ℕ) (rows : List X) → ((x : X) → name (tell x) ≡ name x)
+    → is_none (position (λ row. bytes_eq wanted (name row)) rows) ≡ true
+    → is_none (position (λ row. bytes_eq wanted (name row)) (rows_anew goes tell rows)) ≡ true
+free_anew d name goes tell wanted rows same free =
+    unpassed d (λ row. bytes_eq wanted (name row)) (rows_anew goes tell rows)
+    (λ m row found passes.
+    let old = (are_told goes tell rows).back m row found in
+    name_is_free name wanted rows free old.n old.old old.found
+    (sym (same old.old)
+    ∙ ap name (sym old.told)
+    ∙ sym ((bytes_eq-Decides wanted (name row)).0 passes)))
+
+scope_free : (part : Part) (t : TreeState) (name : List ℕ)
+    → is_scope_name_free t name ≡ true → is_scope_name_free (tree_anew part t) name ≡ true
+scope_free part t name free =
+    free_anew root (λ row. row.name) part.scopes (scope_anew part) name t.scopes (λ row. refl) free
+
+group_free : (part : Part) (w : WorkState) (name : List ℕ)
+    → is_group_name_free w name ≡ true → is_group_name_free (work_anew part w) name ≡ true
+group_free part w name free =
+    free_anew (new_group [] 0 false) (λ row. row.name) part.groups (group_anew part) name w.groups
+    (λ row. refl) free
+
+room_anew : {X : Type 0} (goes : ℕ → Bool) (tell : X → X) (rows : List X) (most : ℕ)
+    → nat_lt (length rows) most ≡ true → nat_lt (length (rows_anew goes tell rows)) most ≡ true
+room_anew goes tell rows most room =
+    let few = (are_told goes tell rows).few in
+    let less = ltb-true (length rows) most room in
+    lt-ltb (length (rows_anew goes tell rows)) most (omega (arith, few, less))
+
+scope_room : (part : Part) (t : TreeState) → has_scope_room t ≡ true
+    → has_scope_room (tree_anew part t) ≡ true
+scope_room part t room =
+    room_anew part.scopes (scope_anew part) t.scopes (most_scopes t.layout) room
+
+group_room : (part : Part) (w : WorkState) → has_group_room w ≡ true
+    → has_group_room (work_anew part w) ≡ true
+group_room part w room = room_anew part.groups (group_anew part) w.groups MOST_GROUPS room
+
+task_room : (part : Part) (w : WorkState) → has_task_room w ≡ true
+    → has_task_room (work_anew part w) ≡ true
+task_room part w room =
+    room_anew part.tasks (task_anew part) w.tasks (most_tasks w.layout) room
+
+-- ---- refusals
+
+pub refusals_anew : (part : Part) (p : State) (e : Event) → AreBoth part p
+    → names_part part e ≡ true → has_place p e ≡ true
+    → refusals (state_anew part p) (event_anew part e) ≡ refusals p e
+refusals_anew part p (event.Derive name parent kind) both is place =
+    let at = and_parts (is_scope_name_free p.tree name) (has_scope_room p.tree) place in
+    cc (
+      there_anew part.scopes (scope_anew part) p.tree.scopes parent is,
+      scope_free part p.tree name at.0,
+      scope_room part p.tree at.1,
+    )
+refusals_anew part p (event.Cancel s cause) both is place =
+    cc (
+      there_anew part.scopes (scope_anew part) p.tree.scopes s is,
+      kind_anew is_cancellable part p.tree s is,
+      kind_anew takes_cause part p.tree s is,
+      done_anew part p both s is,
+    )
+refusals_anew part p (event.Advance moment) both is place = refl
+refusals_anew part p (event.Group name parent) both is place =
+    let all = and_parts _ (has_group_room p.work) place in
+    let most = and_parts _ (has_scope_room p.tree) all.0 in
+    let names =
+    and_parts (is_scope_name_free p.tree name) (is_group_name_free p.work name) most.0 in
+    cc (
+      there_anew part.scopes (scope_anew part) p.tree.scopes parent is,
+      scope_free part p.tree name names.0,
+      group_free part p.work name names.1,
+      scope_room part p.tree most.1,
+      group_room part p.work all.1,
+    )
+refusals_anew part p (event.Bare name s) both is place =
+    let at = and_parts (is_group_name_free p.work name) (has_group_room p.work) place in
+    cc (
+      there_anew part.scopes (scope_anew part) p.tree.scopes s is,
+      group_free part p.work name at.0,
+      group_room part p.work at.1,
+    )
+refusals_anew part p (event.SetLimit g limit) both is place =
+    cc (
+      there_anew part.groups (group_anew part) p.work.groups g is,
+      open_anew part p.work g is,
+      idle_anew part p.work g both.hangs.work.tasks is,
+    )
+refusals_anew part p (event.Go g job argument) both is place =
+    cc (
+      there_anew part.groups (group_anew part) p.work.groups g is,
+      open_anew part p.work g is,
+      task_room part p.work place,
+    )
+refusals_anew part p (event.TryGo g job argument) both is place =
+    cc (
+      there_anew part.groups (group_anew part) p.work.groups g is,
+      open_anew part p.work g is,
+      task_room part p.work place,
+      seat_anew part p.work g both.hangs.work.tasks is,
+    )
+refusals_anew part p (event.Retry n) both is place =
+    cc (
+      there_anew part.tasks (task_anew part) p.work.tasks n is,
+      stage_same is_interrupted part p.work n is,
+      retried_anew part p n both.old both.hangs.work.tasks is,
+      retry_open part p.work n both.hangs.work.tasks is,
+      task_room part p.work place,
+    )
+refusals_anew part p (event.Start n) both is place =
+    cc (first_same part p n both.old both.hangs.work is)
+refusals_anew part p (event.Finish n outcome) both is place =
+    cc (
+      there_anew part.tasks (task_anew part) p.work.tasks n is,
+      stage_same is_running part p.work n is,
+    )
+refusals_anew part p (event.Wait g) both is place =
+    cc (
+      there_anew part.groups (group_anew part) p.work.groups g is,
+      unfinished_same part p.work g both.hangs.work.tasks is,
+      open_anew part p.work g is,
+    )
+refusals_anew part p event.Restart both is place = refl
+
+-- ---- what is allowed
+
+-- What is allowed has its place.
+allowed_place : (p : State) (e : Event) → allowed p e ≡ true → has_place p e ≡ true
+allowed_place p (event.Derive name parent kind) may =
+    let parts = each_fails (refusals p (event.Derive name parent kind)) (and_parts _ _ may).1 in
+    and_from _ _ (not-false _ parts.1.0) (not-false _ parts.1.1.0)
+allowed_place p (event.Cancel s cause) may = refl
+allowed_place p (event.Advance moment) may = refl
+allowed_place p (event.Group name parent) may =
+    let parts = each_fails (refusals p (event.Group name parent)) may in
+    and_from _ _
+    (and_from _ _ (and_from _ _ (not-false _ parts.1.0) (not-false _ parts.1.1.0))
+    (not-false _ parts.1.1.1.0)) (not-false _ parts.1.1.1.1.0)
+allowed_place p (event.Bare name s) may =
+    let parts = each_fails (refusals p (event.Bare name s)) may in
+    and_from _ _ (not-false _ parts.1.0) (not-false _ parts.1.1.0)
+allowed_place p (event.SetLimit g limit) may = refl
+allowed_place p (event.Go g job argument) may =
+    not-false _ (each_fails (refusals p (event.Go g job argument)) may).1.1.0
+allowed_place p (event.TryGo g job argument) may =
+    not-false _ (each_fails (refusals p (event.TryGo g job argument)) may).1.1.0
+allowed_place p (event.Retry n) may =
+    not-false _ (each_fails (refusals p (event.Retry n)) may).1.1.1.1.0
+allowed_place p (event.Start n) may = refl
+allowed_place p (event.Finish n outcome) may = refl
+allowed_place p (event.Wait g) may = refl
+allowed_place p event.Restart may = refl
+
+-- Where it has its place, it is allowed of the one exactly where it is of the other.
+allowed_at : (part : Part) (p : State) (e : Event) → AreBoth part p → names_part part e ≡ true
+    → has_place p e ≡ true → allowed (state_anew part p) (event_anew part e) ≡ allowed p e
+allowed_at part p e both is place = by_event e (refusals_anew part p e both is place)
+  where
+    by_event : (e : Event)
+        → refusals (state_anew part p) (event_anew part e) ≡ refusals p e
+        → allowed (state_anew part p) (event_anew part e) ≡ allowed p e
+    by_event (event.Derive name parent kind) same =
+        ap (λ tests. is_derivable kind && holds_none tests) same
+    by_event (event.Cancel s cause) same = ap holds_none same
+    by_event (event.Advance moment) same = refl
+    by_event (event.Group name parent) same = ap holds_none same
+    by_event (event.Bare name s) same = ap holds_none same
+    by_event (event.SetLimit g limit) same = ap holds_none same
+    by_event (event.Go g job argument) same = ap holds_none same
+    by_event (event.TryGo g job argument) same = ap holds_none same
+    by_event (event.Retry n) same = ap holds_none same
+    by_event (event.Start n) same = ap holds_none same
+    by_event (event.Finish n outcome) same = ap holds_none same
+    by_event (event.Wait g) same = ap holds_none same
+    by_event event.Restart same = refl
+
+pub allowed_anew : (part : Part) (p : State) (e : Event) → AreBoth part p
+    → names_part part e ≡ true → allowed p e ≡ true
+    → allowed (state_anew part p) (event_anew part e) ≡ true
+allowed_anew part p e both is may = allowed_at part p e both is (allowed_place p e may) ∙ may
+
+-- It is allowed in the old state exactly where it is in the new one, and has its place in the old.
+pub allowed_same : (part : Part) (p : State) (e : Event) → AreBoth part p
+    → names_part part e ≡ true
+    → allowed p e ≡ (allowed (state_anew part p) (event_anew part e) && has_place p e)
+allowed_same part p e both is = by_place (has_place p e) refl
+  where
+    may : Bool
+    may = allowed (state_anew part p) (event_anew part e)
+
+    by_place : (b : Bool) → has_place p e ≡ b → allowed p e ≡ (may && b)
+    by_place true place = sym (and-true may ∙ allowed_at part p e both is place)
+    by_place false place =
+        false_from_ne_true (allowed p e)
+        (λ was. both_ways (has_place p e) place (allowed_place p e was))
+        ∙ sym (and-false may)
+
+-- ---- of a renewed state
+
+pub allowed_told : (p : State) (e : Event) → IsConsistent p → names_part (kept_part p) e ≡ true
+    → allowed p e ≡ true → allowed (renewed p) (event_anew (kept_part p) e) ≡ true
+allowed_told p e consistent is may =
+    allowed_anew (kept_part p) p e (kept_both p consistent) is may
+
+pub allowed_before : (p : State) (e : Event) → IsConsistent p
+    → names_part (kept_part p) e ≡ true → has_place p e ≡ true
+    → allowed (renewed p) (event_anew (kept_part p) e) ≡ true → allowed p e ≡ true
+allowed_before p e consistent is place may =
+    sym (allowed_at (kept_part p) p e (kept_both p consistent) is place) ∙ may
