@@ -85,12 +85,13 @@ fn finish<A: Allocator>(groups: &mut Groups<A>, task: u16, error: Option<&Text>)
     }
 }
 
-/// Waits for a group, and gives the scope that is told; a second wait tells none.
+/// Waits for a group, and gives the scope that is told; a second wait asks for nothing, and tells
+/// none.
 fn wait<A: Allocator>(groups: &mut Groups<A>, group: u16) -> Reply {
-    groups.check_wait(group)?;
     if groups.was_waited(group) {
         return Ok(None);
     }
+    groups.check_wait(group)?;
     Ok(groups.wait(group))
 }
 
