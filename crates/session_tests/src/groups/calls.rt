@@ -34,8 +34,9 @@ pub type Reply = Result<Option<u16>, Refusal>;
 
 /// Makes a group.
 pub fn make<A: Allocator>(groups: &mut Groups<A>, called: &Name, scope: u16, bare: bool) -> Reply {
-    groups.check_make(called.as_bytes())?;
-    Ok(Some(groups.make(called.as_bytes(), scope, bare)))
+    let called = called.as_bytes();
+    groups.check_make(called)?;
+    Ok(Some(groups.make(called, scope, bare)))
 }
 
 /// Sets a limit.
@@ -85,7 +86,8 @@ fn finish<A: Allocator>(groups: &mut Groups<A>, task: u16, error: Option<&Text>)
     }
 }
 
-/// Waits for a group, and gives the scope that is told; a second wait tells none.
+/// Waits for a group, and gives the scope that is told; a second wait asks for nothing, and tells
+/// none.
 fn wait<A: Allocator>(groups: &mut Groups<A>, group: u16) -> Reply {
     if groups.was_waited(group) {
         return Ok(None);
