@@ -18,14 +18,14 @@ ghost use Rattle.run_console.specs.Progress.{LineRuns, LineStops, Ran, RunStops,
 ghost use Rattle.run_console.specs.Rows.{TakesAll, Tries};
 ghost use Rattle.run_console.specs.SessionLines.{IsSaving, is_tally};
 
-use crate::answers::{flush, reply_to};
+use crate::answers::{reply_to, step_reply};
 use crate::inputs::{OpenLine, run_whole_lines};
 use crate::tallies::gather_tally;
 use crate::writings::{Gathered, gather_reply, make_room, stop, write_gathered};
 use console_lines::{Asked, Reply, RunFault, Stray, gather_scope, read_line};
 use run_book::Book;
 use run_disk::RunDisk;
-use run_model::{Name, Refusal, Trouble};
+use run_model::{Name, Refusal, Step, Trouble};
 use run_state::{LookView, State};
 use std::alloc::Allocator;
 use std::io::{Read, Write};
@@ -152,8 +152,8 @@ pub fn close<W: Write, D: RunDisk, B: Allocator>(
     ensures lasts { Lasts book.old.session book.new.session }
 {
     make_room(gathered, output)?;
-    match flush(book) {
-        Ok(count) => Reply::Acked(count).gather(gathered),
+    match step_reply(&Step::Flush, book) {
+        Ok(reply) => gather_reply(reply, gathered),
         Err(trouble) => return Err(stop(trouble, gathered, output)),
     }
     write_gathered(gathered, output)
