@@ -96,7 +96,7 @@ counts_text counts =
 abbrev pub tally_text : Tally → List ℕ
 tally_text tally = codes "tally " ++ tally.job ++ codes " " ++ counts_text tally.counts
 
--- What a step is answered.
+-- What a step's answer prints.
 abbrev pub step_text : Told → List ℕ
 step_text (told.Answer answer) = answer_text answer
 step_text (told.Started started) = started_text started.info

@@ -132,7 +132,8 @@ fn run_sound<A: Allocator + Copy, R: Read, W: Write, D: RunDisk, B: Allocator>(
     close(&mut gathered, output, book)
 }
 
-/// Flushes, and writes what was gathered and the closing line.
+/// Flushes, and writes what was gathered and the closing line. Each clause is a field of `RunsAll`
+/// or of `RunStops`, which its callers join, so there are more than six.
 pub fn close<W: Write, D: RunDisk, B: Allocator>(
     gathered: &mut Gathered,
     output: &mut W,
@@ -161,7 +162,8 @@ pub fn close<W: Write, D: RunDisk, B: Allocator>(
 
 /// Runs one line over the book, and gathers its reply; an empty line has none. It answers why the
 /// line strays, where it does. The clauses speak of each line that asks for the same, since a line
-/// that is too long is handed in without its end.
+/// that is too long is handed in without its end. There are more than six, since one line, a run and
+/// a strict run take different ones.
 pub fn gather_line<A: Allocator + Copy, W: Write, D: RunDisk, B: Allocator>(
     alloc: A,
     bytes: &[u8],
