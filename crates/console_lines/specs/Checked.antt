@@ -6,6 +6,7 @@ use Rattle.run_model.specs.declared.commands.Wish.{Wish}
 use Rattle.run_model.specs.declared.commands.Wish.TheVariants as wish
 use Rattle.run_model.specs.declared.commands.Command.{Command}
 use Rattle.run_model.specs.declared.commands.Command.TheVariants as command
+use Rattle.run_model.specs.declared.commands.Step.TheVariants as step
 use Rattle.run_model.specs.declared.refusals.Refusal.TheVariants as refusal
 use Rattle.run_model.specs.Texts.{is_name, is_text}
 use Rattle.console_lines.specs.declared.asked.Asked.{Asked}
@@ -52,4 +53,4 @@ checked names texts asks =
 
 -- A line of this command, whose names and texts may be any bytes.
 abbrev pub asks_command : Command → Asked
-asks_command call = checked (names_in call) (texts_in call) (asked.Command call)
+asks_command call = checked (names_in call) (texts_in call) (asked.Step (step.Command call))

@@ -8,8 +8,10 @@ use Rattle.run_model.specs.declared.tasks.Phase.TheVariants as phase
 use Rattle.run_model.specs.declared.answers.Answer.{Answer}
 use Rattle.run_model.specs.declared.answers.Answer.TheVariants as answer
 use Rattle.run_model.specs.declared.answers.GroupLook.{GroupLook}
+use Rattle.run_model.specs.declared.answers.Reply.{Reply as Told}
+use Rattle.run_model.specs.declared.answers.Reply.TheVariants as told
 use Rattle.run_model.specs.declared.answers.TaskInfo.{TaskInfo}
-use Rattle.run_model.specs.Faults.{trouble_text}
+use Rattle.run_model.specs.Faults.{fault_text, trouble_text}
 use Rattle.run_model.specs.Refusals.{refusal_text}
 use Rattle.run_model.specs.Reasons.{reason_text}
 use Rattle.console_lines.specs.declared.replies.Reply.{Reply}
@@ -94,19 +96,25 @@ counts_text counts =
 abbrev pub tally_text : Tally → List ℕ
 tally_text tally = codes "tally " ++ tally.job ++ codes " " ++ counts_text tally.counts
 
+-- What a step's answer prints.
+abbrev pub step_text : Told → List ℕ
+step_text (told.Answer answer) = answer_text answer
+step_text (told.Started started) = started_text started.info
+step_text (told.Finished event) = codes "ok"
+step_text (told.Acked count) = codes "acked " ++ decimal count
+step_text (told.Refused why) = refusal_text why
+step_text (told.Faulty why) = fault_text why
+
 -- What a reply prints, without its LF.
 abbrev pub reply_text : Reply → List ℕ
 reply_text reply.BadLine = codes "bad line"
 reply_text (reply.Refused why) = refusal_text why
-reply_text (reply.Answered answer) = answer_text answer
-reply_text (reply.Started started) = started_text started.info
-reply_text (reply.Finished event) = codes "ok"
+reply_text (reply.Step answer) = step_text answer
 reply_text (reply.Scope look) = scope_text look.done look.deadline
 reply_text (reply.Value text) = codes "value " ++ text
 reply_text (reply.Task n phase) = task_text n phase
 reply_text (reply.Group look) = group_text look
 reply_text (reply.Tally tally) = tally_text tally
-reply_text (reply.Acked count) = codes "acked " ++ decimal count
 reply_text (reply.Failed why) = trouble_text why
 
 -- A reply is written as one line: its text, and an LF.

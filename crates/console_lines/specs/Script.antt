@@ -1,17 +1,14 @@
 -- What is replied to the lines of an input, from a session on.
-use Rattle.std.specs.Prelude.{ℕ, List, [], ◌∷◌, ◌++◌, map, Option, Some, None, Result, Ok, Err}
+use Rattle.std.specs.Prelude.{ℕ, List, [], ◌∷◌, ◌++◌, map, Option, Some, None}
 use Rattle.std.specs.Option.{option_map_or, option_and_then}
 use Rattle.std.specs.List.{cons_option}
 use Rattle.run_model.specs.declared.commands.Step.{Step}
-use Rattle.run_model.specs.declared.commands.Step.TheVariants as step
-use Rattle.run_model.specs.declared.refusals.Refusal.{Refusal}
+use Rattle.run_model.specs.declared.answers.Reply.TheVariants as told
 use Rattle.run_model.specs.declared.refusals.Refusal.TheVariants as refusal
 use Rattle.run_model.specs.State.{State, scope_named, group_named}
-use Rattle.run_model.specs.Replies.{reply_start, reply_finish}
-use Rattle.run_model.specs.Replies as model
 use Rattle.run_model.specs.Questions.{look_of, group_look_of, task_look_of}
 use Rattle.run_model.specs.Scopes.{value_of}
-use Rattle.run_model.specs.Session.{Session, event_of_step, with_event}
+use Rattle.run_model.specs.Session.{Session, event_of_step, reply_of_step, with_event}
 use Rattle.console_lines.specs.declared.asked.Asked.{Asked}
 use Rattle.console_lines.specs.declared.asked.Asked.TheVariants as asked
 use Rattle.console_lines.specs.declared.replies.Reply.{Reply}
@@ -22,11 +19,6 @@ use Rattle.console_lines.specs.Replies.{reply_line, reply_lines}
 use Rattle.console_lines.specs.Tallies.{tallies_of}
 
 -- ---- one line
-
--- A call is answered, or refused.
-abbrev pub answered : {X : Type 0} → (X → Reply) → Result X Refusal → Reply
-answered answer (Ok x) = answer x
-answered answer (Err why) = said.Refused why
 
 -- A scope that is there is told, and one that is not there is refused.
 abbrev pub scope_reply : State → List ℕ → Reply
@@ -57,33 +49,22 @@ group_reply p name =
     (option_and_then (λ g. group_look_of p g) (group_named p.work name))
     (said.Refused refusal.NoSuchGroup)
 
--- The reply to what a line asks for; an empty line has none, and a tally one for each job. A flush
--- and a checkpoint acknowledge all events so far.
+-- The reply to what a line asks for: to a step what the session answers it. An empty line has none,
+-- and a tally one for each job.
 abbrev pub replies_to : Session → Asked → List Reply
 replies_to s asked.Nothing = []
 replies_to s asked.BadLine = said.BadLine ∷ []
 replies_to s (asked.Refused why) = said.Refused why ∷ []
-replies_to s (asked.Command call) =
-    answered said.Answered (model.reply s.state s.log call) ∷ []
-replies_to s asked.Start = answered said.Started (reply_start s.state s.log) ∷ []
-replies_to s (asked.Finish n outcome) =
-    answered said.Finished (reply_finish s.state n outcome) ∷ []
+replies_to s (asked.Step x) = said.Step (reply_of_step s x) ∷ []
 replies_to s (asked.Scope name) = scope_reply s.state name ∷ []
 replies_to s (asked.Value scope key) = value_reply s.state scope key ∷ []
 replies_to s (asked.Task n) = task_reply s.state n ∷ []
 replies_to s (asked.Result group) = group_reply s.state group ∷ []
 replies_to s asked.Tally = map said.Tally (tallies_of s.state.work.tasks)
-replies_to s asked.Flush = said.Acked s.state.count ∷ []
-replies_to s asked.Checkpoint = said.Acked s.state.count ∷ []
 
--- The step that a line asks for: a command, a start, a finish, a flush or a checkpoint, and none
--- for all else.
+-- The step that is asked for, where one is.
 abbrev pub step_of : Asked → Option Step
-step_of (asked.Command call) = Some (step.Command call)
-step_of asked.Start = Some step.Start
-step_of (asked.Finish n outcome) = Some (step.Finish n outcome)
-step_of asked.Flush = Some step.Flush
-step_of asked.Checkpoint = Some step.Checkpoint
+step_of (asked.Step x) = Some x
 step_of _ = None
 
 -- The session after what a line asks for: an accepted step alone changes it.
@@ -117,7 +98,7 @@ replies s (line ∷ lines) = reply s line ++ replies (after_line s line) lines
 
 -- The last line that is written has the number of all events.
 unfoldable pub closing : Session → List ℕ
-closing s = reply_line (said.Acked s.state.count)
+closing s = reply_line (said.Step (told.Acked s.state.count))
 
 -- All that is written for a whole input: the replies to its lines, and the closing line.
 abbrev pub script : Session → List ℕ → List ℕ

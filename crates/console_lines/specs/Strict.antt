@@ -3,6 +3,7 @@ use Rattle.std.specs.Prelude.{ℕ, ◌+◌, if◌then◌else◌, List, [], ◌�
 use Rattle.std.specs.Prelude.{None, is_some}
 use Rattle.std.specs.Fmt.{decimal}
 use Rattle.std.specs.Option.{option_map_or, option_or}
+use Rattle.run_model.specs.declared.answers.Reply.TheVariants as told
 use Rattle.run_model.specs.Session.{Session}
 use Rattle.console_lines.specs.declared.replies.Reply.{Reply}
 use Rattle.console_lines.specs.declared.replies.Reply.TheVariants as said
@@ -18,6 +19,7 @@ use Rattle.console_lines.specs.Script.{after_line, after_lines, closing, replies
 abbrev pub stray_of : Reply → Option Stray
 stray_of said.BadLine = Some stray.BadLine
 stray_of (said.Refused why) = Some (stray.Refused why)
+stray_of (said.Step (told.Refused why)) = Some (stray.Refused why)
 stray_of _ = None
 
 -- The first of some replies that strays.

@@ -3,6 +3,7 @@ use Rattle.std.specs.Prelude.{ℕ, if◌then◌else◌, List, [], ◌∷◌, cod
 use Rattle.std.specs.Option.{option_map, option_map_or, option_and_then}
 use Rattle.std.specs.Str.{bytes_eq}
 use Rattle.run_model.specs.declared.commands.Command.TheVariants as command
+use Rattle.run_model.specs.declared.commands.Step.TheVariants as step
 use Rattle.run_model.specs.declared.refusals.Refusal.TheVariants as refusal
 use Rattle.run_model.specs.declared.tasks.Outcome.{Outcome}
 use Rattle.run_model.specs.declared.tasks.Outcome.TheVariants as outcome
@@ -20,7 +21,7 @@ asks_task asks number =
 
 -- A line of a retry.
 abbrev pub asks_retry : ℕ → Asked
-asks_retry number = asks_task (λ n. asked.Command (command.Retry n)) number
+asks_retry number = asks_task (λ n. asked.Step (step.Command (command.Retry n))) number
 
 -- A line of the question how far a task is.
 abbrev pub asks_phase : ℕ → Asked
@@ -34,7 +35,8 @@ texts_in_outcome (outcome.Failure error) = error ∷ []
 -- A line of a finish, whose error may be any bytes: a number that no task has is refused behind it.
 abbrev pub asks_finish : ℕ → Outcome → Asked
 asks_finish number outcome =
-    checked [] (texts_in_outcome outcome) (asks_task (λ n. asked.Finish n outcome) number)
+    checked [] (texts_in_outcome outcome)
+    (asks_task (λ n. asked.Step (step.Finish n outcome)) number)
 
 -- A line that nothing stands behind.
 abbrev pub asks_alone : Asked → List (List ℕ) → Asked
@@ -73,11 +75,11 @@ finish_line _ = asked.BadLine
 -- What a line asks of tasks or of the store, by its first word. No other word begins a line.
 abbrev pub task_line_of : List ℕ → List (List ℕ) → Asked
 task_line_of first words =
-    if bytes_eq first (codes "start") then asks_alone asked.Start words
+    if bytes_eq first (codes "start") then asks_alone (asked.Step step.Start) words
     else if bytes_eq first (codes "finish") then finish_line words
     else if bytes_eq first (codes "retry") then asks_number asks_retry words
     else if bytes_eq first (codes "task") then asks_number asks_phase words
     else if bytes_eq first (codes "tally") then asks_alone asked.Tally words
-    else if bytes_eq first (codes "flush") then asks_alone asked.Flush words
-    else if bytes_eq first (codes "checkpoint") then asks_alone asked.Checkpoint words
+    else if bytes_eq first (codes "flush") then asks_alone (asked.Step step.Flush) words
+    else if bytes_eq first (codes "checkpoint") then asks_alone (asked.Step step.Checkpoint) words
     else asked.BadLine

@@ -1,6 +1,6 @@
 //! What a line asks for, before any state is looked at.
 
-use run_model::{Command, Name, Outcome, Refusal};
+use run_model::{Name, Refusal, Step};
 
 /// What a line asks for.
 #[derive(Drop)]
@@ -11,12 +11,8 @@ pub enum Asked {
     BadLine,
     /// It is refused by itself, in every state.
     Refused(Refusal),
-    /// A command.
-    Command(Command),
-    /// That the ready task with the least number is started.
-    Start,
-    /// That the running task of this number ends so.
-    Finish(u16, Outcome),
+    /// That the session takes a step.
+    Step(Step),
     /// How the scope of this name is.
     Scope(Name),
     /// What the scope of this name holds under a key.
@@ -27,8 +23,4 @@ pub enum Asked {
     Result(Name),
     /// How many tasks each job has, and how they ended.
     Tally,
-    /// That all events so far are made durable.
-    Flush,
-    /// The same, by an image of the state.
-    Checkpoint,
 }

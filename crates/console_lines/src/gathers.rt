@@ -15,7 +15,7 @@ ghost use Rattle.console_lines.specs.Gathers.{waited_text};
 ghost use Rattle.console_lines.specs.Replies.{answer_text, counts_text, deadline_text, ending_text};
 ghost use Rattle.console_lines.specs.Replies.{error_text, group_text, limit_text, phase_text};
 ghost use Rattle.console_lines.specs.Replies.{reply_line, reply_text, scope_text, started_text};
-ghost use Rattle.console_lines.specs.Replies.{tally_text, task_text, yes_or_no};
+ghost use Rattle.console_lines.specs.Replies.{step_text, tally_text, task_text, yes_or_no};
 
 use crate::replies::Reply;
 use crate::tallies::{Counts, Tally};
@@ -69,9 +69,7 @@ fn push_reply<const N: usize>(out: &mut ArrayVec<u8, N>, reply: &Reply)
     match reply {
         Reply::BadLine => push(out, b"bad line"),
         Reply::Refused(refusal) => push_refusal(out, *refusal),
-        Reply::Answered(answer) => push_answer(out, answer),
-        Reply::Started(started) => push_start(out, &started.info),
-        Reply::Finished(_) => push(out, b"ok"),
+        Reply::Step(answer) => push_step(out, answer),
         Reply::Scope(look) => push_look(out, look),
         Reply::Value(text) => {
             push(out, b"value ");
@@ -80,11 +78,25 @@ fn push_reply<const N: usize>(out: &mut ArrayVec<u8, N>, reply: &Reply)
         Reply::Task(task, phase) => push_task(out, *task, phase),
         Reply::Group(look) => push_group(out, look),
         Reply::Tally(tally) => push_tally(out, tally),
-        Reply::Acked(count) => {
+        Reply::Failed(trouble) => push_trouble(out, *trouble),
+    }
+}
+
+/// What a step is answered.
+fn push_step<const N: usize>(out: &mut ArrayVec<u8, N>, answer: &run_model::Reply)
+    requires { array_vec_len out.old + 130 ≤ N }
+    ensures { Gathers out.old.items out.new.items (step_text answer.now) 130 }
+{
+    match answer {
+        run_model::Reply::Answer(answer) => push_answer(out, answer),
+        run_model::Reply::Started(started) => push_start(out, &started.info),
+        run_model::Reply::Finished(_) => push(out, b"ok"),
+        run_model::Reply::Acked(count) => {
             push(out, b"acked ");
             push_number(out, *count);
         }
-        Reply::Failed(trouble) => push_trouble(out, *trouble),
+        run_model::Reply::Refused(refusal) => push_refusal(out, *refusal),
+        run_model::Reply::Faulty(fault) => push_fault(out, *fault),
     }
 }
 

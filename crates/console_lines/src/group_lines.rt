@@ -10,7 +10,7 @@ ghost use Rattle.console_lines.specs.Words.{words_in, lent};
 use crate::asked::Asked;
 use crate::task_lines::read_task_line;
 use crate::words::{last_word, next_word};
-use run_model::{Command, Limit, Name, Refusal, is_spelled};
+use run_model::{Command, Limit, Name, Refusal, Step, is_spelled};
 use written_moment::read_number;
 
 /// What a line with this first word asks of groups or, else, of tasks or of the store; `None` for a
@@ -132,7 +132,7 @@ fn group(name: &[u8], parent: &[u8]) -> Asked
     ensures { result ≡ asks_command (Command.Group name.now parent.now) }
 {
     match (Name::read(name), Name::read(parent)) {
-        (Some(name), Some(parent)) => Asked::Command(Command::Group { name, parent }),
+        (Some(name), Some(parent)) => Asked::Step(Step::Command(Command::Group { name, parent })),
         _ => Asked::Refused(Refusal::BadName),
     }
 }
@@ -141,7 +141,7 @@ fn bare(name: &[u8], scope: &[u8]) -> Asked
     ensures { result ≡ asks_command (Command.Bare name.now scope.now) }
 {
     match (Name::read(name), Name::read(scope)) {
-        (Some(name), Some(scope)) => Asked::Command(Command::Bare { name, scope }),
+        (Some(name), Some(scope)) => Asked::Step(Step::Command(Command::Bare { name, scope })),
         _ => Asked::Refused(Refusal::BadName),
     }
 }
@@ -150,7 +150,7 @@ fn set_limit(group: &[u8], limit: Limit) -> Asked
     ensures { result ≡ asks_command (Command.SetLimit group.now limit) }
 {
     match Name::read(group) {
-        Some(group) => Asked::Command(Command::SetLimit { group, limit }),
+        Some(group) => Asked::Step(Step::Command(Command::SetLimit { group, limit })),
         None => Asked::Refused(Refusal::BadName),
     }
 }
@@ -159,11 +159,11 @@ fn go(group: &[u8], job: &[u8], argument: &[u8]) -> Asked
     ensures { result ≡ asks_command (Command.Go group.now job.now argument.now) }
 {
     match (Name::read(group), Name::read(job), Name::read(argument)) {
-        (Some(group), Some(job), Some(argument)) => Asked::Command(Command::Go {
+        (Some(group), Some(job), Some(argument)) => Asked::Step(Step::Command(Command::Go {
             group,
             job,
             argument,
-        }),
+        })),
         _ => Asked::Refused(Refusal::BadName),
     }
 }
@@ -172,11 +172,11 @@ fn try_go(group: &[u8], job: &[u8], argument: &[u8]) -> Asked
     ensures { result ≡ asks_command (Command.TryGo group.now job.now argument.now) }
 {
     match (Name::read(group), Name::read(job), Name::read(argument)) {
-        (Some(group), Some(job), Some(argument)) => Asked::Command(Command::TryGo {
+        (Some(group), Some(job), Some(argument)) => Asked::Step(Step::Command(Command::TryGo {
             group,
             job,
             argument,
-        }),
+        })),
         _ => Asked::Refused(Refusal::BadName),
     }
 }
@@ -185,7 +185,7 @@ fn wait(group: &[u8]) -> Asked
     ensures { result ≡ asks_command (Command.Wait group.now) }
 {
     match Name::read(group) {
-        Some(group) => Asked::Command(Command::Wait { group }),
+        Some(group) => Asked::Step(Step::Command(Command::Wait { group })),
         None => Asked::Refused(Refusal::BadName),
     }
 }

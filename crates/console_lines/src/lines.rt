@@ -13,7 +13,7 @@ use crate::causes::read_cause;
 use crate::group_lines::read_group_line;
 use crate::wishes::read_wish;
 use crate::words::{last_word, next_word};
-use run_model::{Command, Moment, Name, Refusal, Wish, is_spelled};
+use run_model::{Command, Moment, Name, Refusal, Step, Wish, is_spelled};
 use written_moment::read_moment;
 
 /// The most bytes of a line, without its end. A longer one is a bad line.
@@ -110,7 +110,7 @@ fn derive(name: &[u8], parent: &[u8], wish: Result<Wish, Refusal>) -> Asked
 {
     match (Name::read(name), Name::read(parent), wish) {
         (Some(name), Some(parent), Ok(wish)) => {
-            Asked::Command(Command::Derive { name, parent, wish })
+            Asked::Step(Step::Command(Command::Derive { name, parent, wish }))
         }
         (Some(_), Some(_), Err(refusal)) => Asked::Refused(refusal),
         _ => Asked::Refused(Refusal::BadName),
@@ -124,7 +124,7 @@ fn cancel(scope: &[u8], cause: Option<&[u8]>) -> Asked
         return Asked::Refused(Refusal::BadName);
     };
     match read_cause(cause) {
-        Ok(cause) => Asked::Command(Command::Cancel { scope, cause }),
+        Ok(cause) => Asked::Step(Step::Command(Command::Cancel { scope, cause })),
         Err(refusal) => Asked::Refused(refusal),
     }
 }
@@ -133,7 +133,7 @@ fn advance(moment: Result<Moment, Refusal>) -> Asked
     ensures { result ≡ asks_advance moment }
 {
     match moment {
-        Ok(moment) => Asked::Command(Command::Advance { moment }),
+        Ok(moment) => Asked::Step(Step::Command(Command::Advance { moment })),
         Err(refusal) => Asked::Refused(refusal),
     }
 }

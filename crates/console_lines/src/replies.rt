@@ -1,7 +1,7 @@
 //! A [`Reply`] is what a line is answered.
 
 use crate::tallies::Tally;
-use run_model::{Answer, GroupLook, Look, Phase, Refusal, Started, Text, Trouble};
+use run_model::{GroupLook, Look, Phase, Refusal, Text, Trouble};
 
 /// What a line is answered.
 #[derive(Drop)]
@@ -10,12 +10,8 @@ pub enum Reply {
     BadLine,
     /// It is refused, and changed nothing: `refused 12 AlreadyDone`.
     Refused(Refusal),
-    /// The command was accepted: `scope 1`, `ok` and likewise.
-    Answered(Answer),
-    /// A task was started: `start 0 copy a`.
-    Started(Started),
-    /// A task was finished, by the event of this number: `ok`.
-    Finished(u64),
+    /// What a step is answered: `scope 1`, `start 0 copy a`, `acked 4` and likewise.
+    Step(run_model::Reply),
     /// How a scope is: `live; deadline D`, or `done; deadline D; err E; cause C`.
     Scope(Look),
     /// What a scope holds under the key that was asked for: `value eu`.
@@ -27,8 +23,6 @@ pub enum Reply {
     /// What is counted of the tasks of one job: `tally copy total 1; success 1; failure 0;
     /// interrupted 0`.
     Tally(Tally),
-    /// The number of all events, the opening among them: `acked 4`.
-    Acked(u64),
     /// Why a flush or a checkpoint was not done: `fault 2 DiskFailed`.
     Failed(Trouble),
 }

@@ -23,7 +23,9 @@ impl Stray {
     {
         match reply {
             Reply::BadLine => Some(Stray::BadLine),
-            Reply::Refused(refusal) => Some(Stray::Refused(*refusal)),
+            Reply::Refused(refusal) | Reply::Step(run_model::Reply::Refused(refusal)) => {
+                Some(Stray::Refused(*refusal))
+            }
             _ => None,
         }
     }

@@ -12,7 +12,7 @@ ghost use Rattle.console_lines.specs.Words.{words_in, lent};
 
 use crate::asked::Asked;
 use crate::words::{last_word, next_word};
-use run_model::{Command, Outcome, Refusal, Text, is_spelled};
+use run_model::{Command, Outcome, Refusal, Step, Text, is_spelled};
 use written_moment::read_number;
 
 /// What a line with this first word asks of tasks or of the store; `None` for a bad line.
@@ -42,11 +42,11 @@ pub(crate) fn read_task_line(word: &[u8], left: Option<&[u8]>) -> Option<Asked>
 /// `start`
 fn read_start(left: Option<&[u8]>) -> Option<Asked>
     ensures { unwrap_or result Asked.BadLine
-        ≡ asks_alone Asked.Start (words_in (lent left.entry)) }
+        ≡ asks_alone (Asked.Step Step.Start) (words_in (lent left.entry)) }
 {
     match left {
         Some(_) => None,
-        None => Some(Asked::Start),
+        None => Some(Asked::Step(Step::Start)),
     }
 }
 
@@ -130,22 +130,22 @@ fn read_tally(left: Option<&[u8]>) -> Option<Asked>
 /// `flush`
 fn read_flush(left: Option<&[u8]>) -> Option<Asked>
     ensures { unwrap_or result Asked.BadLine
-        ≡ asks_alone Asked.Flush (words_in (lent left.entry)) }
+        ≡ asks_alone (Asked.Step Step.Flush) (words_in (lent left.entry)) }
 {
     match left {
         Some(_) => None,
-        None => Some(Asked::Flush),
+        None => Some(Asked::Step(Step::Flush)),
     }
 }
 
 /// `checkpoint`
 fn read_checkpoint(left: Option<&[u8]>) -> Option<Asked>
     ensures { unwrap_or result Asked.BadLine
-        ≡ asks_alone Asked.Checkpoint (words_in (lent left.entry)) }
+        ≡ asks_alone (Asked.Step Step.Checkpoint) (words_in (lent left.entry)) }
 {
     match left {
         Some(_) => None,
-        None => Some(Asked::Checkpoint),
+        None => Some(Asked::Step(Step::Checkpoint)),
     }
 }
 
@@ -153,7 +153,7 @@ fn retry(number: u64) -> Asked
     ensures { result ≡ asks_retry number }
 {
     match u16::try_from(number) {
-        Ok(task) => Asked::Command(Command::Retry(task)),
+        Ok(task) => Asked::Step(Step::Command(Command::Retry(task))),
         Err(_) => Asked::Refused(Refusal::NoSuchTask),
     }
 }
@@ -182,7 +182,7 @@ fn finish(number: u64, outcome: Outcome) -> Asked
     ensures { result ≡ asks_finish number outcome }
 {
     match u16::try_from(number) {
-        Ok(task) => Asked::Finish(task, outcome),
+        Ok(task) => Asked::Step(Step::Finish(task, outcome)),
         Err(_) => Asked::Refused(Refusal::NoSuchTask),
     }
 }

@@ -29,7 +29,7 @@ use Rattle.run_console.specs.SessionLines.{IsSaving}
 use Rattle.run_console.specs.Strict.{StopsStrictly}
 use Rattle.run_console.specs.Troubles.{Accounts, DeviceFails, Tells}
 
-true_false : (b : Bool) → b ≡ true → b ≡ false → ⊥
+pub true_false : (b : Bool) → b ≡ true → b ≡ false → ⊥
 true_false b is not = cc
 
 -- The answer that was told as a trouble is that trouble.
@@ -92,7 +92,7 @@ module _ {D : Type 0} (state : D → DiskState) where
   answered old new step.Checkpoint r sound tells =
       saved_sound old new tells.result r sound tells.told tells.saves.saves
 
-  as_sound : (old new : BookView D) (x : Step) (r : Reply) → old.journal.broken ≡ false
+  pub as_sound : (old new : BookView D) (x : Step) (r : Reply) → old.journal.broken ≡ false
       → AnswersStep state old x r new → AnswersSound state old x r new
   as_sound old new x r sound one = subst (λ b. AnswersWhere state b old x r new) sound one
 
@@ -122,7 +122,7 @@ module _ {D : Type 0} (state : D → DiskState) where
       omega (arith, here, rest)
 
   -- A row that isn't answered by a fault leaves the book unbroken.
-  row_sound : (old new : BookView D) (steps : List Step) (answers : List Reply)
+  pub row_sound : (old new : BookView D) (steps : List Step) (answers : List Reply)
       → old.journal.broken ≡ false → StepsOn state old steps answers new
       → list_any is_fault answers ≡ false → new.journal.broken ≡ false
   row_sound old new [] [] sound same fine = same_sound old new sound same
@@ -212,8 +212,8 @@ module _ {D : Type 0} (state : D → DiskState) where
       → old.journal.broken ≡ false
       → StepsOn state old (steps_asked a) (reply_of_save (Err why) ∷ []) new
       → Tells state old why new
-  saving_tells asked.Flush old new why saving sound row = flush_tells old new why sound row
-  saving_tells asked.Checkpoint old new why saving sound row =
+  saving_tells (asked.Step step.Flush) old new why saving sound row = flush_tells old new why sound row
+  saving_tells (asked.Step step.Checkpoint) old new why saving sound row =
       checkpoint_tells old new why sound row
   saving_tells _ old new why saving sound row = absurd saving
 

@@ -1,8 +1,10 @@
 -- One line: from what it asks for to what is written.
-use Rattle.std.specs.Prelude.{◌≡◌, ℕ, true, List, [], ◌∷◌, map, Result, Ok, Err, IfErr, OnErr, OnOk}
+use Rattle.std.specs.Prelude.{◌≡◌, ℕ, true, List, map, Result, Ok, Err, IfErr, OnErr, OnOk}
 use Rattle.std.specs.Prelude.{Option, Some, None}
 use Rattle.std.specs.Option.{option_or}
 use Rattle.std.proofs.Common.{ap, sym, subst, refl, arith, ◌∙◌, append-nil}
+use Rattle.run_model.specs.declared.answers.Reply.TheVariants as told
+use Rattle.run_model.specs.declared.commands.Step.TheVariants as step
 use Rattle.run_model.specs.Session.{Session}
 use Rattle.console_lines.specs.declared.asked.Asked.{Asked}
 use Rattle.console_lines.specs.declared.replies.Reply.{Reply}
@@ -35,62 +37,6 @@ pub line_replies : (s : Session) (line : List ℕ) (a : Asked) (r : List Reply)
 unfolding reply
 line_replies s line a r read h = ap reply_lines (h ∙ ap (replies_to s) read)
 
--- What is written for a line's one reply.
-pub line_reply : (s : Session) (line : List ℕ) (a : Asked) (r : Reply)
-    → a ≡ asked_of line
-    → r ∷ [] ≡ replies_to s a
-    → reply_line r ≡ reply s line
-line_reply s line a r read h =
-    sym (append-nil (reply_line r)) ∙ line_replies s line a (r ∷ []) read h
-
--- What is written for a tally.
-pub line_tally : (s : Session) (line : List ℕ) (a : Asked)
-    → a ≡ asked_of line
-    → is_tally a ≡ true
-    → reply_lines (map said.Tally (tallies_of s.state.work.tasks)) ≡ reply s line
-line_tally s line asked.Tally read h =
-    line_replies s line asked.Tally (map said.Tally (tallies_of s.state.work.tasks)) read refl
-line_tally s line asked.Nothing read h = absurd (grind (arith, h))
-line_tally s line asked.BadLine read h = absurd (grind (arith, h))
-line_tally s line (asked.Refused why) read h = absurd (grind (arith, h))
-line_tally s line (asked.Command call) read h = absurd (grind (arith, h))
-line_tally s line asked.Start read h = absurd (grind (arith, h))
-line_tally s line (asked.Finish n outcome) read h = absurd (grind (arith, h))
-line_tally s line (asked.Scope name) read h = absurd (grind (arith, h))
-line_tally s line (asked.Value scope key) read h = absurd (grind (arith, h))
-line_tally s line (asked.Task n) read h = absurd (grind (arith, h))
-line_tally s line (asked.Result group) read h = absurd (grind (arith, h))
-line_tally s line asked.Flush read h = absurd (grind (arith, h))
-line_tally s line asked.Checkpoint read h = absurd (grind (arith, h))
-
--- A tally leaves the session as it was.
-pub tally_leaves : (b : Session) (line : List ℕ) (a : Asked)
-    → a ≡ asked_of line
-    → is_tally a ≡ true
-    → b ≡ after_line b line
-unfolding after_line
-tally_leaves b line asked.Tally read h = ap (after_asked b) read
-tally_leaves b line asked.Nothing read h = absurd (grind (arith, h))
-tally_leaves b line asked.BadLine read h = absurd (grind (arith, h))
-tally_leaves b line (asked.Refused why) read h = absurd (grind (arith, h))
-tally_leaves b line (asked.Command call) read h = absurd (grind (arith, h))
-tally_leaves b line asked.Start read h = absurd (grind (arith, h))
-tally_leaves b line (asked.Finish n outcome) read h = absurd (grind (arith, h))
-tally_leaves b line (asked.Scope name) read h = absurd (grind (arith, h))
-tally_leaves b line (asked.Value scope key) read h = absurd (grind (arith, h))
-tally_leaves b line (asked.Task n) read h = absurd (grind (arith, h))
-tally_leaves b line (asked.Result group) read h = absurd (grind (arith, h))
-tally_leaves b line asked.Flush read h = absurd (grind (arith, h))
-tally_leaves b line asked.Checkpoint read h = absurd (grind (arith, h))
-
--- The closing line has the count.
-pub closing_is : (s t : Session) (count : ℕ)
-    → count ≡ s.state.count
-    → s ≡ t
-    → reply_line (said.Acked count) ≡ closing t
-unfolding closing
-closing_is s t count h e = ap (λ n. reply_line (said.Acked n)) (h ∙ ap (λ x. x.state.count) e)
-
 -- A tally is asked for.
 pub tally_asked : (line : List ℕ) (a : Asked)
     → a ≡ asked_of line
@@ -100,15 +46,35 @@ tally_asked line asked.Tally read h = sym read
 tally_asked line asked.Nothing read h = absurd (grind (arith, h))
 tally_asked line asked.BadLine read h = absurd (grind (arith, h))
 tally_asked line (asked.Refused why) read h = absurd (grind (arith, h))
-tally_asked line (asked.Command call) read h = absurd (grind (arith, h))
-tally_asked line asked.Start read h = absurd (grind (arith, h))
-tally_asked line (asked.Finish n outcome) read h = absurd (grind (arith, h))
+tally_asked line (asked.Step x) read h = absurd (grind (arith, h))
 tally_asked line (asked.Scope name) read h = absurd (grind (arith, h))
 tally_asked line (asked.Value scope key) read h = absurd (grind (arith, h))
 tally_asked line (asked.Task n) read h = absurd (grind (arith, h))
 tally_asked line (asked.Result group) read h = absurd (grind (arith, h))
-tally_asked line asked.Flush read h = absurd (grind (arith, h))
-tally_asked line asked.Checkpoint read h = absurd (grind (arith, h))
+
+-- What is written for a tally.
+pub line_tally : (s : Session) (line : List ℕ) (a : Asked)
+    → a ≡ asked_of line
+    → is_tally a ≡ true
+    → reply_lines (map said.Tally (tallies_of s.state.work.tasks)) ≡ reply s line
+line_tally s line a read h =
+    line_replies s line asked.Tally (map said.Tally (tallies_of s.state.work.tasks))
+    (sym (tally_asked line a read h)) refl
+
+-- A tally leaves the session as it was.
+pub tally_leaves : (b : Session) (line : List ℕ) (a : Asked)
+    → a ≡ asked_of line
+    → is_tally a ≡ true
+    → b ≡ after_line b line
+tally_leaves b line a read h =
+    line_obeyed b b line asked.Tally (sym (tally_asked line a read h)) refl
+
+-- A flush is replied to by the closing line.
+pub closing_is : (s : Session) (r : List Reply) → r ≡ replies_to s (asked.Step step.Flush)
+    → reply_lines r ≡ closing s
+unfolding closing
+closing_is s r is =
+    ap reply_lines is ∙ append-nil (reply_line (said.Step (told.Acked s.state.count)))
 
 -- Why a line strays, by its replies.
 pub line_strays : (s : Session) (line : List ℕ) (a : Asked) (r : List Reply)

@@ -1,15 +1,12 @@
 -- The steps that lines play over a book, one line behind the other.
 use Rattle.std.specs.Prelude.{◌≡◌, ◌||◌, Bool, false, ℕ, List, [], ◌∷◌, ◌++◌, Option, Some, None}
-use Rattle.std.specs.Prelude.{Result, Ok, Err}
+use Rattle.std.specs.Prelude.{Err}
 use Rattle.std.specs.List.{cons_option, list_any}
 use Rattle.std.proofs.Common.{inl, inr, refl, sym, ap, subst, ◌∙◌}
 use Rattle.run_model.specs.declared.answers.Reply.{Reply}
-use Rattle.run_model.specs.declared.answers.Reply.TheVariants as told
 use Rattle.run_model.specs.declared.commands.Step.{Step}
 use Rattle.run_model.specs.declared.commands.Step.TheVariants as step
 use Rattle.run_model.specs.declared.faults.Trouble.{Trouble}
-use Rattle.run_model.specs.declared.refusals.Refusal.{Refusal}
-use Rattle.run_model.specs.Session.{replied}
 use Rattle.run_disk.specs.Disk.{DiskState}
 use Rattle.book_model.specs.Books.{CarriesOn, BookView}
 use Rattle.book_model.specs.Plays.{is_fault}
@@ -46,11 +43,6 @@ none_either (x ∷ xs) ys p q =
     ap (λ (b : Bool). b || list_any is_fault (xs ++ ys)) parts.0
     ∙ none_either xs ys parts.1 q
 
-no_fault : {X : Type 0} (f : X → Reply) (r : Result X Refusal) → ((x : X) → is_fault (f x) ≡ false)
-    → list_any is_fault (replied f r ∷ []) ≡ false
-no_fault f (Ok x) none = ap (λ b. b || false) (none x)
-no_fault f (Err why) none = refl
-
 module _ {D : Type 0} (state : D → DiskState) where
   -- ---- one step
 
@@ -63,35 +55,14 @@ module _ {D : Type 0} (state : D → DiskState) where
   takes_tally h line tally =
       subst (λ (a : Asked). TakesAll state h (steps_asked a) h) (sym tally) (takes_none h)
 
-  -- A command, a start or a finish.
-  pub takes_step : {X : Type 0} (old new : BookView D) (x : Step) (f : X → Reply)
-      (r : Result X Refusal) → ((a : X) → is_fault (f a) ≡ false)
-      → AnswersStep state old x (replied f r) new → CarriesOn state old new
-      → TakesAll state old (x ∷ []) new
-  takes_step old new x f r none answers on = record {
-    answers = replied f r ∷ [];
-    row = row_one state old new x (replied f r) answers on;
-    fine = no_fault f r none;
+  -- A step that isn't answered by a fault.
+  pub takes_one : (old new : BookView D) (x : Step) (r : Reply) → AnswersStep state old x r new
+      → CarriesOn state old new → is_fault r ≡ false → TakesAll state old (x ∷ []) new
+  takes_one old new x r answers on fine = record {
+    answers = r ∷ [];
+    row = row_one state old new x r answers on;
+    fine = ap (λ b. b || false) fine;
   }
-
-  -- A flush or a checkpoint that is done.
-  pub takes_save : (old new : BookView D) (x : Step) (result : Result ℕ Trouble) (n : ℕ)
-      → result ≡ Ok n → AnswersStep state old x (reply_of_save result) new
-      → CarriesOn state old new → TakesAll state old (x ∷ []) new
-  takes_save old new x result n is answers on = record {
-    answers = told.Acked n ∷ [];
-    row = row_one state old new x (told.Acked n)
-        (subst (λ q. AnswersStep state old x (reply_of_save q) new) is answers) on;
-    fine = refl;
-  }
-
-  -- And one that isn't.
-  pub tries_save : (old new : BookView D) (x : Step) (result : Result ℕ Trouble) (why : Trouble)
-      → result ≡ Err why → AnswersStep state old x (reply_of_save result) new
-      → CarriesOn state old new → StepsOn state old (x ∷ []) (reply_of_save (Err why) ∷ []) new
-  tries_save old new x result why is answers on =
-      row_one state old new x (reply_of_save (Err why))
-      (subst (λ q. AnswersStep state old x (reply_of_save q) new) is answers) on
 
   -- ---- some steps
 

@@ -1,35 +1,143 @@
--- What a flush or a checkpoint leaves of a book.
-use Rattle.std.specs.Prelude.{◌≡◌, false, ℕ, Result, Ok, Err, IfOk, OnOk}
-use Rattle.std.proofs.Common.{sym, subst, ap, ◌∙◌}
+-- What a step leaves of a book that isn't broken, by what it was answered.
+use Rattle.std.specs.Prelude.{◌≡◌, ◌||◌, true, false, ℕ, [], ◌∷◌, Option, Result, Ok, Err}
+use Rattle.std.specs.Prelude.{IfErr, IfOk, OnErr, OnOk}
+use Rattle.std.specs.Option.{option_to_list}
+use Rattle.std.proofs.Common.{inl, inr, refl, sym, subst, ap, ◌∙◌}
+use Rattle.run_model.specs.declared.answers.Reply.{Reply}
+use Rattle.run_model.specs.declared.answers.Reply.TheVariants as told
+use Rattle.run_model.specs.declared.commands.Step.{Step}
+use Rattle.run_model.specs.declared.commands.Step.TheVariants as step
+use Rattle.run_model.specs.declared.faults.Fault.{Fault}
 use Rattle.run_model.specs.declared.faults.Trouble.{Trouble}
+use Rattle.run_model.specs.declared.faults.Trouble.TheVariants as trouble
+use Rattle.run_model.specs.declared.refusals.Refusal.{Refusal}
+use Rattle.run_model.specs.Session.{Session, after_step, replied, reply_of_step}
 use Rattle.run_disk.specs.Disk.{DiskState}
-use Rattle.run_state.specs.Lasting.{Stays}
-use Rattle.run_state.proofs.Staying.{stays_same}
-use Rattle.run_model.specs.Session.{Session}
-use Rattle.book_model.specs.Books.{Saves, BookView}
-use Rattle.run_console.specs.Progress.{Lasts}
+use Rattle.book_model.specs.Books.{BookView, CarriesOn, Saves}
+use Rattle.book_model.specs.Plays.{is_fault}
+use Rattle.book_model.specs.Steps.{AnswersSound, AnswersStep, StepsOn, Takes, reply_of_save}
+use Rattle.book_model.proofs.Rows.{row_one}
+use Rattle.console_lines.specs.declared.asked.Asked.TheVariants as asked
+use Rattle.console_lines.specs.declared.replies.Reply as console
+use Rattle.console_lines.specs.declared.replies.Reply.TheVariants as said
+use Rattle.run_console.specs.Progress.{Does, Fails, Lasts}
+use Rattle.run_console.specs.SessionLines.{IsSaving}
+use Rattle.run_console.proofs.Accounting.{as_sound, row_sound, true_false}
+use Rattle.run_console.proofs.Rows.{takes_one}
 
--- The session stays, and so does what is done.
-pub lasts_kept : (b d : Session) → d ≡ b → Lasts b d
-lasts_kept b d same = subst (λ (s : Session). Stays b.state s.state) (sym same) (stays_same b.state)
+no_fault : {X : Type 0} (f : X → Reply) (r : Result X Refusal) → ((x : X) → is_fault (f x) ≡ false)
+    → is_fault (replied f r) ≡ false
+no_fault f (Ok x) none = none x
+no_fault f (Err why) none = refl
 
-module _ {D : Type 0} (state : D → DiskState) (b d : BookView D) where
-  -- The answer is the number of all events.
-  pub counted : (r : Result ℕ Trouble) → Saves state b r d → IfOk r (λ n. n ≡ b.session.state.count)
-  counted (Err e) saves = tt
-  counted (Ok n) saves = saves.answer.counted
+told_faulty : (why : Trouble) (fault : Fault) (r : Reply) → why ≡ trouble.Faulty fault
+    → r ≡ reply_of_save (Err why) → is_fault r ≡ true
+told_faulty why fault r e is = ap is_fault (is ∙ ap (λ w. reply_of_save (Err w)) e)
 
-  -- They are durable then.
-  pub saved : (r : Result ℕ Trouble) → Saves state b r d
-      → OnOk r (d.durable ≡ d.session.state.count)
-  saved (Err e) saves = tt
-  saved (Ok n) saves =
-      saves.answer.durable ∙ saves.answer.counted
-      ∙ ap (λ (s : Session). s.state.count) (sym saves.session)
+-- What is known of a step and its answer.
+record Stepped {D : Type 0} (b : BookView D) (x : Step) (r : Reply) (c : BookView D)
+    : Type 0 where
+  pub session : c.session ≡ after_step b.session x
+  pub is_told : is_fault r ≡ false → r ≡ reply_of_step b.session x
+  pub saved : is_fault r ≡ false → IsSaving (asked.Step x) → c.durable ≡ c.session.state.count
+  pub saving : is_fault r ≡ true → IsSaving (asked.Step x)
+  pub kept : is_fault r ≡ true → c.session ≡ b.session
 
-  -- And the book isn't broken.
-  pub sound : (r : Result ℕ Trouble)
-      → Saves state b r d
-      → OnOk r (d.journal.broken ≡ false)
-  sound (Err e) saves = tt
-  sound (Ok n) saves = saves.answer.sound
+module _ {D : Type 0} (state : D → DiskState) (b c : BookView D) where
+  took : (x : Step) (r : Reply) → Takes b x r c → is_fault (reply_of_step b.session x) ≡ false
+      → (IsSaving (asked.Step x) → ⊥) → Stepped b x r c
+  took x r takes none other =
+      let fine = ap is_fault takes.told ∙ none in
+      record {
+        session = ap (λ (h : BookView D). h.session) takes.taken;
+        is_told = λ h. takes.told;
+        saved = λ h saving. absurd (other saving);
+        saving = λ faulty. absurd (true_false (is_fault r) faulty fine);
+        kept = λ faulty. absurd (true_false (is_fault r) faulty fine);
+      }
+
+  save_told : (result : Result ℕ Trouble) (r : Reply) → b.journal.broken ≡ false
+      → r ≡ reply_of_save result → Saves state b result c → is_fault r ≡ false
+      → (r ≡ told.Acked b.session.state.count) × (c.durable ≡ c.session.state.count)
+  save_told (Ok n) r sound is saves fine = (
+    is ∙ ap told.Acked saves.answer.counted,
+    saves.answer.durable ∙ saves.answer.counted
+        ∙ ap (λ (s : Session). s.state.count) (sym saves.session),
+  )
+  save_told (Err why) r sound is saves fine = elim saves.answer [
+    | inl refused ↦ absurd (true_false b.journal.broken refused.was sound)
+    | inr (inl spent) ↦
+        absurd (true_false (is_fault r) (told_faulty why _ r spent.told is) fine)
+    | inr (inr failed) ↦
+        absurd (true_false (is_fault r) (told_faulty why _ r failed.told is) fine)
+  ]
+
+  saved : (x : Step) (result : Result ℕ Trouble) (r : Reply) → b.journal.broken ≡ false
+      → r ≡ reply_of_save result → Saves state b result c
+      → reply_of_step b.session x ≡ told.Acked b.session.state.count
+      → after_step b.session x ≡ b.session → IsSaving (asked.Step x) → Stepped b x r c
+  saved x result r sound is saves answer same saving = record {
+    session = saves.session ∙ sym same;
+    is_told = λ fine. (save_told result r sound is saves fine).0 ∙ sym answer;
+    saved = λ fine h. (save_told result r sound is saves fine).1;
+    saving = λ faulty. saving;
+    kept = λ faulty. saves.session;
+  }
+
+  stepped : (x : Step) (r : Reply) → b.journal.broken ≡ false → AnswersSound state b x r c
+      → Stepped b x r c
+  stepped (step.Command call) r sound takes =
+      took (step.Command call) r takes (no_fault told.Answer _ (λ a. refl)) (λ h. h)
+  stepped step.Start r sound takes =
+      took step.Start r takes (no_fault told.Started _ (λ a. refl)) (λ h. h)
+  stepped (step.Finish n outcome) r sound takes =
+      took (step.Finish n outcome) r takes (no_fault told.Finished _ (λ a. refl)) (λ h. h)
+  stepped step.Flush r sound tells =
+      saved step.Flush tells.result r sound tells.told tells.saves.saves refl refl tt
+  stepped step.Checkpoint r sound tells =
+      saved step.Checkpoint tells.result r sound tells.told tells.saves.saves refl refl tt
+
+module _ {D : Type 0} (state : D → DiskState) (b c : BookView D) (x : Step) (r : Reply)
+    (sound : b.journal.broken ≡ false) (one : AnswersStep state b x r c) where
+  known : Stepped b x r c
+  known = stepped state b c x r sound (as_sound state b c x r sound one)
+
+  -- A step that isn't answered by a fault was done.
+  pub step_does : (result : Result (Option console.Reply) Trouble) → CarriesOn state b c
+      → Lasts b.session c.session
+      → IfOk result (λ reply. option_to_list reply ≡ said.Step r ∷ [])
+      → OnOk result (is_fault r ≡ false)
+      → IfOk result (λ reply. Does state (asked.Step x) b c (option_to_list reply))
+  step_does (Ok reply) on lasts is fine =
+      record {
+        taken = takes_one state b c x r one on fine;
+        replied = is ∙ ap (λ y. said.Step y ∷ []) (known.is_told fine);
+        sound = row_sound state b c (x ∷ []) (r ∷ []) sound
+            (row_one state b c x r one on) (ap (λ q. q || false) fine);
+        lasts = lasts;
+      }
+  step_does (Err why) on lasts is fine = tt
+
+  -- One that is was a flush or a checkpoint.
+  pub step_fails : (result : Result (Option console.Reply) Trouble) → CarriesOn state b c
+      → Lasts b.session c.session
+      → IfErr result (λ why. r ≡ reply_of_save (Err why))
+      → OnErr result (is_fault r ≡ true)
+      → IfErr result (λ why. Fails state (asked.Step x) why b c)
+  step_fails (Ok reply) on lasts is faulty = tt
+  step_fails (Err why) on lasts is faulty = record {
+    saving = known.saving faulty;
+    tried = subst (λ q. StepsOn state b (x ∷ []) (q ∷ []) c) is (row_one state b c x r one on);
+    kept = known.kept faulty;
+    lasts = lasts;
+  }
+
+  pub step_leaves : {T E : Type 0} (result : Result T E) → OnOk result (is_fault r ≡ false)
+      → OnOk result (c.session ≡ after_step b.session x)
+  step_leaves (Ok reply) fine = known.session
+  step_leaves (Err why) fine = tt
+
+  pub step_saves : {T E : Type 0} (result : Result T E) → OnOk result (is_fault r ≡ false)
+      → IsSaving (asked.Step x) → OnOk result (c.durable ≡ c.session.state.count)
+  step_saves (Ok reply) fine saving = known.saved fine saving
+  step_saves (Err why) fine saving = tt

@@ -5,6 +5,7 @@ use Rattle.std.specs.Fmt.{decimal}
 use Rattle.std.specs.Io.KnownBytes.{Appends}
 use Rattle.std.specs.List.{list_all}
 use Rattle.std.specs.List.Sorted.{IsPermutation}
+use Rattle.run_model.specs.declared.answers.Reply.TheVariants as told
 use Rattle.run_model.specs.declared.faults.Fault.{Fault}
 use Rattle.run_model.specs.declared.faults.Fault.TheVariants.{DiskFailed}
 use Rattle.run_model.specs.declared.faults.Trouble.{Trouble}
@@ -48,7 +49,7 @@ audit_line (Err strayed) starts finishes =
 
 -- What is told behind it: how many events are durable, where the last flush was done.
 abbrev pub flush_line : Result ℕ Trouble → List ℕ
-flush_line (Ok count) = reply_line (said.Acked count)
+flush_line (Ok count) = reply_line (said.Step (told.Acked count))
 flush_line (Err why) = []
 
 -- A flush is refused only by a book that a failed device call broke before.

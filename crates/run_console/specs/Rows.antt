@@ -8,10 +8,6 @@ use Rattle.run_disk.specs.Disk.{DiskState}
 use Rattle.book_model.specs.Books.{BookView}
 use Rattle.book_model.specs.Plays.{is_fault}
 use Rattle.book_model.specs.Steps.{StepsOn, reply_of_save}
-use Rattle.run_model.specs.declared.answers.Reply.TheVariants as told
-use Rattle.run_model.specs.declared.faults.Trouble.TheVariants as trouble
-use Rattle.console_lines.specs.declared.replies.Reply as said
-use Rattle.console_lines.specs.declared.replies.Reply.TheVariants as as_said
 use Rattle.console_lines.specs.declared.asked.Asked.{Asked}
 use Rattle.console_lines.specs.declared.faults.RunFault.{RunFault}
 use Rattle.console_lines.specs.declared.faults.RunFault.TheVariants as fault
@@ -51,15 +47,6 @@ pub record TriesLine {D : Type 0} (state : D → DiskState) (old : BookView D) (
   pub middle : BookView D
   pub taken : TakesAll state old (steps_of ran) middle
   pub tried : Tries state middle why next new
-
--- What is printed of a step's answer.
-abbrev pub printed : Reply → said.Reply
-printed (told.Answer answer) = as_said.Answered answer
-printed (told.Started started) = as_said.Started started
-printed (told.Finished event) = as_said.Finished event
-printed (told.Acked count) = as_said.Acked count
-printed (told.Refused why) = as_said.Refused why
-printed (told.Faulty why) = as_said.Failed (trouble.Faulty why)
 
 -- ---- for private functions: no public contract cites what follows
 

@@ -1,12 +1,13 @@
 -- What kind of step a line asks for.
 use Rattle.std.specs.Prelude.{Bool, true, false}
+use Rattle.run_model.specs.declared.commands.Step.TheVariants as step
 use Rattle.console_lines.specs.declared.asked.Asked.{Asked}
 use Rattle.console_lines.specs.declared.asked.Asked.TheVariants as asked
 
 -- A flush or a checkpoint is asked for.
 abbrev pub IsSaving : Asked → Type 0
-IsSaving asked.Flush = Unit {0}
-IsSaving asked.Checkpoint = Unit {0}
+IsSaving (asked.Step step.Flush) = Unit {0}
+IsSaving (asked.Step step.Checkpoint) = Unit {0}
 IsSaving _ = ⊥
 
 -- ---- for private functions: no public contract cites what follows

@@ -18,14 +18,14 @@ ghost use Rattle.run_console.specs.Progress.{LineRuns, LineStops, Ran, RunStops,
 ghost use Rattle.run_console.specs.Rows.{TakesAll, Tries};
 ghost use Rattle.run_console.specs.SessionLines.{IsSaving, is_tally};
 
-use crate::answers::{flush, reply_to};
+use crate::answers::{reply_to, step_reply};
 use crate::inputs::{OpenLine, run_whole_lines};
 use crate::tallies::gather_tally;
 use crate::writings::{Gathered, gather_reply, make_room, stop, write_gathered};
 use console_lines::{Asked, Reply, RunFault, Stray, gather_scope, read_line};
 use run_book::Book;
 use run_disk::RunDisk;
-use run_model::{Name, Refusal, Trouble};
+use run_model::{Name, Refusal, Step, Trouble};
 use run_state::{LookView, State};
 use std::alloc::Allocator;
 use std::io::{Read, Write};
@@ -132,7 +132,8 @@ fn run_sound<A: Allocator + Copy, R: Read, W: Write, D: RunDisk, B: Allocator>(
     close(&mut gathered, output, book)
 }
 
-/// Flushes, and writes what was gathered and the closing line.
+/// Flushes, and writes what was gathered and the closing line. Each clause is a field of `RunsAll`
+/// or of `RunStops`, which its callers join, so there are more than six.
 pub fn close<W: Write, D: RunDisk, B: Allocator>(
     gathered: &mut Gathered,
     output: &mut W,
@@ -152,8 +153,8 @@ pub fn close<W: Write, D: RunDisk, B: Allocator>(
     ensures lasts { Lasts book.old.session book.new.session }
 {
     make_room(gathered, output)?;
-    match flush(book) {
-        Ok(count) => Reply::Acked(count).gather(gathered),
+    match step_reply(&Step::Flush, book) {
+        Ok(reply) => gather_reply(reply, gathered),
         Err(trouble) => return Err(stop(trouble, gathered, output)),
     }
     write_gathered(gathered, output)
@@ -161,7 +162,8 @@ pub fn close<W: Write, D: RunDisk, B: Allocator>(
 
 /// Runs one line over the book, and gathers its reply; an empty line has none. It answers why the
 /// line strays, where it does. The clauses speak of each line that asks for the same, since a line
-/// that is too long is handed in without its end.
+/// that is too long is handed in without its end. There are more than six, since one line, a run and
+/// a strict run take different ones.
 pub fn gather_line<A: Allocator + Copy, W: Write, D: RunDisk, B: Allocator>(
     alloc: A,
     bytes: &[u8],

@@ -175,7 +175,7 @@ fn gather_night(night: &Night, gathered: &mut Gathered)
 {
     gather_audit(night, gathered);
     if let Ok(count) = night.flushed {
-        Reply::Acked(count).gather(gathered);
+        Reply::Step(run_model::Reply::Acked(count)).gather(gathered);
     }
 }
 

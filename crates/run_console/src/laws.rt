@@ -2,16 +2,18 @@
 //!
 //! Each function has an empty body, and its clauses are the law.
 
-ghost use Rattle.std.specs.Prelude.{◌≡◌, List, Option, ℕ, Some, false};
+ghost use Rattle.std.specs.Prelude.{◌≡◌, List, Option, ℕ, false};
 ghost use Rattle.run_model.specs.declared.commands.Step.{Step};
 ghost use Rattle.run_model.specs.Session.{Session, replies, reply_of_step};
 ghost use Rattle.book_model.specs.Books.{BookView, IsReached};
 ghost use Rattle.console_lines.specs.declared.faults.RunFault.{RunFault};
 ghost use Rattle.console_lines.specs.Asked.{asked_of};
 ghost use Rattle.console_lines.specs.Replies.{reply_line};
-ghost use Rattle.console_lines.specs.Script.{reply, step_of, steps_of};
+ghost use Rattle.console_lines.specs.declared.asked.Asked.TheVariants as asks;
+ghost use Rattle.console_lines.specs.declared.replies.Reply.TheVariants as said;
+ghost use Rattle.console_lines.specs.Script.{reply, steps_of};
 ghost use Rattle.run_console.specs.Progress.{LineStops, RunStops};
-ghost use Rattle.run_console.specs.Rows.{TakesAll, printed};
+ghost use Rattle.run_console.specs.Rows.{TakesAll};
 ghost use Rattle.run_console.specs.Strict.{StopsStrictly};
 ghost use Rattle.run_console.specs.Troubles.{Accounts};
 
@@ -23,8 +25,8 @@ pub fn what_is_printed_is_what_was_answered<D: RunDisk>()
     ensures row { (old new : BookView D) (lines : List (List ℕ)) → old.journal.broken ≡ false
         → IsReached old → (taken : TakesAll D.state old (steps_of lines) new)
         → taken.answers ≡ replies old.session (steps_of lines) }
-    ensures line { (s : Session) (line : List ℕ) (x : Step) → step_of (asked_of line) ≡ Some x
-        → reply s line ≡ reply_line (printed (reply_of_step s x)) }
+    ensures line { (s : Session) (line : List ℕ) (x : Step) → asked_of line ≡ asks.Step x
+        → reply s line ≡ reply_line (said.Step (reply_of_step s x)) }
 {}
 
 /// A fault that stopped a run, a strict run or a line over a book that wasn't broken has its cause

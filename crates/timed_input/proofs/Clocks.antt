@@ -1,7 +1,7 @@
 -- No line moves a clock past the latest moment.
-use Rattle.std.specs.Prelude.{◌≡◌, ◌≤◌, ◌⊎◌, ◌+◌, max, nat_lt, Bool, true, false, if◌then◌else◌, ℕ}
-use Rattle.std.specs.Prelude.{List, [], ◌∷◌, length, unwrap_or, Option, Some, None, Result, Ok}
-use Rattle.std.specs.Prelude.{Err}
+use Rattle.std.specs.Prelude.{◌≡◌, ◌≤◌, ◌⊎◌, ◌+◌, max, nat_lt, Bool, true, false, if◌then◌else◌}
+use Rattle.std.specs.Prelude.{ℕ, List, [], ◌∷◌, Option, Some, None, Result, Ok, Err, length}
+use Rattle.std.specs.Prelude.{unwrap_or}
 use Rattle.std.specs.List.{All}
 use Rattle.std.specs.Option.{option_map_or}
 use Rattle.std.proofs.Common.{suc, arith, inl, inr, refl, sym, subst}
@@ -9,6 +9,7 @@ use Rattle.std.proofs.lemmas.Bool.Decides.{nat_tests}
 use Rattle.run_model.specs.declared.bounds.TheConstants.{GREATEST_MOMENT}
 use Rattle.run_model.specs.declared.commands.Command.{Command}
 use Rattle.run_model.specs.declared.commands.Command.TheVariants as command
+use Rattle.run_model.specs.declared.commands.Step.TheVariants as step
 use Rattle.run_model.specs.declared.refusals.Refusal.{Refusal}
 use Rattle.run_model.specs.declared.refusals.Refusal.TheVariants as refusal
 use Rattle.run_model.specs.Event.{Event}
@@ -17,10 +18,11 @@ use Rattle.run_model.specs.State.{State, TreeState}
 use Rattle.run_model.specs.TreeChanges.{after_cancel}
 use Rattle.run_model.specs.WorkChanges.{error_of, group_of_task}
 use Rattle.run_model.specs.Tasks.{first_ready}
-use Rattle.run_model.specs.Step.{after_task_end, own_scope, step}
+use Rattle.run_model.specs.Step.{after_task_end, own_scope}
+use Rattle.run_model.specs.Step as model
 use Rattle.run_model.specs.Allowed.{refusals, unless}
-use Rattle.run_model.specs.Replies.{decide, decide_finish, decide_start, decided, event_of}
-use Rattle.run_model.specs.Replies.{if_room, is_full, is_repeated}
+use Rattle.run_model.specs.Replies.{decide, decide_finish, decide_start, decided, event_of, if_room}
+use Rattle.run_model.specs.Replies.{is_full, is_repeated}
 use Rattle.run_model.specs.Session.{Session, made, with_event}
 use Rattle.console_lines.specs.declared.asked.Asked.{Asked}
 use Rattle.console_lines.specs.declared.asked.Asked.TheVariants as asked
@@ -54,7 +56,7 @@ end_keeps e p n (Some text) =
     cancel_keeps e (own_scope p.work (group_of_task p.work n)) (Some text) p.tree
 
 step_within : (p : State) (e : Event) (latest : ℕ)
-    → p.tree.clock ≤ latest → IsWithin latest e → (step p e).tree.clock ≤ latest
+    → p.tree.clock ≤ latest → IsWithin latest e → (model.step p e).tree.clock ≤ latest
 step_within p (event.Derive name parent kind) latest h w = h
 step_within p (event.Cancel s cause) latest h w = h
 step_within p (event.Advance moment) latest h w = w
@@ -82,9 +84,6 @@ by_room : (full : Bool) (e : Event)
 by_room true e = inl refl
 by_room false e = inr refl
 
-room_made : (p : State) (log : ℕ) (e : Event) → IsAtMost (made (if_room p log e)) e
-room_made p log e = by_room (is_full p log e) e
-
 unless_made : (tests : List (Bool × Refusal)) (answer : Result (Option Event) Refusal) (e : Event)
     → IsAtMost (made answer) e → IsAtMost (made (unless tests answer)) e
 unless_made [] answer e h = h
@@ -92,7 +91,8 @@ unless_made ((true, why) ∷ tests) answer e h = inl refl
 unless_made ((false, why) ∷ tests) answer e h = unless_made tests answer e h
 
 decided_made : (p : State) (log : ℕ) (e : Event) → IsAtMost (made (decided p log e)) e
-decided_made p log e = unless_made (refusals p e) (if_room p log e) e (room_made p log e)
+decided_made p log e =
+    unless_made (refusals p e) (if_room p log e) e (by_room (is_full p log e) e)
 
 repeated : (b : Bool) (answer : Result (Option Event) Refusal) (e : Event)
     → IsAtMost (made answer) e → IsAtMost (made (if b then Ok None else answer)) e
@@ -113,7 +113,7 @@ after s (Some x) e latest h (inr is) w =
 
 -- A command's event is within what the command asks for.
 command_within : (p : State) (call : Command) (latest : ℕ)
-    → IsWithin (latest_asked latest (asked.Command call)) (event_of p call)
+    → IsWithin (latest_asked latest (asked.Step (step.Command call))) (event_of p call)
 command_within p (command.Derive name parent wish) latest = tt
 command_within p (command.Cancel scope cause) latest = tt
 command_within p (command.Advance moment) latest = omega arith
@@ -126,8 +126,9 @@ command_within p (command.Retry n) latest = tt
 command_within p (command.Wait group) latest = tt
 
 later : (latest : ℕ) (a : Asked) → latest ≤ latest_asked latest a
-later latest (asked.Command (command.Advance moment)) = omega arith
-later latest (asked.Command call) = omega arith
+later latest (asked.Step (step.Command (command.Advance moment))) = omega arith
+later latest (asked.Step (step.Command call)) = omega arith
+later latest (asked.Step x) = omega arith
 later latest a = omega arith
 
 asked_within : (s : Session) (a : Asked) (latest : ℕ)
@@ -135,29 +136,29 @@ asked_within : (s : Session) (a : Asked) (latest : ℕ)
 asked_within s asked.Nothing latest h = h
 asked_within s asked.BadLine latest h = h
 asked_within s (asked.Refused why) latest h = h
-asked_within s (asked.Command call) latest h =
+asked_within s (asked.Step (step.Command call)) latest h =
     let p = s.state in
     after s (made (decide p s.log call)) (event_of p call)
-    (latest_asked latest (asked.Command call))
-    (omega (arith, h, later latest (asked.Command call)))
+    (latest_asked latest (asked.Step (step.Command call)))
+    (omega (arith, h, later latest (asked.Step (step.Command call))))
     (repeated (is_repeated p call) (decided p s.log (event_of p call)) (event_of p call)
     (decided_made p s.log (event_of p call)))
     (command_within p call latest)
-asked_within s asked.Start latest h =
-    let n = unwrap_or (first_ready s.state.work) (length s.state.work.tasks) in
-    after s (made (decide_start s.state s.log)) (event.Start n) latest h
-    (decided_made s.state s.log (event.Start n)) tt
-asked_within s (asked.Finish n outcome) latest h =
-    let e : Event = event.Finish n outcome in
+asked_within s (asked.Step step.Start) latest h =
+    let p = s.state in
+    let e = event.Start (unwrap_or (first_ready p.work) (length p.work.tasks)) in
+    after s (made (decide_start p s.log)) e latest h (decided_made p s.log e) tt
+asked_within s (asked.Step (step.Finish n outcome)) latest h =
+    let e = event.Finish n outcome in
     after s (made (decide_finish s.state n outcome)) e latest h
     (unless_made (refusals s.state e) (Ok (Some e)) e (inr refl)) tt
+asked_within s (asked.Step step.Flush) latest h = h
+asked_within s (asked.Step step.Checkpoint) latest h = h
 asked_within s (asked.Scope name) latest h = h
 asked_within s (asked.Value scope key) latest h = h
 asked_within s (asked.Task n) latest h = h
 asked_within s (asked.Result group) latest h = h
 asked_within s asked.Tally latest h = h
-asked_within s asked.Flush latest h = h
-asked_within s asked.Checkpoint latest h = h
 
 pub line_within : (s : Session) (line : List ℕ) (latest : ℕ)
     → s.state.tree.clock ≤ latest

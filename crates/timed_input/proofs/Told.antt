@@ -17,6 +17,7 @@ use Rattle.std.proofs.lemmas.List.Splits.{slice_split_none}
 use Rattle.std.proofs.lemmas.Str.Parse.{digit_at, digit_from_value}
 use Rattle.run_model.specs.declared.bounds.TheConstants.{GREATEST_MOMENT}
 use Rattle.run_model.specs.declared.commands.Command.TheVariants as command
+use Rattle.run_model.specs.declared.commands.Step.TheVariants as step
 use Rattle.console_lines.specs.declared.asked.Asked.TheVariants as asked
 use Rattle.console_lines.specs.Asked.{asked_by, asked_of, asks_advance}
 use Rattle.console_lines.specs.Words.{words_of}
@@ -84,7 +85,7 @@ in_bounds line some few = grind (arith, nat_tests, common_steps, some, few)
 
 -- The line that is put before others is read as an advance to its moment.
 pub asks_so : (m : ℕ) → m ≤ GREATEST_MOMENT
-    → asked_of (advance_line m) ≡ asked.Command (command.Advance m)
+    → asked_of (advance_line m) ≡ asked.Step (step.Command (command.Advance m))
 asks_so m h =
     let digits = decimal m in
     let few = moment_digits m (omega (arith, h)) in

@@ -3,6 +3,7 @@ use Rattle.std.specs.Prelude.{ℕ, nat_lt, max, if◌then◌else◌, List, [], �
 use Rattle.std.specs.Fmt.{decimal}
 use Rattle.std.specs.Option.{option_map, option_and_then}
 use Rattle.run_model.specs.declared.commands.Command.TheVariants as command
+use Rattle.run_model.specs.declared.commands.Step.TheVariants as step
 use Rattle.console_lines.specs.declared.asked.Asked.{Asked}
 use Rattle.console_lines.specs.declared.asked.Asked.TheVariants as asked
 use Rattle.console_lines.specs.Asked.{asked_of}
@@ -18,7 +19,7 @@ advance_to latest moment = if nat_lt latest moment then advance_line moment ∷ 
 
 -- The latest moment behind what a line asks for: that of an advance, where it is later.
 abbrev pub latest_asked : ℕ → Asked → ℕ
-latest_asked latest (asked.Command (command.Advance moment)) = max latest moment
+latest_asked latest (asked.Step (step.Command (command.Advance moment))) = max latest moment
 latest_asked latest _ = latest
 
 -- The latest moment behind a line.

@@ -12,12 +12,12 @@ ghost use Rattle.timed_input.specs.Forward.{AreForward};
 ghost use Rattle.timed_input.specs.Timed.{advance_line, latest_behind};
 
 use console_lines::Asked;
-use run_model::Command;
+use run_model::{Command, Step};
 
 /// The line that is put before others asks for an advance to its moment.
 pub fn an_advance_line_asks_for_an_advance()
     ensures { (moment : ℕ) → moment ≤ GREATEST_MOMENT
-        → asked_of (advance_line moment) ≡ Asked.Command (Command.Advance moment) }
+        → asked_of (advance_line moment) ≡ Asked.Step (Step.Command (Command.Advance moment)) }
 {}
 
 /// No line moves a clock past the latest moment behind it, whatever the session is.

@@ -11,7 +11,7 @@ use crate::times::MachineTime;
 use arrayvec::ArrayVec;
 use console_lines::{Asked, LONGEST_LINE, read_line};
 use itoa::Buffer;
-use run_model::{Command, Moment};
+use run_model::{Command, Moment, Step};
 
 /// How many bytes are taken at most at a time.
 pub const PART: usize = 256;
@@ -157,7 +157,9 @@ fn latest_asked(latest: Moment, asked: &Asked) -> Moment
     ensures { result ≡ latest_asked latest asked.now }
 {
     match asked {
-        Asked::Command(Command::Advance { moment }) if latest.get() < moment.get() => *moment,
+        Asked::Step(Step::Command(Command::Advance { moment })) if latest.get() < moment.get() => {
+            *moment
+        }
         _ => latest,
     }
 }

@@ -1,7 +1,7 @@
 //! What lines ask for, by bytes and numbers, as tables write it.
 
 use console_lines::{Asked, read_line};
-use run_model::{Command, Outcome, Refusal, Text, Wish};
+use run_model::{Command, Outcome, Refusal, Step, Text, Wish};
 use std::process::Abort;
 
 /// What a derive asks for.
@@ -110,25 +110,31 @@ fn of_command(command: &Command) -> Meaning<'_> {
     }
 }
 
+fn of_step(step: &Step) -> Meaning<'_> {
+    match step {
+        Step::Command(command) => of_command(command),
+        Step::Start => Meaning::Start,
+        Step::Finish(task, Outcome::Success) => Meaning::Finish(*task, None),
+        Step::Finish(task, Outcome::Failure(error)) => {
+            Meaning::Finish(*task, Some(error.as_bytes()))
+        }
+        Step::Flush => Meaning::Flush,
+        Step::Checkpoint => Meaning::Checkpoint,
+    }
+}
+
 /// What is asked for, by bytes and numbers.
 fn meaning_of(asked: &Asked) -> Meaning<'_> {
     match asked {
         Asked::Nothing => Meaning::Nothing,
         Asked::BadLine => Meaning::BadLine,
         Asked::Refused(refusal) => Meaning::Refused(*refusal),
-        Asked::Command(command) => of_command(command),
-        Asked::Start => Meaning::Start,
-        Asked::Finish(task, Outcome::Success) => Meaning::Finish(*task, None),
-        Asked::Finish(task, Outcome::Failure(error)) => {
-            Meaning::Finish(*task, Some(error.as_bytes()))
-        }
+        Asked::Step(step) => of_step(step),
         Asked::Scope(name) => Meaning::Scope(name.as_bytes()),
         Asked::Value { scope, key } => Meaning::Value(scope.as_bytes(), key.as_bytes()),
         Asked::Task(task) => Meaning::Task(*task),
         Asked::Result(name) => Meaning::Result(name.as_bytes()),
         Asked::Tally => Meaning::Tally,
-        Asked::Flush => Meaning::Flush,
-        Asked::Checkpoint => Meaning::Checkpoint,
     }
 }
 

@@ -55,18 +55,18 @@ enum Told {
 fn reply_of(rt: &impl Abort, told: &Told) -> Reply {
     match told {
         Told::BadLine => Reply::BadLine,
-        Told::Acked(events) => Reply::Acked(*events),
-        Told::Finished(event) => Reply::Finished(*event),
+        Told::Acked(events) => Reply::Step(run_model::Reply::Acked(*events)),
+        Told::Finished(event) => Reply::Step(run_model::Reply::Finished(*event)),
         Told::Value(value) => Reply::Value(text(rt, value)),
         Told::Task(task, going) => Reply::Task(*task, phase_of(rt, going)),
         Told::Failed(trouble) => Reply::Failed(*trouble),
-        Told::Start => Reply::Started(start(rt)),
+        Told::Start => Reply::Step(run_model::Reply::Started(start(rt))),
         Told::Tally => Reply::Tally(tally(rt)),
         Told::Look(end, deadline) => Reply::Scope(look(rt, end, *deadline)),
         Told::Result(unfinished, limit, waited, error) => {
             Reply::Group(group(rt, *unfinished, *limit, *waited, *error))
         }
-        _ => Reply::Answered(answer_of(rt, told)),
+        _ => Reply::Step(run_model::Reply::Answer(answer_of(rt, told))),
     }
 }
 

@@ -1,7 +1,6 @@
-use Rattle.std.specs.Prelude.{[], ◌∷◌, IfErr, IfOk}
+use Rattle.std.specs.Prelude.{◌≡◌, [], ◌∷◌, IfErr, IfOk, OnOk}
 use Rattle.std.specs.Option.{option_to_list}
-use Rattle.std.proofs.Common.{List, ◌∙◌, refl, sym, subst, ap}
-use Rattle.std.proofs.lemmas.Result.{on_ok_weaker}
+use Rattle.std.proofs.Common.{List, refl, sym, subst}
 use Rattle.run_model.specs.State.{State}
 use Rattle.console_lines.specs.declared.asked.Asked.{Asked}
 use Rattle.console_lines.specs.declared.asked.Asked.TheVariants as asked
@@ -9,6 +8,7 @@ use Rattle.console_lines.specs.declared.replies.Reply.{Reply}
 use Rattle.console_lines.specs.declared.replies.Reply.TheVariants as said
 use Rattle.console_lines.specs.Script.{group_reply, scope_reply, task_reply, value_reply}
 use Rattle.run_console.specs.Progress.{Does, Fails}
+use Rattle.run_console.specs.SessionLines.{IsSaving}
 use Rattle.console_lines.specs.Script.{after_asked}
 use Rattle.run_console.proofs.Doing.{does_none, said_of}
 use Rattle.run_console.proofs.answers.reply_to.Goals as goal
@@ -85,63 +85,26 @@ returns-in-Result-clause-does g c =
 
 -- ---- a step
 
-pub returns-in-Command-clause-does : goal.returns-in-Command-clause-does
-returns-in-Command-clause-does g c =
-    subst (λ (a : Asked). Does g.D.RunDisk.state a c.args.book.now c.command_reply.new.book
-    (c.command_reply.result ∷ [])) (sym c.in-Command.is) c.command_reply.ensures.does
+pub returns-in-Step-clause-does : goal.returns-in-Step-clause-does
+returns-in-Step-clause-does g c =
+    subst (λ (a : Asked). IfOk c.step_reply.result (λ reply. Does g.D.RunDisk.state a
+    c.args.book.now c.step_reply.new.book (option_to_list reply))) (sym c.in-Step.is)
+    c.step_reply.ensures.does
 
-pub returns-in-Start-clause-does : goal.returns-in-Start-clause-does
-returns-in-Start-clause-does g c =
-    subst (λ (a : Asked). Does g.D.RunDisk.state a c.args.book.now c.start_reply.new.book
-    (c.start_reply.result ∷ [])) (sym c.in-Start.is) c.start_reply.ensures.does
+pub returns-in-Step-clause-fails : goal.returns-in-Step-clause-fails
+returns-in-Step-clause-fails g c =
+    subst (λ (a : Asked). IfErr c.step_reply.result (λ why. Fails g.D.RunDisk.state a why
+    c.args.book.now c.step_reply.new.book)) (sym c.in-Step.is)
+    c.step_reply.ensures.fails
 
-pub returns-in-Finish-clause-does : goal.returns-in-Finish-clause-does
-returns-in-Finish-clause-does g c =
-    subst (λ (a : Asked). Does g.D.RunDisk.state a c.args.book.now c.finish_reply.new.book
-    (c.finish_reply.result ∷ [])) (sym c.in-Finish.is) c.finish_reply.ensures.does
+pub returns-in-Step-clause-session : goal.returns-in-Step-clause-session
+returns-in-Step-clause-session g c =
+    subst (λ (a : Asked). OnOk c.step_reply.result
+    (c.step_reply.new.book.session ≡ after_asked c.args.book.now.session a)) (sym c.in-Step.is)
+    c.step_reply.ensures.session
 
--- ---- a flush or a checkpoint
-
-pub returns-in-Flush-clause-does : goal.returns-in-Flush-clause-does
-returns-in-Flush-clause-does g c =
-    subst (λ (a : Asked). IfOk c.flush_reply.result (λ reply. Does g.D.RunDisk.state a
-    c.args.book.now c.flush_reply.new.book (option_to_list reply))) (sym c.in-Flush.is)
-    c.flush_reply.ensures.does
-
-pub returns-in-Flush-clause-fails : goal.returns-in-Flush-clause-fails
-returns-in-Flush-clause-fails g c =
-    subst (λ (a : Asked). IfErr c.flush_reply.result (λ why. Fails g.D.RunDisk.state a why
-    c.args.book.now c.flush_reply.new.book)) (sym c.in-Flush.is)
-    c.flush_reply.ensures.fails
-
-pub returns-in-Flush-clause-session : goal.returns-in-Flush-clause-session
-returns-in-Flush-clause-session g c =
-    on_ok_weaker c.flush_reply.result
-    (λ h. c.flush_reply.ensures.session
-    ∙ ap (after_asked c.args.book.now.session) (sym c.in-Flush.is))
-    c.flush_reply.ensures.saved
-
-pub returns-in-Flush-clause-saved : goal.returns-in-Flush-clause-saved
-returns-in-Flush-clause-saved g c = λ saving. c.flush_reply.ensures.saved
-
-pub returns-in-Checkpoint-clause-does : goal.returns-in-Checkpoint-clause-does
-returns-in-Checkpoint-clause-does g c =
-    subst (λ (a : Asked). IfOk c.checkpoint_reply.result (λ reply. Does g.D.RunDisk.state a
-    c.args.book.now c.checkpoint_reply.new.book (option_to_list reply))) (sym c.in-Checkpoint.is)
-    c.checkpoint_reply.ensures.does
-
-pub returns-in-Checkpoint-clause-fails : goal.returns-in-Checkpoint-clause-fails
-returns-in-Checkpoint-clause-fails g c =
-    subst (λ (a : Asked). IfErr c.checkpoint_reply.result (λ why. Fails g.D.RunDisk.state a why
-    c.args.book.now c.checkpoint_reply.new.book)) (sym c.in-Checkpoint.is)
-    c.checkpoint_reply.ensures.fails
-
-pub returns-in-Checkpoint-clause-session : goal.returns-in-Checkpoint-clause-session
-returns-in-Checkpoint-clause-session g c =
-    on_ok_weaker c.checkpoint_reply.result
-    (λ h. c.checkpoint_reply.ensures.session
-    ∙ ap (after_asked c.args.book.now.session) (sym c.in-Checkpoint.is))
-    c.checkpoint_reply.ensures.saved
-
-pub returns-in-Checkpoint-clause-saved : goal.returns-in-Checkpoint-clause-saved
-returns-in-Checkpoint-clause-saved g c = λ saving. c.checkpoint_reply.ensures.saved
+pub returns-in-Step-clause-saved : goal.returns-in-Step-clause-saved
+returns-in-Step-clause-saved g c =
+    subst (λ (a : Asked). IsSaving a → OnOk c.step_reply.result
+    (c.step_reply.new.book.durable ≡ c.step_reply.new.book.session.state.count))
+    (sym c.in-Step.is) c.step_reply.ensures.saved
