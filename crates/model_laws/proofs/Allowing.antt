@@ -19,8 +19,8 @@ made_derivable clock (wish.Timeout seconds cause) = refl
 made_derivable clock (wish.Value key text) = refl
 made_derivable clock wish.Detached = refl
 
-pub unrefused_allowed : (p : State) (call : Command) → holds_none (refusals p (event_of p call)) ≡ true
-    → allowed p (event_of p call) ≡ true
+pub unrefused_allowed : (p : State) (call : Command)
+    → holds_none (refusals p (event_of p call)) ≡ true → allowed p (event_of p call) ≡ true
 unrefused_allowed p (command.Derive name parent wish) may =
     and_from _ _ (made_derivable p.tree.clock wish) may
 unrefused_allowed p (command.Cancel scope cause) may = may

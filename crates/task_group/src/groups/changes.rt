@@ -40,7 +40,8 @@ impl<A: Allocator> Groups<A> {
     /// may be.
     pub fn make(&mut self, name: &[u8], scope: u16, bare: bool) -> u16
         requires name { IsName name.now }
-        requires accepted { IsTrue (is_group_name_free self.old name.now && has_group_room self.old) }
+        requires accepted { IsTrue (is_group_name_free self.old name.now
+            && has_group_room self.old) }
         ensures number { result ≡ length self.old.groups }
         ensures after { self.new ≡ after_make name.now scope bare self.old }
         ensures stays { EndsStay self.old self.new }
