@@ -212,7 +212,8 @@ module _ {D : Type 0} (state : D → DiskState) where
       → old.journal.broken ≡ false
       → StepsOn state old (steps_asked a) (reply_of_save (Err why) ∷ []) new
       → Tells state old why new
-  saving_tells (asked.Step step.Flush) old new why saving sound row = flush_tells old new why sound row
+  saving_tells (asked.Step step.Flush) old new why saving sound row =
+      flush_tells old new why sound row
   saving_tells (asked.Step step.Checkpoint) old new why saving sound row =
       checkpoint_tells old new why sound row
   saving_tells _ old new why saving sound row = absurd saving

@@ -162,8 +162,8 @@ pub fn close<W: Write, D: RunDisk, B: Allocator>(
 
 /// Runs one line over the book, and gathers its reply; an empty line has none. It answers why the
 /// line strays, where it does. The clauses speak of each line that asks for the same, since a line
-/// that is too long is handed in without its end. There are more than six, since one line, a run and
-/// a strict run take different ones.
+/// that is too long is handed in without its end. There are more than six, since one line, a run
+/// and a strict run take different ones.
 pub fn gather_line<A: Allocator + Copy, W: Write, D: RunDisk, B: Allocator>(
     alloc: A,
     bytes: &[u8],
