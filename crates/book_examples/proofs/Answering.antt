@@ -10,7 +10,7 @@ use Rattle.run_model.specs.declared.faults.Fault.TheVariants.{NumbersSpent, Wron
 use Rattle.run_model.specs.declared.faults.Trouble.TheVariants.{Faulty, Refused}
 use Rattle.run_model.specs.declared.faults.Trouble.{Trouble}
 use Rattle.run_model.specs.declared.layouts.Layout.TheVariants.{Small}
-use Rattle.record_view.specs.Spelling.{spelling}
+use Rattle.run_model.specs.Spelling.{spelling}
 use Rattle.run_disk.specs.Disk.{last_moment}
 use Rattle.run_disk.specs.Runs.{Passed}
 use Rattle.run_disk.specs.Runs.{FailedAt}
@@ -61,9 +61,9 @@ flush_done = record {
     };
   };
   nothing = λ few. absurd (omega (arith, few));
-  spent = λ must last. absurd (fits must);
+  spent = λ must sound last. absurd (fits must);
   next = λ must. absurd (fits must);
-  added = λ some room. record { made = record { clock = refl; failures = refl }; journal = refl };
+  added = λ some room. (record { clock = refl; failures = refl }, refl);
   few = λ room. omega arith;
   stays = λ fits. refl;
   unspent = λ told. absurd (cc);
@@ -87,7 +87,7 @@ flush_failed = record {
     }));
   };
   nothing = λ few. absurd (omega (arith, few));
-  spent = λ must last. absurd (fits must);
+  spent = λ must sound last. absurd (fits must);
   next = λ must. tt;
   added = λ some room. tt;
   few = λ room. omega arith;
@@ -114,7 +114,7 @@ flush_nothing = record {
     };
   };
   nothing = λ few. refl;
-  spent = λ must last. absurd (omega (arith, must));
+  spent = λ must sound last. absurd (omega (arith, must));
   next = λ must. absurd (omega (arith, must));
   added = λ some room. absurd (omega (arith, some));
   few = λ room. omega arith;
@@ -153,7 +153,7 @@ count_told new tells = no_count tells.result new tells.told tells.saves
 no_second : (result : Result ℕ Trouble) → acked 4 ≡ reply_of_save result
     → Flushes state_of behind_three result flushed_twice → ⊥
 no_second (Ok n) told flushes =
-    let calls = (flushes.added (omega arith) fits).made.clock in
+    let calls = (flushes.added (omega arith) fits).0.clock in
     omega (arith, calls)
 no_second (Err (Refused why)) told flushes = cc
 no_second (Err (Faulty why)) told flushes = cc
@@ -187,7 +187,7 @@ last_spent = record {
     any_moment = λ safe. absurd safe.honest;
     answer = inr (inl (record { told = refl; was = refl; last = refl; same = refl }));
   };
-  spent = λ last. refl;
+  spent = λ sound last. refl;
   next = tt;
 }
 
@@ -214,9 +214,9 @@ last_flush = record {
     };
   };
   nothing = λ few. absurd (omega (arith, few));
-  spent = λ must last. absurd (last_fits must);
+  spent = λ must sound last. absurd (last_fits must);
   next = λ must. absurd (last_fits must);
-  added = λ some room. record { made = record { clock = refl; failures = refl }; journal = refl };
+  added = λ some room. (record { clock = refl; failures = refl }, refl);
   few = λ room. omega arith;
   stays = λ room. refl;
   unspent = λ told. absurd (cc);
@@ -237,9 +237,7 @@ last_answered = (
 no_checkpoint : (n : ℕ) (result : Result ℕ Trouble) (new : BookView Counts)
     → acked n ≡ reply_of_save result → Checkpoints state_of last_book result new → ⊥
 no_checkpoint n (Ok m) new told saves =
-    let is : Ok m ≡ Err (Faulty NumbersSpent) = saves.spent (record { sound = refl; last = refl })
-    in
-    cc (is)
+    let is : Ok m ≡ Err (Faulty NumbersSpent) = saves.spent refl refl in cc (is)
 no_checkpoint n (Err (Refused why)) new told saves = cc
 no_checkpoint n (Err (Faulty why)) new told saves = cc
 
@@ -299,6 +297,7 @@ pub first_read_failed : (calls failures : ℕ)
 first_read_failed calls failures = record {
   sized = (Small, refl);
   which = inl (inl (refl, refl));
+  chosen = λ honest. absurd honest;
   passed = passed_by calls (calls + 1) failures (failures + 1) (omega arith) (omega arith);
   only = λ honest. absurd honest;
 }
@@ -314,7 +313,7 @@ nothing_uncalled d early failed =
       | inl (inr first) ↦ absurd (omega (arith, early, first.1))
       | inr (inl (inl second)) ↦ absurd (omega (arith, second.0))
       | inr (inl (inr second)) ↦ absurd (omega (arith, early, second.1))
-      | inr (inr third) ↦ third_called d early third.failed
+      | inr (inr third) ↦ third_called d early third
     ]
   where
     third_called : (d : Counts) → d.calls < last_moment → FailedAt 3 (state_of d) (state_of d) → ⊥

@@ -16,7 +16,7 @@ use Rattle.run_model.specs.Event.{Event}
 use Rattle.run_model.specs.Layouts.{layout_of, store_len}
 use Rattle.run_model.specs.Session.{Session, accepted, event_of_step, with_event, begun_at}
 use Rattle.run_model.specs.State.{State, formatted}
-use Rattle.record_view.specs.Spelling.{spelling}
+use Rattle.run_model.specs.Spelling.{spelling}
 use Rattle.run_disk.specs.Disk.{DiskState, IsAtRest, IsDisk}
 use Rattle.run_disk.specs.Runs.{LeavesOnly}
 use Rattle.run_disk.proofs.RunLemmas.{leaves_only_more, only_weaker}

@@ -71,7 +71,7 @@ module _ {D : Type 0} (from : D → DiskState) (old read : D) (disk : IsDisk (fr
       elim (old_told f is) [
         | inl many ↦
             let same = ap (λ (q : State). q.count)
-            (stores_one (from old).now many.1.state p (many.1.recovered.stores honest) stores) in
+            (stores_one (from old).now many.1.state p (many.1.recovered.holds honest) stores) in
             absurd (omega (arith, same, few, many.1.many))
         | inr none ↦ elim (recovers_state from old read (Err f) p disk honest none stores) [
           | inl memory ↦ absurd (not_memory f is memory)
@@ -89,7 +89,7 @@ module _ {D : Type 0} (from : D → DiskState) (old read : D) (disk : IsDisk (fr
       elim (old_told f is) [
         | inl many ↦
             absurd (stores_not_both (from old).now many.1.state other
-            (many.1.recovered.stores honest) none)
+            (many.1.recovered.holds honest) none)
         | inr stops ↦ elim (recovers_none from old read (Err f) other disk honest stops none) [
           | inl same ↦ inl (ap (λ g. why.Old g) same)
           | inr (inl memory) ↦ absurd (not_memory f is memory)
@@ -143,7 +143,7 @@ module _ {D E : Type 0} (from : D → DiskState) (to : E → DiskState) (old rea
             [ inl memory ↦ inl memory | inr failed ↦ inr (inl failed) ]
         | inr (inr (inr none)) ↦
             elim (write_state e.0 e.1 sized.to p none.state
-            (stores_one (from old).now none.state p (none.found.recovered.stores honest) stores)
+            (stores_one (from old).now none.state p (none.found.recovered.holds honest) stores)
             sized.new_size fits none.none)
             [ inl memory ↦ inl memory | inr failed ↦ inr (inr failed) ]
       ]
@@ -163,7 +163,7 @@ module _ {D E : Type 0} (from : D → DiskState) (to : E → DiskState) (old rea
       ((disks new).now_is_image (done.written.passed.honest new_honest))) in
       both_ways (fits_in sized.to (renewed p)) full
       (ap (λ q. fits_in sized.to (renewed q))
-      (stores_one (from old).now p done.state stores (done.found.recovered.stores honest))
+      (stores_one (from old).now p done.state stores (done.found.recovered.holds honest))
       ∙ ap (λ k. fits_in k (renewed done.state))
       (same_layout (to given).size sized.to done.layout sized.new_size done.size)
       ∙ fits)
@@ -238,7 +238,7 @@ module _ {D E : Type 0} (from : D → DiskState) (to : E → DiskState) (old rea
       (λ e. (e.0 ≡ why.Old other) ⊎ (e.0 ≡ why.Memory) ⊎ (e.0 ≡ why.Old fault.DiskFailed))
   renews_none (Ok new) other honest sized is none =
       stores_not_both (from old).now is.answer.state other
-      (is.answer.found.recovered.stores honest) none
+      (is.answer.found.recovered.holds honest) none
   renews_none (Err e) other honest sized is none =
       elim is.answer [
         | inl wrong ↦ absurd (no_layout (from old).size sized.from sized.old_size wrong.1)
@@ -246,5 +246,5 @@ module _ {D E : Type 0} (from : D → DiskState) (to : E → DiskState) (old rea
         | inr (inr (inl unread)) ↦ read_none from old read disk e.0 other honest none unread.0
         | inr (inr (inr unwritten)) ↦
             absurd (stores_not_both (from old).now unwritten.state other
-            (unwritten.found.recovered.stores honest) none)
+            (unwritten.found.recovered.holds honest) none)
       ]

@@ -61,7 +61,7 @@ module _ {D : Type 0} (from : D → DiskState) (old read : D) (disk : IsDisk (fr
       elim (old_told f is) [
         | inl many ↦
             let same = ap (λ (q : State). q.count)
-            (stores_one (from old).now many.1.state p (many.1.recovered.stores honest) stores) in
+            (stores_one (from old).now many.1.state p (many.1.recovered.holds honest) stores) in
             absurd (omega (arith, same, few, many.1.many))
         | inr none ↦ elim (recovers_state from old read (Err f) p disk honest none stores) [
           | inl memory ↦ absurd (not_memory f is memory)
@@ -76,7 +76,7 @@ module _ {D : Type 0} (from : D → DiskState) (old read : D) (disk : IsDisk (fr
       elim (old_told f is) [
         | inl many ↦
             absurd (stores_not_both (from old).now many.1.state other
-            (many.1.recovered.stores honest) none)
+            (many.1.recovered.holds honest) none)
         | inr stops ↦ elim (recovers_none from old read (Err f) other disk honest stops none) [
           | inl same ↦ inl same
           | inr (inl memory) ↦ absurd (not_memory f is memory)
@@ -113,7 +113,7 @@ module _ {D E : Type 0} (from : D → DiskState) (to : E → DiskState) (old rea
       same_stops p new new_disk is.2.1
   not_stops (why.New fault.DiskFailed) new new_disk honest p stores is =
       other_stops p is.state (to given) (to new)
-      (stores_one (from old).now is.state p (is.found.recovered.stores honest) stores)
+      (stores_one (from old).now is.state p (is.found.recovered.holds honest) stores)
       is.failed.stops
   not_stops (why.New f) new new_disk honest p stores is = absurd is
   not_stops w new new_disk honest p stores is = same_stops p new new_disk is.2
@@ -139,11 +139,11 @@ module _ {D E : Type 0} (from : D → DiskState) (to : E → DiskState) (old rea
     reads = is.found.recovered.read.only;
     now = λ honest new_honest p stores x left.
         subst (λ q. Stores x (widened q))
-        (stores_one (from old).now is.state p (is.found.recovered.stores honest) stores)
+        (stores_one (from old).now is.state p (is.found.recovered.holds honest) stores)
         (is.written.stores new_honest x left);
     any_moment = λ honest p stores.
         other_stops p is.state (to given) (to new)
-        (stores_one (from old).now is.state p (is.found.recovered.stores honest) stores)
+        (stores_one (from old).now is.state p (is.found.recovered.holds honest) stores)
         is.written.stops;
   }
 
@@ -191,7 +191,7 @@ module _ {D E : Type 0} (from : D → DiskState) (to : E → DiskState) (old rea
       absurd (is.1 sized.large)
   told_none (why.New fault.DiskFailed) new other honest sized none is =
       absurd (stores_not_both (from old).now is.state other
-      (is.found.recovered.stores honest) none)
+      (is.found.recovered.holds honest) none)
   told_none (why.New f) new other honest sized none is = absurd is
 
   pub migrates_none : (result : Result E (MigrateFault × E)) (other : Fault) → (from old).honest
@@ -200,7 +200,7 @@ module _ {D E : Type 0} (from : D → DiskState) (to : E → DiskState) (old rea
       → MatchResult result (λ new. ⊥) (λ e. IsToldOf e.0 other)
   migrates_none (Ok new) other honest sized is none =
       stores_not_both (from old).now is.answer.state other
-      (is.answer.found.recovered.stores honest) none
+      (is.answer.found.recovered.holds honest) none
   migrates_none (Err e) other honest sized is none =
       told_none e.0 e.1 other honest sized none is.answer
 

@@ -12,8 +12,8 @@ use Rattle.run_model.specs.declared.scopes.Scope.{Scope}
 use Rattle.run_model.specs.declared.groups.Group.{Group}
 use Rattle.run_model.specs.Allowed.{has_kind}
 use Rattle.run_model.specs.RuleParts.{AreWorkRules, AreCrossRules}
-use Rattle.run_model.specs.Rules.{Owns, is_group_kind}
-use Rattle.run_model.specs.Scopes.{own_hit}
+use Rattle.run_model.specs.Rules.{Owns}
+use Rattle.run_model.specs.Scopes.{own_hit, is_group_kind}
 use Rattle.run_model.specs.State.{State}
 use Rattle.record_view.proofs.Codecs.{both_true, first_true, second_true}
 use Rattle.record_view.specs.Between.{belongs, fits_scope, lives_in, has_group, fits_between}

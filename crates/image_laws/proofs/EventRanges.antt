@@ -27,10 +27,10 @@ use Rattle.run_model.specs.State.{State, TreeState, WorkState}
 use Rattle.run_model.specs.Step.{step, own_scope, after_task_end}
 use Rattle.run_model.specs.Tasks.{running_tasks}
 use Rattle.run_model.specs.Texts.{is_name}
-use Rattle.run_model.specs.TreeChanges.{after_derive, after_cancel, after_advance, cancellation}
-use Rattle.run_model.specs.TreeChanges.{with_hit, tick}
-use Rattle.run_model.specs.WorkChanges.{after_make, after_limit, after_end}
-use Rattle.run_model.specs.WorkChanges.{after_interrupt, after_wait, retried_row, groups_after}
+use Rattle.run_model.specs.TreeChanges.{after_derive, after_cancel, after_advance}
+use Rattle.run_model.specs.TreeChanges.{with_hit, tick, new_hit}
+use Rattle.run_model.specs.WorkChanges.{after_make, after_limit, after_end, retried_row}
+use Rattle.run_model.specs.WorkChanges.{after_interrupt, after_wait, groups_after}
 use Rattle.run_model.specs.WorkChanges.{with_limit, with_wait, with_stage, with_error, stage_of}
 use Rattle.run_model.specs.WorkChanges.{error_of, group_of_task, interruption}
 use Rattle.record_view.specs.Image.{is_kept_kind, is_kept_stage}
@@ -73,9 +73,9 @@ cancelled : (e s : ℕ) (cause : Option (List ℕ)) (t : TreeState) → IsTrue (
 cancelled e s cause t is typed = record {
   clock = typed.clock;
   scopes =
-      each_at IsTypedScope (with_hit (cancellation e t.clock cause)) s t.scopes typed.scopes
+      each_at IsTypedScope (with_hit (new_hit e t.clock Canceled cause)) s t.scopes typed.scopes
       (λ row ok.
-      hit_typed (cancellation e t.clock cause) row
+      hit_typed (new_hit e t.clock Canceled cause) row
       (text_typed cause (reason_text Canceled) is (reason_typed Canceled)) ok);
 }
 

@@ -1,6 +1,6 @@
 -- The states that events lead to, and their images.
 use Rattle.std.proofs.Common.{◌≡◌, ◌≤◌, List, length, Some, refl}
-use Rattle.std.specs.Prelude.{IsTrue}
+use Rattle.std.specs.Prelude.{IsTrue, nat_lt, ◌^◌}
 use Rattle.run_model.specs.declared.layouts.Layout.{Layout}
 use Rattle.run_model.specs.declared.layouts.Layout.TheVariants.{Small, Large}
 use Rattle.run_model.specs.Allowed.{after, run}
@@ -9,7 +9,7 @@ use Rattle.run_model.specs.Rules.{HasLayout, IsConsistent}
 use Rattle.run_model.specs.State.{State, formatted}
 use Rattle.record_view.specs.declared.heads.ImageVersion.{ImageVersion}
 use Rattle.record_view.specs.declared.heads.ImageVersion.TheVariants.{Two}
-use Rattle.record_view.specs.Image.{image, head_of, is_count, is_kept_head, greatest_image}
+use Rattle.record_view.specs.Image.{image, head_of, is_kept_head, greatest_image}
 use Rattle.record_view.specs.Keeping.{IsInRange, IsImage}
 use Rattle.record_view.proofs.ImageLengths.{image_most}
 use Rattle.model_laws.proofs.LayoutStays.{layout_after, layout_run}
@@ -37,7 +37,7 @@ first_ranged layout =
 
 pub event_ranged : (version : ImageVersion) (layout : Layout) (p q : State) (event : Event)
     → HasLayout p layout → IsConsistent p → IsInRange version layout p
-    → IsTrue (has_ranges event) → after p event ≡ Some q → IsTrue (is_count q.count)
+    → IsTrue (has_ranges event) → after p event ≡ Some q → IsTrue (nat_lt q.count (2 ^ 63))
     → IsInRange Two layout q
 event_ranged version layout p q event has rules ranged is led few =
     ranged_of layout q (layout_after p q event layout has led) (event_keeps p q event rules led)
@@ -46,7 +46,7 @@ event_ranged version layout p q event has rules ranged is led few =
 
 pub run_ranged : (version : ImageVersion) (layout : Layout) (p q : State) (events : List Event)
     → HasLayout p layout → IsConsistent p → IsInRange version layout p → HaveRanges events
-    → run p events ≡ Some q → IsTrue (is_count q.count) → IsInRange Two layout q
+    → run p events ≡ Some q → IsTrue (nat_lt q.count (2 ^ 63)) → IsInRange Two layout q
 run_ranged version layout p q events has rules ranged are led few =
     ranged_of layout q (layout_run events p q layout has led) (run_keeps events p q rules led)
     few
@@ -54,20 +54,20 @@ run_ranged version layout p q events has rules ranged are led few =
 
 pub run_image : (version : ImageVersion) (layout : Layout) (p q : State) (events : List Event)
     → HasLayout p layout → IsConsistent p → IsInRange version layout p → HaveRanges events
-    → run p events ≡ Some q → IsTrue (is_count q.count) → IsImage Two layout (image q) q
+    → run p events ≡ Some q → IsTrue (nat_lt q.count (2 ^ 63)) → IsImage Two layout (image q) q
 run_image version layout p q events has rules ranged are led few =
     image_of layout q (layout_run events p q layout has led) (run_keeps events p q rules led)
     (run_ranged version layout p q events has rules ranged are led few)
 
 pub history_image : (layout : Layout) (p : State) (events : List Event) → HaveRanges events
-    → run (formatted layout) events ≡ Some p → IsTrue (is_count p.count)
+    → run (formatted layout) events ≡ Some p → IsTrue (nat_lt p.count (2 ^ 63))
     → IsImage Two layout (image p) p
 history_image layout p events are led few =
     run_image Two layout (formatted layout) p events (has_formatted layout)
     (formatted_consistent layout) (first_ranged layout) are led few
 
 pub history_most : (layout : Layout) (p : State) (events : List Event) → HaveRanges events
-    → run (formatted layout) events ≡ Some p → IsTrue (is_count p.count)
+    → run (formatted layout) events ≡ Some p → IsTrue (nat_lt p.count (2 ^ 63))
     → length (image p) ≤ greatest_image Two layout
 history_most layout p events are led few =
     image_most Two layout (image p) p (history_image layout p events are led few)

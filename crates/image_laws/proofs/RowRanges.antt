@@ -2,7 +2,7 @@
 use Rattle.std.proofs.Common.{◌≡◌, ℕ, true, false, Bool, List, [], ◌∷◌, ◌++◌, map, Option, Some}
 use Rattle.std.proofs.Common.{None}
 use Rattle.std.proofs.Common.{slice_get, inl, inr, refl, sym, subst}
-use Rattle.std.specs.Option.{option_map_or}
+use Rattle.std.specs.Option.{option_map_or, option_or}
 use Rattle.std.specs.Prelude.{IsTrue, nat_le, unwrap_or, if◌then◌else◌}
 use Rattle.std.proofs.lemmas.Bool.{and_parts}
 use Rattle.std.proofs.lemmas.Option.{same_Some}
@@ -17,10 +17,10 @@ use Rattle.run_model.specs.declared.tasks.Stage.{Stage}
 use Rattle.run_model.specs.declared.tasks.Task.{Task}
 use Rattle.run_model.specs.Reasons.{reason_text}
 use Rattle.run_model.specs.Records.{is_limit, is_optional_text}
-use Rattle.run_model.specs.Rows.{at_row, or_else}
+use Rattle.run_model.specs.Rows.{at_row}
 use Rattle.run_model.specs.Scopes.{is_root}
 use Rattle.run_model.specs.Texts.{is_name, is_text}
-use Rattle.run_model.specs.TreeChanges.{with_hit, tick, hit_due, expiry}
+use Rattle.run_model.specs.TreeChanges.{with_hit, tick, hit_due, new_hit}
 use Rattle.run_model.specs.WorkChanges.{with_stage, with_error}
 use Rattle.run_model.proofs.RowLemmas.{push_cases, at_row_cases, map_cases}
 use Rattle.record_view.specs.Image.{is_kept_kind, is_kept_stage}
@@ -82,7 +82,7 @@ text_typed (Some text) other is ok = is
 
 either_cause : (old : Option Hit) (new hit : Hit)
     → ((hit : Hit) → old ≡ Some hit → IsTrue (is_text hit.cause)) → IsTrue (is_text new.cause)
-    → or_else old new ≡ Some hit → IsTrue (is_text hit.cause)
+    → option_or old (Some new) ≡ Some hit → IsTrue (is_text hit.cause)
 either_cause None new hit was is e =
     subst (λ (h : Hit). IsTrue (is_text h.cause)) (same_Some new hit e) is
 either_cause (Some x) new hit was is e = was hit e
@@ -98,9 +98,10 @@ hit_typed hit row is typed = record {
 due_typed : (b : Bool) (e moment : ℕ) (cause : Option (List ℕ)) (row : Scope)
     → IsTrue (is_optional_text cause) → IsTypedScope row
     → IsTypedScope
-    (option_map_or (λ hit. with_hit hit row) (if b then Some (expiry e moment cause) else None) row)
+    (option_map_or (λ hit. with_hit hit row)
+    (if b then Some (new_hit e moment DeadlineExceeded cause) else None) row)
 due_typed true e moment cause row is typed =
-    hit_typed (expiry e moment cause) row
+    hit_typed (new_hit e moment DeadlineExceeded cause) row
     (text_typed cause (reason_text DeadlineExceeded) is (reason_typed DeadlineExceeded)) typed
 due_typed false e moment cause row is typed = typed
 
@@ -122,7 +123,7 @@ tick_typed e clock row typed = due_of e clock row.kind row typed.kind typed
 -- ---- groups and tasks
 
 error_or : (old : Option (List ℕ)) (text : List ℕ) → IsTrue (is_optional_text old)
-    → IsTrue (is_text text) → IsTrue (is_optional_text (or_else old text))
+    → IsTrue (is_text text) → IsTrue (is_optional_text (option_or old (Some text)))
 error_or None text was is = is
 error_or (Some x) text was is = was
 

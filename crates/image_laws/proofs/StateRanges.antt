@@ -3,7 +3,7 @@ use Rattle.std.proofs.Common.{◌≡◌, ◌≤◌, ℕ, zero, suc, ◌+◌, ◌
 use Rattle.std.proofs.Common.{List, [], ◌∷◌, length, drop, Option, Some, None, slice_get}
 use Rattle.std.proofs.Common.{refl, sym, ◌∙◌, subst, arith, length-drop}
 use Rattle.std.specs.List.{AllByRecursion}
-use Rattle.std.specs.Prelude.{IsTrue}
+use Rattle.std.specs.Prelude.{IsTrue, nat_lt}
 use Rattle.std.proofs.lemmas.Bool.{both_ways, ltb-true, lt-ltb, leb-true, le-leb}
 use Rattle.std.proofs.lemmas.Bool.{false_from_ne_true}
 use Rattle.std.proofs.lemmas.Option.{none-some, same_Some, slice_get_within}
@@ -15,14 +15,14 @@ use Rattle.run_model.specs.declared.groups.Group.{Group}
 use Rattle.run_model.specs.declared.tasks.Task.{Task}
 use Rattle.run_model.specs.Layouts.{most_scopes, most_tasks}
 use Rattle.run_model.specs.Rows.{root}
-use Rattle.run_model.specs.Rules.{IsConsistent, HasLayout, HasScope}
+use Rattle.run_model.specs.Rules.{IsConsistent, HasLayout, HasRow}
 use Rattle.run_model.specs.Scopes.{is_root, own_hit}
 use Rattle.run_model.specs.State.{State}
 use Rattle.run_model.specs.Texts.{is_text}
 use Rattle.run_model.proofs.LayoutLemmas.{most_scopes_most, most_tasks_most}
 use Rattle.record_view.specs.declared.heads.ImageVersion.{ImageVersion}
 use Rattle.record_view.specs.declared.heads.ImageVersion.TheVariants.{Two}
-use Rattle.record_view.specs.Image.{head_of, is_count, is_kept_head, is_kept_scope, is_kept_group}
+use Rattle.record_view.specs.Image.{head_of, is_kept_head, is_kept_scope, is_kept_group}
 use Rattle.record_view.specs.Image.{is_kept_task, is_kept_hit, is_kept_link}
 use Rattle.record_view.specs.Keeping.{IsInRange}
 use Rattle.record_view.proofs.Codecs.{both_true, first_true, second_true}
@@ -51,7 +51,7 @@ behind_first (row ∷ rows) n = refl
 
 module _
     (layout : Layout) (p : State) (has : HasLayout p layout) (rules : IsConsistent p)
-    (few : IsTrue (is_count p.count)) (typed : IsTyped p) where
+    (few : IsTrue (nat_lt p.count (2 ^ 63))) (typed : IsTyped p) where
   few_scopes : length p.tree.scopes ≤ most_scopes layout
   few_scopes =
       subst (λ l. length p.tree.scopes ≤ most_scopes l) has.tree rules.numbered.few_scopes
@@ -89,7 +89,8 @@ module _
       (le-leb hit.moment GREATEST_MOMENT (omega (arith, past, clock)))) refl)
       (cause hit refl)
 
-  scope_ranged : (s : ℕ) (row : Scope) → HasScope p.tree (suc s) row → IsTrue (is_kept_scope row)
+  scope_ranged : (s : ℕ) (row : Scope) → HasRow p.tree.scopes (suc s) row
+      → IsTrue (is_kept_scope row)
   scope_ranged s row found =
       let is = typed.tree.scopes (suc s) row found in
       let other : is_root row.kind ≡ false =

@@ -5,7 +5,7 @@
 //! there are fewer than 2^63 events, and so that the state has the one image that a checkpoint
 //! writes.
 
-ghost use Rattle.std.specs.Prelude.{◌≡◌, ◌≤◌, ℕ, List, Some, IsTrue, length};
+ghost use Rattle.std.specs.Prelude.{◌≡◌, ◌≤◌, ◌^◌, ℕ, List, Some, IsTrue, length, nat_lt};
 ghost use Rattle.run_model.specs.declared.layouts.Layout.{Layout};
 ghost use Rattle.run_model.specs.declared.layouts.Layout.TheVariants.{Small, Large};
 ghost use Rattle.run_model.specs.Allowed.{after, run};
@@ -14,7 +14,7 @@ ghost use Rattle.run_model.specs.Rules.{HasLayout, IsConsistent};
 ghost use Rattle.run_model.specs.State.{State, formatted};
 ghost use Rattle.record_view.specs.declared.heads.ImageVersion.{ImageVersion};
 ghost use Rattle.record_view.specs.declared.heads.ImageVersion.TheVariants.{Two};
-ghost use Rattle.record_view.specs.Image.{image, is_count};
+ghost use Rattle.record_view.specs.Image.{image};
 ghost use Rattle.record_view.specs.Keeping.{IsInRange, IsImage};
 ghost use Rattle.image_laws.specs.Ranges.{has_ranges, HaveRanges};
 
@@ -33,12 +33,12 @@ pub fn fields_stay_in_range()
     ensures first { (layout : Layout) → IsInRange Two layout (formatted layout) }
     ensures events { (version : ImageVersion) (layout : Layout) (p q : State) (event : Event) →
         HasLayout p layout → IsConsistent p → IsInRange version layout p →
-        IsTrue (has_ranges event) → after p event ≡ Some q → IsTrue (is_count q.count) →
+        IsTrue (has_ranges event) → after p event ≡ Some q → IsTrue (nat_lt q.count (2 ^ 63)) →
         IsInRange Two layout q }
     ensures runs { (version : ImageVersion) (layout : Layout) (p q : State)
         (events : List Event) → HasLayout p layout → IsConsistent p →
         IsInRange version layout p → HaveRanges events → run p events ≡ Some q →
-        IsTrue (is_count q.count) → IsInRange Two layout q }
+        IsTrue (nat_lt q.count (2 ^ 63)) → IsInRange Two layout q }
 {}
 
 /// Every state that events whose fields are in range lead to from a formatted store has an image,
@@ -46,13 +46,13 @@ pub fn fields_stay_in_range()
 /// a large one at most 1,913,559.
 pub fn every_state_of_a_history_has_an_image()
     ensures image { (layout : Layout) (p : State) (events : List Event) → HaveRanges events →
-        run (formatted layout) events ≡ Some p → IsTrue (is_count p.count) →
+        run (formatted layout) events ≡ Some p → IsTrue (nat_lt p.count (2 ^ 63)) →
         IsImage Two layout (image p) p }
     ensures small { (p : State) (events : List Event) → HaveRanges events →
-        run (formatted Small) events ≡ Some p → IsTrue (is_count p.count) →
+        run (formatted Small) events ≡ Some p → IsTrue (nat_lt p.count (2 ^ 63)) →
         length (image p) ≤ 488_151 }
     ensures large { (p : State) (events : List Event) → HaveRanges events →
-        run (formatted Large) events ≡ Some p → IsTrue (is_count p.count) →
+        run (formatted Large) events ≡ Some p → IsTrue (nat_lt p.count (2 ^ 63)) →
         length (image p) ≤ 1_913_559 }
 {}
 
@@ -60,5 +60,5 @@ pub fn every_state_of_a_history_has_an_image()
 pub fn an_image_leads_to_images()
     ensures { (version : ImageVersion) (layout : Layout) (bytes : List ℕ) (p q : State)
         (events : List Event) → IsImage version layout bytes p → HaveRanges events →
-        run p events ≡ Some q → IsTrue (is_count q.count) → IsImage Two layout (image q) q }
+        run p events ≡ Some q → IsTrue (nat_lt q.count (2 ^ 63)) → IsImage Two layout (image q) q }
 {}

@@ -14,7 +14,7 @@ use Rattle.run_model.specs.declared.tasks.Stage.{Stage}
 use Rattle.run_model.specs.declared.tasks.Stage.TheVariants as stage
 use Rattle.run_model.specs.declared.tasks.Task.{Task}
 use Rattle.run_model.specs.Rows.{at_row}
-use Rattle.run_model.specs.Rules.{AreAdmitted, HasTask, HasGroup}
+use Rattle.run_model.specs.Rules.{AreAdmitted, HasRow}
 use Rattle.run_model.specs.State.{WorkState}
 use Rattle.run_model.specs.Tasks.{is_running, is_unfinished, unfinished_in, admits, limit_of}
 use Rattle.run_model.specs.Tasks.{is_admitted}
@@ -154,8 +154,8 @@ limits_alike R old new same alike g =
 
 pub admitted_stage : (w : WorkState) (groups : List Group) (n : ℕ) (stage : Stage)
     → AreAlike IsSameTerms w.groups groups
-    → ((x : Task) → HasTask w n x → is_unfinished stage ≡ true → is_unfinished x.stage ≡ true)
-    → ((x : Task) → HasTask w n x → is_running stage ≡ true → is_admitted w n x ≡ true)
+    → ((x : Task) → HasRow w.tasks n x → is_unfinished stage ≡ true → is_unfinished x.stage ≡ true)
+    → ((x : Task) → HasRow w.tasks n x → is_running stage ≡ true → is_admitted w n x ≡ true)
     → AreAdmitted w
     → AreAdmitted (record w { groups = groups; tasks = at_row (with_stage stage) n w.tasks })
 admitted_stage w groups n stage terms less ready old =
@@ -195,7 +195,8 @@ admitted_stage w groups n stage terms less ready old =
 -- ---- a group changes its terms
 
 -- A group without unfinished tasks has no running one.
-none_of : (w : WorkState) (g n : ℕ) (row : Task) → unfinished_in g w.tasks ≡ 0 → HasTask w n row
+none_of : (w : WorkState) (g n : ℕ) (row : Task) → unfinished_in g w.tasks ≡ 0
+    → HasRow w.tasks n row
     → is_running row.stage ≡ true → row.group ≢ g
 none_of w g n row idle found is same =
     let some =
@@ -239,7 +240,7 @@ admitted_wait w g idle old =
 -- ---- one row more
 
 pub admitted_group : (w : WorkState) (new : Group) → new.waited ≡ false
-    → ((n : ℕ) (row : Task) → HasTask w n row → row.group < length w.groups) → AreAdmitted w
+    → ((n : ℕ) (row : Task) → HasRow w.tasks n row → row.group < length w.groups) → AreAdmitted w
     → AreAdmitted (record w { groups = w.groups ++ new ∷ [] })
 admitted_group w new not within old = record {
   running =
@@ -255,7 +256,7 @@ admitted_group w new not within old = record {
 }
 
 pub admitted_task : (w : WorkState) (new : Task) → is_running new.stage ≡ false
-    → ((row : Group) → HasGroup w new.group row → row.waited ≡ false) → AreAdmitted w
+    → ((row : Group) → HasRow w.groups new.group row → row.waited ≡ false) → AreAdmitted w
     → AreAdmitted (record w { tasks = w.tasks ++ new ∷ [] })
 admitted_task w new not going old = record {
   running =

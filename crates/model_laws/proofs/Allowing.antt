@@ -7,11 +7,15 @@ use Rattle.run_model.specs.declared.commands.Wish.{Wish}
 use Rattle.run_model.specs.declared.commands.Wish.TheVariants as wish
 use Rattle.run_model.specs.Event.{Event}
 use Rattle.run_model.specs.State.{State}
-use Rattle.run_model.specs.Allowed.{allowed, holds_none, is_derivable, refusals}
+use Rattle.run_model.specs.Allowed.{allowed, refusals}
 use Rattle.run_model.specs.Replies.{decide, event_of, kind_made}
+use Rattle.run_model.specs.Scopes.{is_root, is_group_kind}
+use Rattle.std.specs.Prelude.{not, ◌&&◌}
+use Rattle.std.specs.List.{list_all}
 use Rattle.model_laws.proofs.Passing.{Leads, command_leads}
 
-made_derivable : (clock : ℕ) (wish : Wish) → is_derivable (kind_made clock wish) ≡ true
+made_derivable : (clock : ℕ) (wish : Wish)
+    → (not (is_root (kind_made clock wish)) && not (is_group_kind (kind_made clock wish))) ≡ true
 made_derivable clock wish.Cancel = refl
 made_derivable clock wish.Cause = refl
 made_derivable clock (wish.Deadline moment cause) = refl
@@ -20,7 +24,8 @@ made_derivable clock (wish.Value key text) = refl
 made_derivable clock wish.Detached = refl
 
 pub unrefused_allowed : (p : State) (call : Command)
-    → holds_none (refusals p (event_of p call)) ≡ true → allowed p (event_of p call) ≡ true
+    → list_all (λ t. not t.0) (refusals p (event_of p call)) ≡ true
+    → allowed p (event_of p call) ≡ true
 unrefused_allowed p (command.Derive name parent wish) may =
     and_from _ _ (made_derivable p.tree.clock wish) may
 unrefused_allowed p (command.Cancel scope cause) may = may

@@ -9,12 +9,15 @@ use Rattle.run_model.specs.declared.refusals.Refusal.TheVariants as refusal
 use Rattle.run_model.specs.Event.{Event}
 use Rattle.run_model.specs.State.{State}
 use Rattle.run_model.specs.Step as change
-use Rattle.run_model.specs.Allowed.{holds_none, refusals}
+use Rattle.run_model.specs.Allowed.{refusals}
 use Rattle.run_model.specs.Replies.{decide, is_repeated, is_full, if_room, and_then}
 use Rattle.run_model.specs.Replies.{event_of, answer_of, state_after}
-use Rattle.run_model.specs.Session.{Session, made, with_event, replied}
+use Rattle.run_model.specs.Session.{Session, with_event, replied}
 use Rattle.model_laws.specs.Answers.{Answered}
 use Rattle.run_model.proofs.RefusalLemmas.{unless_Ok}
+use Rattle.std.specs.Result.{result_unwrap_or}
+use Rattle.std.specs.Prelude.{not}
+use Rattle.std.specs.List.{list_all}
 use Rattle.model_laws.proofs.Passing.{new_decide, repeated_decide}
 
 -- ---- the decision behind an answer
@@ -26,9 +29,10 @@ state_of_event s (Some event) = refl
 
 -- The state that a decision leaves.
 pub decided_state : (s : Session) (r : Result (Option Event) Refusal) (o : Option Event)
-    → r ≡ Ok o → (with_event s (made r)).state ≡ state_after s.state o
+    → r ≡ Ok o → (with_event s (result_unwrap_or r None)).state ≡ state_after s.state o
 decided_state s r o decided =
-    ap (λ (x : Result (Option Event) Refusal). (with_event s (made x)).state) decided
+    ap (λ (x : Result (Option Event) Refusal). (with_event s (result_unwrap_or x None)).state)
+    decided
     ∙ state_of_event s o
 
 -- This is decided, answered and left.
@@ -64,7 +68,7 @@ decision_behind s call a q answered =
 
 -- The command isn't refused, and is carried out as its event.
 pub record CarriedOut (s : Session) (call : Command) (a : Answer) (q : State) : Type 0 where
-  pub may : holds_none (refusals s.state (event_of s.state call)) ≡ true
+  pub may : list_all (λ t. not t.0) (refusals s.state (event_of s.state call)) ≡ true
   pub answer : answer_of s.state q call ≡ a
   pub leaves : q ≡ change.step s.state (event_of s.state call)
 

@@ -4,7 +4,7 @@ use Rattle.std.proofs.lemmas.Bool.{both_ways}
 use Rattle.run_model.specs.declared.tasks.Stage.{Stage}
 use Rattle.run_model.specs.declared.tasks.Task.{Task}
 use Rattle.run_model.specs.Rows.{root, at_row}
-use Rattle.run_model.specs.Rules.{IsConsistent, HasTask, AreAdmitted, AreErrors}
+use Rattle.run_model.specs.Rules.{IsConsistent, AreAdmitted, AreErrors, HasRow}
 use Rattle.run_model.specs.State.{State, TreeState, WorkState}
 use Rattle.run_model.specs.Tasks.{is_running, is_unfinished, is_interrupted, ended_in_error}
 use Rattle.run_model.specs.Tasks.{is_admitted}
@@ -76,12 +76,12 @@ hits_change p e u hit kept =
 
 -- A task's stage changed, and its group did not end.
 pub stage_changed : (p : State) (e n : ℕ) (stage : Stage) → p.count ≤ e
-    → ((x : Task) → HasTask p.work n x → is_unfinished stage ≡ true
+    → ((x : Task) → HasRow p.work.tasks n x → is_unfinished stage ≡ true
     → is_unfinished x.stage ≡ true)
-    → ((x : Task) → HasTask p.work n x → is_running stage ≡ true
+    → ((x : Task) → HasRow p.work.tasks n x → is_running stage ≡ true
     → is_admitted p.work n x ≡ true)
-    → ((x : Task) → HasTask p.work n x → ended_in_error stage ≡ ended_in_error x.stage)
-    → ((x : Task) → HasTask p.work n x → is_interrupted x.stage ≡ false)
+    → ((x : Task) → HasRow p.work.tasks n x → ended_in_error stage ≡ ended_in_error x.stage)
+    → ((x : Task) → HasRow p.work.tasks n x → is_interrupted x.stage ≡ false)
     → IsConsistent p
     → IsConsistent
     (record {

@@ -1,4 +1,5 @@
 -- What is allowed is decided, where names are distinct and the log has room.
+use Rattle.std.specs.Prelude.{◌&&◌}
 use Rattle.std.proofs.Common.{◌≡◌, ℕ, true, false, not, Option, Some, None, slice_get, refl}
 use Rattle.std.proofs.Common.{ap, ◌∙◌, le_trans}
 use Rattle.std.specs.Option.{option_map_or}
@@ -15,10 +16,12 @@ use Rattle.run_model.specs.Event as event
 use Rattle.run_model.specs.State.{State, WorkState}
 use Rattle.run_model.specs.Rules.{AreNumbered}
 use Rattle.run_model.specs.Records.{is_recorded}
-use Rattle.run_model.specs.Allowed.{allowed, holds_none, is_derivable, is_open, refusals}
+use Rattle.run_model.specs.Allowed.{allowed, is_open, refusals}
 use Rattle.run_model.specs.Replies.{decided, event_of, has_waited, is_full, is_repeated, kind_made}
 use Rattle.run_model.proofs.LayoutLemmas.{most_tasks_most}
 use Rattle.run_model.proofs.RefusalLemmas.{each_fails, unless_none}
+use Rattle.run_model.specs.Scopes.{is_root, is_group_kind}
+use Rattle.std.specs.List.{list_all}
 use Rattle.model_laws.specs.Decided.{IsDecided, by_command, by_start, by_finish}
 use Rattle.model_laws.proofs.Allowing.{decided_allowed}
 use Rattle.model_laws.proofs.Names.{name_of_group, name_of_scope}
@@ -27,7 +30,8 @@ use Rattle.model_laws.proofs.Rooms.{empty_log_has_room}
 use Rattle.model_laws.proofs.StartingReplies.{allowed_start, finish_allowed, start_allowed}
 
 -- A command that asks for the event leads to it.
-decided_by : (p : State) (call : Command) (made : Event) → holds_none (refusals p made) ≡ true
+decided_by : (p : State) (call : Command) (made : Event)
+    → list_all (λ t. not t.0) (refusals p made) ≡ true
     → is_full p 0 made ≡ false → event_of p call ≡ made → is_repeated p call ≡ false
     → IsDecided p made
 decided_by p call made may fits asks new =
@@ -35,7 +39,8 @@ decided_by p call made may fits asks new =
     (new_decide p 0 call new ∙ ap (decided p 0) asks ∙ fits_decided p 0 made may fits)
 
 -- A kind that a caller derives is that of a wish.
-wish_of : (clock : ℕ) (k : Kind) → is_derivable k ≡ true → (w : Wish) × (kind_made clock w ≡ k)
+wish_of : (clock : ℕ) (k : Kind) → (not (is_root k) && not (is_group_kind k)) ≡ true
+    → (w : Wish) × (kind_made clock w ≡ k)
 wish_of clock kind.Root e = cc
 wish_of clock kind.Cancel e = (wish.Cancel, refl)
 wish_of clock kind.Cause e = (wish.Cause, refl)

@@ -1,7 +1,7 @@
 -- A group that has ended cancels nothing more.
 use Rattle.std.proofs.Common.{◌≡◌, ◌⊎◌, ℕ, zero, suc, Bool, true, false, List, [], ◌∷◌, Option}
 use Rattle.std.proofs.Common.{Some, None, slice_get, refl, sym, ap, subst, ◌∙◌}
-use Rattle.std.specs.Option.{option_map, option_map_or, option_and_then}
+use Rattle.std.specs.Option.{option_map, option_map_or, option_and_then, option_or}
 use Rattle.std.specs.Prelude.{IsSome}
 use Rattle.std.proofs.lemmas.Bool.{both_ways}
 use Rattle.std.proofs.lemmas.Option.{same_Some}
@@ -9,11 +9,12 @@ use Rattle.run_model.specs.declared.groups.Group.{Group}
 use Rattle.run_model.specs.declared.scopes.Hit.{Hit}
 use Rattle.run_model.specs.declared.scopes.Scope.{Scope}
 use Rattle.run_model.specs.Event as event
-use Rattle.run_model.specs.Rows.{at_row, or_else}
+use Rattle.run_model.specs.Rows.{at_row}
 use Rattle.run_model.specs.Scopes.{own_hit}
 use Rattle.run_model.specs.State.{State, TreeState}
 use Rattle.run_model.specs.Step.{step, own_scope, after_group_cancel}
-use Rattle.run_model.specs.TreeChanges.{with_hit, cancellation, after_cancel}
+use Rattle.run_model.specs.TreeChanges.{with_hit, after_cancel, new_hit}
+use Rattle.run_model.specs.declared.scopes.Reason.TheVariants.{Canceled}
 use Rattle.model_laws.specs.GroupEnds.{HasGroupEnded}
 use Rattle.model_laws.specs.Restarts.{hosts_running, hit_restarted, restart_hit, scope_restarted}
 use Rattle.model_laws.proofs.Ends.{owner_found}
@@ -27,7 +28,7 @@ at_row_same change zero (row ∷ rows) same = ap (λ r. r ∷ rows) (same row re
 at_row_same change (suc n) (row ∷ rows) same =
     ap (λ rs. row ∷ rs) (at_row_same change n rows same)
 
-had_one : {X : Type 0} (o : Option X) (x : X) → IsSome o → or_else o x ≡ o
+had_one : {X : Type 0} (o : Option X) (x : X) → IsSome o → option_or o (Some x) ≡ o
 had_one None x is = absurd (both_ways false refl is)
 had_one (Some y) x is = refl
 
@@ -36,10 +37,10 @@ hit_before : (e s : ℕ) (cause : Option (List ℕ)) (t : TreeState) → IsSome 
     → after_cancel e s cause t ≡ t
 hit_before e s cause t is =
     ap (λ rows. record t { scopes = rows })
-    (at_row_same (with_hit (cancellation e t.clock cause)) s t.scopes
+    (at_row_same (with_hit (new_hit e t.clock Canceled cause)) s t.scopes
     (λ row found.
     ap (λ o. record row { hit = o })
-    (had_one row.hit (cancellation e t.clock cause)
+    (had_one row.hit (new_hit e t.clock Canceled cause)
     (rw (own_hit_of t.scopes s row found) at is))))
 
 -- The own scope of a group that has ended was hit.

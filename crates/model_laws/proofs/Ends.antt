@@ -12,17 +12,18 @@ use Rattle.run_model.specs.declared.tasks.Stage.{Stage}
 use Rattle.run_model.specs.declared.tasks.Task.{Task}
 use Rattle.run_model.specs.Allowed.{has_kind}
 use Rattle.run_model.specs.Rows.{root, at_row}
-use Rattle.run_model.specs.Rules.{IsConsistent, HasScope, HasTask, Owns, AreGroupScopes, can_be_hit}
-use Rattle.run_model.specs.Rules.{is_group_kind, has_task_error}
-use Rattle.run_model.specs.Scopes.{own_hit}
+use Rattle.run_model.specs.Rules.{IsConsistent, Owns, AreGroupScopes, can_be_hit}
+use Rattle.run_model.specs.Rules.{has_task_error, HasRow}
+use Rattle.run_model.specs.Scopes.{own_hit, is_group_kind}
 use Rattle.run_model.specs.State.{State, TreeState, WorkState}
 use Rattle.run_model.specs.Step.{own_scope, after_group_cancel, after_task_end}
 use Rattle.run_model.specs.Tasks.{is_running, is_unfinished, is_interrupted, ended_in_error}
 use Rattle.run_model.specs.Tasks.{unfinished_in}
-use Rattle.run_model.specs.TreeChanges.{with_hit, cancellation, after_cancel}
+use Rattle.run_model.specs.TreeChanges.{with_hit, after_cancel, new_hit}
 use Rattle.run_model.specs.WorkChanges.{with_stage, with_error, with_wait, group_of_task, after_end}
 use Rattle.run_model.specs.WorkChanges.{after_wait}
 use Rattle.run_model.proofs.RowLemmas.{slice_get-at_row_same, slice_get-at_row_other}
+use Rattle.run_model.specs.declared.scopes.Reason.TheVariants.{Canceled}
 use Rattle.model_laws.proofs.Admission.{IsSameTerms, terms_same, admitted_stage, admitted_wait}
 use Rattle.model_laws.proofs.Changes.{IsHit, hit_none, rows_change}
 use Rattle.model_laws.proofs.FirstErrors.{hits_cancelled, errors_changed, any_at, any_found}
@@ -34,7 +35,7 @@ use Rattle.model_laws.proofs.Shapes.{group_same, IsSameTask, task_same, stage_sa
 use Rattle.model_laws.proofs.Tests.{group_kind_hit}
 
 not_root : (t : TreeState) (s : ℕ) (row : Scope) → slice_get t.scopes 0 ≡ Some root
-    → HasScope t s row → can_be_hit row.kind ≡ true → 0 ≢ s
+    → HasRow t.scopes s row → can_be_hit row.kind ≡ true → 0 ≢ s
 not_root t s row rooted found is same =
     let here : root ≡ row =
     same_Some root row (sym rooted ∙ ap (slice_get t.scopes) same ∙ found) in
@@ -49,14 +50,14 @@ hit_cancelled e s cause t counted rooted is right =
     record {
       layout = refl;
       same =
-          alike_at IsSameScope (with_hit (cancellation e t.clock cause)) s t.scopes scope_same
+          alike_at IsSameScope (with_hit (new_hit e t.clock Canceled cause)) s t.scopes scope_same
           (λ x found. record { name = refl; parent = refl; kind = refl });
       rooted =
-          slice_get-at_row_other (with_hit (cancellation e t.clock cause)) s 0 t.scopes
+          slice_get-at_row_other (with_hit (new_hit e t.clock Canceled cause)) s 0 t.scopes
           (not_root t s row.0 rooted row.1 row.2)
           ∙ rooted;
       right =
-          right_cancelled e s (cancellation e t.clock cause) t
+          right_cancelled e s (new_hit e t.clock Canceled cause) t
           (λ x found.
           right_cancellation e t.clock cause x.kind counted
           (ap (λ r. can_be_hit r.kind) (same_Some x row.0 (sym found ∙ row.1)) ∙ row.2)) right;
@@ -64,9 +65,9 @@ hit_cancelled e s cause t counted rooted is right =
     }
 
 cancelled_hit : (e s : ℕ) (cause : Option (List ℕ)) (t : TreeState) (row : Scope)
-    → HasScope t s row → IsSome (own_hit (after_cancel e s cause t).scopes s)
+    → HasRow t.scopes s row → IsSome (own_hit (after_cancel e s cause t).scopes s)
 cancelled_hit e s cause t row found =
-    let hit = cancellation e t.clock cause in
+    let hit = new_hit e t.clock Canceled cause in
     rw
     (own_hit_of (at_row (with_hit hit) s t.scopes) s (with_hit hit row)
     (slice_get-at_row_same (with_hit hit) s t.scopes ∙ ap (option_map (with_hit hit)) found))
@@ -126,13 +127,13 @@ own_hit_ended e p g s row cause kept owns =
     subst P (sym (own_scope_of p.work g s row owns))
     (cancelled_hit e s cause p.tree found.0 found.1)
 
-group_of_found : (w : WorkState) (n : ℕ) (row : Task) → HasTask w n row
+group_of_found : (w : WorkState) (n : ℕ) (row : Task) → HasRow w.tasks n row
     → group_of_task w n ≡ row.group
 group_of_found w n row found =
     ap (λ o. option_map_or (λ task. task.group) o (length w.groups)) found
 
 -- The end of a task is no end in another group.
-lost_elsewhere : (w : WorkState) (n g h : ℕ) (stage : Stage) (row : Task) → HasTask w n row
+lost_elsewhere : (w : WorkState) (n g h : ℕ) (stage : Stage) (row : Task) → HasRow w.tasks n row
     → g ≡ row.group → h ≢ g
     → list_any (λ task. task.group == h && ended_in_error task.stage)
     (at_row (with_stage stage) n w.tasks) ≡ has_task_error w h
@@ -145,7 +146,7 @@ lost_elsewhere w n g h stage row found of_group other =
     and_left (x.group == h) (ended_in_error stage) not
     ∙ sym (and_left (x.group == h) (ended_in_error x.stage) not))
 
-lost_here : (w : WorkState) (n g : ℕ) (stage : Stage) (row : Task) → HasTask w n row
+lost_here : (w : WorkState) (n g : ℕ) (stage : Stage) (row : Task) → HasRow w.tasks n row
     → g ≡ row.group → ended_in_error stage ≡ true
     → list_any (λ task. task.group == g && ended_in_error task.stage)
     (at_row (with_stage stage) n w.tasks) ≡ true
@@ -159,7 +160,7 @@ lost_here w n g stage row found of_group lost =
 
 -- A task ended in an error.
 pub consistent_lost : (p : State) (e n : ℕ) (text : List ℕ) (stage : Stage) (row : Task)
-    → p.count ≤ e → 1 ≤ e → HasTask p.work n row → ended_in_error stage ≡ true
+    → p.count ≤ e → 1 ≤ e → HasRow p.work.tasks n row → ended_in_error stage ≡ true
     → is_unfinished stage ≡ false → is_running stage ≡ false
     → (is_interrupted row.stage ≡ true → is_interrupted stage ≡ true) → IsConsistent p
     → IsConsistent

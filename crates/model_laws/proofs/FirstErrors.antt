@@ -12,13 +12,14 @@ use Rattle.run_model.specs.declared.scopes.Scope.{Scope}
 use Rattle.run_model.specs.declared.tasks.Stage.{Stage}
 use Rattle.run_model.specs.declared.tasks.Task.{Task}
 use Rattle.run_model.specs.Rows.{at_row}
-use Rattle.run_model.specs.Rules.{AreErrors, HasGroup, HasTask, Owns, has_task_error}
+use Rattle.run_model.specs.Rules.{AreErrors, Owns, has_task_error, HasRow}
 use Rattle.run_model.specs.Scopes.{own_hit}
 use Rattle.run_model.specs.State.{State, TreeState, WorkState}
 use Rattle.run_model.specs.Tasks.{ended_in_error}
-use Rattle.run_model.specs.TreeChanges.{with_hit, cancellation, after_cancel}
+use Rattle.run_model.specs.TreeChanges.{with_hit, after_cancel, new_hit}
 use Rattle.run_model.specs.WorkChanges.{with_stage}
 use Rattle.run_model.proofs.RowLemmas.{at_row_cases, push_cases, slice_get-push_left}
+use Rattle.run_model.specs.declared.scopes.Reason.TheVariants.{Canceled}
 use Rattle.model_laws.proofs.RightHits.{own_hit_of, or_else_some}
 use Rattle.model_laws.proofs.Shapes.{AreAlike, alike_at, IsSameGroup}
 
@@ -93,8 +94,8 @@ pub hits_cancelled : (e s : ℕ) (cause : Option (List ℕ)) (t : TreeState)
     → AreHitsKept t (after_cancel e s cause t)
 hits_cancelled e s cause t =
     hits_alike t (after_cancel e s cause t)
-    (alike_at (λ x y. IsSome x.hit → IsSome y.hit) (with_hit (cancellation e t.clock cause)) s
-    t.scopes (λ x is. is) (λ x found is. or_else_some x.hit (cancellation e t.clock cause)))
+    (alike_at (λ x y. IsSome x.hit → IsSome y.hit) (with_hit (new_hit e t.clock Canceled cause)) s
+    t.scopes (λ x is. is) (λ x found is. or_else_some x.hit (new_hit e t.clock Canceled cause)))
 
 -- ---- an event that leaves errors and waits alone
 
@@ -141,7 +142,7 @@ errors_alike p n v groups lost old = record {
 
 pub errors_group : (p : State) (n : ℕ) (t : TreeState) (new : Group) → AreHitsKept p.tree t
     → new.error ≡ None → new.waited ≡ false
-    → ((m : ℕ) (row : Task) → HasTask p.work m row → row.group < length p.work.groups)
+    → ((m : ℕ) (row : Task) → HasRow p.work.tasks m row → row.group < length p.work.groups)
     → AreErrors p
     → AreErrors
     (record {
@@ -199,7 +200,7 @@ lost_pushed w new g not =
     (and_right (new.group == g) (ended_in_error new.stage) not)
 
 pub lost_at : (w : WorkState) (groups : List Group) (n g : ℕ) (stage : Stage)
-    → ((x : Task) → HasTask w n x → ended_in_error stage ≡ ended_in_error x.stage)
+    → ((x : Task) → HasRow w.tasks n x → ended_in_error stage ≡ ended_in_error x.stage)
     → has_task_error (record w { groups = groups; tasks = at_row (with_stage stage) n w.tasks }) g
     ≡ has_task_error w g
 lost_at w groups n g stage same =
@@ -216,7 +217,7 @@ pub errors_changed : (p : State) (n g : ℕ) (u : TreeState) (tasks : List Task)
     → ((h : ℕ) → h ≢ g
     → list_any (λ task. task.group == h && ended_in_error task.stage) tasks
     ≡ has_task_error p.work h)
-    → ((x : Group) → HasGroup p.work g x
+    → ((x : Group) → HasRow p.work.groups g x
     → IsSome (change x).error
     ↔ IsTrue (list_any (λ task. task.group == g && ended_in_error task.stage) tasks))
     → AreErrors p

@@ -3,7 +3,7 @@
 use Rattle.std.proofs.Common.{◌≡◌, ◌⊎◌, ◌<◌, ◌≤◌, ℕ, nat_le, List, [], ◌∷◌, ◌++◌, length, map}
 use Rattle.std.proofs.Common.{Option, Some, None, slice_get, inl, inr, refl, sym, subst, ap, ◌∙◌}
 use Rattle.std.proofs.Common.{arith}
-use Rattle.std.specs.Option.{option_map, option_map_or}
+use Rattle.std.specs.Option.{option_map, option_map_or, option_or}
 use Rattle.std.proofs.lemmas.Bool.{leb-true, cases_eq}
 use Rattle.std.proofs.lemmas.Option.{same_Some, none-some, cond_some, slice_get-map}
 use Rattle.std.proofs.lemmas.Option.{slice_get_within}
@@ -11,12 +11,13 @@ use Rattle.run_model.specs.declared.scopes.Hit.{Hit}
 use Rattle.run_model.specs.declared.scopes.Kind.{Kind}
 use Rattle.run_model.specs.declared.scopes.Kind.TheVariants as kind
 use Rattle.run_model.specs.declared.scopes.Scope.{Scope}
-use Rattle.run_model.specs.Rows.{new_scope, at_row, or_else}
+use Rattle.run_model.specs.Rows.{new_scope, at_row}
 use Rattle.run_model.specs.State.{TreeState}
-use Rattle.run_model.specs.TreeChanges.{with_hit, cancellation, expiry, hit_due, tick, after_derive}
-use Rattle.run_model.specs.TreeChanges.{after_cancel, after_advance}
+use Rattle.run_model.specs.TreeChanges.{with_hit, hit_due, tick, after_derive}
+use Rattle.run_model.specs.TreeChanges.{after_cancel, after_advance, new_hit}
 use Rattle.run_model.proofs.RowLemmas.{slice_get-at_row_same, slice_get-at_row_other, at_row_cases}
 use Rattle.run_model.proofs.RowLemmas.{slice_get-push_left, push_cases, map_cases}
+use Rattle.run_model.specs.declared.scopes.Reason.TheVariants.{Canceled, DeadlineExceeded}
 
 -- ---- hits
 
@@ -46,7 +47,7 @@ hit_joins e now later a b c less first second = record {
     before hit (inr new) = inr (record { event = new.event; moment = omega (arith, new.moment) })
 
 or_else_follows : (e now : ℕ) (own : Option Hit) (hit : Hit) → IsOf e now hit
-    → HitFollows e now own (or_else own hit)
+    → HitFollows e now own (option_or own (Some hit))
 or_else_follows e now None hit of = record {
   stays = λ h had. absurd (none-some h had);
   comes = λ h has. inr (subst (IsOf e now) (same_Some hit h has) of);
@@ -79,7 +80,7 @@ with_hit_follows e now hit row of =
 
 due_of : (e now : ℕ) (kind : Kind) (hit : Hit) → hit_due e now kind ≡ Some hit → IsOf e now hit
 due_of e now (kind.Deadline moment cause) hit due =
-    let parts = cond_some (nat_le moment now) (expiry e moment cause) hit due in
+    let parts = cond_some (nat_le moment now) (new_hit e moment DeadlineExceeded cause) hit due in
     subst (IsOf e now) parts.1 (record { event = refl; moment = leb-true moment now parts.0 })
 due_of e now kind.Root hit due = absurd (none-some hit due)
 due_of e now kind.Cancel hit due = absurd (none-some hit due)
@@ -238,7 +239,7 @@ cancel_follows e s cause t = record {
 }
   where
     hit : Hit
-    hit = cancellation e t.clock cause
+    hit = new_hit e t.clock Canceled cause
 
 pub advance_follows : (e moment : ℕ) (t : TreeState) → t.clock ≤ moment
     → TreeFollows e t (after_advance e moment t)

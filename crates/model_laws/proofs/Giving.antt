@@ -11,22 +11,23 @@ use Rattle.run_model.specs.Event.{Event}
 use Rattle.run_model.specs.State.{State}
 use Rattle.run_model.specs.Texts.{is_name}
 use Rattle.run_model.specs.Records.{is_recorded, is_recorded_kind, is_row_number, is_moment}
-use Rattle.run_model.specs.Allowed.{has_group, has_scope, holds_none, refusals}
+use Rattle.run_model.specs.Allowed.{refusals, has_row}
 use Rattle.run_model.specs.Replies.{decide, event_of, kind_made, scope_of, group_of}
 use Rattle.model_laws.specs.Decided.{is_wish, is_command, AreNamed}
 use Rattle.run_model.proofs.RefusalLemmas.{is_first}
+use Rattle.std.specs.List.{list_all}
 use Rattle.model_laws.proofs.Passing.{command_leads}
 use Rattle.model_laws.proofs.Names.{named_scope, named_group}
 
 -- A name that is found is the name of a row.
 found_scope_name : (p : State) (name : List ℕ) (rest : Bool) → AreNamed p
-    → (not (not (has_scope p.tree (scope_of p name))) && rest) ≡ true → is_name name ≡ true
+    → (not (not (has_row p.tree.scopes (scope_of p name))) && rest) ≡ true → is_name name ≡ true
 found_scope_name p name rest named may =
     let row = named_scope p name (is_first _ rest may) in
     ap is_name (sym row.2) ∙ named.scopes (scope_of p name) row.0 row.1
 
 found_group_name : (p : State) (name : List ℕ) (rest : Bool) → AreNamed p
-    → (not (not (has_group p.work (group_of p name))) && rest) ≡ true → is_name name ≡ true
+    → (not (not (has_row p.work.groups (group_of p name))) && rest) ≡ true → is_name name ≡ true
 found_group_name p name rest named may =
     let row = named_group p name (is_first _ rest may) in
     ap is_name (sym row.2) ∙ named.groups (group_of p name) row.0 row.1
@@ -63,7 +64,7 @@ submission_given g group job argument named e =
     and_from _ _ (and_from _ _ named front.1) all.1
 
 unrefused_given : (p : State) (call : Command) → AreNamed p
-    → holds_none (refusals p (event_of p call)) ≡ true
+    → list_all (λ t. not t.0) (refusals p (event_of p call)) ≡ true
     → is_recorded (event_of p call) ≡ true → is_command call ≡ true
 unrefused_given p (command.Derive name parent w) named may e =
     let all = and_parts _ _ e in

@@ -7,12 +7,11 @@ use Rattle.run_model.specs.declared.bounds.TheConstants.{MOST_GROUPS}
 use Rattle.run_model.specs.Layouts.{most_scopes}
 use Rattle.model_laws.proofs.Links.{links_beside}
 use Rattle.run_model.specs.declared.scopes.Kind.TheVariants as kind
-use Rattle.run_model.specs.Allowed.{has_scope, is_scope_name_free, is_group_name_free}
-use Rattle.run_model.specs.Allowed.{has_scope_room, has_group_room}
+use Rattle.run_model.specs.Allowed.{has_row, has_room}
 use Rattle.run_model.specs.Event as event
 use Rattle.run_model.specs.Rows.{new_scope, new_group}
 use Rattle.run_model.specs.Rules.{IsConsistent}
-use Rattle.run_model.specs.State.{State, TreeState, WorkState}
+use Rattle.run_model.specs.State.{State, TreeState, WorkState, scope_named, group_named}
 use Rattle.run_model.specs.Step.{step}
 use Rattle.run_model.specs.Tasks.{unfinished_in}
 use Rattle.run_model.specs.WorkChanges.{with_limit, after_limit}
@@ -22,14 +21,16 @@ use Rattle.model_laws.proofs.FirstErrors.{errors_alike, IsSameEnd, end_same, hit
 use Rattle.model_laws.proofs.FirstErrors.{errors_group}
 use Rattle.model_laws.proofs.Numbering.{numbered_scope, numbered_group}
 use Rattle.run_model.proofs.NameLemmas.{name_is_free}
+use Rattle.std.specs.Prelude.{is_none}
 use Rattle.model_laws.proofs.Owners.{owners_bare, owners_made}
 use Rattle.model_laws.proofs.RightHits.{AreRight, hits_right, deadlines_right, right_pushed}
 use Rattle.model_laws.proofs.Shapes.{alike_same, alike_at, IsSameGroup, group_same, IsSameTask}
 use Rattle.model_laws.proofs.Shapes.{task_same}
 
-pub made : (p : State) (name : List ℕ) (parent : ℕ) → has_scope p.tree parent ≡ true
-    → is_scope_name_free p.tree name ≡ true → is_group_name_free p.work name ≡ true
-    → has_scope_room p.tree ≡ true → has_group_room p.work ≡ true
+pub made : (p : State) (name : List ℕ) (parent : ℕ) → has_row p.tree.scopes parent ≡ true
+    → is_none (scope_named p.tree name) ≡ true → is_none (group_named p.work name) ≡ true
+    → has_room (most_scopes p.tree.layout) p.tree.scopes ≡ true
+    → has_room MOST_GROUPS p.work.groups ≡ true
     → IsConsistent p → IsConsistent (step p (event.Group name parent))
 made p name parent known free group_free room group_room kept =
     let e : ℕ = p.count + 1 in
@@ -62,8 +63,8 @@ made p name parent known free group_free room group_room kept =
       links = links_beside p.work v refl kept.links;
     }
 
-pub made_bare : (p : State) (name : List ℕ) (s : ℕ) → has_scope p.tree s ≡ true
-    → is_group_name_free p.work name ≡ true → has_group_room p.work ≡ true
+pub made_bare : (p : State) (name : List ℕ) (s : ℕ) → has_row p.tree.scopes s ≡ true
+    → is_none (group_named p.work name) ≡ true → has_room MOST_GROUPS p.work.groups ≡ true
     → IsConsistent p → IsConsistent (step p (event.Bare name s))
 made_bare p name s known free room kept =
     let e : ℕ = p.count + 1 in

@@ -2,7 +2,7 @@
 use Rattle.std.proofs.Common.{◌≡◌, ◌+◌, ◌==◌, ◌&&◌, ℕ, Bool, true, false, List, [], ◌∷◌, length}
 use Rattle.std.proofs.Common.{map, fold, Option, Some, None, slice_get, refl, sym, ap, ◌∙◌, arith}
 use Rattle.std.specs.List.{list_any}
-use Rattle.std.specs.Option.{option_map, option_map_or, option_and_then}
+use Rattle.std.specs.Option.{option_map, option_map_or, option_and_then, option_or}
 use Rattle.std.specs.Prelude.{not, if◌then◌else◌}
 use Rattle.std.proofs.lemmas.Option.{slice_get-map, slice_get_within}
 use Rattle.run_model.specs.declared.groups.Group.{Group}
@@ -12,14 +12,15 @@ use Rattle.run_model.specs.declared.tasks.Stage.{Stage}
 use Rattle.run_model.specs.declared.tasks.Stage.TheVariants as stage
 use Rattle.run_model.specs.declared.tasks.Task.{Task}
 use Rattle.run_model.specs.Event as event
-use Rattle.run_model.specs.Rows.{at_row, or_else}
+use Rattle.run_model.specs.Rows.{at_row}
 use Rattle.run_model.specs.State.{State, TreeState, WorkState}
 use Rattle.run_model.specs.Step.{step, own_scope, after_task_end}
-use Rattle.run_model.specs.Tasks.{is_running, is_running_task, running_tasks}
-use Rattle.run_model.specs.TreeChanges.{with_hit, cancellation, after_cancel}
+use Rattle.run_model.specs.Tasks.{is_running, running_tasks, has_stage}
+use Rattle.run_model.specs.TreeChanges.{with_hit, after_cancel, new_hit}
 use Rattle.run_model.specs.WorkChanges.{with_stage, with_error, group_of_task, after_interrupt}
 use Rattle.run_model.specs.WorkChanges.{interruption}
 use Rattle.run_model.proofs.RowLemmas.{length-at_row}
+use Rattle.run_model.specs.declared.scopes.Reason.TheVariants.{Canceled}
 use Rattle.model_laws.specs.Restarts.{IsRestart, has_running, lives_in, hosts_running}
 use Rattle.model_laws.specs.Restarts.{stage_restarted, error_restarted, hit_restarted}
 use Rattle.model_laws.specs.Restarts.{task_restarted, group_restarted, scope_restarted}
@@ -71,7 +72,7 @@ groups_fold group_of (n ∷ ns) w same =
 -- A cancellation of this scope, where there is one.
 abbrev pub cancelled : ℕ → List ℕ → Option ℕ → TreeState → TreeState
 cancelled e text key t = record t {
-  scopes = at_key (with_hit (cancellation e t.clock (Some text))) key t.scopes;
+  scopes = at_key (with_hit (new_hit e t.clock Canceled (Some text))) key t.scopes;
 }
 
 group_end_is : (e : ℕ) (text : List ℕ) (key : Option ℕ) (t : TreeState)
@@ -85,7 +86,7 @@ scopes_fold : (e : ℕ) (w : WorkState) (ns : List ℕ) (t : TreeState)
       scopes =
           fold
           (λ rows n.
-          at_key (with_hit (cancellation e t.clock (Some interruption)))
+          at_key (with_hit (new_hit e t.clock Canceled (Some interruption)))
           (own_scope w (group_of_task w n)) rows) t.scopes ns;
     }
 scopes_fold e w [] t = refl
@@ -96,7 +97,8 @@ scopes_fold e w (n ∷ ns) t =
 
 -- ---- a change that comes twice
 
-or_else_twice : {X : Type 0} (o : Option X) (x : X) → or_else (or_else o x) x ≡ or_else o x
+or_else_twice : {X : Type 0} (o : Option X) (x : X)
+    → option_or (option_or o (Some x)) (Some x) ≡ option_or o (Some x)
 or_else_twice None x = refl
 or_else_twice (Some y) x = refl
 
@@ -115,7 +117,7 @@ hit_twice hit row = ap (λ hit. record row { hit = hit }) (or_else_twice row.hit
 -- ---- the tasks that a restart goes through
 
 running_found : (w : WorkState) (n : ℕ) (row : Task) → slice_get w.tasks n ≡ Some row
-    → is_running_task w n ≡ is_running row.stage
+    → has_stage is_running w n ≡ is_running row.stage
 running_found w n row found =
     ap (λ o. option_map_or (λ task. is_running task.stage) o false) found
 
@@ -134,7 +136,7 @@ any_of_group : (test pass : ℕ → Bool) (w : WorkState) → ((g : ℕ) → tes
     → list_any (λ n. test (group_of_task w n)) (running_tasks w)
     ≡ list_any (λ task. pass task.group && is_running task.stage) w.tasks
 any_of_group test pass w same =
-    any_picked (is_running_task w) (λ n. test (group_of_task w n))
+    any_picked (has_stage is_running w) (λ n. test (group_of_task w n))
     (λ task. pass task.group && is_running task.stage) w.tasks 0
     (λ n m row found e.
     let at : m ≡ n = omega (arith, e) in
@@ -162,7 +164,7 @@ task_by row =
     task_if (is_running row.stage) row ∙ ap (λ s. record row { stage = s }) (stage_by row.stage)
 
 error_by : (b : Bool) (o : Option (List ℕ))
-    → (if b then or_else o interruption else o) ≡ error_restarted b o
+    → (if b then option_or o (Some interruption) else o) ≡ error_restarted b o
 error_by true None = refl
 error_by true (Some text) = refl
 error_by false None = refl
@@ -170,7 +172,7 @@ error_by false (Some text) = refl
 
 group_if : (b : Bool) (row : Group)
     → changed_if (with_error interruption) b row
-    ≡ record row { error = if b then or_else row.error interruption else row.error }
+    ≡ record row { error = if b then option_or row.error (Some interruption) else row.error }
 group_if true row = refl
 group_if false row = refl
 
@@ -181,7 +183,7 @@ group_by b row =
     group_if b row ∙ ap (λ error. record row { error = error }) (error_by b row.error)
 
 hit_by : (b : Bool) (hit : Hit) (o : Option Hit)
-    → (if b then or_else o hit else o) ≡ hit_restarted b hit o
+    → (if b then option_or o (Some hit) else o) ≡ hit_restarted b hit o
 hit_by true hit None = refl
 hit_by true hit (Some old) = refl
 hit_by false hit None = refl
@@ -189,7 +191,7 @@ hit_by false hit (Some old) = refl
 
 scope_if : (b : Bool) (hit : Hit) (row : Scope)
     → changed_if (with_hit hit) b row
-    ≡ record row { hit = if b then or_else row.hit hit else row.hit }
+    ≡ record row { hit = if b then option_or row.hit (Some hit) else row.hit }
 scope_if true hit row = refl
 scope_if false hit row = refl
 
@@ -223,7 +225,7 @@ task_at w m =
     task_restarted (slice_get w.tasks m)
     (λ row found.
     ap (λ b. changed_if (with_stage stage.Interrupted) b row)
-    (number_picked (is_running_task w) m 0 (length w.tasks) (omega arith)
+    (number_picked (has_stage is_running w) m 0 (length w.tasks) (omega arith)
     (omega (arith, slice_get_within w.tasks m row found))
     ∙ running_found w m row found)
     ∙ task_by row)
@@ -249,7 +251,7 @@ scope_at : (p : State) (s : ℕ)
     ≡ option_map (scope_restarted p s) (slice_get p.tree.scopes s)
 scope_at p s =
     let w = p.work in
-    let hit = cancellation (p.count + 1) p.tree.clock (Some interruption) in
+    let hit = new_hit (p.count + 1) p.tree.clock Canceled (Some interruption) in
     ap (λ t. slice_get t.scopes s) (scopes_fold (p.count + 1) w (running_tasks w) p.tree)
     ∙ fold_reads (with_hit hit) (hit_twice hit) (λ n. own_scope w (group_of_task w n))
     (running_tasks w) p.tree.scopes s

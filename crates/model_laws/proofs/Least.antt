@@ -11,7 +11,7 @@ use Rattle.std.proofs.lemmas.Bool.{eqb-true, eq-eqb, true≢false, false≢true,
 use Rattle.std.proofs.lemmas.Option.{same_Some, none-some}
 use Rattle.run_model.specs.declared.scopes.Hit.{Hit}
 use Rattle.run_model.specs.declared.scopes.Scope.{Scope}
-use Rattle.run_model.specs.Scopes.{Numbered, chain, own_hit, hit_at, comes_before, first_of}
+use Rattle.run_model.specs.Scopes.{chain, own_hit, hit_at, comes_before, first_of}
 use Rattle.run_model.specs.Scopes.{least_hit, first_hit}
 use Rattle.model_laws.specs.Hits.{is_on, has_hit}
 use Rattle.model_laws.specs.Searches.{IsLeastHit}
@@ -104,24 +104,24 @@ not_before_joins a b c first second =
 -- ---- the hits of these rows
 
 -- This is a hit of these rows, and none of them comes before it.
-record IsLeastOf (all : List Scope) (rows : List Numbered) (a : ℕ × Hit) : Type 0 where
+record IsLeastOf (all : List Scope) (rows : List (ℕ × Scope)) (a : ℕ × Hit) : Type 0 where
   on : is_on a.0 rows ≡ true
   own : own_hit all a.0 ≡ Some a.1
   least : (n : ℕ) (hit : Hit) → is_on n rows ≡ true → own_hit all n ≡ Some hit
       → IsNotBefore (n, hit) a
 
 -- A scope among the rows is the first one, or is among the others.
-first_or_other : (n : ℕ) (r : Numbered) (rows : List Numbered) → is_on n (r ∷ rows) ≡ true
+first_or_other : (n : ℕ) (r : ℕ × Scope) (rows : List (ℕ × Scope)) → is_on n (r ∷ rows) ≡ true
     → (r.0 ≡ n) ⊎ (is_on n rows ≡ true)
 first_or_other n r rows on =
     elim (or_cases (r.0 == n) (is_on n rows) on)
     [ inl same ↦ inl (eqb-true r.0 n same) | inr other ↦ inr other ]
 
-is_first_on : (r : Numbered) (rows : List Numbered) → is_on r.0 (r ∷ rows) ≡ true
+is_first_on : (r : ℕ × Scope) (rows : List (ℕ × Scope)) → is_on r.0 (r ∷ rows) ≡ true
 is_first_on r rows = ap (λ b. b || is_on r.0 rows) (eq-eqb r.0 r.0 refl)
 
 -- A first row that was not hit, before others.
-least_behind : (all : List Scope) (r : Numbered) (rows : List Numbered) (a : ℕ × Hit)
+least_behind : (all : List Scope) (r : ℕ × Scope) (rows : List (ℕ × Scope)) (a : ℕ × Hit)
     → own_hit all r.0 ≡ None → IsLeastOf all rows a → IsLeastOf all (r ∷ rows) a
 least_behind all r rows a none of = record {
   on = ap (λ b. (r.0 == a.0) || b) of.on ∙ or-true (r.0 == a.0);
@@ -139,7 +139,7 @@ same_hit all n m a hit own own' same =
     record { by = omega (arith, ap (λ h. h.event) e, ap (λ h. h.moment) e) }
 
 -- A first row that was hit, before others that were not.
-least_alone : (all : List Scope) (r : Numbered) (rows : List Numbered) (own : Hit)
+least_alone : (all : List Scope) (r : ℕ × Scope) (rows : List (ℕ × Scope)) (own : Hit)
     → own_hit all r.0 ≡ Some own
     → ((n : ℕ) (hit : Hit) → is_on n rows ≡ true → own_hit all n ≡ Some hit → ⊥)
     → IsLeastOf all (r ∷ rows) (r.0, own)
@@ -153,7 +153,8 @@ least_alone all r rows own at others = record {
 }
 
 -- A first row that was hit, before others of which this is the least.
-least_of_both : (all : List Scope) (r : Numbered) (rows : List Numbered) (own : Hit) (b : ℕ × Hit)
+least_of_both : (all : List Scope) (r : ℕ × Scope) (rows : List (ℕ × Scope)) (own : Hit)
+    (b : ℕ × Hit)
     → own_hit all r.0 ≡ Some own → IsLeastOf all rows b
     → IsLeastOf all (r ∷ rows) (first_of (Some b) (r.0, own))
 least_of_both all r rows own b at of = by_order (comes_before (r.0, own) b) refl
@@ -180,14 +181,14 @@ least_of_both all r rows own b at of = by_order (comes_before (r.0, own) b) refl
     }
 
 -- Where there is no first hit, none of the rows was hit.
-none_hit : (all : List Scope) (rows : List Numbered) → AllByRecursion (IsRow all) rows
+none_hit : (all : List Scope) (rows : List (ℕ × Scope)) → AllByRecursion (IsRow all) rows
     → least_hit (filter_map hit_at rows) ≡ None → (n : ℕ) (hit : Hit) → is_on n rows ≡ true
     → own_hit all n ≡ Some hit → ⊥
 none_hit all rows are none n hit on own =
     let some : has_hit rows ≡ true = hit_among all n rows are (ap is_some own) on in
     true≢false (sym some ∙ sym (some_hit rows) ∙ ap is_some none)
 
-least_found : (all : List Scope) (rows : List Numbered) → AllByRecursion (IsRow all) rows
+least_found : (all : List Scope) (rows : List (ℕ × Scope)) → AllByRecursion (IsRow all) rows
     → (a : ℕ × Hit) → least_hit (filter_map hit_at rows) ≡ Some a → IsLeastOf all rows a
 least_found all [] are a found = absurd (none-some a found)
 least_found all (r ∷ rows) are a found =

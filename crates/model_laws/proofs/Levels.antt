@@ -2,12 +2,12 @@
 use Rattle.std.proofs.Common.{◌≡◌, ◌⊎◌, ◌<◌, ℕ, Bool, true, false, cond, List, Option, Some, None}
 use Rattle.std.proofs.Common.{slice_get, inl, inr, refl, sym, ap, ◌∙◌, arith}
 use Rattle.std.proofs.Common.{◌≢◌}
-use Rattle.std.specs.Option.{option_map, option_and_then, IfSome}
+use Rattle.std.specs.Option.{option_map, option_and_then, IfSome, option_or}
 use Rattle.std.proofs.lemmas.Bool.{cases_eq}
 use Rattle.std.proofs.lemmas.Option.{none-some}
 use Rattle.run_model.specs.declared.scopes.Hit.{Hit}
 use Rattle.run_model.specs.declared.scopes.Scope.{Scope}
-use Rattle.run_model.specs.Rows.{at_row, or_else}
+use Rattle.run_model.specs.Rows.{at_row}
 use Rattle.run_model.specs.TreeChanges.{with_hit}
 use Rattle.run_model.specs.Scopes.{comes_before, first_of, first_hit, ending}
 use Rattle.run_model.specs.Scopes.{AreOrdered}
@@ -18,7 +18,6 @@ use Rattle.model_laws.proofs.Follows.{IsOf, cancelled}
 use Rattle.model_laws.proofs.WellFormed.{ordered_follow}
 use Rattle.model_laws.proofs.Relates.{earlier_comes_before, later_comes_behind, IsKept, RowRelates}
 use Rattle.model_laws.proofs.Relates.{RowsRelate, first_hits_relate}
-use Rattle.model_laws.proofs.Stays.{endings_from}
 
 -- ---- hits that are level with one
 
@@ -129,7 +128,7 @@ level_kept hit = record { none = tt; join = level_joins hit }
 -- ---- rows
 
 own_level : (hit : Hit) (own : Option Hit) → ((h : Hit) → own ≡ Some h → IsLevel hit h)
-    → OwnLevel hit own (or_else own hit)
+    → OwnLevel hit own (option_or own (Some hit))
 own_level hit None level = refl
 own_level hit (Some h) level = (refl, level h refl)
 
@@ -172,7 +171,7 @@ ordered_hit hit s rows ordered =
 -- A hit that is level with those there changes no ending.
 pub endings_level : (hit : Hit) (s : ℕ) (rows : List Scope) → AreOrdered rows → AreLevel rows hit
     → EndingsStay rows (at_row (with_hit hit) s rows)
-endings_level hit s rows ordered level = endings_from rows (at_row (with_hit hit) s rows) stays
+endings_level hit s rows ordered level = stays
   where
     same : (a b : ℕ × Hit) → AreAlike hit a b → b.1 ≡ a.1
     same a b (inl alike) = ap (λ x. x.1) alike.0

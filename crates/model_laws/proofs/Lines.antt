@@ -5,7 +5,7 @@ use Rattle.std.specs.List.{filter_map, cons_option}
 use Rattle.std.specs.Option.{option_map}
 use Rattle.run_model.specs.declared.scopes.Hit.{Hit}
 use Rattle.run_model.specs.declared.scopes.Scope.{Scope}
-use Rattle.run_model.specs.Scopes.{Numbered, is_root, is_detached, upwards, line_within, line}
+use Rattle.run_model.specs.Scopes.{is_root, is_detached, upwards, line_within, line}
 use Rattle.run_model.specs.Scopes.{before_detached, chain, hit_at, least_hit, first_hit}
 use Rattle.run_model.specs.Scopes.{own_deadline, least_moment, deadline_of, text_under}
 use Rattle.run_model.specs.Scopes.{value_of, AreOrdered}
@@ -15,7 +15,7 @@ use Rattle.model_laws.specs.Searches.{deadline_from, nearest, value_from}
 -- ---- the line
 
 -- From a row two walks go on alike, where they go on alike from lesser numbers.
-upwards_alike : (rows : List Scope) → AreOrdered rows → (f g : ℕ → List Numbered) (s : ℕ)
+upwards_alike : (rows : List Scope) → AreOrdered rows → (f g : ℕ → List (ℕ × Scope)) (s : ℕ)
     (found : Option Scope) → slice_get rows s ≡ found → ((t : ℕ) → t < s → f t ≡ g t)
     → upwards f s found ≡ upwards g s found
 upwards_alike rows ordered f g s None at alike = refl
@@ -84,7 +84,7 @@ pub first_hit_up : (rows : List Scope) (s : ℕ) (row : Scope) → AreOrdered ro
 first_hit_up rows s row ordered found =
     ap read (chain_up rows s row ordered found) ∙ by_detached (is_detached row.kind)
   where
-    read : List Numbered → Option (ℕ × Hit)
+    read : List (ℕ × Scope) → Option (ℕ × Hit)
     read line = least_hit (filter_map hit_at line)
 
     by_detached : (b : Bool)
@@ -100,7 +100,7 @@ pub deadline_up : (rows : List Scope) (s : ℕ) (row : Scope) → AreOrdered row
 deadline_up rows s row ordered found =
     ap read (chain_up rows s row ordered found) ∙ by_detached (is_detached row.kind)
   where
-    read : List Numbered → Option ℕ
+    read : List (ℕ × Scope) → Option ℕ
     read line = least_moment (filter_map (λ r. own_deadline r.1.kind) line)
 
     by_detached : (b : Bool)
@@ -120,5 +120,5 @@ value_up key rows s row ordered found =
     (filter_map (λ r. text_under key r.1.kind) (above (line rows) [] row))
     ∙ ap (nearest (text_under key row.kind)) (read_above read (line rows) [] row)
   where
-    read : List Numbered → Option (List ℕ)
+    read : List (ℕ × Scope) → Option (List ℕ)
     read line = slice_get (filter_map (λ r. text_under key r.1.kind) line) 0

@@ -5,7 +5,7 @@ use Rattle.std.specs.Option.{option_map_or}
 use Rattle.std.proofs.lemmas.Bool.{both_ways, eq-eqb}
 use Rattle.std.proofs.lemmas.Option.{slice_get_within}
 use Rattle.run_model.specs.declared.tasks.Task.{Task}
-use Rattle.run_model.specs.Rules.{AreLinked, IsRetry, HasTask}
+use Rattle.run_model.specs.Rules.{AreLinked, IsRetry, HasRow}
 use Rattle.run_model.specs.State.{WorkState}
 use Rattle.run_model.specs.Tasks.{is_retried, is_retry_of}
 use Rattle.run_model.proofs.RowLemmas.{push_cases, slice_get-push_left}
@@ -42,7 +42,8 @@ pub links_beside : (v w : WorkState) → w.tasks ≡ v.tasks → AreLinked v →
 links_beside v w same old =
     links_kept v w (rw same (alike_same IsSameTask v.tasks task_same)) old
 
-pub retried_by : (w : WorkState) (n m : ℕ) (row : Task) → HasTask w n row → row.retry_of ≡ Some m
+pub retried_by : (w : WorkState) (n m : ℕ) (row : Task) → HasRow w.tasks n row
+    → row.retry_of ≡ Some m
     → is_retried w m ≡ true
 retried_by w n m row found link =
     any_found (is_retry_of m) w.tasks n row found
@@ -51,7 +52,7 @@ retried_by w n m row found link =
 -- One task more, which may be the retry of a task that was not retried.
 pub links_pushed : (w : WorkState) (new : Task)
     → ((m : ℕ) → new.retry_of ≡ Some m
-    → (old : Task) × HasTask w m old × IsRetry (length w.tasks) new m old)
+    → (old : Task) × HasRow w.tasks m old × IsRetry (length w.tasks) new m old)
     → ((m : ℕ) → new.retry_of ≡ Some m → is_retried w m ≡ false) → AreLinked w
     → AreLinked (record w { tasks = w.tasks ++ new ∷ [] })
 links_pushed w new fits fresh old = record {
@@ -84,12 +85,12 @@ links_pushed w new fits fresh old = record {
       ];
 }
   where
-    there : (m : ℕ) (row : Task) → HasTask w m row
+    there : (m : ℕ) (row : Task) → HasRow w.tasks m row
         → slice_get (w.tasks ++ new ∷ []) m ≡ Some row
     there m row found =
         slice_get-push_left w.tasks new m (slice_get_within w.tasks m row found) ∙ found
 
-    twice : {X : Type 0} (n m : ℕ) (row : Task) → HasTask w n row → row.retry_of ≡ Some m
+    twice : {X : Type 0} (n m : ℕ) (row : Task) → HasRow w.tasks n row → row.retry_of ≡ Some m
         → new.retry_of ≡ Some m → X
     twice n m row found link again =
         absurd (both_ways (is_retried w m) (fresh m again) (retried_by w n m row found link))

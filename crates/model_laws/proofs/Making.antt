@@ -20,14 +20,14 @@ use Rattle.run_model.specs.Event as event
 use Rattle.run_model.specs.State.{State, WorkState}
 use Rattle.run_model.specs.Rows.{new_scope, new_group, new_task}
 use Rattle.run_model.specs.TreeChanges.{with_hit, hit_due, tick}
-use Rattle.run_model.specs.Rules.{HasTask}
 use Rattle.run_model.specs.WorkChanges.{after_go, retried_row}
 use Rattle.run_model.specs.Tasks.{is_admitted, phase_by, phase_of, admits, limit_of, unfinished_in}
-use Rattle.run_model.specs.Allowed.{admits_one_more, refusals}
+use Rattle.run_model.specs.Allowed.{refusals}
 use Rattle.run_model.specs.Questions.{task_look_of}
 use Rattle.run_model.specs.Replies.{submission, kind_made, scope_of, group_of}
 use Rattle.run_model.specs.Session.{Session}
 use Rattle.run_model.proofs.RefusalLemmas.{each_fails}
+use Rattle.run_model.specs.Rules.{HasRow}
 use Rattle.model_laws.specs.Answers.{Answered, SeesGroup, seen_name, task_seen}
 use Rattle.model_laws.proofs.Answering.{carried_out}
 use Rattle.model_laws.proofs.Places.{pushed_row}
@@ -153,7 +153,8 @@ go_seen s group job argument n told q answered =
     (submitted s.state row n told q pushed done.answer).seen
 
 -- A group that admits one more admits the new task.
-new_admitted : (w : WorkState) (g : ℕ) (job argument : List ℕ) → admits_one_more w g ≡ true
+new_admitted : (w : WorkState) (g : ℕ) (job argument : List ℕ)
+    → admits (limit_of w g) (unfinished_in g w.tasks) ≡ true
     → is_admitted (after_go g job argument w) (length w.tasks)
     (new_task g job argument None)
     ≡ true
@@ -175,14 +176,14 @@ tried_seen s group job argument n told q answered =
     let pushed = ap (λ (t : State). t.work.tasks) done.leaves in
     let new = submitted s.state row n told q pushed done.answer in
     let parts = each_fails (refusals s.state (event.TryGo g job argument)) done.may in
-    let room = not-false (admits_one_more w g) parts.1.1.1.0 in
+    let room = not-false (admits (limit_of w g) (unfinished_in g w.tasks)) parts.1.1.1.0 in
     let admitted =
     ap (λ (t : State). is_admitted t.work (length w.tasks) row) done.leaves
     ∙ new_admitted w g job argument room in
     (new.phase ∙ ap (λ (b : Bool). phase_by b stage.Fresh) admitted, new.seen)
 
 pub retried_seen : (s : Session) (n m : ℕ) (old : Task) (told : Phase) (q : State)
-    → HasTask s.state.work n old → Answered s (command.Retry n) (answer.Task m told) q
+    → HasRow s.state.work.tasks n old → Answered s (command.Retry n) (answer.Task m told) q
     → task_look_of q m ≡ Some (task_seen old.group old.job old.argument told (Some n))
 retried_seen s n m old told q found answered =
     let w : WorkState = s.state.work in

@@ -6,7 +6,7 @@ use Rattle.std.proofs.lemmas.Slice.Eq.{bytes_eq-Decides}
 use Rattle.run_model.specs.declared.scopes.Scope.{Scope}
 use Rattle.run_model.specs.declared.groups.Group.{Group}
 use Rattle.run_model.specs.State.{State}
-use Rattle.run_model.specs.Allowed.{has_group, has_scope}
+use Rattle.run_model.specs.Allowed.{has_row}
 use Rattle.run_model.specs.Replies.{scope_of, group_of}
 use Rattle.run_model.specs.Rules.{AreNumbered}
 use Rattle.run_model.proofs.RefusalLemmas.{is_first}
@@ -69,25 +69,25 @@ name_of_row name_of rows n distinct less =
 
 -- ---- scopes and groups
 
-pub named_scope : (p : State) (name : List ℕ) → has_scope p.tree (scope_of p name) ≡ true
+pub named_scope : (p : State) (name : List ℕ) → has_row p.tree.scopes (scope_of p name) ≡ true
     → (row : Scope) × (slice_get p.tree.scopes (scope_of p name) ≡ Some row) × (row.name ≡ name)
 named_scope p name there =
     row_of_name (λ row. row.name) p.tree.scopes name (ltb-true _ _ there)
 
-pub named_group : (p : State) (name : List ℕ) → has_group p.work (group_of p name) ≡ true
+pub named_group : (p : State) (name : List ℕ) → has_row p.work.groups (group_of p name) ≡ true
     → (row : Group) × (slice_get p.work.groups (group_of p name) ≡ Some row) × (row.name ≡ name)
 named_group p name there =
     row_of_name (λ row. row.name) p.work.groups name (ltb-true _ _ there)
 
 -- The name of the scope, or of the group, that the first test asks for.
 pub name_of_scope : (p : State) (s : ℕ) (rest : Bool) → AreNumbered p
-    → (not (not (has_scope p.tree s)) && rest) ≡ true → (name : List ℕ) × (scope_of p name ≡ s)
+    → (not (not (has_row p.tree.scopes s)) && rest) ≡ true → (name : List ℕ) × (scope_of p name ≡ s)
 name_of_scope p s rest numbered may =
     name_of_row (λ row. row.name) p.tree.scopes s numbered.scope_names
-    (ltb-true _ _ (is_first (has_scope p.tree s) rest may))
+    (ltb-true _ _ (is_first (has_row p.tree.scopes s) rest may))
 
 pub name_of_group : (p : State) (g : ℕ) (rest : Bool) → AreNumbered p
-    → (not (not (has_group p.work g)) && rest) ≡ true → (name : List ℕ) × (group_of p name ≡ g)
+    → (not (not (has_row p.work.groups g)) && rest) ≡ true → (name : List ℕ) × (group_of p name ≡ g)
 name_of_group p g rest numbered may =
     name_of_row (λ row. row.name) p.work.groups g numbered.group_names
-    (ltb-true _ _ (is_first (has_group p.work g) rest may))
+    (ltb-true _ _ (is_first (has_row p.work.groups g) rest may))

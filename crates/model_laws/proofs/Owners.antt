@@ -8,7 +8,8 @@ use Rattle.run_model.specs.declared.groups.Group.{Group}
 use Rattle.run_model.specs.declared.scopes.Kind.{Kind}
 use Rattle.run_model.specs.declared.scopes.Scope.{Scope}
 use Rattle.run_model.specs.Allowed.{has_kind}
-use Rattle.run_model.specs.Rules.{AreGroupScopes, HasScope, HasGroup, Owns, is_group_kind}
+use Rattle.run_model.specs.Scopes.{is_group_kind}
+use Rattle.run_model.specs.Rules.{AreGroupScopes, Owns, HasRow}
 use Rattle.run_model.specs.State.{State, TreeState, WorkState}
 use Rattle.run_model.proofs.RowLemmas.{push_cases, slice_get-push_left, slice_get-push_last}
 use Rattle.model_laws.proofs.Tests.{passing}
@@ -17,10 +18,10 @@ use Rattle.model_laws.proofs.Shapes.{AreAlike, IsSameScope, IsSameGroup}
 -- ---- a scope of a kind
 
 pub kind_row : (test : Kind → Bool) (t : TreeState) (s : ℕ) → has_kind test t s ≡ true
-    → (row : Scope) × HasScope t s row × (test row.kind ≡ true)
+    → (row : Scope) × HasRow t.scopes s row × (test row.kind ≡ true)
 kind_row test t s is = passing (λ row. test row.kind) (slice_get t.scopes s) is
 
-pub row_kind : (test : Kind → Bool) (t : TreeState) (s : ℕ) (row : Scope) → HasScope t s row
+pub row_kind : (test : Kind → Bool) (t : TreeState) (s : ℕ) (row : Scope) → HasRow t.scopes s row
     → test row.kind ≡ true → has_kind test t s ≡ true
 row_kind test t s row found is =
     ap (λ o. option_map_or (λ row. test row.kind) o false) found ∙ is
@@ -166,7 +167,7 @@ owners_bare p n new bare old = record {
 pub owners_made : (p : State) (n c : ℕ) (row : Scope) (new : Group)
     → is_group_kind row.kind ≡ true → new.bare ≡ false → new.scope ≡ length p.tree.scopes
     → new.name ≡ row.name
-    → ((g : ℕ) (group : Group) → HasGroup p.work g group → group.scope < length p.tree.scopes)
+    → ((g : ℕ) (group : Group) → HasRow p.work.groups g group → group.scope < length p.tree.scopes)
     → AreGroupScopes p
     → AreGroupScopes
     (record {

@@ -6,10 +6,12 @@ use Rattle.run_model.specs.declared.refusals.Refusal.TheVariants as refusal
 use Rattle.run_model.specs.declared.commands.Command.{Command}
 use Rattle.run_model.specs.Event.{Event}
 use Rattle.run_model.specs.State.{State}
-use Rattle.run_model.specs.Allowed.{refusals, holds_none}
+use Rattle.run_model.specs.Allowed.{refusals}
 use Rattle.run_model.specs.Replies.{and_then, is_repeated, is_full, if_room, event_of, decided}
 use Rattle.run_model.specs.Replies.{decide}
 use Rattle.run_model.proofs.RefusalLemmas.{unless_Ok, unless_none}
+use Rattle.std.specs.Prelude.{not}
+use Rattle.std.specs.List.{list_all}
 
 pub and_then_Ok :
     {X Y : Type 0} (r : Result X Refusal) (f : X → Result Y Refusal) (y : Y)
@@ -38,7 +40,7 @@ fits_room p log made fits =
 
 -- What was asked for isn't refused, finds room, and is this event.
 pub record Leads (p : State) (log : ℕ) (asked event : Event) : Type 0 where
-  pub may : holds_none (refusals p asked) ≡ true
+  pub may : list_all (λ t. not t.0) (refusals p asked) ≡ true
   pub room : is_full p log event ≡ false
   pub asks : asked ≡ event
 
@@ -53,7 +55,8 @@ decided_leads p log asked event e =
       asks = fits.1;
     }
 
-pub fits_decided : (p : State) (log : ℕ) (event : Event) → holds_none (refusals p event) ≡ true
+pub fits_decided : (p : State) (log : ℕ) (event : Event)
+    → list_all (λ t. not t.0) (refusals p event) ≡ true
     → is_full p log event ≡ false → decided p log event ≡ Ok (Some event)
 fits_decided p log event may fits =
     unless_none (refusals p event) (if_room p log event) may ∙ fits_room p log event fits

@@ -11,7 +11,6 @@ use Rattle.std.proofs.lemmas.List.Sums.{count_by_more_yes, count_by_more_no}
 use Rattle.run_model.specs.declared.tasks.Task.{Task}
 use Rattle.run_model.specs.State.{WorkState}
 use Rattle.run_model.specs.Tasks.{is_unfinished, unfinished_in, admits, limit_of, is_admitted}
-use Rattle.run_model.specs.Tasks.{task_numbers}
 use Rattle.model_laws.specs.Queues.{is_unfinished_of, is_admitted_of, unfinished_tasks}
 use Rattle.model_laws.specs.Queues.{admitted_tasks}
 use Rattle.model_laws.proofs.Places.{row_there}
@@ -128,7 +127,7 @@ unfinished_ranks w g = record {
 pub all_admitted : (w : WorkState) (g : ℕ) → limit_of w g ≡ None
     → admitted_tasks w g ≡ unfinished_tasks w g
 all_admitted w g unlimited =
-    filter_same _ _ (task_numbers w)
+    filter_same _ _ (range_with_len 0 (length w.tasks))
     (λ n.
     admitted_by_rank w g n
     ∙ ap
@@ -142,7 +141,7 @@ pub first_admitted : (w : WorkState) (g most : ℕ) → limit_of w g ≡ Some mo
 first_admitted w g most limited =
     let none : unfinished_in g (take 0 w.tasks) ≡ 0 = refl in
     let all : most - unfinished_in g (take 0 w.tasks) ≡ most = omega (arith, none) in
-    filter_same _ _ (task_numbers w)
+    filter_same _ _ (range_with_len 0 (length w.tasks))
     (λ n.
     admitted_by_rank w g n
     ∙ ap

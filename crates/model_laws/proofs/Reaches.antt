@@ -11,7 +11,7 @@ use Rattle.run_model.specs.declared.scopes.Kind.{Kind}
 use Rattle.run_model.specs.declared.scopes.Kind.TheVariants as kind
 use Rattle.run_model.specs.declared.scopes.Scope.{Scope}
 use Rattle.run_model.specs.State.{State}
-use Rattle.run_model.specs.Scopes.{Numbered, is_root, is_detached, upwards, line_within, line}
+use Rattle.run_model.specs.Scopes.{is_root, is_detached, upwards, line_within, line}
 use Rattle.run_model.specs.Scopes.{before_detached, chain, own_hit, hit_at, least_hit, first_hit}
 use Rattle.run_model.specs.Scopes.{is_done}
 use Rattle.run_model.specs.Rules.{IsConsistent, can_be_hit}
@@ -22,10 +22,10 @@ use Rattle.model_laws.specs.Hits.{HitsReachDown, IsAttached}
 -- ---- the rows of a line
 
 -- This is the row of its number.
-abbrev pub IsRow : List Scope → Numbered → Type 0
+abbrev pub IsRow : List Scope → ℕ × Scope → Type 0
 IsRow rows r = slice_get rows r.0 ≡ Some r.1
 
-upwards_rows : (rows : List Scope) (walk : ℕ → List Numbered) (s : ℕ) (found : Option Scope)
+upwards_rows : (rows : List Scope) (walk : ℕ → List (ℕ × Scope)) (s : ℕ) (found : Option Scope)
     → slice_get rows s ≡ found
     → ((t : ℕ) → AllByRecursion (IsRow rows) (walk t))
     → AllByRecursion (IsRow rows) (upwards walk s found)
@@ -44,7 +44,7 @@ line_rows rows (suc most) s =
     upwards_rows rows (line_within most rows) s (slice_get rows s) refl (line_rows rows most)
 
 -- What holds of all holds of those before the first detached one.
-before_all : (P : Numbered → Type 0) (rows : List Numbered) → AllByRecursion P rows
+before_all : (P : (ℕ × Scope) → Type 0) (rows : List (ℕ × Scope)) → AllByRecursion P rows
     → AllByRecursion P (before_detached rows)
 before_all P [] all = tt
 before_all P (r ∷ rows) all = by_detached (is_detached r.1.kind) (before_all P rows all.1)
@@ -80,7 +80,8 @@ some_least : (own : Option Hit) (s : ℕ) (hits : List (ℕ × Hit)) (b : Bool)
 some_least None s hits b rest = rest
 some_least (Some hit) s hits b rest = refl
 
-pub some_hit : (rows : List Numbered) → is_some (least_hit (filter_map hit_at rows)) ≡ has_hit rows
+pub some_hit : (rows : List (ℕ × Scope))
+    → is_some (least_hit (filter_map hit_at rows)) ≡ has_hit rows
 some_hit [] = refl
 some_hit (r ∷ rows) = some_least r.1.hit r.0 (filter_map hit_at rows) (has_hit rows) (some_hit rows)
 
@@ -88,14 +89,15 @@ pub done_exactly : (rows : List Scope) (s : ℕ) → is_done rows s ≡ has_hit 
 done_exactly rows s = is_some-map (λ a. a.1) (first_hit rows s) ∙ some_hit (chain rows s)
 
 -- The row of a scope that was hit has a hit.
-hit_there : (rows : List Scope) (n : ℕ) → IsSome (own_hit rows n) → (r : Numbered)
+hit_there : (rows : List Scope) (n : ℕ) → IsSome (own_hit rows n) → (r : ℕ × Scope)
     → IsRow rows r → (r.0 == n) ≡ true → is_some r.1.hit ≡ true
 hit_there rows n hit r at same =
     let found : own_hit rows r.0 ≡ r.1.hit = ap (option_and_then (λ row. row.hit)) at in
     ap is_some (sym found ∙ ap (own_hit rows) (eqb-true r.0 n same)) ∙ hit
 
 -- Where a scope that was hit is among these rows, one of them has a hit.
-pub hit_among : (all : List Scope) (n : ℕ) (rows : List Numbered) → AllByRecursion (IsRow all) rows
+pub hit_among : (all : List Scope) (n : ℕ) (rows : List (ℕ × Scope))
+    → AllByRecursion (IsRow all) rows
     → IsSome (own_hit all n) → is_on n rows ≡ true → has_hit rows ≡ true
 hit_among all n rows are hit on =
     any_more (IsRow all) (λ r. r.0 == n) (λ r. is_some r.1.hit) rows are (hit_there all n hit) on
@@ -107,7 +109,7 @@ ends_below rows n hit s on =
 -- ---- cut off
 
 -- Where a row of number n is on the line, it is on the chain unless a detached one is below it.
-cut_at : (n : ℕ) (rows : List Numbered)
+cut_at : (n : ℕ) (rows : List (ℕ × Scope))
     → AllByRecursion (λ r. (r.0 == n) ≡ true → is_detached r.1.kind ≡ false) rows
     → is_on n (before_detached rows) ≡ (is_on n rows && not (has_detached (below n rows)))
 cut_at n [] all = refl
@@ -127,7 +129,7 @@ all_more P Q [] more all = tt
 all_more P Q (x ∷ xs) more all = (more x all.0, all_more P Q xs more all.1)
 
 -- The row of a scope that is not detached is not detached.
-not_detached : (rows : List Scope) (n : ℕ) → IsAttached rows n → (r : Numbered)
+not_detached : (rows : List Scope) (n : ℕ) → IsAttached rows n → (r : ℕ × Scope)
     → IsRow rows r → (r.0 == n) ≡ true → is_detached r.1.kind ≡ false
 not_detached rows n joins r at same =
     let found : is_detached_at rows r.0 ≡ is_detached r.1.kind =

@@ -15,8 +15,9 @@ use Rattle.run_model.specs.State.{State}
 use Rattle.run_model.specs.Tasks.{first_ready}
 use Rattle.run_model.specs.Replies.{decide, decide_start, decide_finish, and_then, started_of}
 use Rattle.run_model.specs.Replies.{answer_of, state_after, is_task_done}
-use Rattle.run_model.specs.Session.{Session, made, event_of_step, with_event, session_after}
+use Rattle.run_model.specs.Session.{Session, event_of_step, with_event, session_after}
 use Rattle.run_model.specs.Session.{replied, reply_of_step}
+use Rattle.std.specs.Result.{result_unwrap_or}
 use Rattle.model_laws.proofs.Places.{row_there}
 use Rattle.model_laws.proofs.Searching.{first_is_least, ready_within}
 use Rattle.model_laws.proofs.StartingReplies.{start_first}
@@ -26,7 +27,7 @@ refused_decision : {X : Type 0} (r : Result (Option Event) Refusal)
     → (f : Option Event → Result X Refusal) (answer : X → Reply) (why : Refusal)
     → ((o : Option Event) → r ≡ Ok o → (x : X) × (f o ≡ Ok x))
     → ((x : X) → answer x ≡ reply.Refused why → ⊥)
-    → replied answer (and_then r f) ≡ reply.Refused why → made r ≡ None
+    → replied answer (and_then r f) ≡ reply.Refused why → result_unwrap_or r None ≡ None
 refused_decision (Err e) f answer why answered other refused = refl
 refused_decision (Ok o) f answer why answered other refused =
     let known = answered o refl in

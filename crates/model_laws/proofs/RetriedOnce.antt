@@ -13,13 +13,13 @@ use Rattle.run_model.specs.Allowed.{allowed, after, refusals, run}
 use Rattle.run_model.specs.Event.{Event}
 use Rattle.run_model.specs.Event as event
 use Rattle.run_model.specs.Rows.{at_row}
-use Rattle.run_model.specs.Rules.{HasTask}
 use Rattle.run_model.specs.State.{State, WorkState}
 use Rattle.run_model.specs.Step.{step}
 use Rattle.run_model.specs.Tasks.{is_interrupted, is_retried}
-use Rattle.run_model.specs.WorkChanges.{with_stage, retried_row, stage_of}
+use Rattle.run_model.specs.WorkChanges.{with_stage, stage_of, retried_row}
 use Rattle.run_model.proofs.RefusalLemmas.{each_fails}
 use Rattle.run_model.proofs.RowLemmas.{slice_get-push_left, slice_get-push_last}
+use Rattle.run_model.specs.Rules.{HasRow}
 use Rattle.model_laws.specs.Restarts.{task_restarted}
 use Rattle.model_laws.specs.Retries.{IsTriedAnew, KeepsLink}
 use Rattle.model_laws.proofs.Interrupts.{restarted}
@@ -28,7 +28,7 @@ use Rattle.model_laws.proofs.Shapes.{alike_at}
 use Rattle.model_laws.proofs.TaskEvents.{retry_found}
 use Rattle.model_laws.proofs.Tests.{passing}
 
-pub tried_anew : (p : State) (n : ℕ) (row : Task) → HasTask p.work n row
+pub tried_anew : (p : State) (n : ℕ) (row : Task) → HasRow p.work.tasks n row
     → IsTriedAnew p n row (step p (event.Retry n))
 tried_anew p n row found =
     let is = retry_found p.work n row found in
@@ -55,13 +55,14 @@ staged stage k rows n row found =
     (alike_at (λ x y. y.retry_of ≡ x.retry_of) (with_stage stage) k rows (λ x. refl)
     (λ x at. refl)).forth n row found
 
-anew : (w : WorkState) (k n : ℕ) (row : Task) (o : Option Task) → HasTask w n row
-    → Kept (option_map_or (λ row. record w { tasks = w.tasks ++ retried_row k row ∷ [] }) o w).tasks
+anew : (w : WorkState) (k n : ℕ) (row : Task) (o : Option Task) → HasRow w.tasks n row
+    → Kept (option_map_or (λ row. record w { tasks = w.tasks ++ retried_row k row ∷ [] }) o
+    w).tasks
     n row
 anew w k n row None found = (row, found, refl)
 anew w k n row (Some old) found = pushed w.tasks (retried_row k old) n row found
 
-kept_by : (p : State) (event : Event) (n : ℕ) (row : Task) → HasTask p.work n row
+kept_by : (p : State) (event : Event) (n : ℕ) (row : Task) → HasRow p.work.tasks n row
     → KeepsLink (step p event) n row
 kept_by p (event.Derive name parent kind) n row found = (row, found, refl)
 kept_by p (event.Cancel s cause) n row found = (row, found, refl)
@@ -85,14 +86,14 @@ kept_by p event.Restart n row found = (
 )
 
 pub link_after : (p q : State) (event : Event) (n : ℕ) (row : Task) → after p event ≡ Some q
-    → HasTask p.work n row → KeepsLink q n row
+    → HasRow p.work.tasks n row → KeepsLink q n row
 link_after p q event n row led found =
     let parts = cond_some (allowed p event) (step p event) q led in
     subst (λ r. KeepsLink r n row) parts.1 (kept_by p event n row found)
 
 -- Some task is a retry of this one.
 abbrev Retried : State → ℕ → Type 0
-Retried p n = (k : ℕ) × (row : Task) × HasTask p.work k row × (row.retry_of ≡ Some n)
+Retried p n = (k : ℕ) × (row : Task) × HasRow p.work.tasks k row × (row.retry_of ≡ Some n)
 
 still : (events : List Event) (p q : State) (n : ℕ) → Retried p n → run p events ≡ Some q
     → Retried q n

@@ -1,7 +1,7 @@
 -- Hits stay on scopes that can be cancelled, of the past, and as deadlines want them.
 use Rattle.std.proofs.Common.{◌≡◌, ◌≤◌, ℕ, Bool, true, false, List, Option, Some, None, slice_get}
 use Rattle.std.proofs.Common.{inl, inr, refl, sym, ap, ◌∙◌, arith}
-use Rattle.std.specs.Option.{option_map_or, option_and_then}
+use Rattle.std.specs.Option.{option_map_or, option_and_then, option_or}
 use Rattle.std.specs.Prelude.{is_some, nat_le, IsSome, if◌then◌else◌}
 use Rattle.std.proofs.lemmas.Bool.{leb-true, le-leb, both_ways}
 use Rattle.std.proofs.lemmas.Option.{none-some, same_Some}
@@ -10,12 +10,12 @@ use Rattle.run_model.specs.declared.scopes.Kind.{Kind}
 use Rattle.run_model.specs.declared.scopes.Kind.TheVariants as kind
 use Rattle.run_model.specs.declared.scopes.Reason.TheVariants.{Canceled, DeadlineExceeded}
 use Rattle.run_model.specs.declared.scopes.Scope.{Scope}
-use Rattle.run_model.specs.Rows.{at_row, or_else, new_scope}
-use Rattle.run_model.specs.Rules.{AreHits, AreDeadlines, HasScope, can_be_hit}
+use Rattle.run_model.specs.Rows.{at_row, new_scope}
+use Rattle.run_model.specs.Rules.{AreHits, AreDeadlines, can_be_hit, HasRow}
 use Rattle.run_model.specs.Scopes.{own_hit, own_deadline}
 use Rattle.run_model.specs.State.{State, TreeState, WorkState}
-use Rattle.run_model.specs.TreeChanges.{with_hit, tick, hit_due, expiry, cancellation, after_derive}
-use Rattle.run_model.specs.TreeChanges.{after_advance}
+use Rattle.run_model.specs.TreeChanges.{with_hit, tick, hit_due, after_derive}
+use Rattle.run_model.specs.TreeChanges.{after_advance, new_hit}
 use Rattle.run_model.proofs.RowLemmas.{push_cases, at_row_cases, map_cases}
 
 -- A hit that a row of this kind can have after n events, at this clock.
@@ -35,7 +35,7 @@ not_exceeded : Canceled ≡ DeadlineExceeded → ⊥
 not_exceeded same = cc
 
 abbrev pub AreRight : ℕ → TreeState → Type 0
-AreRight n t = (s : ℕ) (row : Scope) → HasScope t s row → IsRightScope n t.clock row
+AreRight n t = (s : ℕ) (row : Scope) → HasRow t.scopes s row → IsRightScope n t.clock row
 
 -- ---- from the rules, and back
 
@@ -111,11 +111,11 @@ later_hit n m clock later kind hit more passed right = record {
 -- The hit of a row that had one, or gets this one.
 either_hit : (n clock : ℕ) (kind : Kind) (o : Option Hit) (new hit : Hit)
     → ((old : Hit) → o ≡ Some old → IsRightHit n clock kind old) → IsRightHit n clock kind new
-    → or_else o new ≡ Some hit → IsRightHit n clock kind hit
+    → option_or o (Some new) ≡ Some hit → IsRightHit n clock kind hit
 either_hit n clock kind None new hit old right is = rw (← same_Some new hit is) right
 either_hit n clock kind (Some x) new hit old right is = old hit is
 
-pub or_else_some : {X : Type 0} (o : Option X) (x : X) → IsSome (or_else o x)
+pub or_else_some : {X : Type 0} (o : Option X) (x : X) → IsSome (option_or o (Some x))
 or_else_some None x = refl
 or_else_some (Some y) x = refl
 
@@ -144,16 +144,18 @@ due : (b : Bool) (e clock m : ℕ) (cause : Option (List ℕ)) (row : Scope) →
     → row.kind ≡ kind.Deadline m cause → nat_le m clock ≡ b
     → ((hit : Hit) → row.hit ≡ Some hit → IsRightHit e clock row.kind hit)
     → IsRightScope e clock
-    (option_map_or (λ hit. with_hit hit row) (if b then Some (expiry e m cause) else None) row)
+    (option_map_or (λ hit. with_hit hit row)
+    (if b then Some (new_hit e m DeadlineExceeded cause) else None) row)
 due true e clock m cause row counted is reached right = record {
-  hit = λ hit has. either_hit e clock row.kind row.hit (expiry e m cause) hit right (record {
-    kind = ap can_be_hit is;
-    counted = counted;
-    event = omega arith;
-    moment = leb-true m clock reached;
-    deadline = λ by. ap own_deadline is;
-  }) has;
-  come = λ moment has passed. or_else_some row.hit (expiry e m cause);
+  hit = λ hit has. either_hit e clock row.kind row.hit
+      (new_hit e m DeadlineExceeded cause) hit right (record {
+        kind = ap can_be_hit is;
+        counted = counted;
+        event = omega arith;
+        moment = leb-true m clock reached;
+        deadline = λ by. ap own_deadline is;
+      }) has;
+  come = λ moment has passed. or_else_some row.hit (new_hit e m DeadlineExceeded cause);
 }
 due false e clock m cause row counted is reached right = record {
   hit = right;
@@ -219,7 +221,7 @@ right_advanced n e moment t more counted passed right s row found =
     ((right s was.0 was.1).hit hit has)))
 
 pub right_cancelled : (e s : ℕ) (hit : Hit) (t : TreeState)
-    → ((row : Scope) → HasScope t s row → IsRightHit e t.clock row.kind hit) → AreRight e t
+    → ((row : Scope) → HasRow t.scopes s row → IsRightHit e t.clock row.kind hit) → AreRight e t
     → AreRight e (record t { scopes = at_row (with_hit hit) s t.scopes })
 right_cancelled e s hit t new right k row found =
     elim (at_row_cases (with_hit hit) s k t.scopes row found) [
@@ -232,7 +234,7 @@ right_cancelled e s hit t new right k row found =
 
 -- A cancellation is right on each scope that can be cancelled.
 pub right_cancellation : (e clock : ℕ) (cause : Option (List ℕ)) (of : Kind) → 1 ≤ e
-    → can_be_hit of ≡ true → IsRightHit e clock of (cancellation e clock cause)
+    → can_be_hit of ≡ true → IsRightHit e clock of (new_hit e clock Canceled cause)
 right_cancellation e clock cause of counted is = record {
   kind = is;
   counted = counted;

@@ -8,14 +8,14 @@ use Rattle.run_model.specs.declared.layouts.Layout.{Layout}
 use Rattle.run_model.specs.declared.layouts.Layout.TheVariants.{Small, Large}
 use Rattle.run_model.specs.Layouts.{most_scopes}
 use Rattle.run_model.specs.Rows.{root}
-use Rattle.run_model.specs.Rules.{IsConsistent, HasScope, HasGroup, is_group_kind}
-use Rattle.run_model.specs.Scopes.{is_root, own_deadline}
+use Rattle.run_model.specs.Rules.{IsConsistent, HasRow}
+use Rattle.run_model.specs.Scopes.{is_root, own_deadline, is_group_kind}
 use Rattle.run_model.specs.State.{formatted, new_tree, new_work}
 use Rattle.run_model.proofs.RowLemmas.{push_cases}
 use Rattle.model_laws.proofs.RightHits.{AreRight, hits_right, deadlines_right}
 
 -- The one scope is root.
-root_alone : (l : Layout) (s : ℕ) (row : Scope) → HasScope (new_tree l) s row
+root_alone : (l : Layout) (s : ℕ) (row : Scope) → HasRow (new_tree l).scopes s row
     → (s ≡ 0) × (row ≡ root)
 root_alone l s row found =
     elim (push_cases [] root s row found) [
@@ -23,7 +23,7 @@ root_alone l s row found =
       | inr last ↦ last
     ]
 
-no_group : {X : Type 0} (l : Layout) (g : ℕ) (row : Group) → HasGroup (new_work l) g row → X
+no_group : {X : Type 0} (l : Layout) (g : ℕ) (row : Group) → HasRow (new_work l).groups g row → X
 no_group l g row found = absurd (none-some row found)
 
 root_right : (l : Layout) → AreRight 0 (new_tree l)

@@ -8,8 +8,8 @@ use Rattle.run_model.specs.declared.refusals.Refusal.{Refusal}
 use Rattle.run_model.specs.Event.{Event}
 use Rattle.run_model.specs.Event as event
 use Rattle.run_model.specs.State.{State}
-use Rattle.run_model.specs.Tasks.{first_ready, is_running, is_running_task}
-use Rattle.run_model.specs.Allowed.{allowed, is_first_ready, refusals}
+use Rattle.run_model.specs.Tasks.{first_ready, is_running, has_stage}
+use Rattle.run_model.specs.Allowed.{allowed, refusals}
 use Rattle.run_model.specs.Replies.{decide_finish, decide_start, decided, if_room}
 use Rattle.run_model.specs.Replies.{is_full}
 use Rattle.run_model.proofs.RefusalLemmas.{each_fails, is_first, none_holds, unless_none, unless_Ok}
@@ -27,7 +27,9 @@ ok_or_Ok (Some y) why x e = cc
 
 pub first_ready_from : (p : State) (n : ℕ) → allowed p (event.Start n) ≡ true
     → first_ready p.work ≡ Some n
-first_ready_from p n may = go (first_ready p.work) (is_first (is_first_ready p.work n) _ may)
+first_ready_from p n may =
+    go (first_ready p.work)
+    (is_first (option_map_or (λ first. first == n) (first_ready p.work) false) _ may)
   where
     go : (o : Option ℕ) → option_map_or (λ first. first == n) o false ≡ true → o ≡ Some n
     go None e = cc
@@ -74,7 +76,7 @@ finish_passes p n outcome made e =
 
 pub finish_leads : (p : State) (n : ℕ) (outcome : Outcome) (made : Event)
     → decide_finish p n outcome ≡ Ok (Some made)
-    → (is_running_task p.work n ≡ true) × (event.Finish n outcome ≡ made)
+    → (has_stage is_running p.work n ≡ true) × (event.Finish n outcome ≡ made)
 finish_leads p n outcome made e =
     let passed = finish_passes p n outcome made e in
     (not-false _ (each_fails (refusals p (event.Finish n outcome)) passed.0).1.0, passed.1)
@@ -86,7 +88,8 @@ finish_allowed p n outcome made e =
     sym (ap (allowed p) passed.1) ∙ passed.0
 
 -- A finish of a running task is never refused.
-pub running_finishes : (p : State) (n : ℕ) (outcome : Outcome) → is_running_task p.work n ≡ true
+pub running_finishes : (p : State) (n : ℕ) (outcome : Outcome)
+    → has_stage is_running p.work n ≡ true
     → decide_finish p n outcome ≡ Ok (Some (event.Finish n outcome))
 running_finishes p n outcome running =
     let within = passing_within (λ task. is_running task.stage) p.work.tasks n running in

@@ -4,10 +4,11 @@ use Rattle.std.proofs.Common.{None, inl, inr, refl, subst, ap, ◌∙◌, arith}
 use Rattle.std.specs.Option.{option_map, option_and_then, IfSome}
 use Rattle.std.proofs.lemmas.Option.{none-some}
 use Rattle.run_model.specs.declared.scopes.Hit.{Hit}
+use Rattle.run_model.specs.declared.scopes.Reason.{Reason}
 use Rattle.run_model.specs.declared.scopes.Scope.{Scope}
 use Rattle.run_model.specs.Event.{Event}
 use Rattle.run_model.specs.State.{State, TreeState}
-use Rattle.run_model.specs.Scopes.{comes_before, first_hit, ending, AreOrdered}
+use Rattle.run_model.specs.Scopes.{cause_of, comes_before, first_hit, ending, reason_of, AreOrdered}
 use Rattle.run_model.specs.declared.scopes.Kind.{Kind}
 use Rattle.run_model.specs.TreeChanges.{after_derive, after_cancel, after_advance}
 use Rattle.run_model.specs.Step.{step}
@@ -105,29 +106,26 @@ pub map_stays : {X Y : Type 0} (f : X → Y) (old new : Option X)
 map_stays f None new stays y has = absurd (none-some y has)
 map_stays f (Some x) new stays y has = ap (option_map f) (stays x refl) ∙ has
 
-pub endings_from : (old new : List Scope)
-    → ((s : ℕ) (hit : Hit) → ending old s ≡ Some hit → ending new s ≡ Some hit)
-    → EndingsStay old new
-endings_from old new stays = record {
-  reason = λ s. map_stays (λ hit. hit.reason) (ending old s) (ending new s) (stays s);
-  cause = λ s. map_stays (λ hit. hit.cause) (ending old s) (ending new s) (stays s);
-  hit = stays;
-}
+pub reasons_stay : (old new : List Scope) → EndingsStay old new → (s : ℕ) (reason : Reason)
+    → reason_of old s ≡ Some reason → reason_of new s ≡ Some reason
+reasons_stay old new stay s = map_stays (λ hit. hit.reason) (ending old s) (ending new s) (stay s)
+
+pub causes_stay : (old new : List Scope) → EndingsStay old new → (s : ℕ) (cause : List ℕ)
+    → cause_of old s ≡ Some cause → cause_of new s ≡ Some cause
+causes_stay old new stay s = map_stays (λ hit. hit.cause) (ending old s) (ending new s) (stay s)
 
 pub endings_same : (rows : List Scope) → EndingsStay rows rows
-endings_same rows = endings_from rows rows (λ s hit done. done)
+endings_same rows s hit done = done
 
 pub endings_join : (a b c : List Scope) → EndingsStay a b → EndingsStay b c → EndingsStay a c
-endings_join a b c first second =
-    endings_from a c (λ s hit done. second.hit s hit (first.hit s hit done))
+endings_join a b c first second s hit done = second s hit (first s hit done)
 
 -- Whatever event e leaves of the rows, where each hit is of an earlier one.
 pub endings_follow : (e now : ℕ) (old new : List Scope) → AreOrdered old → AreEarlier old e
     → RowsFollow e now old new → EndingsStay old new
-endings_follow e now old new ordered earlier follows =
-    endings_from old new
-    (λ s. map_stays (λ a. a.1) (first_hit old s) (first_hit new s)
-    (first_hit_kept e now old new ordered earlier follows s))
+endings_follow e now old new ordered earlier follows s =
+    map_stays (λ a. a.1) (first_hit old s) (first_hit new s)
+    (first_hit_kept e now old new ordered earlier follows s)
 
 -- ---- changes of a tree
 

@@ -12,7 +12,7 @@ use Rattle.run_model.specs.Tasks.{running_tasks}
 use Rattle.run_model.specs.TreeChanges.{after_cancel}
 use Rattle.run_model.specs.WorkChanges.{group_of_task, error_of, interruption}
 use Rattle.run_model.specs.Step.{own_scope, after_group_cancel, after_task_end, tree_after}
-use Rattle.run_model.specs.Allowed.{allowed, has_scope, refusals}
+use Rattle.run_model.specs.Allowed.{allowed, refusals, has_row}
 use Rattle.run_model.proofs.RefusalLemmas.{each_fails, is_first}
 use Rattle.model_laws.proofs.Follows.{TreeFollows, tree_same, tree_joins, derive_follows}
 use Rattle.model_laws.proofs.Follows.{cancel_follows, advance_follows}
@@ -41,8 +41,8 @@ task_ends_follow e w error (n ∷ tasks) t =
 
 -- The parent that a derive or a group names is there.
 known : (p : State) (parent : ℕ) (rest : Bool)
-    → (not (not (has_scope p.tree parent)) && rest) ≡ true → parent < length p.tree.scopes
-known p parent rest may = ltb-true parent _ (is_first (has_scope p.tree parent) rest may)
+    → (not (not (has_row p.tree.scopes parent)) && rest) ≡ true → parent < length p.tree.scopes
+known p parent rest may = ltb-true parent _ (is_first (has_row p.tree.scopes parent) rest may)
 
 pub event_follows : (e : ℕ) (p : State) (event : Event) → allowed p event ≡ true
     → TreeFollows e p.tree (tree_after e p event)

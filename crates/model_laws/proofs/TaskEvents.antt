@@ -8,15 +8,16 @@ use Rattle.run_model.specs.Layouts.{most_tasks}
 use Rattle.run_model.specs.declared.tasks.Outcome.TheVariants as outcome
 use Rattle.run_model.specs.declared.tasks.Stage.TheVariants as stage
 use Rattle.run_model.specs.declared.tasks.Task.{Task}
-use Rattle.run_model.specs.Allowed.{has_task_room, is_open, is_first_ready}
+use Rattle.run_model.specs.Allowed.{is_open, has_room}
 use Rattle.run_model.specs.Event as event
 use Rattle.run_model.specs.Rows.{new_task}
-use Rattle.run_model.specs.Rules.{IsConsistent, HasTask, AreLinked, IsRetry}
+use Rattle.run_model.specs.Rules.{IsConsistent, AreLinked, IsRetry, HasRow}
 use Rattle.run_model.specs.State.{State, WorkState}
 use Rattle.run_model.specs.Step.{step}
 use Rattle.run_model.specs.Tasks.{is_running, is_unfinished, ended_in_error, is_admitted, is_fresh}
-use Rattle.run_model.specs.Tasks.{is_running_task, is_interrupted, is_interrupted_task, is_retried}
-use Rattle.run_model.specs.WorkChanges.{after_retry, retried_row, group_of_task}
+use Rattle.run_model.specs.Tasks.{is_interrupted, is_retried, has_stage, first_ready}
+use Rattle.run_model.specs.WorkChanges.{after_retry, group_of_task, retried_row}
+use Rattle.std.specs.Prelude.{◌==◌}
 use Rattle.model_laws.proofs.Admission.{admitted_task}
 use Rattle.model_laws.proofs.Changes.{right_now, stage_changed}
 use Rattle.model_laws.proofs.Ends.{consistent_lost}
@@ -32,7 +33,7 @@ use Rattle.model_laws.proofs.Tests.{fresh_not_running, going_on, not_yet}
 
 -- One task more, which was not started, of a group that was not waited for.
 added : (p : State) (new : Task) → is_fresh new.stage ≡ true → is_open p.work new.group ≡ true
-    → has_task_room p.work ≡ true
+    → has_room (most_tasks p.work.layout) p.work.tasks ≡ true
     → AreLinked (record p.work { tasks = p.work.tasks ++ new ∷ [] }) → IsConsistent p
     → IsConsistent
     (record {
@@ -71,7 +72,7 @@ added p new fresh is room links kept =
     }
 
 pub submitted : (p : State) (g : ℕ) (job argument : List ℕ) → is_open p.work g ≡ true
-    → has_task_room p.work ≡ true → IsConsistent p
+    → has_room (most_tasks p.work.layout) p.work.tasks ≡ true → IsConsistent p
     → IsConsistent (step p (event.Go g job argument))
 submitted p g job argument is room kept =
     added p (new_task g job argument None) refl is room
@@ -79,16 +80,18 @@ submitted p g job argument is room kept =
     (λ m link. absurd (none-some m link)) kept.links) kept
 
 -- What a retry of a task that is there leaves.
-pub retry_found : (w : WorkState) (n : ℕ) (row : Task) → HasTask w n row
-    → after_retry n w ≡ record w { tasks = w.tasks ++ retried_row n row ∷ [] }
+pub retry_found : (w : WorkState) (n : ℕ) (row : Task) → HasRow w.tasks n row
+    → after_retry n w
+    ≡ record w { tasks = w.tasks ++ retried_row n row ∷ [] }
 retry_found w n row found =
     ap
     (λ o. option_map_or (λ row. record w { tasks = w.tasks ++ retried_row n row ∷ [] }) o w)
     found
 
-pub retried : (p : State) (n : ℕ) → is_interrupted_task p.work n ≡ true
+pub retried : (p : State) (n : ℕ) → has_stage is_interrupted p.work n ≡ true
     → is_retried p.work n ≡ false → is_open p.work (group_of_task p.work n) ≡ true
-    → has_task_room p.work ≡ true → IsConsistent p → IsConsistent (step p (event.Retry n))
+    → has_room (most_tasks p.work.layout) p.work.tasks ≡ true → IsConsistent p
+    → IsConsistent (step p (event.Retry n))
 retried p n is first going room kept =
     let row = passing (λ task. is_interrupted task.stage) (slice_get p.work.tasks n) is in
     let new = retried_row n row.0 in
@@ -102,9 +105,9 @@ retried p n is first going room kept =
     (λ m link. old_of m row.0 row.1 row.2 (same_Some n m link))
     (λ m link. ap (is_retried p.work) (sym (same_Some n m link)) ∙ first) kept.links) kept)
   where
-    old_of : (m : ℕ) (row : Task) → HasTask p.work n row → is_interrupted row.stage ≡ true
+    old_of : (m : ℕ) (row : Task) → HasRow p.work.tasks n row → is_interrupted row.stage ≡ true
         → n ≡ m
-        → (old : Task) × HasTask p.work m old
+        → (old : Task) × HasRow p.work.tasks m old
         × IsRetry (length p.work.tasks) (retried_row n row) m old
     old_of m row found is same = (
       row,
@@ -118,7 +121,8 @@ retried p n is first going room kept =
       },
     )
 
-pub started : (p : State) (n : ℕ) → is_first_ready p.work n ≡ true → IsConsistent p
+pub started : (p : State) (n : ℕ)
+    → option_map_or (λ first. first == n) (first_ready p.work) false ≡ true → IsConsistent p
     → IsConsistent (step p (event.Start n))
 started p n is kept =
     let row =
@@ -126,7 +130,7 @@ started p n is kept =
     (slice_get p.work.tasks n) (first_is_ready p.work n is) in
     let parts = and_parts (is_fresh row.0.stage) (is_admitted p.work n row.0) row.2 in
     let fresh = fresh_stage row.0.stage parts.0 in
-    let same : (x : Task) → HasTask p.work n x → row.0 ≡ x =
+    let same : (x : Task) → HasRow p.work.tasks n x → row.0 ≡ x =
     λ x at. same_Some row.0 x (sym row.1 ∙ at) in
     stage_changed p (p.count + 1) n stage.Running (omega arith)
     (λ x at runs. ap (λ r. is_unfinished r.stage) (sym (same x at)) ∙ fresh.0)
@@ -136,7 +140,7 @@ started p n is kept =
     ap (λ r. is_interrupted r.stage) (sym (same x at))
     ∙ going_on row.0.stage fresh.0) kept
 
-pub succeeded : (p : State) (n : ℕ) → is_running_task p.work n ≡ true → IsConsistent p
+pub succeeded : (p : State) (n : ℕ) → has_stage is_running p.work n ≡ true → IsConsistent p
     → IsConsistent (step p (event.Finish n outcome.Success))
 succeeded p n is kept =
     let row = passing (λ task. is_running task.stage) (slice_get p.work.tasks n) is in
@@ -150,7 +154,7 @@ succeeded p n is kept =
     ap (λ r. is_interrupted r.stage) (same_Some x row.0 (sym at ∙ row.1))
     ∙ not_yet row.0.stage row.2) kept
 
-pub failed : (p : State) (n : ℕ) (text : List ℕ) → is_running_task p.work n ≡ true
+pub failed : (p : State) (n : ℕ) (text : List ℕ) → has_stage is_running p.work n ≡ true
     → IsConsistent p → IsConsistent (step p (event.Finish n (outcome.Failure text)))
 failed p n text is kept =
     let row = passing (λ task. is_running task.stage) (slice_get p.work.tasks n) is in

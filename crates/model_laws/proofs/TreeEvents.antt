@@ -3,19 +3,19 @@ use Rattle.std.proofs.Common.{refl, ◌≡◌, ℕ, true, List, length, Option, 
 use Rattle.std.proofs.Common.{◌+◌}
 use Rattle.std.proofs.Common.{arith}
 use Rattle.std.specs.Option.{option_map, option_map_or}
-use Rattle.std.specs.Prelude.{IsSome}
+use Rattle.std.specs.Prelude.{IsSome, is_none, not, ◌&&◌}
 use Rattle.std.proofs.lemmas.Bool.{ltb-true}
 use Rattle.std.proofs.lemmas.Option.{slice_get-map}
 use Rattle.run_model.specs.Layouts.{most_scopes}
 use Rattle.run_model.specs.declared.scopes.Hit.{Hit}
 use Rattle.run_model.specs.declared.scopes.Kind.{Kind}
 use Rattle.run_model.specs.declared.scopes.Scope.{Scope}
-use Rattle.run_model.specs.Allowed.{has_kind, is_derivable, is_cancellable, has_scope}
-use Rattle.run_model.specs.Allowed.{is_scope_name_free, has_scope_room}
+use Rattle.run_model.specs.Allowed.{has_kind, is_cancellable}
+use Rattle.run_model.specs.Allowed.{has_row, has_room}
 use Rattle.run_model.specs.Event as event
 use Rattle.run_model.specs.Rows.{new_scope}
 use Rattle.run_model.specs.Rules.{IsConsistent, can_be_hit}
-use Rattle.run_model.specs.State.{State}
+use Rattle.run_model.specs.State.{State, scope_named}
 use Rattle.run_model.specs.Step.{step}
 use Rattle.run_model.specs.TreeChanges.{with_hit, after_cancel, hit_due, tick, after_derive}
 use Rattle.run_model.specs.TreeChanges.{after_advance}
@@ -24,15 +24,17 @@ use Rattle.model_laws.proofs.Ends.{hit_cancelled}
 use Rattle.model_laws.proofs.FirstErrors.{hits_alike, hits_pushed, errors_tree}
 use Rattle.model_laws.proofs.Numbering.{numbered_scope}
 use Rattle.run_model.proofs.NameLemmas.{name_is_free}
+use Rattle.run_model.specs.Scopes.{is_root, is_group_kind}
 use Rattle.model_laws.proofs.Owners.{kind_row, row_kind, owners_scope}
 use Rattle.model_laws.proofs.RightHits.{AreRight, are_right, hits_right, deadlines_right}
 use Rattle.model_laws.proofs.RightHits.{or_else_some, right_pushed, right_advanced}
 use Rattle.model_laws.proofs.Shapes.{IsSameScope, alike_map, tick_same}
 use Rattle.model_laws.proofs.Tests.{derived_kind, cancelled_kind}
 
-pub derived : (p : State) (name : List ℕ) (parent : ℕ) (k : Kind) → is_derivable k ≡ true
-    → has_scope p.tree parent ≡ true → is_scope_name_free p.tree name ≡ true
-    → has_scope_room p.tree ≡ true → IsConsistent p
+pub derived : (p : State) (name : List ℕ) (parent : ℕ) (k : Kind)
+    → (not (is_root k) && not (is_group_kind k)) ≡ true
+    → has_row p.tree.scopes parent ≡ true → is_none (scope_named p.tree name) ≡ true
+    → has_room (most_scopes p.tree.layout) p.tree.scopes ≡ true → IsConsistent p
     → IsConsistent (step p (event.Derive name parent k))
 derived p name parent k derivable known free room kept =
     let e : ℕ = p.count + 1 in

@@ -1,13 +1,12 @@
 -- What stays of a scope that is done.
 use Rattle.std.specs.Prelude.{◌≡◌, ◌⊎◌, ◌<◌, ℕ, List, Option, Some, length}
 use Rattle.run_model.specs.declared.scopes.Hit.{Hit}
-use Rattle.run_model.specs.declared.scopes.Reason.{Reason}
 use Rattle.run_model.specs.declared.scopes.Scope.{Scope}
 use Rattle.run_model.specs.declared.scopes.Kind.{Kind}
 use Rattle.run_model.specs.Event.{Event}
 use Rattle.run_model.specs.Rows.{at_row}
 use Rattle.run_model.specs.State.{State, TreeState}
-use Rattle.run_model.specs.Scopes.{own_hit, ending, reason_of, cause_of, AreOrdered}
+use Rattle.run_model.specs.Scopes.{own_hit, ending, AreOrdered}
 use Rattle.run_model.specs.TreeChanges.{with_hit, after_derive, after_cancel, after_advance}
 use Rattle.run_model.specs.Allowed.{after, run}
 use Rattle.run_model.specs.Rules.{IsWellFormed}
@@ -22,13 +21,10 @@ abbrev pub AreLevel : List Scope → Hit → Type 0
 AreLevel rows hit = (s : ℕ) (h : Hit) → own_hit rows s ≡ Some h
     → (h.event < hit.event) ⊎ (h ≡ hit)
 
--- Each scope that was done is done still, for the same reason and with the same cause: the hit that
--- ended it stays.
-pub record EndingsStay (old new : List Scope) : Type 0 where
-  pub reason : (s : ℕ) (reason : Reason) → reason_of old s ≡ Some reason
-      → reason_of new s ≡ Some reason
-  pub cause : (s : ℕ) (cause : List ℕ) → cause_of old s ≡ Some cause → cause_of new s ≡ Some cause
-  pub hit : (s : ℕ) (hit : Hit) → ending old s ≡ Some hit → ending new s ≡ Some hit
+-- Each scope that was done is done still, by the same hit: so for the same reason and with the same
+-- cause.
+abbrev pub EndingsStay : List Scope → List Scope → Type 0
+EndingsStay old new = (s : ℕ) (hit : Hit) → ending old s ≡ Some hit → ending new s ≡ Some hit
 
 -- A change of a tree that event e makes leaves the endings as they are, where each hit that was
 -- there came before.

@@ -4,25 +4,25 @@ use Rattle.std.specs.Prelude.{◌∷◌, is_some, IsSome, slice_get}
 use Rattle.std.specs.List.{list_any}
 use Rattle.std.specs.Option.{option_map_or}
 use Rattle.run_model.specs.declared.scopes.Scope.{Scope}
-use Rattle.run_model.specs.Scopes.{Numbered, is_detached, line, chain, own_hit, is_done}
+use Rattle.run_model.specs.Scopes.{is_detached, line, chain, own_hit, is_done}
 
 -- ---- places on a line
 
 -- Scope n stands on this line or chain.
-abbrev pub is_on : ℕ → List Numbered → Bool
+abbrev pub is_on : ℕ → List (ℕ × Scope) → Bool
 is_on n rows = list_any (λ r. r.0 == n) rows
 
 -- The scopes of a line that stand below scope n.
-abbrev pub below : ℕ → List Numbered → List Numbered
+abbrev pub below : ℕ → List (ℕ × Scope) → List (ℕ × Scope)
 below n [] = []
 below n (r ∷ rows) = if r.0 == n then [] else r ∷ below n rows
 
 -- A detached scope stands among these.
-abbrev pub has_detached : List Numbered → Bool
+abbrev pub has_detached : List (ℕ × Scope) → Bool
 has_detached rows = list_any (λ r. is_detached r.1.kind) rows
 
 -- A scope that was hit stands among these.
-abbrev pub has_hit : List Numbered → Bool
+abbrev pub has_hit : List (ℕ × Scope) → Bool
 has_hit rows = list_any (λ r. is_some r.1.hit) rows
 
 -- Scope n is detached.

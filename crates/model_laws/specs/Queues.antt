@@ -1,8 +1,10 @@
 -- The queue of a group's tasks, as lists of numbers.
 use Rattle.std.specs.Prelude.{◌≡◌, ◌≤◌, ℕ, ◌==◌, true, false, ◌&&◌, Bool, List, slice_get, filter}
+use Rattle.std.specs.Prelude.{length}
 use Rattle.std.specs.Option.{option_map_or}
 use Rattle.run_model.specs.State.{WorkState}
-use Rattle.run_model.specs.Tasks.{is_unfinished, is_admitted, is_ready, task_numbers}
+use Rattle.run_model.specs.Tasks.{is_unfinished, is_admitted, is_ready}
+use Rattle.std.specs.List.{range_with_len}
 
 -- A task is the least ready one where it is ready, and no ready task has a lesser number.
 pub record IsLeastReady (w : WorkState) (n : ℕ) : Type 0 where
@@ -21,8 +23,8 @@ is_admitted_of w g n =
 
 -- The unfinished tasks of a group, by ascending number.
 abbrev pub unfinished_tasks : WorkState → ℕ → List ℕ
-unfinished_tasks w g = filter (is_unfinished_of w g) (task_numbers w)
+unfinished_tasks w g = filter (is_unfinished_of w g) (range_with_len 0 (length w.tasks))
 
 -- The admitted tasks of a group, by ascending number.
 abbrev pub admitted_tasks : WorkState → ℕ → List ℕ
-admitted_tasks w g = filter (is_admitted_of w g) (task_numbers w)
+admitted_tasks w g = filter (is_admitted_of w g) (range_with_len 0 (length w.tasks))

@@ -11,7 +11,7 @@ use Rattle.run_model.specs.declared.tasks.Stage.{Stage}
 use Rattle.run_model.specs.declared.tasks.Stage.TheVariants as stage
 use Rattle.run_model.specs.declared.tasks.Task.{Task}
 use Rattle.run_model.specs.State.{State, WorkState}
-use Rattle.run_model.specs.Tasks.{is_running, is_running_task}
+use Rattle.run_model.specs.Tasks.{is_running, has_stage}
 
 -- A task of the group is running.
 abbrev pub has_running : WorkState → ℕ → Bool
@@ -70,7 +70,7 @@ pub record IsRestart (p q : State) : Type 0 where
   pub tree_layout : q.tree.layout ≡ p.tree.layout
   pub work_layout : q.work.layout ≡ p.work.layout
   pub clock : q.tree.clock ≡ p.tree.clock
-  pub none_running : (n : ℕ) → is_running_task q.work n ≡ false
+  pub none_running : (n : ℕ) → has_stage is_running q.work n ≡ false
   pub tasks : q.work.tasks ≡ map task_restarted p.work.tasks
   pub groups : (g : ℕ)
       → slice_get q.work.groups g ≡ option_map (group_restarted p g) (slice_get p.work.groups g)

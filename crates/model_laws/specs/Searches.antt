@@ -3,7 +3,7 @@ use Rattle.std.specs.Prelude.{◌≡◌, ℕ, true, false, if◌then◌else◌, 
 use Rattle.std.specs.Prelude.{slice_get}
 use Rattle.run_model.specs.declared.scopes.Hit.{Hit}
 use Rattle.run_model.specs.declared.scopes.Scope.{Scope}
-use Rattle.run_model.specs.Scopes.{Numbered, is_root, is_detached, line, chain, own_hit}
+use Rattle.run_model.specs.Scopes.{is_root, is_detached, line, chain, own_hit}
 use Rattle.run_model.specs.Scopes.{comes_before, first_of, first_hit, own_deadline, lesser}
 use Rattle.run_model.specs.Scopes.{deadline_of, text_under, value_of, AreOrdered}
 use Rattle.model_laws.specs.Hits.{is_on}
@@ -18,11 +18,11 @@ abbrev pub above : {X : Type 0} → (ℕ → X) → X → Scope → X
 above answer nothing row = if is_root row.kind then nothing else answer row.parent
 
 -- The line of a scope is its row, and its parent's line.
-abbrev pub line_from : List Scope → ℕ → Scope → List Numbered
+abbrev pub line_from : List Scope → ℕ → Scope → List (ℕ × Scope)
 line_from rows s row = (s, row) ∷ above (line rows) [] row
 
 -- The chain of a scope is its row, and its parent's chain; a detached scope has none.
-abbrev pub chain_from : List Scope → ℕ → Scope → List Numbered
+abbrev pub chain_from : List Scope → ℕ → Scope → List (ℕ × Scope)
 chain_from rows s row =
     if is_detached row.kind then [] else (s, row) ∷ above (chain rows) [] row
 

@@ -12,9 +12,9 @@ ghost use Rattle.run_model.specs.declared.tasks.Phase.TheVariants.{Ready};
 ghost use Rattle.run_model.specs.Questions.{task_look_of};
 ghost use Rattle.run_model.specs.Replies.{scope_of, group_of};
 ghost use Rattle.run_model.specs.declared.tasks.Task.{Task};
-ghost use Rattle.run_model.specs.Rules.{HasTask};
 ghost use Rattle.run_model.specs.State.{State};
 ghost use Rattle.run_model.specs.Session.{Session};
+ghost use Rattle.run_model.specs.Rules.{HasRow};
 ghost use Rattle.model_laws.specs.Answers.{Answered, Replied, SeesGroup, SeesStart, SeesWait};
 ghost use Rattle.model_laws.specs.Answers.{seen_name, task_seen};
 
@@ -45,7 +45,7 @@ pub fn what_is_submitted_is_seen()
         → (told ≡ Ready)
         × (task_look_of q n ≡ Some (task_seen (group_of s.state group) job argument told None)) }
     ensures retried { (s : Session) (n m : ℕ) (row : Task) (told : Phase) (q : State)
-        → HasTask s.state.work n row → Answered s (command.Retry n) (answer.Task m told) q
+        → HasRow s.state.work.tasks n row → Answered s (command.Retry n) (answer.Task m told) q
         → task_look_of q m ≡ Some (task_seen row.group row.job row.argument told (Some n)) }
 {}
 

@@ -1,7 +1,12 @@
 //! A scope that is done stays as it ended: through every later event, its reason and its cause are
 //! those that it was done with.
 
-ghost use Rattle.model_laws.specs.Endings.{EndingsStayThroughEvents, EndingsStayThroughRuns};
+ghost use Rattle.std.specs.Prelude.{◌≡◌, ℕ, List, Some};
+ghost use Rattle.run_model.specs.declared.scopes.Reason.{Reason};
+ghost use Rattle.run_model.specs.declared.scopes.Scope.{Scope};
+ghost use Rattle.run_model.specs.Scopes.{cause_of, reason_of};
+ghost use Rattle.model_laws.specs.Endings.{EndingsStay, EndingsStayThroughEvents};
+ghost use Rattle.model_laws.specs.Endings.{EndingsStayThroughRuns};
 ghost use Rattle.model_laws.specs.Endings.{DerivesKeepEndings, CancelsKeepEndings};
 ghost use Rattle.model_laws.specs.Endings.{AdvancesKeepEndings, LevelHitsKeepEndings};
 
@@ -9,6 +14,15 @@ ghost use Rattle.model_laws.specs.Endings.{AdvancesKeepEndings, LevelHitsKeepEnd
 pub fn endings_stay()
     ensures events { EndingsStayThroughEvents }
     ensures runs { EndingsStayThroughRuns }
+{}
+
+/// Where each scope that was done is done by the same hit, it is so for the same reason and with
+/// the same cause.
+pub fn reasons_and_causes_stay()
+    ensures reasons { (old new : List Scope) → EndingsStay old new → (s : ℕ) (reason : Reason)
+        → reason_of old s ≡ Some reason → reason_of new s ≡ Some reason }
+    ensures causes { (old new : List Scope) → EndingsStay old new → (s : ℕ) (cause : List ℕ)
+        → cause_of old s ≡ Some cause → cause_of new s ≡ Some cause }
 {}
 
 /// Each change of a tree by an event that comes after all its hits leaves the endings as they are.

@@ -5,14 +5,14 @@ ghost use Rattle.run_model.specs.declared.tasks.Task.{Task};
 ghost use Rattle.run_model.specs.Allowed.{allowed, after, run};
 ghost use Rattle.run_model.specs.Event.{Event};
 ghost use Rattle.run_model.specs.Event as event;
-ghost use Rattle.run_model.specs.Rules.{HasTask};
 ghost use Rattle.run_model.specs.State.{State};
 ghost use Rattle.run_model.specs.Step.{step};
+ghost use Rattle.run_model.specs.Rules.{HasRow};
 ghost use Rattle.model_laws.specs.Retries.{IsTriedAnew, KeepsLink};
 
 /// A retry is a task at the end, of the same group, job and argument, not started yet.
 pub fn a_retry_is_a_task_of_its_own()
-    ensures { (p : State) (n : ℕ) (row : Task) → HasTask p.work n row
+    ensures { (p : State) (n : ℕ) (row : Task) → HasRow p.work.tasks n row
         → IsTriedAnew p n row (step p (event.Retry n)) }
 {}
 
@@ -25,5 +25,5 @@ pub fn a_task_is_retried_once()
 /// Of which task a task is a retry stays, through every event.
 pub fn links_stay()
     ensures { (p q : State) (event : Event) (n : ℕ) (row : Task) → after p event ≡ Some q
-        → HasTask p.work n row → KeepsLink q n row }
+        → HasRow p.work.tasks n row → KeepsLink q n row }
 {}

@@ -11,12 +11,13 @@ ghost use Rattle.run_model.specs.declared.tasks.Outcome.{Outcome};
 ghost use Rattle.run_model.specs.declared.bounds.TheConstants.{MOST_TASKS, SESSION_LEN};
 ghost use Rattle.run_model.specs.Event.{Finish};
 ghost use Rattle.run_model.specs.State.{State};
-ghost use Rattle.run_model.specs.Tasks.{is_running_task};
 ghost use Rattle.run_model.specs.Allowed.{run};
-ghost use Rattle.run_model.specs.Records.{record_len, is_outcome};
+ghost use Rattle.run_model.specs.Records.{is_outcome};
+ghost use Rattle.run_model.specs.Spelling.{record_len};
 ghost use Rattle.run_model.specs.Replies.{has_waited, group_of, decide_finish};
 ghost use Rattle.run_model.specs.Session.{Session, begun_at, session_after, accepted};
 ghost use Rattle.run_model.specs.Session.{reply_of_step};
+ghost use Rattle.run_model.specs.Tasks.{has_stage, is_running};
 ghost use Rattle.model_laws.specs.Reserves.{HasReserve, can_be_written};
 
 /// The accepted events of a list of steps come to the end of the history. They are allowed one
@@ -47,10 +48,11 @@ pub fn what_is_refused_changes_nothing()
 
 /// A finish of a running task is never refused, and the log has room for its record.
 pub fn a_running_task_can_finish()
-    ensures accepted { (p : State) (n : ℕ) (outcome : Outcome) → is_running_task p.work n ≡ true
+    ensures accepted { (p : State) (n : ℕ) (outcome : Outcome)
+        → has_stage is_running p.work n ≡ true
         → decide_finish p n outcome ≡ Ok (Some (Finish n outcome)) }
     ensures room { (s : Session) (n : ℕ) (outcome : Outcome) → HasReserve s
-        → is_running_task s.state.work n ≡ true → is_outcome outcome ≡ true
+        → has_stage is_running s.state.work n ≡ true → is_outcome outcome ≡ true
         → s.log + record_len (Finish n outcome) ≤ SESSION_LEN }
 {}
 

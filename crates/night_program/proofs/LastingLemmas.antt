@@ -106,6 +106,6 @@ module _ {D : Type 0} (state : D → DiskState) where
       → InspectEnds view state found (Ok done) read w0 w1 → Appends w0 w1 (view_text view p)
   found_is_printed view found read p done w0 w1 lies (inl (q, recovered, prints)) =
       subst (λ s. Appends w0 w1 (view_text view s))
-      (stores_one (state found).now q p (recovered.stores lies.honest) lies.stores) prints
+      (stores_one (state found).now q p (recovered.holds lies.honest) lies.stores) prints
   found_is_printed view found read p done w0 w1 lies (inr (why, answer, none, quiet)) =
       absurd (cc)

@@ -5,7 +5,7 @@ use Rattle.std.proofs.Common.{[], ◌∷◌, ◌++◌, ◌+◌, ◌≤◌, lengt
 use Rattle.std.proofs.Common.{subst}
 use Rattle.std.proofs.Common.{arith, append_assoc}
 use Rattle.std.specs.Prelude.{IsTrue, is_none}
-use Rattle.std.specs.Int.{w16}
+use Rattle.std.specs.Int.{w16, to_be_bytes, w64}
 use Rattle.std.specs.List.{flat_map, AllByRecursion}
 use Rattle.std.proofs.lemmas.Option.{same_Some, none-some, cond_some}
 use Rattle.std.proofs.lemmas.Bool.{cond-true, ltb-true, lt-ltb, eqb-true, ne_eqb, eqb-false}
@@ -20,11 +20,10 @@ use Rattle.run_model.specs.declared.tasks.Stage.{Stage}
 use Rattle.run_model.specs.declared.tasks.Stage.TheVariants as stage
 use Rattle.run_model.specs.Texts.{is_name, is_text}
 use Rattle.record_view.specs.Reading.{Reader, ◌>>=◌, number_at}
-use Rattle.record_view.specs.Spelling.{moment_bytes, number_bytes}
 use Rattle.record_view.specs.Image.{flag_bytes, stage_bytes, group_bytes, task_bytes, is_kept_link}
-use Rattle.record_view.specs.Image.{link_bytes, version_bytes, is_count}
+use Rattle.record_view.specs.Image.{link_bytes, version_bytes}
 use Rattle.record_view.specs.Image.{head_bytes, is_kept_stage, is_kept_group, is_kept_task}
-use Rattle.record_view.specs.Image.{is_kept_head, is_long}
+use Rattle.record_view.specs.Image.{is_kept_head}
 use Rattle.record_view.specs.RowReading.{flag_at, flag_by, stage_at, stage_by, group_row_at}
 use Rattle.record_view.specs.RowReading.{group_made, task_at, task_made, count_at, version_at}
 use Rattle.record_view.specs.RowReading.{head_at, head_made, version_by, fewer_at, link_at, link_by}
@@ -108,7 +107,7 @@ stage_field = record {
 -- ---- links
 
 link_known :
-    (n : ℕ) (bytes rest : List ℕ) (x : Option ℕ × List ℕ) → bytes ≡ number_bytes n ++ rest →
+    (n : ℕ) (bytes rest : List ℕ) (x : Option ℕ × List ℕ) → bytes ≡ to_be_bytes w16 n ++ rest →
     is_row_number n ≡ true → link_by n rest ≡ Some x →
     Takes (link_bytes Two) (is_kept_link Two) bytes x
 unfolding link_by
@@ -117,7 +116,7 @@ link_known n bytes rest x spelled ok e =
     (λ same e.
     same_takes bytes (None, rest) x (same_Some (None, rest) x e)
     (record {
-      spelled = spelled ∙ ap (λ m. number_bytes m ++ rest) (eqb-true n 65535 same);
+      spelled = spelled ∙ ap (λ m. to_be_bytes w16 m ++ rest) (eqb-true n 65535 same);
       tested = refl;
     }))
     (λ differs e.
@@ -236,20 +235,20 @@ module _
       ap (λ m. m >>= passed) (field.again a rest (fits a ok))
       ∙ cond-true (more a) (Some (a, rest)) None ok
 
-count_long : (n : ℕ) → is_count n ≡ true → is_long n ≡ true
+count_long : (n : ℕ) → nat_lt n (2 ^ 63) ≡ true → nat_lt n (2 ^ 64) ≡ true
 count_long n ok = let h = ltb-true n (2 ^ 63) ok in lt-ltb n (2 ^ 64) (omega arith)
 
-count_field : Codec count_at moment_bytes is_count
+count_field : Codec count_at (to_be_bytes w64) (λ n. nat_lt n (2 ^ 63))
 unfolding count_at
 count_field = record {
-  takes = passed_takes long_number is_count count_long;
-  again = passed_again long_number is_count count_long;
+  takes = passed_takes long_number (λ n. nat_lt n (2 ^ 63)) count_long;
+  again = passed_again long_number (λ n. nat_lt n (2 ^ 63)) count_long;
 }
 
 -- A number of rows is below a bound that two bytes can hold.
 fewer_field :
     (bound : ℕ) → bound ≤ 2 ^ 16 →
-    Codec (fewer_at bound) number_bytes (λ n. nat_lt n bound)
+    Codec (fewer_at bound) (to_be_bytes w16) (λ n. nat_lt n bound)
 unfolding fewer_at
 fewer_field bound most = record {
   takes = passed_takes row_number (λ n. nat_lt n bound) short;
@@ -307,16 +306,16 @@ head_field layout = record {
       (second_true _ _ ok);
 }
   where
-    scopes_field : Codec (fewer_at (most_scopes layout)) number_bytes
+    scopes_field : Codec (fewer_at (most_scopes layout)) (to_be_bytes w16)
         (λ n. nat_lt n (most_scopes layout))
     scopes_field = fewer_field (most_scopes layout)
         (let h = most_scopes_most layout in omega arith)
 
-    groups_field : Codec (fewer_at (MOST_GROUPS + 1)) number_bytes
+    groups_field : Codec (fewer_at (MOST_GROUPS + 1)) (to_be_bytes w16)
         (λ n. nat_lt n (MOST_GROUPS + 1))
     groups_field = fewer_field (MOST_GROUPS + 1) (omega arith)
 
-    tasks_field : Codec (fewer_at (most_tasks layout + 1)) number_bytes
+    tasks_field : Codec (fewer_at (most_tasks layout + 1)) (to_be_bytes w16)
         (λ n. nat_lt n (most_tasks layout + 1))
     tasks_field = fewer_field (most_tasks layout + 1)
         (let h = most_tasks_most layout in omega arith)

@@ -9,22 +9,24 @@ use Rattle.run_model.specs.declared.scopes.Reason.TheVariants.{Canceled, Deadlin
 use Rattle.run_model.specs.declared.scopes.Hit.{Hit}
 use Rattle.run_model.specs.declared.scopes.Scope.{Scope}
 use Rattle.run_model.specs.Rules.{can_be_hit}
-use Rattle.run_model.specs.Records.{is_moment, optional_len}
+use Rattle.run_model.specs.Records.{is_moment}
+use Rattle.run_model.specs.Lengths.{optional_len}
 use Rattle.run_model.specs.declared.groups.Group.{Group}
 use Rattle.run_model.specs.declared.tasks.Stage.{Stage}
 use Rattle.run_model.specs.declared.tasks.Stage.TheVariants as stage
 use Rattle.run_model.specs.declared.tasks.Task.{Task}
 use Rattle.record_view.specs.declared.heads.ImageVersion.{ImageVersion}
 use Rattle.record_view.specs.declared.heads.ImageVersion.TheVariants.{One, Two}
-use Rattle.record_view.specs.Spelling.{text_bytes, number_bytes, moment_bytes, optional_bytes}
-use Rattle.record_view.specs.Spelling.{limit_bytes}
-use Rattle.record_view.specs.Image.{reason_bytes, row_kind_bytes, hit_bytes, scope_bytes}
+use Rattle.run_model.specs.Spelling.{text_bytes, optional_bytes}
+use Rattle.run_model.specs.Spelling.{limit_bytes, kind_bytes}
+use Rattle.record_view.specs.Image.{reason_bytes, hit_bytes, scope_bytes}
 use Rattle.record_view.specs.Image.{flag_bytes, stage_bytes, link_bytes, group_bytes, task_bytes}
 use Rattle.record_view.specs.Image.{task_most, is_kept_group, is_kept_stage, is_kept_task}
 use Rattle.record_view.specs.Image.{is_kept_kind, is_kept_hit, is_kept_scope}
 use Rattle.record_view.proofs.Codecs.{first_true, second_true}
-use Rattle.record_view.proofs.Lengths.{name_len, text_len, optional_len_most}
-use Rattle.record_view.proofs.Lengths.{length-kind_bytes, kind_len_most, length-optional_bytes}
+use Rattle.record_view.proofs.Lengths.{name_len, text_len, optional_len_most, kind_len_most}
+use Rattle.run_model.proofs.Lengths.{length-kind_bytes, length-optional_bytes}
+use Rattle.std.specs.Int.{to_be_bytes, w16, w64}
 use Rattle.record_view.proofs.RowJoins.{length_four, length_five, length_six}
 
 reason_len : (reason : Reason) → length (reason_bytes reason) ≡ 1
@@ -38,7 +40,7 @@ hit_len (Some hit) ok =
     omega (
       arith,
       reason_len hit.reason,
-      length_four (moment_bytes hit.event) (moment_bytes hit.moment) (reason_bytes hit.reason)
+      length_four (to_be_bytes w64 hit.event) (to_be_bytes w64 hit.moment) (reason_bytes hit.reason)
           (text_bytes hit.cause),
     )
 
@@ -65,16 +67,16 @@ link_len Two None = refl
 link_len Two (Some n) = refl
 
 -- A kind takes 99 bytes at most, and one that can be hit 74.
-kind_most : (made : Kind) → is_kept_kind made ≡ true → length (row_kind_bytes made) ≤ 99
+kind_most : (made : Kind) → is_kept_kind made ≡ true → length (kind_bytes made) ≤ 99
 kind_most kind.Root ok = omega arith
 kind_most kind.Cancel ok = omega arith
 kind_most kind.Cause ok = omega arith
 kind_most (kind.Deadline moment cause) ok =
-    let size = length-kind_bytes (kind.Deadline moment cause) ok in
+    let size = length-kind_bytes (kind.Deadline moment cause) in
     let most = kind_len_most (kind.Deadline moment cause) ok in
     omega arith
 kind_most (kind.Value key text) ok =
-    let size = length-kind_bytes (kind.Value key text) ok in
+    let size = length-kind_bytes (kind.Value key text) in
     let most = kind_len_most (kind.Value key text) ok in
     omega arith
 kind_most kind.Detached ok = omega arith
@@ -82,12 +84,12 @@ kind_most kind.Group ok = omega arith
 
 hit_kind_most :
     (made : Kind) → is_kept_kind made ≡ true → can_be_hit made ≡ true →
-    length (row_kind_bytes made) ≤ 74
+    length (kind_bytes made) ≤ 74
 hit_kind_most kind.Root ok can = omega arith
 hit_kind_most kind.Cancel ok can = omega arith
 hit_kind_most kind.Cause ok can = omega arith
 hit_kind_most (kind.Deadline moment cause) ok can =
-    let size = length-kind_bytes (kind.Deadline moment cause) ok in
+    let size = length-kind_bytes (kind.Deadline moment cause) in
     let most : optional_len cause ≤ 65 =
     optional_len_most cause (second_true (is_moment moment) _ ok) in
     omega arith
@@ -98,7 +100,7 @@ hit_kind_most kind.Group ok can = omega arith
 kind_and_hit :
     (made : Kind) (hit : Option Hit) → is_kept_kind made ≡ true → is_kept_hit hit ≡ true →
     ((h : Hit) → hit ≡ Some h → can_be_hit made ≡ true) →
-    length (row_kind_bytes made) + length (hit_bytes hit) ≤ 157
+    length (kind_bytes made) + length (hit_bytes hit) ≤ 157
 kind_and_hit made None ok hits can = let most = kind_most made ok in omega arith
 kind_and_hit made (Some hit) ok hits can =
     let most = hit_kind_most made ok (can hit refl) in
@@ -117,7 +119,7 @@ scope_len_most row ok can =
     (second_true _ _ ok) can in
     omega (
       arith,
-      length_four (text_bytes row.name) (number_bytes row.parent) (row_kind_bytes row.kind)
+      length_four (text_bytes row.name) (to_be_bytes w16 row.parent) (kind_bytes row.kind)
           (hit_bytes row.hit),
     )
 
@@ -134,7 +136,7 @@ group_len_most row ok =
       limit_len row.limit,
       flag_len row.waited,
       length-optional_bytes row.error,
-      length_six (text_bytes row.name) (number_bytes row.scope) (flag_bytes row.bare)
+      length_six (text_bytes row.name) (to_be_bytes w16 row.scope) (flag_bytes row.bare)
           (limit_bytes row.limit) (flag_bytes row.waited) (optional_bytes row.error),
     )
 
@@ -155,6 +157,6 @@ task_len_most version row ok =
       argument,
       stage,
       link,
-      length_five (number_bytes row.group) (text_bytes row.job) (text_bytes row.argument)
+      length_five (to_be_bytes w16 row.group) (text_bytes row.job) (text_bytes row.argument)
           (stage_bytes row.stage) (link_bytes version row.retry_of),
     )

@@ -5,7 +5,7 @@ use Rattle.std.specs.Option.{option_map_or}
 use Rattle.std.specs.Str.{bytes_eq}
 use Rattle.run_model.specs.declared.scopes.Scope.{Scope}
 use Rattle.run_model.specs.declared.groups.Group.{Group}
-use Rattle.run_model.specs.Rules.{is_group_kind}
+use Rattle.run_model.specs.Scopes.{is_group_kind}
 use Rattle.record_view.specs.WorkRows.{each_passes}
 
 -- The scope belongs to the group: it has the kind that groups' scopes have, and the group's name,

@@ -6,7 +6,6 @@ pub mod Reading
 pub mod Records
 pub mod RowReading
 pub mod RowViews
-pub mod Spelling
 pub mod Views
 pub mod WorkRows
 pub mod Writing

@@ -1,5 +1,5 @@
 -- Reading a row off the front of some bytes.
-use Rattle.std.specs.Prelude.{ℕ, ◌+◌, nat_lt, ◌==◌, Bool, true, false, if◌then◌else◌, List}
+use Rattle.std.specs.Prelude.{ℕ, ◌+◌, nat_lt, ◌==◌, Bool, true, false, if◌then◌else◌, List, ◌^◌}
 use Rattle.std.specs.Prelude.{Option, Some, None}
 use Rattle.std.specs.Int.{w16, w64}
 use Rattle.run_model.specs.declared.scopes.Kind.{Kind}
@@ -21,7 +21,6 @@ use Rattle.record_view.specs.Reading.{optional_at, limit_at, kind_by}
 use Rattle.record_view.specs.declared.heads.ImageHead.{ImageHead}
 use Rattle.record_view.specs.declared.heads.ImageVersion.{ImageVersion}
 use Rattle.record_view.specs.declared.heads.ImageVersion.TheVariants.{One, Two}
-use Rattle.record_view.specs.Image.{is_count}
 
 -- ---- several in a row
 
@@ -199,7 +198,7 @@ version_at bytes = do
 unfoldable pub count_at : Reader ℕ
 count_at bytes = do
   count ← number_at w64 bytes
-  if is_count count.0 then Some count else None
+  if nat_lt count.0 (2 ^ 63) then Some count else None
 
 -- A number of rows, which is below the bound.
 unfoldable pub fewer_at : ℕ → Reader ℕ

@@ -7,7 +7,7 @@ use Rattle.run_model.specs.declared.groups.Group.{Group}
 use Rattle.run_model.specs.declared.tasks.Stage.{Stage}
 use Rattle.run_model.specs.declared.tasks.Stage.TheVariants as stage
 use Rattle.run_model.specs.declared.tasks.Task.{Task}
-use Rattle.run_model.specs.Records.{kind_len}
+use Rattle.run_model.specs.Lengths.{kind_len}
 use Rattle.record_view.specs.declared.scope_rows.HitView.{HitView}
 use Rattle.record_view.specs.declared.task_rows.StageView.{StageView}
 use Rattle.record_view.specs.declared.task_rows.StageView.TheVariants as stages

@@ -2,8 +2,9 @@
 //!
 //! A record is read as a view, which lends its names and texts from the bytes, written from a view,
 //! and walked in a row with others, each exactly by the grammar. What is kept of a view is copied
-//! by [`copies`]. No call takes memory. The grammar stands in `specs/Spelling.antt` by the cases of
-//! the event, apart from the code, and its laws are the contracts of [`laws`].
+//! by [`copies`]. No call takes memory. The grammar of records stands in `Spelling.antt` of
+//! `run_model/specs/`, by the cases of the event, and that of rows in `specs/Image.antt`, both
+//! apart from the code. The laws of the first are the contracts of [`laws`].
 #![tactic(auto)]
 
 mod bodies;

@@ -5,7 +5,7 @@ use Rattle.std.specs.Option.{option_map}
 use Rattle.std.proofs.lemmas.Option.{slice_get_within, same_Some}
 use Rattle.run_model.specs.declared.scopes.Scope.{Scope}
 use Rattle.run_model.specs.Rows.{root}
-use Rattle.run_model.specs.Rules.{HasScope, IsConsistent}
+use Rattle.run_model.specs.Rules.{IsConsistent, HasRow}
 use Rattle.run_model.specs.Scopes.{is_root}
 use Rattle.run_model.specs.State.{State}
 use Rattle.state_renewal.specs.Renewed.{group_told, keeps_group, keeps_scope, keeps_task, kept}
@@ -31,7 +31,7 @@ rows_first keeps tell told rows same =
     (kept_same (goes_on (length rows) keeps) keeps rows (goes_before (length rows) keeps))
     ∙ told_same keeps tell told rows same
 
-parent_within : (p : State) → IsConsistent p → (s : ℕ) (row : Scope) → HasScope p.tree s row
+parent_within : (p : State) → IsConsistent p → (s : ℕ) (row : Scope) → HasRow p.tree.scopes s row
     → row.parent < length p.tree.scopes
 parent_within p consistent s row found = by_root (is_root row.kind) refl
   where

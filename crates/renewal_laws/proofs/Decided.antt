@@ -1,6 +1,6 @@
 -- An event that names what goes on is decided alike by both stores.
 use Rattle.std.proofs.Common.{◌≡◌, ◌&&◌, ◌+◌, ◌*◌, ℕ, Bool, true, false, not, List, [], ◌∷◌}
-use Rattle.std.proofs.Common.{Option, Some, refl, ap, ◌∙◌}
+use Rattle.std.proofs.Common.{Option, Some, refl, sym, ap, ◌∙◌}
 use Rattle.std.specs.Prelude.{Result, Ok, Err, if◌then◌else◌, nat_lt}
 use Rattle.std.proofs.lemmas.Bool.{both_ways, false_from_ne_true}
 use Rattle.run_model.specs.declared.bounds.TheConstants.{FINISH_ROOM, SESSION_LEN}
@@ -8,16 +8,19 @@ use Rattle.run_model.specs.declared.commands.Command.{Command}
 use Rattle.run_model.specs.declared.commands.Command.TheVariants as command
 use Rattle.run_model.specs.declared.refusals.Refusal.{Refusal}
 use Rattle.run_model.specs.declared.refusals.Refusal.TheVariants as refusal
-use Rattle.run_model.specs.Allowed.{allowed, holds_none, refusals, unless}
+use Rattle.run_model.specs.Allowed.{allowed, refusals, unless}
 use Rattle.run_model.specs.Event.{Event}
 use Rattle.run_model.specs.Event as event
-use Rattle.run_model.specs.Records.{record_len}
+use Rattle.run_model.specs.Lengths.{body_len}
+use Rattle.run_model.specs.Spelling.{record_len}
+use Rattle.run_model.proofs.Lengths.{record_len_is}
 use Rattle.run_model.specs.Replies.{and_then, decided, if_room, group_of, has_waited, is_full}
 use Rattle.run_model.specs.Replies.{is_repeated}
 use Rattle.run_model.specs.Rules.{IsConsistent}
 use Rattle.run_model.specs.State.{State}
 use Rattle.run_model.specs.Step.{step}
 use Rattle.run_model.specs.Tasks.{is_running, is_unfinished, running_count}
+use Rattle.std.specs.List.{list_all}
 use Rattle.state_renewal.specs.Renewed.{Part, group_anew, state_anew, task_anew, work_anew}
 use Rattle.state_renewal.specs.Told.{event_anew, has_place, names_part}
 use Rattle.renewal_laws.specs.Answered.{reply_anew, calls_part, command_anew}
@@ -69,21 +72,26 @@ running_same part p consistent go =
           (running_unfinished x.stage runs));
     })
 
+fields_anew : (part : Part) (e : Event) → body_len (event_anew part e) ≡ body_len e
+fields_anew part (event.Derive name parent kind) = refl
+fields_anew part (event.Cancel s cause) = refl
+fields_anew part (event.Advance moment) = refl
+fields_anew part (event.Group name parent) = refl
+fields_anew part (event.Bare name s) = refl
+fields_anew part (event.SetLimit g limit) = refl
+fields_anew part (event.Go g job argument) = refl
+fields_anew part (event.TryGo g job argument) = refl
+fields_anew part (event.Retry n) = refl
+fields_anew part (event.Start n) = refl
+fields_anew part (event.Finish n outcome) = refl
+fields_anew part (event.Wait g) = refl
+fields_anew part event.Restart = refl
+
 -- The record is as long in both logs.
 len_anew : (part : Part) (e : Event) → record_len (event_anew part e) ≡ record_len e
-len_anew part (event.Derive name parent kind) = refl
-len_anew part (event.Cancel s cause) = refl
-len_anew part (event.Advance moment) = refl
-len_anew part (event.Group name parent) = refl
-len_anew part (event.Bare name s) = refl
-len_anew part (event.SetLimit g limit) = refl
-len_anew part (event.Go g job argument) = refl
-len_anew part (event.TryGo g job argument) = refl
-len_anew part (event.Retry n) = refl
-len_anew part (event.Start n) = refl
-len_anew part (event.Finish n outcome) = refl
-len_anew part (event.Wait g) = refl
-len_anew part event.Restart = refl
+len_anew part e =
+    record_len_is (event_anew part e) ∙ ap (λ n. 3 + n) (fields_anew part e)
+    ∙ sym (record_len_is e)
 
 abbrev full_at : ℕ → ℕ → ℕ → Bool
 full_at log len running = nat_lt SESSION_LEN (log + len + FINISH_ROOM * running)
@@ -105,7 +113,7 @@ full_anew part p log e both is may =
 -- What follows alike from two events, follows alike where each is decided by the same tests.
 pub tests_alike : {X : Type 0} (tell : X → X) (tests : List (Bool × Refusal)) (full_new full : Bool)
     (f e : Event) (new old : Option Event → Result X Refusal)
-    → (holds_none tests ≡ true → full_new ≡ full)
+    → (list_all (λ t. not t.0) tests ≡ true → full_new ≡ full)
     → new (Some f) ≡ reply_anew tell (old (Some e))
     → and_then (unless tests (if full_new then Err refusal.SessionFull else Ok (Some f))) new
     ≡ reply_anew tell
@@ -125,8 +133,8 @@ tests_alike tell (t ∷ tests) full_new full f e new old same some =
     rest_of : Bool → Event → Result (Option Event) Refusal
     rest_of b e = unless tests (if b then Err refusal.SessionFull else Ok (Some e))
 
-    by_test : (b : Bool) → ((not b && holds_none tests) ≡ true → full_new ≡ full)
-        → ((holds_none tests ≡ true → full_new ≡ full)
+    by_test : (b : Bool) → ((not b && list_all (λ t. not t.0) tests) ≡ true → full_new ≡ full)
+        → ((list_all (λ t. not t.0) tests ≡ true → full_new ≡ full)
         → and_then (rest_of full_new f) new ≡ reply_anew tell (and_then (rest_of full e) old))
         → and_then (if b then Err t.1 else rest_of full_new f) new
         ≡ reply_anew tell (and_then (if b then Err t.1 else rest_of full e) old)
@@ -136,7 +144,7 @@ tests_alike tell (t ∷ tests) full_new full f e new old same some =
 -- What follows alike from an event and from the same told anew, follows alike where it is decided.
 pub decided_alike : {X : Type 0} (tell : X → X) (part : Part) (p : State) (log : ℕ) (e : Event)
     (new old : Option Event → Result X Refusal) → Both part p → names_part part e ≡ true
-    → has_place p e ≡ true → (holds_none (refusals p e) ≡ true → allowed p e ≡ true)
+    → has_place p e ≡ true → (list_all (λ t. not t.0) (refusals p e) ≡ true → allowed p e ≡ true)
     → new (Some (event_anew part e)) ≡ reply_anew tell (old (Some e))
     → and_then (decided (state_anew part p) log (event_anew part e)) new
     ≡ reply_anew tell (and_then (decided p log e) old)

@@ -20,11 +20,13 @@ use Rattle.run_model.specs.Rows.{at_row, new_group, new_scope, new_task}
 use Rattle.run_model.specs.State.{State, TreeState, WorkState}
 use Rattle.run_model.specs.Step.{after_group_cancel, after_task_end, own_scope, step}
 use Rattle.run_model.specs.Tasks.{running_tasks}
-use Rattle.run_model.specs.TreeChanges.{after_cancel, cancellation, hit_due, tick, with_hit}
+use Rattle.run_model.specs.TreeChanges.{after_cancel, hit_due, tick, with_hit, new_hit}
 use Rattle.run_model.specs.WorkChanges.{after_end, after_interrupt, after_retry, error_of}
-use Rattle.run_model.specs.WorkChanges.{group_of_task, groups_after, interruption, retried_row}
+use Rattle.run_model.specs.WorkChanges.{retried_row}
+use Rattle.run_model.specs.WorkChanges.{group_of_task, groups_after, interruption}
 use Rattle.run_model.specs.WorkChanges.{stage_of, with_error, with_limit, with_stage, with_wait}
 use Rattle.run_model.proofs.RowLemmas.{at_row_cases, length-at_row, map_cases, push_cases}
+use Rattle.run_model.specs.declared.scopes.Reason.TheVariants.{Canceled}
 use Rattle.state_renewal.specs.Renewed.{Part}
 use Rattle.state_renewal.specs.Told.{names_part}
 use Rattle.state_renewal.proofs.Hangs.{WithGroup, WithParent, WithScope}
@@ -102,7 +104,7 @@ scopes_ended part e w g cause t go = by_scope (own_scope w g)
     by_scope : (o : Option ℕ)
         → ScopesGo part (option_map_or (λ s. after_cancel e s cause t) o t).scopes
     by_scope None = go
-    by_scope (Some s) = scopes_hit part (cancellation e t.clock cause) s t.scopes go
+    by_scope (Some s) = scopes_hit part (new_hit e t.clock Canceled cause) s t.scopes go
 
 scopes_task : (part : Part) (e : ℕ) (w : WorkState) (n : ℕ) (error : Option (List ℕ))
     (t : TreeState) → ScopesGo part t.scopes
@@ -190,7 +192,7 @@ tree_goes : (part : Part) (p : State) (e : Event) → Goes part p → names_part
 tree_goes part p (event.Derive name parent k) go is =
     scopes_derive part (p.count + 1) p.tree.clock name parent k p.tree.scopes go.scopes is
 tree_goes part p (event.Cancel s cause) go is =
-    scopes_hit part (cancellation (p.count + 1) p.tree.clock cause) s p.tree.scopes go.scopes
+    scopes_hit part (new_hit (p.count + 1) p.tree.clock Canceled cause) s p.tree.scopes go.scopes
 tree_goes part p (event.Advance moment) go is =
     rows_map part.scopes (WithParent part) (tick (p.count + 1) moment) p.tree.scopes go.scopes
     (λ n x is. tick_is (WithParent part n) (p.count + 1) moment x is (λ hit. is))

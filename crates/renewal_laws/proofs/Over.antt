@@ -62,4 +62,4 @@ scopes_gone p q events s goes gone =
     by_end None at none = absurd (false≢true none)
     by_end (Some hit) at done =
         ap is_some
-        ((endings_run p q events (well_formed_consistent p goes.rules) goes.run).hit s hit at)
+        (endings_run p q events (well_formed_consistent p goes.rules) goes.run s hit at)

@@ -23,7 +23,8 @@ use Rattle.run_model.specs.Rules.{IsConsistent}
 use Rattle.run_model.specs.Scopes.{is_done}
 use Rattle.run_model.specs.State.{State, WorkState}
 use Rattle.run_model.specs.Step.{step}
-use Rattle.run_model.specs.Tasks.{first_ready, is_ready, phase_of, task_numbers}
+use Rattle.run_model.specs.Tasks.{first_ready, is_ready, phase_of}
+use Rattle.std.specs.List.{range_with_len}
 use Rattle.model_laws.proofs.Allowing.{unrefused_allowed}
 use Rattle.model_laws.proofs.Tests.{found_passes}
 use Rattle.state_renewal.specs.Renewed.{new_number, Part, group_anew, scope_anew, state_anew}
@@ -220,7 +221,7 @@ starts_alike part p log both =
     by_first (Some n) at =
         let is =
         ready_goes part p n both.old (hangs part p both.go).work
-        (found_passes (is_ready p.work) (task_numbers p.work) n at) in
+        (found_passes (is_ready p.work) (range_with_len 0 (length p.work.tasks)) n at) in
         by_number n (Some n) is
         (ap (λ o. ok_or o refusal.NothingReady) (started_same part p n both is)
         ∙ ok_or_anew (started_anew part) (started_of p n) refusal.NothingReady)

@@ -12,11 +12,13 @@ use Rattle.run_model.specs.declared.tasks.Task.{Task}
 use Rattle.run_model.specs.Rows.{at_row, new_group, new_scope, new_task}
 use Rattle.run_model.specs.State.{TreeState, WorkState}
 use Rattle.run_model.specs.Step.{after_group_cancel, after_task_end, own_scope}
-use Rattle.run_model.specs.TreeChanges.{after_advance, after_cancel, after_derive, cancellation}
-use Rattle.run_model.specs.TreeChanges.{hit_due, tick, with_hit}
+use Rattle.run_model.specs.TreeChanges.{after_advance, after_cancel, after_derive}
+use Rattle.run_model.specs.TreeChanges.{hit_due, tick, with_hit, new_hit}
 use Rattle.run_model.specs.WorkChanges.{after_end, after_go, after_limit, after_make, after_retry}
-use Rattle.run_model.specs.WorkChanges.{after_wait, group_of_task, groups_after, retried_row}
+use Rattle.run_model.specs.WorkChanges.{retried_row}
+use Rattle.run_model.specs.WorkChanges.{after_wait, group_of_task, groups_after}
 use Rattle.run_model.specs.WorkChanges.{with_error, with_limit, with_stage, with_wait}
+use Rattle.run_model.specs.declared.scopes.Reason.TheVariants.{Canceled}
 use Rattle.model_laws.proofs.Ends.{owner_found}
 use Rattle.state_renewal.specs.Renewed.{new_number, Part, group_anew, rows_anew, scope_anew}
 use Rattle.state_renewal.specs.Renewed.{task_anew, tree_anew, work_anew}
@@ -54,7 +56,8 @@ pub cancel_anew : (part : Part) (e s : ℕ) (cause : Option (List ℕ)) (t : Tre
     ≡ tree_anew part (after_cancel e s cause t)
 cancel_anew part e s cause t is =
     ap (λ rows. record t { scopes = rows })
-    (anew_at part.scopes (scope_anew part) (with_hit (cancellation e t.clock cause)) s t.scopes is
+    (anew_at part.scopes (scope_anew part)
+    (with_hit (new_hit e t.clock Canceled cause)) s t.scopes is
     (λ row. refl))
 
 pub advance_anew : (part : Part) (e moment : ℕ) (t : TreeState)

@@ -13,7 +13,7 @@ ghost use Rattle.run_model.specs.declared.tasks.Task.{Task};
 ghost use Rattle.run_model.specs.Allowed.{allowed, run};
 ghost use Rattle.run_model.specs.Event.{Event};
 ghost use Rattle.run_model.specs.Replies.{event_of, reply, reply_finish, reply_start};
-ghost use Rattle.run_model.specs.Rules.{HasGroup, HasTask, IsConsistent};
+ghost use Rattle.run_model.specs.Rules.{IsConsistent, HasRow};
 ghost use Rattle.run_model.specs.Scopes.{is_done};
 ghost use Rattle.run_model.specs.State.{State};
 ghost use Rattle.run_model.specs.Tasks.{is_unfinished};
@@ -73,10 +73,10 @@ pub fn what_does_not_go_on_is_finished()
     ensures scopes { (p q : State) (events : List Event) (s : ℕ) → GoesOn p events q
         → (going_on p).scopes s ≡ false → is_done q.tree.scopes s ≡ true }
     ensures groups { (p q : State) (events : List Event) (g : ℕ) (row : Group)
-        → GoesOn p events q → HasGroup q.work g row → (going_on p).groups g ≡ false
+        → GoesOn p events q → HasRow q.work.groups g row → (going_on p).groups g ≡ false
         → row.waited ≡ true }
     ensures tasks { (p q : State) (events : List Event) (n : ℕ) (row : Task)
-        → GoesOn p events q → HasTask q.work n row → (going_on p).tasks n ≡ false
+        → GoesOn p events q → HasRow q.work.tasks n row → (going_on p).tasks n ≡ false
         → is_unfinished row.stage ≡ false }
 {}
 

@@ -14,8 +14,9 @@ use Rattle.run_model.specs.Event.{Event}
 use Rattle.run_model.specs.Event as event
 use Rattle.run_model.specs.Allowed.{refusals, unless}
 use Rattle.run_model.specs.Replies.{decide_start, if_room, is_full}
-use Rattle.run_model.specs.Session.{after_step, event_of_step, made, with_event}
+use Rattle.run_model.specs.Session.{after_step, event_of_step, with_event}
 use Rattle.run_model.specs.State.{State}
+use Rattle.std.specs.Result.{result_unwrap_or}
 use Rattle.run_disk.specs.Disk.{DiskState, IsAtRest}
 use Rattle.run_disk.proofs.RunLemmas.{leaves_only_more}
 use Rattle.model_laws.proofs.StartingReplies.{start_of}
@@ -30,7 +31,7 @@ use Rattle.run_crew.specs.Openings.{is_work, obeys, opened_of}
 
 -- All that a decision leads to are starts and finishes.
 abbrev pub works : Result (Option Event) Refusal → Bool
-works decision = list_all is_work (option_to_list (made decision))
+works decision = list_all is_work (option_to_list (result_unwrap_or decision None))
 
 room_works : (p : State) (log : ℕ) (e : Event) → is_work e ≡ true → works (if_room p log e) ≡ true
 room_works p log e is =

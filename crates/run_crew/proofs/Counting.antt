@@ -10,8 +10,9 @@ use Rattle.run_model.specs.declared.refusals.Refusal.TheVariants.{SessionFull}
 use Rattle.run_model.specs.Event.{Event}
 use Rattle.run_model.specs.Allowed.{refusals, unless}
 use Rattle.run_model.specs.Replies.{decide, decided, event_of, if_room, is_full, is_repeated}
-use Rattle.run_model.specs.Session.{event_of_step, made}
+use Rattle.run_model.specs.Session.{event_of_step}
 use Rattle.run_model.specs.State.{State}
+use Rattle.std.specs.Result.{result_unwrap_or}
 use Rattle.book_model.specs.Books.{BookView}
 use Rattle.model_laws.specs.Kinds.{is_finish, is_start}
 use Rattle.model_laws.proofs.Commanding.{command_event}
@@ -19,7 +20,7 @@ use Rattle.run_crew.proofs.Carrying.{added_by}
 
 -- How many of the events that a decision leads to pass the test.
 abbrev pub count_made : (Event → Bool) → Result (Option Event) Refusal → ℕ
-count_made test decision = count_by test (option_to_list (made decision))
+count_made test decision = count_by test (option_to_list (result_unwrap_or decision None))
 
 -- No refusal passes it.
 unless_none :

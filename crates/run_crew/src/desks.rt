@@ -86,7 +86,8 @@ impl<D: RunDisk, S: Ledger, F: Ledger, O: Opening> Desk<D, S, F, O> {
     }
 
     /// Starts the ready task with the least number, as [`Book::start`] does. Where it is accepted,
-    /// the seat has counted one start more.
+    /// the seat has counted one start more. A clause more than six, since two values change: the
+    /// book, of which four clauses speak, and the seat.
     pub fn start_as(&mut self, seat: &mut Seat<S, F>) -> Result<Started, Refusal>
         requires part { 0 < seat.old.start_parts }
         ensures reply { result ≡ unless_broken self.old.book
@@ -107,7 +108,7 @@ impl<D: RunDisk, S: Ledger, F: Ledger, O: Opening> Desk<D, S, F, O> {
     }
 
     /// Ends a running task with this outcome, as [`Book::finish`] does. Where it is accepted, the
-    /// seat has counted one finish more.
+    /// seat has counted one finish more. A clause more than six, as of [`Desk::start_as`].
     pub fn finish_as(
         &mut self,
         seat: &mut Seat<S, F>,

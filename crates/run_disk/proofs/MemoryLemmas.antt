@@ -10,7 +10,7 @@ use Rattle.std.proofs.lemmas.List.Folds.{list_any-append}
 use Rattle.std.proofs.lemmas.List.Elements.{All-nil, All-weaker, All-push}
 use borrow.Rule.Slice.PartMut.{put_mid}
 use Rattle.run_disk.specs.declared.tears.Torn.TheVariants.{Take}
-use Rattle.run_disk.specs.Contents.{SameOutside, Puts, Within, Follows}
+use Rattle.run_disk.specs.Contents.{SameOutside, Puts, Follows}
 use Rattle.run_disk.specs.Disk.{Begins, last_moment}
 use Rattle.run_disk.specs.Calls.{Calls, Reads, Writes, Syncs}
 use Rattle.run_disk.specs.Writes.{Write, History, and_write, and_sync, beginning}
@@ -23,6 +23,10 @@ use Rattle.run_disk.proofs.MomentLemmas.{and_false, byte_whole, tears, byte_afte
 use Rattle.run_disk.proofs.MomentLemmas.{is_unsynced-quiet, byte_after-later_write}
 use Rattle.run_disk.proofs.MomentLemmas.{is_unsynced-later_write, byte_after-later_sync}
 use Rattle.run_disk.proofs.MomentLemmas.{is_unsynced-later_sync, is_unsynced-synced}
+
+-- Each of the new contents is one of the old.
+abbrev Within : (List ℕ → Type 0) → (List ℕ → Type 0) → Type 0
+Within new old = (x : List ℕ) → new x → old x
 
 -- A disk before its first call.
 pub begun_kept : (bytes : List ℕ) → length bytes < 2 ^ 64 → IsKept (beginning bytes) bytes 0 0

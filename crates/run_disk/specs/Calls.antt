@@ -1,6 +1,6 @@
 -- What one read, write or sync does to a disk.
 use Rattle.std.specs.Prelude.{◌≡◌, ◌⊎◌, ◌<◌, ◌≤◌, ◌+◌, ℕ, List, length, Result, OnOk, OnErr}
-use Rattle.run_disk.specs.Contents.{SameOutside, Holds, Within, Follows}
+use Rattle.run_disk.specs.Contents.{SameOutside, Holds, Follows}
 use Rattle.run_disk.specs.Disk.{DiskState, IsSame, IsSynced, last_moment}
 
 -- What each call does, on any disk: it is counted, and so is its failure; a crash inside it leaves
@@ -21,7 +21,7 @@ pub record Calls {T E : Type 0} (old new : DiskState) (result : Result T E) : Ty
 -- more, and no more is unsure.
 pub record Reads (old new : DiskState) : Type 0 where
   pub now : new.now ≡ old.now
-  pub images : Within new.images old.images
+  pub images : (x : List ℕ) → new.images x → old.images x
   pub unsure : (i : ℕ) → new.unsure i → old.unsure i
 
 -- What a write of these bytes does to an honest disk: each of the new images is an old one with
@@ -41,6 +41,6 @@ pub record Writes {T E : Type 0}
 -- disk is synced.
 pub record Syncs {T E : Type 0} (old new : DiskState) (result : Result T E) : Type 0 where
   pub now : new.now ≡ old.now
-  pub images : Within new.images old.images
+  pub images : (x : List ℕ) → new.images x → old.images x
   pub unsure : (i : ℕ) → new.unsure i → old.unsure i
   pub synced : OnOk result (IsSynced new)

@@ -17,10 +17,6 @@ pub record Puts (at : ℕ) (bytes old new : List ℕ) : Type 0 where
   pub outside : SameOutside at (length bytes) old new
   pub inside : Holds at bytes new
 
--- Each of the new contents is one of the old.
-abbrev pub Within : (List ℕ → Type 0) → (List ℕ → Type 0) → Type 0
-Within new old = (x : List ℕ) → new x → old x
-
 -- Each of the new contents comes from one of the old by this step.
 abbrev pub Follows :
     (List ℕ → List ℕ → Type 0) → (List ℕ → Type 0) → (List ℕ → Type 0) → Type 0

@@ -3,7 +3,7 @@ use Rattle.std.specs.Prelude.{◌≡◌, ◌⊎◌, ◌<◌, ◌≤◌, ◌+◌,
 use Rattle.std.specs.Prelude.{Result, OnOk, OnErr, IfErr}
 use Rattle.run_model.specs.declared.faults.Fault.{Fault}
 use Rattle.run_model.specs.declared.faults.Fault.TheVariants.{DiskFailed}
-use Rattle.run_disk.specs.Contents.{Holds, Within, Follows}
+use Rattle.run_disk.specs.Contents.{Holds, Follows}
 use Rattle.run_disk.specs.Disk.{DiskState, IsSynced, last_moment}
 
 -- What any run of calls does, on any disk: neither count falls, and size and honesty stay.
@@ -83,8 +83,8 @@ pub record LeavesOnly (P : List ℕ → Type 0) (old new : DiskState) : Type 0 w
 pub record OnlyReads (old new : DiskState) : Type 0 where
   pub later : old.clock ≤ new.clock
   pub now : new.now ≡ old.now
-  pub images : Within new.images old.images
-  pub each : Within (new.since old.clock) old.images
+  pub images : (x : List ℕ) → new.images x → old.images x
+  pub each : (x : List ℕ) → new.since old.clock x → old.images x
   pub before : (t : ℕ) (x : List ℕ) → t ≤ old.clock → new.since t x → old.since t x ⊎ old.images x
   pub unsure : (i : ℕ) → new.unsure i → old.unsure i
 

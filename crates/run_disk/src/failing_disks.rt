@@ -1,9 +1,8 @@
 //! A [`FailingDisk`] is a disk over another that fails some of its calls by itself: a [`Fuse`]
 //! fails for good behind so many calls, a [`FailOnce`] fails a single one.
 
-ghost use Rattle.std.specs.Prelude.{◌≡◌, ◌≤◌, ◌+◌, ◌-◌, [], length, OnOk, slice_range};
+ghost use Rattle.std.specs.Prelude.{◌≡◌, ◌≤◌, ◌+◌, ◌-◌, [], length, OnOk, slice_range, List, ℕ};
 ghost use Rattle.std.specs.Bool.{OnFalse, OnTrue};
-ghost use Rattle.run_disk.specs.Contents.{Within};
 ghost use Rattle.run_disk.specs.Calls.{Calls, Reads, Writes, Syncs};
 ghost use Rattle.run_disk.specs.Disk.{last_moment};
 ghost use Rattle.run_disk.specs.Over.{IsOver, LeftSame, Relays, ShowsSame, over_is_disk};
@@ -154,7 +153,7 @@ impl<D: RunDisk, W> RunDisk for FailingDisk<D, W> {
             (below self.old) (below self.new) result }
         ensures same { IsSetAs self.old self.new }
         ensures nothing { (state_of self.old).honest → bytes.now ≡ []
-            → Within (state_of self.new).images (state_of self.old).images }
+            → (x : List ℕ) → (state_of self.new).images x → (state_of self.old).images x }
     {
         if !self.passes_next() {
             // the disk below stays as it is, also where there is nothing to write

@@ -11,8 +11,8 @@ use Rattle.run_model.specs.declared.groups.Group.{Group}
 use Rattle.run_model.specs.declared.tasks.Task.{Task}
 use Rattle.run_model.specs.Layouts.{most_scopes, most_tasks}
 use Rattle.run_model.specs.Rows.{root}
-use Rattle.run_model.specs.Rules.{HasGroup, HasTask, AreAdmitted, AreGroupScopes, AreLinked, Owns}
-use Rattle.run_model.specs.Rules.{can_be_hit, has_task_error}
+use Rattle.run_model.specs.Rules.{AreAdmitted, AreGroupScopes, AreLinked, Owns}
+use Rattle.run_model.specs.Rules.{can_be_hit, has_task_error, HasRow}
 use Rattle.run_model.specs.Scopes.{is_root, own_hit, own_deadline, AreOrdered}
 use Rattle.run_model.specs.State.{State, TreeState, WorkState}
 
@@ -53,10 +53,11 @@ pub record AreTreeRules (count : ℕ) (t : TreeState) : Type 0 where
 pub record AreWorkRules (w : WorkState) : Type 0 where
   pub few_groups : length w.groups ≤ MOST_GROUPS
   pub few_tasks : length w.tasks ≤ most_tasks w.layout
-  pub names : (g h : ℕ) (a b : Group) → HasGroup w g a → HasGroup w h b → a.name ≡ b.name → g ≡ h
-  pub known : (n : ℕ) (row : Task) → HasTask w n row → row.group < length w.groups
+  pub names : (g h : ℕ) (a b : Group) → HasRow w.groups g a → HasRow w.groups h b → a.name ≡ b.name
+      → g ≡ h
+  pub known : (n : ℕ) (row : Task) → HasRow w.tasks n row → row.group < length w.groups
   pub admitted : AreAdmitted w
-  pub exact : (g : ℕ) (row : Group) → HasGroup w g row
+  pub exact : (g : ℕ) (row : Group) → HasRow w.groups g row
       → IsSome row.error ↔ IsTrue (has_task_error w g)
   pub links : AreLinked w
 
@@ -66,7 +67,7 @@ pub record AreWorkRules (w : WorkState) : Type 0 where
 -- aren't bare belong together, and the scope of such a group is hit where the group has an error or
 -- was waited for.
 pub record AreCrossRules (p : State) : Type 0 where
-  pub known : (g : ℕ) (row : Group) → HasGroup p.work g row → row.scope < length p.tree.scopes
+  pub known : (g : ℕ) (row : Group) → HasRow p.work.groups g row → row.scope < length p.tree.scopes
   pub owned : AreGroupScopes p
   pub ended : (g s : ℕ) (row : Group) → Owns p.work g row s → IsSome row.error ⊎ (row.waited ≡ true)
       → IsSome (own_hit p.tree.scopes s)

@@ -16,6 +16,11 @@ abbrev pub is_root : Kind → Bool
 is_root kind.Root = true
 is_root _ = false
 
+-- A group's own scope.
+abbrev pub is_group_kind : Kind → Bool
+is_group_kind kind.Group = true
+is_group_kind _ = false
+
 -- A scope that is not done when its parent is.
 abbrev pub is_detached : Kind → Bool
 is_detached kind.Detached = true
@@ -23,32 +28,29 @@ is_detached _ = false
 
 -- ---- the scopes above a scope
 
--- A row with its number.
-abbrev pub Numbered : Type 0
-Numbered = ℕ × Scope
-
--- A row comes first, and those above it follow; nothing is above root.
-abbrev pub upwards : (ℕ → List Numbered) → ℕ → Option Scope → List Numbered
+-- Rows, each with its number: this one comes first, and those above it follow; nothing is above
+-- root.
+abbrev pub upwards : (ℕ → List (ℕ × Scope)) → ℕ → Option Scope → List (ℕ × Scope)
 upwards above s None = []
 upwards above s (Some row) = (s, row) ∷ (if is_root row.kind then [] else above row.parent)
 
 -- The row and those above it, but no more than so many.
-abbrev pub line_within : ℕ → List Scope → ℕ → List Numbered
+abbrev pub line_within : ℕ → List Scope → ℕ → List (ℕ × Scope)
 line_within zero rows s = []
 line_within (suc most) rows s = upwards (line_within most rows) s (slice_get rows s)
 
 -- The line of a scope is its row and those above it up to root. A parent has a lesser number, so
 -- there are at most as many above it as its number says.
-abbrev pub line : List Scope → ℕ → List Numbered
+abbrev pub line : List Scope → ℕ → List (ℕ × Scope)
 line rows s = line_within (suc s) rows s
 
 -- The rows before the first detached one.
-abbrev pub before_detached : List Numbered → List Numbered
+abbrev pub before_detached : List (ℕ × Scope) → List (ℕ × Scope)
 before_detached [] = []
 before_detached (r ∷ rs) = if is_detached r.1.kind then [] else r ∷ before_detached rs
 
 -- The chain of a scope is its line up to the first detached scope, which is not on it.
-abbrev pub chain : List Scope → ℕ → List Numbered
+abbrev pub chain : List Scope → ℕ → List (ℕ × Scope)
 chain rows s = before_detached (line rows s)
 
 -- ---- done, reason and cause
@@ -58,7 +60,7 @@ abbrev pub own_hit : List Scope → ℕ → Option Hit
 own_hit rows s = option_and_then (λ row. row.hit) (slice_get rows s)
 
 -- A row's hit, with the number of the row.
-abbrev pub hit_at : Numbered → Option (ℕ × Hit)
+abbrev pub hit_at : ℕ × Scope → Option (ℕ × Hit)
 hit_at r = option_map (λ hit. (r.0, hit)) r.1.hit
 
 -- Hits go by event, then by moment, then by the number of the scope.

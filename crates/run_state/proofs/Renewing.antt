@@ -12,7 +12,7 @@ use Rattle.run_model.specs.declared.layouts.Layout.{Layout}
 use Rattle.run_model.specs.declared.scopes.Scope.{Scope}
 use Rattle.run_model.specs.declared.tasks.Task.{Task}
 use Rattle.run_model.specs.Layouts.{most_scopes, most_tasks}
-use Rattle.run_model.specs.Rules.{HasTask, IsConsistent}
+use Rattle.run_model.specs.Rules.{IsConsistent, HasRow}
 use Rattle.run_model.specs.Scopes.{is_root}
 use Rattle.run_model.specs.Rows.{root}
 use Rattle.run_model.specs.State.{State, TreeState, WorkState}
@@ -66,14 +66,14 @@ behind_known p many rules same s row found =
 
 -- ---- tasks
 
-link_known : (p : State) → IsConsistent p → (n : ℕ) (row : Task) → HasTask p.work n row
+link_known : (p : State) → IsConsistent p → (n : ℕ) (row : Task) → HasRow p.work.tasks n row
     → (o : Option ℕ) → row.retry_of ≡ o → IfSome o (λ m. m < length p.work.tasks)
 link_known p rules n row found None is = tt
 link_known p rules n row found (Some m) is =
     let old = rules.links.linked n m row found is in
     slice_get_within p.work.tasks m old.0 old.1
 
-pub links_known : (p : State) → IsConsistent p → (n : ℕ) (row : Task) → HasTask p.work n row
+pub links_known : (p : State) → IsConsistent p → (n : ℕ) (row : Task) → HasRow p.work.tasks n row
     → IfSome row.retry_of (λ m. m < length p.work.tasks)
 links_known p rules n row found = link_known p rules n row found row.retry_of refl
 

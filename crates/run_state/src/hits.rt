@@ -2,7 +2,7 @@
 
 ghost use Rattle.std.specs.Prelude.{◌≡◌, Some, IsTrue, fold, All};
 ghost use Rattle.run_model.specs.Allowed.{has_kind};
-ghost use Rattle.run_model.specs.Rules.{is_group_kind};
+ghost use Rattle.run_model.specs.Scopes.{is_group_kind};
 ghost use Rattle.run_model.specs.Texts.{IsText};
 ghost use Rattle.run_model.specs.TreeChanges.{after_cancel};
 ghost use Rattle.model_laws.specs.Endings.{AreEarlier};

@@ -4,7 +4,7 @@ use Rattle.std.proofs.Common.{◌≡◌, ◌⊎◌, ◌<◌, ℕ, Bool, true, fa
 use Rattle.std.proofs.Common.{Option, Some, None, slice_get, Less, Equal, Greater, inl}
 use Rattle.std.proofs.Common.{inr, refl}
 use Rattle.std.proofs.Common.{sym, subst, ap, ◌∙◌, arith}
-use Rattle.std.specs.Option.{option_map, option_and_then, IsSome, IfSome, unwrap_or}
+use Rattle.std.specs.Option.{option_map, option_and_then, IsSome, IfSome, unwrap_or, option_or}
 use Rattle.std.specs.Ordering.{nat_cmp, ordering_then, is_lt}
 use Rattle.std.specs.Cmp.{nat_cmp_is}
 use Rattle.std.proofs.lemmas.Bool.{cases_lt, cases_eq, false≢true}
@@ -14,18 +14,18 @@ use Rattle.run_model.specs.declared.scopes.Hit.{Hit}
 use Rattle.run_model.specs.declared.scopes.Reason.TheVariants.{Canceled}
 use Rattle.run_model.specs.declared.scopes.Scope.{Scope}
 use Rattle.run_model.specs.Reasons.{reason_text}
-use Rattle.run_model.specs.Rows.{at_row, or_else}
-use Rattle.run_model.specs.Scopes.{own_hit, comes_before, first_hit, ending}
+use Rattle.run_model.specs.Rows.{at_row}
+use Rattle.run_model.specs.Scopes.{own_hit, comes_before, first_hit, ending, is_group_kind}
 use Rattle.run_model.specs.Scopes.{AreOrdered}
 use Rattle.run_model.specs.Allowed.{has_kind}
-use Rattle.run_model.specs.Rules.{is_group_kind, can_be_hit}
+use Rattle.run_model.specs.Rules.{can_be_hit}
 use Rattle.run_model.specs.State.{TreeState}
-use Rattle.run_model.specs.TreeChanges.{with_hit, cancellation}
+use Rattle.run_model.specs.TreeChanges.{with_hit, new_hit}
 use Rattle.run_model.proofs.RowLemmas.{slice_get-at_row_same, slice_get-at_row_other}
 use Rattle.model_laws.specs.Endings.{EndingsStay}
 use Rattle.model_laws.specs.Searches.{joined}
 use Rattle.model_laws.proofs.Relates.{IsKept, RowsRelate, first_hits_relate}
-use Rattle.model_laws.proofs.Stays.{earlier_comes_before, later_comes_behind, endings_from}
+use Rattle.model_laws.proofs.Stays.{earlier_comes_before, later_comes_behind}
 use Rattle.scope_tree.specs.Checks.{AreEarlierOrAlike}
 use Rattle.scope_tree.specs.Marks.{Struck}
 use Rattle.scope_tree.specs.Sound.{ArePastHits, IsPastHit}
@@ -189,7 +189,7 @@ level_kept hit = record {
   );
 }
 
-own_says : (hit : Hit) (own : Option Hit) → OwnSays hit own (or_else own hit)
+own_says : (hit : Hit) (own : Option Hit) → OwnSays hit own (option_or own (Some hit))
 own_says hit None = inr (refl, refl)
 own_says hit (Some h) = inl refl
 
@@ -242,7 +242,7 @@ ending_stays hit s rows ordered level n h was = by_first (first_hit rows n) refl
 
 are_level : (e clock : ℕ) (cause : Option (List ℕ)) (rows : List Scope) → ArePastHits clock rows
     → AreEarlierOrAlike rows e (unwrap_or cause (reason_text Canceled))
-    → AreLevel (cancellation e clock cause) rows
+    → AreLevel (new_hit e clock Canceled cause) rows
 are_level e clock cause rows past later n h own =
     option_and_then_some (λ row. row.hit) (slice_get rows n) h own
     (λ row found has. by_event row (later n row h found has) (past n row h found has))
@@ -252,10 +252,10 @@ are_level e clock cause rows past later n h own =
 
     by_event : (row : Scope)
         → (h.event < e) ⊎ ((h.event ≡ e) × (is_group_kind row.kind ≡ true) × (h.cause ≡ text))
-        → IsPastHit clock row.kind h → IsLevel (cancellation e clock cause) h
-    by_event row (inl less) of = inl (earlier_event h (cancellation e clock cause) less)
+        → IsPastHit clock row.kind h → IsLevel (new_hit e clock Canceled cause) h
+    by_event row (inl less) of = inl (earlier_event h (new_hit e clock Canceled cause) less)
     by_event row (inr alike) of = elim (cases_lt h.moment clock) [
-      | inl less ↦ inl (earlier_moment h (cancellation e clock cause) alike.0 less)
+      | inl less ↦ inl (earlier_moment h (new_hit e clock Canceled cause) alike.0 less)
       | inr reached ↦ inr (same_hit e clock text h alike.0
           (let same : h.moment ≡ clock = omega (arith, of.past) in same) (of.cancels alike.1)
           alike.2)
@@ -264,19 +264,18 @@ are_level e clock cause rows past later n h own =
 pub endings_stay_alike : (e clock s : ℕ) (cause : Option (List ℕ)) (rows : List Scope)
     → AreOrdered rows → ArePastHits clock rows
     → AreEarlierOrAlike rows e (unwrap_or cause (reason_text Canceled))
-    → EndingsStay rows (at_row (with_hit (cancellation e clock cause)) s rows)
+    → EndingsStay rows (at_row (with_hit (new_hit e clock Canceled cause)) s rows)
 endings_stay_alike e clock s cause rows ordered past later =
-    let hit = cancellation e clock cause in
-    endings_from rows (at_row (with_hit hit) s rows)
-    (ending_stays hit s rows ordered (are_level e clock cause rows past later))
+    let hit = new_hit e clock Canceled cause in
+    ending_stays hit s rows ordered (are_level e clock cause rows past later)
 
 -- So the marks can go down from this hit.
 pub struck_alike : (t : TreeState) (e s : ℕ) (cause : Option (List ℕ)) → AreOrdered t.scopes
     → ArePastHits t.clock t.scopes
     → AreEarlierOrAlike t.scopes e (unwrap_or cause (reason_text Canceled))
-    → has_kind can_be_hit t s ≡ true → Struck t.scopes s (cancellation e t.clock cause)
+    → has_kind can_be_hit t s ≡ true → Struck t.scopes s (new_hit e t.clock Canceled cause)
 struck_alike t e s cause ordered past later can = record {
   joins = λ row found. can_be_hit_joins row.kind (kind_passed can_be_hit t s row can found);
-  stays = λ n h known. ending_stays (cancellation e t.clock cause) s t.scopes ordered
+  stays = λ n h known. ending_stays (new_hit e t.clock Canceled cause) s t.scopes ordered
       (are_level e t.clock cause t.scopes past later) n h;
 }

@@ -2,7 +2,7 @@
 use Rattle.std.proofs.Common.{◌≡◌, ◌⊎◌, ◌<◌, ◌+◌, ℕ, Bool, true, false, List, Option, Some, None}
 use Rattle.std.proofs.Common.{slice_get, inl, inr}
 use Rattle.std.proofs.Common.{refl, sym, subst, ap, ◌∙◌, arith}
-use Rattle.std.specs.Option.{option_and_then, option_map, option_map_or, unwrap_or}
+use Rattle.std.specs.Option.{option_and_then, option_map, option_map_or, unwrap_or, option_or}
 use Rattle.std.proofs.lemmas.Bool.{cases_eq}
 use Rattle.std.proofs.lemmas.Option.{same_Some, option_and_then_some}
 use Rattle.run_model.specs.declared.scopes.Hit.{Hit}
@@ -11,10 +11,10 @@ use Rattle.run_model.specs.declared.scopes.Reason.TheVariants.{Canceled}
 use Rattle.run_model.specs.declared.scopes.Scope.{Scope}
 use Rattle.run_model.specs.Allowed.{has_kind}
 use Rattle.run_model.specs.Reasons.{reason_text}
-use Rattle.run_model.specs.Rows.{at_row, or_else}
-use Rattle.run_model.specs.Rules.{is_group_kind}
+use Rattle.run_model.specs.Rows.{at_row}
+use Rattle.run_model.specs.Scopes.{is_group_kind}
 use Rattle.run_model.specs.State.{TreeState}
-use Rattle.run_model.specs.TreeChanges.{with_hit, cancellation, after_cancel}
+use Rattle.run_model.specs.TreeChanges.{with_hit, after_cancel, new_hit}
 use Rattle.run_model.proofs.RowLemmas.{at_row_cases, slice_get-at_row_same, slice_get-at_row_other}
 use Rattle.model_laws.specs.Endings.{AreEarlier}
 use Rattle.model_laws.proofs.Follows.{RowsFollow}
@@ -55,7 +55,7 @@ alike_again t e s cause group later n row hit found has =
     ]
   where
     new : Hit
-    new = cancellation e t.clock cause
+    new = new_hit e t.clock Canceled cause
 
     IsAlike : Scope → Type 0
     IsAlike r = (hit.event < e)
@@ -66,7 +66,7 @@ alike_again t e s cause group later n row hit found has =
     Says r = r.hit ≡ Some hit → IsAlike r
 
     by_own : (old : Scope) → slice_get t.scopes s ≡ Some old → slice_get t.scopes n ≡ Some old
-        → (own : Option Hit) → old.hit ≡ own → or_else own new ≡ Some hit → IsAlike old
+        → (own : Option Hit) → old.hit ≡ own → option_or own (Some new) ≡ Some hit → IsAlike old
     by_own old here at None is came =
         let same = same_Some new hit came in
         inr (
@@ -94,7 +94,7 @@ has_kind-after_cancel test t e s n cause = elim (cases_eq n s) [
 ]
   where
     hit : Hit
-    hit = cancellation e t.clock cause
+    hit = new_hit e t.clock Canceled cause
 
     passes : Option Scope → Bool
     passes found = option_map_or (λ row. test row.kind) found false

@@ -3,7 +3,7 @@ use Rattle.std.proofs.Common.{◌≡◌, ◌≢◌, ◌⊎◌, ◌+◌, ◌*◌,
 use Rattle.std.proofs.Common.{[]}
 use Rattle.std.proofs.Common.{◌∷◌, length, map, Option, Some, None, slice_get, unwrap_or}
 use Rattle.std.proofs.Common.{inl, inr, refl, sym, ap, ◌∙◌, subst, arith}
-use Rattle.std.specs.Option.{option_and_then, option_map, option_map_or, IsSome}
+use Rattle.std.specs.Option.{option_and_then, option_map, option_map_or, IsSome, option_or}
 use Rattle.std.specs.Cmp.{nat_cmp_is}
 use Rattle.std.specs.declared.cmp.Ordering.TheVariants.{Less, Equal, Greater}
 use Rattle.std.proofs.lemmas.Bool.{cases_lt, cases_eq}
@@ -12,7 +12,7 @@ use Rattle.std.proofs.lemmas.Option.{none-some, same_Some, slice_get_within}
 use Rattle.run_model.specs.declared.bounds.TheConstants.{MOST_SCOPES}
 use Rattle.run_model.specs.declared.scopes.Hit.{Hit}
 use Rattle.run_model.specs.declared.scopes.Scope.{Scope}
-use Rattle.run_model.specs.Rows.{at_row, or_else}
+use Rattle.run_model.specs.Rows.{at_row}
 use Rattle.run_model.specs.Scopes.{own_hit, own_deadline, is_detached, comes_before, ending}
 use Rattle.run_model.specs.Scopes.{AreOrdered}
 use Rattle.run_model.specs.TreeChanges.{with_hit, tick, hit_due}
@@ -100,7 +100,7 @@ latest_of rows due event n hit few before among is within of free t h own =
 hit_again : (hit : Hit) (row : Scope) (had : Option Hit) (x : Hit) → row.hit ≡ had
     → had ≡ Some x → with_hit hit row ≡ row
 hit_again hit row had x at is =
-    ap (λ o. record row { hit = or_else o hit }) (at ∙ is)
+    ap (λ o. record row { hit = option_or o (Some hit) }) (at ∙ is)
     ∙ ap (λ o. record row { hit = o }) (sym (at ∙ is))
 
 twice : (hit : Hit) (row : Scope) → with_hit hit (with_hit hit row) ≡ with_hit hit row
@@ -108,8 +108,8 @@ twice hit row = by_own row.hit refl
   where
     by_own : (had : Option Hit) → row.hit ≡ had → with_hit hit
         (with_hit hit row) ≡ with_hit hit row
-    by_own None at = ap (λ o. record row { hit = or_else (or_else o hit) hit }) at
-        ∙ sym (ap (λ o. record row { hit = or_else o hit }) at)
+    by_own None at = ap (λ o. record row { hit = option_or (option_or o (Some hit)) (Some hit) }) at
+        ∙ sym (ap (λ o. record row { hit = option_or o (Some hit) }) at)
     by_own (Some x) at = ap (with_hit hit) (hit_again hit row (Some x) x at refl)
 
 rows_again : (hit : Hit) (n : ℕ) (rows : List Scope) (x : Hit) → own_hit rows n ≡ Some x
@@ -261,7 +261,7 @@ module _ (start rows : List Scope) (links marks : List (Option ℕ)) (due due' :
           (sym (ap (option_and_then (λ r. r.hit)) (slice_get-at_row_same (with_hit hit) n rows
           ∙ ap (option_map (with_hit hit)) has.found)) ∙ none)
         where
-          by_own : (had : Option Hit) → or_else had hit ≡ None → ⊥
+          by_own : (had : Option Hit) → option_or had (Some hit) ≡ None → ⊥
           by_own None is = none-some hit (sym is)
           by_own (Some x) is = none-some x (sym is)
 

@@ -3,7 +3,7 @@ use Rattle.std.proofs.Common.{◌≡◌, ◌<◌, ◌≤◌, ℕ, zero, suc, tru
 use Rattle.std.proofs.Common.{map}
 use Rattle.std.proofs.Common.{Option, Some, None, slice_get, inl, inr, refl, sym, subst, ap, ◌∙◌}
 use Rattle.std.proofs.Common.{arith}
-use Rattle.std.specs.Option.{option_map, option_map_or}
+use Rattle.std.specs.Option.{option_map, option_map_or, option_or}
 use Rattle.std.proofs.lemmas.Bool.{false≢true, leb-true}
 use Rattle.std.proofs.lemmas.Option.{none-some, same_Some, cond_some, slice_get_within}
 use Rattle.run_model.specs.declared.scopes.Hit.{Hit}
@@ -11,12 +11,13 @@ use Rattle.run_model.specs.declared.scopes.Kind.{Kind}
 use Rattle.run_model.specs.declared.scopes.Kind.TheVariants as kinds
 use Rattle.run_model.specs.declared.scopes.Scope.{Scope}
 use Rattle.run_model.specs.Allowed.{is_cancellable}
-use Rattle.run_model.specs.Rows.{root, new_scope, at_row, or_else}
-use Rattle.run_model.specs.Rules.{can_be_hit, is_group_kind}
-use Rattle.run_model.specs.Scopes.{is_root, AreOrdered}
-use Rattle.run_model.specs.TreeChanges.{with_hit, cancellation, expiry, hit_due, tick}
+use Rattle.run_model.specs.Rows.{root, new_scope, at_row}
+use Rattle.run_model.specs.Rules.{can_be_hit}
+use Rattle.run_model.specs.Scopes.{is_root, AreOrdered, is_group_kind}
+use Rattle.run_model.specs.TreeChanges.{with_hit, hit_due, tick, new_hit}
 use Rattle.run_model.proofs.RowLemmas.{at_row_cases, push_cases, map_cases}
 use Rattle.run_model.proofs.RowLemmas.{slice_get-at_row_other, slice_get-push_left}
+use Rattle.run_model.specs.declared.scopes.Reason.TheVariants.{Canceled, DeadlineExceeded}
 use Rattle.model_laws.proofs.Follows.{ticked}
 use Rattle.model_laws.proofs.WellFormed.{ordered_follow}
 use Rattle.scope_tree.specs.Checks.{is_derived_kind}
@@ -130,7 +131,7 @@ past_later clock later kind hit less past = record {
 due_past : (e clock : ℕ) (kind : Kind) (hit : Hit) → hit_due e clock kind ≡ Some hit
     → IsPastHit clock kind hit
 due_past e clock (kinds.Deadline moment cause) hit due =
-    let parts = cond_some (nat_le moment clock) (expiry e moment cause) hit due in
+    let parts = cond_some (nat_le moment clock) (new_hit e moment DeadlineExceeded cause) hit due in
     subst (IsPastHit clock (kinds.Deadline moment cause)) parts.1 (record {
       can = refl;
       past = leb-true moment clock parts.0;
@@ -151,7 +152,7 @@ with_hit_past : (clock : ℕ) (hit : Hit) (row : Scope) → IsPastRow clock row
     → IsPastHit clock row.kind hit → IsPastRow clock (with_hit hit row)
 with_hit_past clock hit row old new h has = by_own row.hit refl has
   where
-    by_own : (own : Option Hit) → row.hit ≡ own → or_else own hit ≡ Some h
+    by_own : (own : Option Hit) → row.hit ≡ own → option_or own (Some hit) ≡ Some h
         → IsPastHit clock row.kind h
     by_own None at is = subst (IsPastHit clock row.kind) (same_Some hit h is) new
     by_own (Some had) at is = old h (at ∙ is)
@@ -200,7 +201,7 @@ derived_past e clock name parent kind rows old n row h found has =
 -- ---- what is cancelled
 
 pub cancellation_past : (e clock : ℕ) (cause : Option (List ℕ)) (kind : Kind)
-    → can_be_hit kind ≡ true → IsPastHit clock kind (cancellation e clock cause)
+    → can_be_hit kind ≡ true → IsPastHit clock kind (new_hit e clock Canceled cause)
 cancellation_past e clock cause kind can =
     record { can = can; past = omega arith; cancels = λ group. refl }
 

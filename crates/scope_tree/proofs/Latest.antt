@@ -3,12 +3,12 @@ use Rattle.std.proofs.Common.{◌≡◌, ◌≢◌, ◌⊎◌, ◌<◌, ℕ, zer
 use Rattle.std.proofs.Common.{◌∷◌, length}
 use Rattle.std.proofs.Common.{Option, Some, None, slice_get, inl, inr, refl, sym, ap, subst}
 use Rattle.std.proofs.Common.{◌∙◌, arith}
-use Rattle.std.specs.Option.{option_map, option_and_then}
+use Rattle.std.specs.Option.{option_map, option_and_then, option_or}
 use Rattle.std.proofs.lemmas.Bool.{cases_eq}
 use Rattle.std.proofs.lemmas.Option.{none-some}
 use Rattle.run_model.specs.declared.scopes.Hit.{Hit}
 use Rattle.run_model.specs.declared.scopes.Scope.{Scope}
-use Rattle.run_model.specs.Rows.{at_row, or_else}
+use Rattle.run_model.specs.Rows.{at_row}
 use Rattle.run_model.specs.Scopes.{is_root, is_detached, own_hit, comes_before, first_hit, ending}
 use Rattle.run_model.specs.Scopes.{AreOrdered}
 use Rattle.run_model.specs.TreeChanges.{with_hit}
@@ -127,9 +127,9 @@ module _ (rows : List Scope) (n : ℕ) (hit : Hit) (ordered : AreOrdered rows)
         subst (λ o. Says n hit o (first_hit after s)) (sym (first_hit_up rows s row ordered found))
         (subst (Says n hit (first_hit_from rows s row))
         (sym (first_hit_up after s (with_hit hit row) ordered' there))
-        (under_detached row.hit (or_else row.hit hit)
+        (under_detached row.hit (option_or row.hit (Some hit))
         (subst (λ o. Says n hit (joined (above (first_hit rows) None row) s o)
-        (joined (above (first_hit after) None row) s (or_else o hit))) (sym none)
+        (joined (above (first_hit after) None row) s (option_or o (Some hit)))) (sym none)
         (subst (λ k. Says n hit (above (first_hit rows) None row)
         (joined (above (first_hit after) None row) k (Some hit))) (sym same)
         (own_comes n hit _ _ above_behind above_says)))

@@ -2,12 +2,12 @@
 use Rattle.std.proofs.Common.{◌≡◌, ◌≢◌, ◌⊎◌, ℕ, zero, suc, ◌<◌, ◌≤◌, Bool, true, false, cond, List}
 use Rattle.std.proofs.Common.{[], ◌∷◌, ◌||◌, length, Option, Some, None, inl, inr, refl, sym}
 use Rattle.std.proofs.Common.{ap, subst, ◌∙◌, arith, is_some, slice_get}
-use Rattle.std.specs.Option.{option_map, option_and_then}
+use Rattle.std.specs.Option.{option_map, option_and_then, option_or}
 use Rattle.std.proofs.lemmas.Bool.{cases_eq, false≢true}
 use Rattle.std.proofs.lemmas.Option.{none-some, same_Some, slice_get-map, slice_get_within}
 use Rattle.run_model.specs.declared.scopes.Hit.{Hit}
 use Rattle.run_model.specs.declared.scopes.Scope.{Scope}
-use Rattle.run_model.specs.Rows.{at_row, or_else}
+use Rattle.run_model.specs.Rows.{at_row}
 use Rattle.run_model.specs.Scopes.{is_root, is_detached, own_hit, first_hit, ending, AreOrdered}
 use Rattle.run_model.specs.TreeChanges.{with_hit}
 use Rattle.run_model.proofs.RowLemmas.{length-at_row, slice_get-at_row_same}
@@ -220,11 +220,11 @@ module _ (rows : List Scope) (old new : List (Option ℕ)) (at : ℕ) (hit : Hit
         let there : slice_get after s ≡ Some (with_hit hit row) =
         ap (slice_get after) same ∙ slice_get-at_row_same (with_hit hit) at rows
         ∙ ap (option_map (with_hit hit)) (ap (slice_get rows) (sym same) ∙ found) in
-        let hit_is : (with_hit hit row).hit ≡ Some hit = ap (λ o. or_else o hit) own in
+        let hit_is : (with_hit hit row).hit ≡ Some hit = ap (λ o. option_or o (Some hit)) own in
         let first = first_hit_up after s (with_hit hit row) ordered' there
         ∙ ap (λ b. cond b None
-        (joined (above (first_hit after) None row) s (or_else row.hit hit))) joins
-        ∙ ap (λ o. joined o s (or_else row.hit hit)) no_up
+        (joined (above (first_hit after) None row) s (option_or row.hit (Some hit)))) joins
+        ∙ ap (λ o. joined o s (option_or row.hit (Some hit))) no_up
         ∙ ap (joined None s) hit_is in
         subst (IsMark after s) (sym (marked_here (mark_of new s) refl)) (
           hit,
@@ -293,7 +293,7 @@ module _ (rows : List Scope) (old new : List (Option ℕ)) (at : ℕ) (hit : Hit
       by_row None is has there = absurd (none-some h has)
       by_row (Some r) is has there =
           ap (option_and_then (λ x. x.hit)) (there ∙ ap (option_map (with_hit hit)) is)
-          ∙ ap (λ o. or_else o hit) has
+          ∙ ap (λ o. option_or o (Some hit)) has
 
   by_mark : (s : ℕ) → s < length rows
       → ((t : ℕ) → t < s → mark_of old t ≡ None → IsMark after t (mark_of new t))

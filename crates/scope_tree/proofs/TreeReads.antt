@@ -18,8 +18,7 @@ use Rattle.run_model.specs.Layouts.{most_scopes}
 use Rattle.run_model.specs.Records.{is_moment}
 use Rattle.run_model.specs.RuleParts.{AreScopeRules}
 use Rattle.run_model.specs.Rows.{root}
-use Rattle.run_model.specs.Rules.{is_group_kind}
-use Rattle.run_model.specs.Scopes.{is_root, own_deadline}
+use Rattle.run_model.specs.Scopes.{is_root, own_deadline, is_group_kind}
 use Rattle.run_model.specs.State.{TreeState}
 use Rattle.record_view.specs.Reading.{one}
 use Rattle.record_view.specs.declared.heads.ImageHead.{ImageHead}

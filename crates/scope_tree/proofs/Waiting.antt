@@ -5,7 +5,7 @@ use Rattle.std.proofs.Common.{List, [], ◌∷◌, ◌++◌, length, Option, Som
 use Rattle.std.proofs.Common.{is_some, is_none, ◌&&◌, unwrap_or, inl, inr, refl, sym, ap, ◌∙◌}
 use Rattle.std.proofs.Common.{arith}
 use Rattle.std.proofs.Common.{subst, length-append}
-use Rattle.std.specs.Option.{option_and_then, option_map, IsSome}
+use Rattle.std.specs.Option.{option_and_then, option_map, IsSome, option_or}
 use Rattle.std.proofs.lemmas.Bool.{cases_eq, cases_lt, false≢true, leb-false, lt-leb}
 use Rattle.std.proofs.lemmas.List.{get_or_append_left, get_or_push}
 use Rattle.std.proofs.lemmas.Option.{none-some, same_Some, cond_some, slice_get_within}
@@ -14,11 +14,12 @@ use Rattle.run_model.specs.declared.scopes.Hit.{Hit}
 use Rattle.run_model.specs.declared.scopes.Kind.{Kind}
 use Rattle.run_model.specs.declared.scopes.Kind.TheVariants as kinds
 use Rattle.run_model.specs.declared.scopes.Scope.{Scope}
-use Rattle.run_model.specs.Rows.{at_row, or_else}
+use Rattle.run_model.specs.Rows.{at_row}
 use Rattle.run_model.specs.Scopes.{own_deadline, own_hit, is_detached}
-use Rattle.run_model.specs.TreeChanges.{with_hit, expiry, hit_due}
+use Rattle.run_model.specs.TreeChanges.{with_hit, hit_due, new_hit}
 use Rattle.run_model.proofs.RowLemmas.{length-at_row, slice_get-at_row_same}
 use Rattle.run_model.proofs.RowLemmas.{slice_get-at_row_other, slice_get-push_left}
+use Rattle.run_model.specs.declared.scopes.Reason.TheVariants.{DeadlineExceeded}
 use Rattle.scope_tree.specs.Deadlines.{deadline_at, due_at, key, key_at, Among, IsDueHeap, Noted}
 use Rattle.scope_tree.specs.Deadlines.{SameNumbers, AreWaiting}
 use Rattle.scope_tree.proofs.HeapSteps.{heap_least}
@@ -65,9 +66,9 @@ late e clock (kinds.Deadline moment cause) m own none =
     by_test (nat_le moment clock) refl none
   where
     by_test : (b : Bool) → nat_le moment clock ≡ b → cond b
-        (Some (expiry e moment cause)) None ≡ None
+        (Some (new_hit e moment DeadlineExceeded cause)) None ≡ None
         → clock < m
-    by_test true is at = absurd (none-some (expiry e moment cause) (sym at))
+    by_test true is at = absurd (none-some (new_hit e moment DeadlineExceeded cause) (sym at))
     by_test false is at =
         let less : clock < moment = leb-false moment clock is in
         let same : moment ≡ m = same_Some moment m own in
@@ -83,7 +84,8 @@ early : (e clock : ℕ) (kind : Kind) (m : ℕ) → own_deadline kind ≡ Some m
     → hit_due e clock kind ≡ None
 early e clock (kinds.Deadline moment cause) m own less =
     let same : moment ≡ m = same_Some moment m own in
-    ap (λ b. cond b (Some (expiry e moment cause)) None) (lt-leb moment clock (omega arith))
+    ap (λ b. cond b (Some (new_hit e moment DeadlineExceeded cause)) None)
+    (lt-leb moment clock (omega arith))
 early e clock kinds.Root m own less = refl
 early e clock kinds.Cancel m own less = refl
 early e clock kinds.Cause m own less = refl
@@ -109,7 +111,7 @@ pub record HasCome (e : ℕ) (kind : Kind) (hit : Hit) : Type 0 where
 pub has_come : (e clock : ℕ) (kind : Kind) (hit : Hit) → hit_due e clock kind ≡ Some hit
     → HasCome e kind hit
 has_come e clock (kinds.Deadline moment cause) hit due =
-    let parts = cond_some (nat_le moment clock) (expiry e moment cause) hit due in
+    let parts = cond_some (nat_le moment clock) (new_hit e moment DeadlineExceeded cause) hit due in
     subst (HasCome e (kinds.Deadline moment cause)) parts.1
     (record { own = refl; event = refl; joins = refl })
 has_come e clock kinds.Root hit due = absurd (none-some hit due)
@@ -205,7 +207,7 @@ own_cases hit s rows n h own = elim (cases_eq n s) [
 ]
   where
     by_own : (row : Scope) → n ≡ s → slice_get rows s ≡ Some row → (had : Option Hit)
-        → row.hit ≡ had → or_else had hit ≡ Some h
+        → row.hit ≡ had → option_or had (Some hit) ≡ Some h
         → (own_hit rows n ≡ Some h) ⊎ ((n ≡ s) × (h ≡ hit) × (own_hit rows s ≡ None))
     by_own row here found None at is = inr (
       here,
@@ -232,7 +234,7 @@ own_kept hit s rows n none = elim (cases_eq n s) [
       ∙ ap (own_hit (at_row (with_hit hit) s rows)) (sym here) ∙ none)
 ]
   where
-    by_own : (had : Option Hit) → or_else had hit ≡ None → had ≡ None
+    by_own : (had : Option Hit) → option_or had (Some hit) ≡ None → had ≡ None
     by_own None is = refl
     by_own (Some x) is = absurd (none-some x (sym is))
 

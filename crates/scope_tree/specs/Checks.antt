@@ -11,7 +11,7 @@ use Rattle.run_model.specs.Event.{Event}
 use Rattle.run_model.specs.State.{TreeState, WorkState}
 use Rattle.run_model.specs.Allowed.{refusals, tested}
 use Rattle.run_model.specs.Records.{is_recorded_kind}
-use Rattle.run_model.specs.Rules.{is_group_kind}
+use Rattle.run_model.specs.Scopes.{is_group_kind}
 
 -- A test answers the first refusal of the event in each state with this tree.
 abbrev pub Answers : TreeState → Event → Result (Unit {0}) Refusal → Type 0

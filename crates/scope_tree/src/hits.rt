@@ -5,7 +5,8 @@ ghost use Rattle.std.specs.Option.{option_copied};
 ghost use Rattle.run_model.specs.Reasons.{reason_text};
 ghost use Rattle.run_model.specs.Rows.{at_row};
 ghost use Rattle.run_model.specs.Scopes.{comes_before};
-ghost use Rattle.run_model.specs.TreeChanges.{with_hit, cancellation, expiry, hit_due, tick};
+ghost use Rattle.run_model.specs.TreeChanges.{with_hit, hit_due, tick, new_hit};
+ghost use Rattle.run_model.specs.declared.scopes.Reason.TheVariants.{Canceled, DeadlineExceeded};
 
 use record_view::copies::text_copy;
 use run_model::{Hit, Kind, Moment, Reason, Scope, Text};
@@ -24,7 +25,7 @@ pub fn is_before(s: u16, a: &Hit, t: u16, b: &Hit) -> bool
 
 /// The hit of a cancellation.
 pub fn cancelled(event: u64, clock: Moment, cause: Option<Text>) -> Hit
-    ensures { result ≡ cancellation event clock cause }
+    ensures { result ≡ new_hit event clock Canceled cause }
 {
     Hit {
         event,
@@ -79,7 +80,7 @@ fn cause_or_reason(cause: Option<Text>, reason: Reason) -> Text
 
 /// The hit of a deadline that passed.
 fn expired(event: u64, deadline: Moment, cause: Option<Text>) -> Hit
-    ensures { result ≡ expiry event deadline cause }
+    ensures { result ≡ new_hit event deadline DeadlineExceeded cause }
 {
     Hit {
         event,

@@ -10,12 +10,12 @@ use Rattle.run_model.specs.declared.scopes.Hit.{Hit}
 use Rattle.run_model.specs.declared.scopes.Kind.{Kind}
 use Rattle.run_model.specs.declared.scopes.Scope.{Scope}
 use Rattle.run_model.specs.Allowed.{has_kind}
-use Rattle.run_model.specs.Rules.{HasScope}
-use Rattle.run_model.specs.Scopes.{Numbered, is_root, is_detached, line, before_detached, chain}
+use Rattle.run_model.specs.Scopes.{is_root, is_detached, line, before_detached, chain}
 use Rattle.run_model.specs.Scopes.{hit_at, comes_before, first_of, least_hit, first_hit, ending}
 use Rattle.run_model.specs.Scopes.{own_deadline, least_moment, deadline_of, text_under, value_of}
 use Rattle.run_model.specs.Scopes.{AreOrdered, is_done, line_within, upwards}
 use Rattle.run_model.specs.State.{State, TreeState}
+use Rattle.run_model.specs.Rules.{HasRow}
 use Rattle.model_laws.proofs.Lines.{line_up}
 use Rattle.state_renewal.specs.Renewed.{new_number, Part, rows_anew, scope_anew, state_anew}
 use Rattle.state_renewal.specs.Renewed.{tree_anew}
@@ -31,11 +31,11 @@ scopes_anew part rows = rows_anew part.scopes (scope_anew part) rows
 -- ---- the line
 
 -- A row of a line, told anew.
-abbrev pub told_at : Part → Numbered → Numbered
+abbrev pub told_at : Part → ℕ × Scope → ℕ × Scope
 told_at part r = (new_number part.scopes r.0, scope_anew part r.1)
 
 -- All scopes of these rows go on.
-abbrev pub AllGo : Part → List Numbered → Type 0
+abbrev pub AllGo : Part → List (ℕ × Scope) → Type 0
 AllGo part rows = AllByRecursion (λ r. part.scopes r.0 ≡ true) rows
 
 -- The line of a scope that goes on is the old one, told anew, and all on it goes on.
@@ -83,14 +83,14 @@ line_told part old ordered anew go s row found is =
     line_told_below part old ordered anew go (suc s) s row (omega arith) found is
 
 pub both_lines : (part : Part) (p : State) → AreBoth part p → (s : ℕ) (row : Scope)
-    → HasScope p.tree s row → part.scopes s ≡ true → IsLineTold part p.tree.scopes s
+    → HasRow p.tree.scopes s row → part.scopes s ≡ true → IsLineTold part p.tree.scopes s
 both_lines part p both s row found is =
     line_told part p.tree.scopes both.old.numbered.ordered both.new.numbered.ordered
     both.hangs.scopes s row found is
 
 -- ---- the chain
 
-cut_told : (part : Part) (rows : List Numbered)
+cut_told : (part : Part) (rows : List (ℕ × Scope))
     → before_detached (map (told_at part) rows) ≡ map (told_at part) (before_detached rows)
 cut_told part [] = refl
 cut_told part (r ∷ rows) = by_kind (is_detached r.1.kind) (cut_told part rows)
@@ -102,7 +102,7 @@ cut_told part (r ∷ rows) = by_kind (is_detached r.1.kind) (cut_told part rows)
     by_kind true rest = refl
     by_kind false rest = ap (λ rs. told_at part r ∷ rs) rest
 
-cut_all : (P : Numbered → Type 0) (rows : List Numbered) → AllByRecursion P rows
+cut_all : (P : (ℕ × Scope) → Type 0) (rows : List (ℕ × Scope)) → AllByRecursion P rows
     → AllByRecursion P (before_detached rows)
 cut_all P [] all = tt
 cut_all P (r ∷ rows) all = by_kind (is_detached r.1.kind) (cut_all P rows all.1)
@@ -171,7 +171,7 @@ least_told part (a ∷ hits) all =
       of_part = first.1;
     }
 
-hits_told : (part : Part) (rows : List Numbered)
+hits_told : (part : Part) (rows : List (ℕ × Scope))
     → filter_map hit_at (map (told_at part) rows) ≡ map (hit_told part) (filter_map hit_at rows)
 hits_told part [] = refl
 hits_told part (r ∷ rows) = by_hit r.1.hit (hits_told part rows)
@@ -186,7 +186,7 @@ hits_told part (r ∷ rows) = by_hit r.1.hit (hits_told part rows)
     by_hit None rest = rest
     by_hit (Some hit) rest = ap (λ hits. (new_number part.scopes r.0, hit) ∷ hits) rest
 
-hits_go : (part : Part) (rows : List Numbered) → AllGo part rows
+hits_go : (part : Part) (rows : List (ℕ × Scope)) → AllGo part rows
     → AllByRecursion (λ a. part.scopes a.0 ≡ true) (filter_map hit_at rows)
 hits_go part [] all = tt
 hits_go part (r ∷ rows) all = by_hit r.1.hit (hits_go part rows all.1)
@@ -246,7 +246,7 @@ done_anew part p both s is = by_row (slice_get p.tree.scopes s) refl
 
 -- ---- deadlines and values
 
-deadlines_told : (part : Part) (rows : List Numbered)
+deadlines_told : (part : Part) (rows : List (ℕ × Scope))
     → filter_map (λ r. own_deadline r.1.kind) (map (told_at part) rows)
     ≡ filter_map (λ r. own_deadline r.1.kind) rows
 deadlines_told part [] = refl
@@ -261,7 +261,7 @@ deadline_told part old s told =
     (chain_told part old s told)
     ∙ ap least_moment (deadlines_told part (chain old s))
 
-texts_told : (part : Part) (key : List ℕ) (rows : List Numbered)
+texts_told : (part : Part) (key : List ℕ) (rows : List (ℕ × Scope))
     → filter_map (λ r. text_under key r.1.kind) (map (told_at part) rows)
     ≡ filter_map (λ r. text_under key r.1.kind) rows
 texts_told part key [] = refl

@@ -20,7 +20,7 @@ use Rattle.run_model.specs.State.{State}
 use Rattle.run_model.specs.Texts.{is_name}
 use Rattle.record_view.specs.declared.heads.ImageVersion.{ImageVersion}
 use Rattle.record_view.specs.declared.heads.ImageVersion.TheVariants.{One, Two}
-use Rattle.record_view.specs.Image.{image, head_of, is_count, is_kept_head, is_kept_scope}
+use Rattle.record_view.specs.Image.{image, head_of, is_kept_head, is_kept_scope}
 use Rattle.record_view.specs.Image.{is_kept_group, is_kept_task, is_kept_kind, is_kept_hit}
 use Rattle.record_view.specs.Image.{is_kept_stage, is_kept_link}
 use Rattle.record_view.specs.Keeping.{IsImage}
@@ -145,14 +145,16 @@ head_in_range p version layout is has consistent =
     let scopes = nat_lt (length (drop 1 p.tree.scopes)) (most_scopes layout) in
     let groups = nat_lt (length p.work.groups) (MOST_GROUPS + 1) in
     let tasks = nat_lt (length p.work.tasks) (most_tasks layout + 1) in
-    let parts = all_five (is_moment p.tree.clock) (is_count p.count) scopes groups tasks is in
+    let parts =
+    all_five (is_moment p.tree.clock) (nat_lt p.count (2 ^ 63)) scopes groups tasks is in
     let few_groups = rules.numbered.few_groups in
     let few_tasks : length (renewed p).work.tasks ≤ most_tasks layout =
     subst (λ l. length (renewed p).work.tasks ≤ most_tasks l) has.work rules.numbered.few_tasks in
     let new_scopes = nat_lt (length (drop 1 (renewed p).tree.scopes)) (most_scopes layout) in
     let new_groups = nat_lt (length (renewed p).work.groups) (MOST_GROUPS + 1) in
     let new_tasks = nat_lt (length (renewed p).work.tasks) (most_tasks layout + 1) in
-    from_five (is_moment p.tree.clock) (is_count p.count) new_scopes new_groups new_tasks parts.0
+    from_five (is_moment p.tree.clock)
+    (nat_lt p.count (2 ^ 63)) new_scopes new_groups new_tasks parts.0
     parts.1 (few_behind (renewed p) layout now rules.numbered)
     (lt-ltb (length (renewed p).work.groups) (MOST_GROUPS + 1) (omega (arith, few_groups)))
     (lt-ltb (length (renewed p).work.tasks) (most_tasks layout + 1) (omega (arith, few_tasks)))

@@ -11,7 +11,7 @@ use Rattle.run_model.specs.declared.groups.Group.{Group}
 use Rattle.run_model.specs.declared.scopes.Scope.{Scope}
 use Rattle.run_model.specs.declared.tasks.Task.{Task}
 use Rattle.run_model.specs.Rows.{root}
-use Rattle.run_model.specs.Rules.{HasScope, HasGroup, HasTask}
+use Rattle.run_model.specs.Rules.{HasRow}
 use Rattle.run_model.specs.Scopes.{is_root, upwards, line_within, line, before_detached, hit_at}
 use Rattle.run_model.specs.Scopes.{least_hit, is_done, AreOrdered}
 use Rattle.run_model.specs.State.{State}
@@ -119,7 +119,7 @@ line_passes rows ordered t s row found below on =
 -- ---- scopes
 
 -- A scope that is needed is kept.
-pub needed_kept : (p : State) (s : ℕ) (row : Scope) → HasScope p.tree s row
+pub needed_kept : (p : State) (s : ℕ) (row : Scope) → HasRow p.tree.scopes s row
     → is_needed p s ≡ true → keeps_scope p s ≡ true
 needed_kept p s row found is =
     any_found (λ t. is_needed p t && is_on s (line p.tree.scopes t)) (scope_numbers p.tree) s s
@@ -128,7 +128,7 @@ needed_kept p s row found is =
     (line_self p.tree.scopes s row found))
 
 -- A scope that isn't done is kept.
-pub live_kept : (p : State) (s : ℕ) (row : Scope) → HasScope p.tree s row
+pub live_kept : (p : State) (s : ℕ) (row : Scope) → HasRow p.tree.scopes s row
     → is_done p.tree.scopes s ≡ false → keeps_scope p s ≡ true
 live_kept p s row found is =
     needed_kept p s row found
@@ -136,7 +136,7 @@ live_kept p s row found is =
 
 -- The parent of a scope that is kept is kept.
 pub parent_kept : (p : State) (s : ℕ) (row : Scope) → AreOrdered p.tree.scopes
-    → HasScope p.tree s row → is_root row.kind ≡ false → keeps_scope p s ≡ true
+    → HasRow p.tree.scopes s row → is_root row.kind ≡ false → keeps_scope p s ≡ true
     → keeps_scope p row.parent ≡ true
 parent_kept p s row ordered found below is =
     let by = found_any (λ t. is_needed p t && is_on s (line p.tree.scopes t))
@@ -157,7 +157,7 @@ root_kept p rooted =
 -- ---- groups
 
 -- A group that wasn't waited for is kept.
-pub unwaited_kept : (p : State) (g : ℕ) (row : Group) → HasGroup p.work g row
+pub unwaited_kept : (p : State) (g : ℕ) (row : Group) → HasRow p.work.groups g row
     → row.waited ≡ false → keeps_group p g ≡ true
 unwaited_kept p g row found is =
     ap (λ o. option_map_or
@@ -165,7 +165,7 @@ unwaited_kept p g row found is =
     ∙ or_left (not row.waited) (not row.bare && keeps_scope p row.scope) (ap not is)
 
 -- A group is kept with its own scope.
-pub owner_kept : (p : State) (g : ℕ) (row : Group) → HasGroup p.work g row → row.bare ≡ false
+pub owner_kept : (p : State) (g : ℕ) (row : Group) → HasRow p.work.groups g row → row.bare ≡ false
     → keeps_scope p row.scope ≡ true → keeps_group p g ≡ true
 owner_kept p g row found own is =
     ap (λ o. option_map_or
@@ -174,7 +174,7 @@ owner_kept p g row found own is =
     (and_from (not row.bare) (keeps_scope p row.scope) (ap not own) is)
 
 -- The scope of a group that is kept is kept.
-pub scope_kept : (p : State) (g : ℕ) (row : Group) → HasGroup p.work g row
+pub scope_kept : (p : State) (g : ℕ) (row : Group) → HasRow p.work.groups g row
     → row.scope < length p.tree.scopes → keeps_group p g ≡ true → keeps_scope p row.scope ≡ true
 scope_kept p g row found within is =
     by_cause (or_cases (not row.waited) (not row.bare && keeps_scope p row.scope)
@@ -197,7 +197,7 @@ scope_kept p g row found within is =
 -- ---- tasks
 
 -- A task is kept exactly where its group is.
-pub task_is_kept : (p : State) (n : ℕ) (row : Task) → HasTask p.work n row
+pub task_is_kept : (p : State) (n : ℕ) (row : Task) → HasRow p.work.tasks n row
     → keeps_task p n ≡ keeps_group p row.group
 task_is_kept p n row found =
     ap (λ o. option_map_or (λ task. keeps_group p task.group) o false) found

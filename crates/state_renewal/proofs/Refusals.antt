@@ -2,7 +2,7 @@
 use Rattle.std.proofs.Common.{◌≡◌, ◌&&◌, ◌==◌, ℕ, Bool, true, false, List, [], length, Option}
 use Rattle.std.proofs.Common.{Some, None, refl, sym, ap, ◌∙◌, arith}
 use Rattle.std.specs.Option.{option_map, option_map_or}
-use Rattle.std.specs.Prelude.{is_none, nat_lt, position}
+use Rattle.std.specs.Prelude.{is_none, nat_lt, position, not}
 use Rattle.std.specs.Str.{bytes_eq}
 use Rattle.std.proofs.Math.Bool.{and-true, and-false}
 use Rattle.std.proofs.lemmas.Bool.{and_from, and_parts, both_ways, false_from_ne_true, lt-ltb}
@@ -11,16 +11,18 @@ use Rattle.std.proofs.lemmas.Slice.Eq.{bytes_eq-Decides}
 use Rattle.run_model.proofs.NameLemmas.{name_is_free, unpassed}
 use Rattle.run_model.proofs.RefusalLemmas.{each_fails}
 use Rattle.run_model.specs.declared.bounds.TheConstants.{MOST_GROUPS}
-use Rattle.run_model.specs.Allowed.{allowed, has_group_room, has_scope_room, has_task_room}
-use Rattle.run_model.specs.Allowed.{holds_none, is_cancellable, is_derivable, is_first_ready}
-use Rattle.run_model.specs.Allowed.{is_group_name_free, is_scope_name_free, refusals, takes_cause}
+use Rattle.run_model.specs.Allowed.{allowed}
+use Rattle.run_model.specs.Allowed.{is_cancellable}
+use Rattle.run_model.specs.Allowed.{refusals, takes_cause, has_room}
 use Rattle.run_model.specs.Event.{Event}
 use Rattle.run_model.specs.Event as event
 use Rattle.run_model.specs.Layouts.{most_scopes, most_tasks}
 use Rattle.run_model.specs.Rows.{new_group, root}
 use Rattle.run_model.specs.Rules.{IsConsistent}
-use Rattle.run_model.specs.State.{State, TreeState, WorkState}
-use Rattle.run_model.specs.Tasks.{first_ready, is_interrupted, is_ready, is_running, task_numbers}
+use Rattle.run_model.specs.State.{State, TreeState, WorkState, scope_named, group_named}
+use Rattle.run_model.specs.Tasks.{first_ready, is_interrupted, is_ready, is_running}
+use Rattle.run_model.specs.Scopes.{is_root, is_group_kind}
+use Rattle.std.specs.List.{range_with_len, list_all}
 use Rattle.model_laws.proofs.Tests.{found_passes}
 use Rattle.state_renewal.specs.Renewed.{Part, group_anew, kept_part, new_number, renewed}
 use Rattle.state_renewal.specs.Renewed.{rows_anew, scope_anew, state_anew, task_anew, tree_anew}
@@ -45,8 +47,9 @@ there_anew goes tell rows n is =
 
 first_same : (part : Part) (p : State) (n : ℕ) → IsConsistent p → WorkHangs part p.work
     → part.tasks n ≡ true
-    → is_first_ready (work_anew part p.work) (new_number part.tasks n)
-    ≡ is_first_ready p.work n
+    → option_map_or (λ first. first == (new_number part.tasks n))
+    (first_ready (work_anew part p.work)) false
+    ≡ option_map_or (λ first. first == n) (first_ready p.work) false
 first_same part p n consistent go is =
     ap (λ o. option_map_or (λ first. first == new_number part.tasks n) o false)
     (first_anew part p consistent go)
@@ -60,7 +63,7 @@ first_same part p n consistent go is =
     by_first (Some first) at =
         same_number part.tasks first n
         (ready_goes part p first consistent go
-        (found_passes (is_ready p.work) (task_numbers p.work) first at)) is
+        (found_passes (is_ready p.work) (range_with_len 0 (length p.work.tasks)) first at)) is
 
 -- ---- names and room
 
@@ -79,12 +82,12 @@ free_anew d name goes tell wanted rows same free =
     ∙ sym ((bytes_eq-Decides wanted (name row)).0 passes)))
 
 scope_free : (part : Part) (t : TreeState) (name : List ℕ)
-    → is_scope_name_free t name ≡ true → is_scope_name_free (tree_anew part t) name ≡ true
+    → is_none (scope_named t name) ≡ true → is_none (scope_named (tree_anew part t) name) ≡ true
 scope_free part t name free =
     free_anew root (λ row. row.name) part.scopes (scope_anew part) name t.scopes (λ row. refl) free
 
 group_free : (part : Part) (w : WorkState) (name : List ℕ)
-    → is_group_name_free w name ≡ true → is_group_name_free (work_anew part w) name ≡ true
+    → is_none (group_named w name) ≡ true → is_none (group_named (work_anew part w) name) ≡ true
 group_free part w name free =
     free_anew (new_group [] 0 false) (λ row. row.name) part.groups (group_anew part) name w.groups
     (λ row. refl) free
@@ -96,17 +99,17 @@ room_anew goes tell rows most room =
     let less = ltb-true (length rows) most room in
     lt-ltb (length (rows_anew goes tell rows)) most (omega (arith, few, less))
 
-scope_room : (part : Part) (t : TreeState) → has_scope_room t ≡ true
-    → has_scope_room (tree_anew part t) ≡ true
+scope_room : (part : Part) (t : TreeState) → has_room (most_scopes t.layout) t.scopes ≡ true
+    → has_room (most_scopes (tree_anew part t).layout) (tree_anew part t).scopes ≡ true
 scope_room part t room =
     room_anew part.scopes (scope_anew part) t.scopes (most_scopes t.layout) room
 
-group_room : (part : Part) (w : WorkState) → has_group_room w ≡ true
-    → has_group_room (work_anew part w) ≡ true
+group_room : (part : Part) (w : WorkState) → has_room MOST_GROUPS w.groups ≡ true
+    → has_room MOST_GROUPS (work_anew part w).groups ≡ true
 group_room part w room = room_anew part.groups (group_anew part) w.groups MOST_GROUPS room
 
-task_room : (part : Part) (w : WorkState) → has_task_room w ≡ true
-    → has_task_room (work_anew part w) ≡ true
+task_room : (part : Part) (w : WorkState) → has_room (most_tasks w.layout) w.tasks ≡ true
+    → has_room (most_tasks (work_anew part w).layout) (work_anew part w).tasks ≡ true
 task_room part w room =
     room_anew part.tasks (task_anew part) w.tasks (most_tasks w.layout) room
 
@@ -116,7 +119,8 @@ pub refusals_anew : (part : Part) (p : State) (e : Event) → AreBoth part p
     → names_part part e ≡ true → has_place p e ≡ true
     → refusals (state_anew part p) (event_anew part e) ≡ refusals p e
 refusals_anew part p (event.Derive name parent kind) both is place =
-    let at = and_parts (is_scope_name_free p.tree name) (has_scope_room p.tree) place in
+    let at = and_parts (is_none (scope_named p.tree name))
+    (has_room (most_scopes p.tree.layout) p.tree.scopes) place in
     cc (
       there_anew part.scopes (scope_anew part) p.tree.scopes parent is,
       scope_free part p.tree name at.0,
@@ -131,10 +135,10 @@ refusals_anew part p (event.Cancel s cause) both is place =
     )
 refusals_anew part p (event.Advance moment) both is place = refl
 refusals_anew part p (event.Group name parent) both is place =
-    let all = and_parts _ (has_group_room p.work) place in
-    let most = and_parts _ (has_scope_room p.tree) all.0 in
+    let all = and_parts _ (has_room MOST_GROUPS p.work.groups) place in
+    let most = and_parts _ (has_room (most_scopes p.tree.layout) p.tree.scopes) all.0 in
     let names =
-    and_parts (is_scope_name_free p.tree name) (is_group_name_free p.work name) most.0 in
+    and_parts (is_none (scope_named p.tree name)) (is_none (group_named p.work name)) most.0 in
     cc (
       there_anew part.scopes (scope_anew part) p.tree.scopes parent is,
       scope_free part p.tree name names.0,
@@ -143,7 +147,8 @@ refusals_anew part p (event.Group name parent) both is place =
       group_room part p.work all.1,
     )
 refusals_anew part p (event.Bare name s) both is place =
-    let at = and_parts (is_group_name_free p.work name) (has_group_room p.work) place in
+    let at = and_parts (is_none (group_named p.work name))
+    (has_room MOST_GROUPS p.work.groups) place in
     cc (
       there_anew part.scopes (scope_anew part) p.tree.scopes s is,
       group_free part p.work name at.0,
@@ -229,18 +234,19 @@ allowed_at part p e both is place = by_event e (refusals_anew part p e both is p
         → refusals (state_anew part p) (event_anew part e) ≡ refusals p e
         → allowed (state_anew part p) (event_anew part e) ≡ allowed p e
     by_event (event.Derive name parent kind) same =
-        ap (λ tests. is_derivable kind && holds_none tests) same
-    by_event (event.Cancel s cause) same = ap holds_none same
+        ap (λ tests. (not (is_root kind) && not (is_group_kind kind))
+        && list_all (λ t. not t.0) tests) same
+    by_event (event.Cancel s cause) same = ap (list_all (λ t. not t.0)) same
     by_event (event.Advance moment) same = refl
-    by_event (event.Group name parent) same = ap holds_none same
-    by_event (event.Bare name s) same = ap holds_none same
-    by_event (event.SetLimit g limit) same = ap holds_none same
-    by_event (event.Go g job argument) same = ap holds_none same
-    by_event (event.TryGo g job argument) same = ap holds_none same
-    by_event (event.Retry n) same = ap holds_none same
-    by_event (event.Start n) same = ap holds_none same
-    by_event (event.Finish n outcome) same = ap holds_none same
-    by_event (event.Wait g) same = ap holds_none same
+    by_event (event.Group name parent) same = ap (list_all (λ t. not t.0)) same
+    by_event (event.Bare name s) same = ap (list_all (λ t. not t.0)) same
+    by_event (event.SetLimit g limit) same = ap (list_all (λ t. not t.0)) same
+    by_event (event.Go g job argument) same = ap (list_all (λ t. not t.0)) same
+    by_event (event.TryGo g job argument) same = ap (list_all (λ t. not t.0)) same
+    by_event (event.Retry n) same = ap (list_all (λ t. not t.0)) same
+    by_event (event.Start n) same = ap (list_all (λ t. not t.0)) same
+    by_event (event.Finish n outcome) same = ap (list_all (λ t. not t.0)) same
+    by_event (event.Wait g) same = ap (list_all (λ t. not t.0)) same
     by_event event.Restart same = refl
 
 pub allowed_anew : (part : Part) (p : State) (e : Event) → AreBoth part p

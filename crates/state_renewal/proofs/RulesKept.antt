@@ -11,9 +11,9 @@ use Rattle.run_model.specs.declared.tasks.Task.{Task}
 use Rattle.run_model.specs.Allowed.{has_kind}
 use Rattle.run_model.specs.Rows.{root}
 use Rattle.run_model.specs.Rules.{IsConsistent, AreNumbered, AreHits, AreDeadlines, AreGroupScopes}
-use Rattle.run_model.specs.Rules.{AreAdmitted, AreErrors, AreLinked, IsRetry, Owns, HasScope}
-use Rattle.run_model.specs.Rules.{HasGroup, HasTask, is_group_kind, has_task_error}
-use Rattle.run_model.specs.Scopes.{is_root, own_hit, AreOrdered}
+use Rattle.run_model.specs.Rules.{AreAdmitted, AreErrors, AreLinked, IsRetry, Owns}
+use Rattle.run_model.specs.Rules.{has_task_error, HasRow}
+use Rattle.run_model.specs.Scopes.{is_root, own_hit, AreOrdered, is_group_kind}
 use Rattle.run_model.specs.State.{State}
 use Rattle.run_model.specs.Tasks.{is_running, unfinished_in, is_admitted}
 use Rattle.state_renewal.specs.Renewed.{new_number, keeps_scope, keeps_group, keeps_task}
@@ -32,7 +32,7 @@ use Rattle.state_renewal.proofs.RowsAnew.{row_anew}
 abbrev pub IsScopeOf : State → ℕ → Scope → Type 0
 IsScopeOf p m row = IsOf (keeps_scope p) (scope_told p) p.tree.scopes m row
 
-pub scope_from : (p : State) (m : ℕ) (row : Scope) → HasScope (renewed p).tree m row
+pub scope_from : (p : State) (m : ℕ) (row : Scope) → HasRow (renewed p).tree.scopes m row
     → IsScopeOf p m row
 scope_from p m row found =
     (are_told (keeps_scope p) (scope_told p) p.tree.scopes).back m row found
@@ -40,7 +40,7 @@ scope_from p m row found =
 abbrev pub IsGroupOf : State → ℕ → Group → Type 0
 IsGroupOf p m row = IsOf (keeps_group p) (group_told p) p.work.groups m row
 
-pub group_from : (p : State) (m : ℕ) (row : Group) → HasGroup (renewed p).work m row
+pub group_from : (p : State) (m : ℕ) (row : Group) → HasRow (renewed p).work.groups m row
     → IsGroupOf p m row
 group_from p m row found =
     (are_told (keeps_group p) (group_told p) p.work.groups).back m row found
@@ -48,14 +48,14 @@ group_from p m row found =
 abbrev pub IsTaskOf : State → ℕ → Task → Type 0
 IsTaskOf p m row = IsOf (keeps_task p) (task_told p) p.work.tasks m row
 
-pub task_from : (p : State) (m : ℕ) (row : Task) → HasTask (renewed p).work m row
+pub task_from : (p : State) (m : ℕ) (row : Task) → HasRow (renewed p).work.tasks m row
     → IsTaskOf p m row
 task_from p m row found =
     (are_told (keeps_task p) (task_told p) p.work.tasks).back m row found
 
-pub scope_stays : (p : State) (s : ℕ) (row : Scope) → HasScope p.tree s row
+pub scope_stays : (p : State) (s : ℕ) (row : Scope) → HasRow p.tree.scopes s row
     → keeps_scope p s ≡ true
-    → HasScope (renewed p).tree (new_number (keeps_scope p) s) (scope_told p row)
+    → HasRow (renewed p).tree.scopes (new_number (keeps_scope p) s) (scope_told p row)
 scope_stays p s row found is =
     (are_told (keeps_scope p) (scope_told p) p.tree.scopes).forth s row found is
 
@@ -316,11 +316,11 @@ record IsLinkOf (p : State) (m k : ℕ) (row : Task) : Type 0 where
   n : ℕ
   link : of.old.retry_of ≡ Some n
   number : k ≡ new_number (keeps_task p) n
-  linked : (old : Task) × HasTask p.work n old × IsRetry of.n of.old n old
+  linked : (old : Task) × HasRow p.work.tasks n old × IsRetry of.n of.old n old
   is_kept : keeps_task p n ≡ true
 
 linked_from : (p : State) (m k : ℕ) (row : Task) → IsConsistent p
-    → HasTask (renewed p).work m row → row.retry_of ≡ Some k → IsLinkOf p m k row
+    → HasRow (renewed p).work.tasks m row → row.retry_of ≡ Some k → IsLinkOf p m k row
 linked_from p m k row consistent found is =
     let x = task_from p m row found in
     let to =
@@ -347,7 +347,7 @@ links_kept p consistent = record {
       let x = linked_from p m k row consistent found is in
       let was = x.linked.2 in (
         task_told p x.linked.0,
-        subst (λ n. HasTask (renewed p).work n (task_told p x.linked.0)) (sym x.number)
+        subst (λ n. HasRow (renewed p).work.tasks n (task_told p x.linked.0)) (sym x.number)
             (task_stays p x.n x.linked.0 x.linked.1 x.is_kept),
         record {
           before =

@@ -4,7 +4,7 @@ use Rattle.std.specs.Option.{option_map}
 use Rattle.run_model.specs.declared.groups.Group.{Group}
 use Rattle.run_model.specs.declared.scopes.Scope.{Scope}
 use Rattle.run_model.specs.declared.tasks.Task.{Task}
-use Rattle.run_model.specs.Rules.{IsConsistent, HasScope, HasGroup, HasTask}
+use Rattle.run_model.specs.Rules.{IsConsistent, HasRow}
 use Rattle.run_model.specs.State.{State}
 use Rattle.run_model.specs.Tasks.{first_ready}
 use Rattle.state_renewal.specs.Kept.{AnswersAlike, ScopeStays, GroupStays, TaskStays}
@@ -35,7 +35,7 @@ answers_alike p s told =
       values = λ key. value_told (kept_part p) p.tree.scopes s key told;
     }
 
-pub kept_scope : (p : State) (s : ℕ) (row : Scope) → IsConsistent p → HasScope p.tree s row
+pub kept_scope : (p : State) (s : ℕ) (row : Scope) → IsConsistent p → HasRow p.tree.scopes s row
     → keeps_scope p s ≡ true → ScopeStays p s row
 kept_scope p s row consistent found is = record {
   found = scope_stays p s row found is;
@@ -43,14 +43,14 @@ kept_scope p s row consistent found is = record {
       answers_alike p s (both_lines (kept_part p) p (kept_both p consistent) s row found is);
 }
 
-pub kept_group : (p : State) (g : ℕ) (row : Group) → IsConsistent p → HasGroup p.work g row
+pub kept_group : (p : State) (g : ℕ) (row : Group) → IsConsistent p → HasRow p.work.groups g row
     → keeps_group p g ≡ true → GroupStays p g row
 kept_group p g row consistent found is = record {
   found = group_stays p g row found is;
   unfinished = unfinished_same (kept_part p) p.work g (task_is_kept p) is;
 }
 
-pub kept_task : (p : State) (n : ℕ) (row : Task) → IsConsistent p → HasTask p.work n row
+pub kept_task : (p : State) (n : ℕ) (row : Task) → IsConsistent p → HasRow p.work.tasks n row
     → keeps_task p n ≡ true → TaskStays p n row
 kept_task p n row consistent found is = record {
   found = task_stays p n row found is;

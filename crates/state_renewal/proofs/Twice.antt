@@ -8,8 +8,8 @@ use Rattle.std.proofs.lemmas.Bool.{false≢true, not-true, or_cases, true_from_n
 use Rattle.run_model.specs.declared.groups.Group.{Group}
 use Rattle.run_model.specs.declared.scopes.Scope.{Scope}
 use Rattle.run_model.specs.declared.tasks.Task.{Task}
-use Rattle.run_model.specs.Rules.{HasScope, IsConsistent}
-use Rattle.run_model.specs.Scopes.{Numbered, is_done, line, line_within, upwards}
+use Rattle.run_model.specs.Rules.{IsConsistent, HasRow}
+use Rattle.run_model.specs.Scopes.{is_done, line, line_within, upwards}
 use Rattle.run_model.specs.State.{State}
 use Rattle.model_laws.specs.Hits.{is_on}
 use Rattle.model_laws.proofs.Tests.{passing}
@@ -131,7 +131,7 @@ row_on rows t s on = by_row (slice_get rows t) refl
     by_row (Some row) at = (row, at)
 
 -- A scope is on the line told anew where it was on the line.
-on_anew : (part : Part) (s : ℕ) (rows : List Numbered) → AllGo part rows → part.scopes s ≡ true
+on_anew : (part : Part) (s : ℕ) (rows : List (ℕ × Scope)) → AllGo part rows → part.scopes s ≡ true
     → is_on (new_number part.scopes s) (map (told_at part) rows) ≡ is_on s rows
 on_anew part s [] all is = refl
 on_anew part s (r ∷ rows) all is =
@@ -141,7 +141,7 @@ on_anew part s (r ∷ rows) all is =
 
 -- Each scope that doesn't go on is done.
 abbrev pub GoneAreDone : Part → State → Type 0
-GoneAreDone part p = (s : ℕ) (row : Scope) → HasScope p.tree s row → part.scopes s ≡ false
+GoneAreDone part p = (s : ℕ) (row : Scope) → HasRow p.tree.scopes s row → part.scopes s ≡ false
     → is_done p.tree.scopes s ≡ true
 
 module _ (part : Part) (p : State) (both : AreBoth part p) (done : GoneAreDone part p) where
@@ -154,7 +154,7 @@ module _ (part : Part) (p : State) (both : AreBoth part p) (done : GoneAreDone p
       ∙ with.scope (true_from_ne_false (part.groups by.0)
       (λ gone. both_ways by.1.waited (not-true by.1.waited parts.0) (with.gone gone)))
 
-  needed_goes : (s : ℕ) (row : Scope) → HasScope p.tree s row → is_needed p s ≡ true
+  needed_goes : (s : ℕ) (row : Scope) → HasRow p.tree.scopes s row → is_needed p s ≡ true
       → part.scopes s ≡ true
   needed_goes s row found is =
       elim (or_cases (not (is_done p.tree.scopes s)) (hosts_unwaited p.work s) is) [
@@ -190,11 +190,11 @@ module _ (part : Part) (p : State) (both : AreBoth part p) (done : GoneAreDone p
 
   -- ---- what is kept
 
-  told : (t : ℕ) (row : Scope) → HasScope p.tree t row → part.scopes t ≡ true
+  told : (t : ℕ) (row : Scope) → HasRow p.tree.scopes t row → part.scopes t ≡ true
       → AllGo part (line p.tree.scopes t)
   told t row found is = (both_lines part p both t row found is).all
 
-  on_same : (t s : ℕ) (row : Scope) → HasScope p.tree t row → part.scopes t ≡ true
+  on_same : (t s : ℕ) (row : Scope) → HasRow p.tree.scopes t row → part.scopes t ≡ true
       → part.scopes s ≡ true
       → is_on (new_number part.scopes s)
       (line (state_anew part p).tree.scopes (new_number part.scopes t))

@@ -10,13 +10,13 @@ use Rattle.std.proofs.lemmas.Option.{slice_get_past}
 use Rattle.run_model.specs.declared.groups.Group.{Group}
 use Rattle.run_model.specs.declared.tasks.Stage.{Stage}
 use Rattle.run_model.specs.declared.tasks.Task.{Task}
-use Rattle.run_model.specs.Allowed.{admits_one_more, is_idle, is_open}
-use Rattle.run_model.specs.Rules.{HasGroup, HasTask, IsConsistent, has_task_error}
+use Rattle.run_model.specs.Allowed.{is_open}
+use Rattle.run_model.specs.Rules.{IsConsistent, has_task_error, HasRow}
 use Rattle.run_model.specs.State.{State, WorkState}
 use Rattle.run_model.specs.Tasks.{admits, first_ready, is_admitted, is_fresh, is_ready, is_retried}
-use Rattle.run_model.specs.Tasks.{is_retry_of, is_running, is_running_task, is_unfinished}
+use Rattle.run_model.specs.Tasks.{is_retry_of, is_running, is_unfinished}
 use Rattle.run_model.specs.Tasks.{ended_in_error, limit_of, phase_by, phase_of, running_tasks}
-use Rattle.run_model.specs.Tasks.{task_numbers, unfinished_in}
+use Rattle.run_model.specs.Tasks.{unfinished_in, has_stage}
 use Rattle.run_model.specs.WorkChanges.{group_of_task}
 use Rattle.state_renewal.specs.Renewed.{new_number, Part, group_anew, task_anew, work_anew}
 use Rattle.state_renewal.specs.Renewed.{keeps_group, keeps_task, group_told, task_told, renewed}
@@ -96,19 +96,22 @@ task_error_same part w g go is =
 
 pub idle_anew : (part : Part) (w : WorkState) (g : ℕ) → TasksHang part w.tasks
     → part.groups g ≡ true
-    → is_idle (work_anew part w) (new_number part.groups g) ≡ is_idle w g
+    → (unfinished_in (new_number part.groups g) (work_anew part w).tasks == 0)
+    ≡ (unfinished_in g w.tasks == 0)
 idle_anew part w g go is = ap (λ k. k == 0) (unfinished_same part w g go is)
 
 pub seat_anew : (part : Part) (w : WorkState) (g : ℕ) → TasksHang part w.tasks
     → part.groups g ≡ true
-    → admits_one_more (work_anew part w) (new_number part.groups g) ≡ admits_one_more w g
+    → admits (limit_of (work_anew part w) (new_number part.groups g))
+    (unfinished_in (new_number part.groups g) (work_anew part w).tasks)
+    ≡ admits (limit_of w g) (unfinished_in g w.tasks)
 seat_anew part w g go is =
     ap (λ limit. admits limit
     (unfinished_in (new_number part.groups g) (work_anew part w).tasks)) (limit_same part w g is)
     ∙ ap (admits (limit_of w g)) (unfinished_same part w g go is)
 
 pub admitted_anew : (part : Part) (w : WorkState) (n : ℕ) (row : Task) → TasksHang part w.tasks
-    → HasTask w n row → part.tasks n ≡ true
+    → HasRow w.tasks n row → part.tasks n ≡ true
     → is_admitted (work_anew part w) (new_number part.tasks n) (task_anew part row)
     ≡ is_admitted w n row
 admitted_anew part w n row go found is =
@@ -133,7 +136,7 @@ phase_anew part w n go is =
 
 -- A task that doesn't go on has ended.
 pub gone_ended : (part : Part) (p : State) (n : ℕ) (row : Task) → IsConsistent p
-    → WorkHangs part p.work → HasTask p.work n row → part.tasks n ≡ false
+    → WorkHangs part p.work → HasRow p.work.tasks n row → part.tasks n ≡ false
     → is_unfinished row.stage ≡ false
 gone_ended part p n row consistent go found goes =
     false_from_ne_true (is_unfinished row.stage)
@@ -151,7 +154,7 @@ gone_ended part p n row consistent go found goes =
 
 -- A task that hasn't ended goes on.
 pub unfinished_goes : (part : Part) (p : State) (n : ℕ) (row : Task) → IsConsistent p
-    → WorkHangs part p.work → HasTask p.work n row → is_unfinished row.stage ≡ true
+    → WorkHangs part p.work → HasRow p.work.tasks n row → is_unfinished row.stage ≡ true
     → part.tasks n ≡ true
 unfinished_goes part p n row consistent go found is =
     true_from_ne_false (part.tasks n)
@@ -170,19 +173,20 @@ stage_same test part w n is =
 
 -- A task that runs goes on.
 running_goes : (part : Part) (p : State) (n : ℕ) → IsConsistent p → WorkHangs part p.work
-    → is_running_task p.work n ≡ true → part.tasks n ≡ true
+    → has_stage is_running p.work n ≡ true → part.tasks n ≡ true
 running_goes part p n consistent go is =
     let row = passing (λ task. is_running task.stage) (slice_get p.work.tasks n) is in
     unfinished_goes part p n row.0 consistent go row.1 (running_unfinished row.0.stage row.2)
 
 running_pass : (part : Part) (p : State) → IsConsistent p → WorkHangs part p.work
-    → PassesAnew part.tasks (is_running_task p.work) (is_running_task (work_anew part p.work))
+    → PassesAnew part.tasks (has_stage is_running p.work)
+    (has_stage is_running (work_anew part p.work))
     (length p.work.tasks)
 running_pass part p consistent go = record {
   on = λ n less goes. stage_same is_running part p.work n goes;
   gone =
       λ n less goes.
-      false_from_ne_true (is_running_task p.work n)
+      false_from_ne_true (has_stage is_running p.work n)
       (λ is. both_ways (part.tasks n) goes (running_goes part p n consistent go is));
 }
 
@@ -190,9 +194,10 @@ pub running_anew : (part : Part) (p : State) → IsConsistent p → WorkHangs pa
     → running_tasks (work_anew part p.work)
     ≡ map (new_number part.tasks) (running_tasks p.work)
 running_anew part p consistent go =
-    ap (λ many. filter (is_running_task (work_anew part p.work)) (range_with_len 0 many))
+    ap (λ many. filter (has_stage is_running (work_anew part p.work)) (range_with_len 0 many))
     (length-anew part.tasks (task_anew part) p.work.tasks)
-    ∙ picks_anew part.tasks (is_running_task p.work) (is_running_task (work_anew part p.work))
+    ∙ picks_anew part.tasks (has_stage is_running p.work)
+    (has_stage is_running (work_anew part p.work))
     (length p.work.tasks) (running_pass part p consistent go)
 
 all_filtered : (P : ℕ → Type 0) (test : ℕ → Bool) (ns : List ℕ)
@@ -208,7 +213,8 @@ all_filtered P test (n ∷ ns) is = by_test (test n) refl (all_filtered P test n
 pub all_running_go : (part : Part) (p : State) → IsConsistent p → WorkHangs part p.work
     → AllByRecursion (λ n. part.tasks n ≡ true) (running_tasks p.work)
 all_running_go part p consistent go =
-    all_filtered (λ n. part.tasks n ≡ true) (is_running_task p.work) (task_numbers p.work)
+    all_filtered (λ n. part.tasks n ≡ true) (has_stage is_running p.work)
+    (range_with_len 0 (length p.work.tasks))
     (λ n is. running_goes part p n consistent go is)
 
 -- ---- the task that is started next
@@ -253,7 +259,7 @@ first_anew part p consistent go =
 
 -- A task goes on exactly where the one that it is a retry of does.
 link_goes : (part : Part) (p : State) (k m : ℕ) (row : Task) → IsConsistent p
-    → TasksHang part p.work.tasks → HasTask p.work k row → row.retry_of ≡ Some m
+    → TasksHang part p.work.tasks → HasRow p.work.tasks k row → row.retry_of ≡ Some m
     → part.tasks m ≡ part.tasks k
 link_goes part p k m row consistent go found link =
     let was = consistent.links.linked k m row found link in
@@ -270,7 +276,7 @@ retried_anew part p n consistent go is =
       gone = λ k x found goes. gone k x found goes x.retry_of refl;
     })
   where
-    on : (k : ℕ) (x : Task) → HasTask p.work k x → part.tasks k ≡ true → (o : Option ℕ)
+    on : (k : ℕ) (x : Task) → HasRow p.work.tasks k x → part.tasks k ≡ true → (o : Option ℕ)
         → x.retry_of ≡ o
         → option_map_or (λ m. m == new_number part.tasks n)
         (option_map (new_number part.tasks) o) false
@@ -279,7 +285,7 @@ retried_anew part p n consistent go is =
     on k x found goes (Some m) at =
         same_number part.tasks m n (link_goes part p k m x consistent go found at ∙ goes) is
 
-    gone : (k : ℕ) (x : Task) → HasTask p.work k x → part.tasks k ≡ false → (o : Option ℕ)
+    gone : (k : ℕ) (x : Task) → HasRow p.work.tasks k x → part.tasks k ≡ false → (o : Option ℕ)
         → x.retry_of ≡ o → option_map_or (λ m. m == n) o false ≡ false
     gone k x found goes None at = refl
     gone k x found goes (Some m) at =
@@ -311,14 +317,14 @@ retry_open part w n go is =
 
 -- ---- rows that are kept
 
-pub group_stays : (p : State) (g : ℕ) (row : Group) → HasGroup p.work g row
+pub group_stays : (p : State) (g : ℕ) (row : Group) → HasRow p.work.groups g row
     → keeps_group p g ≡ true
-    → HasGroup (renewed p).work (new_number (keeps_group p) g) (group_told p row)
+    → HasRow (renewed p).work.groups (new_number (keeps_group p) g) (group_told p row)
 group_stays p g row found is =
     (are_told (keeps_group p) (group_told p) p.work.groups).forth g row found is
 
-pub task_stays : (p : State) (n : ℕ) (row : Task) → HasTask p.work n row
+pub task_stays : (p : State) (n : ℕ) (row : Task) → HasRow p.work.tasks n row
     → keeps_task p n ≡ true
-    → HasTask (renewed p).work (new_number (keeps_task p) n) (task_told p row)
+    → HasRow (renewed p).work.tasks (new_number (keeps_task p) n) (task_told p row)
 task_stays p n row found is =
     (are_told (keeps_task p) (task_told p) p.work.tasks).forth n row found is

@@ -3,7 +3,7 @@ use Rattle.std.specs.Prelude.{◌≡◌, ◌≢◌, ℕ, true, false, List, leng
 use Rattle.run_model.specs.declared.groups.Group.{Group}
 use Rattle.run_model.specs.declared.scopes.Scope.{Scope}
 use Rattle.run_model.specs.declared.tasks.Task.{Task}
-use Rattle.run_model.specs.Rules.{HasScope, HasGroup, HasTask}
+use Rattle.run_model.specs.Rules.{HasRow}
 use Rattle.run_model.specs.Scopes.{is_done, reason_of, cause_of, deadline_of, value_of}
 use Rattle.run_model.specs.State.{State, scope_named, group_named}
 use Rattle.run_model.specs.Tasks.{is_unfinished, phase_of, unfinished_in}
@@ -20,43 +20,43 @@ pub record AnswersAlike (old : List Scope) (s : ℕ) (new : List Scope) (m : ℕ
 
 -- A scope that is kept has its row under its new number, and is answered as before.
 pub record ScopeStays (p : State) (s : ℕ) (row : Scope) : Type 0 where
-  pub found : HasScope (renewed p).tree (new_number (keeps_scope p) s) (scope_told p row)
+  pub found : HasRow (renewed p).tree.scopes (new_number (keeps_scope p) s) (scope_told p row)
   pub answers : AnswersAlike p.tree.scopes s (renewed p).tree.scopes (new_number (keeps_scope p) s)
 
 -- A group that is kept has its row under its new number, and as many unfinished tasks as before.
 pub record GroupStays (p : State) (g : ℕ) (row : Group) : Type 0 where
-  pub found : HasGroup (renewed p).work (new_number (keeps_group p) g) (group_told p row)
+  pub found : HasRow (renewed p).work.groups (new_number (keeps_group p) g) (group_told p row)
   pub unfinished : unfinished_in (new_number (keeps_group p) g) (renewed p).work.tasks
       ≡ unfinished_in g p.work.tasks
 
 -- A task that is kept has its row under its new number, and is as far as before.
 pub record TaskStays (p : State) (n : ℕ) (row : Task) : Type 0 where
-  pub found : HasTask (renewed p).work (new_number (keeps_task p) n) (task_told p row)
+  pub found : HasRow (renewed p).work.tasks (new_number (keeps_task p) n) (task_told p row)
   pub phase : phase_of (renewed p).work (new_number (keeps_task p) n) ≡ phase_of p.work n
 
 -- Whatever isn't finished is kept: a scope that isn't done, a group that wasn't waited for, and a
 -- task that hasn't ended.
 pub record KeepsUnfinished (p : State) : Type 0 where
-  pub scopes : (s : ℕ) (row : Scope) → HasScope p.tree s row → is_done p.tree.scopes s ≡ false
+  pub scopes : (s : ℕ) (row : Scope) → HasRow p.tree.scopes s row → is_done p.tree.scopes s ≡ false
       → keeps_scope p s ≡ true
-  pub groups : (g : ℕ) (row : Group) → HasGroup p.work g row → row.waited ≡ false
+  pub groups : (g : ℕ) (row : Group) → HasRow p.work.groups g row → row.waited ≡ false
       → keeps_group p g ≡ true
-  pub tasks : (n : ℕ) (row : Task) → HasTask p.work n row → is_unfinished row.stage ≡ true
+  pub tasks : (n : ℕ) (row : Task) → HasRow p.work.tasks n row → is_unfinished row.stage ≡ true
       → keeps_task p n ≡ true
 
 -- The names that are taken are those of what is kept: each is found under its new number, and every
 -- other name is free.
 pub record AreNamesKept (p : State) : Type 0 where
-  pub scopes : (s : ℕ) (row : Scope) → HasScope p.tree s row → keeps_scope p s ≡ true
+  pub scopes : (s : ℕ) (row : Scope) → HasRow p.tree.scopes s row → keeps_scope p s ≡ true
       → scope_named (renewed p).tree row.name ≡ Some (new_number (keeps_scope p) s)
-  pub groups : (g : ℕ) (row : Group) → HasGroup p.work g row → keeps_group p g ≡ true
+  pub groups : (g : ℕ) (row : Group) → HasRow p.work.groups g row → keeps_group p g ≡ true
       → group_named (renewed p).work row.name ≡ Some (new_number (keeps_group p) g)
   pub other_scopes : (name : List ℕ)
-      → ((s : ℕ) (row : Scope) → HasScope p.tree s row → keeps_scope p s ≡ true
+      → ((s : ℕ) (row : Scope) → HasRow p.tree.scopes s row → keeps_scope p s ≡ true
       → row.name ≢ name)
       → scope_named (renewed p).tree name ≡ None
   pub other_groups : (name : List ℕ)
-      → ((g : ℕ) (row : Group) → HasGroup p.work g row → keeps_group p g ≡ true
+      → ((g : ℕ) (row : Group) → HasRow p.work.groups g row → keeps_group p g ≡ true
       → row.name ≢ name)
       → group_named (renewed p).work name ≡ None
 

@@ -1,10 +1,11 @@
 -- Events that name what is of a part alone, told anew; and whether an event has its place.
-use Rattle.std.specs.Prelude.{Bool, true, ◌&&◌}
+use Rattle.std.specs.Prelude.{Bool, true, ◌&&◌, is_none}
 use Rattle.run_model.specs.Event.{Event}
 use Rattle.run_model.specs.Event as event
-use Rattle.run_model.specs.Allowed.{is_scope_name_free, is_group_name_free, has_scope_room}
-use Rattle.run_model.specs.Allowed.{has_group_room, has_task_room}
-use Rattle.run_model.specs.State.{State}
+use Rattle.run_model.specs.Allowed.{has_room}
+use Rattle.run_model.specs.State.{State, scope_named, group_named}
+use Rattle.run_model.specs.Layouts.{most_scopes, most_tasks}
+use Rattle.run_model.specs.declared.bounds.TheConstants.{MOST_GROUPS}
 use Rattle.state_renewal.specs.Renewed.{Part, new_number}
 
 -- The scope, the group or the task that the event names by its number is of the part.
@@ -43,12 +44,14 @@ event_anew part event.Restart = event.Restart
 -- The names that the event gives are free, and there is room for the rows that it makes.
 abbrev pub has_place : State → Event → Bool
 has_place p (event.Derive name parent kind) =
-    is_scope_name_free p.tree name && has_scope_room p.tree
+    is_none (scope_named p.tree name) && has_room (most_scopes p.tree.layout) p.tree.scopes
 has_place p (event.Group name parent) =
-    is_scope_name_free p.tree name && is_group_name_free p.work name && has_scope_room p.tree
-    && has_group_room p.work
-has_place p (event.Bare name s) = is_group_name_free p.work name && has_group_room p.work
-has_place p (event.Go g job argument) = has_task_room p.work
-has_place p (event.TryGo g job argument) = has_task_room p.work
-has_place p (event.Retry n) = has_task_room p.work
+    is_none (scope_named p.tree name) && is_none (group_named p.work name)
+    && has_room (most_scopes p.tree.layout) p.tree.scopes
+    && has_room MOST_GROUPS p.work.groups
+has_place p (event.Bare name s) =
+    is_none (group_named p.work name) && has_room MOST_GROUPS p.work.groups
+has_place p (event.Go g job argument) = has_room (most_tasks p.work.layout) p.work.tasks
+has_place p (event.TryGo g job argument) = has_room (most_tasks p.work.layout) p.work.tasks
+has_place p (event.Retry n) = has_room (most_tasks p.work.layout) p.work.tasks
 has_place p _ = true

@@ -5,7 +5,7 @@ ghost use Rattle.std.specs.Prelude.{◌≡◌, ◌<◌, ◌||◌, ℕ, not, IfOk
 ghost use Rattle.run_model.specs.declared.faults.Fault.TheVariants.{Memory};
 ghost use Rattle.run_model.specs.declared.groups.Group.{Group as GroupOf};
 ghost use Rattle.run_model.specs.declared.tasks.Task.{Task as TaskOf};
-ghost use Rattle.run_model.specs.Rules.{HasGroup, HasTask};
+ghost use Rattle.run_model.specs.Rules.{HasRow};
 ghost use Rattle.run_model.specs.Scopes.{is_done, AreOrdered};
 ghost use Rattle.state_renewal.specs.Marks.{AreFlags, group_stays, group_stays_at, is_flagged};
 ghost use Rattle.state_renewal.specs.Marks.{task_stays_at, with_rows};
@@ -26,7 +26,7 @@ pub fn flag_scopes<A: Allocator, B: Allocator>(
     groups: &Groups<B>,
 ) -> Result<Vec<bool, A>, Fault>
     requires ordered { AreOrdered tree.now.scopes }
-    requires known { (g : ℕ) (row : GroupOf) → HasGroup groups.now g row
+    requires known { (g : ℕ) (row : GroupOf) → HasRow groups.now.groups g row
         → row.scope < length tree.now.scopes }
     ensures flags { IfOk result (λ flags. (s : ℕ)
         → is_flagged flags.items s ≡ keeps_scope (with_rows tree.now groups.now) s) }
@@ -59,7 +59,7 @@ pub fn flag_live<A: Allocator, B: Allocator>(
 
 /// Flags each scope in which a group lives that wasn't waited for, too. Takes no memory.
 pub fn flag_hosts<A: Allocator>(groups: &Groups<A>, flags: &mut [bool])
-    requires known { (g : ℕ) (row : GroupOf) → HasGroup groups.now g row
+    requires known { (g : ℕ) (row : GroupOf) → HasRow groups.now.groups g row
         → row.scope < length flags.old }
     ensures flags { (s : ℕ)
         → is_flagged flags.new s ≡ (is_flagged flags.old s || hosts_unwaited groups.now s) }
@@ -80,7 +80,7 @@ pub fn flag_groups<A: Allocator, B: Allocator>(
     groups: &Groups<B>,
     scopes: &[bool],
 ) -> Result<Vec<bool, A>, Fault>
-    requires known { (g : ℕ) (row : GroupOf) → HasGroup groups.now g row
+    requires known { (g : ℕ) (row : GroupOf) → HasRow groups.now.groups g row
         → row.scope < length scopes.now }
     ensures flags { IfOk result (λ flags. AreFlags (group_stays_at scopes.now groups.now.groups)
         (length groups.now.groups) flags.items) }
@@ -102,7 +102,7 @@ pub fn flag_tasks<A: Allocator, B: Allocator>(
     groups: &Groups<B>,
     stay: &[bool],
 ) -> Result<Vec<bool, A>, Fault>
-    requires known { (n : ℕ) (row : TaskOf) → HasTask groups.now n row
+    requires known { (n : ℕ) (row : TaskOf) → HasRow groups.now.tasks n row
         → row.group < length stay.now }
     ensures flags { IfOk result (λ flags. AreFlags (task_stays_at stay.now groups.now.tasks)
         (length groups.now.tasks) flags.items) }
@@ -120,7 +120,7 @@ pub fn flag_tasks<A: Allocator, B: Allocator>(
 /// Flags, beside the live scopes, the others that are kept.
 fn flag_rest<A: Allocator>(tree: &Tree<A>, groups: &Groups<A>, flags: &mut [bool])
     requires ordered { AreOrdered tree.now.scopes }
-    requires known { (g : ℕ) (row : GroupOf) → HasGroup groups.now g row
+    requires known { (g : ℕ) (row : GroupOf) → HasRow groups.now.groups g row
         → row.scope < length tree.now.scopes }
     requires live { AreFlags (λ s. not (is_done tree.now.scopes s)) (length tree.now.scopes)
         flags.old }

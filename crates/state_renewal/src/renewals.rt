@@ -7,7 +7,7 @@ ghost use Rattle.run_model.specs.declared.scopes.Scope.{Scope};
 ghost use Rattle.run_model.specs.declared.tasks.Task.{Task};
 ghost use Rattle.run_model.specs.Allowed.{allowed};
 ghost use Rattle.run_model.specs.Event.{Event};
-ghost use Rattle.run_model.specs.Rules.{IsConsistent, HasScope, HasGroup, HasTask};
+ghost use Rattle.run_model.specs.Rules.{IsConsistent, HasRow};
 ghost use Rattle.run_model.specs.State.{State};
 ghost use Rattle.run_model.specs.Tasks.{first_ready};
 ghost use Rattle.state_renewal.specs.Kept.{AreNamesKept, IsRoomKept};
@@ -30,11 +30,11 @@ pub fn nothing_unfinished_goes()
 /// and every value, also those from scopes above it; of a group its row and how many tasks of it
 /// aren't finished; of a task its row and how far it is.
 pub fn what_is_kept_is_as_it_was()
-    ensures scopes { (p : State) (s : ℕ) (row : Scope) → IsConsistent p → HasScope p.tree s row
+    ensures scopes { (p : State) (s : ℕ) (row : Scope) → IsConsistent p → HasRow p.tree.scopes s row
         → keeps_scope p s ≡ true → ScopeStays p s row }
-    ensures groups { (p : State) (g : ℕ) (row : Group) → IsConsistent p → HasGroup p.work g row
+    ensures groups { (p : State) (g : ℕ) (row : Group) → IsConsistent p → HasRow p.work.groups g row
         → keeps_group p g ≡ true → GroupStays p g row }
-    ensures tasks { (p : State) (n : ℕ) (row : Task) → IsConsistent p → HasTask p.work n row
+    ensures tasks { (p : State) (n : ℕ) (row : Task) → IsConsistent p → HasRow p.work.tasks n row
         → keeps_task p n ≡ true → TaskStays p n row }
 {}
 

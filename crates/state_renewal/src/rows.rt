@@ -1,5 +1,8 @@
 //! The rows of a renewed state in an image: of the old rows those that are kept, each told by the
 //! new numbers.
+//!
+//! The calls that put them have more than six clauses: the rows, what is kept of them and the bytes
+//! are a caller's, three values of no common type, so what is asked of each is asked here.
 
 ghost use Rattle.std.specs.List.{flat_map, AllByRecursion};
 ghost use Rattle.std.specs.Option.{option_map};
@@ -9,7 +12,7 @@ ghost use Rattle.std.specs.Prelude.{slice_get};
 ghost use Rattle.run_model.specs.declared.groups.Group.{Group as GroupOf};
 ghost use Rattle.run_model.specs.declared.scopes.Scope.{Scope as ScopeOf};
 ghost use Rattle.run_model.specs.declared.tasks.Task.{Task as TaskOf};
-ghost use Rattle.run_model.specs.Rules.{HasGroup, HasTask};
+ghost use Rattle.run_model.specs.Rules.{HasRow};
 ghost use Rattle.run_model.specs.Scopes.{is_root};
 ghost use Rattle.record_view.specs.declared.heads.ImageVersion.TheVariants.{Two};
 ghost use Rattle.record_view.specs.Image.{group_bytes, is_kept_group, is_kept_link, is_kept_scope};
@@ -71,7 +74,7 @@ pub fn put_groups<A: Allocator, B: Allocator>(
     at: usize,
 ) -> usize
     requires each { length flags.now ≡ length groups.now.groups }
-    requires known { (g : ℕ) (row : GroupOf) → HasGroup groups.now g row
+    requires known { (g : ℕ) (row : GroupOf) → HasRow groups.now.groups g row
         → row.scope < length scopes.now }
     requires room { at + 103 * length (rows_left flags.now (group_by scopes.now) groups.now.groups)
         ≤ length out.old }
@@ -103,9 +106,9 @@ pub fn put_tasks<A: Allocator, B: Allocator>(
     at: usize,
 ) -> usize
     requires each { length tasks.now ≡ length groups.now.tasks }
-    requires known { (n : ℕ) (row : TaskOf) → HasTask groups.now n row
+    requires known { (n : ℕ) (row : TaskOf) → HasRow groups.now.tasks n row
         → row.group < length stay.now }
-    requires links { (n : ℕ) (row : TaskOf) → HasTask groups.now n row
+    requires links { (n : ℕ) (row : TaskOf) → HasRow groups.now.tasks n row
         → IfSome row.retry_of (λ m. m < length tasks.now) }
     requires few { length tasks.now < 65535 }
     requires room { at + 136 * length (rows_left tasks.now (task_by stay.now tasks.now)
@@ -132,7 +135,7 @@ pub fn put_tasks<A: Allocator, B: Allocator>(
 /// The group of this number, which is there.
 pub fn group_at<A: Allocator>(groups: &Groups<A>, g: usize) -> &Group
     requires { g < length groups.now.groups }
-    ensures { HasGroup groups.now g result.now }
+    ensures { HasRow groups.now.groups g result.now }
 {
     let _few = groups.group_count();
     match groups.group_row(g as u16) {
@@ -144,7 +147,7 @@ pub fn group_at<A: Allocator>(groups: &Groups<A>, g: usize) -> &Group
 /// The task of this number, which is there.
 pub fn task_at<A: Allocator>(groups: &Groups<A>, n: usize) -> &Task
     requires { n < length groups.now.tasks }
-    ensures { HasTask groups.now n result.now }
+    ensures { HasRow groups.now.tasks n result.now }
 {
     let _few = groups.task_count();
     let _most = groups.layout().most_tasks();

@@ -19,11 +19,11 @@ use Rattle.task_group.specs.Admitting.{AdmitsOldest}
 use Rattle.task_group.specs.Flags.{flags_after}
 use Rattle.task_group.specs.Kept.{Kept, entered, linked, left, no_seats}
 use Rattle.task_group.specs.Sound.{AreKept}
-use Rattle.task_group.proofs.Words.{Work, admits, unfinished_in, is_running_task}
+use Rattle.task_group.proofs.Words.{Work, admits, unfinished_in}
 use Rattle.task_group.specs.Trees.{with_flag}
 use Rattle.run_model.specs.Rows.{at_row}
 use Rattle.task_group.proofs.Words.{End, finished, group_of, limited, made, stage_after, started}
-use Rattle.task_group.proofs.Words.{submitted}
+use Rattle.task_group.proofs.Words.{submitted, has_stage}
 use Rattle.task_group.proofs.Admitting.{end_admits}
 use Rattle.task_group.proofs.Flaggings.{flagged_none, flagged_pushed, flagged_staged, running_less}
 use Rattle.task_group.proofs.Flaggings.{running_more, running_pushed, ended_rests, fresh_rests}
@@ -126,7 +126,7 @@ start_keeps w n t seats next ready count flags s less k = record {
   flagged = flagged_staged stage.Running n w.tasks flags k.flagged;
 }
 
-pub runs_now : (w : Work) (n : ℕ) (t : Task) → is_running_task w n ≡ true
+pub runs_now : (w : Work) (n : ℕ) (t : Task) → has_stage is_running w n ≡ true
     → slice_get w.tasks n ≡ Some t → is_running t.stage ≡ true
 runs_now w n t run found =
     sym (ap (λ o. option_map_or (λ task. is_running task.stage) o false) found) ∙ run
@@ -134,7 +134,7 @@ runs_now w n t run found =
 -- One task less is running.
 pub end_less : (w : Work) (n : ℕ) (o : End) (t : Task) (seats : List Seats)
     (next : List (Option ℕ)) (ready : List Bool) (count : ℕ) (flags : List Bool)
-    → AreKept w seats next ready count flags → is_running_task w n ≡ true
+    → AreKept w seats next ready count flags → has_stage is_running w n ≡ true
     → slice_get w.tasks n ≡ Some t → 1 ≤ count
 end_less w n o t seats next ready count flags k run found =
     let less = running_less o.stage n w.tasks t found (runs_now w n t run found)
@@ -144,7 +144,7 @@ end_less w n o t seats next ready count flags k run found =
 
 pub end_keeps : (w : Work) (n : ℕ) (o : End) (t : Task) (seats : List Seats)
     (next : List (Option ℕ)) (ready : List Bool) (count : ℕ) (flags : List Bool) (r : Option ℕ)
-    → AreKept w seats next ready count flags → is_running_task w n ≡ true
+    → AreKept w seats next ready count flags → has_stage is_running w n ≡ true
     → slice_get w.tasks n ≡ Some t
     → ((s : Seats) → slice_get seats t.group ≡ Some s → r ≡ s.first)
     → AreKept (finished n o w) (at_row (left next) t.group seats) next (with_flag r ready)
@@ -171,7 +171,7 @@ end_keeps w n o t seats next ready count flags r k run found first =
     }
 
 pub end_admits_oldest : (w : Work) (n : ℕ) (o : End) (t : Task) (seats : List Seats)
-    (next : List (Option ℕ)) → Kept w seats next → is_running_task w n ≡ true
+    (next : List (Option ℕ)) → Kept w seats next → has_stage is_running w n ≡ true
     → slice_get w.tasks n ≡ Some t → AdmitsOldest w n (finished n o w)
 end_admits_oldest w n o t seats next kept run found =
     let known : t.group < length seats =

@@ -2,14 +2,14 @@
 use Rattle.std.proofs.Common.{◌≡◌, ◌++◌, ◌∷◌, [], ℕ, true, false, List, Option}
 use Rattle.std.proofs.Common.{Some}
 use Rattle.std.proofs.Common.{None, slice_get, inl, inr, refl, sym, ap, ◌∙◌}
-use Rattle.std.specs.Option.{option_and_then, option_map}
+use Rattle.std.specs.Option.{option_and_then, option_map, option_or}
 use Rattle.std.proofs.lemmas.Bool.{cases_eq}
 use Rattle.std.proofs.lemmas.Option.{slice_get_within}
 use Rattle.run_model.specs.declared.groups.Group.{Group}
 use Rattle.run_model.specs.declared.tasks.Stage.{Stage}
 use Rattle.run_model.specs.declared.tasks.Stage.TheVariants as stage
 use Rattle.run_model.specs.declared.tasks.Task.{Task}
-use Rattle.run_model.specs.Rows.{at_row, or_else}
+use Rattle.run_model.specs.Rows.{at_row}
 use Rattle.run_model.specs.State.{WorkState}
 use Rattle.run_model.specs.Tasks.{is_running, is_unfinished}
 use Rattle.run_model.specs.WorkChanges.{after_wait, groups_after, with_error, with_stage}
@@ -136,7 +136,8 @@ stay_start w n t here going = record {
   errors = λ g text is. is;
 }
 
-or_else_has : (o : Option (List ℕ)) (x text : List ℕ) → o ≡ Some text → or_else o x ≡ Some text
+or_else_has : (o : Option (List ℕ)) (x text : List ℕ) → o ≡ Some text
+    → option_or o (Some x) ≡ Some text
 or_else_has None x text e = absurd cc
 or_else_has (Some y) x text e = e
 

@@ -1,7 +1,8 @@
 -- Words that the proofs use beside those of the definitions.
 use Rattle.std.specs.Prelude.{◌≡◌, ◌++◌, ◌∷◌, [], ◌&&◌, ℕ, Bool, false, not, List, Option, None}
 use Rattle.std.specs.Prelude.{Some}
-use Rattle.std.specs.Prelude.{find, slice_get}
+use Rattle.std.specs.Prelude.{find, length, slice_get}
+use Rattle.std.specs.List.{range_with_len}
 use Rattle.std.specs.Option.{option_and_then, option_map, option_map_or}
 use Rattle.run_model.specs.declared.groups.Group.{Group}
 use Rattle.run_model.specs.declared.tasks.Phase.{Phase}
@@ -11,10 +12,9 @@ use Rattle.run_model.specs.declared.tasks.Task.{Task}
 use Rattle.run_model.specs.State.{WorkState}
 use Rattle.run_model.specs.WorkChanges.{after_end, groups_after as groups_after_error}
 use Rattle.task_group.specs.Held.{fits_limit}
-pub use Rattle.run_model.specs.Rows.{at_row, new_group, new_task, or_else}
-pub use Rattle.run_model.specs.Tasks.{admits, is_fresh, is_running, is_running_task, is_unfinished}
-pub use Rattle.run_model.specs.Tasks.{phase_by, running_count, running_tasks, task_numbers}
-pub use Rattle.run_model.specs.Tasks.{unfinished_in}
+pub use Rattle.run_model.specs.Rows.{at_row, new_group, new_task}
+pub use Rattle.run_model.specs.Tasks.{admits, has_stage, is_fresh, is_running, is_unfinished}
+pub use Rattle.run_model.specs.Tasks.{phase_by, running_count, running_tasks, unfinished_in}
 pub use Rattle.run_model.specs.WorkChanges.{group_of_task, with_error, with_stage}
 pub use Rattle.task_group.specs.Held.{is_held}
 pub use Rattle.task_group.specs.Rows.{IsSound, submitted}
@@ -38,7 +38,7 @@ is_ready w n =
     option_map_or (λ task. is_fresh task.stage && is_admitted w n task) (slice_get w.tasks n) false
 
 abbrev pub first_ready : Work → Option ℕ
-first_ready w = find (is_ready w) (task_numbers w)
+first_ready w = find (is_ready w) (range_with_len 0 (length w.tasks))
 
 abbrev pub phase_of : Work → ℕ → Option Phase
 phase_of w n =

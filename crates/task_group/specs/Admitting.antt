@@ -2,9 +2,8 @@
 use Rattle.std.specs.Prelude.{◌≡◌, ◌≢◌, ◌<◌, ℕ, if◌then◌else◌, Some}
 use Rattle.run_model.specs.declared.tasks.Phase.TheVariants as phase
 use Rattle.run_model.specs.declared.tasks.Phase.{Phase}
-use Rattle.run_model.specs.Allowed.{admits_one_more}
 use Rattle.run_model.specs.State.{WorkState}
-use Rattle.run_model.specs.Tasks.{phase_of}
+use Rattle.run_model.specs.Tasks.{phase_of, admits, limit_of, unfinished_in}
 use Rattle.run_model.specs.WorkChanges.{group_of_task}
 
 -- The task is held, and no task of this group with a lesser number is.
@@ -23,4 +22,4 @@ pub record AdmitsOldest (old : WorkState) (n : ℕ) (new : WorkState) : Type 0 w
 
 -- How far a new task of the group is: ready where the limit admits one more, else held.
 abbrev pub phase_new : WorkState → ℕ → Phase
-phase_new w g = if admits_one_more w g then phase.Ready else phase.Held
+phase_new w g = if admits (limit_of w g) (unfinished_in g w.tasks) then phase.Ready else phase.Held

@@ -4,8 +4,8 @@ use Rattle.std.specs.Prelude.{slice_get}
 use Rattle.run_model.specs.declared.tasks.Phase.TheVariants as phase
 use Rattle.run_model.specs.declared.tasks.Task.{Task}
 use Rattle.run_model.specs.State.{WorkState}
-use Rattle.run_model.specs.Tasks.{admits, is_fresh, is_running_task, limit_of, phase_of}
-use Rattle.run_model.specs.Tasks.{running_count}
+use Rattle.run_model.specs.Tasks.{admits, is_fresh, limit_of, phase_of}
+use Rattle.run_model.specs.Tasks.{running_count, has_stage, is_running}
 
 -- How many of these tasks are of the group and were not started.
 abbrev pub fresh_in : ℕ → List Task → ℕ
@@ -15,7 +15,7 @@ fresh_in g tasks = count_by (λ task. task.group == g && is_fresh task.stage) ta
 -- group's limit admits one more beside those of lesser numbers that were not started, else held.
 pub record RestartsTasks (old new : WorkState) : Type 0 where
   pub none : running_count new.tasks ≡ 0
-  pub ran : (n : ℕ) → is_running_task old n ≡ true → phase_of new n ≡ Some phase.Interrupted
+  pub ran : (n : ℕ) → has_stage is_running old n ≡ true → phase_of new n ≡ Some phase.Interrupted
   pub fresh : (n : ℕ) (row : Task) → slice_get old.tasks n ≡ Some row → is_fresh row.stage ≡ true
       → phase_of new n
       ≡ Some

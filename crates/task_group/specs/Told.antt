@@ -1,11 +1,11 @@
 -- Which scopes a change tells its caller to cancel.
 use Rattle.std.specs.Prelude.{ℕ, ◌==◌, Bool, false, not, ◌&&◌, if◌then◌else◌, List, take, filter}
-use Rattle.std.specs.Prelude.{filter_map, Option, Some, None, is_none, slice_get}
-use Rattle.std.specs.List.{list_any}
+use Rattle.std.specs.Prelude.{filter_map, Option, Some, None, is_none, slice_get, length}
+use Rattle.std.specs.List.{list_any, range_with_len}
 use Rattle.run_model.specs.declared.groups.Group.{Group}
 use Rattle.run_model.specs.State.{WorkState}
 use Rattle.run_model.specs.Step.{own_scope}
-use Rattle.run_model.specs.Tasks.{is_running, is_running_task, task_numbers}
+use Rattle.run_model.specs.Tasks.{is_running, has_stage}
 use Rattle.run_model.specs.WorkChanges.{group_of_task}
 
 -- The group isn't bare and has no error yet.
@@ -32,11 +32,12 @@ runs_before w g n = list_any (λ task. task.group == g && is_running task.stage)
 -- Task n is the running one with the least number of its group, which isn't bare and has no error.
 abbrev pub ends_its_group : WorkState → ℕ → Bool
 ends_its_group w n =
-    is_running_task w n && not (runs_before w (group_of_task w n) n)
+    has_stage is_running w n && not (runs_before w (group_of_task w n) n)
     && is_first_error (slice_get w.groups (group_of_task w n))
 
 -- A restart tells the scopes of the groups that have a running task, no error, and aren't bare,
 -- each once, in the order of their least running tasks.
 abbrev pub told_by_restart : WorkState → List ℕ
 told_by_restart w =
-    filter_map (λ n. own_scope w (group_of_task w n)) (filter (ends_its_group w) (task_numbers w))
+    filter_map (λ n. own_scope w (group_of_task w n))
+    (filter (ends_its_group w) (range_with_len 0 (length w.tasks)))

@@ -2,7 +2,7 @@
 
 ghost use Rattle.std.specs.Prelude.{◌≡◌, IsTrue};
 ghost use Rattle.std.specs.List.{list_any};
-ghost use Rattle.run_model.specs.Rules.{is_group_kind};
+ghost use Rattle.run_model.specs.Scopes.{is_group_kind};
 ghost use Rattle.record_view.specs.Between.{belongs, fits_scope, has_group, lives_in};
 ghost use Rattle.record_view.specs.WorkRows.{each_passes};
 

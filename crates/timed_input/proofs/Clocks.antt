@@ -23,7 +23,8 @@ use Rattle.run_model.specs.Step as model
 use Rattle.run_model.specs.Allowed.{refusals, unless}
 use Rattle.run_model.specs.Replies.{decide, decide_finish, decide_start, decided, event_of, if_room}
 use Rattle.run_model.specs.Replies.{is_full, is_repeated}
-use Rattle.run_model.specs.Session.{Session, made, with_event}
+use Rattle.run_model.specs.Session.{Session, with_event}
+use Rattle.std.specs.Result.{result_unwrap_or}
 use Rattle.console_lines.specs.declared.asked.Asked.{Asked}
 use Rattle.console_lines.specs.declared.asked.Asked.TheVariants as asked
 use Rattle.console_lines.specs.Asked.{asked_of}
@@ -80,22 +81,25 @@ abbrev IsAtMost : Option Event → Event → Type 0
 IsAtMost made e = (made ≡ None) ⊎ (made ≡ Some e)
 
 by_room : (full : Bool) (e : Event)
-    → IsAtMost (made (if full then Err refusal.SessionFull else Ok (Some e))) e
+    → IsAtMost (result_unwrap_or (if full then Err refusal.SessionFull else Ok (Some e)) None) e
 by_room true e = inl refl
 by_room false e = inr refl
 
 unless_made : (tests : List (Bool × Refusal)) (answer : Result (Option Event) Refusal) (e : Event)
-    → IsAtMost (made answer) e → IsAtMost (made (unless tests answer)) e
+    → IsAtMost (result_unwrap_or answer None) e
+    → IsAtMost (result_unwrap_or (unless tests answer) None) e
 unless_made [] answer e h = h
 unless_made ((true, why) ∷ tests) answer e h = inl refl
 unless_made ((false, why) ∷ tests) answer e h = unless_made tests answer e h
 
-decided_made : (p : State) (log : ℕ) (e : Event) → IsAtMost (made (decided p log e)) e
+decided_made : (p : State) (log : ℕ) (e : Event)
+    → IsAtMost (result_unwrap_or (decided p log e) None) e
 decided_made p log e =
     unless_made (refusals p e) (if_room p log e) e (by_room (is_full p log e) e)
 
 repeated : (b : Bool) (answer : Result (Option Event) Refusal) (e : Event)
-    → IsAtMost (made answer) e → IsAtMost (made (if b then Ok None else answer)) e
+    → IsAtMost (result_unwrap_or answer None) e
+    → IsAtMost (result_unwrap_or (if b then Ok None else answer) None) e
 repeated true answer e h = inl refl
 repeated false answer e h = h
 
@@ -138,7 +142,7 @@ asked_within s asked.BadLine latest h = h
 asked_within s (asked.Refused why) latest h = h
 asked_within s (asked.Step (step.Command call)) latest h =
     let p = s.state in
-    after s (made (decide p s.log call)) (event_of p call)
+    after s (result_unwrap_or (decide p s.log call) None) (event_of p call)
     (latest_asked latest (asked.Step (step.Command call)))
     (omega (arith, h, later latest (asked.Step (step.Command call))))
     (repeated (is_repeated p call) (decided p s.log (event_of p call)) (event_of p call)
@@ -147,10 +151,10 @@ asked_within s (asked.Step (step.Command call)) latest h =
 asked_within s (asked.Step step.Start) latest h =
     let p = s.state in
     let e = event.Start (unwrap_or (first_ready p.work) (length p.work.tasks)) in
-    after s (made (decide_start p s.log)) e latest h (decided_made p s.log e) tt
+    after s (result_unwrap_or (decide_start p s.log) None) e latest h (decided_made p s.log e) tt
 asked_within s (asked.Step (step.Finish n outcome)) latest h =
     let e = event.Finish n outcome in
-    after s (made (decide_finish s.state n outcome)) e latest h
+    after s (result_unwrap_or (decide_finish s.state n outcome) None) e latest h
     (unless_made (refusals s.state e) (Ok (Some e)) e (inr refl)) tt
 asked_within s (asked.Step step.Flush) latest h = h
 asked_within s (asked.Step step.Checkpoint) latest h = h

@@ -1,20 +1,22 @@
 //! What changes groups and tasks. Each change has as its condition what its test asks for.
 
 ghost use Rattle.std.specs.Prelude.{◌≡◌, ◌<◌, ◌≤◌, ◌+◌, ◌++◌, false, fold, length, is_some, IsTrue};
-ghost use Rattle.std.specs.Prelude.{◌&&◌, Some, not};
+ghost use Rattle.std.specs.Prelude.{◌==◌, ◌&&◌, Some, not, is_none};
 ghost use Rattle.std.specs.Option.{IfSome, option_copied, option_to_list};
 ghost use Rattle.run_model.specs.declared.bounds.TheConstants.{MOST_GROUPS};
 ghost use Rattle.run_model.specs.declared.tasks.Phase.TheVariants.{Ready};
-ghost use Rattle.run_model.specs.Allowed.{admits_one_more, has_group_room, has_task_room, is_idle};
-ghost use Rattle.run_model.specs.Allowed.{is_group_name_free, is_open};
+ghost use Rattle.run_model.specs.Allowed.{is_open, has_room};
 ghost use Rattle.run_model.specs.Layouts.{most_tasks};
 ghost use Rattle.run_model.specs.Step.{own_scope};
-ghost use Rattle.run_model.specs.Tasks.{first_ready, is_running_task, is_unfinished, phase_of};
-ghost use Rattle.run_model.specs.Tasks.{is_interrupted_task, is_retried, running_tasks};
+ghost use Rattle.run_model.specs.Tasks.{first_ready, is_unfinished, phase_of};
+ghost use Rattle.run_model.specs.Tasks.{is_retried, running_tasks, has_stage, is_running};
+ghost use Rattle.run_model.specs.Tasks.{is_interrupted, unfinished_in, admits, limit_of};
 ghost use Rattle.run_model.specs.Texts.{IsName, IsText};
 ghost use Rattle.run_model.specs.WorkChanges.{after_make, after_limit, after_go, after_retry};
-ghost use Rattle.run_model.specs.WorkChanges.{after_start, after_finish, after_end, after_wait};
+ghost use Rattle.run_model.specs.WorkChanges.{after_start, after_end, after_wait};
 ghost use Rattle.run_model.specs.WorkChanges.{after_interrupt, group_of_task, interruption};
+ghost use Rattle.run_model.specs.WorkChanges.{stage_of, error_of};
+ghost use Rattle.run_model.specs.State.{group_named};
 ghost use Rattle.task_group.specs.Admitting.{AdmitsOldest, phase_new};
 ghost use Rattle.task_group.specs.Lasting.{EndsStay};
 ghost use Rattle.task_group.specs.Outcomes.{outcome_with};
@@ -40,8 +42,8 @@ impl<A: Allocator> Groups<A> {
     /// may be.
     pub fn make(&mut self, name: &[u8], scope: u16, bare: bool) -> u16
         requires name { IsName name.now }
-        requires accepted { IsTrue (is_group_name_free self.old name.now
-            && has_group_room self.old) }
+        requires accepted { IsTrue (is_none (group_named self.old name.now)
+            && has_room MOST_GROUPS self.old.groups) }
         ensures number { result ≡ length self.old.groups }
         ensures after { self.new ≡ after_make name.now scope bare self.old }
         ensures stays { EndsStay self.old self.new }
@@ -65,7 +67,8 @@ impl<A: Allocator> Groups<A> {
     /// Changes the limit of a group, none of whose tasks is unfinished. [`Groups::check_limit`]
     /// says whether it may be.
     pub fn set_limit(&mut self, group: u16, limit: Limit)
-        requires accepted { IsTrue (is_open self.old group && is_idle self.old group) }
+        requires accepted { IsTrue
+            (is_open self.old group && (unfinished_in group self.old.tasks == 0)) }
         ensures after { self.new ≡ after_limit group limit self.old }
         ensures stays { EndsStay self.old self.new }
     {
@@ -76,7 +79,8 @@ impl<A: Allocator> Groups<A> {
     /// held. [`Groups::check_go`] says whether it may be.
     pub fn go(&mut self, group: u16, job: &[u8], argument: &[u8]) -> u16
         requires names { IsName job.now × IsName argument.now }
-        requires accepted { IsTrue (is_open self.old group && has_task_room self.old) }
+        requires accepted { IsTrue
+            (is_open self.old group && has_room (most_tasks self.old.layout) self.old.tasks) }
         ensures number { result ≡ length self.old.tasks }
         ensures after { self.new ≡ after_go group job.now argument.now self.old }
         ensures phase { phase_of self.new result ≡ Some (phase_new self.old group) }
@@ -89,8 +93,9 @@ impl<A: Allocator> Groups<A> {
     /// whether it may be.
     pub fn try_go(&mut self, group: u16, job: &[u8], argument: &[u8]) -> u16
         requires names { IsName job.now × IsName argument.now }
-        requires accepted { IsTrue (is_open self.old group && has_task_room self.old
-            && admits_one_more self.old group) }
+        requires accepted { IsTrue
+            (is_open self.old group && has_room (most_tasks self.old.layout) self.old.tasks
+            && admits (limit_of self.old group) (unfinished_in group self.old.tasks)) }
         ensures number { result ≡ length self.old.tasks }
         ensures after { self.new ≡ after_go group job.now argument.now self.old }
         ensures phase { phase_of self.new result ≡ Some Ready }
@@ -102,9 +107,9 @@ impl<A: Allocator> Groups<A> {
     /// Submits an interrupted task anew, with the same job and argument in the same group, and
     /// gives the new task's number. [`Groups::check_retry`] says whether it may be.
     pub fn retry(&mut self, task: u16) -> u16
-        requires accepted { IsTrue (is_interrupted_task self.old task
+        requires accepted { IsTrue (has_stage is_interrupted self.old task
             && not (is_retried self.old task) && is_open self.old (group_of_task self.old task)
-            && has_task_room self.old) }
+            && has_room (most_tasks self.old.layout) self.old.tasks) }
         ensures number { result ≡ length self.old.tasks }
         ensures after { self.new ≡ after_retry task self.old }
         ensures phase { phase_of self.new result
@@ -142,10 +147,11 @@ impl<A: Allocator> Groups<A> {
     /// bare. [`Groups::check_finish`] says whether it may be.
     pub fn finish(&mut self, task: u16, error: Option<&[u8]>) -> Option<u16>
         requires error { IfSome error (λ e. IsText e.now) }
-        requires running { IsTrue (is_running_task self.old task) }
+        requires running { IsTrue (has_stage is_running self.old task) }
         ensures told { result ≡ told_by_end task (option_copied error.entry) self.old }
         ensures after { self.new
-            ≡ after_finish task (outcome_with (option_copied error.entry)) self.old }
+            ≡ after_end task (stage_of (outcome_with (option_copied error.entry)))
+            (error_of (outcome_with (option_copied error.entry))) self.old }
         ensures admits { AdmitsOldest self.old task self.new }
         ensures stays { EndsStay self.old self.new }
     {
@@ -156,7 +162,8 @@ impl<A: Allocator> Groups<A> {
     /// without a cause: the group's own, unless it is bare. A group is waited for once.
     /// [`Groups::check_wait`] says whether it may be.
     pub fn wait(&mut self, group: u16) -> Option<u16>
-        requires accepted { IsTrue (is_open self.old group && is_idle self.old group) }
+        requires accepted { IsTrue
+            (is_open self.old group && (unfinished_in group self.old.tasks == 0)) }
         ensures told { result ≡ own_scope self.old group }
         ensures after { self.new ≡ after_wait group self.old }
         ensures stays { EndsStay self.old self.new }
@@ -213,7 +220,7 @@ impl<A: Allocator> Groups<A> {
     /// Ends a running task at this stage, with this error or none.
     fn end(&mut self, task: u16, stage: Stage, error: Option<&[u8]>) -> Option<u16>
         requires error { IfSome error (λ e. IsText e.now) }
-        requires running { IsTrue (is_running_task self.old task) }
+        requires running { IsTrue (has_stage is_running self.old task) }
         requires done { is_unfinished stage ≡ false }
         ensures told { result ≡ told_by_end task (option_copied error.entry) self.old }
         ensures after { self.new ≡ after_end task stage (option_copied error.entry) self.old }
@@ -235,7 +242,7 @@ impl<A: Allocator> Groups<A> {
 
     /// Interrupts a running task, which is an error of its group.
     fn interrupt(&mut self, task: u16) -> Option<u16>
-        requires { IsTrue (is_running_task self.old task) }
+        requires { IsTrue (has_stage is_running self.old task) }
         ensures told { result ≡ told_by_end task (Some interruption) self.old }
         ensures after { self.new ≡ after_interrupt self.old task }
         ensures groups { length self.new.groups ≤ MOST_GROUPS }

@@ -1,15 +1,16 @@
 //! Tests: each says why a change is refused, the first reason that holds in the order in which they
 //! are asked, and `Ok` exactly where none does. None takes memory.
 
-ghost use Rattle.std.specs.Prelude.{◌≡◌, ◌<◌, ◌∷◌, ℕ, List, Option, [], length, not, true};
+ghost use Rattle.std.specs.Prelude.{◌≡◌, ◌<◌, ◌∷◌, ℕ, List, Option, [], length, not, true, is_none};
 ghost use Rattle.run_model.specs.declared.refusals.Refusal.TheVariants as refusal;
 ghost use Rattle.run_model.specs.declared.tasks.Outcome.{Outcome};
-ghost use Rattle.run_model.specs.Allowed.{has_group_room, has_scope, is_group_name_free, refusals};
-ghost use Rattle.run_model.specs.Allowed.{tested};
+ghost use Rattle.run_model.specs.Allowed.{refusals};
+ghost use Rattle.run_model.specs.Allowed.{tested, has_row, has_room};
 ghost use Rattle.run_model.specs.Event.{Bare, Finish, Go, Retry, SetLimit, TryGo, Wait};
-ghost use Rattle.run_model.specs.State.{TreeState};
-ghost use Rattle.run_model.specs.Tasks.{is_interrupted_task, is_retried};
+ghost use Rattle.run_model.specs.State.{TreeState, group_named};
+ghost use Rattle.run_model.specs.Tasks.{is_retried, has_stage, is_interrupted};
 ghost use Rattle.run_model.specs.WorkChanges.{group_of_task};
+ghost use Rattle.run_model.specs.declared.bounds.TheConstants.{MOST_GROUPS};
 ghost use Rattle.task_group.specs.Checks.{Answers};
 
 use crate::groups::Groups;
@@ -21,7 +22,7 @@ impl<A: Allocator> Groups<A> {
     /// Says why a group of this name can't be made: `NameTaken`, `TooManyGroups`, the first that
     /// holds.
     pub fn check_make(&self, name: &[u8]) -> Result<(), Refusal>
-        ensures { (count : ℕ) (tree : TreeState) (s : ℕ) → has_scope tree s ≡ true
+        ensures { (count : ℕ) (tree : TreeState) (s : ℕ) → has_row tree.scopes s ≡ true
             → result ≡ tested (refusals
             (record { count = count; tree = tree; work = self.now }) (Bare name.now s)) }
     {
@@ -32,7 +33,7 @@ impl<A: Allocator> Groups<A> {
     /// The first part of [`Groups::check_make`]: `NameTaken`.
     pub fn check_name(&self, name: &[u8]) -> Result<(), Refusal>
         ensures { result
-            ≡ tested ((not (is_group_name_free self.now name.now), refusal.NameTaken) ∷ []) }
+            ≡ tested ((not (is_none (group_named self.now name.now)), refusal.NameTaken) ∷ []) }
     {
         if self.find(name).is_some() {
             return Err(Refusal::NameTaken);
@@ -43,7 +44,7 @@ impl<A: Allocator> Groups<A> {
     /// The second part of [`Groups::check_make`]: `TooManyGroups`.
     pub fn check_room(&self) -> Result<(), Refusal>
         ensures { result
-            ≡ tested ((not (has_group_room self.now), refusal.TooManyGroups) ∷ []) }
+            ≡ tested ((not (has_room MOST_GROUPS self.now.groups), refusal.TooManyGroups) ∷ []) }
     {
         if MOST_GROUPS <= self.groups.len() {
             return Err(Refusal::TooManyGroups);
@@ -147,7 +148,7 @@ impl<A: Allocator> Groups<A> {
 
     /// Says whether there is a task of this number that was interrupted.
     fn is_interrupted(&self, task: u16) -> bool
-        ensures { result ≡ is_interrupted_task self.now task }
+        ensures { result ≡ has_stage is_interrupted self.now task }
     {
         match self.tasks.get(task as usize) {
             Some(row) => is_interrupted(&row.stage),

@@ -8,11 +8,11 @@ ghost use Rattle.std.specs.Prelude.{IfOk, IfErr, IsTrue, List, Some, None, slice
 ghost use Rattle.run_model.specs.declared.bounds.TheConstants.{MOST_GROUPS};
 ghost use Rattle.run_model.specs.declared.faults.Fault.TheVariants.{BadImage};
 ghost use Rattle.run_model.specs.declared.groups.Group.{Group as GroupOf};
-ghost use Rattle.run_model.specs.Allowed.{admits_one_more};
 ghost use Rattle.run_model.specs.Layouts.{most_tasks};
 ghost use Rattle.run_model.specs.Rules.{has_task_error};
 ghost use Rattle.run_model.specs.State.{new_work, WorkState};
-ghost use Rattle.run_model.specs.Tasks.{is_fresh, is_running, is_unfinished};
+ghost use Rattle.run_model.specs.Tasks.{is_fresh, is_running, is_unfinished, admits, limit_of};
+ghost use Rattle.run_model.specs.Tasks.{unfinished_in};
 ghost use Rattle.record_view.specs.declared.heads.ImageVersion.TheVariants.{Two};
 ghost use Rattle.record_view.specs.Between.{fits_between};
 ghost use Rattle.record_view.specs.Image.{group_bytes, task_bytes, is_kept_group, is_kept_task};
@@ -215,7 +215,8 @@ impl<A: Allocator> Groups<A> {
     /// Appends a running task, which the limit admits.
     fn take_running(&mut self, row: Task)
         requires running { is_running row.stage ≡ true }
-        requires admitted { admits_one_more self.old row.group ≡ true }
+        requires admitted { admits (limit_of self.old row.group)
+            (unfinished_in row.group self.old.tasks) ≡ true }
         requires known { row.group < length self.old.groups }
         requires link { IfSome row.retry_of (λ m. m < length self.old.tasks) }
         requires room { length self.old.tasks < most_tasks self.old.layout }

@@ -5,13 +5,12 @@ ghost use Rattle.std.specs.Prelude.{◌≡◌, ◌<◌, ◌≤◌, ℕ, length, 
 ghost use Rattle.std.specs.Option.{option_copied};
 ghost use Rattle.std.specs.Str.{bytes_eq};
 ghost use Rattle.run_model.specs.declared.bounds.TheConstants.{MOST_GROUPS};
-ghost use Rattle.run_model.specs.Allowed.{admits_one_more};
 ghost use Rattle.run_model.specs.Layouts.{most_tasks};
 ghost use Rattle.run_model.specs.Questions.{group_look_of};
 ghost use Rattle.run_model.specs.Replies.{has_waited};
 ghost use Rattle.run_model.specs.State.{TreeState, group_named};
-ghost use Rattle.run_model.specs.Tasks.{first_ready, is_running_task, phase_of, running_count};
-ghost use Rattle.run_model.specs.Tasks.{unfinished_in};
+ghost use Rattle.run_model.specs.Tasks.{first_ready, phase_of, running_count};
+ghost use Rattle.run_model.specs.Tasks.{unfinished_in, has_stage, is_running, admits, limit_of};
 
 use crate::groups::Groups;
 use crate::rows::{admits, group_look, is_from, is_running, phase_of as stage_phase};
@@ -82,7 +81,7 @@ impl<A: Allocator> Groups<A> {
     /// Says whether a task that came in now would be ready.
     pub fn has_seat(&self, group: u16) -> bool
         requires { group < length self.now.groups }
-        ensures { result ≡ admits_one_more self.now group }
+        ensures { result ≡ admits (limit_of self.now group) (unfinished_in group self.now.tasks) }
     {
         let g = group as usize;
         admits(self.groups[g].limit, self.seats[g].unfinished as usize)
@@ -116,7 +115,7 @@ impl<A: Allocator> Groups<A> {
 
     /// Says whether there is a task of this number that is running.
     pub fn is_running(&self, task: u16) -> bool
-        ensures { result ≡ is_running_task self.now task }
+        ensures { result ≡ has_stage is_running self.now task }
     {
         match self.tasks.get(task as usize) {
             Some(row) => is_running(&row.stage),

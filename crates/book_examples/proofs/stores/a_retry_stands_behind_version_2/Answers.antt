@@ -28,7 +28,8 @@ returns-clause-one c = record {
     len = 5;
     begins = record {
       enough = lit≤ tt;
-      spells = record { recorded = refl; spelled = refl };
+      recorded = refl;
+      spelled = refl;
     };
     refused = refl;
   };

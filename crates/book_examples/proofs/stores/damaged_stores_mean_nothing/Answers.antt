@@ -89,7 +89,8 @@ returns-clause-parent c = record {
     len = 8;
     begins = record {
       enough = lit≤ tt;
-      spells = record { recorded = refl; spelled = refl };
+      recorded = refl;
+      spelled = refl;
     };
     refused = refl;
   };

@@ -1,6 +1,7 @@
 use Rattle.std.proofs.Common.{arith}
 use Rattle.std.specs.Option.{option_copied}
-use Rattle.record_view.specs.Spelling.{limit_bytes, number_bytes, optional_bytes, text_bytes}
+use Rattle.run_model.specs.Spelling.{limit_bytes, optional_bytes, text_bytes}
+use Rattle.std.specs.Int.{to_be_bytes, w16}
 use Rattle.record_view.specs.Image.{flag_bytes}
 use Rattle.record_view.proofs.RowJoins.{put_six}
 use Rattle.record_view.proofs.RowJoins.{length_six}
@@ -10,7 +11,7 @@ pub returns-clause-written : goal.returns-clause-written
 returns-clause-written c =
     let row = c.args.row.now in
     let name = text_bytes row.name.now in
-    let scope = number_bytes row.scope in
+    let scope = to_be_bytes w16 row.scope in
     let bare = flag_bytes row.bare in
     let limit = limit_bytes row.limit in
     let waited = flag_bytes row.waited in

@@ -1,5 +1,5 @@
 use Rattle.std.proofs.Common.{arith, [], ◌∷◌}
-use Rattle.record_view.specs.Spelling.{moment_bytes, number_bytes}
+use Rattle.std.specs.Int.{to_be_bytes, w16, w64}
 use Rattle.record_view.proofs.RowJoins.{put_six}
 use Rattle.record_view.proofs.heads.put_head.Goals as goal
 
@@ -14,9 +14,9 @@ returns-clause-written c =
       c.put_u64-end.ensures.written,
       c.put_byte-end.ensures.written,
     )
-    (put_six c.args.out.now c.args.at _ _ _ _ _ (2 ∷ []) (moment_bytes head.clock)
-    (moment_bytes head.count) (number_bytes head.scopes) (number_bytes head.groups)
-    (number_bytes head.tasks)
+    (put_six c.args.out.now c.args.at _ _ _ _ _ (2 ∷ []) (to_be_bytes w64 head.clock)
+    (to_be_bytes w64 head.count) (to_be_bytes w16 head.scopes) (to_be_bytes w16 head.groups)
+    (to_be_bytes w16 head.tasks)
     c.put_byte-end.ensures.end c.put_u64-end.ensures.end c.put_u64-end-2.ensures.end
     c.put_u16-end.ensures.end c.put_u16-end-2.ensures.end
     (omega (arith, c.requires.room)))

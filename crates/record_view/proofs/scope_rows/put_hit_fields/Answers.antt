@@ -1,5 +1,6 @@
 use Rattle.std.proofs.Common.{arith, [], ◌∷◌}
-use Rattle.record_view.specs.Spelling.{moment_bytes, text_bytes}
+use Rattle.run_model.specs.Spelling.{text_bytes}
+use Rattle.std.specs.Int.{to_be_bytes, w64}
 use Rattle.record_view.specs.Image.{reason_bytes}
 use Rattle.record_view.proofs.RowJoins.{put_five}
 use Rattle.record_view.proofs.RowJoins.{length_four}
@@ -8,8 +9,8 @@ use Rattle.record_view.proofs.scope_rows.put_hit_fields.Goals as goal
 pub returns-clause-written : goal.returns-clause-written
 returns-clause-written c =
     let hit = c.args.hit.now in
-    let event = moment_bytes hit.event in
-    let moment = moment_bytes hit.moment in
+    let event = to_be_bytes w64 hit.event in
+    let moment = to_be_bytes w64 hit.moment in
     let reason = reason_bytes hit.reason in
     let cause = text_bytes hit.cause.now in
     rw (

@@ -1,7 +1,8 @@
 use Rattle.std.proofs.Common.{arith}
 use Rattle.std.specs.Option.{option_map}
-use Rattle.record_view.specs.Spelling.{number_bytes, text_bytes}
-use Rattle.record_view.specs.Image.{hit_bytes, row_kind_bytes}
+use Rattle.run_model.specs.Spelling.{text_bytes, kind_bytes}
+use Rattle.std.specs.Int.{to_be_bytes, w16}
+use Rattle.record_view.specs.Image.{hit_bytes}
 use Rattle.record_view.specs.RowViews.{hit_of}
 use Rattle.record_view.specs.Views.{kind_of}
 use Rattle.record_view.proofs.RowJoins.{put_four}
@@ -12,8 +13,8 @@ pub returns-clause-written : goal.returns-clause-written
 returns-clause-written c =
     let row = c.args.row.now in
     let name = text_bytes row.name.now in
-    let parent = number_bytes row.parent in
-    let kind = row_kind_bytes (kind_of row.kind) in
+    let parent = to_be_bytes w16 row.parent in
+    let kind = kind_bytes (kind_of row.kind) in
     let hit = hit_bytes (option_map hit_of row.hit) in
     rw (
       c.put_hit.ensures.written,

@@ -1,6 +1,7 @@
 use Rattle.std.proofs.Common.{arith}
 use Rattle.record_view.specs.declared.heads.ImageVersion.TheVariants.{Two}
-use Rattle.record_view.specs.Spelling.{number_bytes, text_bytes}
+use Rattle.run_model.specs.Spelling.{text_bytes}
+use Rattle.std.specs.Int.{to_be_bytes, w16}
 use Rattle.record_view.specs.Image.{link_bytes, stage_bytes}
 use Rattle.record_view.specs.RowViews.{stage_of}
 use Rattle.record_view.proofs.RowJoins.{put_five, length_five}
@@ -9,7 +10,7 @@ use Rattle.record_view.proofs.task_rows.put_task.Goals as goal
 pub returns-clause-written : goal.returns-clause-written
 returns-clause-written c =
     let row = c.args.row.now in
-    let group = number_bytes row.group in
+    let group = to_be_bytes w16 row.group in
     let job = text_bytes row.job.now in
     let argument = text_bytes row.argument.now in
     let stage = stage_bytes (stage_of row.stage) in

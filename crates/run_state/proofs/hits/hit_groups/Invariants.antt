@@ -1,6 +1,6 @@
 use Rattle.std.proofs.Common.{◌≡◌, ℕ, fold, take, Some}
 use Rattle.run_model.specs.Allowed.{has_kind}
-use Rattle.run_model.specs.Rules.{is_group_kind}
+use Rattle.run_model.specs.Scopes.{is_group_kind}
 use Rattle.run_model.specs.TreeChanges.{after_cancel}
 use Rattle.scope_tree.specs.Checks.{AreEarlierOrAlike}
 use Rattle.run_state.proofs.hits.hit_groups.Given as goal

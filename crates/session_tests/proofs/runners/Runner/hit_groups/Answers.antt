@@ -1,7 +1,7 @@
 use Rattle.std.proofs.Common.{ap, ◌∙◌, arith}
 use Rattle.std.specs.Option.{option_copied}
 use Rattle.run_model.specs.Allowed.{has_kind}
-use Rattle.run_model.specs.Rules.{is_group_kind}
+use Rattle.run_model.specs.Scopes.{is_group_kind}
 use Rattle.scope_tree.proofs.Events.{earlier_is_alike, has_kind-after_cancel}
 use Rattle.session_tests.proofs.runners.Runner.hit_groups.Goals as goal
 

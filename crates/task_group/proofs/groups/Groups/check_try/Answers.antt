@@ -3,11 +3,12 @@ use Rattle.std.proofs.Common.{◌∙◌, rules}
 use Rattle.std.proofs.lemmas.Bool.{ltb-true, not-false}
 use Rattle.run_model.specs.declared.refusals.Refusal.{Refusal}
 use Rattle.run_model.specs.declared.refusals.Refusal.TheVariants as refusal
-use Rattle.run_model.specs.Allowed.{admits_one_more, refusals, tested}
+use Rattle.run_model.specs.Allowed.{refusals, tested}
 use Rattle.run_model.specs.Event as event
 use Rattle.run_model.specs.Replies.{and_then}
 use Rattle.run_model.specs.State.{TreeState, WorkState, new_tree}
 use Rattle.run_model.proofs.RefusalLemmas.{each_fails, unless_Ok, unless_tested}
+use Rattle.run_model.specs.Tasks.{admits, limit_of, unfinished_in}
 use Rattle.task_group.specs.Checks.{Answers}
 use Rattle.task_group.proofs.groups.Groups.check_try.Goals as goal
 
@@ -15,12 +16,13 @@ use Rattle.task_group.proofs.groups.Groups.check_try.Goals as goal
 try_asked : (w : WorkState) (g : ℕ) (answer : Result (Unit {0}) Refusal)
     (job argument : List ℕ) (count : ℕ) (tree : TreeState)
     → ((job argument : List ℕ) → Answers w (event.Go g job argument) answer)
-    → and_then answer (λ _. tested ((not (admits_one_more w g), refusal.AtLimit) ∷ []))
+    → and_then answer (λ _. tested
+    ((not (admits (limit_of w g) (unfinished_in g w.tasks)), refusal.AtLimit) ∷ []))
     ≡ tested (refusals (record { count = count; tree = tree; work = w })
     (event.TryGo g job argument))
 try_asked w g answer job argument count tree asked =
     let seat : Result (Unit {0}) Refusal =
-    tested ((not (admits_one_more w g), refusal.AtLimit) ∷ []) in
+    tested ((not (admits (limit_of w g) (unfinished_in g w.tasks)), refusal.AtLimit) ∷ []) in
     ap (λ a. and_then a (λ _. seat)) (asked job argument count tree)
     ∙ sym (unless_tested
     (refusals (record { count = count; tree = tree; work = w }) (event.Go g job argument)) seat)

@@ -5,13 +5,13 @@ use Rattle.std.proofs.lemmas.Grind.{common_steps}
 use Rattle.std.proofs.lemmas.Option.{slice_get_read, slice_get_within}
 use Rattle.run_model.specs.declared.tasks.Task.{Task}
 use Rattle.run_model.specs.State.{WorkState}
-use Rattle.run_model.specs.Tasks.{is_interrupted_task}
 use Rattle.run_model.specs.WorkChanges.{group_of_task}
+use Rattle.run_model.specs.Tasks.{has_stage, is_interrupted}
 use Rattle.task_group.specs.Admitting.{phase_new}
 use Rattle.task_group.specs.Sound.{work}
 use Rattle.task_group.proofs.groups.Groups.retry.Goals as goal
 
-task_known : (w : WorkState) (n : ℕ) → is_interrupted_task w n ≡ true → n < length w.tasks
+task_known : (w : WorkState) (n : ℕ) → has_stage is_interrupted w n ≡ true → n < length w.tasks
 task_known w n is = grind (arith, common_steps, slice_get_within)
 
 pub returns-clause-phase : goal.returns-clause-phase
