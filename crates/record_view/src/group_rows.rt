@@ -49,8 +49,7 @@ pub fn read_group(bytes: &[u8]) -> Option<(GroupRow<'_>, &[u8])>
     ensures texts { IfSome result (λ x. StandIn bytes.entry (group_texts 0 x.0)) }
     ensures kept { IfSome result (λ x. IsTrue (is_kept_group (group_of x.0))) }
 {
-    let (row, rest) = read_group_fields(bytes)?;
-    Some((row, rest))
+    read_group_fields(bytes)
 }
 
 /// Puts the row of a group at a place, and gives the place behind it.

@@ -50,8 +50,7 @@ pub fn read_head(bytes: &[u8], layout: Layout) -> Option<(ImageHead, &[u8])>
     ensures value { option_map (λ x. (x.0, x.1.now)) result ≡ head_at layout bytes.now }
     ensures kept { IfSome result (λ x. IsTrue (is_kept_head layout x.0)) }
 {
-    let (head, rest) = read_head_fields(bytes, layout)?;
-    Some((head, rest))
+    read_head_fields(bytes, layout)
 }
 
 /// Puts the head of an image at a place, in version 2 whatever version it was read in, and gives

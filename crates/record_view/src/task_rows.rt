@@ -66,8 +66,7 @@ pub fn read_task(bytes: &[u8], version: ImageVersion) -> Option<(TaskRow<'_>, &[
     ensures texts { IfSome result (λ x. StandIn bytes.entry (task_texts 0 x.0)) }
     ensures kept { IfSome result (λ x. IsTrue (is_kept_task version (task_of x.0))) }
 {
-    let (row, rest) = read_task_fields(bytes, version)?;
-    Some((row, rest))
+    read_task_fields(bytes, version)
 }
 
 /// Puts the row of a task, of version 2, at a place, and gives the place behind it.
