@@ -19,7 +19,7 @@ use test_fixtures::Call::{Cancel, Checkpoint, Derive, Flush, Go, Group, Start, S
 use test_fixtures::{Ask, Call, Going, Said, Seen};
 
 /// Steps, each with its answer.
-const ROWS: [(Call, Said<'static>); 16] = [
+static ROWS: [(Call, Said<'static>); 16] = [
     (Flush, Said::Acked(1)),
     (Derive(b"a", b"root", Ask::Cause), Said::Scope(1)),
     (Derive(b"b", b"a", Ask::Cancel), Said::Scope(2)),
@@ -101,12 +101,12 @@ fn a_list_of_steps_is_answered_one_by_one(rt: HostRuntime) {
 }
 
 /// Steps before and since the opening of the next test.
-const BEFORE: [(Call, Said<'static>); 2] = [
+static BEFORE: [(Call, Said<'static>); 2] = [
     (Derive(b"old", b"root", Ask::Cause), Said::Scope(1)),
     (Flush, Said::Acked(2)),
 ];
 
-const SINCE: [(Call, Said<'static>); 5] = [
+static SINCE: [(Call, Said<'static>); 5] = [
     (Group(b"g", b"root"), Said::Group(0, Some(2))),
     (Flush, Said::Acked(4)),
     (Go(b"g", b"copy", b"a"), Said::Ready(0)),

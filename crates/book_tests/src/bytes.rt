@@ -6,12 +6,12 @@
 
 use crate::asserts::holds;
 use crate::disks::{At, assert_bytes, formatted, now, played};
-use crate::six_events::{FIRST, FIRST_BATCH, SECOND, SECOND_BATCH};
+use crate::six_events::{FIRST, FIRST_BATCH, FLUSHED, SECOND_BATCH};
 use run_disk::MemoryDisk;
 use run_model::Layout;
 use std::alloc::Global;
 use std::process::Abort;
-use test_fixtures::Call::{Checkpoint, Flush};
+use test_fixtures::Call::Checkpoint;
 use test_fixtures::{Call, Said};
 
 /// A slot of generation 0 with root alone, before any event.
@@ -82,9 +82,10 @@ static FLUSHED_SO: [At; 6] = [
 
 #[test]
 fn two_flushes_leave_two_batches(rt: HostRuntime) {
-    let steps = [FIRST.as_slice(), &SECOND, &[(Flush, Said::Acked(6))]];
-    assert_left(&rt, rt.alloc(), &steps, 30, &FLUSHED_SO);
+    assert_left(&rt, rt.alloc(), &FLUSHED, 30, &FLUSHED_SO);
 }
+
+static CHECKPOINTED: [&[(Call, Said<'static>)]; 2] = [&FIRST, &[(Checkpoint, Said::Acked(4))]];
 
 static CHECKPOINTED_SO: [At; 3] = [
     ("slot 0", 0, CANCELED),
@@ -94,6 +95,5 @@ static CHECKPOINTED_SO: [At; 3] = [
 
 #[test]
 fn a_checkpoint_leaves_an_image(rt: HostRuntime) {
-    let steps = [FIRST.as_slice(), &[(Checkpoint, Said::Acked(4))]];
-    assert_left(&rt, rt.alloc(), &steps, 25, &CHECKPOINTED_SO);
+    assert_left(&rt, rt.alloc(), &CHECKPOINTED, 25, &CHECKPOINTED_SO);
 }

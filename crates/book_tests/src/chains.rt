@@ -16,7 +16,7 @@ use test_fixtures::Call::{Flush, Go, Group, Start, Succeed};
 use test_fixtures::{Call, Going, Said, going_at};
 
 /// Two tasks, flushed, and a start of the first that is not.
-const FIRST: [(Call, Said<'static>); 5] = [
+static FIRST: [(Call, Said<'static>); 5] = [
     (Group(b"g", b"root"), Said::Group(0, Some(1))),
     (Go(b"g", b"copy", b"a"), Said::Ready(0)),
     (Go(b"g", b"copy", b"b"), Said::Ready(1)),
@@ -26,7 +26,7 @@ const FIRST: [(Call, Said<'static>); 5] = [
 
 /// The second task, behind two more openings: the first was interrupted, so its group's scope is
 /// done.
-const SECOND: [(Call, Said<'static>); 2] = [
+static SECOND: [(Call, Said<'static>); 2] = [
     (Start, Said::Started(8, 1, b"copy", b"b", true)),
     (Succeed(1), Said::Finished(9)),
 ];
@@ -71,7 +71,7 @@ const BROKEN: Option<Trouble> = Some(Trouble::Refused(Refusal::Broken));
 
 /// A call that fails, and why the row stops there: in the first opening, in the flush among the
 /// steps, in the one behind them, in the second opening; or that it doesn't.
-const STOPPED: [(u64, Option<Trouble>); 9] = [
+static STOPPED: [(u64, Option<Trouble>); 9] = [
     (1, FAILED),
     (10, FAILED),
     (11, BROKEN),

@@ -53,9 +53,9 @@ fn add_work(rt: &impl Abort, steps: &mut Vec<Step>) {
     }
 }
 
-const SUBMITTED: [(Call, Said<'static>); 1] = [(Flush, Said::Acked(2_305))];
+static SUBMITTED: [(Call, Said<'static>); 1] = [(Flush, Said::Acked(2_305))];
 
-const WORKED: [(Call, Said<'static>); 3] = [
+static WORKED: [(Call, Said<'static>); 3] = [
     (Start, Said::Refused(Refusal::NothingReady)),
     (Flush, Said::Acked(6_401)),
     (Checkpoint, Said::Acked(6_401)),

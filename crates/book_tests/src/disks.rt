@@ -15,7 +15,7 @@ use std::process::Abort;
 use test_fixtures::{Call, Listing, Said};
 
 /// How a crash may tear what was not synced.
-pub const TEARS: [Torn; 6] = [
+pub static TEARS: [Torn; 6] = [
     Torn::Keep,
     Torn::Take,
     Torn::Fill(0),

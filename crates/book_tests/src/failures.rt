@@ -132,10 +132,10 @@ fn assert_broken(rt: &impl Abort, replies: &[Reply], call: u64) {
 /// nothing.
 fn assert_kept(rt: &impl Abort, alloc: Global, disk: &MemoryDisk, call: u64) {
     let before = call.saturating_sub(1);
-    for torn in TEARS {
+    for torn in TEARS.iter() {
         let calls = before.saturating_add(8);
-        let found = counted(rt, alloc, torn_image(rt, alloc, disk, calls, torn));
-        holds_behind(rt, found == Ok(left(before, torn)), before, torn);
+        let found = counted(rt, alloc, torn_image(rt, alloc, disk, calls, *torn));
+        holds_behind(rt, found == Ok(left(before, *torn)), before, *torn);
     }
 }
 
@@ -185,6 +185,8 @@ const REFUSED: [(Call, Said<'static>); 14] = [
     (Checkpoint, BROKEN),
 ];
 
+static ASKED: [&[(Call, Said<'static>)]; 3] = [&FIRST, &SECOND, &REFUSED];
+
 /// Plays steps over a disk, and asks the book.
 fn asked(
     rt: &impl Abort,
@@ -215,15 +217,9 @@ fn assert_asked(
 
 #[test]
 fn a_broken_book_answers_questions_alone(rt: HostRuntime) {
-    let lists = [FIRST.as_slice(), &SECOND, &REFUSED];
     // Records of 26 bytes, of 16 and of 8.
-    assert_asked(
-        &rt,
-        rt.alloc(),
-        &lists,
-        20,
-        (Layout::Small, 7, 4, true, 6, 50),
-    );
+    let wanted = (Layout::Small, 7, 4, true, 6, 50);
+    assert_asked(&rt, rt.alloc(), &ASKED, 20, wanted);
 }
 
 /// Why a disk isn't formatted whose calls fail behind so many, and the calls that it made.
@@ -269,7 +265,7 @@ fn a_recovery_that_fails_tells_so(rt: HostRuntime) {
 }
 
 /// Behind a second flush that failed event 4 is durable, and events 5 and 6 are lost.
-const BEHIND: [(Call, Said<'static>); 3] = [
+static BEHIND: [(Call, Said<'static>); 3] = [
     (Flush, Said::Acked(5)),
     (Derive(b"c", b"root", Ask::Cause), Said::Scope(3)),
     (Flush, Said::Acked(6)),

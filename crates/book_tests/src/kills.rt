@@ -83,8 +83,8 @@ fn assert_kept(rt: &impl Abort, alloc: Global, steps: &[Step], kill: u64) {
     let stored = both_of(rt, alloc, &disk, kill);
     let disk = played_on(rt, alloc, disk, &[]);
     for calls in 0..11 {
-        for torn in TEARS {
-            assert_cut(rt, alloc, &disk, &stored, (kill, calls, torn));
+        for torn in TEARS.iter() {
+            assert_cut(rt, alloc, &disk, &stored, (kill, calls, *torn));
         }
     }
 }
@@ -120,8 +120,8 @@ fn assert_lost_or_kept(rt: &impl Abort, alloc: Global, disk: &MemoryDisk, cut: C
 fn assert_unsettled(rt: &impl Abort, alloc: Global, steps: &[Step], kill: u64) {
     let disk = played_on(rt, alloc, killed(rt, alloc, steps, kill), &[]);
     for calls in 0..11 {
-        for torn in TEARS {
-            assert_lost_or_kept(rt, alloc, &disk, (kill, calls, torn));
+        for torn in TEARS.iter() {
+            assert_lost_or_kept(rt, alloc, &disk, (kill, calls, *torn));
         }
     }
 }

@@ -85,7 +85,7 @@ fn its_running_task_is_interrupted_where_it_is_opened(rt: HostRuntime) {
 /// Behind how many calls a stop comes, how it tears what was not synced, and what is told of the
 /// new disk then: how many events it stores, or why it is no store. Behind calls 3, 6 and 8 all is
 /// synced.
-const STOPS: [(u64, Torn, Result<u64, Fault>); 27] = [
+static STOPS: [(u64, Torn, Result<u64, Fault>); 27] = [
     (0, Torn::Take, Err(Fault::NotAStore)),
     (1, Torn::Keep, Err(Fault::NotAStore)),
     (1, Torn::Take, Err(Fault::NotAStore)),
@@ -120,9 +120,9 @@ const STOPS: [(u64, Torn, Result<u64, Fault>); 27] = [
 #[test]
 fn a_stop_leaves_no_store_or_the_large_one(rt: HostRuntime) {
     let new = taken_over(&rt, rt.alloc());
-    for (calls, torn, told) in STOPS {
-        let bytes = torn_image(&rt, rt.alloc(), &new, calls, torn);
+    for row in STOPS.iter() {
+        let bytes = torn_image(&rt, rt.alloc(), &new, row.0, row.1);
         let found = counted(&rt, rt.alloc(), bytes);
-        holds_behind(&rt, found == told, calls, torn);
+        holds_behind(&rt, found == row.2, row.0, row.1);
     }
 }

@@ -16,7 +16,7 @@ use test_fixtures::{Ask, Call, Said};
 
 /// The steps, each with its answer. The opening makes ten device calls, each flush six, and the
 /// checkpoint seven: 35 in sum.
-pub const NIGHT: [(Call, Said<'static>); 12] = [
+pub static NIGHT: [(Call, Said<'static>); 12] = [
     (Derive(b"a", b"root", Ask::Cause), Said::Scope(1)),
     (Derive(b"b", b"a", Ask::Cancel), Said::Scope(2)),
     (Cancel(b"a", b"disk"), Said::Done),
@@ -72,10 +72,10 @@ fn assert_stops(rt: &impl Abort, alloc: Global, disk: &MemoryDisk, before: u64) 
         before,
     );
     for calls in 0..36 {
-        for torn in TEARS {
-            let bytes = torn_image(rt, alloc, disk, before.saturating_add(calls), torn);
+        for torn in TEARS.iter() {
+            let bytes = torn_image(rt, alloc, disk, before.saturating_add(calls), *torn);
             let found = counted(rt, alloc, bytes);
-            holds_behind(rt, found == Ok(left(calls, torn)), calls, torn);
+            holds_behind(rt, found == Ok(left(calls, *torn)), calls, *torn);
         }
     }
 }

@@ -34,7 +34,7 @@ type Stopped = (
     Tasks,
 );
 
-const STOPPED: [Stopped; 6] = [
+static STOPPED: [Stopped; 6] = [
     ("no start", &[&SUBMITTED], (6, Going::Ready, Going::Held)),
     (
         "a start",
@@ -99,7 +99,7 @@ fn a_task_that_runs_at_a_stop_is_interrupted(rt: HostRuntime) {
 }
 
 /// A task of a bare group runs, in the scope of another group.
-const BARE: [(Call, Said<'static>); 6] = [
+static BARE: [(Call, Said<'static>); 6] = [
     (Group(b"g", b"root"), Said::Group(0, Some(1))),
     (Bare(b"h", b"g"), Said::Group(1, None)),
     (Go(b"h", b"copy", b"a"), Said::Ready(0)),

@@ -110,7 +110,7 @@ fn a_refused_growth_comes_before_any_device_call(rt: HostRuntime) {
 }
 
 /// Steps of each kind, each with its answer.
-const ROWS: [(Call, Said<'static>); 15] = [
+static ROWS: [(Call, Said<'static>); 15] = [
     (Derive(b"a", b"root", Ask::Cause), Said::Scope(1)),
     (Cancel(b"a", b"disk"), Said::Done),
     (Cancel(b"a", b""), Said::Refused(Refusal::AlreadyDone)),
@@ -143,7 +143,7 @@ fn no_step_takes_memory(rt: HostRuntime) {
 }
 
 /// A night whose task is running as it ends.
-const FIRST: [(Call, Said<'static>); 4] = [
+static FIRST: [(Call, Said<'static>); 4] = [
     (Group(b"g", b"root"), Said::Group(0, Some(1))),
     (Go(b"g", b"copy", b"a"), Said::Ready(0)),
     (Start, Said::Started(4, 0, b"copy", b"a", false)),
@@ -151,7 +151,7 @@ const FIRST: [(Call, Said<'static>); 4] = [
 ];
 
 /// Behind a restart, a step of each kind and each command, each with its answer.
-const SECOND: [(Call, Said<'static>); 22] = [
+static SECOND: [(Call, Said<'static>); 22] = [
     (Retry(0), Said::Ready(1)),
     (Derive(b"a", b"root", Ask::Cause), Said::Scope(2)),
     (Derive(b"p", b"a", Ask::Cancel), Said::Scope(3)),

@@ -115,7 +115,7 @@ fn a_segment_is_filled_to_its_last_byte(rt: HostRuntime) {
 
 /// Behind a full segment a flush of nothing, a checkpoint, and a flush of six bytes into the other
 /// segment.
-const BEHIND: [(Call, Said<'static>); 6] = [
+static BEHIND: [(Call, Said<'static>); 6] = [
     (Flush, Said::Acked(23_833)),
     (Flush, Said::Acked(23_833)),
     (Limit(b"g", Some(3)), Said::Done),
@@ -147,7 +147,7 @@ fn a_flush_behind_a_full_segment_is_a_checkpoint(rt: HostRuntime) {
 const LONGEST: &[u8] = b"0123456789abcdef0123456789abcdef0123456789abcdef0123456789abcdef";
 
 /// What comes first: 7 + 7 + 5 bytes, and 10 limits of 6.
-const FRONT: [(Call, Said<'static>); 13] = [
+static FRONT: [(Call, Said<'static>); 13] = [
     (Group(b"g", b"root"), Said::Group(0, Some(1))),
     (Bare(b"h", b"root"), Said::Group(1, None)),
     (Wait(b"h"), Said::Waited(None)),
@@ -165,7 +165,7 @@ const FRONT: [(Call, Said<'static>); 13] = [
 
 /// Behind 95,308 advances of 11 bytes and two tasks of 12 the log has 1,048,491. A start has 5, and
 /// 80 are kept then. What is durable takes room of the log still.
-const FULL: [(Call, Said<'static>); 9] = [
+static FULL: [(Call, Said<'static>); 9] = [
     (Go(b"g", b"copy", b"a"), Said::Ready(0)),
     (Go(b"g", b"copy", b"b"), Said::Ready(1)),
     (Flush, Said::Acked(95_324)),
@@ -186,7 +186,7 @@ fn nearly_full(rt: &impl Abort, alloc: Global) -> Vec<Step> {
 }
 
 /// The next opening begins with an empty log.
-const NEXT: [(Call, Said<'static>); 1] = [(Start, Said::Started(95_328, 1, b"copy", b"b", true))];
+static NEXT: [(Call, Said<'static>); 1] = [(Start, Said::Started(95_328, 1, b"copy", b"b", true))];
 
 #[test]
 fn a_start_that_just_fits_is_accepted(rt: HostRuntime) {
@@ -196,7 +196,7 @@ fn a_start_that_just_fits_is_accepted(rt: HostRuntime) {
 }
 
 /// Behind 7 bytes, 5 limits of 6 and 95,313 advances of 11 a task of 12 makes 1,048,492.
-const OVERFULL: [(Call, Said<'static>); 4] = [
+static OVERFULL: [(Call, Said<'static>); 4] = [
     (Go(b"g", b"copy", b"a"), Said::Ready(0)),
     (Flush, Said::Acked(95_321)),
     (Start, Said::Refused(Refusal::SessionFull)),

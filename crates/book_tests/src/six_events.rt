@@ -22,6 +22,9 @@ pub const SECOND: [(Call, Said<'static>); 3] = [
     (Derive(b"d", b"root", Ask::Cancel), Said::Scope(4)),
 ];
 
+/// All of them, with a second flush.
+pub static FLUSHED: [&[(Call, Said<'static>)]; 3] = [&FIRST, &SECOND, &[(Flush, Said::Acked(6))]];
+
 /// The batch of events 5 and 6.
 pub const SECOND_BATCH: &[u8; 21] = b"\xa7\0\0\0\x10\x01\0\x05\x01c\0\0\x01\
 \x01\0\x05\x01d\0\0\x01";

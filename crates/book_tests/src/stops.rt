@@ -10,7 +10,7 @@ use crate::asserts::{holds, holds_behind};
 use crate::disks::{TEARS, counted, disk_of, formatted, played, played_on, recovered, torn_image};
 use crate::looks::assert_scopes;
 use crate::nights::opens;
-use crate::six_events::{FIRST, SECOND};
+use crate::six_events::{FIRST, FLUSHED, SECOND};
 use run_disk::{MemoryDisk, Torn};
 use run_model::{Fault, Layout};
 use std::alloc::Global;
@@ -21,7 +21,7 @@ use test_fixtures::{Ask, Call, Said, Seen};
 /// A number of events, and the scopes behind them.
 type Stored = (u64, &'static [(&'static [u8], Seen<'static>)]);
 
-const FOUR: Stored = (
+static FOUR: Stored = (
     4,
     &[
         (b"a", Seen::Canceled(b"disk")),
@@ -29,7 +29,7 @@ const FOUR: Stored = (
     ],
 );
 
-const SIX: Stored = (
+static SIX: Stored = (
     6,
     &[
         (b"a", Seen::Canceled(b"disk")),
@@ -38,6 +38,16 @@ const SIX: Stored = (
         (b"d", Seen::Live),
     ],
 );
+
+/// A checkpoint in place of the second flush.
+static IN_A_CHECKPOINT: [&[(Call, Said<'static>)]; 3] = [
+    &FIRST,
+    &SECOND,
+    &[(Checkpoint, Said::Acked(6))],
+];
+
+/// Events 5 and 6 stay pending.
+static PENDING: [&[(Call, Said<'static>)]; 2] = [&FIRST, &SECOND];
 
 /// Asserts what a stop behind so many calls leaves, torn in this way.
 fn assert_left(
@@ -58,37 +68,42 @@ fn assert_left(
 fn assert_stops(rt: &impl Abort, alloc: Global, disk: &MemoryDisk, last: u64, after: Stored) {
     holds(rt, disk.calls() == last, "calls", last);
     for calls in 24..=last {
-        for torn in TEARS {
-            let is_there = calls == last || (last.saturating_sub(calls) == 1 && opens(torn));
+        for torn in TEARS.iter() {
+            let is_there = calls == last || (last.saturating_sub(calls) == 1 && opens(*torn));
             let stored = if is_there { after } else { FOUR };
-            assert_left(rt, alloc, disk, calls, torn, stored);
+            assert_left(rt, alloc, disk, calls, *torn, stored);
         }
     }
 }
 
 /// Asserts what stops of a flush of events 5 and 6, or of a checkpoint, leave behind 24 calls.
-fn assert_saves(rt: &impl Abort, alloc: Global, layout: Layout, by: Call, last: u64) {
-    let steps = [FIRST.as_slice(), &SECOND, &[(by, Said::Acked(6))]];
-    let disk = played(rt, alloc, layout, &steps);
+fn assert_saves(
+    rt: &impl Abort,
+    alloc: Global,
+    layout: Layout,
+    steps: &[&[(Call, Said<'static>)]],
+    last: u64,
+) {
+    let disk = played(rt, alloc, layout, steps);
     assert_stops(rt, alloc, &disk, last, SIX);
 }
 
 #[test]
 fn a_stop_of_a_save_leaves_its_events_or_none(rt: HostRuntime) {
-    assert_saves(&rt, rt.alloc(), Layout::Small, Flush, 30);
-    assert_saves(&rt, rt.alloc(), Layout::Small, Checkpoint, 31);
+    assert_saves(&rt, rt.alloc(), Layout::Small, &FLUSHED, 30);
+    assert_saves(&rt, rt.alloc(), Layout::Small, &IN_A_CHECKPOINT, 31);
 }
 
 #[test]
 fn a_stop_of_a_save_of_a_large_store(rt: HostRuntime) {
-    assert_saves(&rt, rt.alloc(), Layout::Large, Flush, 30);
-    assert_saves(&rt, rt.alloc(), Layout::Large, Checkpoint, 31);
+    assert_saves(&rt, rt.alloc(), Layout::Large, &FLUSHED, 30);
+    assert_saves(&rt, rt.alloc(), Layout::Large, &IN_A_CHECKPOINT, 31);
 }
 
 /// A disk that is opened again, where events 5 and 6 were pending: by three reads and the seven
 /// calls of a checkpoint.
 fn opened_again(rt: &impl Abort, alloc: Global) -> MemoryDisk {
-    let disk = played(rt, alloc, Layout::Small, &[&FIRST, &SECOND]);
+    let disk = played(rt, alloc, Layout::Small, &PENDING);
     played_on(rt, alloc, disk, &[])
 }
 
@@ -126,8 +141,7 @@ fn assert_all_go_on(rt: &impl Abort, alloc: Global, disk: &MemoryDisk) {
 
 #[test]
 fn a_store_goes_on_behind_a_stop(rt: HostRuntime) {
-    let steps = [FIRST.as_slice(), &SECOND, &[(Flush, Said::Acked(6))]];
-    let disk = played(&rt, rt.alloc(), Layout::Small, &steps);
+    let disk = played(&rt, rt.alloc(), Layout::Small, &FLUSHED);
     assert_all_go_on(&rt, rt.alloc(), &disk);
 }
 
@@ -145,9 +159,9 @@ fn told(calls: u64, torn: Torn) -> Result<u64, Fault> {
 
 /// Asserts what stops of a format leave behind so many calls, torn in each way.
 fn assert_told(rt: &impl Abort, alloc: Global, disk: &MemoryDisk, calls: u64) {
-    for torn in TEARS {
-        let found = counted(rt, alloc, torn_image(rt, alloc, disk, calls, torn));
-        holds_behind(rt, found == told(calls, torn), calls, torn);
+    for torn in TEARS.iter() {
+        let found = counted(rt, alloc, torn_image(rt, alloc, disk, calls, *torn));
+        holds_behind(rt, found == told(calls, *torn), calls, *torn);
     }
 }
 

@@ -56,17 +56,23 @@ fn disk_with(rt: &impl Abort, alloc: Global, rows: &[(usize, &[u8])]) -> MemoryD
     disk_of(rt, alloc, small_disk(rt, alloc, rows))
 }
 
+static TASKS_RUNNING: [TaskSeen; 2] = [
+    (b"copy", b"a", Going::Running, None),
+    (b"copy", b"b", Going::Held, None),
+];
+
 /// Asserts that task 0 runs, and task 1 is held.
 fn assert_running(rt: &impl Abort, found: &Listing) {
     holds(rt, (found.count, found.clock) == (6, 0), "events", 6);
     assert_scopes(rt, found, &[(b"g", Seen::Live)]);
     assert_group(rt, found, b"g", (1, 2, Some(1), false, None));
-    let tasks: [TaskSeen; 2] = [
-        (b"copy", b"a", Going::Running, None),
-        (b"copy", b"b", Going::Held, None),
-    ];
-    assert_tasks(rt, found, &tasks);
+    assert_tasks(rt, found, &TASKS_RUNNING);
 }
+
+static TASKS_RESTARTED: [TaskSeen; 2] = [
+    (b"copy", b"a", Going::Interrupted, None),
+    (b"copy", b"b", Going::Ready, None),
+];
 
 /// Asserts that task 0 is interrupted, task 1 ready, and besides all as it was.
 fn assert_interrupted(rt: &impl Abort, found: &Listing) {
@@ -78,22 +84,19 @@ fn assert_interrupted(rt: &impl Abort, found: &Listing) {
         b"g",
         (1, 1, Some(1), false, Some(b"interrupted")),
     );
-    let tasks: [TaskSeen; 2] = [
-        (b"copy", b"a", Going::Interrupted, None),
-        (b"copy", b"b", Going::Ready, None),
-    ];
-    assert_tasks(rt, found, &tasks);
+    assert_tasks(rt, found, &TASKS_RESTARTED);
 }
+
+static TASKS_RETRIED: [TaskSeen; 3] = [
+    (b"copy", b"a", Going::Interrupted, None),
+    (b"copy", b"b", Going::Ready, None),
+    (b"copy", b"a", Going::Held, Some(0)),
+];
 
 /// Asserts that task 2 retries task 0.
 fn assert_retried(rt: &impl Abort, found: &Listing) {
     holds(rt, found.count == 8, "events", 8);
-    let tasks: [TaskSeen; 3] = [
-        (b"copy", b"a", Going::Interrupted, None),
-        (b"copy", b"b", Going::Ready, None),
-        (b"copy", b"a", Going::Held, Some(0)),
-    ];
-    assert_tasks(rt, found, &tasks);
+    assert_tasks(rt, found, &TASKS_RETRIED);
 }
 
 #[test]

@@ -6,7 +6,7 @@ use crate::parts::{Part, assert_calls, assert_parts};
 use run_model::Layout;
 
 /// Lines of 256 bytes and more, and a short one.
-const LONG_LINES: &[Part] = &[
+static LONG_LINES: &[Part] = &[
     Times(1, b"cancel a ", b""),
     Times(247, b"x", b""),
     Times(1, b"\ncancel a ", b"refused 6 BadText\n"),
@@ -24,7 +24,7 @@ const LONG_LINES: &[Part] = &[
 ];
 
 /// More replies than are gathered before one write, for lines that are read at once.
-const MANY_REPLIES: &[Part] = &[
+static MANY_REPLIES: &[Part] = &[
     Times(1, b"derive a root cause\n", b"scope 1\n"),
     Times(1, b"cancel a disk\n", b"ok\n"),
     Times(
@@ -36,7 +36,7 @@ const MANY_REPLIES: &[Part] = &[
 ];
 
 /// A tally that is longer than all that is gathered before one write.
-const LONG_TALLY: &[Part] = &[
+static LONG_TALLY: &[Part] = &[
     Times(1, b"bare g root\n", b"group 0\n"),
     Typed(0, 200, "go g job", " a"),
     Printed(0, 200, "task ", " ready"),
@@ -57,7 +57,7 @@ fn lines_and_replies_may_be_long(rt: HostRuntime) {
 }
 
 /// As many scopes as there can be, and causes of 64 bytes and of 65.
-const SCOPES: &[Part] = &[
+static SCOPES: &[Part] = &[
     Typed(1, 1_024, "derive s", " root cause"),
     Printed(1, 1_024, "scope ", ""),
     Times(
@@ -73,7 +73,7 @@ const SCOPES: &[Part] = &[
 ];
 
 /// As many groups as there can be.
-const GROUPS: &[Part] = &[
+static GROUPS: &[Part] = &[
     Typed(0, 127, "bare b", " root"),
     Printed(0, 127, "group ", ""),
     Times(
@@ -98,7 +98,7 @@ const GROUPS: &[Part] = &[
 
 /// As many scopes as there can be: a parent and a name come before them, and they before a timeout
 /// past the greatest moment; then as many groups, which come behind scopes.
-const SCOPES_AND_GROUPS: &[Part] = &[
+static SCOPES_AND_GROUPS: &[Part] = &[
     Typed(0, 1_023, "derive s", " root cancel"),
     Printed(1, 1_024, "scope ", ""),
     Times(
@@ -136,7 +136,7 @@ const SCOPES_AND_GROUPS: &[Part] = &[
 ];
 
 /// As many tasks as there can be.
-const TASKS: &[Part] = &[
+static TASKS: &[Part] = &[
     Times(
         1,
         b"bare g root\nbare h root\nlimit h 0\nwait h\n",
@@ -171,7 +171,7 @@ fn there_are_1024_scopes_128_groups_and_2048_tasks(rt: HostRuntime) {
 }
 
 /// As many scopes as there can be over a large disk.
-const LARGE_SCOPES: &[Part] = &[
+static LARGE_SCOPES: &[Part] = &[
     Typed(1, 4_096, "derive s", " root cancel"),
     Printed(1, 4_096, "scope ", ""),
     Times(
@@ -182,7 +182,7 @@ const LARGE_SCOPES: &[Part] = &[
 ];
 
 /// As many tasks.
-const LARGE_TASKS: &[Part] = &[
+static LARGE_TASKS: &[Part] = &[
     Times(1, b"bare g root\n", b"group 0\n"),
     Typed(0, 8_192, "go g job", " a"),
     Printed(0, 8_192, "task ", " ready"),
@@ -201,7 +201,7 @@ fn a_large_disk_takes_4096_scopes_and_8192_tasks(rt: HostRuntime) {
 
 /// A log of 1,048,491 bytes: records of 7 bytes, of 6 for each limit, of 11 for each advance, and
 /// of 12. A start just fits beside the room for its finish. A checkpoint frees no room.
-const JUST_FITS: &[Part] = &[
+static JUST_FITS: &[Part] = &[
     Times(1, b"group g root\n", b"group 0 scope 1\n"),
     Times(3, b"limit g 2\n", b"ok\n"),
     Typed(1, 95_315, "advance ", ""),
@@ -253,7 +253,7 @@ const JUST_FITS: &[Part] = &[
 ];
 
 /// A log of a byte more.
-const A_BYTE_MORE: &[Part] = &[
+static A_BYTE_MORE: &[Part] = &[
     Times(1, b"group g root\n", b"group 0 scope 1\n"),
     Times(5, b"limit g 2\n", b"ok\n"),
     Typed(1, 95_314, "advance ", ""),
@@ -276,7 +276,7 @@ fn a_start_needs_the_room_for_its_finish(rt: HostRuntime) {
 }
 
 /// 262,138 bytes are pending, as many as a segment takes in one batch.
-const ONE_BATCH: &[Part] = &[
+static ONE_BATCH: &[Part] = &[
     Times(1, b"group g root\n", b"group 0 scope 1\n"),
     Times(2, b"limit g 2\n", b"ok\n"),
     Typed(1, 23_830, "advance ", ""),
@@ -285,7 +285,7 @@ const ONE_BATCH: &[Part] = &[
 ];
 
 /// Behind that batch there is no room for another.
-const NO_ROOM: &[Part] = &[
+static NO_ROOM: &[Part] = &[
     Times(1, b"group g root\n", b"group 0 scope 1\n"),
     Times(2, b"limit g 2\n", b"ok\n"),
     Typed(1, 23_830, "advance ", ""),
@@ -299,7 +299,7 @@ const NO_ROOM: &[Part] = &[
 ];
 
 /// A byte more is pending.
-const NO_BATCH: &[Part] = &[
+static NO_BATCH: &[Part] = &[
     Times(1, b"group g root\n", b"group 0 scope 1\n"),
     Times(4, b"limit g 2\n", b"ok\n"),
     Typed(1, 23_829, "advance ", ""),

@@ -18,10 +18,10 @@ use test_fixtures::Call::{
 use test_fixtures::{Ask, Call, Said, are_same};
 
 /// Records of 7, 7 and 5 bytes.
-const FRONT: [Call; 3] = [Group(b"g", b"root"), Bare(b"h", b"root"), Wait(b"h")];
+static FRONT: [Call; 3] = [Group(b"g", b"root"), Bare(b"h", b"root"), Wait(b"h")];
 
 /// Steps behind a full log.
-const BEHIND: [Call; 16] = [
+static BEHIND: [Call; 16] = [
     Advance(95_320),
     Derive(b"a", b"root", Ask::Cause),
     Group(b"k", b"root"),
@@ -45,7 +45,7 @@ const BEHIND: [Call; 16] = [
 const FULL: Said = Said::Refused(Refusal::SessionFull);
 
 /// What they are answered: the opening and 95,330 steps were accepted.
-const ANSWERS: [Said; 16] = [
+static ANSWERS: [Said; 16] = [
     FULL,
     FULL,
     FULL,
@@ -96,9 +96,9 @@ fn filled(rt: &impl Abort, alloc: Global, len: usize, row: usize) -> MemoryDisk 
 }
 
 /// The next opening is an event, and its log is empty.
-const NEXT: [Call; 2] = [Advance(95_320), Flush];
+static NEXT: [Call; 2] = [Advance(95_320), Flush];
 
-const NEXT_ANSWERS: [Said; 2] = [Said::Done, Said::Acked(95_333)];
+static NEXT_ANSWERS: [Said; 2] = [Said::Done, Said::Acked(95_333)];
 
 /// Asserts what the next session answers.
 fn assert_next(rt: &impl Abort, alloc: Global, disk: MemoryDisk, row: usize) {

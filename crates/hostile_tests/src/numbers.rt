@@ -75,16 +75,16 @@ fn spent_numbers_are_told_and_nothing_is_written(rt: HostRuntime) {
 }
 
 /// The last opening: a checkpoint has no generation left, and a flush that fits has room.
-const FIRST: [Call; 3] = [Derive(b"a", b"root", Ask::Cause), Checkpoint, Flush];
+static FIRST: [Call; 3] = [Derive(b"a", b"root", Ask::Cause), Checkpoint, Flush];
 
 /// A flush that must make a checkpoint. The book isn't broken.
-const LAST: [Call; 3] = [Flush, Checkpoint, Start];
+static LAST: [Call; 3] = [Flush, Checkpoint, Start];
 
 const SPENT_NUMBERS: Said = Said::Faulty(Fault::NumbersSpent);
 
-const FIRST_ANSWERS: [Said; 3] = [Said::Scope(1), SPENT_NUMBERS, Said::Acked((1 << 62) + 1)];
+static FIRST_ANSWERS: [Said; 3] = [Said::Scope(1), SPENT_NUMBERS, Said::Acked((1 << 62) + 1)];
 
-const LAST_ANSWERS: [Said; 3] = [
+static LAST_ANSWERS: [Said; 3] = [
     SPENT_NUMBERS,
     SPENT_NUMBERS,
     Said::Refused(Refusal::NothingReady),
