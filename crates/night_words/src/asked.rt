@@ -6,7 +6,7 @@ ghost use Rattle.night_words.specs.Commands.{fault_text};
 use std::fmt;
 
 /// What the words ask for. The names of stores are lent from them.
-#[derive(Debug, Drop)]
+#[derive(Drop)]
 pub enum Asked<'a> {
     /// `demo`: the input runs over a book in memory; with `--strict` up to the first line that is
     /// no line or is refused.
@@ -51,7 +51,7 @@ pub enum Asked<'a> {
 }
 
 /// What of a store is printed. Words are lent, as the names of stores are.
-#[derive(Clone, Copy, Debug)]
+#[derive(Clone, Copy)]
 pub enum View<'a> {
     /// All that it holds.
     Whole,
@@ -70,7 +70,7 @@ pub enum View<'a> {
 
 /// Why words ask for nothing. It is printed whole, with its LF, on standard error; `Memory` as the
 /// fault of that name.
-#[derive(Debug, Drop)]
+#[derive(Drop)]
 pub enum WordsFault {
     /// The words are no command of the program; the text says what is wrong, and what would be
     /// right.

@@ -1,7 +1,7 @@
 //! The command line, as its parser takes it.
 
-ghost use Rattle.std.specs.Prelude.{◌≡◌, [], false, IfOk};
-ghost use Rattle.clap.specs.Words.{app_of, rule_of, with_subcommand};
+ghost use Rattle.std.specs.Prelude.{◌≡◌, [], false, true, IfOk};
+ghost use Rattle.clap.specs.Words.{App, Rule, app_of, rule_of, with_rule, with_subcommand};
 ghost use Rattle.night_words.specs.Commands.{crew_line, demo_line, flag, format_line, free};
 ghost use Rattle.night_words.specs.Commands.{inspect_line, migrate_line, night, night_alone};
 ghost use Rattle.night_words.specs.Commands.{renew_line, script_line, store_line, value_option};
@@ -66,13 +66,13 @@ const NOW: &str = "Moves the clock to the machine's time, each second in which a
 pub fn night_command<'a>(alloc: Global) -> Result<Command<'a>, AllocError>
     ensures { IfOk result (λ command. app_of command ≡ night) }
 {
-    let demo = with_demo(alloc)?;
-    let format = with_format(alloc, demo)?;
-    let script = with_script(alloc, format)?;
-    let inspect = with_inspect(alloc, script)?;
-    let migrate = with_migrate(alloc, inspect)?;
-    let crew = with_crew(alloc, migrate)?;
-    with_renew(alloc, crew)
+    let demo = with_command(Ok(night_alone(alloc)), demo_command(alloc));
+    let format = with_command(demo, format_command(alloc));
+    let script = with_command(format, script_command(alloc));
+    let inspect = with_command(script, inspect_command(alloc));
+    let migrate = with_command(inspect, migrate_command(alloc));
+    let crew = with_command(migrate, crew_command(alloc));
+    with_command(crew, renew_command(alloc))
 }
 
 /// The command line without its commands.
@@ -87,77 +87,28 @@ fn night_alone<'a>(alloc: Global) -> Command<'a>
         .arg_required_else_help(true)
 }
 
-/// The command line with the command over a book in memory.
-fn with_demo<'a>(alloc: Global) -> Result<Command<'a>, AllocError>
-    ensures { IfOk result (λ command. app_of command
-        ≡ with_subcommand (record { top = night_alone; subs = [] }) demo_line.top) }
+/// A command line with one more command, where there was memory for both.
+fn with_command<'a>(
+    line: Result<Command<'a>, AllocError>,
+    command: Result<Command<'a>, AllocError>,
+) -> Result<Command<'a>, AllocError>
+    ensures { (before added : App) → added.top.is_plain ≡ true
+        → IfOk line.entry (λ line. app_of line ≡ before)
+        → IfOk command.entry (λ command. app_of command ≡ added)
+        → IfOk result (λ line. app_of line ≡ with_subcommand before added.top) }
 {
-    let demo = demo_command(alloc)?;
-    night_alone(alloc).subcommand(demo)
-}
-
-/// The command line with the command that makes a store of a file.
-fn with_format<'a>(alloc: Global, night: Command<'a>) -> Result<Command<'a>, AllocError>
-    ensures { IfOk result (λ command. app_of command
-        ≡ with_subcommand (app_of night.entry) format_line.top) }
-{
-    let format = format_command(alloc)?;
-    night.subcommand(format)
-}
-
-/// The command line with the command that runs the input over a store.
-fn with_script<'a>(alloc: Global, night: Command<'a>) -> Result<Command<'a>, AllocError>
-    ensures { IfOk result (λ command. app_of command
-        ≡ with_subcommand (app_of night.entry) script_line.top) }
-{
-    let script = script_command(alloc)?;
-    night.subcommand(script)
-}
-
-/// The command line with the command that reads a store.
-fn with_inspect<'a>(alloc: Global, night: Command<'a>) -> Result<Command<'a>, AllocError>
-    ensures { IfOk result (λ command. app_of command
-        ≡ with_subcommand (app_of night.entry) inspect_line.top) }
-{
-    let inspect = inspect_command(alloc)?;
-    night.subcommand(inspect)
-}
-
-/// The command line with the command that makes a large store of a small one.
-fn with_migrate<'a>(alloc: Global, night: Command<'a>) -> Result<Command<'a>, AllocError>
-    ensures { IfOk result (λ command. app_of command
-        ≡ with_subcommand (app_of night.entry) migrate_line.top) }
-{
-    let migrate = migrate_command(alloc)?;
-    night.subcommand(migrate)
-}
-
-/// The command line with the command that works off the tasks of a store.
-fn with_crew<'a>(alloc: Global, night: Command<'a>) -> Result<Command<'a>, AllocError>
-    ensures { IfOk result (λ command. app_of command
-        ≡ with_subcommand (app_of night.entry) crew_line.top) }
-{
-    let crew = crew_command(alloc)?;
-    night.subcommand(crew)
-}
-
-/// The command line with the command that makes a store of what another one still needs.
-fn with_renew<'a>(alloc: Global, night: Command<'a>) -> Result<Command<'a>, AllocError>
-    ensures { IfOk result (λ command. app_of command
-        ≡ with_subcommand (app_of night.entry) renew_line.top) }
-{
-    let renew = renew_command(alloc)?;
-    night.subcommand(renew)
+    let command = command?;
+    line?.subcommand(command)
 }
 
 /// The command over a book in memory.
 fn demo_command<'a>(alloc: Global) -> Result<Command<'a>, AllocError>
     ensures { IfOk result (λ command. app_of command ≡ demo_line) }
 {
-    Command::new(alloc, "demo")
+    let demo = Command::new(alloc, "demo")
         .about("Runs standard input over a book in memory")
-        .after_help(LINES)
-        .arg(flag_word(alloc, "strict", STRICT))
+        .after_help(LINES);
+    with_word(Ok(demo), flag_word(alloc, "strict", STRICT))
 }
 
 /// The command that makes a store of a file.
@@ -169,8 +120,11 @@ fn format_command<'a>(alloc: Global) -> Result<Command<'a>, AllocError>
         "format",
         "Makes a new store of a file, and prints `formatted`; what the file held is lost",
         ending!("Example: night format --new jobs.store"),
-    )?;
-    store.arg(flag_word(alloc, "new", "Refuses where there is a file of that name"))
+    );
+    with_word(
+        store,
+        flag_word(alloc, "new", "Refuses where there is a file of that name"),
+    )
 }
 
 /// The command that runs the input over a store.
@@ -182,10 +136,9 @@ fn script_command<'a>(alloc: Global) -> Result<Command<'a>, AllocError>
         "script",
         "Opens a store, and runs standard input over it",
         LINES,
-    )?;
-    store
-        .arg(flag_word(alloc, "strict", STRICT))?
-        .arg(flag_word(alloc, "now", NOW))
+    );
+    let strict = with_word(store, flag_word(alloc, "strict", STRICT));
+    with_word(strict, flag_word(alloc, "now", NOW))
 }
 
 /// The command that reads a store.
@@ -197,27 +150,41 @@ fn inspect_command<'a>(alloc: Global) -> Result<Command<'a>, AllocError>
         "inspect",
         "Prints what a store holds, and writes nothing to it",
         ending!("Example: night inspect jobs.store"),
-    )?;
-    store
-        .arg(flag_word(alloc, "tasks", "Prints the lines of its tasks alone"))?
-        .arg(value_word(
+    );
+    let tasks = with_word(
+        store,
+        flag_word(alloc, "tasks", "Prints the lines of its tasks alone"),
+    );
+    let phase = with_word(
+        tasks,
+        value_word(
             alloc,
             "phase",
             "PHASE",
             "Prints those alone that are held, ready, running, success, error or interrupted",
-        ))?
-        .arg(value_word(
+        ),
+    );
+    let group = with_word(
+        phase,
+        value_word(
             alloc,
             "group",
             "GROUP",
             "Prints those alone that are of this group",
-        ))?
-        .arg(flag_word(alloc, "json", "Prints all of it as one object of JSON"))?
-        .arg(flag_word(
+        ),
+    );
+    let json = with_word(
+        group,
+        flag_word(alloc, "json", "Prints all of it as one object of JSON"),
+    );
+    with_word(
+        json,
+        flag_word(
             alloc,
             "tree",
             "Draws its scopes as a tree, with their groups and tasks",
-        ))
+        ),
+    )
 }
 
 /// A command over a store.
@@ -229,75 +196,113 @@ fn store_command<'a>(
 ) -> Result<Command<'a>, AllocError>
     ensures { IfOk result (λ command. app_of command ≡ store_line name.now) }
 {
-    Command::new(alloc, name)
-        .about(about)
-        .after_help(ending)
-        .arg(store_word(alloc, "STORE", "STORE", "The file of the store"))
+    let command = Command::new(alloc, name).about(about).after_help(ending);
+    with_word(
+        Ok(command),
+        store_word(alloc, "STORE", "STORE", "The file of the store"),
+    )
 }
 
 /// The command that makes a large store of a small one.
 fn migrate_command<'a>(alloc: Global) -> Result<Command<'a>, AllocError>
     ensures { IfOk result (λ command. app_of command ≡ migrate_line) }
 {
-    Command::new(alloc, "migrate")
+    let migrate = Command::new(alloc, "migrate")
         .about("Makes a large store NEW of a small store OLD; what NEW held is lost")
-        .after_help(ending!("Example: night migrate small.store large.store"))
-        .arg(store_word(alloc, "STORE", "OLD", "The small store, which is only read"))?
-        .arg(store_word(
+        .after_help(ending!("Example: night migrate small.store large.store"));
+    let old = with_word(
+        Ok(migrate),
+        store_word(alloc, "STORE", "OLD", "The small store, which is only read"),
+    );
+    with_word(
+        old,
+        store_word(
             alloc,
             "NEW",
             "NEW",
             "The new file; one that is there is emptied",
-        ))
+        ),
+    )
 }
 
 /// The command that works off the tasks of a store.
 fn crew_command<'a>(alloc: Global) -> Result<Command<'a>, AllocError>
     ensures { IfOk result (λ command. app_of command ≡ crew_line) }
 {
-    Command::new(alloc, "crew")
+    let crew = Command::new(alloc, "crew")
         .about("Runs the ready tasks of a store, and prints how many were started and finished")
         .after_help(ending!(
             "The crew knows three jobs: `spin`, `copy` and `fail`. It ends a task of any\n\
             other job as failed, `no such job`, and that task can't be retried. With\n\
             `--known` it starts nothing where such a task isn't ended.\n\n\
             Example: night crew jobs.store --workers 2"
-        ))
-        .arg(store_word(alloc, "STORE", "STORE", "The file of the store"))?
-        .arg(value_word(
+        ));
+    let store = with_word(
+        Ok(crew),
+        store_word(alloc, "STORE", "STORE", "The file of the store"),
+    );
+    let workers = with_word(
+        store,
+        value_word(
             alloc,
             "workers",
             "N",
             "How many threads run tasks, 1 to 8; 4 where it is left out",
-        ))?
-        .arg(flag_word(
+        ),
+    );
+    with_word(
+        workers,
+        flag_word(
             alloc,
             "known",
             "Starts nothing where the crew doesn't know the job of a task that isn't ended",
-        ))
+        ),
+    )
 }
 
 /// The command that makes a store of what another one still needs.
 fn renew_command<'a>(alloc: Global) -> Result<Command<'a>, AllocError>
     ensures { IfOk result (λ command. app_of command ≡ renew_line) }
 {
-    Command::new(alloc, "renew")
+    let renew = Command::new(alloc, "renew")
         .about("Makes a store NEW of what a store OLD still needs; what NEW held is lost")
         .after_help(ending!(
             "Examples:\n  night renew old.store new.store\n  night renew --in-place jobs.store"
-        ))
-        .arg(store_word(
+        ));
+    let old = with_word(
+        Ok(renew),
+        store_word(
             alloc,
             "STORE",
             "OLD",
             "The old store, which is only read unless it is renewed in place",
-        ))?
-        .arg(other_word(alloc, "NEW", "The new file; one that is there is emptied"))?
-        .arg(flag_word(
+        ),
+    );
+    let new = with_word(
+        old,
+        other_word(alloc, "NEW", "The new file; one that is there is emptied"),
+    );
+    with_word(
+        new,
+        flag_word(
             alloc,
             "in-place",
             "Makes the new store in the place of OLD; there is no NEW then",
-        ))
+        ),
+    )
+}
+
+/// A command with one more word, where there was memory for both.
+fn with_word<'a>(
+    command: Result<Command<'a>, AllocError>,
+    word: Arg<'a>,
+) -> Result<Command<'a>, AllocError>
+    ensures { (before : App) (rule : Rule) → word.entry.global ≡ false
+        → rule_of word.entry ≡ rule
+        → IfOk command.entry (λ command. app_of command ≡ before)
+        → IfOk result (λ command. app_of command ≡ with_rule before rule) }
+{
+    command?.arg(word)
 }
 
 /// An option with a value, which `readers` reads, and what help calls the value.

@@ -1,9 +1,6 @@
-use Rattle.std.proofs.Common.{◌∙◌, ap₂}
-use Rattle.std.proofs.lemmas.Result.{IfOk-weaker}
-use Rattle.clap.specs.Words.{with_rule}
 use Rattle.night_words.proofs.commands.format_command.Goals as goal
 
 pub returns : goal.returns
 returns c =
-    IfOk-weaker c.arg.result _ _ (λ command added. added.shape c.flag_word.ensures.local
-    ∙ ap₂ with_rule c.in_ok-store.ensures c.flag_word.ensures.rule) c.arg.ensures
+    c.with_word.ensures _ _ c.flag_word.ensures.local
+    c.flag_word.ensures.rule c.store_command-store.ensures

@@ -1,12 +1,10 @@
-use Rattle.std.proofs.Common.{◌≡◌, ◌∙◌, ap₂, codes, rules}
-use Rattle.std.proofs.lemmas.Result.{IfOk-weaker}
-use Rattle.clap.specs.Words.{app_of, new_app, with_rule}
+use Rattle.std.proofs.Common.{◌≡◌, codes, rules}
+use Rattle.clap.specs.Words.{app_of, new_app}
 use Rattle.night_words.proofs.commands.migrate_command.Goals as goal
 
 pub returns : goal.returns
 returns c =
-    let before : app_of c.after_help.result ≡ new_app (codes "migrate") = search rules in
-    let old = c.in_ok-arg.ensures.shape c.store_word.ensures.local
-    ∙ ap₂ with_rule before c.store_word.ensures.rule in
-    IfOk-weaker c.arg-2.result _ _ (λ command added. added.shape c.store_word-2.ensures.local
-    ∙ ap₂ with_rule old c.store_word-2.ensures.rule) c.arg-2.ensures
+    let before : app_of c.after_help-migrate.result ≡ new_app (codes "migrate") = search rules in
+    let old = c.with_word-old.ensures _ _ c.store_word.ensures.local
+    c.store_word.ensures.rule before in
+    c.with_word.ensures _ _ c.store_word-2.ensures.local c.store_word-2.ensures.rule old

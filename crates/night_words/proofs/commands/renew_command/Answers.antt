@@ -1,14 +1,12 @@
-use Rattle.std.proofs.Common.{◌≡◌, ◌∙◌, ap₂, codes, rules}
-use Rattle.std.proofs.lemmas.Result.{IfOk-weaker}
-use Rattle.clap.specs.Words.{app_of, new_app, with_rule}
+use Rattle.std.proofs.Common.{◌≡◌, codes, rules}
+use Rattle.clap.specs.Words.{app_of, new_app}
 use Rattle.night_words.proofs.commands.renew_command.Goals as goal
 
 pub returns : goal.returns
 returns c =
-    let before : app_of c.after_help.result ≡ new_app (codes "renew") = search rules in
-    let old = c.in_ok-arg.ensures.shape c.store_word.ensures.local
-    ∙ ap₂ with_rule before c.store_word.ensures.rule in
-    let new = c.in_ok-arg-2.ensures.shape c.other_word.ensures.local
-    ∙ ap₂ with_rule old c.other_word.ensures.rule in
-    IfOk-weaker c.arg-3.result _ _ (λ command added. added.shape c.flag_word.ensures.local
-    ∙ ap₂ with_rule new c.flag_word.ensures.rule) c.arg-3.ensures
+    let before : app_of c.after_help-renew.result ≡ new_app (codes "renew") = search rules in
+    let old = c.with_word-old.ensures _ _ c.store_word.ensures.local
+    c.store_word.ensures.rule before in
+    let new = c.with_word-new.ensures _ _ c.other_word.ensures.local
+    c.other_word.ensures.rule old in
+    c.with_word.ensures _ _ c.flag_word.ensures.local c.flag_word.ensures.rule new
