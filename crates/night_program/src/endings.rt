@@ -23,7 +23,7 @@ pub struct Ended {
 }
 
 /// What came of what the words asked for, where no fault ended it.
-#[derive(Debug, Drop)]
+#[derive(Drop)]
 pub enum Done {
     /// All of it was done.
     Well,

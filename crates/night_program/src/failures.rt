@@ -15,21 +15,21 @@ use std::fmt;
 pub const BESIDE: &str = ".renewing";
 
 /// The fault that ended what the words asked for, and the call of a file behind it, if one failed.
-#[derive(Debug, Drop)]
+#[derive(Drop)]
 pub struct Failure<'a> {
     pub fault: RunFault,
     pub file: Option<FileFailure<'a>>,
 }
 
 /// A call of a file failed: which file, and why.
-#[derive(Debug, Drop)]
+#[derive(Drop)]
 pub struct FileFailure<'a> {
     pub name: FileName<'a>,
     pub reason: Reason,
 }
 
 /// The name of a file that is told.
-#[derive(Clone, Copy, Debug)]
+#[derive(Clone, Copy)]
 pub enum FileName<'a> {
     /// One that the words have.
     Own(&'a str),

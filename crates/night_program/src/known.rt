@@ -12,7 +12,7 @@ use std::alloc::Allocator;
 
 /// The tasks of a store that aren't ended and whose jobs the crews don't know: the job of the one
 /// with the least number, and how many there are.
-#[derive(Debug, Drop)]
+#[derive(Drop)]
 pub struct UnknownJob {
     pub job: Name,
     pub tasks: u16,

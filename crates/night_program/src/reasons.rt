@@ -11,7 +11,7 @@ use std::{fmt, io};
 const NUMBER: &str = " (os error ";
 
 /// Why a file isn't had, or why a call of it failed. It is printed as a text without an LF.
-#[derive(Debug, Drop)]
+#[derive(Drop)]
 pub enum Reason {
     /// Another program has the store open.
     InUse,
