@@ -3,23 +3,18 @@
 
 ghost use Rattle.std.specs.Fmt.{decimal};
 ghost use Rattle.std.specs.List.{flat_map};
-ghost use Rattle.std.specs.Prelude.{◌≡◌, ◌++◌, ◌+◌, ◌≤◌, ◌<◌, ◌^◌, codes, length};
+ghost use Rattle.std.specs.Prelude.{◌≡◌, ◌++◌, ◌+◌, ◌≤◌, codes, length};
 ghost use Rattle.arrayvec.specs.ArrayVec.{array_vec_len};
 ghost use Rattle.console_lines.specs.declared.entries.TheConstants.{LONGEST_ENTRY};
-ghost use Rattle.console_lines.specs.Entries.{cause_text, counted_text, derived_text, done_text};
-ghost use Rattle.console_lines.specs.Entries.{ending_text, ends_text, entry_text, failure_of};
-ghost use Rattle.console_lines.specs.Entries.{first_error, group_object, group_of_task};
-ghost use Rattle.console_lines.specs.Entries.{groups_room};
-ghost use Rattle.console_lines.specs.Entries.{held_text, is_escaped, job_of_task, kind_word};
-ghost use Rattle.console_lines.specs.Entries.{layout_text, layout_word, limited_group, named_work};
-ghost use Rattle.console_lines.specs.Entries.{number_or_null, opened_text, outcome_text};
+ghost use Rattle.console_lines.specs.Entries.{derived_text, done_text, ending_text, ends_text};
+ghost use Rattle.console_lines.specs.Entries.{entry_text, failure_of, group_object};
+ghost use Rattle.console_lines.specs.Entries.{held_text, is_escaped, kind_word};
+ghost use Rattle.console_lines.specs.Entries.{layout_word, limited_group, named_work};
+ghost use Rattle.console_lines.specs.Entries.{number_or_null, opened_text};
 ghost use Rattle.console_lines.specs.Entries.{parent_text, quoted, room_text, scope_object};
-ghost use Rattle.console_lines.specs.Entries.{separator, store_object, string_byte};
-ghost use Rattle.console_lines.specs.Entries.{string_or_null, string_text, task_object};
-ghost use Rattle.console_lines.specs.Entries.{tasks_room, truth_text};
+ghost use Rattle.console_lines.specs.Entries.{separator, store_object, string_byte, string_or_null};
+ghost use Rattle.console_lines.specs.Entries.{string_text, task_object, truth_text};
 ghost use Rattle.console_lines.specs.Gathers.{Gathers};
-ghost use Rattle.run_model.specs.declared.bounds.TheConstants.{MOST_GROUPS};
-ghost use Rattle.run_model.specs.Layouts.{most_scopes, most_tasks};
 ghost use Rattle.run_model.specs.Reasons.{reason_text};
 
 use crate::gathers::{push, push_count, push_moment, push_number};
@@ -80,8 +75,10 @@ fn push_store<const N: usize>(out: &mut ArrayVec<u8, N>, count: u64, clock: Mome
     push(out, b"{\"count\":");
     push_number(out, count);
     push(out, b",\"clock\":");
-    push_clock(out, clock);
-    push_layout(out, layout);
+    push_moment(out, clock);
+    push(out, b",\"layout\":");
+    push_layout_word(out, layout);
+    push_room(out, layout);
 }
 
 /// A scope.
@@ -92,9 +89,9 @@ fn push_scope<const N: usize>(
     kind: &Kind,
     look: &Look,
 )
-    requires { array_vec_len out.old + 549 ≤ N }
+    requires { array_vec_len out.old + 535 ≤ N }
     ensures { Gathers out.old.items out.new.items
-        (scope_object number parent kind.now look.now) 549 }
+        (scope_object number parent kind.now look.now) 535 }
 {
     push_opened(out, number, &look.name);
     push_derived(out, parent, kind);
@@ -114,19 +111,16 @@ fn push_group<const N: usize>(out: &mut ArrayVec<u8, N>, number: u16, look: &Gro
 
 /// A task.
 fn push_task<const N: usize>(out: &mut ArrayVec<u8, N>, number: u16, look: &TaskLook)
-    requires { array_vec_len out.old + 360 ≤ N }
-    ensures { Gathers out.old.items out.new.items (task_object number look.now) 360 }
+    requires { array_vec_len out.old + 331 ≤ N }
+    ensures { Gathers out.old.items out.new.items (task_object number look.now) 331 }
 {
     push(out, b"{\"number\":");
     push_count(out, number);
-    push_task_group(out, look);
-}
-
-fn push_clock<const N: usize>(out: &mut ArrayVec<u8, N>, clock: Moment)
-    requires { array_vec_len out.old + 12 ≤ N }
-    ensures { Gathers out.old.items out.new.items (decimal clock) 12 }
-{
-    push_moment(out, clock.get());
+    push(out, b",\"group\":");
+    push_count(out, look.group);
+    push(out, b",\"job\":");
+    push_name_quoted(out, &look.job);
+    push_work(out, look);
 }
 
 /// What stands before an entry of a list.
@@ -139,16 +133,6 @@ fn push_separator<const N: usize>(out: &mut ArrayVec<u8, N>, first: bool)
     } else {
         push(out, b",\n");
     }
-}
-
-/// How large a store is, and how much there can be in it.
-fn push_layout<const N: usize>(out: &mut ArrayVec<u8, N>, layout: Layout)
-    requires { array_vec_len out.old + 142 ≤ N }
-    ensures { Gathers out.old.items out.new.items (layout_text layout) 142 }
-{
-    push(out, b",\"layout\":");
-    push_layout_word(out, layout);
-    push_room(out, layout);
 }
 
 fn push_layout_word<const N: usize>(out: &mut ArrayVec<u8, N>, layout: Layout)
@@ -167,47 +151,12 @@ fn push_room<const N: usize>(out: &mut ArrayVec<u8, N>, layout: Layout)
     ensures { Gathers out.old.items out.new.items (room_text layout) 98 }
 {
     push(out, b",\"room\":{\"scopes\":");
-    push_most_scopes(out, layout);
-    push_groups_room(out, layout);
-}
-
-fn push_groups_room<const N: usize>(out: &mut ArrayVec<u8, N>, layout: Layout)
-    requires { array_vec_len out.old + 60 ≤ N }
-    ensures { Gathers out.old.items out.new.items (groups_room layout) 60 }
-{
-    push(out, b",\"groups\":");
-    push_most_groups(out);
-    push_tasks_room(out, layout);
-}
-
-fn push_tasks_room<const N: usize>(out: &mut ArrayVec<u8, N>, layout: Layout)
-    requires { array_vec_len out.old + 30 ≤ N }
-    ensures { Gathers out.old.items out.new.items (tasks_room layout) 30 }
-{
-    push(out, b",\"tasks\":");
-    push_most_tasks(out, layout);
-    push(out, b"}");
-}
-
-fn push_most_scopes<const N: usize>(out: &mut ArrayVec<u8, N>, layout: Layout)
-    requires { array_vec_len out.old + 20 ≤ N }
-    ensures { Gathers out.old.items out.new.items (decimal (most_scopes layout)) 20 }
-{
     push_number(out, layout.most_scopes() as u64);
-}
-
-fn push_most_groups<const N: usize>(out: &mut ArrayVec<u8, N>)
-    requires { array_vec_len out.old + 20 ≤ N }
-    ensures { Gathers out.old.items out.new.items (decimal MOST_GROUPS) 20 }
-{
+    push(out, b",\"groups\":");
     push_number(out, MOST_GROUPS as u64);
-}
-
-fn push_most_tasks<const N: usize>(out: &mut ArrayVec<u8, N>, layout: Layout)
-    requires { array_vec_len out.old + 20 ≤ N }
-    ensures { Gathers out.old.items out.new.items (decimal (most_tasks layout)) 20 }
-{
+    push(out, b",\"tasks\":");
     push_number(out, layout.most_tasks() as u64);
+    push(out, b"}");
 }
 
 /// The number and the name of a scope or a group.
@@ -230,8 +179,8 @@ fn push_name_quoted<const N: usize>(out: &mut ArrayVec<u8, N>, name: &Name)
 
 /// What a scope was derived from, what it is, and which value it holds.
 fn push_derived<const N: usize>(out: &mut ArrayVec<u8, N>, parent: u16, kind: &Kind)
-    requires { array_vec_len out.old + 272 ≤ N }
-    ensures { Gathers out.old.items out.new.items (derived_text parent kind.now) 272 }
+    requires { array_vec_len out.old + 258 ≤ N }
+    ensures { Gathers out.old.items out.new.items (derived_text parent kind.now) 258 }
 {
     push(out, b",\"parent\":");
     push_parent(out, parent, kind);
@@ -246,7 +195,7 @@ fn push_parent<const N: usize>(out: &mut ArrayVec<u8, N>, parent: u16, kind: &Ki
 {
     match kind {
         Kind::Root => push(out, b"null"),
-        _ => push_number(out, u64::from(parent)),
+        _ => push_count(out, parent),
     }
 }
 
@@ -273,7 +222,7 @@ fn push_held<const N: usize>(out: &mut ArrayVec<u8, N>, kind: &Kind)
     match kind {
         Kind::Value(key, text) => {
             push(out, b",\"key\":");
-            push_quoted(out, key.as_bytes());
+            push_name_quoted(out, key);
             push(out, b",\"value\":");
             push_string(out, text);
         }
@@ -296,7 +245,7 @@ fn push_deadline<const N: usize>(out: &mut ArrayVec<u8, N>, deadline: Option<Mom
     ensures { Gathers out.old.items out.new.items (number_or_null deadline) 12 }
 {
     match deadline {
-        Some(moment) => push_moment(out, moment.get()),
+        Some(moment) => push_moment(out, moment),
         None => push(out, b"null"),
     }
 }
@@ -318,26 +267,16 @@ fn push_ended<const N: usize>(out: &mut ArrayVec<u8, N>, reason: Reason, cause: 
 {
     push(out, b",\"done\":true,\"reason\":");
     push_reason(out, reason);
-    push_cause(out, cause);
+    push(out, b",\"cause\":");
+    push_string(out, cause);
+    push(out, b"}");
 }
 
 fn push_reason<const N: usize>(out: &mut ArrayVec<u8, N>, reason: Reason)
     requires { array_vec_len out.old + 34 ≤ N }
     ensures { Gathers out.old.items out.new.items (quoted (reason_text reason)) 34 }
 {
-    match reason {
-        Reason::Canceled => push(out, b"\"context canceled\""),
-        Reason::DeadlineExceeded => push(out, b"\"context deadline exceeded\""),
-    }
-}
-
-fn push_cause<const N: usize>(out: &mut ArrayVec<u8, N>, cause: &Text)
-    requires { array_vec_len out.old + 140 ≤ N }
-    ensures { Gathers out.old.items out.new.items (cause_text cause.now) 140 }
-{
-    push(out, b",\"cause\":");
-    push_string(out, cause);
-    push(out, b"}");
+    push_quoted(out, reason.text().as_bytes());
 }
 
 /// A group from its limit on.
@@ -349,7 +288,11 @@ fn push_limited<const N: usize>(out: &mut ArrayVec<u8, N>, look: &GroupLook)
     push_limit(out, look.limit);
     push(out, b",\"waited\":");
     push_truth(out, look.waited);
-    push_counted(out, look);
+    push(out, b",\"unfinished\":");
+    push_count(out, look.unfinished);
+    push(out, b",\"error\":");
+    push_string_or_null(out, &look.error);
+    push(out, b"}");
 }
 
 fn push_limit<const N: usize>(out: &mut ArrayVec<u8, N>, limit: Limit)
@@ -362,62 +305,15 @@ fn push_limit<const N: usize>(out: &mut ArrayVec<u8, N>, limit: Limit)
     }
 }
 
-/// A group from its unfinished tasks on.
-fn push_counted<const N: usize>(out: &mut ArrayVec<u8, N>, look: &GroupLook)
-    requires { array_vec_len out.old + 159 ≤ N }
-    ensures { Gathers out.old.items out.new.items (counted_text look.now) 159 }
-{
-    push(out, b",\"unfinished\":");
-    push_count(out, look.unfinished);
-    push_error(out, &look.error);
-}
-
-fn push_error<const N: usize>(out: &mut ArrayVec<u8, N>, error: &Option<Text>)
-    requires { array_vec_len out.old + 140 ≤ N }
-    ensures { Gathers out.old.items out.new.items (first_error error.now) 140 }
-{
-    push(out, b",\"error\":");
-    push_string_or_null(out, error);
-    push(out, b"}");
-}
-
-/// A task from its group on.
-fn push_task_group<const N: usize>(out: &mut ArrayVec<u8, N>, look: &TaskLook)
-    requires { array_vec_len out.old + 345 ≤ N }
-    ensures { Gathers out.old.items out.new.items (group_of_task look.now) 345 }
-{
-    push(out, b",\"group\":");
-    push_count(out, look.group);
-    push_job(out, look);
-}
-
-/// A task from its job on.
-fn push_job<const N: usize>(out: &mut ArrayVec<u8, N>, look: &TaskLook)
-    requires { array_vec_len out.old + 331 ≤ N }
-    ensures { Gathers out.old.items out.new.items (job_of_task look.now) 331 }
-{
-    push(out, b",\"job\":");
-    push_name_quoted(out, &look.job);
-    push_work(out, look);
-}
-
 /// A task from its argument on.
 fn push_work<const N: usize>(out: &mut ArrayVec<u8, N>, look: &TaskLook)
-    requires { array_vec_len out.old + 290 ≤ N }
-    ensures { Gathers out.old.items out.new.items (named_work look.now) 290 }
+    requires { array_vec_len out.old + 261 ≤ N }
+    ensures { Gathers out.old.items out.new.items (named_work look.now) 261 }
 {
     push(out, b",\"argument\":");
-    push_quoted(out, look.argument.as_bytes());
+    push_name_quoted(out, &look.argument);
     push(out, b",\"phase\":");
     push_quoted(out, phase_word(&look.phase).as_bytes());
-    push_outcome(out, look);
-}
-
-/// A task from its error on.
-fn push_outcome<const N: usize>(out: &mut ArrayVec<u8, N>, look: &TaskLook)
-    requires { array_vec_len out.old + 180 ≤ N }
-    ensures { Gathers out.old.items out.new.items (outcome_text look.now) 180 }
-{
     push(out, b",\"error\":");
     push_failure(out, &look.phase);
     push(out, b",\"retry_of\":");
@@ -441,7 +337,7 @@ fn push_number_or_null<const N: usize>(out: &mut ArrayVec<u8, N>, number: Option
     ensures { Gathers out.old.items out.new.items (number_or_null number) 20 }
 {
     match number {
-        Some(number) => push_number(out, u64::from(number)),
+        Some(number) => push_count(out, number),
         None => push(out, b"null"),
     }
 }

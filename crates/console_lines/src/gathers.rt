@@ -1,7 +1,7 @@
 //! A [`Reply`] is gathered behind other replies, as one line. It takes no memory.
 
 ghost use Rattle.std.specs.Option.{option_map};
-ghost use Rattle.std.specs.Prelude.{◌≡◌, ◌++◌, ◌+◌, ◌<◌, ◌≤◌, ◌^◌, [], ◌∷◌, IfSome, None};
+ghost use Rattle.std.specs.Prelude.{◌≡◌, ◌++◌, ◌+◌, ◌≤◌, [], ◌∷◌, IfSome, None};
 ghost use Rattle.std.specs.Prelude.{Some, codes, length};
 ghost use Rattle.std.specs.Fmt.{decimal};
 ghost use Rattle.arrayvec.specs.ArrayVec.{array_vec_len};
@@ -10,13 +10,13 @@ ghost use Rattle.run_model.specs.Reasons.{reason_text};
 ghost use Rattle.run_model.specs.Refusals.{refusal_name, refusal_text};
 ghost use Rattle.run_model.specs.Texts.{IsText};
 ghost use Rattle.console_lines.specs.declared.gathers.TheConstants.{LONGEST_REPLY};
-ghost use Rattle.console_lines.specs.Gathers.{Gathers, ended_text, failed_text, limited_text};
-ghost use Rattle.console_lines.specs.Gathers.{waited_text};
+ghost use Rattle.console_lines.specs.Gathers.{Gathers};
 ghost use Rattle.console_lines.specs.Replies.{answer_text, counts_text, deadline_text, ending_text};
 ghost use Rattle.console_lines.specs.Replies.{error_text, group_text, limit_text, phase_text};
 ghost use Rattle.console_lines.specs.Replies.{reply_line, reply_text, scope_text, started_text};
 ghost use Rattle.console_lines.specs.Replies.{step_text, tally_text, task_text, yes_or_no};
 
+use crate::listings::phase_word;
 use crate::replies::Reply;
 use crate::tallies::{Counts, Tally};
 use arrayvec::ArrayVec;
@@ -106,15 +106,11 @@ pub(crate) fn push_phase<const N: usize>(out: &mut ArrayVec<u8, N>, phase: &Phas
     ensures { Gathers out.old.items out.new.items (phase_text phase.now) 70 }
 {
     match phase {
-        Phase::Held => push(out, b"held"),
-        Phase::Ready => push(out, b"ready"),
-        Phase::Running => push(out, b"running"),
-        Phase::Success => push(out, b"success"),
         Phase::Failure(error) => {
             push(out, b"error ");
             push_text(out, error);
         }
-        Phase::Interrupted => push(out, b"interrupted"),
+        _ => push(out, phase_word(phase).as_bytes()),
     }
 }
 
@@ -131,23 +127,27 @@ pub(crate) fn push_look<const N: usize>(out: &mut ArrayVec<u8, N>, look: &Look)
 
 /// How a group is.
 pub(crate) fn push_group<const N: usize>(out: &mut ArrayVec<u8, N>, look: &GroupLook)
-    requires { array_vec_len out.old + 116 ≤ N }
-    ensures { Gathers out.old.items out.new.items (group_text look.now) 116 }
+    requires { array_vec_len out.old + 113 ≤ N }
+    ensures { Gathers out.old.items out.new.items (group_text look.now) 113 }
 {
     push(out, b"unfinished ");
     push_count(out, look.unfinished);
-    push_limited(out, look);
+    push(out, b"; limit ");
+    push_limit(out, look.limit);
+    push(out, b"; waited ");
+    push_yes_or_no(out, look.waited);
+    push(out, b"; error ");
+    push_error(out, &look.error);
 }
 
 /// A moment has at most 12 digits.
 #[tactic(auto, using(crate::proofs::Digits::moment_digits))]
-pub(crate) fn push_moment<const N: usize>(out: &mut ArrayVec<u8, N>, seconds: u64)
-    requires range { seconds < 10 ^ 12 }
-    requires room { array_vec_len out.old + 12 ≤ N }
-    ensures { Gathers out.old.items out.new.items (decimal seconds) 12 }
+pub(crate) fn push_moment<const N: usize>(out: &mut ArrayVec<u8, N>, moment: Moment)
+    requires { array_vec_len out.old + 12 ≤ N }
+    ensures { Gathers out.old.items out.new.items (decimal moment) 12 }
 {
     let mut digits = Buffer::new();
-    push(out, digits.format(seconds).as_bytes());
+    push(out, digits.format(moment.get()).as_bytes());
 }
 
 /// A number has at most 20 digits.
@@ -189,7 +189,7 @@ fn push_refusal<const N: usize>(out: &mut ArrayVec<u8, N>, refusal: Refusal)
     push_refusal_name(out, refusal);
     if let Refusal::Unfinished(count) = refusal {
         push(out, b" ");
-        push_number(out, u64::from(count));
+        push_count(out, count);
     }
 }
 
@@ -212,8 +212,8 @@ fn push_trouble<const N: usize>(out: &mut ArrayVec<u8, N>, trouble: Trouble)
 }
 
 fn push_fault<const N: usize>(out: &mut ArrayVec<u8, N>, fault: Fault)
-    requires { array_vec_len out.old + 70 ≤ N }
-    ensures { Gathers out.old.items out.new.items (fault_text fault) 70 }
+    requires { array_vec_len out.old + 39 ≤ N }
+    ensures { Gathers out.old.items out.new.items (fault_text fault) 39 }
 {
     push(out, b"fault ");
     push_number(out, u64::from(fault.number()));
@@ -236,17 +236,17 @@ fn push_answer<const N: usize>(out: &mut ArrayVec<u8, N>, answer: &Answer)
     match answer {
         Answer::Scope(scope) => {
             push(out, b"scope ");
-            push_number(out, u64::from(*scope));
+            push_count(out, *scope);
         }
         Answer::Group(group, None) => {
             push(out, b"group ");
-            push_number(out, u64::from(*group));
+            push_count(out, *group);
         }
         Answer::Group(group, Some(scope)) => {
             push(out, b"group ");
-            push_number(out, u64::from(*group));
+            push_count(out, *group);
             push(out, b" scope ");
-            push_number(out, u64::from(*scope));
+            push_count(out, *scope);
         }
         Answer::Done => push(out, b"ok"),
         Answer::Task(task, phase) => push_task(out, *task, phase),
@@ -260,35 +260,26 @@ fn push_answer<const N: usize>(out: &mut ArrayVec<u8, N>, answer: &Answer)
 
 /// A task's number, and how far it is.
 fn push_task<const N: usize>(out: &mut ArrayVec<u8, N>, task: u16, phase: &Phase)
-    requires { array_vec_len out.old + 100 ≤ N }
-    ensures { Gathers out.old.items out.new.items (task_text task phase.now) 100 }
+    requires { array_vec_len out.old + 81 ≤ N }
+    ensures { Gathers out.old.items out.new.items (task_text task phase.now) 81 }
 {
     push(out, b"task ");
-    push_number(out, u64::from(task));
+    push_count(out, task);
     push(out, b" ");
     push_phase(out, phase);
 }
 
 /// A task that was started: its number, its job and its argument.
 fn push_start<const N: usize>(out: &mut ArrayVec<u8, N>, info: &TaskInfo)
-    requires { array_vec_len out.old + 100 ≤ N }
-    ensures { Gathers out.old.items out.new.items (started_text info.now) 100 }
+    requires { array_vec_len out.old + 77 ≤ N }
+    ensures { Gathers out.old.items out.new.items (started_text info.now) 77 }
 {
     push(out, b"start ");
-    push_number(out, u64::from(info.task));
-    push_work(out, &info.job, &info.argument);
-}
-
-/// A job and its argument, with a space before each.
-fn push_work<const N: usize>(out: &mut ArrayVec<u8, N>, job: &Name, argument: &Name)
-    requires { array_vec_len out.old + 66 ≤ N }
-    ensures { Gathers out.old.items out.new.items
-        (codes " " ++ job.now ++ codes " " ++ argument.now) 66 }
-{
+    push_count(out, info.task);
     push(out, b" ");
-    push_name(out, job);
+    push_name(out, &info.job);
     push(out, b" ");
-    push_name(out, argument);
+    push_name(out, &info.argument);
 }
 
 /// A scope that is live.
@@ -343,30 +334,9 @@ fn push_deadline<const N: usize>(out: &mut ArrayVec<u8, N>, deadline: Option<Mom
     ensures { Gathers out.old.items out.new.items (deadline_text deadline) 12 }
 {
     match deadline {
-        Some(moment) => push_moment(out, moment.get()),
+        Some(moment) => push_moment(out, moment),
         None => push(out, b"none"),
     }
-}
-
-/// A group from its limit on.
-fn push_limited<const N: usize>(out: &mut ArrayVec<u8, N>, look: &GroupLook)
-    requires { array_vec_len out.old + 100 ≤ N }
-    ensures { Gathers out.old.items out.new.items (limited_text look.now) 100 }
-{
-    push(out, b"; limit ");
-    push_limit(out, look.limit);
-    push_waited(out, look);
-}
-
-/// A group from its waits on.
-fn push_waited<const N: usize>(out: &mut ArrayVec<u8, N>, look: &GroupLook)
-    requires { array_vec_len out.old + 84 ≤ N }
-    ensures { Gathers out.old.items out.new.items (waited_text look.now) 84 }
-{
-    push(out, b"; waited ");
-    push_yes_or_no(out, look.waited);
-    push(out, b"; error ");
-    push_error(out, &look.error);
 }
 
 /// A limit, or `none`.
@@ -405,8 +375,8 @@ fn push_error<const N: usize>(out: &mut ArrayVec<u8, N>, error: &Option<Text>)
 
 /// What is counted of the tasks of one job.
 pub(crate) fn push_tally<const N: usize>(out: &mut ArrayVec<u8, N>, tally: &Tally)
-    requires { array_vec_len out.old + 110 ≤ N }
-    ensures { Gathers out.old.items out.new.items (tally_text tally.now) 110 }
+    requires { array_vec_len out.old + 99 ≤ N }
+    ensures { Gathers out.old.items out.new.items (tally_text tally.now) 99 }
 {
     push(out, b"tally ");
     push_name(out, &tally.job);
@@ -416,29 +386,13 @@ pub(crate) fn push_tally<const N: usize>(out: &mut ArrayVec<u8, N>, tally: &Tall
 
 /// How many tasks there are, and how many of them have ended in each way.
 fn push_counts<const N: usize>(out: &mut ArrayVec<u8, N>, counts: Counts)
-    requires { array_vec_len out.old + 70 ≤ N }
-    ensures { Gathers out.old.items out.new.items (counts_text counts) 70 }
+    requires { array_vec_len out.old + 60 ≤ N }
+    ensures { Gathers out.old.items out.new.items (counts_text counts) 60 }
 {
     push(out, b"total ");
     push_count(out, counts.total);
-    push_ended(out, counts);
-}
-
-/// What is counted, from the successes on.
-fn push_ended<const N: usize>(out: &mut ArrayVec<u8, N>, counts: Counts)
-    requires { array_vec_len out.old + 50 ≤ N }
-    ensures { Gathers out.old.items out.new.items (ended_text counts) 50 }
-{
     push(out, b"; success ");
     push_count(out, counts.success);
-    push_failed(out, counts);
-}
-
-/// What is counted, from the failures on.
-fn push_failed<const N: usize>(out: &mut ArrayVec<u8, N>, counts: Counts)
-    requires { array_vec_len out.old + 35 ≤ N }
-    ensures { Gathers out.old.items out.new.items (failed_text counts) 35 }
-{
     push(out, b"; failure ");
     push_count(out, counts.failure);
     push(out, b"; interrupted ");

@@ -1,8 +1,7 @@
 //! The lines that ask something of groups.
 
-ghost use Rattle.std.specs.Prelude.{◌≡◌, unwrap_or};
-ghost use Rattle.console_lines.specs.Checked.{asks_command};
-ghost use Rattle.console_lines.specs.GroupLines.{asks_result, bare_line, go_line, group_line};
+ghost use Rattle.std.specs.Prelude.{◌≡◌};
+ghost use Rattle.console_lines.specs.GroupLines.{bare_line, go_line, group_line};
 ghost use Rattle.console_lines.specs.GroupLines.{group_line_of, limit_at, limit_line, limit_of};
 ghost use Rattle.console_lines.specs.GroupLines.{result_line, try_line, wait_line};
 ghost use Rattle.console_lines.specs.Words.{words_in, lent};
@@ -13,11 +12,9 @@ use crate::words::{last_word, next_word};
 use run_model::{Command, Limit, Name, Refusal, Step, is_spelled};
 use written_moment::read_number;
 
-/// What a line with this first word asks of groups or, else, of tasks or of the store; `None` for a
-/// bad line.
-pub(crate) fn read_group_line(word: &[u8], left: Option<&[u8]>) -> Option<Asked>
-    ensures { unwrap_or result Asked.BadLine
-        ≡ group_line_of word.now (words_in (lent left.entry)) }
+/// What a line with this first word asks of groups or, else, of tasks or of the store.
+pub(crate) fn read_group_line(word: &[u8], left: Option<&[u8]>) -> Asked
+    ensures { result ≡ group_line_of word.now (words_in (lent left.entry)) }
 {
     if is_spelled(word, b"group") {
         read_group(left)
@@ -39,73 +36,126 @@ pub(crate) fn read_group_line(word: &[u8], left: Option<&[u8]>) -> Option<Asked>
 }
 
 /// `group NAME PARENT`
-fn read_group(left: Option<&[u8]>) -> Option<Asked>
-    ensures { unwrap_or result Asked.BadLine
-        ≡ group_line (words_in (lent left.entry)) }
+fn read_group(left: Option<&[u8]>) -> Asked
+    ensures { result ≡ group_line (words_in (lent left.entry)) }
 {
-    let (name, left) = next_word(left)?;
-    let parent = last_word(left)?;
-    Some(group(name, parent))
+    let Some((name, left)) = next_word(left) else {
+        return Asked::BadLine;
+    };
+    let Some(parent) = last_word(left) else {
+        return Asked::BadLine;
+    };
+    match (Name::read(name), Name::read(parent)) {
+        (Some(name), Some(parent)) => Asked::Step(Step::Command(Command::Group { name, parent })),
+        _ => Asked::Refused(Refusal::BadName),
+    }
 }
 
 /// `bare NAME SCOPE`
-fn read_bare(left: Option<&[u8]>) -> Option<Asked>
-    ensures { unwrap_or result Asked.BadLine
-        ≡ bare_line (words_in (lent left.entry)) }
+fn read_bare(left: Option<&[u8]>) -> Asked
+    ensures { result ≡ bare_line (words_in (lent left.entry)) }
 {
-    let (name, left) = next_word(left)?;
-    let scope = last_word(left)?;
-    Some(bare(name, scope))
+    let Some((name, left)) = next_word(left) else {
+        return Asked::BadLine;
+    };
+    let Some(scope) = last_word(left) else {
+        return Asked::BadLine;
+    };
+    match (Name::read(name), Name::read(scope)) {
+        (Some(name), Some(scope)) => Asked::Step(Step::Command(Command::Bare { name, scope })),
+        _ => Asked::Refused(Refusal::BadName),
+    }
 }
 
 /// `limit GROUP NUMBER`, `limit GROUP none`
-fn read_limit(left: Option<&[u8]>) -> Option<Asked>
-    ensures { unwrap_or result Asked.BadLine
-        ≡ limit_line (words_in (lent left.entry)) }
+fn read_limit(left: Option<&[u8]>) -> Asked
+    ensures { result ≡ limit_line (words_in (lent left.entry)) }
 {
-    let (group, left) = next_word(left)?;
-    let limit = limit_of(last_word(left)?)?;
-    Some(set_limit(group, limit))
+    let Some((group, left)) = next_word(left) else {
+        return Asked::BadLine;
+    };
+    let Some(limit) = last_word(left) else {
+        return Asked::BadLine;
+    };
+    let Some(limit) = limit_of(limit) else {
+        return Asked::BadLine;
+    };
+    match Name::read(group) {
+        Some(group) => Asked::Step(Step::Command(Command::SetLimit { group, limit })),
+        None => Asked::Refused(Refusal::BadName),
+    }
 }
 
 /// `go GROUP JOB ARG`
-fn read_go(left: Option<&[u8]>) -> Option<Asked>
-    ensures { unwrap_or result Asked.BadLine
-        ≡ go_line (words_in (lent left.entry)) }
+fn read_go(left: Option<&[u8]>) -> Asked
+    ensures { result ≡ go_line (words_in (lent left.entry)) }
 {
-    let (group, left) = next_word(left)?;
-    let (job, left) = next_word(left)?;
-    let argument = last_word(left)?;
-    Some(go(group, job, argument))
+    let Some((group, left)) = next_word(left) else {
+        return Asked::BadLine;
+    };
+    let Some((job, left)) = next_word(left) else {
+        return Asked::BadLine;
+    };
+    let Some(argument) = last_word(left) else {
+        return Asked::BadLine;
+    };
+    match (Name::read(group), Name::read(job), Name::read(argument)) {
+        (Some(group), Some(job), Some(argument)) => Asked::Step(Step::Command(Command::Go {
+            group,
+            job,
+            argument,
+        })),
+        _ => Asked::Refused(Refusal::BadName),
+    }
 }
 
 /// `try GROUP JOB ARG`
-fn read_try(left: Option<&[u8]>) -> Option<Asked>
-    ensures { unwrap_or result Asked.BadLine
-        ≡ try_line (words_in (lent left.entry)) }
+fn read_try(left: Option<&[u8]>) -> Asked
+    ensures { result ≡ try_line (words_in (lent left.entry)) }
 {
-    let (group, left) = next_word(left)?;
-    let (job, left) = next_word(left)?;
-    let argument = last_word(left)?;
-    Some(try_go(group, job, argument))
+    let Some((group, left)) = next_word(left) else {
+        return Asked::BadLine;
+    };
+    let Some((job, left)) = next_word(left) else {
+        return Asked::BadLine;
+    };
+    let Some(argument) = last_word(left) else {
+        return Asked::BadLine;
+    };
+    match (Name::read(group), Name::read(job), Name::read(argument)) {
+        (Some(group), Some(job), Some(argument)) => Asked::Step(Step::Command(Command::TryGo {
+            group,
+            job,
+            argument,
+        })),
+        _ => Asked::Refused(Refusal::BadName),
+    }
 }
 
 /// `wait GROUP`
-fn read_wait(left: Option<&[u8]>) -> Option<Asked>
-    ensures { unwrap_or result Asked.BadLine
-        ≡ wait_line (words_in (lent left.entry)) }
+fn read_wait(left: Option<&[u8]>) -> Asked
+    ensures { result ≡ wait_line (words_in (lent left.entry)) }
 {
-    let group = last_word(left)?;
-    Some(wait(group))
+    let Some(group) = last_word(left) else {
+        return Asked::BadLine;
+    };
+    match Name::read(group) {
+        Some(group) => Asked::Step(Step::Command(Command::Wait { group })),
+        None => Asked::Refused(Refusal::BadName),
+    }
 }
 
 /// `result GROUP`
-fn read_result(left: Option<&[u8]>) -> Option<Asked>
-    ensures { unwrap_or result Asked.BadLine
-        ≡ result_line (words_in (lent left.entry)) }
+fn read_result(left: Option<&[u8]>) -> Asked
+    ensures { result ≡ result_line (words_in (lent left.entry)) }
 {
-    let group = last_word(left)?;
-    Some(result_of(group))
+    let Some(group) = last_word(left) else {
+        return Asked::BadLine;
+    };
+    match Name::read(group) {
+        Some(group) => Asked::Result(group),
+        None => Asked::Refused(Refusal::BadName),
+    }
 }
 
 /// The limit that a word writes: a number of at most 64, or `none`.
@@ -125,76 +175,5 @@ fn limit_at(most: u64) -> Option<Limit>
     match u8::try_from(most) {
         Ok(most) => Limit::new(most),
         Err(_) => None,
-    }
-}
-
-fn group(name: &[u8], parent: &[u8]) -> Asked
-    ensures { result ≡ asks_command (Command.Group name.now parent.now) }
-{
-    match (Name::read(name), Name::read(parent)) {
-        (Some(name), Some(parent)) => Asked::Step(Step::Command(Command::Group { name, parent })),
-        _ => Asked::Refused(Refusal::BadName),
-    }
-}
-
-fn bare(name: &[u8], scope: &[u8]) -> Asked
-    ensures { result ≡ asks_command (Command.Bare name.now scope.now) }
-{
-    match (Name::read(name), Name::read(scope)) {
-        (Some(name), Some(scope)) => Asked::Step(Step::Command(Command::Bare { name, scope })),
-        _ => Asked::Refused(Refusal::BadName),
-    }
-}
-
-fn set_limit(group: &[u8], limit: Limit) -> Asked
-    ensures { result ≡ asks_command (Command.SetLimit group.now limit) }
-{
-    match Name::read(group) {
-        Some(group) => Asked::Step(Step::Command(Command::SetLimit { group, limit })),
-        None => Asked::Refused(Refusal::BadName),
-    }
-}
-
-fn go(group: &[u8], job: &[u8], argument: &[u8]) -> Asked
-    ensures { result ≡ asks_command (Command.Go group.now job.now argument.now) }
-{
-    match (Name::read(group), Name::read(job), Name::read(argument)) {
-        (Some(group), Some(job), Some(argument)) => Asked::Step(Step::Command(Command::Go {
-            group,
-            job,
-            argument,
-        })),
-        _ => Asked::Refused(Refusal::BadName),
-    }
-}
-
-fn try_go(group: &[u8], job: &[u8], argument: &[u8]) -> Asked
-    ensures { result ≡ asks_command (Command.TryGo group.now job.now argument.now) }
-{
-    match (Name::read(group), Name::read(job), Name::read(argument)) {
-        (Some(group), Some(job), Some(argument)) => Asked::Step(Step::Command(Command::TryGo {
-            group,
-            job,
-            argument,
-        })),
-        _ => Asked::Refused(Refusal::BadName),
-    }
-}
-
-fn wait(group: &[u8]) -> Asked
-    ensures { result ≡ asks_command (Command.Wait group.now) }
-{
-    match Name::read(group) {
-        Some(group) => Asked::Step(Step::Command(Command::Wait { group })),
-        None => Asked::Refused(Refusal::BadName),
-    }
-}
-
-fn result_of(group: &[u8]) -> Asked
-    ensures { result ≡ asks_result group.now }
-{
-    match Name::read(group) {
-        Some(group) => Asked::Result(group),
-        None => Asked::Refused(Refusal::BadName),
     }
 }

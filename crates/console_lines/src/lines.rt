@@ -1,10 +1,10 @@
 //! A line of the console is its words, the first of which says what is asked; and the lines that
 //! ask something of scopes.
 
-ghost use Rattle.std.specs.Prelude.{◌≡◌, unwrap_or};
+ghost use Rattle.std.specs.Prelude.{◌≡◌};
 ghost use Rattle.console_lines.specs.Asked.{asked_of, asked_by, derive_line, cancel_line};
 ghost use Rattle.console_lines.specs.Asked.{advance_line, scope_line, value_line};
-ghost use Rattle.console_lines.specs.Asked.{asks_judged, asks_advance, asks_scope, asks_value};
+ghost use Rattle.console_lines.specs.Asked.{asks_judged};
 ghost use Rattle.console_lines.specs.Checked.{asks_command};
 ghost use Rattle.console_lines.specs.Words.{words_in, lent};
 
@@ -13,7 +13,7 @@ use crate::causes::read_cause;
 use crate::group_lines::read_group_line;
 use crate::wishes::read_wish;
 use crate::words::{last_word, next_word};
-use run_model::{Command, Moment, Name, Refusal, Step, Wish, is_spelled};
+use run_model::{Command, Name, Refusal, Step, Wish, is_spelled};
 use written_moment::read_moment;
 
 /// The most bytes of a line, without its end. A longer one is a bad line.
@@ -32,15 +32,16 @@ pub fn read_line(line: &[u8]) -> Asked
     if line.is_empty() {
         return Asked::Nothing;
     }
-    read_words(Some(line)).unwrap_or(Asked::BadLine)
+    read_words(Some(line))
 }
 
-/// What the words of a line ask for, and `None` for a bad line.
-fn read_words(line: Option<&[u8]>) -> Option<Asked>
-    ensures { unwrap_or result Asked.BadLine
-        ≡ asked_by (words_in (lent line.entry)) }
+/// What the words of a line ask for.
+fn read_words(line: Option<&[u8]>) -> Asked
+    ensures { result ≡ asked_by (words_in (lent line.entry)) }
 {
-    let (word, left) = next_word(line)?;
+    let Some((word, left)) = next_word(line) else {
+        return Asked::BadLine;
+    };
     if is_spelled(word, b"derive") {
         read_derive(left)
     } else if is_spelled(word, b"cancel") {
@@ -57,52 +58,75 @@ fn read_words(line: Option<&[u8]>) -> Option<Asked>
 }
 
 /// `derive NAME PARENT KIND`
-fn read_derive(left: Option<&[u8]>) -> Option<Asked>
-    ensures { unwrap_or result Asked.BadLine
-        ≡ derive_line (words_in (lent left.entry)) }
+fn read_derive(left: Option<&[u8]>) -> Asked
+    ensures { result ≡ derive_line (words_in (lent left.entry)) }
 {
-    let (name, left) = next_word(left)?;
-    let (parent, left) = next_word(left)?;
-    let (kind, left) = next_word(left)?;
-    let wish = read_wish(kind, left)?;
-    Some(derive(name, parent, wish))
+    let Some((name, left)) = next_word(left) else {
+        return Asked::BadLine;
+    };
+    let Some((parent, left)) = next_word(left) else {
+        return Asked::BadLine;
+    };
+    let Some((kind, left)) = next_word(left) else {
+        return Asked::BadLine;
+    };
+    match read_wish(kind, left) {
+        Some(wish) => derive(name, parent, wish),
+        None => Asked::BadLine,
+    }
 }
 
 /// `cancel SCOPE [CAUSE]`
-fn read_cancel(left: Option<&[u8]>) -> Option<Asked>
-    ensures { unwrap_or result Asked.BadLine
-        ≡ cancel_line (words_in (lent left.entry)) }
+fn read_cancel(left: Option<&[u8]>) -> Asked
+    ensures { result ≡ cancel_line (words_in (lent left.entry)) }
 {
-    let (scope, cause) = next_word(left)?;
-    Some(cancel(scope, cause))
+    match next_word(left) {
+        Some((scope, cause)) => cancel(scope, cause),
+        None => Asked::BadLine,
+    }
 }
 
 /// `advance MOMENT`
-fn read_advance(left: Option<&[u8]>) -> Option<Asked>
-    ensures { unwrap_or result Asked.BadLine
-        ≡ advance_line (words_in (lent left.entry)) }
+fn read_advance(left: Option<&[u8]>) -> Asked
+    ensures { result ≡ advance_line (words_in (lent left.entry)) }
 {
-    let moment = read_moment(last_word(left)?)?;
-    Some(advance(moment))
+    let Some(word) = last_word(left) else {
+        return Asked::BadLine;
+    };
+    match read_moment(word) {
+        Some(Ok(moment)) => Asked::Step(Step::Command(Command::Advance { moment })),
+        Some(Err(refusal)) => Asked::Refused(refusal),
+        None => Asked::BadLine,
+    }
 }
 
 /// `scope SCOPE`
-fn read_scope(left: Option<&[u8]>) -> Option<Asked>
-    ensures { unwrap_or result Asked.BadLine
-        ≡ scope_line (words_in (lent left.entry)) }
+fn read_scope(left: Option<&[u8]>) -> Asked
+    ensures { result ≡ scope_line (words_in (lent left.entry)) }
 {
-    let scope = last_word(left)?;
-    Some(look(scope))
+    let Some(scope) = last_word(left) else {
+        return Asked::BadLine;
+    };
+    match Name::read(scope) {
+        Some(scope) => Asked::Scope(scope),
+        None => Asked::Refused(Refusal::BadName),
+    }
 }
 
 /// `value SCOPE KEY`
-fn read_value(left: Option<&[u8]>) -> Option<Asked>
-    ensures { unwrap_or result Asked.BadLine
-        ≡ value_line (words_in (lent left.entry)) }
+fn read_value(left: Option<&[u8]>) -> Asked
+    ensures { result ≡ value_line (words_in (lent left.entry)) }
 {
-    let (scope, left) = next_word(left)?;
-    let key = last_word(left)?;
-    Some(value(scope, key))
+    let Some((scope, left)) = next_word(left) else {
+        return Asked::BadLine;
+    };
+    let Some(key) = last_word(left) else {
+        return Asked::BadLine;
+    };
+    match (Name::read(scope), Name::read(key)) {
+        (Some(scope), Some(key)) => Asked::Value { scope, key },
+        _ => Asked::Refused(Refusal::BadName),
+    }
 }
 
 fn derive(name: &[u8], parent: &[u8], wish: Result<Wish, Refusal>) -> Asked
@@ -126,32 +150,5 @@ fn cancel(scope: &[u8], cause: Option<&[u8]>) -> Asked
     match read_cause(cause) {
         Ok(cause) => Asked::Step(Step::Command(Command::Cancel { scope, cause })),
         Err(refusal) => Asked::Refused(refusal),
-    }
-}
-
-fn advance(moment: Result<Moment, Refusal>) -> Asked
-    ensures { result ≡ asks_advance moment }
-{
-    match moment {
-        Ok(moment) => Asked::Step(Step::Command(Command::Advance { moment })),
-        Err(refusal) => Asked::Refused(refusal),
-    }
-}
-
-fn look(scope: &[u8]) -> Asked
-    ensures { result ≡ asks_scope scope.now }
-{
-    match Name::read(scope) {
-        Some(scope) => Asked::Scope(scope),
-        None => Asked::Refused(Refusal::BadName),
-    }
-}
-
-fn value(scope: &[u8], key: &[u8]) -> Asked
-    ensures { result ≡ asks_value scope.now key.now }
-{
-    match (Name::read(scope), Name::read(key)) {
-        (Some(scope), Some(key)) => Asked::Value { scope, key },
-        _ => Asked::Refused(Refusal::BadName),
     }
 }

@@ -5,11 +5,10 @@ ghost use Rattle.std.specs.Prelude.{◌≡◌, ◌++◌, ◌+◌, ◌≤◌, cod
 ghost use Rattle.arrayvec.specs.ArrayVec.{array_vec_len};
 ghost use Rattle.console_lines.specs.declared.rows.TheConstants.{LONGEST_ROW};
 ghost use Rattle.console_lines.specs.Gathers.{Gathers};
-ghost use Rattle.console_lines.specs.Inspected.{job_text, named, numbered, retry_text, row_line};
-ghost use Rattle.console_lines.specs.Inspected.{row_text, work_text};
+ghost use Rattle.console_lines.specs.Inspected.{named, retry_text, row_line, row_text, work_text};
 
 use crate::gathers::{
-    push, push_group, push_look, push_moment, push_name, push_number, push_phase,
+    push, push_count, push_group, push_look, push_moment, push_name, push_number, push_phase,
 };
 use arrayvec::ArrayVec;
 use run_model::{GroupLook, Look, Moment, Name, TaskLook};
@@ -65,14 +64,14 @@ fn push_row<const N: usize>(out: &mut ArrayVec<u8, N>, row: &Row)
 
 /// How many events there were, and the clock.
 pub(crate) fn push_counts<const N: usize>(out: &mut ArrayVec<u8, N>, count: u64, clock: Moment)
-    requires { array_vec_len out.old + 50 ≤ N }
+    requires { array_vec_len out.old + 47 ≤ N }
     ensures { Gathers out.old.items out.new.items
-        (codes "events " ++ (decimal count ++ (codes "; clock " ++ decimal clock))) 50 }
+        (codes "events " ++ (decimal count ++ (codes "; clock " ++ decimal clock))) 47 }
 {
     push(out, b"events ");
     push_number(out, count);
     push(out, b"; clock ");
-    push_moment(out, clock.get());
+    push_moment(out, clock);
 }
 
 /// A word, a number and a name, as in `scope 1 a `.
@@ -83,23 +82,14 @@ pub(crate) fn push_named<const N: usize>(
     name: &Name,
 )
     requires word { length word.now ≤ 5 }
-    requires room { array_vec_len out.old + 60 ≤ N }
-    ensures { Gathers out.old.items out.new.items (named word.now number name.now) 60 }
-{
-    push_numbered(out, word, number);
-    push_name(out, name);
-    push(out, b" ");
-}
-
-/// A word and a number, as in `scope 1 `.
-fn push_numbered<const N: usize>(out: &mut ArrayVec<u8, N>, word: &[u8], number: u16)
-    requires word { length word.now ≤ 5 }
-    requires room { array_vec_len out.old + 27 ≤ N }
-    ensures { Gathers out.old.items out.new.items (numbered word.now number) 27 }
+    requires room { array_vec_len out.old + 45 ≤ N }
+    ensures { Gathers out.old.items out.new.items (named word.now number name.now) 45 }
 {
     push(out, word);
     push(out, b" ");
-    push_number(out, u64::from(number));
+    push_count(out, number);
+    push(out, b" ");
+    push_name(out, name);
     push(out, b" ");
 }
 
@@ -108,20 +98,12 @@ fn push_work<const N: usize>(out: &mut ArrayVec<u8, N>, look: &TaskLook)
     requires { array_vec_len out.old + 166 ≤ N }
     ensures { Gathers out.old.items out.new.items (work_text look.now) 166 }
 {
-    push_job(out, look);
-    push_phase(out, &look.phase);
-    push_retry(out, look.retry_of);
-}
-
-/// A job and its argument, as in `copy a `.
-fn push_job<const N: usize>(out: &mut ArrayVec<u8, N>, look: &TaskLook)
-    requires { array_vec_len out.old + 66 ≤ N }
-    ensures { Gathers out.old.items out.new.items (job_text look.now) 66 }
-{
     push_name(out, &look.job);
     push(out, b" ");
     push_name(out, &look.argument);
     push(out, b" ");
+    push_phase(out, &look.phase);
+    push_retry(out, look.retry_of);
 }
 
 /// Which task this one is a retry of, where it is one.
@@ -131,6 +113,6 @@ fn push_retry<const N: usize>(out: &mut ArrayVec<u8, N>, retry_of: Option<u16>)
 {
     if let Some(task) = retry_of {
         push(out, b" retry of ");
-        push_number(out, u64::from(task));
+        push_count(out, task);
     }
 }

@@ -2,7 +2,7 @@
 
 ghost use Rattle.std.specs.List.{list_all};
 ghost use Rattle.std.specs.Option.{option_map_or};
-ghost use Rattle.std.specs.Prelude.{◌≡◌, true, unwrap_or};
+ghost use Rattle.std.specs.Prelude.{◌≡◌, true};
 ghost use Rattle.run_model.specs.Texts.{is_text};
 ghost use Rattle.console_lines.specs.TaskLines.{asks_alone, asks_finish, asks_number, asks_phase};
 ghost use Rattle.console_lines.specs.TaskLines.{asks_retry, failure_of, finish_line};
@@ -15,10 +15,9 @@ use crate::words::{last_word, next_word};
 use run_model::{Command, Outcome, Refusal, Step, Text, is_spelled};
 use written_moment::read_number;
 
-/// What a line with this first word asks of tasks or of the store; `None` for a bad line.
-pub(crate) fn read_task_line(word: &[u8], left: Option<&[u8]>) -> Option<Asked>
-    ensures { unwrap_or result Asked.BadLine
-        ≡ task_line_of word.now (words_in (lent left.entry)) }
+/// What a line with this first word asks of tasks or of the store. No other word begins a line.
+pub(crate) fn read_task_line(word: &[u8], left: Option<&[u8]>) -> Asked
+    ensures { result ≡ task_line_of word.now (words_in (lent left.entry)) }
 {
     if is_spelled(word, b"start") {
         read_start(left)
@@ -35,135 +34,131 @@ pub(crate) fn read_task_line(word: &[u8], left: Option<&[u8]>) -> Option<Asked>
     } else if is_spelled(word, b"checkpoint") {
         read_checkpoint(left)
     } else {
-        None
+        Asked::BadLine
     }
 }
 
 /// `start`
-fn read_start(left: Option<&[u8]>) -> Option<Asked>
-    ensures { unwrap_or result Asked.BadLine
-        ≡ asks_alone (Asked.Step Step.Start) (words_in (lent left.entry)) }
+fn read_start(left: Option<&[u8]>) -> Asked
+    ensures { result ≡ asks_alone (Asked.Step Step.Start) (words_in (lent left.entry)) }
 {
     match left {
-        Some(_) => None,
-        None => Some(Asked::Step(Step::Start)),
+        Some(_) => Asked::BadLine,
+        None => Asked::Step(Step::Start),
     }
 }
 
 /// `finish NUMBER ok`, `finish NUMBER error TEXT`
-fn read_finish(left: Option<&[u8]>) -> Option<Asked>
-    ensures { unwrap_or result Asked.BadLine
-        ≡ finish_line (words_in (lent left.entry)) }
+fn read_finish(left: Option<&[u8]>) -> Asked
+    ensures { result ≡ finish_line (words_in (lent left.entry)) }
 {
-    let (number, left) = next_word(left)?;
-    let number = read_number(number)?;
-    read_outcome(number, left)
+    let Some((number, left)) = next_word(left) else {
+        return Asked::BadLine;
+    };
+    match read_number(number) {
+        Some(number) => read_outcome(number, left),
+        None => Asked::BadLine,
+    }
 }
 
 /// `ok`, `error TEXT`
-fn read_outcome(number: u64, left: Option<&[u8]>) -> Option<Asked>
-    ensures { unwrap_or result Asked.BadLine
-        ≡ option_map_or (asks_finish number) (outcome_of (words_in (lent left.entry)))
+fn read_outcome(number: u64, left: Option<&[u8]>) -> Asked
+    ensures { result ≡ option_map_or (asks_finish number) (outcome_of (words_in (lent left.entry)))
         Asked.BadLine }
 {
-    let (word, left) = next_word(left)?;
+    let Some((word, left)) = next_word(left) else {
+        return Asked::BadLine;
+    };
     if is_spelled(word, b"ok") {
         read_success(number, left)
     } else if is_spelled(word, b"error") {
         read_failure(number, left)
     } else {
-        None
+        Asked::BadLine
     }
 }
 
 /// Nothing is left behind `ok`.
-fn read_success(number: u64, left: Option<&[u8]>) -> Option<Asked>
-    ensures { unwrap_or result Asked.BadLine
-        ≡ option_map_or (asks_finish number) (success_of (words_in (lent left.entry)))
+fn read_success(number: u64, left: Option<&[u8]>) -> Asked
+    ensures { result ≡ option_map_or (asks_finish number) (success_of (words_in (lent left.entry)))
         Asked.BadLine }
 {
     match left {
-        Some(_) => None,
-        None => Some(finish(number, Outcome::Success)),
+        Some(_) => Asked::BadLine,
+        None => finish(number, Outcome::Success),
     }
 }
 
 /// `TEXT`
-fn read_failure(number: u64, left: Option<&[u8]>) -> Option<Asked>
-    ensures { unwrap_or result Asked.BadLine
-        ≡ option_map_or (asks_finish number) (failure_of (words_in (lent left.entry)))
+fn read_failure(number: u64, left: Option<&[u8]>) -> Asked
+    ensures { result ≡ option_map_or (asks_finish number) (failure_of (words_in (lent left.entry)))
         Asked.BadLine }
 {
-    let error = left?;
-    Some(fail(number, error))
+    match left {
+        Some(error) => fail(number, error),
+        None => Asked::BadLine,
+    }
 }
 
 /// `retry NUMBER`
-fn read_retry(left: Option<&[u8]>) -> Option<Asked>
-    ensures { unwrap_or result Asked.BadLine
-        ≡ asks_number asks_retry (words_in (lent left.entry)) }
+fn read_retry(left: Option<&[u8]>) -> Asked
+    ensures { result ≡ asks_number asks_retry (words_in (lent left.entry)) }
 {
-    let number = read_number(last_word(left)?)?;
-    Some(retry(number))
-}
-
-/// `task NUMBER`
-fn read_task(left: Option<&[u8]>) -> Option<Asked>
-    ensures { unwrap_or result Asked.BadLine
-        ≡ asks_number asks_phase (words_in (lent left.entry)) }
-{
-    let number = read_number(last_word(left)?)?;
-    Some(phase(number))
-}
-
-/// `tally`
-fn read_tally(left: Option<&[u8]>) -> Option<Asked>
-    ensures { unwrap_or result Asked.BadLine
-        ≡ asks_alone Asked.Tally (words_in (lent left.entry)) }
-{
-    match left {
-        Some(_) => None,
-        None => Some(Asked::Tally),
-    }
-}
-
-/// `flush`
-fn read_flush(left: Option<&[u8]>) -> Option<Asked>
-    ensures { unwrap_or result Asked.BadLine
-        ≡ asks_alone (Asked.Step Step.Flush) (words_in (lent left.entry)) }
-{
-    match left {
-        Some(_) => None,
-        None => Some(Asked::Step(Step::Flush)),
-    }
-}
-
-/// `checkpoint`
-fn read_checkpoint(left: Option<&[u8]>) -> Option<Asked>
-    ensures { unwrap_or result Asked.BadLine
-        ≡ asks_alone (Asked.Step Step.Checkpoint) (words_in (lent left.entry)) }
-{
-    match left {
-        Some(_) => None,
-        None => Some(Asked::Step(Step::Checkpoint)),
-    }
-}
-
-fn retry(number: u64) -> Asked
-    ensures { result ≡ asks_retry number }
-{
+    let Some(number) = last_word(left) else {
+        return Asked::BadLine;
+    };
+    let Some(number) = read_number(number) else {
+        return Asked::BadLine;
+    };
     match u16::try_from(number) {
         Ok(task) => Asked::Step(Step::Command(Command::Retry(task))),
         Err(_) => Asked::Refused(Refusal::NoSuchTask),
     }
 }
 
-fn phase(number: u64) -> Asked
-    ensures { result ≡ asks_phase number }
+/// `task NUMBER`
+fn read_task(left: Option<&[u8]>) -> Asked
+    ensures { result ≡ asks_number asks_phase (words_in (lent left.entry)) }
 {
+    let Some(number) = last_word(left) else {
+        return Asked::BadLine;
+    };
+    let Some(number) = read_number(number) else {
+        return Asked::BadLine;
+    };
     match u16::try_from(number) {
         Ok(task) => Asked::Task(task),
         Err(_) => Asked::Refused(Refusal::NoSuchTask),
+    }
+}
+
+/// `tally`
+fn read_tally(left: Option<&[u8]>) -> Asked
+    ensures { result ≡ asks_alone Asked.Tally (words_in (lent left.entry)) }
+{
+    match left {
+        Some(_) => Asked::BadLine,
+        None => Asked::Tally,
+    }
+}
+
+/// `flush`
+fn read_flush(left: Option<&[u8]>) -> Asked
+    ensures { result ≡ asks_alone (Asked.Step Step.Flush) (words_in (lent left.entry)) }
+{
+    match left {
+        Some(_) => Asked::BadLine,
+        None => Asked::Step(Step::Flush),
+    }
+}
+
+/// `checkpoint`
+fn read_checkpoint(left: Option<&[u8]>) -> Asked
+    ensures { result ≡ asks_alone (Asked.Step Step.Checkpoint) (words_in (lent left.entry)) }
+{
+    match left {
+        Some(_) => Asked::BadLine,
+        None => Asked::Step(Step::Checkpoint),
     }
 }
 

@@ -1,6 +1,6 @@
-use Rattle.console_lines.proofs.Gathered.{gathers_three}
+use Rattle.console_lines.proofs.Gathered.{◌followed_by◌}
 use Rattle.console_lines.proofs.entries.push_ends.Goals as goal
 
 pub returns : goal.returns
 returns g c =
-    gathers_three _ _ _ _ _ _ _ _ _ _ c.push.ensures c.push_deadline.ensures c.push_done.ensures
+    c.push.ensures followed_by c.push_deadline.ensures followed_by c.push_done.ensures

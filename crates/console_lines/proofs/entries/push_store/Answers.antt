@@ -1,7 +1,8 @@
-use Rattle.console_lines.proofs.Gathered.{gathers_three}
+use Rattle.console_lines.proofs.Gathered.{◌followed_by◌}
 use Rattle.console_lines.proofs.entries.push_store.Goals as goal
 
 pub returns : goal.returns
 returns g c =
-    gathers_three _ _ _ _ _ _ _ _ _ _ c.push.ensures c.push_number.ensures
-    (gathers_three _ _ _ _ _ _ _ _ _ _ c.push-2.ensures c.push_clock.ensures c.push_layout.ensures)
+    c.push.ensures followed_by c.push_number.ensures followed_by c.push-2.ensures followed_by
+    c.push_moment.ensures followed_by c.push-3.ensures followed_by c.push_layout_word.ensures
+    followed_by c.push_room.ensures

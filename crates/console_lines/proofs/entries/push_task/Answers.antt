@@ -1,6 +1,8 @@
-use Rattle.console_lines.proofs.Gathered.{gathers_three}
+use Rattle.console_lines.proofs.Gathered.{◌followed_by◌}
 use Rattle.console_lines.proofs.entries.push_task.Goals as goal
 
 pub returns : goal.returns
 returns g c =
-    gathers_three _ _ _ _ _ _ _ _ _ _ c.push.ensures c.push_count.ensures c.push_task_group.ensures
+    c.push.ensures followed_by c.push_count.ensures followed_by c.push-2.ensures followed_by
+    c.push_count-2.ensures followed_by c.push-3.ensures followed_by c.push_name_quoted.ensures
+    followed_by c.push_work.ensures

@@ -7,8 +7,8 @@ use Rattle.console_lines.specs.TaskLines.{asks_finish}
 use Rattle.console_lines.proofs.WordLemmas.{rest_is}
 use Rattle.console_lines.proofs.task_lines.read_failure.Goals as goal
 
-pub returns : goal.returns
-returns c =
+pub returns-in-Some : goal.returns-in-Some
+returns-in-Some c =
     let asks = λ (error : Option (List ℕ)).
     option_map_or (asks_finish c.args.number) (option_map Failure error) BadLine in
-    rw c.in_ok-error.was (c.fail.ensures ∙ ap asks (sym (rest_is (Some c.in_ok-error.error.now))))
+    rw c.in-Some.is (c.fail.ensures ∙ ap asks (sym (rest_is (Some c.in-Some.error.now))))

@@ -1,7 +1,0 @@
-use Rattle.console_lines.proofs.Gathered.{gathers_three}
-use Rattle.console_lines.proofs.entries.push_groups_room.Goals as goal
-
-pub returns : goal.returns
-returns g c =
-    gathers_three _ _ _ _ _ _ _ _ _ _ c.push.ensures
-    c.push_most_groups.ensures c.push_tasks_room.ensures

@@ -1,6 +1,0 @@
-use Rattle.console_lines.proofs.Gathered.{gathers_three}
-use Rattle.console_lines.proofs.entries.push_layout.Goals as goal
-
-pub returns : goal.returns
-returns g c =
-    gathers_three _ _ _ _ _ _ _ _ _ _ c.push.ensures c.push_layout_word.ensures c.push_room.ensures
