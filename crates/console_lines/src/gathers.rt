@@ -238,20 +238,34 @@ fn push_answer<const N: usize>(out: &mut ArrayVec<u8, N>, answer: &Answer)
             push(out, b"scope ");
             push_count(out, *scope);
         }
-        Answer::Group(group, None) => {
-            push(out, b"group ");
-            push_count(out, *group);
-        }
-        Answer::Group(group, Some(scope)) => {
-            push(out, b"group ");
-            push_count(out, *group);
-            push(out, b" scope ");
-            push_count(out, *scope);
-        }
+        Answer::Group(group, scope) => push_new_group(out, *group, *scope),
         Answer::Done => push(out, b"ok"),
         Answer::Task(task, phase) => push_task(out, *task, phase),
-        Answer::Waited(None) => push(out, b"wait ok"),
-        Answer::Waited(Some(error)) => {
+        Answer::Waited(error) => push_wait(out, error),
+    }
+}
+
+/// A group that was made, with its scope where it has one of its own.
+fn push_new_group<const N: usize>(out: &mut ArrayVec<u8, N>, group: u16, scope: Option<u16>)
+    requires { array_vec_len out.old + 23 ≤ N }
+    ensures { Gathers out.old.items out.new.items (answer_text (Answer.Group group scope)) 23 }
+{
+    push(out, b"group ");
+    push_count(out, group);
+    if let Some(scope) = scope {
+        push(out, b" scope ");
+        push_count(out, scope);
+    }
+}
+
+/// How a wait ended, with the error where there was one.
+fn push_wait<const N: usize>(out: &mut ArrayVec<u8, N>, error: &Option<Text>)
+    requires { array_vec_len out.old + 75 ≤ N }
+    ensures { Gathers out.old.items out.new.items (answer_text (Answer.Waited error.now)) 75 }
+{
+    match error {
+        None => push(out, b"wait ok"),
+        Some(error) => {
             push(out, b"wait error ");
             push_text(out, error);
         }

@@ -6,5 +6,5 @@ use Rattle.console_lines.proofs.trees.gather_tree_scope.Goals as goal
 pub returns : goal.returns
 returns g c =
     gathers_within LONGEST_TREE_SCOPE (c.push_named.ensures followed_by c.push_kind.ensures
-    followed_by c.push.ensures followed_by c.push_look.ensures followed_by c.push-2.ensures) (omega
-    arith)
+    followed_by c.push.ensures followed_by c.push_look.ensures followed_by c.push-2.ensures)
+    (omega arith)
