@@ -3,7 +3,7 @@ use Rattle.std.proofs.Common.{◌≡◌, ◌≤◌, ◌<◌, ℕ, ◌+◌, ◌-�
 use Rattle.std.proofs.Common.{◌++◌, length, drop, Some, None, refl, sym, ap, ◌∙◌, arith}
 use Rattle.std.proofs.Common.{append_assoc, length-append, length-drop, subst}
 use Rattle.std.specs.List.{flat_map, AllByRecursion}
-use Rattle.std.specs.Prelude.{IsTrue, ◌==◌, Result, Ok, Err, IfErr}
+use Rattle.std.specs.Prelude.{IsTrue, ◌==◌, Option, Result, Ok, Err, IfErr}
 use Rattle.std.proofs.lemmas.Bool.{lt-ltb, le-leb}
 use Rattle.std.proofs.lemmas.Option.{none-some, slice_get_within}
 use Rattle.run_model.specs.declared.bounds.TheConstants.{MOST_GROUPS, GREATEST_MOMENT}
@@ -13,6 +13,7 @@ use Rattle.run_model.specs.Rows.{root}
 use Rattle.run_model.specs.Rules.{IsConsistent}
 use Rattle.run_model.specs.State.{State, TreeState, WorkState}
 use Rattle.record_view.specs.declared.heads.ImageHead.{ImageHead}
+use Rattle.record_view.specs.declared.heads.ImageVersion.{ImageVersion}
 use Rattle.record_view.specs.declared.heads.ImageVersion.TheVariants.{Two}
 use Rattle.record_view.specs.Between.{fits_between}
 use Rattle.record_view.specs.Image.{group_bytes, head_bytes, head_of, image, is_kept_group}
@@ -20,13 +21,13 @@ use Rattle.record_view.specs.Image.{is_kept_head, is_kept_scope, is_kept_task, s
 use Rattle.record_view.specs.Image.{task_bytes}
 use Rattle.record_view.specs.Keeping.{IsImage, Rows}
 use Rattle.record_view.specs.RowReading.{head_at}
-use Rattle.record_view.specs.WorkRows.{AreWorkRows, work_at}
+use Rattle.record_view.specs.WorkRows.{AreWorkRows}
 use Rattle.record_view.specs.Writing.{put_at}
 use Rattle.record_view.proofs.Codecs.{both_true}
 use Rattle.record_view.proofs.Joins.{put_then}
 use Rattle.scope_tree.specs.TreeRows.{tree_at}
 use Rattle.image_laws.specs.Whole.{image_at, whole}
-use Rattle.image_laws.proofs.WholeReads.{image_again, image_takes}
+use Rattle.image_laws.proofs.WholeReads.{image_again}
 use Rattle.work_laws.proofs.WorkReads.{nothing_read, work_again}
 
 -- ---- reading
@@ -35,85 +36,53 @@ pub if_err : {T E : Type 0} (r : Result T E) (P : Type 0) → P → IfErr r (λ 
 if_err (Ok x) P p = tt
 if_err (Err e) P p = p
 
+-- Whatever begins with this head, and goes on by these bytes, is read as this.
+abbrev pub Reads : Layout → ImageHead → List ℕ → Option (ImageVersion × State) → Type 0
+Reads layout head rest read = (image : List ℕ) → head_at layout image ≡ Some (head, rest)
+    → image_at layout image ≡ read
+
 -- Where nothing is read, the bytes are the image of no state.
-none_stands : (layout : Layout) (bytes : List ℕ) → image_at layout bytes ≡ None → (p : State)
+pub no_image : (layout : Layout) (bytes : List ℕ) → image_at layout bytes ≡ None → (p : State)
     → Rows layout bytes p → ⊥
-none_stands layout bytes none p rows =
+no_image layout bytes none p rows =
     none-some (rows.0, p) (sym none ∙ image_again rows.0 layout bytes p rows.1)
 
-pub no_head : (layout : Layout) (bytes : List ℕ) → head_at layout bytes ≡ None → (p : State)
-    → Rows layout bytes p → ⊥
+pub no_head : (layout : Layout) (bytes : List ℕ) → head_at layout bytes ≡ None
+    → image_at layout bytes ≡ None
 unfolding image_at
-no_head layout bytes none = none_stands layout bytes (at layout bytes none)
-  where
-    at : (layout : Layout) (bytes : List ℕ) → head_at layout bytes ≡ None
-        → image_at layout bytes ≡ None
-    at layout bytes none = rw none refl
+no_head layout bytes none = rw none refl
 
 pub no_tree : (layout : Layout) (bytes r1 : List ℕ) (head : ImageHead)
-    → head_at layout bytes ≡ Some (head, r1) → tree_at layout head r1 ≡ None → (p : State)
-    → Rows layout bytes p → ⊥
+    → tree_at layout head r1 ≡ None → head_at layout bytes ≡ Some (head, r1)
+    → image_at layout bytes ≡ None
 unfolding image_at
-no_tree layout bytes r1 head h none = none_stands layout bytes (at layout bytes r1 head h none)
-  where
-    at : (layout : Layout) (bytes r1 : List ℕ) (head : ImageHead)
-        → head_at layout bytes ≡ Some (head, r1) → tree_at layout head r1 ≡ None
-        → image_at layout bytes ≡ None
-    at layout bytes r1 head h none = rw (h, none) refl
+no_tree layout bytes r1 head none h = rw (h, none) refl
 
 pub no_work : (layout : Layout) (bytes r1 r2 : List ℕ) (head : ImageHead) (tree : TreeState)
-    → head_at layout bytes ≡ Some (head, r1) → tree_at layout head r1 ≡ Some (tree, r2)
-    → ((w : WorkState) (rest : List ℕ) → AreWorkRows layout head r2 w rest → ⊥) → (p : State)
-    → Rows layout bytes p → ⊥
+    → tree_at layout head r1 ≡ Some (tree, r2)
+    → ((w : WorkState) (rest : List ℕ) → AreWorkRows layout head r2 w rest → ⊥)
+    → head_at layout bytes ≡ Some (head, r1) → image_at layout bytes ≡ None
 unfolding image_at
-no_work layout bytes r1 r2 head tree h t none =
-    none_stands layout bytes
-    (at layout bytes r1 r2 head tree h t (nothing_read layout head r2 none))
-  where
-    at : (layout : Layout) (bytes r1 r2 : List ℕ) (head : ImageHead) (tree : TreeState)
-        → head_at layout bytes ≡ Some (head, r1) → tree_at layout head r1 ≡ Some (tree, r2)
-        → work_at layout head r2 ≡ None → image_at layout bytes ≡ None
-    at layout bytes r1 r2 head tree h t none = rw (h, t, none) refl
-
--- The three parts were read, with r3 behind them.
-pub record AreParts (layout : Layout) (bytes r1 r2 r3 : List ℕ) (head : ImageHead)
-    (tree : TreeState) (work : WorkState) : Type 0 where
-  pub head_read : head_at layout bytes ≡ Some (head, r1)
-  pub tree_read : tree_at layout head r1 ≡ Some (tree, r2)
-  pub work_rows : AreWorkRows layout head r2 work r3
+no_work layout bytes r1 r2 head tree t none h = rw (h, t, nothing_read layout head r2 none) refl
 
 pub no_fit : (layout : Layout) (bytes r1 r2 r3 : List ℕ) (head : ImageHead) (tree : TreeState)
-    (work : WorkState) → AreParts layout bytes r1 r2 r3 head tree work
-    → (length r3 == 0 && fits_between tree.scopes work.groups) ≡ false → (p : State)
-    → Rows layout bytes p → ⊥
+    (work : WorkState) → tree_at layout head r1 ≡ Some (tree, r2)
+    → AreWorkRows layout head r2 work r3
+    → (length r3 == 0 && fits_between tree.scopes work.groups) ≡ false
+    → head_at layout bytes ≡ Some (head, r1) → image_at layout bytes ≡ None
 unfolding image_at
-no_fit layout bytes r1 r2 r3 head tree work parts fits =
-    none_stands layout bytes (at layout bytes r1 r2 r3 head tree work parts fits)
-  where
-    at : (layout : Layout) (bytes r1 r2 r3 : List ℕ) (head : ImageHead) (tree : TreeState)
-        (work : WorkState) → AreParts layout bytes r1 r2 r3 head tree work
-        → (length r3 == 0 && fits_between tree.scopes work.groups) ≡ false
-        → image_at layout bytes ≡ None
-    at layout bytes r1 r2 r3 head tree work parts fits =
-        let work_read = work_again layout head r2 work r3 parts.work_rows in
-        rw (parts.head_read, parts.tree_read, work_read, fits) refl
+no_fit layout bytes r1 r2 r3 head tree work t rows fits h =
+    rw (h, t, work_again layout head r2 work r3 rows, fits) refl
 
-pub is_image : (layout : Layout) (bytes r1 r2 r3 : List ℕ) (head : ImageHead) (tree : TreeState)
-    (work : WorkState) → AreParts layout bytes r1 r2 r3 head tree work
+pub parts_fit : (layout : Layout) (bytes r1 r2 r3 : List ℕ) (head : ImageHead) (tree : TreeState)
+    (work : WorkState) → tree_at layout head r1 ≡ Some (tree, r2)
+    → AreWorkRows layout head r2 work r3
     → (length r3 == 0 && fits_between tree.scopes work.groups) ≡ true
-    → IsImage head.version layout bytes (whole head tree work)
+    → head_at layout bytes ≡ Some (head, r1)
+    → image_at layout bytes ≡ Some (head.version, whole head tree work)
 unfolding image_at
-is_image layout bytes r1 r2 r3 head tree work parts fits =
-    image_takes head.version layout bytes (whole head tree work)
-    (at layout bytes r1 r2 r3 head tree work parts fits)
-  where
-    at : (layout : Layout) (bytes r1 r2 r3 : List ℕ) (head : ImageHead) (tree : TreeState)
-        (work : WorkState) → AreParts layout bytes r1 r2 r3 head tree work
-        → (length r3 == 0 && fits_between tree.scopes work.groups) ≡ true
-        → image_at layout bytes ≡ Some (head.version, whole head tree work)
-    at layout bytes r1 r2 r3 head tree work parts fits =
-        let work_read = work_again layout head r2 work r3 parts.work_rows in
-        rw (parts.head_read, parts.tree_read, work_read, fits) refl
+parts_fit layout bytes r1 r2 r3 head tree work t rows fits h =
+    rw (h, t, work_again layout head r2 work r3 rows, fits) refl
 
 -- ---- writing
 
