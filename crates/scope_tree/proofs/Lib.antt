@@ -23,3 +23,4 @@ pub mod Spread
 pub mod Striking
 pub mod TreeReads
 pub mod Waiting
+pub mod Refusing
