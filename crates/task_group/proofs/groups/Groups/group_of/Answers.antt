@@ -2,6 +2,10 @@ use Rattle.std.proofs.Common.{length, refl}
 use Rattle.std.proofs.lemmas.Option.{slice_get_read}
 use Rattle.task_group.proofs.groups.Groups.group_of.Goals as goal
 
+pub index-requires : goal.index-requires
+index-requires g c =
+    let known = rw (← c.self.view_is) at c.requires in rw c.self.inside.tasks.ok.0 known
+
 pub returns-clause-known : goal.returns-clause-known
 returns-clause-known g c =
     let s = c.self.inside in

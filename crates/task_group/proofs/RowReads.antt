@@ -1,0 +1,48 @@
+-- A row that code read at a number, and what a test says of it.
+use Rattle.std.proofs.Common.{◌≡◌, ◌<◌, ℕ, Bool, true, false, ltb, List, length, get_or, Option}
+use Rattle.std.proofs.Common.{Some, None, slice_get, refl, sym, ap, ◌∙◌}
+use Rattle.std.specs.Option.{option_map_or}
+use Rattle.std.proofs.lemmas.Bool.{ltb-true, ltb-false}
+use Rattle.std.proofs.lemmas.Option.{slice_get_past, slice_get_read, slice_get_within}
+
+-- A row that was found in a copy of the list is in the list.
+pub row_read : {X : Type 0} (rows read : List X) (n : ℕ) (row : X) → read ≡ rows
+    → true ≡ ltb n (length read) → row ≡ get_or read n row → slice_get rows n ≡ Some row
+row_read rows read n row same within is =
+    rw (← same)
+    (slice_get_read read (length read) n row refl (ltb-true n (length read) (sym within)) is)
+
+-- The answer of a test of a row that was found.
+pub test_found : {X : Type 0} (test : X → Bool) (rows read : List X) (n : ℕ) (row : X)
+    (answer : Bool) → read ≡ rows → true ≡ ltb n (length read) → row ≡ get_or read n row
+    → answer ≡ test row → answer ≡ option_map_or test (slice_get rows n) false
+test_found {X} test rows read n row answer same within is e =
+    e
+    ∙ sym
+    (ap (λ (o : Option X). option_map_or test o false) (row_read rows read n row same within is))
+
+-- The answer where none was found.
+pub test_missed : {X : Type 0} (test : X → Bool) (rows read : List X) (n : ℕ) → read ≡ rows
+    → false ≡ ltb n (length read) → false ≡ option_map_or test (slice_get rows n) false
+test_missed {X} test rows read n same past =
+    rw (← same)
+    (sym
+    (ap (λ (o : Option X). option_map_or test o false)
+    (slice_get_past read n (ltb-false n (length read) (sym past)))))
+
+-- A row that passes a test is there.
+pub row_known : {X : Type 0} (test : X → Bool) (rows : List X) (n : ℕ)
+    → option_map_or test (slice_get rows n) false ≡ true → n < length rows
+row_known {X} test rows n passes = by (slice_get rows n) refl
+  where
+    by : (o : Option X) → slice_get rows n ≡ o → n < length rows
+    by None e =
+        (let no : false ≡ true =
+        sym (ap (λ (o : Option X). option_map_or test o false) e) ∙ passes in absurd cc)
+    by (Some row) e = slice_get_within rows n row e
+
+-- A row that was found is there.
+pub row_within : {X : Type 0} (rows read : List X) (n : ℕ) → read ≡ rows
+    → true ≡ ltb n (length read) → n < length rows
+row_within rows read n same within =
+    rw (← same) (ltb-true n (length read) (sym within))
