@@ -20,6 +20,9 @@ returns-then-not-can_come-clause-none g c =
     (come_as start c.loop-n.self row c.loop-n.invariant.layout c.loop-n.invariant.groups
     ∙ sym c.can_come.ensures ∙ c.if-not-can_come.true)
 
+pub take_task-requires-clause-come : goal.take_task-requires-clause-come
+take_task-requires-clause-come g c = sym c.can_come.ensures ∙ c.if-not-can_come.false
+
 pub loop-n-preserved : goal.loop-n-preserved
 loop-n-preserved g c =
     let start = c.args.self.now in

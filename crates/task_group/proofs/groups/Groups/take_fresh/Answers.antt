@@ -21,6 +21,43 @@ link-requires-clause-known g c =
     subst (λ (n : ℕ). IsWithin seats.first seats.last n) (sym kept.as_tasks)
     (last_known w c.args.row.group seats (kept.right c.args.row.group seats row))
 
+pub index-seats-requires : goal.index-seats-requires
+index-seats-requires g c =
+    let known = rw (← c.self.view_is) at c.requires.known in
+    rw (c.self.inside.seats.ok.0, c.self.invariant.0.seated.as_groups) known
+
+pub index-requires : goal.index-requires
+index-requires g c =
+    let known = rw (← c.self.view_is) at c.requires.known in
+    rw c.self.inside.groups.ok.0 known
+
+pub link-requires-clause-room : goal.link-requires-clause-room
+link-requires-clause-room g c =
+    let room = rw (← c.self.view_is) at c.requires.room in
+    rw (c.self.inside.next.ok.0, c.self.invariant.0.seated.as_tasks, c.self.invariant.1.next_room)
+    room
+
+pub enter-requires-clause-known : goal.enter-requires-clause-known
+enter-requires-clause-known g c =
+    let known = rw (← c.self.view_is) at c.requires.known in
+    rw (c.self.inside.seats.ok.0, c.self.invariant.0.seated.as_groups) known
+
+pub note_retry-requires-clause-room : goal.note_retry-requires-clause-room
+note_retry-requires-clause-room g c =
+    let room = rw (← c.self.view_is) at c.requires.room in
+    rw (c.self.inside.retried.ok.0, c.self.invariant.0.flagged.same, c.self.invariant.1.flag_room)
+    room
+
+pub note_retry-requires-clause-known : goal.note_retry-requires-clause-known
+note_retry-requires-clause-known g c =
+    let link = rw (← c.self.view_is) at c.requires.link in
+    rw (c.self.inside.retried.ok.0, c.self.invariant.0.flagged.same) link
+
+pub push_task-requires : goal.push_task-requires
+push_task-requires g c =
+    let room = rw (← c.self.view_is) at c.requires.room in
+    rw (c.self.inside.tasks.ok.0, c.self.invariant.1.task_room) room
+
 pub enter-requires-clause-room : goal.enter-requires-clause-room
 enter-requires-clause-room g c row here =
     let s = c.self.inside in

@@ -6,6 +6,33 @@ use Rattle.task_group.proofs.Comings.{running_comes}
 use Rattle.task_group.proofs.Rooms.{seats_few}
 use Rattle.task_group.proofs.groups.Groups.take_running.Goals as goal
 
+pub push_none-requires : goal.push_none-requires
+push_none-requires g c =
+    let room = rw (← c.self.view_is) at c.requires.room in
+    rw (c.self.inside.next.ok.0, c.self.invariant.0.seated.as_tasks, c.self.invariant.1.next_room)
+    room
+
+pub enter-requires-clause-known : goal.enter-requires-clause-known
+enter-requires-clause-known g c =
+    let known = rw (← c.self.view_is) at c.requires.known in
+    rw (c.self.inside.seats.ok.0, c.self.invariant.0.seated.as_groups) known
+
+pub note_retry-requires-clause-room : goal.note_retry-requires-clause-room
+note_retry-requires-clause-room g c =
+    let room = rw (← c.self.view_is) at c.requires.room in
+    rw (c.self.inside.retried.ok.0, c.self.invariant.0.flagged.same, c.self.invariant.1.flag_room)
+    room
+
+pub note_retry-requires-clause-known : goal.note_retry-requires-clause-known
+note_retry-requires-clause-known g c =
+    let link = rw (← c.self.view_is) at c.requires.link in
+    rw (c.self.inside.retried.ok.0, c.self.invariant.0.flagged.same) link
+
+pub push_task-requires : goal.push_task-requires
+push_task-requires g c =
+    let room = rw (← c.self.view_is) at c.requires.room in
+    rw (c.self.inside.tasks.ok.0, c.self.invariant.1.task_room) room
+
 pub enter-requires-clause-room : goal.enter-requires-clause-room
 enter-requires-clause-room g c row here =
     let s = c.self.inside in
