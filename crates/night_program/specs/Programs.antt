@@ -31,6 +31,11 @@ use Rattle.night_program.specs.Stores.{FormatEnds, InspectEnds, MigrateEnds, Pri
 use Rattle.night_program.specs.Stores.{ScriptEnds, StrictEnds}
 use Rattle.night_program.specs.Timed.{DoesTimed}
 
+-- whether a crew's night was asked for
+abbrev pub asks_crew : Asked → Bool
+asks_crew (Crew store workers known) = true
+asks_crew asked = false
+
 -- What is left of the files behind what a file was made for: where that failed, a file that wasn't
 -- there before is taken away again.
 abbrev pub IsLeft : {F D T : Type 0} → FilesView F D → (is_new : Bool) → Result T RunFault

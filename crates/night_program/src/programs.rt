@@ -1,10 +1,11 @@
 //! The program: it reads its words, and does what they ask for.
 
-ghost use Rattle.std.specs.Prelude.{◌≡◌, map, vec_len, IfErr, IfOk};
+ghost use Rattle.std.specs.Prelude.{◌≡◌, ℕ, false, map, vec_len, IfErr, IfOk};
 ghost use Rattle.std.specs.String.{string_bytes};
 ghost use Rattle.night_program.specs.Programs.{Does, DoesFormat, DoesInspect, DoesMigrate};
 ghost use Rattle.night_program.specs.Files.{Makes};
 ghost use Rattle.night_program.specs.Programs.{DoesRenew, DoesScript, IsLeft, IsRefused, RunsWords};
+ghost use Rattle.night_program.specs.Programs.{asks_crew};
 
 use crate::crews::crew_file;
 use crate::demos::{demo, demo_strict};
@@ -86,7 +87,7 @@ pub fn night<F: Files, C: MachineTime, I: Read, O: Write, E: Write, R: Threads +
     }
 }
 
-/// Does what was asked for.
+/// Does what was asked for. The lists of jobs are for a crew alone.
 fn answer<'a, F: Files, C: MachineTime, I: Read, O: Write, R: Threads + Wait + Sync>(
     rt: &R,
     alloc: Global,
@@ -98,6 +99,31 @@ fn answer<'a, F: Files, C: MachineTime, I: Read, O: Write, R: Threads + Wait + S
     output: &mut O,
 ) -> Result<Done, Failure<'a>>
     ensures { Does F.Disk.state F.seen asked.now (vec_len jobs) (C.moments clock.old) result
+        files.old files.new
+        (I.remaining input.old) (I.remaining input.new)
+        (O.contents output.old) (O.contents output.new) }
+{
+    match asked {
+        Asked::Crew {
+            store,
+            workers,
+            known,
+        } => crew_file(rt, alloc, store, *workers, *known, jobs, files, output),
+        _ => answer_alone(alloc, asked, files, clock, input, output),
+    }
+}
+
+/// Does what was asked for, where that is no crew's night.
+fn answer_alone<'a, F: Files, C: MachineTime, I: Read, O: Write>(
+    alloc: Global,
+    asked: &Asked<'a>,
+    files: &mut F,
+    clock: &mut C,
+    input: &mut I,
+    output: &mut O,
+) -> Result<Done, Failure<'a>>
+    requires { asks_crew asked.now ≡ false }
+    ensures { (lists : ℕ) → Does F.Disk.state F.seen asked.now lists (C.moments clock.old) result
         files.old files.new
         (I.remaining input.old) (I.remaining input.new)
         (O.contents output.old) (O.contents output.new) }
@@ -117,11 +143,7 @@ fn answer<'a, F: Files, C: MachineTime, I: Read, O: Write, R: Threads + Wait + S
             is_timed: true,
         } => timed_file(alloc, store, *strict, files, clock, input, output),
         Asked::Inspect { store, view } => inspect_file(alloc, store, *view, files, output),
-        Asked::Crew {
-            store,
-            workers,
-            known,
-        } => crew_file(rt, alloc, store, *workers, *known, jobs, files, output),
+        Asked::Crew { .. } => unreachable!(),
         Asked::Migrate(old, new) => migrate_file(alloc, old, new, files, output),
         Asked::Renew(old, new) => renew_file(alloc, old, new, files, output),
         Asked::RenewInPlace(store) => renew_in_place(alloc, store, files, output),
