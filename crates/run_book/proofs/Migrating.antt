@@ -1,12 +1,12 @@
 -- What a migration reads of the old disk, and what it makes of the new one.
-use Rattle.std.proofs.Common.{◌≡◌, ◌⊎◌, ◌<◌, ◌+◌, ℕ, List, [], Option, Some, None, Ok, Err}
+use Rattle.std.proofs.Common.{◌≡◌, ◌⊎◌, ◌<◌, ◌+◌, ℕ, List, [], Ok, Err}
 use Rattle.std.proofs.Common.{refl, sym, subst, ap, ◌∙◌}
 use Rattle.std.specs.Prelude.{IfErr, OnErr, OnOk, Result}
 use Rattle.run_model.specs.declared.faults.Fault.{Fault}
 use Rattle.run_model.specs.declared.faults.Fault.TheVariants as fault
 use Rattle.run_model.specs.declared.layouts.Layout.{Layout}
 use Rattle.run_model.specs.declared.layouts.Layout.TheVariants.{Small, Large}
-use Rattle.run_model.specs.Layouts.{layout_of, store_len}
+use Rattle.run_model.specs.Layouts.{store_len}
 use Rattle.run_model.specs.State.{State}
 use Rattle.record_view.specs.declared.heads.ImageVersion.TheVariants.{Two}
 use Rattle.record_view.specs.Image.{image}
@@ -16,34 +16,17 @@ use Rattle.run_disk.specs.Runs.{MakesCalls}
 use Rattle.run_disk.proofs.RunLemmas.{ran_passed}
 use Rattle.run_journal.specs.Pairs.{Formatted}
 use Rattle.run_journal.specs.Stores.{IsStored, sizes_of}
-use Rattle.run_journal.proofs.LayoutLemmas.{layout_found}
 use Rattle.book_model.specs.declared.migrations.MigrateFault.{MigrateFault}
 use Rattle.book_model.specs.declared.migrations.MigrateFault.TheVariants as why
 use Rattle.book_model.specs.Migrations.{AreSized, HasFailedWrite, HasMigrated, HasReadSmall}
 use Rattle.book_model.specs.Migrations.{HasWritten, MigratesNot, ReadsNot, StopsMigration, widened}
-use Rattle.book_model.specs.Openings.{RecoversNone}
 use Rattle.book_model.specs.Stores.{StoresFresh}
 use Rattle.book_model.proofs.OpeningLemmas.{fresh_stores}
 use Rattle.book_model.proofs.Stopping.{stops_nothing}
 use Rattle.book_model.proofs.Widening.{widened_means}
-use Rattle.run_book.specs.Migrating.{of_old}
 use Rattle.run_book.proofs.Rooting.{root_rests}
 
 -- ---- the old disk
-
-no_layout : (o : Option Layout) (layout : Layout) → o ≡ Some layout → o ≡ None → ⊥
-no_layout o layout some none = cc
-
--- A fault of a recovery, as a migration tells it.
-pub told_not : {D : Type 0} (from : D → DiskState) (old read : D) (f : Fault)
-    → (from old).size ≡ store_len Small → RecoversNone from old f read
-    → ReadsNot from old (of_old f) read
-told_not from old read fault.Memory sized none = none.1
-told_not from old read fault.WrongSize sized none =
-    absurd (no_layout (layout_of (from old).size) Small
-    (ap (λ n. layout_of n) sized ∙ layout_found Small) none.0)
-told_not from old read fault.NumbersSpent sized none = absurd none
-told_not from old read f sized none = none
 
 -- Nothing is made of a store that isn't read.
 pub unread_not : {D E : Type 0} (from : D → DiskState) (to : E → DiskState) (old read : D)

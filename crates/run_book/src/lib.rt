@@ -7,6 +7,7 @@
 #![tactic(auto)]
 
 mod books;
+mod copies;
 mod images;
 mod migrations;
 mod openings;

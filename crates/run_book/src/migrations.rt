@@ -6,16 +6,14 @@ ghost use Rattle.run_model.specs.declared.faults.Fault.TheVariants.{DiskFailed};
 ghost use Rattle.run_model.specs.declared.layouts.Layout.TheVariants.{Small, Large};
 ghost use Rattle.run_model.specs.Layouts.{store_len};
 ghost use Rattle.run_model.specs.Rules.{HasLayout};
-ghost use Rattle.run_model.specs.Session.{opened};
 ghost use Rattle.record_view.specs.declared.heads.ImageVersion.TheVariants.{Two};
 ghost use Rattle.record_view.specs.Image.{greatest_image};
 ghost use Rattle.book_model.specs.declared.migrations.MigrateFault.TheVariants as why;
-ghost use Rattle.book_model.specs.Migrations.{AreSized, HasFailedWrite, HasMigrated, HasReadSmall};
-ghost use Rattle.book_model.specs.Migrations.{HasWritten, Migrates, MigratesNot, ReadsNot};
-ghost use Rattle.run_book.specs.Migrating.{of_old};
+ghost use Rattle.book_model.specs.Migrations.{AreSized, HasFailedWrite, HasMigrated};
+ghost use Rattle.book_model.specs.Migrations.{HasWritten, Migrates, MigratesNot};
 
+use crate::copies::{Rooms, make_rooms, read_stored};
 use crate::images::{HEAD, fill};
-use crate::openings::{body_len, read_state};
 use book_model::MigrateFault;
 use run_disk::RunDisk;
 use run_journal::Journal;
@@ -67,63 +65,9 @@ fn migrate_sized<D: RunDisk, E: RunDisk, A: Allocator + Copy>(
     ensures not { IfErr result (λ fault.
         MigratesNot D.state E.state old.old new.old fault old.new new.new) }
 {
-    let Rooms { state, mut body } = make_rooms(alloc)?;
-    let stored = read_small(alloc, old, state)?;
+    let Rooms { state, mut body } = make_rooms(alloc, Layout::Small, Layout::Small)?;
+    let stored = read_stored(alloc, old, state)?;
     write_large(new, &stored, &mut body)
-}
-
-/// The room of a migration: for a small state, and its image.
-#[derive(Drop)]
-struct Rooms<A: Allocator> {
-    state: State<A>,
-    body: Vec<u8, A>,
-}
-
-fn make_rooms<A: Allocator + Copy>(alloc: A) -> Result<Rooms<A>, MigrateFault>
-    ensures state { IfOk result (λ rooms. rooms.state ≡ (opened Small).state) }
-    ensures body { IfOk result (λ rooms.
-        length rooms.body.items ≡ 12 + greatest_image Two Small) }
-    ensures fault { IfErr result (λ fault. fault ≡ why.Memory) }
-{
-    let Ok(state) = State::new(alloc, Layout::Small) else {
-        return Err(MigrateFault::Memory);
-    };
-    let Ok(body) = vec![in alloc; 0u8; body_len(Layout::Small)] else {
-        return Err(MigrateFault::Memory);
-    };
-    Ok(Rooms { state, body })
-}
-
-/// The state that a small store holds, which is made in a new one.
-fn read_small<D: RunDisk, A: Allocator + Copy>(
-    alloc: A,
-    old: &mut D,
-    state: State<A>,
-) -> Result<State<A>, MigrateFault>
-    requires new { state ≡ (opened Small).state }
-    requires size { (D.state old.old).size ≡ store_len Small }
-    ensures found { IfOk result (λ p. HasReadSmall p (D.state old.old) (D.state old.new)) }
-    ensures layout { IfOk result (λ p. HasLayout p Small) }
-    ensures none { IfErr result (λ fault. ReadsNot D.state old.old fault old.new) }
-{
-    let (_stored, state) = match read_state(alloc, old, state) {
-        Ok(read) => read,
-        Err(fault) => return Err(of_old(fault)),
-    };
-    if state.count() >= 1 << 62 {
-        return Err(MigrateFault::Old(Fault::NumbersSpent));
-    }
-    Ok(state)
-}
-
-/// What a migration tells of a fault of the old disk's recovery.
-pub fn of_old(fault: Fault) -> MigrateFault
-    ensures { result ≡ of_old fault }
-{
-    match fault {
-        Fault::Memory => MigrateFault::Memory,
-        fault => MigrateFault::Old(fault),
-    }
 }
 
 /// Makes a large store of a small state. The buffer takes the journal's head and an image.

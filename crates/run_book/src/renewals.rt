@@ -5,20 +5,17 @@ ghost use Rattle.std.specs.Prelude.{◌≡◌, ◌≤◌, ◌<◌, ◌+◌, ◌^
 ghost use Rattle.std.specs.Prelude.{OnOk, OnErr};
 ghost use Rattle.run_model.specs.declared.faults.Fault.TheVariants.{DiskFailed};
 ghost use Rattle.run_model.specs.Layouts.{store_len};
-ghost use Rattle.run_model.specs.Session.{opened};
 ghost use Rattle.record_view.specs.declared.heads.ImageVersion.TheVariants.{Two};
 ghost use Rattle.record_view.specs.Image.{greatest_image, image};
 ghost use Rattle.record_view.specs.Keeping.{IsImage};
 ghost use Rattle.state_renewal.specs.Marks.{AreMarks};
 ghost use Rattle.state_renewal.specs.Renewed.{fits_in, renewed, renewed_in};
 ghost use Rattle.book_model.specs.declared.migrations.MigrateFault.TheVariants as why;
-ghost use Rattle.book_model.specs.Migrations.{HasReadSmall, ReadsNot};
 ghost use Rattle.run_book.specs.Renewals.{HasFailedRenewed, HasRenewed, HasWrittenRenewed, Renews};
 ghost use Rattle.run_book.specs.Renewals.{RenewsNot, WritesNot};
 
+use crate::copies::{Rooms, make_rooms, read_stored};
 use crate::images::HEAD;
-use crate::migrations::of_old;
-use crate::openings::{body_len, read_state};
 use book_model::MigrateFault;
 use run_disk::RunDisk;
 use run_journal::Journal;
@@ -77,53 +74,6 @@ fn renew_sized<D: RunDisk, E: RunDisk, A: Allocator + Copy>(
     let Rooms { state, mut body } = make_rooms(alloc, from, to)?;
     let stored = read_stored(alloc, old, state)?;
     write_left(alloc, new, &stored, to, &mut body)
-}
-
-/// The room of a renewal: for the old state, and an image of the new one.
-#[derive(Drop)]
-struct Rooms<A: Allocator> {
-    state: State<A>,
-    body: Vec<u8, A>,
-}
-
-fn make_rooms<A: Allocator + Copy>(
-    alloc: A,
-    from: Layout,
-    to: Layout,
-) -> Result<Rooms<A>, MigrateFault>
-    ensures state { IfOk result (λ rooms. rooms.state ≡ (opened from).state) }
-    ensures body { IfOk result (λ rooms.
-        length rooms.body.items ≡ 12 + greatest_image Two to) }
-    ensures fault { IfErr result (λ fault. fault ≡ why.Memory) }
-{
-    let Ok(state) = State::new(alloc, from) else {
-        return Err(MigrateFault::Memory);
-    };
-    let Ok(body) = vec![in alloc; 0u8; body_len(to)] else {
-        return Err(MigrateFault::Memory);
-    };
-    Ok(Rooms { state, body })
-}
-
-/// The state that a store holds, which is made in a new one of its layout.
-fn read_stored<D: RunDisk, A: Allocator + Copy>(
-    alloc: A,
-    old: &mut D,
-    state: State<A>,
-) -> Result<State<A>, MigrateFault>
-    requires new { state ≡ (opened state.tree.layout).state }
-    requires size { (D.state old.old).size ≡ store_len state.tree.layout }
-    ensures found { IfOk result (λ p. HasReadSmall p (D.state old.old) (D.state old.new)) }
-    ensures none { IfErr result (λ fault. ReadsNot D.state old.old fault old.new) }
-{
-    let (_stored, state) = match read_state(alloc, old, state) {
-        Ok(read) => read,
-        Err(fault) => return Err(of_old(fault)),
-    };
-    if state.count() >= 1 << 62 {
-        return Err(MigrateFault::Old(Fault::NumbersSpent));
-    }
-    Ok(state)
 }
 
 /// Makes a store of what is left of a state. The buffer takes the journal's head and an image.

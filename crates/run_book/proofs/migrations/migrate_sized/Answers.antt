@@ -1,22 +1,37 @@
+use Rattle.std.proofs.Common.{subst}
+use Rattle.run_model.specs.declared.layouts.Layout.TheVariants.{Small}
+use Rattle.run_model.specs.Rules.{HasLayout}
+use Rattle.run_model.specs.State.{State}
+use Rattle.run_book.proofs.Renewing.{new_size, new_state}
 use Rattle.run_book.proofs.Migrating.{written_done, written_not}
 use Rattle.run_book.proofs.migrations.migrate_sized.Goals as goal
 
+pub read_stored-requires-clause-new : goal.read_stored-requires-clause-new
+read_stored-requires-clause-new g c =
+    new_state Small _ c.in_ok-state.ensures.state
+
+pub read_stored-requires-clause-size : goal.read_stored-requires-clause-size
+read_stored-requires-clause-size g c =
+    new_size Small _ _ c.in_ok-state.ensures.state c.requires.sized.small
+
 pub write_large-requires-clause-layout : goal.write_large-requires-clause-layout
-write_large-requires-clause-layout g c = c.in_ok-stored.ensures.layout
+write_large-requires-clause-layout g c =
+    subst (λ (q : State). HasLayout c.in_ok-stored.stored q.tree.layout)
+    c.in_ok-state.ensures.state c.in_ok-stored.ensures.layout
 
 pub write_large-requires-clause-few : goal.write_large-requires-clause-few
 write_large-requires-clause-few g c = c.in_ok-stored.ensures.found.few
 
 pub returns-clause-migrated : goal.returns-clause-migrated
 returns-clause-migrated g c =
-    written_done (g.D.RunDisk.state c.args.old.now) (g.D.RunDisk.state c.read_small.new.old)
+    written_done (g.D.RunDisk.state c.args.old.now) (g.D.RunDisk.state c.read_stored.new.old)
     (g.E.RunDisk.state c.args.new.now) (g.E.RunDisk.state c.write_large.new.new)
     c.write_large.result c.in_ok-stored.stored c.requires.sized c.in_ok-stored.ensures.found
     c.write_large.ensures.written
 
 pub returns-clause-not : goal.returns-clause-not
 returns-clause-not g c =
-    written_not g.D.RunDisk.state g.E.RunDisk.state c.args.old.now c.read_small.new.old
+    written_not g.D.RunDisk.state g.E.RunDisk.state c.args.old.now c.read_stored.new.old
     c.args.new.now c.write_large.new.new c.write_large.result c.in_ok-stored.stored
     c.requires.sized c.in_ok-stored.ensures.found c.write_large.ensures.fault
     c.write_large.ensures.failed

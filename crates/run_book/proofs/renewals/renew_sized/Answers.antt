@@ -1,5 +1,12 @@
-use Rattle.run_book.proofs.Renewing.{written_done, written_not}
+use Rattle.run_book.proofs.Renewing.{new_size, new_state, written_done, written_not}
 use Rattle.run_book.proofs.renewals.renew_sized.Goals as goal
+
+pub read_stored-requires-clause-new : goal.read_stored-requires-clause-new
+read_stored-requires-clause-new g c = new_state c.args.from _ c.in_ok-state.ensures.state
+
+pub read_stored-requires-clause-size : goal.read_stored-requires-clause-size
+read_stored-requires-clause-size g c =
+    new_size c.args.from _ _ c.in_ok-state.ensures.state c.requires.from
 
 pub returns-clause-renewed : goal.returns-clause-renewed
 returns-clause-renewed g c =

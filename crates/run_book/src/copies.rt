@@ -1,0 +1,78 @@
+//! What a migration and a renewal begin with, which both make a store of another: room, and the
+//! state that the old disk stores.
+
+ghost use Rattle.std.specs.Prelude.{◌≡◌, ◌+◌, length, IfOk, IfErr};
+ghost use Rattle.run_model.specs.Layouts.{store_len};
+ghost use Rattle.run_model.specs.Rules.{HasLayout};
+ghost use Rattle.run_model.specs.Session.{opened};
+ghost use Rattle.record_view.specs.declared.heads.ImageVersion.TheVariants.{Two};
+ghost use Rattle.record_view.specs.Image.{greatest_image};
+ghost use Rattle.book_model.specs.declared.migrations.MigrateFault.TheVariants as why;
+ghost use Rattle.book_model.specs.Migrations.{HasReadSmall, ReadsNot};
+ghost use Rattle.run_book.specs.Migrating.{of_old};
+
+use crate::openings::{body_len, read_state};
+use book_model::MigrateFault;
+use run_disk::RunDisk;
+use run_model::{Fault, Layout};
+use run_state::State;
+use std::alloc::Allocator;
+
+/// The room of a copy: for the old state, and an image of the new one.
+#[derive(Drop)]
+pub struct Rooms<A: Allocator> {
+    pub state: State<A>,
+    pub body: Vec<u8, A>,
+}
+
+/// Takes the room of a copy, to a store of the second layout from one of the first.
+pub fn make_rooms<A: Allocator + Copy>(
+    alloc: A,
+    from: Layout,
+    to: Layout,
+) -> Result<Rooms<A>, MigrateFault>
+    ensures state { IfOk result (λ rooms. rooms.state ≡ (opened from).state) }
+    ensures body { IfOk result (λ rooms.
+        length rooms.body.items ≡ 12 + greatest_image Two to) }
+    ensures fault { IfErr result (λ fault. fault ≡ why.Memory) }
+{
+    let Ok(state) = State::new(alloc, from) else {
+        return Err(MigrateFault::Memory);
+    };
+    let Ok(body) = vec![in alloc; 0u8; body_len(to)] else {
+        return Err(MigrateFault::Memory);
+    };
+    Ok(Rooms { state, body })
+}
+
+/// The state that a store holds, which is made in a new one of its layout.
+pub fn read_stored<D: RunDisk, A: Allocator + Copy>(
+    alloc: A,
+    old: &mut D,
+    state: State<A>,
+) -> Result<State<A>, MigrateFault>
+    requires new { state ≡ (opened state.tree.layout).state }
+    requires size { (D.state old.old).size ≡ store_len state.tree.layout }
+    ensures found { IfOk result (λ p. HasReadSmall p (D.state old.old) (D.state old.new)) }
+    ensures layout { IfOk result (λ p. HasLayout p state.tree.layout) }
+    ensures none { IfErr result (λ fault. ReadsNot D.state old.old fault old.new) }
+{
+    let (_stored, state) = match read_state(alloc, old, state) {
+        Ok(read) => read,
+        Err(fault) => return Err(of_old(fault)),
+    };
+    if state.count() >= 1 << 62 {
+        return Err(MigrateFault::Old(Fault::NumbersSpent));
+    }
+    Ok(state)
+}
+
+/// What a copy tells of a fault of the old disk's recovery.
+fn of_old(fault: Fault) -> MigrateFault
+    ensures { result ≡ of_old fault }
+{
+    match fault {
+        Fault::Memory => MigrateFault::Memory,
+        fault => MigrateFault::Old(fault),
+    }
+}
