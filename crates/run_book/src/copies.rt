@@ -36,10 +36,10 @@ pub fn make_rooms<A: Allocator + Copy>(
         length rooms.body.items ≡ 12 + greatest_image Two to) }
     ensures fault { IfErr result (λ fault. fault ≡ why.Memory) }
 {
-    let Ok(state) = State::new(alloc, from) else {
+    let Ok(body) = vec![in alloc; 0u8; body_len(to)] else {
         return Err(MigrateFault::Memory);
     };
-    let Ok(body) = vec![in alloc; 0u8; body_len(to)] else {
+    let Ok(state) = State::new(alloc, from) else {
         return Err(MigrateFault::Memory);
     };
     Ok(Rooms { state, body })
