@@ -15,3 +15,8 @@ pub fn done<T, E: Drop>(rt: &impl Abort, it: Result<T, E>, what: &str) -> T {
 pub fn holds(rt: &impl Abort, it: bool, what: &str, row: usize) {
     assert!(rt; it, "{what}, {row}");
 }
+
+/// Asserts that something holds. The message names it, and a number of it.
+pub fn holds_at(rt: &impl Abort, it: bool, what: &str, number: u64) {
+    assert!(rt; it, "{what} {number}");
+}
