@@ -85,24 +85,6 @@ past_hits count clock rows rules s row hit found has =
       cancels = group_cancels row.kind hit.reason hit.moment fits.own;
     }
 
--- The rows that were read are those of a sound tree.
-pub read_sound : (layout : Layout) (count clock now n : ℕ) (first rows : List Scope)
-    (bytes rest : List ℕ) → first ≡ root ∷ []
-    → more_rows_at count clock n first bytes ≡ Some (rows, rest) → n < most_scopes layout
-    → now ≡ clock → AreSound (tree_of layout now rows)
-read_sound layout count clock now n first rows bytes rest is read few same =
-    let are = more_are count clock n (root ∷ []) bytes (rows, rest) (rules_at_first count clock)
-    (ap (λ f. more_rows_at count clock n f bytes) (sym is) ∙ read) in
-    let size : length rows ≡ 1 + n =
-    ap (λ r. length r) are.all ∙ length-append (root ∷ []) are.more
-    ∙ ap (λ m. 1 + m) are.many in
-    record {
-      few = omega (arith, size, few);
-      rooted = record { first = are.rules.rooted; alone = are.rules.alone };
-      ordered = are.rules.ordered;
-      hits = subst (λ c. ArePastHits c rows) (sym same) (past_hits count clock rows are.rules);
-    }
-
 pub no_moment : (layout : Layout) (head : ImageHead) (bytes : List ℕ)
     → (head.clock ≤ GREATEST_MOMENT → ⊥) → tree_at layout head bytes ≡ None
 unfolding tree_at
@@ -188,6 +170,18 @@ tree_takes layout head bytes t rest e =
       kept = subst AreAllKept behind are.kept;
       spelled = subst (λ r. bytes ≡ flat_map scope_bytes r ++ rows.0.1) behind are.spelled;
     })
+
+-- What is read is a sound tree.
+pub tree_sound : (layout : Layout) (head : ImageHead) (bytes : List ℕ) (t : TreeState)
+    (rest : List ℕ) → tree_at layout head bytes ≡ Some (t, rest) → AreSound t
+tree_sound layout head bytes t rest e =
+    let rules = (tree_takes layout head bytes t rest e).rules in
+    record {
+      few = rules.few;
+      rooted = record { first = rules.rows.rooted; alone = rules.rows.alone };
+      ordered = rules.rows.ordered;
+      hits = past_hits head.count t.clock t.scopes rules.rows;
+    }
 
 pub tree_again : (layout : Layout) (head : ImageHead) (bytes : List ℕ) (t : TreeState)
     (rest : List ℕ) → AreTreeRows layout head bytes t rest

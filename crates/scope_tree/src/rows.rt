@@ -3,8 +3,11 @@
 ghost use Rattle.std.specs.List.{flat_map, AllByRecursion};
 ghost use Rattle.std.specs.Option.{option_map, option_map_or};
 ghost use Rattle.std.specs.Prelude.{◌≡◌, ◌≤◌, ◌+◌, ◌*◌, Some, None, length, vec_len, vec_capacity};
+ghost use Rattle.std.specs.Prelude.{[], ◌∷◌};
 ghost use Rattle.std.specs.Prelude.{IfSome, IfNone, IsTrue, nat_le, false};
 ghost use Rattle.run_model.specs.declared.bounds.TheConstants.{MOST_SCOPES};
+ghost use Rattle.run_model.specs.Layouts.{most_scopes};
+ghost use Rattle.run_model.specs.Rows.{root};
 ghost use Rattle.run_model.specs.Rules.{can_be_hit};
 ghost use Rattle.record_view.specs.Image.{scope_bytes, is_kept_scope, is_kept_hit};
 ghost use Rattle.record_view.specs.RowViews.{scope_of, hit_of};
@@ -13,7 +16,7 @@ ghost use Rattle.scope_tree.specs.Deadlines.{AreWaiting};
 ghost use Rattle.scope_tree.specs.Links.{AreFound};
 ghost use Rattle.scope_tree.specs.Names.{names_of, AreNamed};
 ghost use Rattle.scope_tree.specs.TreeRows.{AreWritable, can_follow, hit_fits, more_rows_at};
-ghost use Rattle.scope_tree.specs.TreeRows.{reason_fits};
+ghost use Rattle.scope_tree.specs.TreeRows.{reason_fits, tree_at};
 
 use crate::chains::Chains;
 use crate::changes::push_row;
@@ -22,7 +25,7 @@ use crate::names::place_of;
 use arrayvec::ArrayVec;
 use record_view::copies::{moment_of, name_copy, text_copy};
 use record_view::{HitView, ImageHead, ScopeRow, put_scope, read_scope, scope_row};
-use run_model::{Hit, Kind, MOST_SCOPES, Moment, Reason, Scope};
+use run_model::{Hit, Kind, Layout, MOST_SCOPES, Moment, Reason, Scope};
 use std::alloc::Allocator;
 
 /// Puts the rows at a place, one behind the other, and gives the place behind them.
@@ -41,9 +44,45 @@ pub fn put_rows(rows: &[Scope], out: &mut [u8], at: usize) -> usize
     end
 }
 
+/// Reads the rows of a tree of this layout behind root's, and gives its clock and the bytes behind
+/// its rows; `None` where the bytes begin with the rows of no such tree.
+pub fn read_behind_root<'a, A: Allocator>(
+    layout: Layout,
+    scopes: &mut Vec<Scope, A>,
+    names: &mut Chains<A>,
+    links: &mut Chains<A>,
+    due: &mut ArrayVec<u16, MOST_SCOPES>,
+    head: &ImageHead,
+    bytes: &'a [u8],
+) -> Option<(Moment, &'a [u8])>
+    requires room { vec_capacity scopes.old ≡ most_scopes layout }
+    requires root { scopes.old.items ≡ root ∷ [] }
+    requires found { AreFound scopes.old.items (vec_capacity scopes.old) names.old links.old }
+    requires waiting { AreWaiting scopes.old.items due.old.items }
+    ensures read { IfSome result (λ x. tree_at layout head.now bytes.now ≡ Some (
+      record {
+        layout = layout;
+        clock = x.0;
+        scopes = scopes.new.items;
+      },
+      x.1.now,
+    )) }
+    ensures none { IfNone result (tree_at layout head.now bytes.now ≡ None) }
+    ensures capacity { vec_capacity scopes.new ≡ vec_capacity scopes.old }
+    ensures found { AreFound scopes.new.items (vec_capacity scopes.new) names.new links.new }
+    ensures waiting { AreWaiting scopes.new.items due.new.items }
+{
+    let clock = Moment::new(head.clock)?;
+    if layout.most_scopes() <= head.scopes as usize {
+        return None;
+    }
+    let rest = read_more(scopes, names, links, due, head, bytes)?;
+    Some((clock, rest))
+}
+
 /// Reads so many rows behind those that there are; `None` where the bytes don't begin with them, or
 /// one of them can't follow.
-pub fn read_more<'a, A: Allocator>(
+fn read_more<'a, A: Allocator>(
     scopes: &mut Vec<Scope, A>,
     names: &mut Chains<A>,
     links: &mut Chains<A>,
