@@ -1,9 +1,8 @@
 -- What the test of a cancel answers, by what it finds.
-use Rattle.std.proofs.Common.{◌≡◌, ◌⊎◌, ◌&&◌, ◌∙◌, ℕ, Bool, true, false, not, List, [], ◌∷◌, length}
-use Rattle.std.proofs.Common.{Option, Some, None, Result, is_some, slice_get, get_or, ltb}
-use Rattle.std.proofs.Common.{inl, inr, refl, sym, ap, subst}
-use Rattle.std.specs.Borrow.{Bor}
-use Rattle.std.specs.Option.{option_copied, option_map_or}
+use Rattle.std.proofs.Common.{◌≡◌, ◌&&◌, ◌∙◌, ℕ, Bool, true, false, not, List, [], ◌∷◌, length}
+use Rattle.std.proofs.Common.{Option, Some, Result, is_some, slice_get, get_or, ltb}
+use Rattle.std.proofs.Common.{refl, sym, ap, subst}
+use Rattle.std.specs.Option.{option_map_or}
 use Rattle.std.proofs.lemmas.Bool.{ltb-true}
 use Rattle.std.proofs.lemmas.Option.{slice_get_read}
 use Rattle.run_model.specs.declared.scopes.Scope.{Scope}
@@ -14,14 +13,6 @@ use Rattle.run_model.specs.Event.{Cancel}
 use Rattle.run_model.specs.Scopes.{is_done}
 use Rattle.run_model.specs.State.{TreeState}
 use Rattle.scope_tree.specs.Checks.{Answers}
-
--- a cause that is taken, and none
-pub taken : {T : Type 0} (cause : Option (Bor T)) (takes : Bool)
-    → (is_some cause ≡ false) ⊎ (takes ≡ true)
-    → (is_some (option_copied cause) && not takes) ≡ false
-taken None takes either = refl
-taken (Some text) takes (inl none) = absurd (cc none)
-taken (Some text) takes (inr is) = ap not is
 
 -- the answer of four tests in a row
 told : (answer : Result (Unit {0}) Refusal) (known fit untaken done : Bool)

@@ -1,7 +1,7 @@
 //! Kinds: one is made of its view, and what follows from it alone.
 
 ghost use Rattle.std.specs.Option.{option_copied};
-ghost use Rattle.std.specs.Prelude.{◌≡◌, IfSome, IsTrue};
+ghost use Rattle.std.specs.Prelude.{◌≡◌, ◌&&◌, IfSome, IsTrue, is_some, not};
 ghost use Rattle.run_model.specs.Allowed.{is_cancellable, takes_cause};
 ghost use Rattle.run_model.specs.Scopes.{is_root, is_detached, own_deadline, text_under};
 ghost use Rattle.run_model.specs.Texts.{IsText};
@@ -50,11 +50,11 @@ pub fn is_cancellable(kind: &Kind) -> bool
     matches!(kind, Kind::Cancel | Kind::Cause | Kind::Deadline(_, _))
 }
 
-/// Says whether a scope of this kind records a cause that a command gives.
-pub fn takes_cause(kind: &Kind) -> bool
-    ensures { result ≡ takes_cause kind.now }
+/// Says whether a cause is given that a scope of this kind doesn't record.
+pub fn refuses_cause(kind: &Kind, cause: Option<&[u8]>) -> bool
+    ensures { result ≡ (is_some (option_copied cause.entry) && not (takes_cause kind.now)) }
 {
-    matches!(kind, Kind::Cause)
+    cause.is_some() && !matches!(kind, Kind::Cause)
 }
 
 /// The deadline that a scope of this kind has by itself.
