@@ -16,6 +16,7 @@ pub mod Naming
 pub mod Nearing
 pub mod Passing
 pub mod Reaching
+pub mod Rooting
 pub mod RowLoops
 pub mod Searching
 pub mod Sounding

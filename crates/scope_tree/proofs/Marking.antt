@@ -1,8 +1,10 @@
 -- The mark of a scope, from its parent's and its own hit.
 use Rattle.std.proofs.Common.{◌≡◌, ◌<◌, ℕ, zero, suc, Bool, true, false, cond, List, [], ◌∷◌}
-use Rattle.std.proofs.Common.{length, Option, Some, None}
+use Rattle.std.proofs.Common.{◌+◌, ◌++◌, length, Option, Some, None, inl, inr}
 use Rattle.std.proofs.Common.{slice_get, refl, sym, subst, ap, ◌∙◌, arith}
 use Rattle.std.specs.Option.{option_map, option_map_or, IfSome}
+use Rattle.std.proofs.lemmas.Bool.{cases_lt}
+use Rattle.std.proofs.lemmas.List.{get_or_append_left, get_or_push}
 use Rattle.std.proofs.lemmas.Option.{none-some, slice_get_within, option_and_then_some}
 use Rattle.run_model.specs.declared.scopes.Hit.{Hit}
 use Rattle.run_model.specs.declared.scopes.Scope.{Scope}
@@ -164,6 +166,19 @@ all_marked rows marks same below = record {
   same = same;
   right = λ s known. subst (IsMark rows s) (sym (below s known)) (first_is_mark rows s);
 }
+
+-- One mark more.
+pub marked_more : (rows : List Scope) (marks new : List (Option ℕ)) (s : ℕ) (mark : Option ℕ)
+    → new ≡ marks ++ mark ∷ [] → length marks ≡ s → mark ≡ first_mark rows s
+    → AreMarkedBelow rows marks s → AreMarkedBelow rows new (s + 1)
+marked_more rows marks new s mark pushed same made below t less = elim (cases_lt t s) [
+  | inl old ↦ ap (λ l. mark_of l t) pushed
+      ∙ get_or_append_left marks (mark ∷ []) None t (omega (arith, old, same)) ∙ below t old
+  | inr more ↦ (let last : t ≡ s = omega (arith, less, more) in
+      subst (λ k. mark_of new k ≡ first_mark rows k) (sym last)
+      (ap (λ l. mark_of l s) pushed
+      ∙ get_or_push marks mark None s (omega (arith, same)) ∙ made))
+]
 
 -- ---- root alone
 

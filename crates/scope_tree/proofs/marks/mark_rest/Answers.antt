@@ -1,6 +1,23 @@
-use Rattle.std.proofs.Common.{◌≡◌, length, arith}
-use Rattle.scope_tree.proofs.Marking.{all_marked}
+use Rattle.std.proofs.Common.{◌≡◌, length, refl, sym, ◌∙◌, arith}
+use Rattle.scope_tree.proofs.Marking.{all_marked, marked_more}
 use Rattle.scope_tree.proofs.marks.mark_rest.Goals as goal
+
+pub loop-s-init : goal.loop-s-init
+loop-s-init g c = record {
+  same = sym c.len-s.ensures;
+  below = λ t less. c.requires.below t (omega (arith, less, c.len-s.ensures));
+  capacity = refl;
+}
+
+pub loop-s-preserved : goal.loop-s-preserved
+loop-s-preserved g c = record {
+  same = omega (arith, c.push_reserved.ensures.len, c.loop-s.invariant.same);
+  below = marked_more c.args.scopes.now c.loop-s.marks.items c.push_reserved.new.self.items
+      c.loop-s.s c.first_mark-mark.result c.push_reserved.ensures.items
+      (sym c.loop-s.marks.ok.0 ∙ c.loop-s.invariant.same) c.first_mark-mark.ensures
+      c.loop-s.invariant.below;
+  capacity = c.push_reserved.ensures.capacity ∙ c.loop-s.invariant.capacity;
+}
 
 pub returns-clause-marked : goal.returns-clause-marked
 returns-clause-marked g c =
