@@ -1,9 +1,10 @@
 -- What the test of a cancel answers, by what it finds.
+use Rattle.std.proofs.Common.{◌<◌, if◌then◌else◌, is_none, None, Ok, Err, Some}
 use Rattle.std.proofs.Common.{◌≡◌, ◌&&◌, ◌∙◌, ℕ, Bool, true, false, not, List, [], ◌∷◌, length}
 use Rattle.std.proofs.Common.{Option, Some, Result, is_some, slice_get, get_or, ltb}
 use Rattle.std.proofs.Common.{refl, sym, ap, subst}
 use Rattle.std.specs.Option.{option_map_or}
-use Rattle.std.proofs.lemmas.Bool.{ltb-true}
+use Rattle.std.proofs.lemmas.Bool.{lt-ltb, ltb-true}
 use Rattle.std.proofs.lemmas.Option.{slice_get_read}
 use Rattle.run_model.specs.declared.scopes.Scope.{Scope}
 use Rattle.run_model.specs.declared.refusals.Refusal.{Refusal}
@@ -11,8 +12,30 @@ use Rattle.run_model.specs.declared.refusals.Refusal.TheVariants as refusal
 use Rattle.run_model.specs.Allowed.{has_row, is_cancellable, takes_cause, tested}
 use Rattle.run_model.specs.Event.{Cancel}
 use Rattle.run_model.specs.Scopes.{is_done}
-use Rattle.run_model.specs.State.{TreeState}
+use Rattle.run_model.specs.State.{TreeState, scope_named}
 use Rattle.scope_tree.specs.Checks.{Answers}
+
+-- the answer of one test
+pub one_told : (holds is : Bool) (why : Refusal) → is ≡ holds
+    → (if holds then Err why else Ok tt) ≡ tested ((is, why) ∷ [])
+one_told holds is why same = rw same refl
+
+-- the answer of a name's test under a parent that is there
+pub name_told : (t : TreeState) (name : List ℕ) (parent : ℕ) (taken : Bool)
+    → parent < length t.scopes → is_some (scope_named t name) ≡ taken
+    → (if taken then Err refusal.NameTaken else Ok tt)
+    ≡ tested ((not (has_row t.scopes parent), refusal.NoSuchScope)
+    ∷ (not (is_none (scope_named t name)), refusal.NameTaken) ∷ [])
+name_told t name parent taken known is =
+    rw (lt-ltb parent (length t.scopes) known) (by (scope_named t name) taken is)
+  where
+    by : (found : Option ℕ) (b : Bool) → is_some found ≡ b
+        → (if b then Err refusal.NameTaken else Ok tt)
+        ≡ tested ((not (is_none found), refusal.NameTaken) ∷ [])
+    by None true is = absurd cc
+    by None false is = refl
+    by (Some n) true is = refl
+    by (Some n) false is = absurd cc
 
 -- the answer of four tests in a row
 told : (answer : Result (Unit {0}) Refusal) (known fit untaken done : Bool)

@@ -15,3 +15,6 @@ returns-clause-again g c =
     rw c.cancel_scope.ensures.tree
     (alike_again c.args.self.now c.args.event c.args.s (option_copied c.args.error) c.requires.group
     c.requires.later)
+
+pub returns-clause-tree : goal.returns-clause-tree
+returns-clause-tree g c = c.cancel_scope.ensures.tree

@@ -92,3 +92,6 @@ invariant_of-self g c =
     (c.in-Some.ensures.capacity ∙ c.self.invariant.scope_room)
     (c.mark_rest.ensures.capacity ∙ c.self.invariant.mark_room)
     (c.reach_rest.ensures.capacity ∙ c.self.invariant.reach_room)
+
+pub returns-clause-read : goal.returns-clause-read
+returns-clause-read g c = rw (← c.self.view_is) c.in-Some.ensures.read
