@@ -1,6 +1,5 @@
 -- Words that the proofs use beside those of the definitions.
-use Rattle.std.specs.Prelude.{◌≡◌, ◌++◌, ◌∷◌, [], ◌&&◌, ℕ, Bool, false, not, List, Option, None}
-use Rattle.std.specs.Prelude.{Some}
+use Rattle.std.specs.Prelude.{◌≡◌, ◌++◌, ◌∷◌, [], ◌&&◌, ℕ, Bool, false, List, Option}
 use Rattle.std.specs.Prelude.{find, length, slice_get}
 use Rattle.std.specs.List.{range_with_len}
 use Rattle.std.specs.Option.{option_and_then, option_map, option_map_or}
@@ -43,11 +42,6 @@ first_ready w = find (is_ready w) (range_with_len 0 (length w.tasks))
 abbrev pub phase_of : Work → ℕ → Option Phase
 phase_of w n =
     option_map (λ task. phase_by (is_admitted w n task) task.stage) (slice_get w.tasks n)
-
--- The group was not waited for.
-abbrev pub is_open : Option Group → Bool
-is_open None = false
-is_open (Some group) = not group.waited
 
 -- ---- changes
 

@@ -1,6 +1,7 @@
 -- The rows of groups and tasks.
 use Rattle.std.specs.Prelude.{◌≡◌, ◌<◌, ◌≤◌, ◌++◌, ◌∷◌, [], ℕ, true, List, length, Option, Some}
 use Rattle.std.specs.Prelude.{slice_get}
+use Rattle.std.specs.Option.{IfSome}
 use Rattle.run_model.specs.declared.bounds.TheConstants.{MOST_GROUPS}
 use Rattle.run_model.specs.declared.tasks.Task.{Task}
 use Rattle.run_model.specs.Layouts.{most_tasks}
@@ -13,6 +14,13 @@ use Rattle.task_group.specs.Held.{fits_limit}
 abbrev pub submitted : ℕ → List ℕ → List ℕ → Option ℕ → WorkState → WorkState
 submitted g job argument tried w =
     record w { tasks = w.tasks ++ new_task g job argument tried ∷ [] }
+
+-- A task has a place behind these rows: its group is there, and the task that it is a retry of, and
+-- there is room for it.
+pub record HasPlace (w : WorkState) (row : Task) : Type 0 where
+  pub known : row.group < length w.groups
+  pub link : IfSome row.retry_of (λ m. m < length w.tasks)
+  pub room : length w.tasks < most_tasks w.layout
 
 -- The rows are few, each task's group is there, and each running task fits its group's limit.
 pub record IsSound (w : WorkState) : Type 0 where

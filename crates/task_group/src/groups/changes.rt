@@ -1,14 +1,14 @@
 //! What changes groups and tasks. Each change has as its condition what its test asks for.
 
 ghost use Rattle.std.specs.Prelude.{◌≡◌, ◌<◌, ◌≤◌, ◌+◌, ◌++◌, false, fold, length, is_some, IsTrue};
-ghost use Rattle.std.specs.Prelude.{◌==◌, ◌&&◌, Some, not, is_none};
+ghost use Rattle.std.specs.Prelude.{◌==◌, ◌&&◌, ◌∷◌, [], true, Some, not, is_none};
 ghost use Rattle.std.specs.Option.{IfSome, option_copied, option_to_list};
 ghost use Rattle.run_model.specs.declared.bounds.TheConstants.{MOST_GROUPS};
 ghost use Rattle.run_model.specs.declared.tasks.Phase.TheVariants.{Ready};
 ghost use Rattle.run_model.specs.Allowed.{is_open, has_room};
 ghost use Rattle.run_model.specs.Layouts.{most_tasks};
 ghost use Rattle.run_model.specs.Step.{own_scope};
-ghost use Rattle.run_model.specs.Tasks.{first_ready, is_unfinished, phase_of};
+ghost use Rattle.run_model.specs.Tasks.{first_ready, is_fresh, is_unfinished, phase_of};
 ghost use Rattle.run_model.specs.Tasks.{is_retried, running_tasks, has_stage, is_running};
 ghost use Rattle.run_model.specs.Tasks.{is_interrupted, unfinished_in, admits, limit_of};
 ghost use Rattle.run_model.specs.Texts.{IsName, IsText};
@@ -21,7 +21,7 @@ ghost use Rattle.task_group.specs.Admitting.{AdmitsOldest, phase_new};
 ghost use Rattle.task_group.specs.Lasting.{EndsStay};
 ghost use Rattle.task_group.specs.Outcomes.{outcome_with};
 ghost use Rattle.task_group.specs.Restarting.{RestartsTasks};
-ghost use Rattle.task_group.specs.Rows.{submitted};
+ghost use Rattle.task_group.specs.Rows.{HasPlace, submitted};
 ghost use Rattle.task_group.specs.Told.{told_by_end, told_by_restart};
 
 use crate::flags::note_retry;
@@ -206,15 +206,25 @@ impl<A: Allocator> Groups<A> {
         ensures stays { EndsStay self.old self.new }
     {
         let n = self.tasks.len() as u16;
-        let g = group as usize;
-        let row = self.seats[g];
-        let admitted = admits(self.groups[g].limit, row.unfinished as usize);
-        push_task(&mut self.tasks, Task::new(group, job, argument, tried));
-        link(&mut self.next, admitted, row, n);
-        enter(&mut self.seats, g, admitted, n);
-        note_retry(&mut self.retried, tried);
-        self.ready.set(n, admitted);
+        self.take_fresh(Task::new(group, job, argument, tried));
         n
+    }
+
+    /// Appends a task that was not started: it is ready where the limit admits one more, else held.
+    pub(crate) fn take_fresh(&mut self, row: Task)
+        requires fresh { is_fresh row.stage ≡ true }
+        requires place { HasPlace self.old row }
+        ensures { self.new ≡ record self.old { tasks = self.old.tasks ++ row ∷ [] } }
+    {
+        let n = self.tasks.len() as u16;
+        let g = row.group as usize;
+        let seats = self.seats[g];
+        let admitted = admits(self.groups[g].limit, seats.unfinished as usize);
+        link(&mut self.next, admitted, seats, n);
+        enter(&mut self.seats, g, admitted, n);
+        note_retry(&mut self.retried, row.retry_of);
+        self.ready.set(n, admitted);
+        push_task(&mut self.tasks, row);
     }
 
     /// Ends a running task at this stage, with this error or none.

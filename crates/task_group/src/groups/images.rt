@@ -11,7 +11,7 @@ ghost use Rattle.run_model.specs.declared.groups.Group.{Group as GroupOf};
 ghost use Rattle.run_model.specs.Layouts.{most_tasks};
 ghost use Rattle.run_model.specs.Rules.{has_task_error};
 ghost use Rattle.run_model.specs.State.{new_work, WorkState};
-ghost use Rattle.run_model.specs.Tasks.{is_fresh, is_running, is_unfinished, admits, limit_of};
+ghost use Rattle.run_model.specs.Tasks.{is_running, is_unfinished, admits, limit_of};
 ghost use Rattle.run_model.specs.Tasks.{unfinished_in};
 ghost use Rattle.record_view.specs.declared.heads.ImageVersion.TheVariants.{Two};
 ghost use Rattle.record_view.specs.Between.{fits_between};
@@ -20,6 +20,7 @@ ghost use Rattle.record_view.specs.RowReading.{group_row_at, task_at};
 ghost use Rattle.record_view.specs.WorkRows.{AreWorkRows, can_come, each_passes, has_new_name};
 ghost use Rattle.record_view.specs.WorkRows.{has_work_room, is_linked, is_settled, more_at};
 ghost use Rattle.record_view.specs.Writing.{put_at};
+ghost use Rattle.task_group.specs.Rows.{HasPlace};
 
 use super::Groups;
 use crate::between::{fit_scopes, have_groups};
@@ -27,8 +28,8 @@ use crate::flags::note_retry;
 use crate::image_rows::{
     can_retry, group_copy, is_fresh, lost_groups, put_groups, put_tasks, task_copy,
 };
-use crate::rows::{admits, is_running, push_group, push_task};
-use crate::seats::{enter, link, push_none, push_seats};
+use crate::rows::{is_running, push_group, push_task};
+use crate::seats::{enter, push_none, push_seats};
 use record_view::{ImageHead, read_group, read_task};
 use run_model::{Fault, Group, Layout, MOST_GROUPS, Scope, Task};
 use std::alloc::Allocator;
@@ -193,33 +194,12 @@ impl<A: Allocator> Groups<A> {
         }
     }
 
-    /// Appends a task that was not started: it is ready where the limit admits one more, else held.
-    fn take_fresh(&mut self, row: Task)
-        requires fresh { is_fresh row.stage ≡ true }
-        requires known { row.group < length self.old.groups }
-        requires link { IfSome row.retry_of (λ m. m < length self.old.tasks) }
-        requires room { length self.old.tasks < most_tasks self.old.layout }
-        ensures { self.new ≡ record self.old { tasks = self.old.tasks ++ row ∷ [] } }
-    {
-        let n = self.tasks.len() as u16;
-        let g = row.group as usize;
-        let seats = self.seats[g];
-        let admitted = admits(self.groups[g].limit, seats.unfinished as usize);
-        link(&mut self.next, admitted, seats, n);
-        enter(&mut self.seats, g, admitted, n);
-        note_retry(&mut self.retried, row.retry_of);
-        self.ready.set(n, admitted);
-        push_task(&mut self.tasks, row);
-    }
-
     /// Appends a running task, which the limit admits.
     fn take_running(&mut self, row: Task)
         requires running { is_running row.stage ≡ true }
         requires admitted { admits (limit_of self.old row.group)
             (unfinished_in row.group self.old.tasks) ≡ true }
-        requires known { row.group < length self.old.groups }
-        requires link { IfSome row.retry_of (λ m. m < length self.old.tasks) }
-        requires room { length self.old.tasks < most_tasks self.old.layout }
+        requires place { HasPlace self.old row }
         ensures { self.new ≡ record self.old { tasks = self.old.tasks ++ row ∷ [] } }
     {
         let n = self.tasks.len() as u16;
@@ -234,9 +214,7 @@ impl<A: Allocator> Groups<A> {
     /// Appends a task that has ended, which takes no seat.
     fn take_ended(&mut self, row: Task)
         requires ended { is_unfinished row.stage ≡ false }
-        requires known { row.group < length self.old.groups }
-        requires link { IfSome row.retry_of (λ m. m < length self.old.tasks) }
-        requires room { length self.old.tasks < most_tasks self.old.layout }
+        requires place { HasPlace self.old row }
         ensures { self.new ≡ record self.old { tasks = self.old.tasks ++ row ∷ [] } }
     {
         push_none(&mut self.next);

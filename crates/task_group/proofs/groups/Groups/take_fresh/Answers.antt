@@ -1,85 +1,78 @@
-use Rattle.std.proofs.Common.{◌≡◌, ℕ, List, length, refl, sym, subst, ◌∙◌, arith}
+use Rattle.std.proofs.Common.{◌≡◌, ℕ, List, length, refl, sym, subst, arith}
 use Rattle.std.proofs.lemmas.Option.{slice_get_read}
 use Rattle.run_model.specs.declared.tasks.Task.{Task}
-use Rattle.run_model.proofs.LayoutLemmas.{most_tasks_most}
 use Rattle.task_group.specs.Kept.{IsWithin}
 use Rattle.task_group.specs.Sound.{work, AreKept}
 use Rattle.task_group.proofs.Comings.{fresh_comes}
-use Rattle.task_group.proofs.Rooms.{seats_few, last_known}
+use Rattle.task_group.proofs.Rooms.{seat_room, last_known, room_stays}
 use Rattle.task_group.proofs.groups.Groups.take_fresh.Goals as goal
+
+pub index-seats-requires : goal.index-seats-requires
+index-seats-requires g c =
+    rw (c.self.inside.seats.ok.0, c.self.invariant.0.seated.as_groups)
+    (rw (← c.self.view_is) at c.requires.place).known
+
+pub index-requires : goal.index-requires
+index-requires g c =
+    rw c.self.inside.groups.ok.0 (rw (← c.self.view_is) at c.requires.place).known
 
 pub link-requires-clause-known : goal.link-requires-clause-known
 link-requires-clause-known g c =
     let s = c.self.inside in
     let w = work s.layout s.groups.items s.tasks.items in
     let kept = c.self.invariant.0.seated in
-    let known = rw (← c.self.view_is) at c.requires.known in
-    let size = kept.as_groups in
+    let place = rw (← c.self.view_is) at c.requires.place in
     let seats = c.index-seats.result.now in
     let row = slice_get_read s.seats.items (length s.seats.items) c.args.row.group seats refl
-    (omega (arith, known, size)) c.index-seats.ensures in
+    (omega (arith, place.known, kept.as_groups)) c.index-seats.ensures in
     subst (λ (n : ℕ). IsWithin seats.first seats.last n) (sym kept.as_tasks)
     (last_known w c.args.row.group seats (kept.right c.args.row.group seats row))
 
-pub index-seats-requires : goal.index-seats-requires
-index-seats-requires g c =
-    let known = rw (← c.self.view_is) at c.requires.known in
-    rw (c.self.inside.seats.ok.0, c.self.invariant.0.seated.as_groups) known
-
-pub index-requires : goal.index-requires
-index-requires g c =
-    let known = rw (← c.self.view_is) at c.requires.known in
-    rw c.self.inside.groups.ok.0 known
-
 pub link-requires-clause-room : goal.link-requires-clause-room
 link-requires-clause-room g c =
-    let room = rw (← c.self.view_is) at c.requires.room in
     rw (c.self.inside.next.ok.0, c.self.invariant.0.seated.as_tasks, c.self.invariant.1.next_room)
-    room
+    (rw (← c.self.view_is) at c.requires.place).room
 
 pub enter-requires-clause-known : goal.enter-requires-clause-known
 enter-requires-clause-known g c =
-    let known = rw (← c.self.view_is) at c.requires.known in
-    rw (c.self.inside.seats.ok.0, c.self.invariant.0.seated.as_groups) known
-
-pub note_retry-requires-clause-room : goal.note_retry-requires-clause-room
-note_retry-requires-clause-room g c =
-    let room = rw (← c.self.view_is) at c.requires.room in
-    rw (c.self.inside.retried.ok.0, c.self.invariant.0.flagged.same, c.self.invariant.1.flag_room)
-    room
-
-pub note_retry-requires-clause-known : goal.note_retry-requires-clause-known
-note_retry-requires-clause-known g c =
-    let link = rw (← c.self.view_is) at c.requires.link in
-    rw (c.self.inside.retried.ok.0, c.self.invariant.0.flagged.same) link
-
-pub push_task-requires : goal.push_task-requires
-push_task-requires g c =
-    let room = rw (← c.self.view_is) at c.requires.room in
-    rw (c.self.inside.tasks.ok.0, c.self.invariant.1.task_room) room
+    rw (c.self.inside.seats.ok.0, c.self.invariant.0.seated.as_groups)
+    (rw (← c.self.view_is) at c.requires.place).known
 
 pub enter-requires-clause-room : goal.enter-requires-clause-room
 enter-requires-clause-room g c row here =
-    let s = c.self.inside in
-    let w = work s.layout s.groups.items s.tasks.items in
-    let few = seats_few w c.args.row.group row
-    (c.self.invariant.0.seated.right c.args.row.group row here) in
-    let room = rw (← c.self.view_is) at c.requires.room in
-    let most = most_tasks_most s.layout in
-    omega (arith, few, room, most)
+    seat_room c.self.invariant.0 (rw (← c.self.view_is) at c.requires.place) row here
+
+pub note_retry-requires-clause-room : goal.note_retry-requires-clause-room
+note_retry-requires-clause-room g c =
+    rw (c.self.inside.retried.ok.0, c.self.invariant.0.flagged.same, c.self.invariant.1.flag_room)
+    (rw (← c.self.view_is) at c.requires.place).room
+
+pub note_retry-requires-clause-known : goal.note_retry-requires-clause-known
+note_retry-requires-clause-known g c =
+    rw (c.self.inside.retried.ok.0, c.self.invariant.0.flagged.same)
+    (rw (← c.self.view_is) at c.requires.place).link
+
+pub push_task-requires : goal.push_task-requires
+push_task-requires g c =
+    rw (c.self.inside.tasks.ok.0, c.self.invariant.1.task_room)
+    (rw (← c.self.view_is) at c.requires.place).room
+
+pub set-requires : goal.set-requires
+set-requires g c =
+    let place = rw (← c.self.view_is) at c.requires.place in
+    omega (arith, place.room, c.self.invariant.0.queued.size)
 
 pub invariant_of-self : goal.invariant_of-self
 invariant_of-self g c =
     let s = c.self.inside in
     let w = work s.layout s.groups.items s.tasks.items in
     let n : c.len-n.result ≡ length s.tasks.items = omega arith in
-    let known = rw (← c.self.view_is) at c.requires.known in
-    let room = rw (← c.self.view_is) at c.requires.room in
-    let size = c.self.invariant.0.seated.as_groups in
+    let place = rw (← c.self.view_is) at c.requires.place in
     let row = slice_get_read s.seats.items (length s.seats.items) c.args.row.group
-    c.index-seats.result.now refl (omega (arith, known, size)) c.index-seats.ensures in
+    c.index-seats.result.now refl (omega (arith, place.known, c.self.invariant.0.seated.as_groups))
+    c.index-seats.ensures in
     let group = slice_get_read s.groups.items (length s.groups.items) c.args.row.group
-    c.index.result.now refl known c.index.ensures in (
+    c.index.result.now refl place.known c.index.ensures in (
       subst
           (λ (l : List Task).
           AreKept (work s.layout s.groups.items l) c.enter.new.seats.items c.link.new.next.items
@@ -94,13 +87,7 @@ invariant_of-self g c =
           )
           (fresh_comes w c.args.row s.seats.items s.next.items s.ready s.running s.retried.items
           c.index-seats.result.now c.index.result.now c.admits-admitted.result c.requires.fresh
-          c.self.invariant.0 row group room (rw (← c.self.view_is) at c.requires.link)
-          c.admits-admitted.ensures)),
-      record {
-        group_room = c.self.invariant.1.group_room;
-        task_room = c.push_task.ensures.capacity ∙ c.self.invariant.1.task_room;
-        seat_room = c.enter.ensures.capacity ∙ c.self.invariant.1.seat_room;
-        next_room = c.link.ensures.capacity ∙ c.self.invariant.1.next_room;
-        flag_room = c.note_retry.ensures.capacity ∙ c.self.invariant.1.flag_room;
-      },
+          c.self.invariant.0 row group place.room place.link c.admits-admitted.ensures)),
+      room_stays c.self.invariant.1 refl c.push_task.ensures.capacity c.enter.ensures.capacity
+          c.link.ensures.capacity c.note_retry.ensures.capacity,
     )

@@ -1,7 +1,8 @@
-use Rattle.std.proofs.Common.{List, sym, subst, ◌∙◌}
+use Rattle.std.proofs.Common.{List, sym, subst, refl}
 use Rattle.run_model.specs.declared.groups.Group.{Group}
 use Rattle.task_group.specs.Sound.{work, AreKept}
 use Rattle.task_group.proofs.Keeping.{make_keeps}
+use Rattle.task_group.proofs.Rooms.{room_stays}
 use Rattle.task_group.proofs.groups.Groups.take_group.Goals as goal
 
 pub invariant_of-self : goal.invariant_of-self
@@ -17,11 +18,6 @@ invariant_of-self g c =
           (rw c.push_seats.ensures.pushed
           (make_keeps w c.args.row s.seats.items s.next.items s.ready s.running s.retried.items
           room c.self.invariant.0)),
-      record {
-        group_room = c.push_group.ensures.capacity ∙ c.self.invariant.1.group_room;
-        task_room = c.self.invariant.1.task_room;
-        seat_room = c.push_seats.ensures.capacity ∙ c.self.invariant.1.seat_room;
-        next_room = c.self.invariant.1.next_room;
-        flag_room = c.self.invariant.1.flag_room;
-      },
+      room_stays c.self.invariant.1 c.push_group.ensures.capacity refl c.push_seats.ensures.capacity
+          refl refl,
     )

@@ -8,16 +8,14 @@ use Rattle.run_model.specs.declared.layouts.Layout.{Layout}
 use Rattle.run_model.specs.declared.tasks.Stage.{Stage}
 use Rattle.run_model.specs.declared.tasks.Stage.TheVariants as stage
 use Rattle.run_model.specs.declared.tasks.Task.{Task}
+use Rattle.run_model.specs.Layouts.{most_tasks}
+use Rattle.run_model.specs.State.{WorkState}
 use Rattle.run_model.specs.Tasks.{is_fresh, is_running, is_unfinished, admits, limit_of}
 use Rattle.run_model.specs.Tasks.{is_admitted, unfinished_in}
 use Rattle.record_view.specs.WorkRows.{can_come, can_retry, is_linked, work_made}
+use Rattle.task_group.specs.Rows.{HasPlace}
 use Rattle.task_group.proofs.RowReads.{row_known}
 use Rattle.task_group.proofs.groups.Groups.take_task.Goals as goal
-
-group_known : (layout : Layout) (groups : List Group) (tasks : List Task) (row : Task)
-    → can_come layout groups tasks row ≡ true → row.group < length groups
-group_known layout groups tasks row comes =
-    ltb-true row.group (length groups) (and_parts _ _ (and_parts _ _ comes).0).0
 
 -- A linked task names one that is there.
 link_known : (layout : Layout) (groups : List Group) (tasks : List Task) (row : Task)
@@ -53,21 +51,21 @@ ended_by stage.Success fresh running = refl
 ended_by (stage.Failure text) fresh running = refl
 ended_by stage.Interrupted fresh running = refl
 
+-- A task that can come has a place.
+has_place : (w : WorkState) (row : Task) → can_come w.layout w.groups w.tasks row ≡ true
+    → length w.tasks < most_tasks w.layout → HasPlace w row
+has_place w row comes room = record {
+  known = ltb-true row.group (length w.groups) (and_parts _ _ (and_parts _ _ comes).0).0;
+  link = link_known w.layout w.groups w.tasks row comes;
+  room = room;
+}
+
 pub take_fresh-requires-clause-fresh : goal.take_fresh-requires-clause-fresh
 take_fresh-requires-clause-fresh g c = sym c.is_fresh.ensures ∙ c.if-is_fresh.true
 
-pub take_fresh-requires-clause-known : goal.take_fresh-requires-clause-known
-take_fresh-requires-clause-known g c =
-    let w = c.args.self.now in
-    group_known w.layout w.groups w.tasks c.args.row c.requires.come
-
-pub take_fresh-requires-clause-link : goal.take_fresh-requires-clause-link
-take_fresh-requires-clause-link g c =
-    let w = c.args.self.now in
-    link_known w.layout w.groups w.tasks c.args.row c.requires.come
-
-pub take_fresh-requires-clause-room : goal.take_fresh-requires-clause-room
-take_fresh-requires-clause-room g c = c.requires.room
+pub take_fresh-requires-clause-place : goal.take_fresh-requires-clause-place
+take_fresh-requires-clause-place g c =
+    has_place c.args.self.now c.args.row c.requires.come c.requires.room
 
 pub take_running-requires-clause-running : goal.take_running-requires-clause-running
 take_running-requires-clause-running g c = sym c.is_running.ensures ∙ c.if-is_running.true
@@ -78,36 +76,18 @@ take_running-requires-clause-admitted g c =
     running_admitted w.layout w.groups w.tasks c.args.row c.requires.come
     (sym c.is_running.ensures ∙ c.if-is_running.true)
 
-pub take_running-requires-clause-known : goal.take_running-requires-clause-known
-take_running-requires-clause-known g c =
-    let w = c.args.self.now in
-    group_known w.layout w.groups w.tasks c.args.row c.requires.come
-
-pub take_running-requires-clause-link : goal.take_running-requires-clause-link
-take_running-requires-clause-link g c =
-    let w = c.args.self.now in
-    link_known w.layout w.groups w.tasks c.args.row c.requires.come
-
-pub take_running-requires-clause-room : goal.take_running-requires-clause-room
-take_running-requires-clause-room g c = c.requires.room
+pub take_running-requires-clause-place : goal.take_running-requires-clause-place
+take_running-requires-clause-place g c =
+    has_place c.args.self.now c.args.row c.requires.come c.requires.room
 
 pub take_ended-requires-clause-ended : goal.take_ended-requires-clause-ended
 take_ended-requires-clause-ended g c =
     ended_by c.args.row.stage (sym c.is_fresh.ensures ∙ c.if-is_fresh.false)
     (sym c.is_running.ensures ∙ c.if-is_running.false)
 
-pub take_ended-requires-clause-known : goal.take_ended-requires-clause-known
-take_ended-requires-clause-known g c =
-    let w = c.args.self.now in
-    group_known w.layout w.groups w.tasks c.args.row c.requires.come
-
-pub take_ended-requires-clause-link : goal.take_ended-requires-clause-link
-take_ended-requires-clause-link g c =
-    let w = c.args.self.now in
-    link_known w.layout w.groups w.tasks c.args.row c.requires.come
-
-pub take_ended-requires-clause-room : goal.take_ended-requires-clause-room
-take_ended-requires-clause-room g c = c.requires.room
+pub take_ended-requires-clause-place : goal.take_ended-requires-clause-place
+take_ended-requires-clause-place g c =
+    has_place c.args.self.now c.args.row c.requires.come c.requires.room
 
 pub returns-then-is_fresh : goal.returns-then-is_fresh
 returns-then-is_fresh g c = c.take_fresh.ensures
