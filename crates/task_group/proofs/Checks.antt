@@ -1,31 +1,53 @@
--- What the tests of a change found of a group's row, and of the room for a task.
-use Rattle.std.proofs.Common.{◌≡◌, ◌≤◌, ◌<◌, ℕ, Bool, true, false, ltb, List, length, get_or}
-use Rattle.std.proofs.Common.{Option, sym, ap, ◌∙◌}
+-- What the tests of a change found of a group's row, and what two of them answer in a row.
+use Rattle.std.proofs.Common.{◌≡◌, ℕ, Bool, true, false, ltb, List, [], ◌∷◌, ◌++◌, length, get_or}
+use Rattle.std.proofs.Common.{if◌then◌else◌, Option, Result, Ok, Err, refl, sym, ap, ◌∙◌}
 use Rattle.std.specs.Prelude.{not}
 use Rattle.std.specs.Option.{option_map_or}
-use Rattle.std.proofs.lemmas.Bool.{le-ltb, lt-ltb}
 use Rattle.run_model.specs.declared.groups.Group.{Group}
-use Rattle.run_model.specs.Allowed.{has_room, has_row, is_open}
-use Rattle.run_model.specs.Layouts.{most_tasks}
+use Rattle.run_model.specs.declared.refusals.Refusal.{Refusal}
+use Rattle.run_model.specs.declared.refusals.Refusal.TheVariants as refusal
+use Rattle.run_model.specs.Allowed.{has_row, is_open, tested}
+use Rattle.run_model.specs.Replies.{and_then}
 use Rattle.run_model.specs.State.{WorkState}
 use Rattle.task_group.proofs.RowReads.{row_read}
 
-pub has_group : (groups read : List Group) (g : ℕ) (b : Bool) → read ≡ groups
-    → b ≡ ltb g (length read) → has_row groups g ≡ b
-has_group groups read g b same look = rw (← same) (sym look)
+-- Whether a group can be changed.
+abbrev pub opens : WorkState → ℕ → List (Bool × Refusal)
+opens w g =
+    (not (has_row w.groups g), refusal.NoSuchGroup) ∷ (not (is_open w g), refusal.Waited) ∷ []
 
-pub open_by : (w : WorkState) (read : List Group) (g : ℕ) (row : Group) (b : Bool)
-    → read ≡ w.groups → true ≡ ltb g (length read) → row ≡ get_or read g row → row.waited ≡ b
-    → is_open w g ≡ not b
-open_by w read g row b same within is waited =
+-- No row was found.
+pub opens_missed : (w : WorkState) (read : List Group) (g : ℕ) → read ≡ w.groups
+    → false ≡ ltb g (length read) → Err refusal.NoSuchGroup ≡ tested (opens w g)
+opens_missed w read g same past = rw (← same, ← past) refl
+
+-- A row was found, which was waited for or not.
+pub opens_found : (w : WorkState) (read : List Group) (g : ℕ) (row : Group) (waited : Bool)
+    → read ≡ w.groups → true ≡ ltb g (length read) → row ≡ get_or read g row
+    → row.waited ≡ waited → (if waited then Err refusal.Waited else Ok tt) ≡ tested (opens w g)
+opens_found w read g row waited same within is e =
+    let there : has_row w.groups g ≡ true = rw (← same) (sym within) in
+    let unwaited : is_open w g ≡ not waited =
     ap (λ (o : Option Group). option_map_or (λ group. not group.waited) o false)
     (row_read w.groups read g row same within is)
-    ∙ ap not waited
+    ∙ ap not e in
+    rw (there, unwaited) (by waited)
+  where
+    by : (b : Bool) → (if b then Err refusal.Waited else Ok tt)
+        ≡ tested ((not (not b), refusal.Waited) ∷ [])
+    by true = refl
+    by false = refl
 
-pub no_room : (w : WorkState) (count most : ℕ) → count ≡ length w.tasks
-    → most ≡ most_tasks w.layout → most ≤ count → has_room (most_tasks w.layout) w.tasks ≡ false
-no_room w count most tasks room full = rw (← tasks, ← room) (le-ltb count most full)
-
-pub some_room : (w : WorkState) (count most : ℕ) → count ≡ length w.tasks
-    → most ≡ most_tasks w.layout → count < most → has_room (most_tasks w.layout) w.tasks ≡ true
-some_room w count most tasks room less = rw (← tasks, ← room) (lt-ltb count most less)
+-- What stands behind tests is asked where none of them holds.
+pub tested_then : (first rest : List (Bool × Refusal)) (answer : Result (Unit {0}) Refusal)
+    → answer ≡ tested first → and_then answer (λ _. tested rest) ≡ tested (first ++ rest)
+tested_then first rest answer is = ap (λ a. and_then a (λ _. tested rest)) is ∙ by first
+  where
+    by : (tests : List (Bool × Refusal))
+        → and_then (tested tests) (λ _. tested rest) ≡ tested (tests ++ rest)
+    by [] = refl
+    by (t ∷ tests) =
+        elim t.0 as
+        (λ b. and_then (if b then Err t.1 else tested tests) (λ _. tested rest)
+        ≡ (if b then Err t.1 else tested (tests ++ rest)))
+        [ true ↦ refl | false ↦ by tests ]

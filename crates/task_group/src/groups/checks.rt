@@ -2,13 +2,15 @@
 //! are asked, and `Ok` exactly where none does. None takes memory.
 
 ghost use Rattle.std.specs.Prelude.{◌≡◌, ◌<◌, ◌∷◌, ℕ, List, Option, [], length, not, true, is_none};
+ghost use Rattle.std.specs.Prelude.{IfOk};
 ghost use Rattle.run_model.specs.declared.refusals.Refusal.TheVariants as refusal;
 ghost use Rattle.run_model.specs.declared.tasks.Outcome.{Outcome};
 ghost use Rattle.run_model.specs.Allowed.{refusals};
-ghost use Rattle.run_model.specs.Allowed.{tested, has_row, has_room};
+ghost use Rattle.run_model.specs.Allowed.{tested, has_row, has_room, is_open};
+ghost use Rattle.run_model.specs.Layouts.{most_tasks};
 ghost use Rattle.run_model.specs.Event.{Bare, Finish, Go, Retry, SetLimit, TryGo, Wait};
 ghost use Rattle.run_model.specs.State.{TreeState, group_named};
-ghost use Rattle.run_model.specs.Tasks.{is_retried, has_stage, is_interrupted};
+ghost use Rattle.run_model.specs.Tasks.{is_retried};
 ghost use Rattle.run_model.specs.WorkChanges.{group_of_task};
 ghost use Rattle.run_model.specs.declared.bounds.TheConstants.{MOST_GROUPS};
 ghost use Rattle.task_group.specs.Checks.{Answers};
@@ -57,12 +59,7 @@ impl<A: Allocator> Groups<A> {
     pub fn check_limit(&self, group: u16) -> Result<(), Refusal>
         ensures { (limit : Option ℕ) → Answers self.now (SetLimit group limit) result }
     {
-        let Some(row) = self.groups.get(group as usize) else {
-            return Err(Refusal::NoSuchGroup);
-        };
-        if row.waited {
-            return Err(Refusal::Waited);
-        }
+        self.check_open(group)?;
         if self.unfinished(group) != 0 {
             return Err(Refusal::LimitWhileActive);
         }
@@ -74,16 +71,8 @@ impl<A: Allocator> Groups<A> {
     pub fn check_go(&self, group: u16) -> Result<(), Refusal>
         ensures { (job argument : List ℕ) → Answers self.now (Go group job argument) result }
     {
-        let Some(row) = self.groups.get(group as usize) else {
-            return Err(Refusal::NoSuchGroup);
-        };
-        if row.waited {
-            return Err(Refusal::Waited);
-        }
-        if self.layout.most_tasks() <= self.tasks.len() {
-            return Err(Refusal::TooManyTasks);
-        }
-        Ok(())
+        self.check_open(group)?;
+        self.check_task_room()
     }
 
     /// Says why a task that is to be ready at once can't be submitted: as [`Groups::check_go`],
@@ -106,7 +95,7 @@ impl<A: Allocator> Groups<A> {
         if self.tasks.len() <= task as usize {
             return Err(Refusal::NoSuchTask);
         }
-        if !self.is_interrupted(task) {
+        if !is_interrupted(&self.tasks[task as usize].stage) {
             return Err(Refusal::NotInterrupted);
         }
         if self.is_retried(task) {
@@ -146,14 +135,33 @@ impl<A: Allocator> Groups<A> {
         Ok(())
     }
 
-    /// Says whether there is a task of this number that was interrupted.
-    fn is_interrupted(&self, task: u16) -> bool
-        ensures { result ≡ has_stage is_interrupted self.now task }
+    /// The first part of [`Groups::check_limit`] and of [`Groups::check_go`]: `NoSuchGroup` or
+    /// `Waited`.
+    fn check_open(&self, group: u16) -> Result<(), Refusal>
+        ensures first { result ≡ tested ((not (has_row self.now.groups group), refusal.NoSuchGroup)
+            ∷ (not (is_open self.now group), refusal.Waited) ∷ []) }
+        ensures known { IfOk result (λ _. group < length self.now.groups) }
     {
-        match self.tasks.get(task as usize) {
-            Some(row) => is_interrupted(&row.stage),
-            None => false,
+        let Some(row) = self.groups.get(group as usize) else {
+            return Err(Refusal::NoSuchGroup);
+        };
+        if row.waited {
+            return Err(Refusal::Waited);
         }
+        Ok(())
+    }
+
+    /// The second part of [`Groups::check_go`]: `TooManyTasks`.
+    fn check_task_room(&self) -> Result<(), Refusal>
+        ensures { result ≡ tested ((
+          not (has_room (most_tasks self.now.layout) self.now.tasks),
+          refusal.TooManyTasks,
+        ) ∷ []) }
+    {
+        if self.layout.most_tasks() <= self.tasks.len() {
+            return Err(Refusal::TooManyTasks);
+        }
+        Ok(())
     }
 
     /// Says whether a task was retried.

@@ -1,68 +1,24 @@
-use Rattle.std.proofs.Common.{◌≡◌, true, false, length, refl, ap, ◌∙◌}
-use Rattle.run_model.specs.Allowed.{has_room, has_row, is_open}
+use Rattle.std.proofs.Common.{◌≡◌, Bool, not, List, [], ◌∷◌, Ok, Err, ◌∙◌, rules}
+use Rattle.run_model.specs.declared.refusals.Refusal.{Refusal}
+use Rattle.run_model.specs.declared.refusals.Refusal.TheVariants as refusal
+use Rattle.run_model.specs.Allowed.{has_room}
 use Rattle.run_model.specs.Layouts.{most_tasks}
 use Rattle.run_model.specs.State.{WorkState}
-use Rattle.task_group.proofs.Checks.{has_group, no_room, open_by, some_room}
+use Rattle.task_group.proofs.Checks.{opens, tested_then}
 use Rattle.task_group.proofs.groups.Groups.check_go.Goals as goal
 
-pub returns-in_default : goal.returns-in_default
-returns-in_default g c job argument count tree =
-    let w = c.args.self.now in
-    let same : c.deref.result.now ≡ w.groups =
-    c.deref.ensures.value ∙ ap (λ (w : WorkState). w.groups) c.self.view_is in
-    let none : has_row w.groups c.args.group ≡ false =
-    has_group w.groups c.deref.result.now c.args.group false same c.in_default.ensures.lookup.0 in
-    rw none refl
+-- Whether there is room for a task.
+abbrev room : WorkState → List (Bool × Refusal)
+room w = (not (has_room (most_tasks w.layout) w.tasks), refusal.TooManyTasks) ∷ []
 
-pub returns-then-row : goal.returns-then-row
-returns-then-row g c job argument count tree =
+pub returns-in_err-check_open : goal.returns-in_err-check_open
+returns-in_err-check_open g c job argument count tree =
     let w = c.args.self.now in
-    let look = c.in-Some.ensures.lookup in
-    let same : c.deref.result.now ≡ w.groups =
-    c.deref.ensures.value ∙ ap (λ (w : WorkState). w.groups) c.self.view_is in
-    let there : has_row w.groups c.args.group ≡ true =
-    has_group w.groups c.deref.result.now c.args.group true same look.0 in
-    let closed : is_open w c.args.group ≡ false =
-    open_by w c.deref.result.now c.args.group c.in-Some.row.now true same look.0 look.1
-    c.if-row.true in
-    rw (there, closed) refl
-
-pub returns-then-most_tasks-len : goal.returns-then-most_tasks-len
-returns-then-most_tasks-len g c job argument count tree =
-    let w = c.args.self.now in
-    let look = c.in-Some.ensures.lookup in
-    let same : c.deref.result.now ≡ w.groups =
-    c.deref.ensures.value ∙ ap (λ (w : WorkState). w.groups) c.self.view_is in
-    let there : has_row w.groups c.args.group ≡ true =
-    has_group w.groups c.deref.result.now c.args.group true same look.0 in
-    let opened : is_open w c.args.group ≡ true =
-    open_by w c.deref.result.now c.args.group c.in-Some.row.now false same look.0 look.1
-    c.if-row.false in
-    let tasks : c.len.result ≡ length w.tasks =
-    c.len.ensures ∙ c.self.inside.tasks.ok.0
-    ∙ ap (λ (w : WorkState). length w.tasks) c.self.view_is in
-    let most : c.most_tasks.result ≡ most_tasks w.layout =
-    c.most_tasks.ensures.value ∙ ap (λ (w : WorkState). most_tasks w.layout) c.self.view_is in
-    let full : has_room (most_tasks w.layout) w.tasks ≡ false =
-    no_room w c.len.result c.most_tasks.result tasks most c.if-most_tasks-len.true in
-    rw (there, opened, full) refl
+    let same : c.from_residual.result ≡ Err c.in_err-check_open.field-0.0 = search rules in
+    same ∙ tested_then (opens w c.args.group) (room w) _ c.in_err-check_open.ensures.first
 
 pub returns : goal.returns
 returns g c job argument count tree =
     let w = c.args.self.now in
-    let look = c.in-Some.ensures.lookup in
-    let same : c.deref.result.now ≡ w.groups =
-    c.deref.ensures.value ∙ ap (λ (w : WorkState). w.groups) c.self.view_is in
-    let there : has_row w.groups c.args.group ≡ true =
-    has_group w.groups c.deref.result.now c.args.group true same look.0 in
-    let opened : is_open w c.args.group ≡ true =
-    open_by w c.deref.result.now c.args.group c.in-Some.row.now false same look.0 look.1
-    c.if-row.false in
-    let tasks : c.len.result ≡ length w.tasks =
-    c.len.ensures ∙ c.self.inside.tasks.ok.0
-    ∙ ap (λ (w : WorkState). length w.tasks) c.self.view_is in
-    let most : c.most_tasks.result ≡ most_tasks w.layout =
-    c.most_tasks.ensures.value ∙ ap (λ (w : WorkState). most_tasks w.layout) c.self.view_is in
-    let room : has_room (most_tasks w.layout) w.tasks ≡ true =
-    some_room w c.len.result c.most_tasks.result tasks most c.if-most_tasks-len.false in
-    rw (there, opened, room) refl
+    c.check_task_room.ensures
+    ∙ tested_then (opens w c.args.group) (room w) (Ok tt) c.in_ok-check_open.ensures.first

@@ -1,50 +1,38 @@
-use Rattle.std.proofs.Common.{◌≡◌, true, false, refl, sym, ap, ◌∙◌}
-use Rattle.run_model.specs.Allowed.{has_row, is_open}
+use Rattle.std.proofs.Common.{◌≡◌, ◌==◌, ℕ, Bool, not, List, [], ◌∷◌, Ok, Err, sym, ap}
+use Rattle.std.proofs.Common.{◌∙◌, rules}
+use Rattle.run_model.specs.declared.refusals.Refusal.{Refusal}
+use Rattle.run_model.specs.declared.refusals.Refusal.TheVariants as refusal
+use Rattle.run_model.specs.Allowed.{tested}
 use Rattle.run_model.specs.State.{WorkState}
 use Rattle.run_model.specs.Tasks.{unfinished_in}
-use Rattle.task_group.proofs.Checks.{has_group, open_by}
-use Rattle.task_group.proofs.RowReads.{row_within}
+use Rattle.task_group.proofs.Admits.{eqb_apart}
+use Rattle.task_group.proofs.Checks.{opens, tested_then}
 use Rattle.task_group.proofs.groups.Groups.check_limit.Goals as goal
 
-pub returns-in_default : goal.returns-in_default
-returns-in_default g c limit count tree =
-    let w = c.args.self.now in
-    let same : c.deref.result.now ≡ w.groups =
-    c.deref.ensures.value ∙ ap (λ (w : WorkState). w.groups) c.self.view_is in
-    let none : has_row w.groups c.args.group ≡ false =
-    has_group w.groups c.deref.result.now c.args.group false same c.in_default.ensures.lookup.0 in
-    rw none refl
+-- Whether no task of the group is unfinished.
+abbrev idle : WorkState → ℕ → List (Bool × Refusal)
+idle w g = (not (unfinished_in g w.tasks == 0), refusal.LimitWhileActive) ∷ []
 
-pub returns-then-row : goal.returns-then-row
-returns-then-row g c limit count tree =
+pub returns-in_err-check_open : goal.returns-in_err-check_open
+returns-in_err-check_open g c limit count tree =
     let w = c.args.self.now in
-    let look = c.in-Some.ensures.lookup in
-    let same : c.deref.result.now ≡ w.groups =
-    c.deref.ensures.value ∙ ap (λ (w : WorkState). w.groups) c.self.view_is in
-    let there : has_row w.groups c.args.group ≡ true =
-    has_group w.groups c.deref.result.now c.args.group true same look.0 in
-    let closed : is_open w c.args.group ≡ false =
-    open_by w c.deref.result.now c.args.group c.in-Some.row.now true same look.0 look.1
-    c.if-row.true in
-    rw (there, closed) refl
+    let same : c.from_residual.result ≡ Err c.in_err-check_open.field-0.0 = search rules in
+    same ∙ tested_then (opens w c.args.group) (idle w c.args.group) _
+    c.in_err-check_open.ensures.first
 
-pub unfinished-requires : goal.unfinished-requires
-unfinished-requires g c =
-    row_within c.args.self.now.groups c.deref.result.now c.args.group
-    (c.deref.ensures.value ∙ ap (λ (w : WorkState). w.groups) c.self.view_is)
-    c.in-Some.ensures.lookup.0
+pub returns-then-unfinished-ne0 : goal.returns-then-unfinished-ne0
+returns-then-unfinished-ne0 g c limit count tree =
+    let w = c.args.self.now in
+    ap (λ b. tested ((not b, refusal.LimitWhileActive) ∷ []))
+    (sym (eqb_apart (unfinished_in c.args.group w.tasks) 0
+    (λ none. c.if-unfinished-ne0.true (c.unfinished.ensures ∙ none))))
+    ∙ tested_then (opens w c.args.group) (idle w c.args.group) (Ok tt)
+    c.in_ok-check_open.ensures.first
 
 pub returns : goal.returns
 returns g c limit count tree =
     let w = c.args.self.now in
-    let look = c.in-Some.ensures.lookup in
-    let same : c.deref.result.now ≡ w.groups =
-    c.deref.ensures.value ∙ ap (λ (w : WorkState). w.groups) c.self.view_is in
-    let there : has_row w.groups c.args.group ≡ true =
-    has_group w.groups c.deref.result.now c.args.group true same look.0 in
-    let opened : is_open w c.args.group ≡ true =
-    open_by w c.deref.result.now c.args.group c.in-Some.row.now false same look.0 look.1
-    c.if-row.false in
-    let idle : unfinished_in c.args.group w.tasks ≡ 0 =
-    sym c.unfinished.ensures ∙ c.if-unfinished-ne0.false in
-    rw (there, opened, idle) refl
+    ap (λ n. tested ((not (n == 0), refusal.LimitWhileActive) ∷ []))
+    (sym c.if-unfinished-ne0.false ∙ c.unfinished.ensures)
+    ∙ tested_then (opens w c.args.group) (idle w c.args.group) (Ok tt)
+    c.in_ok-check_open.ensures.first
