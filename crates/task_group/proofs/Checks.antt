@@ -1,5 +1,5 @@
 -- What the tests of a change found of a group's row, and what two of them answer in a row.
-use Rattle.std.proofs.Common.{◌≡◌, ℕ, Bool, true, false, ltb, List, [], ◌∷◌, ◌++◌, length, get_or}
+use Rattle.std.proofs.Common.{◌≡◌, ◌<◌, ℕ, Bool, true, false, ltb, List, [], ◌∷◌, ◌++◌, length, get_or}
 use Rattle.std.proofs.Common.{if◌then◌else◌, Option, Result, Ok, Err, refl, sym, ap, ◌∙◌}
 use Rattle.std.specs.Prelude.{not}
 use Rattle.std.specs.Option.{option_map_or}
@@ -9,6 +9,8 @@ use Rattle.run_model.specs.declared.refusals.Refusal.TheVariants as refusal
 use Rattle.run_model.specs.Allowed.{has_row, is_open, tested}
 use Rattle.run_model.specs.Replies.{and_then}
 use Rattle.run_model.specs.State.{WorkState}
+use Rattle.run_model.specs.Tasks.{has_stage, is_running}
+use Rattle.std.proofs.lemmas.Bool.{lt-ltb}
 use Rattle.task_group.proofs.RowReads.{row_read}
 
 -- Whether a group can be changed.
@@ -35,6 +37,18 @@ opens_found w read g row waited same within is e =
   where
     by : (b : Bool) → (if b then Err refusal.Waited else Ok tt)
         ≡ tested ((not (not b), refusal.Waited) ∷ [])
+    by true = refl
+    by false = refl
+
+-- A task that is there is running, or isn't.
+pub finish_told : (w : WorkState) (n : ℕ) (runs : Bool) → n < length w.tasks
+    → runs ≡ has_stage is_running w n → (if runs then Ok tt else Err refusal.NotRunning)
+    ≡ tested ((not (has_row w.tasks n), refusal.NoSuchTask)
+    ∷ (not (has_stage is_running w n), refusal.NotRunning) ∷ [])
+finish_told w n runs known is = rw (lt-ltb n (length w.tasks) known, ← is) (by runs)
+  where
+    by : (b : Bool) → (if b then Ok tt else Err refusal.NotRunning)
+        ≡ tested ((not b, refusal.NotRunning) ∷ [])
     by true = refl
     by false = refl
 
