@@ -7,6 +7,16 @@ use Rattle.record_view.proofs.RowJoins.{put_six}
 use Rattle.record_view.proofs.RowJoins.{length_six}
 use Rattle.record_view.proofs.group_rows.put_group.Goals as goal
 
+pub returns-clause-end : goal.returns-clause-end
+returns-clause-end c =
+    let row = c.args.row.now in
+    omega (
+      arith,
+      length_six (text_bytes row.name.now) (to_be_bytes w16 row.scope)
+          (flag_bytes row.bare) (limit_bytes row.limit) (flag_bytes row.waited)
+          (optional_bytes (option_copied row.error)),
+    )
+
 pub returns-clause-written : goal.returns-clause-written
 returns-clause-written c =
     let row = c.args.row.now in

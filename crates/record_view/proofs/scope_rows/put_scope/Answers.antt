@@ -9,6 +9,15 @@ use Rattle.record_view.proofs.RowJoins.{put_four}
 use Rattle.record_view.proofs.RowJoins.{length_four}
 use Rattle.record_view.proofs.scope_rows.put_scope.Goals as goal
 
+pub returns-clause-end : goal.returns-clause-end
+returns-clause-end c =
+    let row = c.args.row.now in
+    omega (
+      arith,
+      length_four (text_bytes row.name.now) (to_be_bytes w16 row.parent)
+          (kind_bytes (kind_of row.kind)) (hit_bytes (option_map hit_of row.hit)),
+    )
+
 pub returns-clause-written : goal.returns-clause-written
 returns-clause-written c =
     let row = c.args.row.now in

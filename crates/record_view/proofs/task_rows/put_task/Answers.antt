@@ -7,6 +7,16 @@ use Rattle.record_view.specs.RowViews.{stage_of}
 use Rattle.record_view.proofs.RowJoins.{put_five, length_five}
 use Rattle.record_view.proofs.task_rows.put_task.Goals as goal
 
+pub returns-clause-end : goal.returns-clause-end
+returns-clause-end c =
+    let row = c.args.row.now in
+    omega (
+      arith,
+      length_five (to_be_bytes w16 row.group) (text_bytes row.job.now)
+          (text_bytes row.argument.now) (stage_bytes (stage_of row.stage))
+          (link_bytes Two row.retry_of),
+    )
+
 pub returns-clause-written : goal.returns-clause-written
 returns-clause-written c =
     let row = c.args.row.now in
