@@ -2,6 +2,9 @@ use Rattle.std.proofs.Common.{arith}
 use Rattle.run_disk.proofs.TearLemmas.{torn_is_image}
 use Rattle.run_disk.proofs.memory_disks.MemoryDisk.image.Goals as goal
 
+pub returns-in-Ok-clause-bytes : goal.returns-in-Ok-clause-bytes
+returns-in-Ok-clause-bytes g c = c.in-Ok.ensures
+
 pub returns-in-Ok-clause-image : goal.returns-in-Ok-clause-image
 returns-in-Ok-clause-image g c =
     torn_is_image c.args.torn c.args.self.now.history c.args.after_calls c.in-Ok.image.items
