@@ -11,7 +11,7 @@ use Rattle.run_model.specs.declared.layouts.Layout.{Layout}
 use Rattle.run_model.specs.Layouts.{most_scopes, most_tasks}
 use Rattle.run_model.specs.Rows.{root}
 use Rattle.run_model.specs.Rules.{IsConsistent}
-use Rattle.run_model.specs.State.{State, TreeState, WorkState}
+use Rattle.run_model.specs.State.{State, TreeState, WorkState, new_work}
 use Rattle.record_view.specs.declared.heads.ImageHead.{ImageHead}
 use Rattle.record_view.specs.declared.heads.ImageVersion.{ImageVersion}
 use Rattle.record_view.specs.declared.heads.ImageVersion.TheVariants.{Two}
@@ -57,6 +57,14 @@ pub no_tree : (layout : Layout) (bytes r1 : List ℕ) (head : ImageHead)
     → image_at layout bytes ≡ None
 unfolding image_at
 no_tree layout bytes r1 head none h = rw (h, none) refl
+
+-- New groups are read in the layout that they were made with.
+pub read_there : (layout : Layout) (new work : WorkState) (head : ImageHead)
+    (bytes rest : List ℕ) → new ≡ new_work layout
+    → AreWorkRows new.layout head bytes work rest → AreWorkRows layout head bytes work rest
+read_there layout new work head bytes rest is rows =
+    subst (λ (l : Layout). AreWorkRows l head bytes work rest)
+    (ap (λ (w : WorkState). w.layout) is) rows
 
 pub no_work : (layout : Layout) (bytes r1 r2 : List ℕ) (head : ImageHead) (tree : TreeState)
     → tree_at layout head r1 ≡ Some (tree, r2)
