@@ -40,9 +40,9 @@ pub record AreSized (old given : DiskState) : Type 0 where
 
 -- ---- the old disk, which is read
 
--- The small store was read, by three calls of which none failed: it stores this state, of fewer
--- than 2^62 events.
-pub record HasReadSmall (p : State) (old read : DiskState) : Type 0 where
+-- The store was read, by three calls of which none failed: it stores this state, of fewer than
+-- 2^62 events.
+pub record HasReadStore (p : State) (old read : DiskState) : Type 0 where
   pub recovered : HasRecovered p old read
   pub few : p.count < 2 ^ 62
 
@@ -94,14 +94,14 @@ pub record HasFailedWrite (p : State) (given new : DiskState) : Type 0 where
 pub record HasMigrated (old read given new : DiskState) : Type 0 where
   pub sized : AreSized old given
   pub state : State
-  pub found : HasReadSmall state old read
+  pub found : HasReadStore state old read
   pub written : HasWritten state given new
 
 -- The small store was read, but a call of the new disk failed, or it is spent.
 pub record HasStopped (old read given new : DiskState) : Type 0 where
   pub sized : AreSized old given
   pub state : State
-  pub found : HasReadSmall state old read
+  pub found : HasReadStore state old read
   pub failed : HasFailedWrite state given new
 
 -- Neither disk was called.

@@ -1,6 +1,7 @@
 pub mod Beginning
 pub mod Carrying
 pub mod Ending
+pub mod Exits
 pub mod Filling
 pub mod Migrating
 pub mod Outcomes

@@ -18,7 +18,7 @@ use Rattle.run_journal.specs.Pairs.{Formatted}
 use Rattle.run_journal.specs.Stores.{IsStored, sizes_of}
 use Rattle.book_model.specs.declared.migrations.MigrateFault.{MigrateFault}
 use Rattle.book_model.specs.declared.migrations.MigrateFault.TheVariants as why
-use Rattle.book_model.specs.Migrations.{AreSized, HasFailedWrite, HasMigrated, HasReadSmall}
+use Rattle.book_model.specs.Migrations.{AreSized, HasFailedWrite, HasMigrated, HasReadStore}
 use Rattle.book_model.specs.Migrations.{HasWritten, MigratesNot, ReadsNot, StopsMigration, widened}
 use Rattle.book_model.specs.Stores.{StoresFresh}
 use Rattle.book_model.proofs.OpeningLemmas.{fresh_stores}
@@ -88,7 +88,7 @@ module _ {E : Type 0} (to : E → DiskState) (old new : DiskState) (r : Result (
 
 -- A small store was read, and a large one is made of it.
 pub written_done : (old read given new : DiskState) (r : Result (Unit {0}) MigrateFault)
-    (p : State) → AreSized old given → HasReadSmall p old read → OnOk r (HasWritten p given new)
+    (p : State) → AreSized old given → HasReadStore p old read → OnOk r (HasWritten p given new)
     → OnOk r (HasMigrated old read given new)
 written_done old read given new (Ok x) p sized found written = record {
   sized = sized;
@@ -101,7 +101,7 @@ written_done old read given new (Err w) p sized found written = tt
 -- Or a call of the new disk failed.
 pub written_not : {D E : Type 0} (from : D → DiskState) (to : E → DiskState) (old read : D)
     (given new : E) (r : Result (Unit {0}) MigrateFault) (p : State)
-    → AreSized (from old) (to given) → HasReadSmall p (from old) (from read)
+    → AreSized (from old) (to given) → HasReadStore p (from old) (from read)
     → IfErr r (λ w. w ≡ why.New fault.DiskFailed) → OnErr r (HasFailedWrite p (to given) (to new))
     → IfErr r (λ w. MigratesNot from to old given w read new)
 written_not from to old read given new (Ok x) p sized found told failed = tt

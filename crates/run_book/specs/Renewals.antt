@@ -19,7 +19,7 @@ use Rattle.run_journal.specs.Recoveries.{Made}
 use Rattle.state_renewal.specs.Renewed.{fits_in, renewed, renewed_in}
 use Rattle.book_model.specs.declared.migrations.MigrateFault.{MigrateFault}
 use Rattle.book_model.specs.declared.migrations.MigrateFault.TheVariants as why
-use Rattle.book_model.specs.Migrations.{AreUncalled, HasReadSmall, ReadsNot, new_disk}
+use Rattle.book_model.specs.Migrations.{AreUncalled, HasReadStore, ReadsNot, new_disk}
 use Rattle.book_model.specs.Stores.{Stores, StoresFresh, StoresNothingOr}
 
 -- ---- the new disk, which is written
@@ -70,7 +70,7 @@ pub record HasRenewed (old read given new : DiskState) : Type 0 where
   pub layout : Layout
   pub size : given.size ≡ store_len layout
   pub state : State
-  pub found : HasReadSmall state old read
+  pub found : HasReadStore state old read
   pub written : HasWrittenRenewed layout state given new
 
 -- The old store was read, and no new one is made of its state.
@@ -78,7 +78,7 @@ pub record HasNotRenewed
     {E : Type 0} (to : E → DiskState) (old read : DiskState) (given : E) (fault : MigrateFault)
     (new : E) : Type 0 where
   pub state : State
-  pub found : HasReadSmall state old read
+  pub found : HasReadStore state old read
   pub none : WritesNot to state given fault new
 
 -- Why no store was made, by the fault that tells it, and what is left of the two disks: one of them

@@ -8,7 +8,7 @@ ghost use Rattle.run_model.specs.Session.{opened};
 ghost use Rattle.record_view.specs.declared.heads.ImageVersion.TheVariants.{Two};
 ghost use Rattle.record_view.specs.Image.{greatest_image};
 ghost use Rattle.book_model.specs.declared.migrations.MigrateFault.TheVariants as why;
-ghost use Rattle.book_model.specs.Migrations.{HasReadSmall, ReadsNot};
+ghost use Rattle.book_model.specs.Migrations.{HasReadStore, ReadsNot};
 ghost use Rattle.run_book.specs.Migrating.{of_old};
 
 use crate::openings::{body_len, read_state};
@@ -53,7 +53,7 @@ pub fn read_stored<D: RunDisk, A: Allocator + Copy>(
 ) -> Result<State<A>, MigrateFault>
     requires new { state ≡ (opened state.tree.layout).state }
     requires size { (D.state old.old).size ≡ store_len state.tree.layout }
-    ensures found { IfOk result (λ p. HasReadSmall p (D.state old.old) (D.state old.new)) }
+    ensures found { IfOk result (λ p. HasReadStore p (D.state old.old) (D.state old.new)) }
     ensures layout { IfOk result (λ p. HasLayout p state.tree.layout) }
     ensures none { IfErr result (λ fault. ReadsNot D.state old.old fault old.new) }
 {

@@ -1,9 +1,13 @@
-use Rattle.std.proofs.Common.{subst}
+use Rattle.std.proofs.Common.{sym, subst}
+use Rattle.std.proofs.lemmas.Result.{IfOk-from_err}
+use Rattle.std.specs.Prelude.{IfErr}
 use Rattle.run_model.specs.declared.layouts.Layout.TheVariants.{Small}
 use Rattle.run_model.specs.Rules.{HasLayout}
 use Rattle.run_model.specs.State.{State}
-use Rattle.run_book.proofs.Renewing.{new_size, new_state}
-use Rattle.run_book.proofs.Migrating.{written_done, written_not}
+use Rattle.book_model.specs.Migrations.{MigratesNot}
+use Rattle.run_book.proofs.Exits.{passed_on}
+use Rattle.run_book.proofs.Migrating.{unread_not, written_done, written_not}
+use Rattle.run_book.proofs.Renewing.{new_size, new_state, no_memory}
 use Rattle.run_book.proofs.migrations.migrate_sized.Goals as goal
 
 pub read_stored-requires-clause-new : goal.read_stored-requires-clause-new
@@ -35,3 +39,34 @@ returns-clause-not g c =
     c.args.new.now c.write_large.new.new c.write_large.result c.in_ok-stored.stored
     c.requires.sized c.in_ok-stored.ensures.found c.write_large.ensures.fault
     c.write_large.ensures.failed
+
+pub returns-in_err-state-clause-migrated : goal.returns-in_err-state-clause-migrated
+returns-in_err-state-clause-migrated g c =
+    IfOk-from_err c.from_residual.result _ c.from_residual.ensures.0
+
+pub returns-in_err-state-clause-not : goal.returns-in_err-state-clause-not
+returns-in_err-state-clause-not g c =
+    let from = g.D.RunDisk.state in
+    let to = g.E.RunDisk.state in
+    let old = c.args.old.now in
+    let given = c.args.new.now in
+    subst (λ r. IfErr r (λ w. MigratesNot from to old given w old given))
+    (sym (passed_on c.from_residual.result _ c.from_residual.ensures.1))
+    (unread_not from to old old given _ c.requires.sized
+    (no_memory from old _ c.in_err-state.ensures.fault))
+
+pub returns-in_err-stored-clause-migrated : goal.returns-in_err-stored-clause-migrated
+returns-in_err-stored-clause-migrated g c =
+    IfOk-from_err c.from_residual-in_err-stored.result _ c.from_residual-in_err-stored.ensures.0
+
+pub returns-in_err-stored-clause-not : goal.returns-in_err-stored-clause-not
+returns-in_err-stored-clause-not g c =
+    let from = g.D.RunDisk.state in
+    let to = g.E.RunDisk.state in
+    let old = c.args.old.now in
+    let read = c.read_stored.new.old in
+    let given = c.args.new.now in
+    let r = c.from_residual-in_err-stored in
+    subst (λ r. IfErr r (λ w. MigratesNot from to old given w read given))
+    (sym (passed_on r.result _ r.ensures.1))
+    (unread_not from to old read given _ c.requires.sized c.in_err-stored.ensures.none)

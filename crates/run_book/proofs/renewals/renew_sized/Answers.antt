@@ -1,4 +1,10 @@
-use Rattle.run_book.proofs.Renewing.{new_size, new_state, written_done, written_not}
+use Rattle.std.proofs.Common.{sym, subst}
+use Rattle.std.proofs.lemmas.Result.{IfOk-from_err}
+use Rattle.std.specs.Prelude.{IfErr}
+use Rattle.run_book.specs.Renewals.{RenewsNot}
+use Rattle.run_book.proofs.Exits.{passed_on}
+use Rattle.run_book.proofs.Renewing.{new_size, new_state, no_memory, unread_not}
+use Rattle.run_book.proofs.Renewing.{written_done, written_not}
 use Rattle.run_book.proofs.renewals.renew_sized.Goals as goal
 
 pub read_stored-requires-clause-new : goal.read_stored-requires-clause-new
@@ -20,3 +26,33 @@ returns-clause-not g c =
     written_not g.D.RunDisk.state g.E.RunDisk.state c.args.old.now c.read_stored.new.old
     c.args.new.now c.write_left.new.new c.write_left.result c.in_ok-stored.stored
     c.in_ok-stored.ensures.found c.write_left.ensures.not
+
+pub returns-in_err-state-clause-renewed : goal.returns-in_err-state-clause-renewed
+returns-in_err-state-clause-renewed g c =
+    IfOk-from_err c.from_residual.result _ c.from_residual.ensures.0
+
+pub returns-in_err-state-clause-not : goal.returns-in_err-state-clause-not
+returns-in_err-state-clause-not g c =
+    let from = g.D.RunDisk.state in
+    let to = g.E.RunDisk.state in
+    let old = c.args.old.now in
+    let given = c.args.new.now in
+    subst (λ r. IfErr r (λ w. RenewsNot from to old given w old given))
+    (sym (passed_on c.from_residual.result _ c.from_residual.ensures.1))
+    (unread_not from to old old given _ (no_memory from old _ c.in_err-state.ensures.fault))
+
+pub returns-in_err-stored-clause-renewed : goal.returns-in_err-stored-clause-renewed
+returns-in_err-stored-clause-renewed g c =
+    IfOk-from_err c.from_residual-in_err-stored.result _ c.from_residual-in_err-stored.ensures.0
+
+pub returns-in_err-stored-clause-not : goal.returns-in_err-stored-clause-not
+returns-in_err-stored-clause-not g c =
+    let from = g.D.RunDisk.state in
+    let to = g.E.RunDisk.state in
+    let old = c.args.old.now in
+    let read = c.read_stored.new.old in
+    let given = c.args.new.now in
+    let r = c.from_residual-in_err-stored in
+    subst (λ r. IfErr r (λ w. RenewsNot from to old given w read given))
+    (sym (passed_on r.result _ r.ensures.1))
+    (unread_not from to old read given _ c.in_err-stored.ensures.none)
