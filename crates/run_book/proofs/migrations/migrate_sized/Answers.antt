@@ -18,6 +18,9 @@ pub read_stored-requires-clause-size : goal.read_stored-requires-clause-size
 read_stored-requires-clause-size g c =
     new_size Small _ _ c.in_ok-state.ensures.state c.requires.sized.small
 
+pub write_large-requires-clause-size : goal.write_large-requires-clause-size
+write_large-requires-clause-size g c = c.requires.sized.large
+
 pub write_large-requires-clause-layout : goal.write_large-requires-clause-layout
 write_large-requires-clause-layout g c =
     subst (λ (q : State). HasLayout c.in_ok-stored.stored q.tree.layout)

@@ -14,6 +14,12 @@ pub read_stored-requires-clause-size : goal.read_stored-requires-clause-size
 read_stored-requires-clause-size g c =
     new_size c.args.from _ _ c.in_ok-state.ensures.state c.requires.from
 
+pub write_left-requires-clause-size : goal.write_left-requires-clause-size
+write_left-requires-clause-size g c = c.requires.to
+
+pub write_left-requires-clause-few : goal.write_left-requires-clause-few
+write_left-requires-clause-few g c = c.in_ok-stored.ensures.found.few
+
 pub returns-clause-renewed : goal.returns-clause-renewed
 returns-clause-renewed g c =
     written_done (g.D.RunDisk.state c.args.old.now) (g.D.RunDisk.state c.read_stored.new.old)
