@@ -57,11 +57,13 @@ pub fn read_stored<D: RunDisk, A: Allocator + Copy>(
     ensures layout { IfOk result (λ p. HasLayout p state.tree.layout) }
     ensures none { IfErr result (λ fault. ReadsNot D.state old.old fault old.new) }
 {
-    let (_stored, state) = match read_state(alloc, old, state) {
+    let (stored, state) = match read_state(alloc, old, state) {
         Ok(read) => read,
         Err(fault) => return Err(of_old(fault)),
     };
+    drop(stored);
     if state.count() >= 1 << 62 {
+        drop(state);
         return Err(MigrateFault::Old(Fault::NumbersSpent));
     }
     Ok(state)

@@ -67,7 +67,9 @@ fn migrate_sized<D: RunDisk, E: RunDisk, A: Allocator + Copy>(
 {
     let Rooms { state, mut body } = make_rooms(alloc, Layout::Small, Layout::Small)?;
     let stored = read_stored(alloc, old, state)?;
-    write_large(new, &stored, &mut body)
+    let written = write_large(new, &stored, &mut body);
+    drop(stored);
+    written
 }
 
 /// Makes a large store of a small state. The buffer takes the journal's head and an image.

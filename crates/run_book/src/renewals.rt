@@ -73,7 +73,9 @@ fn renew_sized<D: RunDisk, E: RunDisk, A: Allocator + Copy>(
 {
     let Rooms { state, mut body } = make_rooms(alloc, from, to)?;
     let stored = read_stored(alloc, old, state)?;
-    write_left(alloc, new, &stored, to, &mut body)
+    let written = write_left(alloc, new, &stored, to, &mut body);
+    drop(stored);
+    written
 }
 
 /// Makes a store of what is left of a state. The buffer takes the journal's head and an image.
@@ -95,9 +97,12 @@ fn write_left<E: RunDisk, A: Allocator + Copy>(
         return Err(MigrateFault::Memory);
     };
     if !state.fits_renewed(&renewal, to) {
+        drop(renewal);
         return Err(MigrateFault::New(Fault::WrongSize));
     }
-    match write_fitting(new, state, &renewal, to, body) {
+    let written = write_fitting(new, state, &renewal, to, body);
+    drop(renewal);
+    match written {
         Ok(()) => Ok(()),
         Err(fault) => Err(MigrateFault::New(fault)),
     }

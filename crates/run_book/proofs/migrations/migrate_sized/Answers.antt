@@ -18,30 +18,30 @@ pub read_stored-requires-clause-size : goal.read_stored-requires-clause-size
 read_stored-requires-clause-size g c =
     new_size Small _ _ c.in_ok-state.ensures.state c.requires.sized.small
 
-pub write_large-requires-clause-size : goal.write_large-requires-clause-size
-write_large-requires-clause-size g c = c.requires.sized.large
+pub write_large-written-requires-clause-size : goal.write_large-written-requires-clause-size
+write_large-written-requires-clause-size g c = c.requires.sized.large
 
-pub write_large-requires-clause-layout : goal.write_large-requires-clause-layout
-write_large-requires-clause-layout g c =
+pub write_large-written-requires-clause-layout : goal.write_large-written-requires-clause-layout
+write_large-written-requires-clause-layout g c =
     subst (λ (q : State). HasLayout c.in_ok-stored.stored q.tree.layout)
     c.in_ok-state.ensures.state c.in_ok-stored.ensures.layout
 
-pub write_large-requires-clause-few : goal.write_large-requires-clause-few
-write_large-requires-clause-few g c = c.in_ok-stored.ensures.found.few
+pub write_large-written-requires-clause-few : goal.write_large-written-requires-clause-few
+write_large-written-requires-clause-few g c = c.in_ok-stored.ensures.found.few
 
 pub returns-clause-migrated : goal.returns-clause-migrated
 returns-clause-migrated g c =
     written_done (g.D.RunDisk.state c.args.old.now) (g.D.RunDisk.state c.read_stored.new.old)
-    (g.E.RunDisk.state c.args.new.now) (g.E.RunDisk.state c.write_large.new.new)
-    c.write_large.result c.in_ok-stored.stored c.requires.sized c.in_ok-stored.ensures.found
-    c.write_large.ensures.written
+    (g.E.RunDisk.state c.args.new.now) (g.E.RunDisk.state c.write_large-written.new.new)
+    c.write_large-written.result c.in_ok-stored.stored c.requires.sized c.in_ok-stored.ensures.found
+    c.write_large-written.ensures.written
 
 pub returns-clause-not : goal.returns-clause-not
 returns-clause-not g c =
     written_not g.D.RunDisk.state g.E.RunDisk.state c.args.old.now c.read_stored.new.old
-    c.args.new.now c.write_large.new.new c.write_large.result c.in_ok-stored.stored
-    c.requires.sized c.in_ok-stored.ensures.found c.write_large.ensures.fault
-    c.write_large.ensures.failed
+    c.args.new.now c.write_large-written.new.new c.write_large-written.result c.in_ok-stored.stored
+    c.requires.sized c.in_ok-stored.ensures.found c.write_large-written.ensures.fault
+    c.write_large-written.ensures.failed
 
 pub returns-in_err-state-clause-migrated : goal.returns-in_err-state-clause-migrated
 returns-in_err-state-clause-migrated g c =

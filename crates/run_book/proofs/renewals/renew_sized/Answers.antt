@@ -14,24 +14,24 @@ pub read_stored-requires-clause-size : goal.read_stored-requires-clause-size
 read_stored-requires-clause-size g c =
     new_size c.args.from _ _ c.in_ok-state.ensures.state c.requires.from
 
-pub write_left-requires-clause-size : goal.write_left-requires-clause-size
-write_left-requires-clause-size g c = c.requires.to
+pub write_left-written-requires-clause-size : goal.write_left-written-requires-clause-size
+write_left-written-requires-clause-size g c = c.requires.to
 
-pub write_left-requires-clause-few : goal.write_left-requires-clause-few
-write_left-requires-clause-few g c = c.in_ok-stored.ensures.found.few
+pub write_left-written-requires-clause-few : goal.write_left-written-requires-clause-few
+write_left-written-requires-clause-few g c = c.in_ok-stored.ensures.found.few
 
 pub returns-clause-renewed : goal.returns-clause-renewed
 returns-clause-renewed g c =
     written_done (g.D.RunDisk.state c.args.old.now) (g.D.RunDisk.state c.read_stored.new.old)
-    (g.E.RunDisk.state c.args.new.now) (g.E.RunDisk.state c.write_left.new.new)
-    c.write_left.result c.args.to c.in_ok-stored.stored c.requires.to
-    c.in_ok-stored.ensures.found c.write_left.ensures.written
+    (g.E.RunDisk.state c.args.new.now) (g.E.RunDisk.state c.write_left-written.new.new)
+    c.write_left-written.result c.args.to c.in_ok-stored.stored c.requires.to
+    c.in_ok-stored.ensures.found c.write_left-written.ensures.written
 
 pub returns-clause-not : goal.returns-clause-not
 returns-clause-not g c =
     written_not g.D.RunDisk.state g.E.RunDisk.state c.args.old.now c.read_stored.new.old
-    c.args.new.now c.write_left.new.new c.write_left.result c.in_ok-stored.stored
-    c.in_ok-stored.ensures.found c.write_left.ensures.not
+    c.args.new.now c.write_left-written.new.new c.write_left-written.result c.in_ok-stored.stored
+    c.in_ok-stored.ensures.found c.write_left-written.ensures.not
 
 pub returns-in_err-state-clause-renewed : goal.returns-in_err-state-clause-renewed
 returns-in_err-state-clause-renewed g c =
