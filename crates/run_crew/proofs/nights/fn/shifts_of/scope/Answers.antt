@@ -1,0 +1,89 @@
+use Rattle.std.specs.Prelude.{◌≡◌, ◌<◌, ◌≤◌, ◌+◌, ℕ, Bool, true, false}
+use Rattle.std.proofs.Common.{ap, arith, refl, sym, ◌∙◌, vec_len, vec_capacity}
+use Rattle.run_crew.proofs.nights.fn.shifts_of.scope.Goals as goal
+use Rattle.run_crew.proofs.nights.fn.shifts_of.scope.Goals.{in-Ok, in-Err}
+
+-- Of n some are there and some are left, and there is room for all; unless one was refused, these
+-- are all.
+abbrev Room : ℕ → ℕ → ℕ → ℕ → Bool → Type 0
+Room n room had left refused =
+    (n ≤ room) × (had + left ≤ n) × (refused ≡ false → had + left ≡ n)
+
+all_left : (n room had left : ℕ) (r : Bool) → n ≤ room → had ≡ 0 → left ≡ n
+    → Room n room had left r
+all_left n room had left r fits none all = (fits, omega arith, λ _. omega arith)
+
+-- Those that are there are left for another list.
+turned : (n room had left before rest : ℕ) (r : Bool) → n ≤ room → had ≡ 0 → left ≡ before
+    → rest ≡ 0 → before + rest ≤ n → (r ≡ false → before + rest ≡ n) → Room n room had left r
+turned n room had left before rest r fits none same over few all =
+    (fits, omega arith, λ fine. let k = all fine in omega arith)
+
+one_more : (n room had left room' has left' : ℕ) (r r' : Bool) → room' ≡ room → has ≡ had + 1
+    → left' + 1 ≡ left → r' ≡ r → Room n room had left r → Room n room' has left' r'
+one_more n room had left room' has left' r r' same more less is h =
+    (omega arith, omega arith, λ fine. let k = h.2 (sym is ∙ fine) in omega arith)
+
+one_refused : (n room had left room' has left' : ℕ) (r r' : Bool) → room' ≡ room → has ≡ had
+    → left' + 1 ≡ left → r' ≡ true → Room n room had left r → Room n room' has left' r'
+one_refused n room had left room' has left' r r' same more less is h =
+    (omega arith, omega arith, λ fine. absurd (let e : true ≡ false = sym is ∙ fine in cc))
+
+has_room : (n room had left left' : ℕ) (r : Bool) → left' + 1 ≡ left → Room n room had left r
+    → had < room
+has_room n room had left left' r less h = omega arith
+
+all_there : (n room had left : ℕ) (r : Bool) → r ≡ false → left ≡ 0 → Room n room had left r
+    → had ≡ n
+all_there n room had left r fine over h = let k = h.2 fine in omega arith
+
+pub loop-station-init : goal.loop-station-init
+loop-station-init g c =
+    let r = all_left _ _ _ _ false c.requires.handles.1 c.requires.handles.0
+    (c.into_iter-station-iterator.ensures.into_iter_gives.1 ∙ c.requires.stations) in
+    (r.0, r.1, r.2, c.requires.shifts.0, c.requires.shifts.1)
+
+pub loop-station-preserved : goal.loop-station-preserved
+loop-station-preserved g c =
+    let i = c.loop-station.invariant in
+    let less = c.in-Some.ensures.steps.1 in
+    elim c.match-spawn.branch [
+      | in-Ok w ↦
+          let r = one_more _ _ _ _ _ _ _ _ _
+          (ap (λ v. vec_capacity v) w.handles-is ∙ w.push_reserved.ensures.capacity)
+          (ap (λ v. vec_len v) w.handles-is ∙ w.push_reserved.ensures.len)
+          less w.refused-is (i.0, i.1, i.2) in
+          (r.0, r.1, r.2, i.3, i.4)
+      | in-Err w ↦
+          let r = one_refused _ _ _ _ _ _ _ _ _
+          (ap (λ v. vec_capacity v) w.handles-is) (ap (λ v. vec_len v) w.handles-is)
+          less w.refused-is (i.0, i.1, i.2) in
+          (r.0, r.1, r.2, i.3, i.4)
+    ]
+
+pub push_reserved-requires : goal.push_reserved-requires
+push_reserved-requires g c =
+    let i = c.loop-station.invariant in
+    has_room _ _ _ _ _ c.loop-station.refused c.in-Some.ensures.steps.1 (i.0, i.1, i.2)
+
+pub push_reserved-requires-in-loop-handle : goal.push_reserved-requires-in-loop-handle
+push_reserved-requires-in-loop-handle g c =
+    has_room _ _ _ _ _ c.loop-station.refused c.in-Some-handle.ensures.steps.1
+    c.loop-handle.invariant
+
+pub loop-handle-init : goal.loop-handle-init
+loop-handle-init g c =
+    let i = c.loop-station.invariant in
+    turned _ _ _ _ _ _ _ i.4 i.3 c.into_iter-handle-iterator.ensures.into_iter_gives.1
+    c.in-None.ensures.steps.0 i.1 i.2
+
+pub loop-handle-preserved : goal.loop-handle-preserved
+loop-handle-preserved g c =
+    one_more _ _ _ _ _ _ _ _ _ c.push_reserved-in-loop-handle.ensures.capacity
+    c.push_reserved-in-loop-handle.ensures.len c.in-Some-handle.ensures.steps.1 refl
+    c.loop-handle.invariant
+
+pub returns : goal.returns
+returns g c =
+    all_there _ _ _ _ _ c.if-refused.false c.in-None-handle.ensures.steps.0
+    c.loop-handle.invariant
