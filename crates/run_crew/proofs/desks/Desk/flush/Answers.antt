@@ -1,6 +1,7 @@
-use Rattle.std.proofs.Common.{ap, rules, sym, ◌∙◌}
+use Rattle.std.proofs.Common.{ap, subst, sym, ◌∙◌}
 use Rattle.run_model.specs.Session.{Session}
-use Rattle.run_crew.specs.Desks.{finishes_of, starts_of}
+use Rattle.book_model.specs.Books.{CarriesOn, Flushes, IsSafe}
+use Rattle.run_crew.specs.Desks.{DeskView, finishes_of, starts_of}
 use Rattle.run_crew.proofs.Carrying.{carries_same}
 use Rattle.run_crew.proofs.desks.Desk.flush.Goals as goal
 
@@ -15,8 +16,18 @@ invariant_of-self g c = (
       (ap (λ (s : Session). s.history) c.flush.ensures.flushes.saves.session),
 )
 
+pub returns-clause-flushes : goal.returns-clause-flushes
+returns-clause-flushes g c =
+    let P : DeskView _ → Type 0 = λ d.
+    Flushes g.D.RunDisk.state d.book c.flush.result c.flush.new.self in
+    subst P c.self.view_is c.flush.ensures.flushes
+
 pub returns-clause-carries_on : goal.returns-clause-carries_on
-returns-clause-carries_on g c = search rules
+returns-clause-carries_on g c =
+    let P : DeskView _ → Type 0 = λ d. CarriesOn g.D.RunDisk.state d.book c.flush.new.self in
+    subst P c.self.view_is c.flush.ensures.carries_on
 
 pub returns-clause-stores : goal.returns-clause-stores
-returns-clause-stores g c = search rules
+returns-clause-stores g c = λ safe.
+    let P : DeskView _ → Type 0 = λ d. IsSafe g.D.RunDisk.state d.book in
+    c.flush.ensures.stores (subst P (sym c.self.view_is) safe)
