@@ -1,11 +1,16 @@
 -- Texts of which a first part is told, and then a second; and a state as JSON.
-use Rattle.std.specs.Prelude.{◌≡◌, ℕ, List, [], ◌++◌, Option, codes}
+use Rattle.std.specs.Prelude.{◌≡◌, ℕ, List, [], ◌++◌, Option, Some, codes, slice_get}
 use Rattle.std.specs.Io.KnownBytes.{Appends}
+use Rattle.std.specs.Option.{option_and_then, option_map}
 use Rattle.std.proofs.Common.{sym, ap, ◌∙◌, subst, append_assoc, append-nil}
+use Rattle.run_model.specs.declared.answers.Look.{Look}
 use Rattle.run_model.specs.declared.layouts.Layout.{Layout}
+use Rattle.run_model.specs.declared.scopes.Kind.{Kind}
+use Rattle.run_model.specs.declared.scopes.Scope.{Scope}
+use Rattle.run_model.specs.Questions.{look_of}
 use Rattle.run_model.specs.State.{State}
 use Rattle.console_lines.specs.declared.entries.Entry.TheVariants as entry
-use Rattle.console_lines.specs.Entries.{entry_text, json_text}
+use Rattle.console_lines.specs.Entries.{entry_text, json_text, listed_entry, scope_item}
 use Rattle.console_lines.specs.Progress.{WritesPart}
 use Rattle.console_lines.proofs.Written.{appends_then}
 use Rattle.run_console.specs.Entries.{from_scopes, items_text}
@@ -72,3 +77,16 @@ pub json_cut : (p : State) (h k : List ℕ) (w0 w1 w2 : Option (List ℕ))
     → WritesPart w1 w2 k → WritesPart w0 w2 (json_text p)
 json_cut p h k w0 w1 w2 e told cut =
     subst (λ t. WritesPart w0 w2 t) e (told_cut (from_scopes p) h k w0 w1 w2 told cut)
+
+-- ---- a scope
+
+-- What stands in the list for a scope whose row and look are known.
+pub scope_listed : (p : State) (n : ℕ) (row : Scope) (kind : Kind) (look : Look)
+    → Some row ≡ slice_get p.tree.scopes n → Some look ≡ look_of p n → kind ≡ row.kind
+    → listed_entry n (Some (entry.Scope n row.parent kind look)) ≡ scope_item p n
+scope_listed p n row kind look found seen same =
+    let Text : Option Scope → Option Look → List ℕ = λ r l. listed_entry n (option_and_then
+    (λ (x : Scope). option_map (λ (y : Look). entry.Scope n x.parent x.kind y) l) r) in
+    ap (λ k. listed_entry n (Some (entry.Scope n row.parent k look))) same
+    ∙ ap (λ l. Text (Some row) l) seen
+    ∙ ap (λ r. Text r (look_of p n)) found

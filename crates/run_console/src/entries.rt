@@ -11,7 +11,7 @@ ghost use Rattle.run_console.specs.Entries.{from_groups, from_scopes, from_tasks
 ghost use Rattle.run_console.specs.Entries.{items_text};
 ghost use Rattle.run_console.specs.Progress.{Told};
 
-use crate::inspects::Rows;
+use crate::inspects::{Rows, scope_row};
 use crate::writings::{Gathered, gather_bytes, write_gathered};
 use console_lines::{Entry, LONGEST_ENTRY, RunFault};
 use run_state::State;
@@ -138,8 +138,8 @@ impl Rows {
 fn scope_entry<B: Allocator>(number: u16, state: &State<B>) -> Option<Entry>
     ensures { listed_entry number result ≡ item_of Rows.Scopes state.now number }
 {
+    let row = scope_row(number, state)?;
     let look = state.look(number)?;
-    let row = state.scopes().get(number as usize)?;
     Some(Entry::Scope(number, row.parent, row.kind.copy(), look))
 }
 

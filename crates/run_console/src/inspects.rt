@@ -1,14 +1,15 @@
 //! What is printed of a whole state.
 
 ghost use Rattle.std.specs.Io.KnownBytes.{Appends};
-ghost use Rattle.std.specs.Prelude.{◌≡◌, ◌≤◌, ◌++◌, IfErr, OnErr, OnOk};
-ghost use Rattle.console_lines.specs.Inspected.{inspected, seen_line};
+ghost use Rattle.std.specs.Prelude.{◌≡◌, ◌≤◌, ◌++◌, IfErr, OnErr, OnOk, option_map, slice_get};
+ghost use Rattle.console_lines.specs.Inspected.{inspected, seen_line, task_row};
 ghost use Rattle.console_lines.specs.Progress.{WritesPart};
 ghost use Rattle.run_console.specs.Inspecting.{count_of, line_of, rows_text};
 ghost use Rattle.run_console.specs.Progress.{Told};
 
 use crate::writings::{Gathered, make_room, write_gathered};
 use console_lines::{Row, RunFault};
+use run_model::Scope;
 use run_state::State;
 use std::alloc::Allocator;
 use std::io::Write;
@@ -59,13 +60,25 @@ impl Rows {
         match self {
             Rows::Scopes => Some(Row::Scope(number, state.look(number)?)),
             Rows::Groups => Some(Row::Group(number, state.group(number)?)),
-            Rows::Tasks => {
-                let look = state.task(number)?;
-                let group = state.group(look.group)?;
-                Some(Row::Task(number, group.name, look))
-            }
+            Rows::Tasks => task_row(number, state),
         }
     }
+}
+
+/// The row of the task of this number.
+pub(crate) fn task_row<B: Allocator>(number: u16, state: &State<B>) -> Option<Row>
+    ensures { result ≡ task_row state.now number }
+{
+    let look = state.task(number)?;
+    let group = state.group(look.group)?;
+    Some(Row::Task(number, group.name, look))
+}
+
+/// The row of the scope of this number, lent until the state changes.
+pub(crate) fn scope_row<B: Allocator>(number: u16, state: &State<B>) -> Option<&Scope>
+    ensures { option_map (λ row. row.now) result ≡ slice_get state.now.tree.scopes number }
+{
+    state.scopes().get(number as usize)
 }
 
 /// Gathers these rows of a state. What is gathered is written where there is no room for another.

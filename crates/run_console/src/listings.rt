@@ -7,7 +7,7 @@ ghost use Rattle.console_lines.specs.Listed.{listed, listed_line};
 ghost use Rattle.console_lines.specs.Progress.{WritesPart};
 ghost use Rattle.run_console.specs.Progress.{Told};
 
-use crate::inspects::{Rows, gather_row};
+use crate::inspects::{Rows, gather_row, task_row};
 use crate::writings::{Gathered, write_gathered};
 use console_lines::{Row, RunFault};
 use run_state::State;
@@ -70,9 +70,7 @@ fn listed_task<B: Allocator>(
     ensures { seen_line result ≡ listed_line (option_map (λ word. word.now) phase.entry)
         (option_map (λ word. word.now) group.entry) state.now number }
 {
-    let look = state.task(number)?;
-    let its = state.group(look.group)?;
-    let row = Row::Task(number, its.name, look);
+    let row = task_row(number, state)?;
     if row.is_listed(phase, group) {
         Some(row)
     } else {

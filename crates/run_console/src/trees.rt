@@ -15,7 +15,7 @@ ghost use Rattle.console_lines.specs.Walks.{IsAt};
 ghost use Rattle.run_console.specs.Progress.{Told};
 
 use crate::entries::make_entry_room;
-use crate::inspects::{Rows, gather_row};
+use crate::inspects::{Rows, gather_row, scope_row};
 use crate::writings::{Gathered, gather_bytes, write_gathered};
 use arrayvec::ArrayVec;
 use console_lines::{
@@ -169,7 +169,7 @@ fn push_scope<B: Allocator>(number: u16, state: &State<B>, gathered: &mut Gather
     requires { array_vec_len gathered.old + LONGEST_TREE_SCOPE ≤ 8192 }
     ensures { gathered.new.items ≡ gathered.old.items ++ tree_scope state.now number }
 {
-    if let Some(row) = state.scopes().get(number as usize) {
+    if let Some(row) = scope_row(number, state) {
         if let Some(look) = state.look(number) {
             gather_tree_scope(number, &row.kind, &look, gathered);
         }
@@ -217,7 +217,7 @@ fn scope_parent<B: Allocator>(number: u16, state: &State<B>) -> Option<u16>
     ensures { result ≡ option_map (λ row. row.parent)
         (slice_get state.now.tree.scopes number) }
 {
-    Some(state.scopes().get(number as usize)?.parent)
+    Some(scope_row(number, state)?.parent)
 }
 
 /// Appends the scope of each group.

@@ -1,5 +1,6 @@
-use Rattle.std.specs.Prelude.{◌<◌, take}
+use Rattle.std.specs.Prelude.{◌<◌, ◌≤◌, length, take}
 use Rattle.std.proofs.Common.{ap, sym, ◌∙◌, arith}
+use Rattle.std.proofs.lemmas.List.{take_all}
 use Rattle.run_model.specs.Tasks.{is_admitted}
 use Rattle.console_lines.specs.Tallies.{tallies_of}
 use Rattle.run_console.proofs.Counting.{few_counted, seen_row}
@@ -15,3 +16,10 @@ loop-task-preserved g c =
     c.in_ok-add.ensures.added (take n p.work.tasks) seen.row (is_admitted p.work n seen.row)
     c.loop-task.invariant (few_counted p.work.tasks n few) seen.job seen.phase
     ∙ ap tallies_of (sym seen.more)
+
+pub returns-clause-counted : goal.returns-clause-counted
+returns-clause-counted g c =
+    let tasks = c.args.state.now.work.tasks in
+    let all : length tasks ≤ c.loop-task.task =
+    omega (arith, c.loop-task-test.false, c.task_count-task-end.ensures) in
+    c.loop-task.invariant ∙ ap tallies_of (take_all c.loop-task.task tasks all)
