@@ -52,8 +52,8 @@ pub record HasReadTooMany (old read : DiskState) : Type 0 where
   pub recovered : HasRecovered state old read
   pub many : 2 ^ 62 ≤ state.count
 
--- Why a disk of a small store's size gives no state to migrate, by the fault that tells it, and
--- what is left of it. Where memory is refused, no call was made.
+-- Why a disk of the store's size gives no state to copy, by the fault that tells it, and what is
+-- left of it. Where memory is refused, no call was made.
 abbrev pub ReadsNot : {D : Type 0} → (D → DiskState) → D → MigrateFault → D → Type 0
 ReadsNot from old why.Memory read = read ≡ old
 ReadsNot from old (why.Old WrongSize) read = ⊥
