@@ -25,16 +25,6 @@ pub fn holds(rt: &impl Abort, it: bool, what: &str, row: u64) {
     assert!(rt; it, "{what}, {row}");
 }
 
-/// Asserts that something holds. The message names the row.
-pub fn holds_at(rt: &impl Abort, it: bool, what: &str, row: usize) {
-    assert!(rt; it, "{what} {row}");
-}
-
-/// Asserts that something holds. The message names the table, the part and its row.
-pub fn holds_in(rt: &impl Abort, it: bool, what: &str, part: &str, row: usize) {
-    assert!(rt; it, "{what}: {part} {row}");
-}
-
 /// Asserts that something holds behind so many calls, torn in this way.
 pub fn holds_behind(rt: &impl Abort, it: bool, calls: u64, torn: Torn) {
     assert!(rt; it, "behind call {calls}, {torn:?}");

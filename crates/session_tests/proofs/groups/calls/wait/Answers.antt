@@ -1,0 +1,17 @@
+use Rattle.std.proofs.Common.{Ok, sym}
+use Rattle.std.proofs.lemmas.Bool.{and_from, not-false}
+use Rattle.run_model.specs.Allowed.{refusals}
+use Rattle.run_model.specs.Event as event
+use Rattle.run_model.specs.State.{new_tree}
+use Rattle.run_model.proofs.RefusalLemmas.{each_fails, unless_Ok}
+use Rattle.session_tests.proofs.groups.calls.wait.Goals as goal
+
+pub wait-requires : goal.wait-requires
+wait-requires g c =
+    let w = c.args.groups.now in
+    let tree = new_tree w.layout in
+    let asked = refusals (record { count = 0; tree = tree; work = w })
+    (event.Wait c.args.group) in
+    let may = each_fails asked (unless_Ok asked (Ok tt) tt
+    (sym (c.in_ok-check_wait.ensures 0 tree))).0 in
+    record { accepted = and_from _ _ (not-false _ may.1.1.0) (not-false _ may.1.0) }
