@@ -1,14 +1,18 @@
 //! The machine that a book over a disk is, and what many nights of it lead to.
 
-ghost use Rattle.std.specs.Prelude.{◌≡◌, ◌≤◌, List, length, Some};
+ghost use Rattle.std.specs.Prelude.{◌≡◌, ◌≤◌, ◌++◌, ◌∷◌, List, ℕ, false, length, Some};
 ghost use Rattle.std.specs.List.{flat_map};
 ghost use Rattle.run_model.specs.declared.answers.Reply.{Reply};
 ghost use Rattle.run_model.specs.declared.commands.Step.{Step};
-ghost use Rattle.run_model.specs.Allowed.{run};
+ghost use Rattle.run_model.specs.Allowed.{allowed, run};
+ghost use Rattle.run_model.specs.Event.{Event, Start};
+ghost use Rattle.run_model.specs.Session.{acknowledged};
 ghost use Rattle.run_model.specs.State.{State};
 ghost use Rattle.book_model.specs.Machines.{GoesOn, Machine, Move, Running, Stored, TakesAll};
 ghost use Rattle.book_model.specs.Machines.{opened_at};
-ghost use Rattle.book_model.specs.ManyNights.{LeadOver, Night, StoresBehindNights, moves_of};
+ghost use Rattle.book_model.specs.ManyNights.{LeadOver, Night, Spent, StoresBehindNights};
+ghost use Rattle.book_model.specs.ManyNights.{answers_of, moves_of, steps_of};
+ghost use Rattle.book_model.specs.Nights.{opened_from};
 ghost use Rattle.book_model.specs.Standing.{Closed, DoesAll, GoesAs, LiesWith, Standing, StandsAs};
 
 use run_disk::RunDisk;
@@ -44,4 +48,13 @@ pub fn many_nights_lose_nothing_acknowledged<D: RunDisk>()
     ensures books { (given next : D) (p : State) (nights : List Night) → LiesWith D.state given p
         → DoesAll D.state (Closed given) (flat_map moves_of nights) (Closed next)
         → StoresBehindNights p nights (D.state next).now }
+{}
+
+/// A task whose start was acknowledged in a night is started in no later one, however many follow.
+pub fn no_later_night_starts_a_task_again()
+    ensures { (p q : State) (calls : List (Step × Reply)) (more : List Step)
+        (nights : List Night) (n : ℕ) (before later : List Event)
+        → acknowledged (opened_from p) (steps_of calls) (answers_of calls)
+        ≡ before ++ Start n ∷ later
+        → LeadOver p (Spent calls more ∷ nights) q → allowed q (Start n) ≡ false }
 {}

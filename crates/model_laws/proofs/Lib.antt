@@ -24,6 +24,7 @@ pub mod Reopening
 pub mod RetriedOnce
 pub mod RightHits
 pub mod Shapes
+pub mod StartedOnce
 pub mod Starting
 pub mod StateSteps
 pub mod TaskEvents

@@ -1,8 +1,10 @@
 //! Which task is started, and which tasks of a group are admitted.
 
-ghost use Rattle.std.specs.Prelude.{◌≡◌, ◌↔◌, ℕ, false, take, None, Some, Ok};
-ghost use Rattle.run_model.specs.Event.{Start};
+ghost use Rattle.std.specs.Prelude.{◌≡◌, ◌↔◌, ℕ, List, false, true, take, None, Some, Ok};
+ghost use Rattle.run_model.specs.Allowed.{allowed, run};
+ghost use Rattle.run_model.specs.Event.{Event, Start};
 ghost use Rattle.run_model.specs.State.{State, WorkState};
+ghost use Rattle.run_model.specs.Step.{step};
 ghost use Rattle.run_model.specs.Tasks.{first_ready, is_ready, limit_of};
 ghost use Rattle.run_model.specs.Replies.{decide_start};
 ghost use Rattle.model_laws.specs.Queues.{IsLeastReady, admitted_tasks, unfinished_tasks};
@@ -24,4 +26,10 @@ pub fn the_first_unfinished_tasks_are_admitted()
         → limit_of w g ≡ Some most → admitted_tasks w g ≡ take most (unfinished_tasks w g) }
     ensures unlimited { (w : WorkState) (g : ℕ) → limit_of w g ≡ None
         → admitted_tasks w g ≡ unfinished_tasks w g }
+{}
+
+/// A task is started at most once, whatever events come after its start, restarts among them.
+pub fn a_task_is_started_once()
+    ensures { (p q : State) (n : ℕ) (events : List Event) → allowed p (Start n) ≡ true
+        → run (step p (Start n)) events ≡ Some q → allowed q (Start n) ≡ false }
 {}
