@@ -1,8 +1,12 @@
 //! A [`FileDisk`] is a disk over a file.
 //!
 //! Of what a file holds nothing is known here, so such a disk isn't called honest: of it only its
-//! size, its counts and its safety are claimed. A program that rests on it takes as its premise
+//! size, its counts and its safety are claimed. A program that relies on it takes as its premise
 //! that nobody else writes the file and that the file behaves as a disk does.
+//!
+//! A file of Linux behaves so only until a sync of it fails. Then the system takes what it could
+//! not write for written: reads still give it, a later sync succeeds and doesn't write it, and a
+//! power failure takes it. So nothing is done with such a file any more but to copy it.
 
 ghost use Rattle.std.specs.Prelude.{◌≡◌, IfOk, is_ok};
 ghost use Rattle.run_disk.specs.Files.{IsFileDisk, file_state, is_file_disk};
@@ -29,6 +33,10 @@ impl FileDisk {
     /// A disk over this file, which has to be open for what the disk is to do: where it is open for
     /// reading alone, each write fails. The file is synced first, which is no counted call: so what
     /// another program left in the system's memory is on the device before any of it is read.
+    ///
+    /// It isn't where an earlier sync of the file failed, in whichever program. Then a copy of the
+    /// file is to be opened in its place: what is written to a new file is on the device once a
+    /// sync of it succeeds.
     pub fn new(file: File) -> Result<FileDisk, DiskFailed>
         ensures calls { IfOk result (λ d. (⟦<FileDisk as RunDisk>⟧.state d).clock ≡ 0) }
         ensures failures { IfOk result (λ d. (⟦<FileDisk as RunDisk>⟧.state d).failures ≡ 0) }
@@ -49,8 +57,8 @@ impl FileDisk {
     }
 
     /// A disk over a file that is only read. It is synced first where its file system syncs such a
-    /// file: on one that is mounted for reading alone, what reads give may be what a cut of the
-    /// power would have lost.
+    /// file: on one that is mounted for reading alone, what reads give may be what a power failure
+    /// would have lost.
     pub fn to_read(file: File) -> io::Result<FileDisk>
         ensures calls { IfOk result (λ d. (⟦<FileDisk as RunDisk>⟧.state d).clock ≡ 0) }
         ensures failures { IfOk result (λ d. (⟦<FileDisk as RunDisk>⟧.state d).failures ≡ 0) }

@@ -9,9 +9,9 @@ use crate::disks::{DiskFailed, RunDisk};
 /// Syncs a disk before it is opened: one call, which changes no byte. At `Ok` an honest disk on
 /// which no failed write waits is at rest, whatever wrote to it before.
 ///
-/// What a killed program wrote is there to be read, and a cut of the power may still lose it. So
-/// whoever opens a disk that isn't known to be at rest settles it first: a disk that a book gave
-/// back whose sync had failed, say, or one that another program wrote.
+/// What a killed program wrote is there to be read, and a power failure may still lose it. So
+/// whoever opens a disk that isn't known to be at rest settles it first: one that another program
+/// wrote, say. A file whose sync failed is no honest disk any more: see [`crate::FileDisk`].
 #[tactic(auto, using(crate::proofs::RunLemmas::settled))]
 pub fn settle<D: RunDisk>(disk: &mut D) -> Result<(), DiskFailed>
     ensures ran { Ran (D.state disk.old) (D.state disk.new) result }
