@@ -137,14 +137,14 @@ module _ {D E : Type 0} (from : D → DiskState) (to : E → DiskState) (old rea
   renews_state (Err e) p honest sized is stores few fits =
       elim is.answer [
         | inl wrong ↦ absurd (no_layout (from old).size sized.from sized.old_size wrong.1)
-        | inr (inl wrong) ↦ absurd (no_layout (to given).size sized.to sized.new_size wrong.1)
+        | inr (inl wrong) ↦ absurd (no_layout (to given).size sized.to sized.new_size wrong.2)
         | inr (inr (inl none)) ↦
-            elim (read_state from old read disk e.0 p honest stores few none.0)
+            elim (read_state from old read disk e.0 p honest stores few none.1)
             [ inl memory ↦ inl memory | inr failed ↦ inr (inl failed) ]
         | inr (inr (inr none)) ↦
-            elim (write_state e.0 e.1 sized.to p none.state
-            (stores_one (from old).now none.state p (none.found.recovered.holds honest) stores)
-            sized.new_size fits none.none)
+            elim (write_state e.0 e.1 sized.to p none.1.state
+            (stores_one (from old).now none.1.state p (none.1.found.recovered.holds honest) stores)
+            sized.new_size fits none.1.none)
             [ inl memory ↦ inl memory | inr failed ↦ inr (inr failed) ]
       ]
 
@@ -170,12 +170,12 @@ module _ {D E : Type 0} (from : D → DiskState) (to : E → DiskState) (old rea
   renews_full (Err e) p disks honest sized is stores few full =
       elim is.answer [
         | inl wrong ↦ absurd (no_layout (from old).size sized.from sized.old_size wrong.1)
-        | inr (inl wrong) ↦ absurd (no_layout (to given).size sized.to sized.new_size wrong.1)
+        | inr (inl wrong) ↦ absurd (no_layout (to given).size sized.to sized.new_size wrong.2)
         | inr (inr (inl none)) ↦
-            elim (read_state from old read disk e.0 p honest stores few none.0)
+            elim (read_state from old read disk e.0 p honest stores few none.1)
             [ inl memory ↦ inl memory | inr failed ↦ inr (inl failed) ]
         | inr (inr (inr none)) ↦
-            elim (write_full e.0 e.1 none.state none.none) [
+            elim (write_full e.0 e.1 none.1.state none.1.none) [
               | inl memory ↦ inl memory
               | inr (inl size) ↦ inr (inr (inl size))
               | inr (inr failed) ↦ inr (inr (inr failed))
@@ -203,9 +203,9 @@ module _ {D E : Type 0} (from : D → DiskState) (to : E → DiskState) (old rea
       elim is.answer [
         | inl wrong ↦ absurd (true≢false (ap is_size (sym wrong.0 ∙ told)))
         | inr (inl wrong) ↦ absurd (true≢false (ap is_size (sym wrong.0 ∙ told)))
-        | inr (inr (inl unread)) ↦ old_read_cause e.0 told unread.0
+        | inr (inr (inl unread)) ↦ old_read_cause e.0 told unread.1
         | inr (inr (inr unwritten)) ↦
-            absurd (unwritten_old e.0 e.1 unwritten.state told unwritten.none)
+            absurd (unwritten_old e.0 e.1 unwritten.1.state told unwritten.1.none)
       ]
 
   new_write_cause : (w : MigrateFault) (new : E) (q : State) → w ≡ why.New fault.DiskFailed
@@ -224,9 +224,9 @@ module _ {D E : Type 0} (from : D → DiskState) (to : E → DiskState) (old rea
       elim is.answer [
         | inl wrong ↦ absurd (true≢false (ap is_size (sym wrong.0 ∙ told)))
         | inr (inl wrong) ↦ absurd (true≢false (ap is_size (sym wrong.0 ∙ told)))
-        | inr (inr (inl unread)) ↦ absurd (unread_new e.0 told unread.0)
+        | inr (inr (inl unread)) ↦ absurd (unread_new e.0 told unread.1)
         | inr (inr (inr unwritten)) ↦
-            new_write_cause e.0 e.1 unwritten.state told unwritten.none
+            new_write_cause e.0 e.1 unwritten.1.state told unwritten.1.none
       ]
 
   -- ---- no state
@@ -242,9 +242,9 @@ module _ {D E : Type 0} (from : D → DiskState) (to : E → DiskState) (old rea
   renews_none (Err e) other honest sized is none =
       elim is.answer [
         | inl wrong ↦ absurd (no_layout (from old).size sized.from sized.old_size wrong.1)
-        | inr (inl wrong) ↦ absurd (no_layout (to given).size sized.to sized.new_size wrong.1)
-        | inr (inr (inl unread)) ↦ read_none from old read disk e.0 other honest none unread.0
+        | inr (inl wrong) ↦ absurd (no_layout (to given).size sized.to sized.new_size wrong.2)
+        | inr (inr (inl unread)) ↦ read_none from old read disk e.0 other honest none unread.1
         | inr (inr (inr unwritten)) ↦
-            absurd (stores_not_both (from old).now unwritten.state other
-            (unwritten.found.recovered.holds honest) none)
+            absurd (stores_not_both (from old).now unwritten.1.state other
+            (unwritten.1.found.recovered.holds honest) none)
       ]

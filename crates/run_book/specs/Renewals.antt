@@ -20,6 +20,7 @@ use Rattle.state_renewal.specs.Renewed.{fits_in, renewed, renewed_in}
 use Rattle.book_model.specs.declared.migrations.MigrateFault.{MigrateFault}
 use Rattle.book_model.specs.declared.migrations.MigrateFault.TheVariants as why
 use Rattle.book_model.specs.Migrations.{AreUncalled, HasReadStore, ReadsNot, new_disk}
+use Rattle.book_model.specs.Openings.{HasStoreSize}
 use Rattle.book_model.specs.Stores.{Stores, StoresFresh, StoresNothingOr}
 
 -- ---- the new disk, which is written
@@ -81,18 +82,24 @@ pub record HasNotRenewed
   pub found : HasReadStore state old read
   pub none : WritesNot to state given fault new
 
--- Why no store was made, by the fault that tells it, and what is left of the two disks: one of them
--- has no store's size, and neither was called; or the old one wasn't read; or it was, and none was
--- made of its state.
+-- Both disks have a store's size.
+pub record AreBothStores (old given : DiskState) : Type 0 where
+  pub first : HasStoreSize old
+  pub second : HasStoreSize given
+
+-- Why no store was made, by the fault that tells it, and what is left of the two disks: the old one
+-- has no store's size, or else the new one hasn't, and neither was called; or both have, and the
+-- old one wasn't read; or it was, and none was made of its state.
 abbrev pub RenewsNot : {D E : Type 0} → (D → DiskState) → (E → DiskState) → D → E → MigrateFault
     → D → E → Type 0
 RenewsNot from to old given fault read new =
     ((fault ≡ why.Old WrongSize) × (layout_of (from old).size ≡ None)
     × AreUncalled old given read new)
-    ⊎ ((fault ≡ why.New WrongSize) × (layout_of (to given).size ≡ None)
-    × AreUncalled old given read new)
-    ⊎ (ReadsNot from old fault read × (new ≡ given))
-    ⊎ HasNotRenewed to (from old) (from read) given fault new
+    ⊎ ((fault ≡ why.New WrongSize) × HasStoreSize (from old)
+    × (layout_of (to given).size ≡ None) × AreUncalled old given read new)
+    ⊎ (AreBothStores (from old) (to given) × ReadsNot from old fault read × (new ≡ given))
+    ⊎ (AreBothStores (from old) (to given)
+    × HasNotRenewed to (from old) (from read) given fault new)
 
 -- What a renewal answers: the new disk, and at a fault the fault too.
 abbrev pub AnswersRenewal : {D E : Type 0} → (D → DiskState) → (E → DiskState) → D → E

@@ -38,10 +38,11 @@ returns-in_default-of g c =
     let old = c.args.old.now in
     let new = c.args.new in
     let none = no_size _ _ _ c.size-2.ensures c.of-2.ensures c.in_default-of.is in
+    let found = len_found c.size.result c.in-Some.from (sym c.in-Some.ensures) in
     record {
       renews = renews_not g.D.RunDisk.state g.E.RunDisk.state old old new
           (g.met.D.RunDisk.is_disk old) (why.New WrongSize) new (g.met.E.RunDisk.is_disk new)
-          (inr (inl (refl, none, (refl, refl))));
+          (inr (inl (refl, (c.in-Some.from, sym c.size.ensures ∙ found), none, (refl, refl))));
     }
 
 pub renew_sized-requires : goal.renew_sized-requires

@@ -3,7 +3,7 @@ use Rattle.std.proofs.lemmas.Result.{IfOk-from_err}
 use Rattle.std.specs.Prelude.{IfErr}
 use Rattle.run_book.specs.Renewals.{RenewsNot}
 use Rattle.run_book.proofs.Exits.{passed_on}
-use Rattle.run_book.proofs.Renewing.{new_size, new_state, no_memory, unread_not}
+use Rattle.run_book.proofs.Renewing.{both_stores, new_size, new_state, no_memory, unread_not}
 use Rattle.run_book.proofs.Renewing.{written_done, written_not}
 use Rattle.run_book.proofs.renewals.renew_sized.Goals as goal
 
@@ -31,6 +31,7 @@ pub returns-clause-not : goal.returns-clause-not
 returns-clause-not g c =
     written_not g.D.RunDisk.state g.E.RunDisk.state c.args.old.now c.read_stored.new.old
     c.args.new.now c.write_left-written.new.new c.write_left-written.result c.in_ok-stored.stored
+    (both_stores _ _ c.args.from c.args.to c.requires.from c.requires.to)
     c.in_ok-stored.ensures.found c.write_left-written.ensures.not
 
 pub returns-in_err-state-clause-renewed : goal.returns-in_err-state-clause-renewed
@@ -45,7 +46,9 @@ returns-in_err-state-clause-not g c =
     let given = c.args.new.now in
     subst (λ r. IfErr r (λ w. RenewsNot from to old given w old given))
     (sym (passed_on c.from_residual.result _ c.from_residual.ensures.1))
-    (unread_not from to old old given _ (no_memory from old _ c.in_err-state.ensures.fault))
+    (unread_not from to old old given _
+    (both_stores _ _ c.args.from c.args.to c.requires.from c.requires.to)
+    (no_memory from old _ c.in_err-state.ensures.fault))
 
 pub returns-in_err-stored-clause-renewed : goal.returns-in_err-stored-clause-renewed
 returns-in_err-stored-clause-renewed g c =
@@ -61,4 +64,6 @@ returns-in_err-stored-clause-not g c =
     let r = c.from_residual-in_err-stored in
     subst (λ r. IfErr r (λ w. RenewsNot from to old given w read given))
     (sym (passed_on r.result _ r.ensures.1))
-    (unread_not from to old read given _ c.in_err-stored.ensures.none)
+    (unread_not from to old read given _
+    (both_stores _ _ c.args.from c.args.to c.requires.from c.requires.to)
+    c.in_err-stored.ensures.none)
