@@ -2,11 +2,14 @@
 use Rattle.std.specs.Prelude.{ℕ, List, codes}
 use Rattle.night_program.specs.declared.reasons.Reason.{Reason}
 use Rattle.night_program.specs.declared.reasons.Reason.TheVariants.{EndedEarly, InUse}
-use Rattle.night_program.specs.declared.reasons.Reason.TheVariants.{OtherName, Said}
+use Rattle.night_program.specs.declared.reasons.Reason.TheVariants.{NotAFile, OtherName, Said}
+use Rattle.night_program.specs.declared.reasons.Reason.TheVariants.{Unsynced}
 
 -- What is printed of a reason: of the system's its own text.
 abbrev pub reason_text : Reason → List ℕ
 reason_text InUse = codes "in use by another program"
 reason_text EndedEarly = codes "it ended early"
 reason_text OtherName = codes "its file has another name, too"
+reason_text NotAFile = codes "not a file"
+reason_text Unsynced = codes "a sync of it failed: put a copy in its place"
 reason_text (Said text) = text.bytes

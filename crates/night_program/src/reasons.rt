@@ -19,6 +19,11 @@ pub enum Reason {
     EndedEarly,
     /// The file is to be replaced, and its name is a link, or not its only one.
     OtherName,
+    /// It is no regular file: a folder, a pipe or a device.
+    NotAFile,
+    /// A sync of it failed, so that what reads give may not be on the device, and it couldn't be
+    /// made anew from that.
+    Unsynced,
     /// What the system said, at most 96 bytes of it.
     Said(ArrayString<96>),
 }
@@ -49,6 +54,8 @@ impl fmt::Display for Reason {
             Reason::InUse => f.write_str("in use by another program"),
             Reason::EndedEarly => f.write_str("it ended early"),
             Reason::OtherName => f.write_str("its file has another name, too"),
+            Reason::NotAFile => f.write_str("not a file"),
+            Reason::Unsynced => f.write_str("a sync of it failed: put a copy in its place"),
             Reason::Said(text) => f.write_str(text.as_str()),
         }
     }
