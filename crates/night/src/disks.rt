@@ -1,11 +1,14 @@
-//! A [`SystemDisk`] is a disk over a file of the system that notes why a call of it failed.
+//! A [`SystemDisk`] is a disk over a file of the system that notes why a call of it failed, and
+//! leaves the store's mark where a sync did.
 
 ghost use Rattle.std.specs.Prelude.{◌≡◌};
 ghost use Rattle.run_disk.specs.Files.{file_state, is_file_disk};
 
 use crate::complaints::Complaint;
+use crate::marks::Mark;
 use run_disk::{DiskFailed, FileDisk, RunDisk};
-use std::fs::Metadata;
+use std::fs;
+use std::fs::{File, Metadata};
 use std::os::unix::fs::MetadataExt;
 
 /// Which of the system's files a file is, whatever its names.
@@ -25,28 +28,40 @@ impl Inode {
 }
 
 /// A disk over a file. Why the first call that failed did is noted where whoever opened the file
-/// finds it.
+/// finds it; where a sync failed, the store's mark is left before anything else is done.
 #[derive(Drop)]
-pub struct SystemDisk<'a> {
+pub struct SystemDisk<'a, S> {
     disk: FileDisk,
     inode: Inode,
+    mark: Mark<'a, S>,
     complaint: &'a Complaint,
 }
 
-impl<'a> SystemDisk<'a> {
-    pub fn new(disk: FileDisk, inode: Inode, complaint: &'a Complaint) -> SystemDisk<'a>
+impl<'a, S: fs::Files<File = File>> SystemDisk<'a, S> {
+    pub fn new(
+        disk: FileDisk,
+        inode: Inode,
+        mark: Mark<'a, S>,
+        complaint: &'a Complaint,
+    ) -> SystemDisk<'a, S>
         ensures { result.disk ≡ disk }
     {
         SystemDisk {
             disk,
             inode,
+            mark,
             complaint,
         }
     }
 
-    /// Says whether it is a disk over this file.
-    pub fn is_over(&self, found: &Metadata) -> bool {
-        self.inode == Inode::of(found)
+    /// Which file it is a disk over.
+    pub fn inode(&self) -> Inode {
+        self.inode
+    }
+
+    /// Takes the store's mark away: all of the file was written anew, and synced.
+    pub fn forgive(&self) {
+        self.mark.remove();
     }
 
     /// Notes why a call failed that came to this.
@@ -62,7 +77,7 @@ impl<'a> SystemDisk<'a> {
     }
 }
 
-impl RunDisk for SystemDisk<'_> {
+impl<S: fs::Files<File = File>> RunDisk for SystemDisk<'_, S> {
     ghost state = { λ d. file_state d.disk.size d.disk.tally.calls d.disk.tally.failures };
 
     ghost is_disk = { λ d. is_file_disk d.disk.size d.disk.tally.calls d.disk.tally.failures
@@ -84,6 +99,9 @@ impl RunDisk for SystemDisk<'_> {
 
     fn sync(&mut self) -> Result<(), DiskFailed> {
         let done = self.disk.sync();
+        if done.is_err() {
+            self.mark.leave();
+        }
         self.noted(done)
     }
 }

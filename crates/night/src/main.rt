@@ -12,7 +12,9 @@
 
 mod clock;
 mod complaints;
+mod contents;
 mod disks;
+mod marks;
 mod system;
 
 use crate::clock::SystemClock;
@@ -20,14 +22,45 @@ use crate::system::{Complaints, SystemFiles};
 use night_program::{CopyJob, FailJob, SpinJob, night};
 use night_words::own_words;
 use run_crew::Job;
+use std::alloc::AllocGlobal;
+use std::env::Env;
+use std::fs;
+use std::fs::File;
+use std::io::{Read, Write};
 use std::process::ExitCode;
+use std::sync::Wait;
+use std::thread::{Builder, Threads};
+use std::time::Clock;
 
 /// The most workers that the words can ask for.
 const MOST_WORKERS: usize = 8;
 
+/// So many bytes of stack are enough for all that the words can ask for: 512 KiB are.
+const STACK: usize = 4 << 20;
+
+/// Runs in a thread with a stack of its own, since the one that the system gives may be too small.
 fn main(rt: HostRuntime) -> ExitCode {
+    let all = move || run(&rt, rt.stdin(), rt.stdout(), rt.stderr());
+    let builder = Builder::new().stack_size(STACK);
+    ExitCode::from(match builder.spawn(&rt, all) {
+        Ok(thread) => thread.join(&rt),
+        Err(_) => run(&rt, rt.stdin(), rt.stdout(), rt.stderr()),
+    })
+}
+
+/// Does what the program's words ask for, and gives its exit status.
+fn run<R, I: Read + Drop, O: Write + Drop, E: Write + Drop>(
+    rt: &R,
+    input: I,
+    output: O,
+    errors: E,
+) -> u8
+where
+    R: AllocGlobal + Env + Clock + fs::Files<File = File> + Threads + Wait + Sync,
+{
+    let (mut input, mut output, mut errors) = (input, output, errors);
     let alloc = rt.alloc();
-    let words = own_words(&rt);
+    let words = own_words(rt);
     // A list for each worker, as far as there is memory: a crew of more is told that it is wanting.
     let mut jobs: Vec<Vec<Box<dyn Job + Send>>> = Vec::new(alloc);
     for _ in 0..MOST_WORKERS {
@@ -49,13 +82,10 @@ fn main(rt: HostRuntime) -> ExitCode {
         }
     }
     let complaints = Complaints::new();
-    let mut files = SystemFiles::new(&rt, &complaints);
-    let mut clock = SystemClock::new(&rt);
-    let mut input = rt.stdin();
-    let mut output = rt.stdout();
-    let mut errors = rt.stderr();
+    let mut files = SystemFiles::new(rt, alloc, &complaints);
+    let mut clock = SystemClock::new(rt);
     let ended = night(
-        &rt,
+        rt,
         alloc,
         words,
         jobs,
@@ -65,5 +95,5 @@ fn main(rt: HostRuntime) -> ExitCode {
         &mut output,
         &mut errors,
     );
-    ExitCode::from(ended.status)
+    ended.status
 }

@@ -4,18 +4,17 @@ ghost use Rattle.std.specs.Prelude.{◌≡◌, ⊤, IfOk};
 ghost use Rattle.night_program.specs.Files.{FilesView};
 
 use crate::complaints::Complaint;
+use crate::contents::{copy, fill};
 use crate::disks::{Inode, SystemDisk};
-use night_program::{Files, Made, Opened, Reason};
+use crate::marks::Mark;
+use night_program::{BESIDE, Files, Made, Opened, Reason};
 use run_disk::{FileDisk, RunDisk};
+use std::alloc::Global;
 use std::fs::{File, Metadata, OpenOptions, TryLockError};
-use std::io::Write;
 use std::os::unix::fs::{MetadataExt, OpenOptionsExt, fchown};
-use std::path::Path;
+use std::path::{Path, PathBuf};
 use std::time::{Clock, Duration};
 use std::{fs, io, thread};
-
-/// So many zero bytes are written at a time.
-const PART: usize = 4096;
 
 /// The file that takes everything, and is empty.
 const NULL: &str = "/dev/null";
@@ -47,34 +46,49 @@ impl Complaints {
 #[derive(Drop)]
 pub struct SystemFiles<'a, S> {
     system: &'a S,
+    alloc: Global,
     complaints: &'a Complaints,
     streams: io::Result<[File; 3]>,
+    // the file that was opened or created last: it stays locked once its disk is gone, so that it
+    // is taken away under its lock
+    held: Option<File>,
 }
 
 impl<'a, S: fs::Files<File = File>> SystemFiles<'a, S> {
     /// Fills the descriptors of the standard streams that are closed.
-    pub fn new(system: &'a S, complaints: &'a Complaints) -> Self {
+    pub fn new(system: &'a S, alloc: Global, complaints: &'a Complaints) -> Self {
         SystemFiles {
             system,
+            alloc,
             complaints,
             streams: filled(system),
+            held: None,
         }
     }
 
-    /// Opens the file of this name, once the standard streams stand.
+    /// Opens the file of this name, once the standard streams stand. A pipe or a device is refused
+    /// before it is opened; a folder the system refuses.
     fn with(&self, how: &OpenOptions, name: &str) -> Result<File, Reason> {
         if let Err(error) = &self.streams {
             return Err(Reason::of_other(NULL, error));
         }
-        or_reason(how.open(self.system, name))
+        if fs::metadata(self.system, name).is_ok_and(|it| is_special(&it)) {
+            return Err(Reason::NotAFile);
+        }
+        let file = or_reason(how.open(self.system, name))?;
+        if or_reason(file.metadata())?.is_file() {
+            Ok(file)
+        } else {
+            Err(Reason::NotAFile)
+        }
     }
 
-    /// Opens the file of this name for reading alone. What is no file, as a folder or a pipe, is
-    /// opened for both, so that the system says what is wrong, and doesn't wait for a writer.
+    /// Opens the file of this name for reading alone. A folder is opened for both, so that the
+    /// system says what is wrong.
     fn with_reading(&self, name: &str) -> Result<File, Reason> {
-        let is_file = fs::metadata(self.system, name).is_ok_and(|it| it.is_file());
+        let is_folder = fs::metadata(self.system, name).is_ok_and(|it| it.is_dir());
         let mut how = OpenOptions::new();
-        how.read(true).write(!is_file);
+        how.read(true).write(is_folder);
         self.with(&how, name)
     }
 
@@ -96,6 +110,39 @@ impl<'a, S: fs::Files<File = File>> SystemFiles<'a, S> {
         }
     }
 
+    /// Keeps a file locked until another one is opened or created.
+    fn hold(&mut self, file: &File) -> Result<(), Reason> {
+        self.held = Some(or_reason(file.try_clone())?);
+        Ok(())
+    }
+
+    /// Takes a file away that has this name, under its lock.
+    fn take_away(&self, file: &File, name: &str) {
+        if self.is_named(file, name) {
+            let _gone = fs::remove_file(self.system, name);
+        }
+    }
+
+    /// Takes the file that is held away, where it has this name.
+    fn take_held(&self, name: &str) {
+        if let Some(file) = &self.held {
+            self.take_away(file, name);
+        }
+    }
+
+    /// The path of the file of this name without a link in it, or else the name.
+    fn path(&self, name: &str) -> Result<PathBuf, Reason> {
+        match self.system.canonicalize(self.alloc, name) {
+            Ok(path) => Ok(path),
+            Err(_) => or_reason(PathBuf::from_str(self.alloc, name).map_err(io::Error::from)),
+        }
+    }
+
+    /// The place of the mark of the store in the file of this path.
+    fn mark(&self, path: &str) -> Result<Mark<'a, S>, Reason> {
+        or_reason(Mark::beside(self.system, self.alloc, path).map_err(io::Error::from))
+    }
+
     /// Gives a file the owner and the rights of the one of this name, if there is to be one.
     fn liken(&self, file: &File, like: Option<&str>) -> io::Result<()> {
         let Some(name) = like else {
@@ -109,74 +156,99 @@ impl<'a, S: fs::Files<File = File>> SystemFiles<'a, S> {
         file.set_permissions(wanted.permissions())
     }
 
-    /// A disk over a file that is read alone.
-    fn shown(&self, file: File) -> Result<Opened<SystemDisk<'a>, &'a Complaint>, Reason> {
-        let why = &self.complaints.opened;
+    /// A disk over a file that is synced first. Where that fails, the store's mark is left.
+    fn settled(
+        &self,
+        file: File,
+        mark: Mark<'a, S>,
+        why: &'a Complaint,
+    ) -> Result<SystemDisk<'a, S>, Reason> {
         let inode = or_reason(inode(&file))?;
-        let disk = or_reason(FileDisk::to_read(file))?;
-        Ok(Opened {
-            disk: SystemDisk::new(disk, inode, why),
-            why,
-        })
+        match FileDisk::settled(file) {
+            Ok(disk) => Ok(SystemDisk::new(disk, inode, mark, why)),
+            Err(error) => {
+                mark.leave();
+                Err(Reason::of(&error))
+            }
+        }
+    }
+
+    /// A disk over a file that is read alone.
+    fn shown(
+        &self,
+        file: File,
+        name: &str,
+    ) -> Result<Opened<SystemDisk<'a, S>, &'a Complaint>, Reason> {
+        let why = &self.complaints.opened;
+        let path = self.path(name)?;
+        let mark = self.mark(path.as_str())?;
+        let inode = or_reason(inode(&file))?;
+        match FileDisk::to_read(file) {
+            Ok(disk) => Ok(Opened {
+                disk: SystemDisk::new(disk, inode, mark, why),
+                why,
+            }),
+            Err(error) => {
+                mark.leave();
+                Err(Reason::of(&error))
+            }
+        }
     }
 
     /// A file that was created, or is emptied, made like that of another name, if there is one, and
     /// filled with so many zero bytes. It is this program's alone before it is touched, or taken
     /// away.
     fn made(
-        &self,
+        &mut self,
         file: File,
         name: &str,
         like: Option<&str>,
         size: u64,
         is_new: bool,
-    ) -> Result<Made<SystemDisk<'a>, &'a Complaint>, Reason>
+    ) -> Result<Made<SystemDisk<'a, S>, &'a Complaint>, Reason>
         ensures size { IfOk result (λ made.
-            (⟦<SystemDisk<'a> as RunDisk>⟧.state made.disk).size ≡ size) }
+            (⟦<SystemDisk<'a, S> as RunDisk>⟧.state made.disk).size ≡ size) }
         ensures new { IfOk result (λ made. made.is_new ≡ is_new) }
     {
         self.lock(&file, name)?;
-        let why = &self.complaints.created;
-        match self.zeros(file, name, like, size) {
-            Ok((disk, inode)) => Ok(Made {
-                disk: SystemDisk::new(disk, inode, why),
-                why,
-                is_new,
-            }),
-            Err(reason) => {
-                if is_new {
-                    let _gone = fs::remove_file(self.system, name);
-                }
-                Err(reason)
-            }
+        self.hold(&file)?;
+        let done = self.zeros(file, name, like, size);
+        if is_new && done.is_err() {
+            self.take_held(name);
         }
+        Ok(Made {
+            disk: done?,
+            why: &self.complaints.created,
+            is_new,
+        })
     }
 
-    /// A disk over a file that was made like another one, and filled with so many zero bytes; and
-    /// which file it is.
+    /// A disk over a file that was made like another one, and filled with so many zero bytes. What
+    /// a failed sync left of it before is gone, and so is the mark.
     fn zeros(
         &self,
         file: File,
         name: &str,
         like: Option<&str>,
         size: u64,
-    ) -> Result<(FileDisk, Inode), Reason>
-        ensures { IfOk result (λ made. (⟦<FileDisk as RunDisk>⟧.state made.0).size ≡ size) }
+    ) -> Result<SystemDisk<'a, S>, Reason>
+        ensures { IfOk result (λ made. (⟦<SystemDisk<'a, S> as RunDisk>⟧.state made).size ≡ size) }
     {
         let mut file = file;
         or_reason(self.liken(&file, like))?;
         or_reason(fill(&mut file, size))?;
         or_reason(self.sync_folder(name))?;
-        let inode = or_reason(inode(&file))?;
-        let disk = or_reason(FileDisk::settled(file))?;
-        if disk.size() == size {
-            Ok((disk, inode))
-        } else {
-            Err(Reason::EndedEarly)
+        let path = self.path(name)?;
+        let mark = self.mark(path.as_str())?;
+        let disk = self.settled(file, mark, &self.complaints.created)?;
+        if disk.size() != size {
+            return Err(Reason::EndedEarly);
         }
+        disk.forgive();
+        Ok(disk)
     }
 
-    /// Syncs the folder that the file of this name lies in, so that a cut of the power leaves a new
+    /// Syncs the folder that the file of this name lies in, so that a power failure leaves a new
     /// file its name. Of a link it is the link's own folder.
     fn sync_folder(&self, name: &str) -> io::Result<()> {
         let here = Path::new(".");
@@ -187,10 +259,82 @@ impl<'a, S: fs::Files<File = File>> SystemFiles<'a, S> {
         };
         File::open(self.system, folder)?.sync_all()
     }
+
+    /// So does [`SystemFiles::sync_folder`], as far as the folder may be read and has a sync.
+    fn settle_folder(&self, name: &str) -> Result<(), Reason> {
+        match self.sync_folder(name) {
+            Err(error) if !is_unsynced(error.kind()) => Err(Reason::of(&error)),
+            _ => Ok(()),
+        }
+    }
+
+    /// Puts a copy of the file of this path in its place, and gives it: what reads of the old one
+    /// give is on the device then, which it may not have been before.
+    fn renewed(&self, file: &File, path: &str) -> Result<File, Reason> {
+        let beside = or_reason([path, BESIDE].concat(self.alloc).map_err(io::Error::from))?;
+        let beside = beside.as_str();
+        self.clear(beside)?;
+        let mut how = OpenOptions::new();
+        how.read(true).write(true).create_new(true).mode(PRIVATE);
+        let mut made = self.with(&how, beside)?;
+        self.lock(&made, beside)?;
+        let done = self.put_copy(file, &mut made, beside, path);
+        if done.is_err() {
+            self.take_away(&made, beside);
+        }
+        done?;
+        Ok(made)
+    }
+
+    /// Takes away what a killed renewal left under this name, unless another program has it.
+    fn clear(&self, name: &str) -> Result<(), Reason> {
+        let mut how = OpenOptions::new();
+        match self.with(how.read(true).write(true), name) {
+            Ok(left) => {
+                self.lock(&left, name)?;
+                self.take_away(&left, name);
+                Ok(())
+            }
+            Err(_) => Ok(()),
+        }
+    }
+
+    /// Copies a file, and puts the copy, which lies beside it, in its place.
+    fn put_copy(
+        &self,
+        file: &File,
+        made: &mut File,
+        beside: &str,
+        path: &str,
+    ) -> Result<(), Reason> {
+        or_reason(self.liken(made, Some(path)))?;
+        or_reason(copy(file, made))?;
+        or_reason(made.sync_all())?;
+        let (new, old) = (or_reason(inode(made))?, or_reason(inode(file))?);
+        match self.put(new, old, beside, path) {
+            Err(Reason::OtherName) => Err(Reason::Unsynced),
+            done => done,
+        }
+    }
+
+    /// Gives the file of the first name, which has to be `new`, the second name, which has to be
+    /// the only one of `old`, and no link.
+    fn put(&self, new: Inode, old: Inode, from: &str, to: &str) -> Result<(), Reason> {
+        if new != Inode::of(&or_reason(fs::symlink_metadata(self.system, from))?) {
+            return Err(Reason::InUse);
+        }
+        // (one that was moved away meanwhile has another name now)
+        let found = or_reason(fs::symlink_metadata(self.system, to))?;
+        if !is_only_name(&found) || old != Inode::of(&found) {
+            return Err(Reason::OtherName);
+        }
+        or_reason(fs::rename(self.system, from, to))?;
+        or_reason(self.sync_folder(to))
+    }
 }
 
-impl<'a, S: fs::Files<File = File> + Clock> Files for SystemFiles<'a, S> {
-    type Disk = SystemDisk<'a>;
+impl<'a, S: fs::Files<File = File> + Clock + Sync> Files for SystemFiles<'a, S> {
+    type Disk = SystemDisk<'a, S>;
 
     type Why = &'a Complaint;
 
@@ -202,14 +346,25 @@ impl<'a, S: fs::Files<File = File> + Clock> Files for SystemFiles<'a, S> {
       removes = λ files name left. ⊤;
     } };
 
-    fn open(&mut self, name: &str) -> Result<Opened<SystemDisk<'a>, &'a Complaint>, Reason> {
-        let file = self.with(OpenOptions::new().read(true).write(true), name)?;
+    fn open(&mut self, name: &str) -> Result<Opened<SystemDisk<'a, S>, &'a Complaint>, Reason> {
+        let mut how = OpenOptions::new();
+        let file = self.with(how.read(true).write(true), name)?;
         self.lock(&file, name)?;
+        let path = self.path(name)?;
+        let mark = self.mark(path.as_str())?;
+        let file = if mark.is_left() {
+            let made = self.renewed(&file, path.as_str())?;
+            mark.remove();
+            made
+        } else {
+            file
+        };
+        self.settle_folder(name)?;
+        self.settle_folder(path.as_str())?;
+        self.hold(&file)?;
         let why = &self.complaints.opened;
-        let inode = or_reason(inode(&file))?;
-        let disk = or_reason(settled(file))?;
         Ok(Opened {
-            disk: SystemDisk::new(disk, inode, why),
+            disk: self.settled(file, mark, why)?,
             why,
         })
     }
@@ -217,15 +372,15 @@ impl<'a, S: fs::Files<File = File> + Clock> Files for SystemFiles<'a, S> {
     fn open_to_read(
         &mut self,
         name: &str,
-    ) -> Result<Opened<SystemDisk<'a>, &'a Complaint>, Reason> {
+    ) -> Result<Opened<SystemDisk<'a, S>, &'a Complaint>, Reason> {
         let file = self.with_reading(name)?;
         lock_shared(&file)?;
-        self.shown(file)
+        self.shown(file, name)
     }
 
-    fn look(&mut self, name: &str) -> Result<Opened<SystemDisk<'a>, &'a Complaint>, Reason> {
+    fn look(&mut self, name: &str) -> Result<Opened<SystemDisk<'a, S>, &'a Complaint>, Reason> {
         let file = self.with_reading(name)?;
-        self.shown(file)
+        self.shown(file, name)
     }
 
     fn pause(&self) {
@@ -236,7 +391,7 @@ impl<'a, S: fs::Files<File = File> + Clock> Files for SystemFiles<'a, S> {
         &mut self,
         name: &str,
         size: u64,
-    ) -> Result<Made<SystemDisk<'a>, &'a Complaint>, Reason> {
+    ) -> Result<Made<SystemDisk<'a, S>, &'a Complaint>, Reason> {
         let mut how = OpenOptions::new();
         how.read(true).write(true);
         match self.with(how.create_new(true), name) {
@@ -253,7 +408,7 @@ impl<'a, S: fs::Files<File = File> + Clock> Files for SystemFiles<'a, S> {
         name: &str,
         like: Option<&str>,
         size: u64,
-    ) -> Result<Made<SystemDisk<'a>, &'a Complaint>, Reason> {
+    ) -> Result<Made<SystemDisk<'a, S>, &'a Complaint>, Reason> {
         let mut how = OpenOptions::new();
         how.read(true).write(true).create_new(true);
         if like.is_some() {
@@ -265,32 +420,43 @@ impl<'a, S: fs::Files<File = File> + Clock> Files for SystemFiles<'a, S> {
 
     fn replace(
         &mut self,
-        disk: SystemDisk<'a>,
-        over: &SystemDisk<'a>,
+        disk: SystemDisk<'a, S>,
+        over: &SystemDisk<'a, S>,
         from: &str,
         to: &str,
     ) -> Result<(), Reason> {
-        let new = or_reason(fs::symlink_metadata(self.system, from))?;
-        if !disk.is_over(&new) {
-            return Err(Reason::InUse);
+        if let Some(file) = &self.held {
+            // (of its owner and rights, too, which no sync of a disk asks for)
+            or_reason(file.sync_all())?;
         }
-        // (one that was moved away meanwhile has another name now)
-        let old = or_reason(fs::symlink_metadata(self.system, to))?;
-        if !is_only_name(&old) || !over.is_over(&old) {
-            return Err(Reason::OtherName);
-        }
-        or_reason(fs::rename(self.system, from, to))?;
-        or_reason(self.sync_folder(to))
+        self.put(disk.inode(), over.inode(), from, to)
     }
 
     fn remove(&mut self, name: &str) {
-        let _gone = fs::remove_file(self.system, name);
+        self.take_held(name);
     }
+}
+
+/// Says whether this is no file and no folder, as a pipe or a device.
+fn is_special(found: &Metadata) -> bool {
+    !found.is_file() && !found.is_dir()
 }
 
 /// Says whether this is a file, and no link, with one name alone.
 fn is_only_name(found: &Metadata) -> bool {
     found.is_file() && found.nlink() == 1
+}
+
+/// Says whether a sync of a folder that failed so wasn't to be had: it may not be read, or its file
+/// system has no such sync.
+fn is_unsynced(kind: io::ErrorKind) -> bool {
+    matches!(
+        kind,
+        io::ErrorKind::PermissionDenied
+            | io::ErrorKind::InvalidInput
+            | io::ErrorKind::Unsupported
+            | io::ErrorKind::ReadOnlyFilesystem
+    )
 }
 
 /// Which file this is.
@@ -302,28 +468,6 @@ fn inode(file: &File) -> io::Result<Inode> {
 fn filled<S: fs::Files<File = File>>(system: &S) -> io::Result<[File; 3]> {
     let null = || OpenOptions::new().read(true).write(true).open(system, NULL);
     Ok([null()?, null()?, null()?])
-}
-
-/// Empties a file, and fills it with so many zero bytes.
-fn fill(file: &mut File, size: u64) -> io::Result<()> {
-    // (a device has no length)
-    if file.metadata()?.is_file() {
-        file.set_len(0)?;
-    }
-    let part = [0u8; PART];
-    for _ in 0..size / PART as u64 {
-        file.write_all(&part)?;
-    }
-    file.write_all(&part[..(size % PART as u64) as usize])
-}
-
-/// A disk over a file that was synced. What is no file may have no sync; it has no store's size.
-fn settled(file: File) -> io::Result<FileDisk> {
-    if file.metadata()?.is_file() {
-        FileDisk::settled(file)
-    } else {
-        FileDisk::to_read(file)
-    }
 }
 
 /// Has a file for reading, as long as it is open, beside others that read it.

@@ -25,6 +25,7 @@ mod timed;
 
 pub use demos::{demo, demo_strict};
 pub use endings::Ended;
+pub use failures::BESIDE;
 pub use files::{Files, Made, Opened, Why};
 pub use jobs::{CopyJob, FailJob, SpinJob};
 pub use lasting::a_store_lasts_from_run_to_run;

@@ -1,0 +1,49 @@
+//! A [`Mark`] is the file `STORE.failed`: while it is there, a sync of the store has failed.
+//!
+//! The system then takes what it could not write for written. What reads of the store give may not
+//! be on the device, and no later sync brings it there. So whoever sees the sync fail leaves the
+//! mark, and the next opening for writing puts a copy in the store's place. The mark is not synced:
+//! what takes it away, a restart of the machine, also takes away what the system kept.
+
+use std::alloc::{AllocError, Global};
+use std::fs;
+use std::fs::{File, OpenOptions};
+
+/// What stands after a store's name in that of its mark.
+const FAILED: &str = ".failed";
+
+/// Where the mark of a store is left. Where the system doesn't let it be made there, none is.
+#[derive(Drop)]
+pub struct Mark<'a, S> {
+    system: &'a S,
+    name: String,
+}
+
+impl<'a, S: fs::Files<File = File>> Mark<'a, S> {
+    /// Beside the file of this path.
+    pub fn beside(system: &'a S, alloc: Global, path: &str) -> Result<Mark<'a, S>, AllocError> {
+        Ok(Mark {
+            system,
+            name: [path, FAILED].concat(alloc)?,
+        })
+    }
+
+    /// Leaves the mark. It follows no link.
+    pub fn leave(&self) {
+        let mut how = OpenOptions::new();
+        let _made = how
+            .write(true)
+            .create_new(true)
+            .open(self.system, self.name.as_str());
+    }
+
+    /// Says whether the mark was left.
+    pub fn is_left(&self) -> bool {
+        fs::symlink_metadata(self.system, self.name.as_str()).is_ok()
+    }
+
+    /// Takes the mark away.
+    pub fn remove(&self) {
+        let _gone = fs::remove_file(self.system, self.name.as_str());
+    }
+}
