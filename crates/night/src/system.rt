@@ -25,6 +25,9 @@ const PAUSE: u64 = 10;
 /// A file that is to be like another one is its owner's alone, until it is.
 const PRIVATE: u32 = 0o600;
 
+/// What is told of a store that has a mark, before why no copy could be put in its place.
+const UNCOPIED: &str = "a sync of it failed, and so did a copy of it";
+
 /// What the system said of a file that was opened, and of one that was created.
 #[derive(Drop)]
 pub struct Complaints {
@@ -116,10 +119,14 @@ impl<'a, S: fs::Files<File = File>> SystemFiles<'a, S> {
         Ok(())
     }
 
-    /// Takes a file away that has this name, under its lock.
+    /// Takes a file away that has this name, under its lock, and its mark.
     fn take_away(&self, file: &File, name: &str) {
         if self.is_named(file, name) {
+            let mark = self.path(name).and_then(|it| self.mark(it.as_str()));
             let _gone = fs::remove_file(self.system, name);
+            if let Ok(mark) = mark {
+                mark.remove();
+            }
         }
     }
 
@@ -276,7 +283,7 @@ impl<'a, S: fs::Files<File = File>> SystemFiles<'a, S> {
         self.clear(beside)?;
         let mut how = OpenOptions::new();
         how.read(true).write(true).create_new(true).mode(PRIVATE);
-        let mut made = self.with(&how, beside)?;
+        let mut made = or_uncopied(how.open(self.system, beside))?;
         self.lock(&made, beside)?;
         let done = self.put_copy(file, &mut made, beside, path);
         if done.is_err() {
@@ -307,9 +314,9 @@ impl<'a, S: fs::Files<File = File>> SystemFiles<'a, S> {
         beside: &str,
         path: &str,
     ) -> Result<(), Reason> {
-        or_reason(self.liken(made, Some(path)))?;
-        or_reason(copy(file, made))?;
-        or_reason(made.sync_all())?;
+        or_uncopied(self.liken(made, Some(path)))?;
+        or_uncopied(copy(file, made))?;
+        or_uncopied(made.sync_all())?;
         let (new, old) = (or_reason(inode(made))?, or_reason(inode(file))?);
         match self.put(new, old, beside, path) {
             Err(Reason::OtherName) => Err(Reason::Unsynced),
@@ -483,5 +490,13 @@ fn or_reason<T>(done: io::Result<T>) -> Result<T, Reason> {
     match done {
         Ok(value) => Ok(value),
         Err(error) => Err(Reason::of(&error)),
+    }
+}
+
+/// What a call came to that a copy of a store needs, or why it failed.
+fn or_uncopied<T>(done: io::Result<T>) -> Result<T, Reason> {
+    match done {
+        Ok(value) => Ok(value),
+        Err(error) => Err(Reason::of_other(UNCOPIED, &error)),
     }
 }
