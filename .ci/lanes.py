@@ -47,7 +47,7 @@ class Lanes:
 
     def begin_all(self, pool: ThreadPoolExecutor) -> bool:
         """Begins what can begin now, and returns whether anything did."""
-        ready = sorted((it for it in self.left if self.is_ready(it)), key=lambda it: -self.long[it])
+        ready = sorted(filter(self.is_ready, self.left), key=lambda it: (-self.long[it], it))
         has_begun = False
         for at, name in enumerate(ready):
             jobs = self.jobs_for(name, others=len(ready) - at - 1)

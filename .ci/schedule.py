@@ -36,7 +36,7 @@ def length(waits: Mapping[str, Set[str]], seconds: Mapping[str, float], lanes: i
     left = set(waits)
     while left or ends:
         ready = [it for it in left if not waits[it] & (left | ends.keys())]
-        for it in sorted(ready, key=lambda it: -long[it])[:lanes - len(ends)]:
+        for it in sorted(ready, key=lambda it: (-long[it], it))[:lanes - len(ends)]:
             ends[it] = now + seconds[it]
             left.remove(it)
         now = min(ends.values())
