@@ -79,8 +79,7 @@ class Tries:
         words = [it for it in sys.argv[1:] if not it.startswith("--")]
         program = words[0] if words else f"{HERE}/../crates/night/out/night"
         if not os.path.isfile(program):
-            sys.exit(f"{about}: no program {os.path.normpath(program)}; `rt run` in crates/night"
-                     " makes it")
+            sys.exit(f"{about}: no program {os.path.normpath(program)}; ./build makes it")
         self.words, self.is_short = words[1:], "--short" in sys.argv
         self.wrong = next((it[8:] for it in sys.argv[1:] if it.startswith("--wrong=")), "")
         self.made = tempfile.TemporaryDirectory(prefix="night-", dir=fast_room())
