@@ -1,0 +1,10 @@
+"""The version of the driver: that of the repository, or of what ./install put."""
+
+import os
+
+
+def version() -> str:
+    """Returns what the file VERSION says, which stands beside the folder of the drivers."""
+    drivers = os.path.dirname(os.path.dirname(os.path.realpath(__file__)))
+    with open(f"{os.path.dirname(drivers)}/VERSION", encoding="utf-8") as file:
+        return file.read().strip()
