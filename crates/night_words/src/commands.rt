@@ -11,7 +11,7 @@ use clap::{Arg, ArgAction, Command};
 use std::alloc::{AllocError, Global};
 
 /// The version that `--version` shows.
-const VERSION: &str = "0.2.0";
+const VERSION: &str = "0.3.0";
 
 /// The end of a command's help: its example, what a line is, and where lines are described.
 macro_rules! ending {

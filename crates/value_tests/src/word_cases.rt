@@ -431,6 +431,6 @@ pub static HELP: [Case; 27] = [
 ];
 
 pub static VERSION: [Case; 2] = [
-    (&["--version"], Told::Text("night 0.2.0\n")),
-    (&["-V"], Told::Text("night 0.2.0\n")),
+    (&["--version"], Told::Text("night 0.3.0\n")),
+    (&["-V"], Told::Text("night 0.3.0\n")),
 ];
