@@ -1,5 +1,6 @@
 """How far a run of many steps is: a line that is drawn anew on a terminal, and else a line for each
 step that ends."""
+import os
 import sys
 import threading
 import time
@@ -70,4 +71,5 @@ class Progress:
         while not self.stopped.wait(PERIOD):
             with self.lock:
                 if self.running and not self.stopped.is_set():
-                    print(f"{CLEAR}{self.line()[:98]}", end="", file=self.out, flush=True)
+                    width = os.get_terminal_size(self.out.fileno()).columns or 80
+                    print(f"{CLEAR}{self.line()[:width - 1]}", end="", file=self.out, flush=True)
