@@ -419,7 +419,7 @@ static int synced(int fd, int number)
     struct open_file *it = file_at(fd);
     if (!it)
         return (int)syscall(number, fd);
-    int is_failed = fails("sync", it->name);
+    int is_failed = fails(number == SYS_fsync ? "fsync" : "sync", it->name);
     if (it->kind == FOLDER && unsynced && !is_failed) {
         errno = (int)unsynced;
         return -1;

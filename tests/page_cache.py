@@ -9,11 +9,18 @@ that at some moment, from which a script goes on in several ways.
 import os
 import random
 import shutil
+from collections.abc import Mapping
 from dataclasses import dataclass, field
 
 from running import Ended, Tries, bytes_of
 
 PAGE = 4096
+# A run of the program takes so many seconds at most, on a machine with much else to do.
+PATIENCE = 300
+
+# How a run is hurt: variables of the library, without CACHE_, as kill=3.
+Hurts = Mapping[str, int]
+NONE: Hurts = {}
 
 
 @dataclass
@@ -70,8 +77,8 @@ class Left:
         return {name: self.inodes[it].cut(dice) for name, it in self.names[table].items()}
 
     def cuts(self, seeds: int = 0) -> dict[str, dict[str, bytes]]:
-        """What power failures may leave, by what they keep: each number of changes of names, with no
-        page that no sync wrote, and, for so many seeds, with some of them."""
+        """What power failures may leave, by what they keep: each number of changes of names, with
+        no page that no sync wrote, and, for so many seeds, with some of them."""
         return {f"{table} of {len(self.names) - 1} changes of names, seed {seed}":
                 self.cut(table, seed)
                 for table in range(len(self.names)) for seed in range(seeds + 1)}
@@ -84,6 +91,7 @@ class Cache:
         self.tries, self.library = tries, library
         self.folder, self.state = tries.file("cached"), tries.file("cached.state")
         self.log = tries.file("cached.log")
+        self.ended: dict[tuple[object, ...], Ended] = {}
 
     def path(self, name: str) -> str:
         return f"{self.folder}/{name}"
@@ -137,19 +145,33 @@ class Cache:
         left.names.append(table)
         self.restore(left)
 
-    def run(self, *words: str, lines: tuple[str, ...] = (), cwd: str | None = None,
-            **hurts: int) -> Ended:
-        """Runs the program. A hurt is a variable of the library, without CACHE_."""
+    def environment(self, hurts: Hurts) -> dict[str, str]:
+        """What makes a run one of the folder."""
         given = {f"CACHE_{name.upper()}": str(value) for name, value in hurts.items() if value}
-        given |= {"LD_PRELOAD": self.library, "CACHE_FOLDER": self.folder,
-                  "CACHE_STATE": self.state, "CACHE_LOG": self.log}
+        return {"LD_PRELOAD": self.library, "CACHE_FOLDER": self.folder, "CACHE_STATE": self.state,
+                "CACHE_LOG": self.log, **given}
+
+    def run(self, *words: str, lines: tuple[str, ...] = (), hurts: Hurts = NONE) -> Ended:
+        """Runs the program, in the folder."""
         with open(self.log, "wb"):
             pass
-        return self.tries.run(*words, lines=lines, hurt=given, cwd=cwd)
+        ended: Ended = self.tries.run(*words, lines=lines, hurt=self.environment(hurts),
+                                      cwd=self.folder, timeout=PATIENCE)
+        return ended
+
+    def ended_over(self, files: dict[str, bytes], word: str, name: str) -> Ended:
+        """How the program ends over one of these files, where all of them are durable. What it did
+        over the same bytes before isn't tried anew."""
+        key = (word, name, files.get(name), *sorted(files))
+        if key not in self.ended:
+            self.begin(files)
+            self.ended[key] = self.run(word, self.path(name))
+        return self.ended[key]
 
     def calls(self) -> list[str]:
         """Each call of the last run on the folder or on a file of it: what, and its name."""
-        return bytes_of(self.log).decode().splitlines()
+        text: str = bytes_of(self.log).decode()
+        return text.splitlines()
 
     def _write(self, name: str, content: bytes) -> None:
         with open(f"{self.state}/{name}", "wb") as file:
