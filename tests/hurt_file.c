@@ -30,6 +30,7 @@
  *   HURT_NAMES  each call on any file is told there, in a line, with the name of the file
  *   HURT_DIE    the number of such a call, from 1: the program is killed before it
  *   HURT_BREAK  the number of such a call, from 1: it alone fails with EIO
+ *   HURT_HALT   the number of such a call, from 1: the program stops before it (SIGSTOP)
  *   HURT_WRONG  makes the program one whose disk is wrong: its sync makes no call (sync), it takes
  *               a short write as whole (short), it reads from another place (place), it makes a
  *               call that failed once more (again), or nothing is wrong (none)
@@ -71,7 +72,7 @@ struct unsynced {
 static const char *path, *keep, *wrong, *left, *refused, *stop;
 static char *names[MOST_FILES]; /* (of the open files) */
 static int file = -1, told = -1, listed = -1, is_short, is_full;
-static long calls, cut, failing, once, trim, killing, touches, all_calls, dying, breaking;
+static long calls, cut, failing, once, trim, killing, touches, all_calls, dying, breaking, halting;
 static unsigned long long room;
 static uint64_t dice, short_dice;
 static long slow, one_way;
@@ -159,6 +160,7 @@ __attribute__((constructor)) static void begin(void)
     touches = number_of("HURT_TOUCH");
     dying = number_of("HURT_DIE");
     breaking = number_of("HURT_BREAK");
+    halting = number_of("HURT_HALT");
     is_short = getenv("HURT_SHORT") != NULL;
     is_full = getenv("HURT_ROOM") != NULL;
     room = (unsigned long long)number_of("HURT_ROOM");
@@ -267,6 +269,8 @@ static int breaks(const char *what, const char *name)
         dprintf(listed, "%s %s\n", what, name);
     if (all_calls == dying)
         end_it();
+    if (all_calls == halting)
+        kill(getpid(), SIGSTOP);
     if (all_calls != breaking)
         return 0;
     errno = EIO;

@@ -1,0 +1,58 @@
+"""What a store may hold over which only the clock was moved, as the acknowledgements say; for the
+scripts that stop programs and then ask what is left."""
+
+import re
+from dataclasses import dataclass
+
+from running import Ended
+
+SHOWN = re.compile(r"events (\d+); clock (\d+)\nscope 0 root live; deadline none\n")
+
+
+@dataclass(frozen=True)
+class Moment:
+    """A state of a store over which only the clock was moved: its events, and its clock."""
+
+    events: int
+    clock: int
+
+
+class Lines:
+    """A script's lines: the clock is moved to these moments, with a save after each."""
+
+    def __init__(self, *clocks: int, saves: str = "flush") -> None:
+        self.clocks = clocks
+        self.typed = tuple(it for clock in clocks for it in (f"advance {clock}", saves))
+
+    def moments(self, before: Moment) -> list[Moment]:
+        """What may be stored once this script began at that moment: an opening is an event."""
+        opened = [Moment(before.events + 1, before.clock)]
+        moved = [Moment(before.events + 2 + at, clock) for at, clock in enumerate(self.clocks)]
+        return [before, *opened, *moved]
+
+
+class Known:
+    """What may be stored, as the acknowledgements say."""
+
+    def __init__(self, moments: set[Moment]) -> None:
+        self.moments = moments
+
+    def after(self, lines: Lines, ended: Ended) -> "Known":
+        """After a script of these lines that printed so many acknowledgements."""
+        acked = [int(it[6:]) for it in ended.output.splitlines() if it.startswith("acked ")]
+        found = set()
+        for before in self.moments:
+            all_of_it = lines.moments(before)
+            # (the last flush, at the end of the input, acknowledges what the one before did)
+            last = all_of_it[min(1 + len(acked), len(all_of_it) - 1)]
+            if not acked:
+                found |= set(all_of_it)
+            elif last.events == acked[-1]:
+                found |= set(all_of_it[all_of_it.index(last):])
+        return Known(found)
+
+
+def moment_of(ended: Ended) -> Moment | None:
+    """The moment that an inspection shows, if it shows one."""
+    found = SHOWN.fullmatch(ended.output) if ended.status == 0 else None
+    return Moment(int(found[1]), int(found[2])) if found else None
