@@ -366,8 +366,10 @@ impl<'a, S: fs::Files<File = File> + Clock + Sync> Files for SystemFiles<'a, S> 
         } else {
             file
         };
-        self.settle_folder(name)?;
         self.settle_folder(path.as_str())?;
+        if fs::symlink_metadata(self.system, name).is_ok_and(|it| it.is_symlink()) {
+            self.settle_folder(name)?;
+        }
         self.hold(&file)?;
         let why = &self.complaints.opened;
         Ok(Opened {
