@@ -351,6 +351,7 @@ impl<'a, S: fs::Files<File = File> + Clock + Sync> Files for SystemFiles<'a, S> 
       shows = λ files name disk. ⊤;
       lacks = λ files name. ⊤;
       removes = λ files name left. ⊤;
+      remakes = λ files name left. ⊤;
     } };
 
     fn open(&mut self, name: &str) -> Result<Opened<SystemDisk<'a, S>, &'a Complaint>, Reason> {

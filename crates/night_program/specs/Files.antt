@@ -1,5 +1,5 @@
 -- What contracts see of the files that hold stores, and of a disk as it is opened.
-use Rattle.std.specs.Prelude.{◌≡◌, ◌++◌, ℕ, Bool, true, List, codes}
+use Rattle.std.specs.Prelude.{◌≡◌, ◌⊎◌, ◌++◌, ℕ, Bool, true, false, List, codes}
 use Rattle.run_model.specs.declared.layouts.Layout.{Layout}
 use Rattle.run_model.specs.Layouts.{store_len}
 use Rattle.run_disk.specs.Disk.{DiskState, IsAtRest}
@@ -15,6 +15,8 @@ pub record FilesView (F D : Type 0) : Type 1 where
   pub lacks : F → List ℕ → Type 0
   -- the second are the first without the file of a name
   pub removes : F → List ℕ → F → Type 0
+  -- the second are the first, but for the file of a name, which may be there or not
+  pub remakes : F → List ℕ → F → Type 0
 
 -- A disk is settled: an honest one is at rest, so that whatever wrote to it before, a crash leaves
 -- what reads give.
@@ -24,6 +26,13 @@ IsSettled s = s.honest → IsAtRest s
 -- The name of the file beside the one of a name, as `jobs.store.renewing`.
 abbrev pub beside : List ℕ → List ℕ
 beside name = name ++ codes ".renewing"
+
+-- The file of a name couldn't be made anew: it may be emptied or gone, or be there, and no other one
+-- changed. Where it had to be new, all files are as they were, or it was made.
+abbrev pub IsNotMade : {F D : Type 0} → FilesView F D → List ℕ → (only_new : Bool)
+    → (f0 f1 : F) → Type 0
+IsNotMade seen name true f0 f1 = (f1 ≡ f0) ⊎ seen.removes f1 name f0
+IsNotMade seen name false f0 f1 = seen.remakes f0 name f1
 
 -- The file of the second name is this disk, and there is no longer one of the first.
 pub record IsReplaced {F D : Type 0} (seen : FilesView F D) (disk : D) (from to : List ℕ)

@@ -24,7 +24,7 @@ use Rattle.night_program.specs.Demos.{DemoEnds, StrictDemoEnds}
 use Rattle.night_program.specs.Endings.{EndsBy, Refuses}
 use Rattle.night_program.specs.Failures.{AnswersAlone, AnswersOver, AnswersStrict, HasNoFile}
 use Rattle.night_program.specs.Failures.{HasNoSize, Names, NamesOne}
-use Rattle.night_program.specs.Files.{FilesView, IsSettled, Makes}
+use Rattle.night_program.specs.Files.{FilesView, IsNotMade, IsSettled, Makes}
 use Rattle.night_program.specs.Looks.{LookEnds}
 use Rattle.night_program.specs.Replacements.{DoesRenewInPlace}
 use Rattle.night_program.specs.Stores.{FormatEnds, InspectEnds, MigrateEnds, Prints, RenewEnds}
@@ -62,7 +62,8 @@ module _ {F D : Type 0} (state : D → DiskState) (seen : FilesView F D) where
   abbrev pub DoesFormat : List ℕ → Bool → Result Done Failure → (f0 f1 : F)
       → (w0 w1 : Option (List ℕ)) → Type 0
   DoesFormat store only_new answer f0 f1 w0 w1 =
-      (HasNoFile store answer × (w1 ≡ w0)) ⊎ Formats store only_new answer f0 f1 w0 w1
+      (HasNoFile store answer × IsNotMade seen store only_new f0 f1 × (w1 ≡ w0))
+      ⊎ Formats store only_new answer f0 f1 w0 w1
 
   -- ---- script
 
@@ -153,7 +154,7 @@ module _ {F D : Type 0} (state : D → DiskState) (seen : FilesView F D) where
       → (w0 w1 : Option (List ℕ)) → Type 0
   DoesMigrate old new answer f0 f1 w0 w1 =
       (HasNoFile old answer × (f1 ≡ f0) × (w1 ≡ w0))
-      ⊎ ((HasNoFile new answer × (w1 ≡ w0))
+      ⊎ ((HasNoFile new answer × IsNotMade seen new false f0 f1 × (w1 ≡ w0))
       ⊎ MakesOf (λ source. Some Large) (MigrateEnds state state) old new answer f0 f1 w0 w1)
 
   -- ---- renew
@@ -164,7 +165,7 @@ module _ {F D : Type 0} (state : D → DiskState) (seen : FilesView F D) where
   DoesRenew old new answer f0 f1 w0 w1 =
       (HasNoFile old answer × (f1 ≡ f0) × (w1 ≡ w0))
       ⊎ ((HasNoSize state (seen.shows f0 old) old answer × (f1 ≡ f0) × (w1 ≡ w0))
-      ⊎ ((HasNoFile new answer × (w1 ≡ w0))
+      ⊎ ((HasNoFile new answer × IsNotMade seen new false f0 f1 × (w1 ≡ w0))
       ⊎ MakesOf (λ source. layout_of (state source).size) (RenewEnds state state)
       old new answer f0 f1 w0 w1))
 

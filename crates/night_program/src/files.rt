@@ -74,7 +74,8 @@ pub trait Files {
         ensures zeros { IfOk result (λ made. (Self.Disk.state made.disk).honest
             → (x : List ℕ) → (Self.Disk.state made.disk).images x → AreZeros x) }
         ensures settled { IfOk result (λ made. IsSettled (Self.Disk.state made.disk)) }
-        ensures new { IfOk result (λ made. made.is_new ≡ true → seen.lacks self.old name.now) };
+        ensures new { IfOk result (λ made. made.is_new ≡ true → seen.lacks self.old name.now) }
+        ensures only { seen.remakes self.old name.now self.new };
 
     /// So does `create`, where there is no file of this name; else nothing is done. The file gets
     /// the owner and the rights of that of the name `like`, where there is to be one, before a byte

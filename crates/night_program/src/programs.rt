@@ -1,9 +1,9 @@
 //! The program: it reads its words, and does what they ask for.
 
-ghost use Rattle.std.specs.Prelude.{◌≡◌, ℕ, false, map, vec_len, IfErr, IfOk};
+ghost use Rattle.std.specs.Prelude.{◌≡◌, ℕ, false, map, vec_len, IfErr, IfOk, OnErr};
 ghost use Rattle.std.specs.String.{string_bytes};
 ghost use Rattle.night_program.specs.Programs.{Does, DoesFormat, DoesInspect, DoesMigrate};
-ghost use Rattle.night_program.specs.Files.{Makes};
+ghost use Rattle.night_program.specs.Files.{IsNotMade, Makes};
 ghost use Rattle.night_program.specs.Programs.{DoesRenew, DoesScript, IsLeft, IsRefused, RunsWords};
 ghost use Rattle.night_program.specs.Programs.{asks_crew};
 
@@ -180,8 +180,9 @@ fn make<F: Files>(
     only_new: bool,
     files: &mut F,
 ) -> Result<Made<F::Disk, F::Why>, Reason>
-    ensures { IfOk result (λ made. Makes F.Disk.state F.seen name.now layout only_new
+    ensures made { IfOk result (λ made. Makes F.Disk.state F.seen name.now layout only_new
         made.is_new made.disk files.old files.new) }
+    ensures not { OnErr result (IsNotMade F.seen name.now only_new files.old files.new) }
 {
     let size = layout.store_len();
     if only_new {

@@ -89,6 +89,7 @@ impl Files for Shelf {
       shows = λ shelf name disk. ⊤;
       lacks = λ shelf name. ⊤;
       removes = λ shelf name left. ⊤;
+      remakes = λ shelf name left. ⊤;
     } };
 
     fn open(&mut self, name: &str) -> Result<Opened<Fuse<MemoryDisk>, Broken>, Reason> {
