@@ -8,7 +8,7 @@ use crate::contents::{copy, fill};
 use crate::disks::{Inode, SystemDisk};
 use crate::marks::Mark;
 use night_program::{BESIDE, Files, Made, Opened, Reason};
-use run_disk::{FileDisk, RunDisk};
+use run_disk::{DiskFailed, FileDisk, RunDisk};
 use std::alloc::Global;
 use std::fs::{File, Metadata, OpenOptions, TryLockError};
 use std::os::unix::fs::{MetadataExt, OpenOptionsExt, fchown};
@@ -324,6 +324,15 @@ impl<'a, S: fs::Files<File = File>> SystemFiles<'a, S> {
         }
     }
 
+    /// So does `put`, of a file that was made and is held.
+    fn replaced(&self, new: Inode, old: Inode, from: &str, to: &str) -> Result<(), Reason> {
+        if let Some(file) = &self.held {
+            // (of its owner and rights, too, which no sync of a disk asks for)
+            or_reason(file.sync_all())?;
+        }
+        self.put(new, old, from, to)
+    }
+
     /// Gives the file of the first name, which has to be `new`, the second name, which has to be
     /// the only one of `old`, and no link.
     fn put(&self, new: Inode, old: Inode, from: &str, to: &str) -> Result<(), Reason> {
@@ -347,11 +356,13 @@ impl<'a, S: fs::Files<File = File> + Clock + Sync> Files for SystemFiles<'a, S> 
 
     // What the system's files hold isn't known.
     ghost seen = { record {
-      holds = λ files name disk. ⊤;
-      shows = λ files name disk. ⊤;
+      opens = λ files name disk after. ⊤;
+      shows = λ files name disk after. ⊤;
       lacks = λ files name. ⊤;
-      removes = λ files name left. ⊤;
-      remakes = λ files name left. ⊤;
+      puts = λ files name disk after. ⊤;
+      removes = λ files name after. ⊤;
+      remakes = λ files name after. ⊤;
+      gives = λ disk bytes left. ⊤;
     } };
 
     fn open(&mut self, name: &str) -> Result<Opened<SystemDisk<'a, S>, &'a Complaint>, Reason> {
@@ -371,12 +382,11 @@ impl<'a, S: fs::Files<File = File> + Clock + Sync> Files for SystemFiles<'a, S> 
         if fs::symlink_metadata(self.system, name).is_ok_and(|it| it.is_symlink()) {
             self.settle_folder(name)?;
         }
-        self.hold(&file)?;
+        let held = or_reason(file.try_clone())?;
         let why = &self.complaints.opened;
-        Ok(Opened {
-            disk: self.settled(file, mark, why)?,
-            why,
-        })
+        let disk = self.settled(file, mark, why)?;
+        self.held = Some(held);
+        Ok(Opened { disk, why })
     }
 
     fn open_to_read(
@@ -393,8 +403,14 @@ impl<'a, S: fs::Files<File = File> + Clock + Sync> Files for SystemFiles<'a, S> 
         self.shown(file, name)
     }
 
+    fn close(&mut self, _name: &str, _disk: SystemDisk<'a, S>) {}
+
     fn pause(&self) {
         thread::sleep(self.system, Duration::from_millis(PAUSE));
+    }
+
+    fn read_all(&self, disk: &mut SystemDisk<'a, S>, out: &mut [u8]) -> Result<(), DiskFailed> {
+        disk.read_at(0, out)
     }
 
     fn create(
@@ -431,15 +447,11 @@ impl<'a, S: fs::Files<File = File> + Clock + Sync> Files for SystemFiles<'a, S> 
     fn replace(
         &mut self,
         disk: SystemDisk<'a, S>,
-        over: &SystemDisk<'a, S>,
+        over: SystemDisk<'a, S>,
         from: &str,
         to: &str,
     ) -> Result<(), Reason> {
-        if let Some(file) = &self.held {
-            // (of its owner and rights, too, which no sync of a disk asks for)
-            or_reason(file.sync_all())?;
-        }
-        self.put(disk.inode(), over.inode(), from, to)
+        self.replaced(disk.inode(), over.inode(), from, to)
     }
 
     fn remove(&mut self, name: &str) {

@@ -1,7 +1,7 @@
 -- What one run of the program leaves of a store, and what the next one finds of it.
 --
--- What is premised of files, `FindsLeft`, no clause of `Files` promises, since a disk that was
--- dropped is in no one's hands: it is for whoever has files that keep it.
+-- What is premised of files, `FindsLeft`, no clause of `Files` promises: a run gives back the disk
+-- that it leaves, and what an opening finds of it is for whoever has files that keep it.
 use Rattle.std.specs.Prelude.{◌≡◌, List, ℕ, true}
 use Rattle.std.specs.List.{list_all}
 use Rattle.run_model.specs.Event.{Event}

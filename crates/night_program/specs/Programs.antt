@@ -24,7 +24,7 @@ use Rattle.night_program.specs.Demos.{DemoEnds, StrictDemoEnds}
 use Rattle.night_program.specs.Endings.{EndsBy, Refuses}
 use Rattle.night_program.specs.Failures.{AnswersAlone, AnswersOver, AnswersStrict, HasNoFile}
 use Rattle.night_program.specs.Failures.{HasNoSize, Names, NamesOne}
-use Rattle.night_program.specs.Files.{FilesView, IsNotMade, IsSettled, Makes}
+use Rattle.night_program.specs.Files.{FilesView, Holds, HoldsAlone, IsNotMade, IsSettled, Makes}
 use Rattle.night_program.specs.Looks.{LookEnds}
 use Rattle.night_program.specs.Replacements.{DoesRenewInPlace}
 use Rattle.night_program.specs.Stores.{FormatEnds, InspectEnds, MigrateEnds, Prints, RenewEnds}
@@ -36,12 +36,12 @@ abbrev pub asks_crew : Asked → Bool
 asks_crew (Crew store workers known) = true
 asks_crew asked = false
 
--- What is left of the files behind what a file was made for: where that failed, a file that wasn't
--- there before is taken away again.
+-- What became of a file after what it was made for: it is the disk that this left. But where that
+-- failed, a file that wasn't there before is taken away again.
 abbrev pub IsLeft : {F D T : Type 0} → FilesView F D → (is_new : Bool) → Result T RunFault
-    → List ℕ → (f0 f1 : F) → Type 0
-IsLeft seen true (Err why) name f0 f1 = seen.removes f0 name f1
-IsLeft seen _ _ name f0 f1 = f1 ≡ f0
+    → List ℕ → (left : D) → (f0 f1 : F) → Type 0
+IsLeft seen true (Err why) name left f0 f1 = seen.removes f0 name f1
+IsLeft seen _ _ name left f0 f1 = seen.puts f0 name left f1
 
 module _ {F D : Type 0} (state : D → DiskState) (seen : FilesView F D) where
   -- ---- format
@@ -57,7 +57,7 @@ module _ {F D : Type 0} (state : D → DiskState) (seen : FilesView F D) where
     pub makes : Makes state seen store Large only_new is_new given f0 made
     pub formats : FormatEnds state given done left w0 w1
     pub answers : AnswersOver (Names store) done answer
-    pub files : IsLeft seen is_new done store made f1
+    pub files : IsLeft seen is_new done store left made f1
 
   abbrev pub DoesFormat : List ℕ → Bool → Result Done Failure → (f0 f1 : F)
       → (w0 w1 : Option (List ℕ)) → Type 0
@@ -78,54 +78,57 @@ module _ {F D : Type 0} (state : D → DiskState) (seen : FilesView F D) where
       (done : Result (Option StrayLine) RunFault) × StrictEnds state given done left r0 r1 w0 w1
       × AnswersStrict (Names store) done answer
 
-  -- The file of this name was opened, and the input run over the store in it.
+  -- The file of this name was opened, and the input run over the store in it; and it is the disk
+  -- that the run left.
   pub record Scripts (store : List ℕ) (strict : Bool) (answer : Result Done Failure)
-      (f0 : F) (r0 r1 w0 w1 : Option (List ℕ)) : Type 0 where
+      (f0 f1 : F) (r0 r1 w0 w1 : Option (List ℕ)) : Type 0 where
     pub given : D
     pub left : D
-    pub held : seen.holds f0 store given
+    pub held : HoldsAlone seen seen.opens store given left f0 f1
     pub settled : IsSettled (state given)
     pub runs : RunsStore store strict answer given left r0 r1 w0 w1
 
   abbrev pub DoesScript : List ℕ → (strict : Bool) → Result Done Failure → (f0 f1 : F)
       → (r0 r1 w0 w1 : Option (List ℕ)) → Type 0
   DoesScript store strict answer f0 f1 r0 r1 w0 w1 =
-      (f1 ≡ f0) × ((HasNoFile store answer × (r1 ≡ r0) × (w1 ≡ w0))
-      ⊎ Scripts store strict answer f0 r0 r1 w0 w1)
+      (HasNoFile store answer × (f1 ≡ f0) × (r1 ≡ r0) × (w1 ≡ w0))
+      ⊎ Scripts store strict answer f0 f1 r0 r1 w0 w1
 
   -- ---- inspect
 
   -- The file of this name was opened for reading alone, and what the view shows of the state in it
-  -- printed.
+  -- printed; and it is the disk that was read.
   pub record Inspects (view : View) (store : List ℕ) (answer : Result Done Failure)
-      (f0 : F) (w0 w1 : Option (List ℕ)) : Type 0 where
+      (f0 f1 : F) (w0 w1 : Option (List ℕ)) : Type 0 where
     pub given : D
     pub left : D
     pub done : Result ⊤ RunFault
-    pub shown : seen.shows f0 store given
+    pub held : HoldsAlone seen seen.shows store given left f0 f1
     pub settled : IsSettled (state given)
     pub inspects : InspectEnds view state given done left w0 w1
     pub answers : AnswersOver (Names store) done answer
 
   -- Another program has it open. It was opened for reading alone, and what two readings of it gave
-  -- was looked at. Or no two in a row agreed, and nothing was printed.
+  -- was looked at. Or no two in a row agreed, and nothing was printed. The file is the disk that
+  -- was read.
   pub record Looks (view : View) (store : List ℕ) (answer : Result Done Failure)
-      (f0 : F) (w0 w1 : Option (List ℕ)) : Type 0 where
+      (f0 f1 : F) (w0 w1 : Option (List ℕ)) : Type 0 where
     pub given : D
     pub left : D
-    pub shown : seen.shows f0 store given
-    pub looks : LookEnds view state store given answer left w0 w1
+    pub held : HoldsAlone seen seen.shows store given left f0 f1
+    pub looks : LookEnds view state seen store given answer left w0 w1
 
   abbrev pub DoesInspect : View → List ℕ → Result Done Failure → (f0 f1 : F)
       → (w0 w1 : Option (List ℕ)) → Type 0
   DoesInspect view store answer f0 f1 w0 w1 =
-      (f1 ≡ f0) × ((HasNoFile store answer × (w1 ≡ w0))
-      ⊎ (Inspects view store answer f0 w0 w1 ⊎ Looks view store answer f0 w0 w1))
+      (HasNoFile store answer × (f1 ≡ f0) × (w1 ≡ w0))
+      ⊎ (Inspects view store answer f0 f1 w0 w1 ⊎ Looks view store answer f0 f1 w0 w1)
 
   -- ---- a store of another one
 
   -- The file of the old name was opened for reading alone, then that of the new one made anew, of
-  -- the layout that goes with the old store, and a store made of it so (Ends).
+  -- the layout that goes with the old store, and a store made of it so (Ends). The old file is the
+  -- disk that was read.
   pub record MakesOf (of : D → Option Layout)
       (Ends : (source given : D) → Result ⊤ RunFault → (read left : D)
       → (w0 w1 : Option (List ℕ)) → Type 0)
@@ -133,19 +136,25 @@ module _ {F D : Type 0} (state : D → DiskState) (seen : FilesView F D) where
       : Type 0 where
     pub source : D
     pub layout : Layout
-    pub made : F
     pub is_new : Bool
     pub given : D
     pub read : D
     pub left : D
     pub done : Result ⊤ RunFault
-    pub shown : seen.shows f0 old source
     pub settled : IsSettled (state source)
     pub fits : of source ≡ Some layout
-    pub makes : Makes state seen new layout false is_new given f0 made
     pub ends : Ends source given done read left w0 w1
     pub answers : AnswersOver (NamesOne old new) done answer
-    pub files : IsLeft seen is_new done new made f1
+    pub held : Holds seen seen.shows old (λ opened after. (made : F)
+        × Makes state seen new layout false is_new given opened made
+        × IsLeft seen is_new done new left made after) source read f0 f1
+
+  -- The file of the old name was opened for reading alone, and that of the new one couldn't be made
+  -- anew. The old file is the disk that was opened.
+  abbrev pub MakesNone : (old new : List ℕ) → Result Done Failure → (f0 f1 : F) → Type 0
+  MakesNone old new answer f0 f1 =
+      HasNoFile new answer × (source : D)
+      × Holds seen seen.shows old (IsNotMade seen new false) source source f0 f1
 
   -- ---- migrate
 
@@ -154,7 +163,7 @@ module _ {F D : Type 0} (state : D → DiskState) (seen : FilesView F D) where
       → (w0 w1 : Option (List ℕ)) → Type 0
   DoesMigrate old new answer f0 f1 w0 w1 =
       (HasNoFile old answer × (f1 ≡ f0) × (w1 ≡ w0))
-      ⊎ ((HasNoFile new answer × IsNotMade seen new false f0 f1 × (w1 ≡ w0))
+      ⊎ ((MakesNone old new answer f0 f1 × (w1 ≡ w0))
       ⊎ MakesOf (λ source. Some Large) (MigrateEnds state state) old new answer f0 f1 w0 w1)
 
   -- ---- renew
@@ -164,34 +173,36 @@ module _ {F D : Type 0} (state : D → DiskState) (seen : FilesView F D) where
       → (w0 w1 : Option (List ℕ)) → Type 0
   DoesRenew old new answer f0 f1 w0 w1 =
       (HasNoFile old answer × (f1 ≡ f0) × (w1 ≡ w0))
-      ⊎ ((HasNoSize state (seen.shows f0 old) old answer × (f1 ≡ f0) × (w1 ≡ w0))
-      ⊎ ((HasNoFile new answer × IsNotMade seen new false f0 f1 × (w1 ≡ w0))
+      ⊎ ((HasNoSize state (λ source. HoldsAlone seen seen.shows old source source f0 f1) old answer
+      × (w1 ≡ w0))
+      ⊎ ((MakesNone old new answer f0 f1 × (w1 ≡ w0))
       ⊎ MakesOf (λ source. layout_of (state source).size) (RenewEnds state state)
       old new answer f0 f1 w0 w1))
 
   -- ---- crew
 
   -- The file of this name was opened, and so many workers worked off its tasks. Where it was to be
-  -- known, the store was read first, and has no task of an unknown job that isn't ended.
+  -- known, the store was read first, and has no task of an unknown job that isn't ended. The file
+  -- is the disk that the night left.
   pub record Works (store : List ℕ) (workers : ℕ) (known : Bool) (answer : Result Done Failure)
-      (f0 : F) (w0 w1 : Option (List ℕ)) : Type 0 where
+      (f0 f1 : F) (w0 w1 : Option (List ℕ)) : Type 0 where
     pub given : D
     pub begun : D
     pub left : D
     pub done : Result Bool RunFault
-    pub held : seen.holds f0 store given
+    pub held : HoldsAlone seen seen.opens store given left f0 f1
     pub settled : IsSettled (state given)
     pub looked : IsLooked state known given begun
     pub works : CrewEnds state begun workers done left w0 w1
     pub answers : AnswersCrew (Names store) done answer
 
   -- The file of this name was opened and read alone: it wasn't known what is in it, or it has tasks
-  -- of unknown jobs. Nothing was begun.
+  -- of unknown jobs. Nothing was begun, and the file is the disk that was read.
   pub record LooksFirst (store : List ℕ) (answer : Result Done Failure)
-      (f0 : F) (w0 w1 : Option (List ℕ)) : Type 0 where
+      (f0 f1 : F) (w0 w1 : Option (List ℕ)) : Type 0 where
     pub given : D
     pub read : D
-    pub held : seen.holds f0 store given
+    pub held : HoldsAlone seen seen.opens store given read f0 f1
     pub settled : IsSettled (state given)
     pub stops : StopsAt state store given answer read
     pub output : w1 ≡ w0
@@ -200,11 +211,10 @@ module _ {F D : Type 0} (state : D → DiskState) (seen : FilesView F D) where
   abbrev pub DoesCrew : (store : List ℕ) → (workers lists : ℕ) → (known : Bool)
       → Result Done Failure → (f0 f1 : F) → (w0 w1 : Option (List ℕ)) → Type 0
   DoesCrew store workers lists known answer f0 f1 w0 w1 =
-      (f1 ≡ f0)
-      × (((lists < workers) × AnswersAlone {T = ⊤} (Err Memory) answer × (w1 ≡ w0))
-      ⊎ ((HasNoFile store answer × (w1 ≡ w0))
-      ⊎ (Works store workers known answer f0 w0 w1
-      ⊎ ((known ≡ true) × LooksFirst store answer f0 w0 w1))))
+      ((lists < workers) × AnswersAlone {T = ⊤} (Err Memory) answer × (f1 ≡ f0) × (w1 ≡ w0))
+      ⊎ ((HasNoFile store answer × (f1 ≡ f0) × (w1 ≡ w0))
+      ⊎ (Works store workers known answer f0 f1 w0 w1
+      ⊎ ((known ≡ true) × LooksFirst store answer f0 f1 w0 w1)))
 
   -- ---- without a store's file
 

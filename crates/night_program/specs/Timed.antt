@@ -8,7 +8,7 @@ use Rattle.timed_input.specs.Timed.{timed_known}
 use Rattle.night_program.specs.declared.endings.Done.{Done}
 use Rattle.night_program.specs.declared.failures.Failure.{Failure}
 use Rattle.night_program.specs.Failures.{AnswersOver, AnswersStrict, HasNoFile, Names}
-use Rattle.night_program.specs.Files.{FilesView, IsSettled}
+use Rattle.night_program.specs.Files.{FilesView, HoldsAlone, IsSettled}
 use Rattle.night_program.specs.Stores.{EndsOver, Runs, RunsStrict}
 
 -- The input was run so (Ran), with the time before its lines: the moments that the clock told, from
@@ -49,17 +49,18 @@ module _ {F D : Type 0} (state : D → DiskState) (seen : FilesView F D)
       × StrictTimedEnds moments state given done left r0 r1 w0 w1
       × AnswersStrict (Names store) done answer
 
-  -- The file of this name was opened, and the input run so over the store in it.
+  -- The file of this name was opened, and the input run so over the store in it; and it is the disk
+  -- that the run left.
   pub record ScriptsTimed (store : List ℕ) (strict : Bool) (answer : Result Done Failure)
-      (f0 : F) (r0 r1 w0 w1 : Option (List ℕ)) : Type 0 where
+      (f0 f1 : F) (r0 r1 w0 w1 : Option (List ℕ)) : Type 0 where
     pub given : D
     pub left : D
-    pub held : seen.holds f0 store given
+    pub held : HoldsAlone seen seen.opens store given left f0 f1
     pub settled : IsSettled (state given)
     pub runs : RunsStoreTimed store strict answer given left r0 r1 w0 w1
 
   abbrev pub DoesTimed : List ℕ → (strict : Bool) → Result Done Failure → (f0 f1 : F)
       → (r0 r1 w0 w1 : Option (List ℕ)) → Type 0
   DoesTimed store strict answer f0 f1 r0 r1 w0 w1 =
-      (f1 ≡ f0) × ((HasNoFile store answer × (r1 ≡ r0) × (w1 ≡ w0))
-      ⊎ ScriptsTimed store strict answer f0 r0 r1 w0 w1)
+      (HasNoFile store answer × (f1 ≡ f0) × (r1 ≡ r0) × (w1 ≡ w0))
+      ⊎ ScriptsTimed store strict answer f0 f1 r0 r1 w0 w1

@@ -48,11 +48,18 @@ pub fn crew_file<'a, F: Files, O: Write, R: Threads + Wait + Sync>(
     if known {
         match unknown_on(alloc, &mut disk) {
             Ok(None) => (),
-            Ok(Some(unknown)) => return Ok(Done::Unknown(unknown)),
-            Err(fault) => return Err(failed_over(stopped(fault), store, &why)),
+            Ok(Some(unknown)) => {
+                files.close(store, disk);
+                return Ok(Done::Unknown(unknown));
+            }
+            Err(fault) => {
+                files.close(store, disk);
+                return Err(failed_over(stopped(fault), store, &why));
+            }
         }
     }
-    let (done, _) = crew_over(rt, alloc, disk, jobs, &OpenGate, output);
+    let (done, left) = crew_over(rt, alloc, disk, jobs, &OpenGate, output);
+    files.close(store, left);
     worked(done, store, &why)
 }
 

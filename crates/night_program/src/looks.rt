@@ -1,6 +1,8 @@
 //! A look at a store that another program has open.
 
 ghost use Rattle.std.specs.Prelude.{◌≡◌, IfErr, IfOk, IfSome};
+ghost use Rattle.run_disk.specs.Runs.{OnlyReads};
+ghost use Rattle.night_program.specs.Files.{IsReadTwice};
 ghost use Rattle.night_program.specs.Looks.{IsCopy, IsUnread, LookEnds};
 
 use crate::endings::Done;
@@ -28,7 +30,7 @@ pub fn look<'a, F: Files, W: Write>(
     view: View<'_>,
     output: &mut W,
 ) -> (Result<Done, Failure<'a>>, F::Disk)
-    ensures { LookEnds view.entry F.Disk.state store.now opened.disk result.0 result.1
+    ensures { LookEnds view.entry F.Disk.state F.seen store.now opened.disk result.0 result.1
         (W.contents output.old) (W.contents output.new) }
 {
     let Opened { mut disk, why } = opened;
@@ -51,7 +53,9 @@ fn steady_copy<F: Files>(
     disk: &mut F::Disk,
 ) -> Result<Option<MemoryDisk>, Fault>
     ensures copies { IfOk result (λ found. IfSome found (λ copy.
-        IsCopy (F.Disk.state disk.old) (⟦<MemoryDisk as RunDisk>⟧.state copy))) }
+        IsCopy F.seen (F.Disk.state disk.old) disk.new (⟦<MemoryDisk as RunDisk>⟧.state copy))) }
+    ensures only { (F.Disk.state disk.old).honest
+        → OnlyReads (F.Disk.state disk.old) (F.Disk.state disk.new) }
     ensures fault { IfErr result IsUnread }
 {
     match steady_bytes(alloc, files, disk)? {
@@ -66,15 +70,19 @@ fn steady_bytes<F: Files>(
     files: &F,
     disk: &mut F::Disk,
 ) -> Result<Option<Vec<u8>>, Fault>
+    ensures twice { IfOk result (λ found. IfSome found (λ bytes.
+        IsReadTwice F.seen bytes.items disk.new)) }
     ensures bytes { IfOk result (λ found. IfSome found (λ bytes.
         (F.Disk.state disk.old).honest → bytes.items ≡ (F.Disk.state disk.old).now)) }
+    ensures only { (F.Disk.state disk.old).honest
+        → OnlyReads (F.Disk.state disk.old) (F.Disk.state disk.new) }
     ensures fault { IfErr result IsUnread }
 {
-    let mut before = read_whole(alloc, disk)?;
+    let mut before = read_whole(alloc, files, disk)?;
     for _ in 1..MOST_READINGS {
         files.pause();
-        let bytes = read_whole(alloc, disk)?;
-        if bytes == before {
+        let bytes = read_whole(alloc, files, disk)?;
+        if bytes.as_slice() == before.as_slice() {
             return Ok(Some(bytes));
         }
         before = bytes;
@@ -83,16 +91,18 @@ fn steady_bytes<F: Files>(
 }
 
 /// All bytes of a disk.
-fn read_whole<D: RunDisk>(alloc: Global, disk: &mut D) -> Result<Vec<u8>, Fault>
+fn read_whole<F: Files>(alloc: Global, files: &F, disk: &mut F::Disk) -> Result<Vec<u8>, Fault>
+    ensures gives { IfOk result (λ bytes. F.seen.gives disk.old bytes.items disk.new) }
     ensures bytes { IfOk result (λ bytes.
-        (D.state disk.old).honest → bytes.items ≡ (D.state disk.old).now) }
-    ensures same { (D.state disk.old).honest → (D.state disk.new).now ≡ (D.state disk.old).now }
-    ensures honest { (D.state disk.old).honest → (D.state disk.new).honest }
+        (F.Disk.state disk.old).honest → bytes.items ≡ (F.Disk.state disk.old).now) }
+    ensures only { (F.Disk.state disk.old).honest
+        → OnlyReads (F.Disk.state disk.old) (F.Disk.state disk.new) }
+    ensures honest { (F.Disk.state disk.old).honest → (F.Disk.state disk.new).honest }
     ensures fault { IfErr result IsUnread }
 {
     let Ok(mut bytes) = vec![in alloc; 0; disk.size() as usize] else {
         return Err(Fault::Memory);
     };
-    disk.read_at(0, bytes.as_mut_slice())?;
+    files.read_all(disk, bytes.as_mut_slice())?;
     Ok(bytes)
 }

@@ -164,8 +164,8 @@ fn format_file<'a, F: Files, O: Write>(
 {
     match make(store, Layout::Large, only_new, files) {
         Ok(Made { disk, why, is_new }) => {
-            let (done, _disk) = format(disk, output);
-            leave(files, store, is_new, &done);
+            let (done, left) = format(disk, output);
+            leave(files, store, is_new, left, &done);
             done_over(done, store, &why)
         }
         Err(reason) => Err(no_file(store, reason)),
@@ -192,12 +192,21 @@ fn make<F: Files>(
     }
 }
 
-/// Takes the file of this name away again where it is new and what it was made for failed.
-fn leave<F: Files>(files: &mut F, name: &str, is_new: bool, done: &Result<(), RunFault>)
-    ensures { IsLeft F.seen is_new done.now name.now files.old files.new }
+/// Takes the file of this name away again where it is new and what it was made for failed; else it
+/// is the disk that this left.
+fn leave<F: Files>(
+    files: &mut F,
+    name: &str,
+    is_new: bool,
+    left: F::Disk,
+    done: &Result<(), RunFault>,
+)
+    ensures { IsLeft F.seen is_new done.now name.now left files.old files.new }
 {
     if is_new && done.is_err() {
         files.remove(name);
+    } else {
+        files.close(name, left);
     }
 }
 
@@ -220,9 +229,13 @@ fn script_file<'a, F: Files, I: Read, O: Write>(
         Err(reason) => return Err(no_file(store, reason)),
     };
     if strict {
-        strict_over(script_strict(alloc, disk, input, output).0, store, &why)
+        let (done, left) = script_strict(alloc, disk, input, output);
+        files.close(store, left);
+        strict_over(done, store, &why)
     } else {
-        done_over(script(alloc, disk, input, output).0, store, &why)
+        let (done, left) = script(alloc, disk, input, output);
+        files.close(store, left);
+        done_over(done, store, &why)
     }
 }
 
@@ -241,6 +254,7 @@ fn inspect_file<'a, F: Files, O: Write>(
     match files.open_to_read(store) {
         Ok(Opened { mut disk, why }) => {
             let done = inspect(alloc, &mut disk, view, output);
+            files.close(store, disk);
             done_over(done, store, &why)
         }
         Err(Reason::InUse) => look_file(alloc, store, view, files, output),
@@ -261,7 +275,11 @@ fn look_file<'a, F: Files, O: Write>(
         (O.contents output.old) (O.contents output.new) }
 {
     match files.look(store) {
-        Ok(opened) => look(alloc, files, opened, store, view, output).0,
+        Ok(opened) => {
+            let (answer, read) = look(alloc, files, opened, store, view, output);
+            files.close(store, read);
+            answer
+        }
         Err(reason) => Err(no_file(store, reason)),
     }
 }
@@ -278,17 +296,25 @@ fn migrate_file<'a, F: Files, O: Write>(
     ensures { DoesMigrate F.Disk.state F.seen old.now new.now result files.old files.new
         (O.contents output.old) (O.contents output.new) }
 {
-    let mut source = match files.open_to_read(old) {
+    let opened = match files.open_to_read(old) {
         Ok(opened) => opened,
         Err(reason) => return Err(no_file(old, reason)),
     };
+    let Opened {
+        disk: mut source,
+        why: why_old,
+    } = opened;
     match make(new, Layout::Large, false, files) {
         Ok(Made { disk, why, is_new }) => {
-            let (done, _disk) = migrate(alloc, &mut source.disk, disk, output);
-            leave(files, new, is_new, &done);
-            done_over_two(done, old, &source.why, FileName::Own(new), &why)
+            let (done, left) = migrate(alloc, &mut source, disk, output);
+            leave(files, new, is_new, left, &done);
+            files.close(old, source);
+            done_over_two(done, old, &why_old, FileName::Own(new), &why)
         }
-        Err(reason) => Err(no_file(new, reason)),
+        Err(reason) => {
+            files.close(old, source);
+            Err(no_file(new, reason))
+        }
     }
 }
 
@@ -304,19 +330,27 @@ fn renew_file<'a, F: Files, O: Write>(
     ensures { DoesRenew F.Disk.state F.seen old.now new.now result files.old files.new
         (O.contents output.old) (O.contents output.new) }
 {
-    let mut stored = match files.open_to_read(old) {
+    let Opened {
+        disk: mut stored,
+        why: why_old,
+    } = match files.open_to_read(old) {
         Ok(opened) => opened,
         Err(reason) => return Err(no_file(old, reason)),
     };
-    let Some(layout) = Layout::of(stored.disk.size()) else {
-        return Err(failed_over(stopped(Fault::WrongSize), old, &stored.why));
+    let Some(layout) = Layout::of(stored.size()) else {
+        files.close(old, stored);
+        return Err(failed_over(stopped(Fault::WrongSize), old, &why_old));
     };
     match make(new, layout, false, files) {
         Ok(Made { disk, why, is_new }) => {
-            let (done, _disk) = renew(alloc, &mut stored.disk, disk, output);
-            leave(files, new, is_new, &done);
-            done_over_two(done, old, &stored.why, FileName::Own(new), &why)
+            let (done, left) = renew(alloc, &mut stored, disk, output);
+            leave(files, new, is_new, left, &done);
+            files.close(old, stored);
+            done_over_two(done, old, &why_old, FileName::Own(new), &why)
         }
-        Err(reason) => Err(no_file(new, reason)),
+        Err(reason) => {
+            files.close(old, stored);
+            Err(no_file(new, reason))
+        }
     }
 }

@@ -33,27 +33,27 @@ pub fn renew_in_place<'a, F: Files, O: Write>(
     ensures { DoesRenewInPlace F.Disk.state F.seen store.now result files.old files.new
         (O.contents output.old) (O.contents output.new) }
 {
-    let mut stored = match files.open(store) {
+    let Opened { disk, why } = match files.open(store) {
         Ok(opened) => opened,
         Err(reason) => return Err(no_file(store, reason)),
     };
-    let Some(layout) = Layout::of(stored.disk.size()) else {
-        return Err(failed_over(stopped(Fault::WrongSize), store, &stored.why));
+    let Some(layout) = Layout::of(disk.size()) else {
+        files.close(store, disk);
+        return Err(failed_over(stopped(Fault::WrongSize), store, &why));
     };
     let Ok(name) = name_beside(alloc, store) else {
+        files.close(store, disk);
         return done_alone(Err(RunFault::Memory));
     };
     match make_beside(name.as_str(), store, layout, files) {
-        Ok(made) => put_renewed(
-            alloc,
-            store,
-            &mut stored,
-            name.as_str(),
-            made,
-            files,
-            output,
-        ),
-        Err(reason) => Err(not_had(FileName::Beside(store), reason)),
+        Ok(made) => {
+            let stored = Opened { disk, why };
+            put_renewed(alloc, store, stored, name.as_str(), made, files, output)
+        }
+        Err(reason) => {
+            files.close(store, disk);
+            Err(not_had(FileName::Beside(store), reason))
+        }
     }
 }
 
@@ -90,7 +90,7 @@ fn make_beside<F: Files>(
 fn put_renewed<'a, F: Files, O: Write>(
     alloc: Global,
     store: &'a str,
-    stored: &mut Opened<F::Disk, F::Why>,
+    stored: Opened<F::Disk, F::Why>,
     name: &str,
     made: Made<F::Disk, F::Why>,
     files: &mut F,
@@ -98,20 +98,25 @@ fn put_renewed<'a, F: Files, O: Write>(
 ) -> Result<Done, Failure<'a>>
     requires settled { IsSettled (F.Disk.state made.disk) }
     requires named { name.now ≡ beside store.now }
-    ensures { EndsInPlace F.Disk.state F.seen store.now stored.old.disk made.disk result
+    ensures { EndsInPlace F.Disk.state F.seen store.now stored.disk made.disk result
         files.old files.new (O.contents output.old) (O.contents output.new) }
 {
+    let Opened {
+        disk: mut source,
+        why: why_old,
+    } = stored;
     let Made { disk, why, .. } = made;
-    let (done, disk) = remake(alloc, &mut stored.disk, disk);
+    let (done, left) = remake(alloc, &mut source, disk);
     match done {
-        Ok(kept) => match put(disk, &stored.disk, name, store, files) {
+        Ok(kept) => match put(left, source, name, store, files) {
             Ok(()) => done_over(print_sizes(kept, output), store, &why),
             Err(reason) => Err(no_file(store, reason)),
         },
         Err(fault) => {
             files.remove(name);
+            files.close(store, source);
             let new = FileName::Beside(store);
-            done_over_two(Err(fault), store, &stored.why, new, &why)
+            done_over_two(Err(fault), store, &why_old, new, &why)
         }
     }
 }
@@ -120,15 +125,15 @@ fn put_renewed<'a, F: Files, O: Write>(
 /// the second, or takes it away.
 fn put<F: Files>(
     disk: F::Disk,
-    over: &F::Disk,
+    over: F::Disk,
     from: &str,
     to: &str,
     files: &mut F,
 ) -> Result<(), Reason>
     requires settled { IsSettled (F.Disk.state disk) }
-    ensures put { OnOk result (IsReplaced F.seen disk from.now to.now files.new) }
+    ensures put { OnOk result (IsReplaced F.seen disk from.now to.now files.old files.new) }
     ensures not { OnErr result
-        (IsNotPut F.Disk.state F.seen disk from.now to.now files.old files.new) }
+        (IsNotPut F.Disk.state F.seen disk over from.now to.now files.old files.new) }
 {
     let done = files.replace(disk, over, from, to);
     if done.is_err() {

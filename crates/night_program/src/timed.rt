@@ -36,13 +36,13 @@ pub fn timed_file<'a, F: Files, C: MachineTime, I: Read, O: Write>(
         Err(reason) => return Err(no_file(store, reason)),
     };
     if strict {
-        strict_over(
-            timed_strict(alloc, disk, clock, input, output).0,
-            store,
-            &why,
-        )
+        let (done, left) = timed_strict(alloc, disk, clock, input, output);
+        files.close(store, left);
+        strict_over(done, store, &why)
     } else {
-        done_over(timed(alloc, disk, clock, input, output).0, store, &why)
+        let (done, left) = timed(alloc, disk, clock, input, output);
+        files.close(store, left);
+        done_over(done, store, &why)
     }
 }
 

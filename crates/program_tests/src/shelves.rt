@@ -6,7 +6,7 @@ ghost use Rattle.night_program.specs.Files.{FilesView, IsSettled};
 
 use arrayvec::ArrayString;
 use night_program::{Files, Made, Opened, Reason, Why};
-use run_disk::{Fuse, MemoryDisk, RunDisk, Torn};
+use run_disk::{DiskFailed, Fuse, MemoryDisk, RunDisk, Torn};
 use std::alloc::Global;
 
 /// One file in memory. An opening gives a copy of it, and a file that is made anew isn't kept,
@@ -59,6 +59,20 @@ impl Shelf {
         }
     }
 
+    /// Keeps what a disk holds as the file of this name.
+    fn replaced(&mut self, disk: MemoryDisk, name: &str) -> Result<(), Reason> {
+        if name != self.name || self.is_kept {
+            return Err(Reason::InUse);
+        }
+        match disk.image(self.alloc, disk.calls(), Torn::Take) {
+            Ok(bytes) => {
+                self.bytes = bytes;
+                Ok(())
+            }
+            Err(_) => Err(said("no memory")),
+        }
+    }
+
     fn made(&self, size: u64, is_new: bool) -> Result<Made<Fuse<MemoryDisk>, Broken>, Reason>
         ensures size { IfOk result (λ made.
             (⟦<Fuse<MemoryDisk> as RunDisk>⟧.state made.disk).size ≡ size) }
@@ -85,11 +99,13 @@ impl Files for Shelf {
     type Why = Broken;
 
     ghost seen = { record {
-      holds = λ shelf name disk. ⊤;
-      shows = λ shelf name disk. ⊤;
+      opens = λ shelf name disk after. ⊤;
+      shows = λ shelf name disk after. ⊤;
       lacks = λ shelf name. ⊤;
-      removes = λ shelf name left. ⊤;
-      remakes = λ shelf name left. ⊤;
+      puts = λ shelf name disk after. ⊤;
+      removes = λ shelf name after. ⊤;
+      remakes = λ shelf name after. ⊤;
+      gives = λ disk bytes left. ⊤;
     } };
 
     fn open(&mut self, name: &str) -> Result<Opened<Fuse<MemoryDisk>, Broken>, Reason> {
@@ -110,7 +126,13 @@ impl Files for Shelf {
         self.opened(name)
     }
 
+    fn close(&mut self, _name: &str, _disk: Fuse<MemoryDisk>) {}
+
     fn pause(&self) {}
+
+    fn read_all(&self, disk: &mut Fuse<MemoryDisk>, out: &mut [u8]) -> Result<(), DiskFailed> {
+        disk.read_at(0, out)
+    }
 
     fn create(&mut self, name: &str, size: u64) -> Result<Made<Fuse<MemoryDisk>, Broken>, Reason> {
         self.made(size, name != self.name)
@@ -131,21 +153,11 @@ impl Files for Shelf {
     fn replace(
         &mut self,
         disk: Fuse<MemoryDisk>,
-        _over: &Fuse<MemoryDisk>,
+        _over: Fuse<MemoryDisk>,
         _from: &str,
         to: &str,
     ) -> Result<(), Reason> {
-        if to != self.name || self.is_kept {
-            return Err(Reason::InUse);
-        }
-        let disk = disk.into_inner();
-        match disk.image(self.alloc, disk.calls(), Torn::Take) {
-            Ok(bytes) => {
-                self.bytes = bytes;
-                Ok(())
-            }
-            Err(_) => Err(said("no memory")),
-        }
+        self.replaced(disk.into_inner(), to)
     }
 
     fn remove(&mut self, _name: &str) {

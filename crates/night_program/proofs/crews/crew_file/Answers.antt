@@ -7,51 +7,59 @@ use Rattle.night_program.proofs.crews.crew_file.Goals as goal
 use Rattle.night_program.proofs.crews.crew_file.Goals.{then-known+in-Ok-None, else-known}
 
 pub returns-in-Ok-Some : goal.returns-in-Ok-Some
-returns-in-Ok-Some g c = (
-  c.open.ensures.same,
-  inr (inr (inr (
-    c.if-known.true,
-    record {
-      given = c.in-Ok.opened.disk;
-      read = c.unknown_on.new.disk;
-      held = c.in-Ok.ensures.holds;
-      settled = c.in-Ok.ensures.settled;
-      stops = inl (
-        c.in-Ok-Some.unknown,
-        found_is g.F.Disk.RunDisk.state c.in-Ok.opened.disk c.unknown_on.result
-            c.in-Ok-Some.field-0 (Some c.in-Ok-Some.unknown) c.unknown_on.new.disk
-            c.unknown_on.ensures c.in-Ok-Some.is c.in-Ok-Some.field-0-is,
-        refl,
-      );
-      output = refl;
-    },
-  ))),
-)
+returns-in-Ok-Some g c =
+    inr (inr (inr (
+      c.if-known.true,
+      record {
+        given = c.in-Ok.opened.disk;
+        read = c.unknown_on.new.disk;
+        held = record {
+          opened = c.open.new.self;
+          after = c.open.new.self;
+          opens = c.in-Ok.ensures.opens;
+          did = refl;
+          closes = c.close.ensures;
+        };
+        settled = c.in-Ok.ensures.settled;
+        stops = inl (
+          c.in-Ok-Some.unknown,
+          found_is g.F.Disk.RunDisk.state c.in-Ok.opened.disk c.unknown_on.result
+              c.in-Ok-Some.field-0 (Some c.in-Ok-Some.unknown) c.unknown_on.new.disk
+              c.unknown_on.ensures c.in-Ok-Some.is c.in-Ok-Some.field-0-is,
+          refl,
+        );
+        output = refl;
+      },
+    )))
 
 pub returns-in-Err-unknown_on : goal.returns-in-Err-unknown_on
-returns-in-Err-unknown_on g c = (
-  c.open.ensures.same,
-  inr (inr (inr (
-    c.if-known.true,
-    record {
-      given = c.in-Ok.opened.disk;
-      read = c.unknown_on.new.disk;
-      held = c.in-Ok.ensures.holds;
-      settled = c.in-Ok.ensures.settled;
-      stops = inr (
-        c.in-Err-unknown_on.fault,
-        c.in-Err-unknown_on.ensures,
-        (
-          c.failed_over.result,
-          refl,
-          c.failed_over.ensures.fault ∙ c.stopped.ensures,
-          c.failed_over.ensures.file,
-        ),
-      );
-      output = refl;
-    },
-  ))),
-)
+returns-in-Err-unknown_on g c =
+    inr (inr (inr (
+      c.if-known.true,
+      record {
+        given = c.in-Ok.opened.disk;
+        read = c.unknown_on.new.disk;
+        held = record {
+          opened = c.open.new.self;
+          after = c.open.new.self;
+          opens = c.in-Ok.ensures.opens;
+          did = refl;
+          closes = c.close-in-Err-unknown_on.ensures;
+        };
+        settled = c.in-Ok.ensures.settled;
+        stops = inr (
+          c.in-Err-unknown_on.fault,
+          c.in-Err-unknown_on.ensures,
+          (
+            c.failed_over.result,
+            refl,
+            c.failed_over.ensures.fault ∙ c.stopped.ensures,
+            c.failed_over.ensures.file,
+          ),
+        );
+        output = refl;
+      },
+    )))
 
 pub returns : goal.returns
 returns g c =
@@ -79,17 +87,21 @@ returns g c =
       | else-known w ↦
           looked_not g.F.Disk.RunDisk.state c.in-Ok.opened.disk c.args.known c.if-known.disk
           w.if-known.false w.disk-is
-    ] in (
-      c.open.ensures.same,
-      inr (inr (inl record {
-        given = c.in-Ok.opened.disk;
-        begun = c.if-known.disk;
-        left = c.crew_over-done.result.1;
-        done = c.crew_over-done.result.0;
-        held = c.in-Ok.ensures.holds;
-        settled = c.in-Ok.ensures.settled;
-        looked = looked;
-        works = subst P count c.crew_over-done.ensures;
-        answers = c.worked.ensures;
-      })),
-    )
+    ] in
+    inr (inr (inl record {
+      given = c.in-Ok.opened.disk;
+      begun = c.if-known.disk;
+      left = c.crew_over-done.result.1;
+      done = c.crew_over-done.result.0;
+      held = record {
+        opened = c.open.new.self;
+        after = c.open.new.self;
+        opens = c.in-Ok.ensures.opens;
+        did = refl;
+        closes = c.close-2.ensures;
+      };
+      settled = c.in-Ok.ensures.settled;
+      looked = looked;
+      works = subst P count c.crew_over-done.ensures;
+      answers = c.worked.ensures;
+    }))

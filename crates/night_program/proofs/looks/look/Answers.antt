@@ -10,31 +10,40 @@ use Rattle.night_program.proofs.looks.look.Goals.{in-Ok-Some, in-Ok-None, in-Err
 pub returns : goal.returns
 returns g c =
     let P : Option (MemoryDisk Global) → Type 0 = λ found.
-    IfSome found (λ copy. IsCopy (g.F.Disk.RunDisk.state c.args.opened.disk) (state_of copy)) in
+    IfSome found (λ copy. IsCopy g.F.Files.seen (g.F.Disk.RunDisk.state c.args.opened.disk)
+    c.steady_copy.new.disk (state_of copy)) in
     elim c.match-steady_copy.branch [
-      | in-Ok-Some w ↦ rw w.answer-is (rw w.output-is (inr (inl (
-        w.inspect.result,
-        record {
-          copy = w.in-Ok-Some.copy;
-          left = w.inspect.new.disk;
-          is_copy = subst P w.in-Ok-Some.field-0-is w.in-Ok-Some.ensures.copies;
-          inspects = w.inspect.ensures;
-        },
-        w.done_over-answer.ensures,
-      ))))
-      | in-Ok-None w ↦ rw w.answer-is (rw w.output-is
-          (inr (inr (refl, inl (w.no_file.result, refl, w.no_file.ensures)))))
-      | in-Err w ↦ rw w.answer-is (rw w.output-is (inr (inr (
-        refl,
+      | in-Ok-Some w ↦ rw w.answer-is (rw w.output-is (inr (
+        w.in-Ok-Some.ensures.only,
+        inl (
+          w.inspect.result,
+          record {
+            copy = w.in-Ok-Some.copy;
+            shown = w.inspect.new.disk;
+            is_copy = subst P w.in-Ok-Some.field-0-is w.in-Ok-Some.ensures.copies;
+            inspects = w.inspect.ensures;
+          },
+          w.done_over-answer.ensures,
+        ),
+      )))
+      | in-Ok-None w ↦ rw w.answer-is (rw w.output-is (inr (
+        w.in-Ok-None.ensures.only,
+        inr (refl, inl (w.no_file.result, refl, w.no_file.ensures)),
+      )))
+      | in-Err w ↦ rw w.answer-is (rw w.output-is (inr (
+        w.in-Err.ensures.only,
         inr (
-          w.in-Err.fault,
-          w.in-Err.ensures.fault,
-          (
-            w.failed_over.result,
-            refl,
-            w.failed_over.ensures.fault ∙ w.stopped.ensures,
-            w.failed_over.ensures.file,
+          refl,
+          inr (
+            w.in-Err.fault,
+            w.in-Err.ensures.fault,
+            (
+              w.failed_over.result,
+              refl,
+              w.failed_over.ensures.fault ∙ w.stopped.ensures,
+              w.failed_over.ensures.file,
+            ),
           ),
         ),
-      ))))
+      )))
     ]

@@ -1,9 +1,12 @@
-use Rattle.std.proofs.Common.{◌≡◌}
+use Rattle.run_disk.specs.Runs.{OnlyReads}
+use Rattle.night_program.specs.Files.{IsRead}
 use Rattle.night_program.proofs.looks.steady_bytes.Given as goal
 
--- Readings change nothing of an honest disk.
+-- The bytes of the last reading; and readings change nothing of an honest disk.
 abbrev pub invariant-loop : goal.invariant-loop
-invariant-loop g l =
-    (g.F.Disk.RunDisk.state l.fn.disk).honest
-    → (g.F.Disk.RunDisk.state l.disk).honest
-    × ((g.F.Disk.RunDisk.state l.disk).now ≡ (g.F.Disk.RunDisk.state l.fn.disk).now)
+invariant-loop g l = record {
+  last : IsRead g.F.Files.seen l.before.items l.disk;
+  honest : (g.F.Disk.RunDisk.state l.fn.disk).honest → (g.F.Disk.RunDisk.state l.disk).honest;
+  only : (g.F.Disk.RunDisk.state l.fn.disk).honest
+      → OnlyReads (g.F.Disk.RunDisk.state l.fn.disk) (g.F.Disk.RunDisk.state l.disk);
+}

@@ -38,7 +38,11 @@ returns g c =
       done = c.remake-done.result.0;
       remakes = c.remake-done.ensures;
       puts = rw c.in-Err.is (
-        subst Gone c.requires.named c.remove.ensures,
+        record {
+          bare = c.remove.new.self;
+          removed = subst Gone c.requires.named c.remove.ensures;
+          closes = c.close.ensures;
+        },
         c.done_over_two.ensures,
         refl,
       );

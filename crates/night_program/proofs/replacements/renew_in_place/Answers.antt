@@ -3,12 +3,16 @@ use Rattle.night_program.proofs.replacements.renew_in_place.Goals as goal
 
 pub returns-in_default : goal.returns-in_default
 returns-in_default g c =
-    inl (
-      c.in-Ok.ensures.same,
-      refl,
-      inr (inl record {
+    inr (inl (
+      inl record {
         source = c.in-Ok.opened.disk;
-        opened = search rules;
+        opened = record {
+          opened = c.open.new.self;
+          after = c.open.new.self;
+          opens = c.in-Ok.ensures.opens;
+          did = refl;
+          closes = c.close.ensures;
+        };
         none = search rules;
         answers = (
           c.failed_over.result,
@@ -16,8 +20,26 @@ returns-in_default g c =
           c.failed_over.ensures.fault ∙ c.stopped.ensures,
           c.failed_over.ensures.file,
         );
-      }),
-    )
+      },
+      refl,
+    ))
+
+pub returns-in_default-name_beside : goal.returns-in_default-name_beside
+returns-in_default-name_beside g c =
+    inr (inl (
+      inr (inl (
+        c.done_alone.ensures,
+        c.in-Ok.opened.disk,
+        record {
+          opened = c.open.new.self;
+          after = c.open.new.self;
+          opens = c.in-Ok.ensures.opens;
+          did = refl;
+          closes = c.close-in_default-name_beside.ensures;
+        },
+      )),
+      refl,
+    ))
 
 pub returns-in-Ok-make_beside : goal.returns-in-Ok-make_beside
 returns-in-Ok-make_beside g c =
@@ -25,11 +47,12 @@ returns-in-Ok-make_beside g c =
       source = c.in-Ok.opened.disk;
       layout = c.in-Some.layout;
       given = c.in-Ok-make_beside.made.disk;
+      opened = c.open.new.self;
       made = c.make_beside.new.files;
-      held = search rules;
+      opens = c.in-Ok.ensures.opens;
       settled = c.in-Ok.ensures.settled;
       fits = cc;
-      makes = rw (c.as_str.ensures.value ∙ c.in-Ok-name_beside.ensures, c.in-Ok.ensures.same)
+      makes = rw (c.as_str.ensures.value ∙ c.in-Ok-name_beside.ensures)
           at c.in-Ok-make_beside.ensures.made;
       ends = c.put_renewed.ensures;
     })
@@ -37,8 +60,17 @@ returns-in-Ok-make_beside g c =
 pub returns : goal.returns
 returns g c =
     inr (inl (
-      (c.not_had.result, refl, c.not_had.ensures),
-      rw (c.as_str.ensures.value ∙ c.in-Ok-name_beside.ensures, c.in-Ok.ensures.same)
-          at c.in-Err-make_beside.ensures.not,
+      inr (inr (
+        (c.not_had.result, refl, c.not_had.ensures),
+        c.in-Ok.opened.disk,
+        record {
+          opened = c.open.new.self;
+          after = c.make_beside.new.files;
+          opens = c.in-Ok.ensures.opens;
+          did = rw (c.as_str.ensures.value ∙ c.in-Ok-name_beside.ensures)
+              at c.in-Err-make_beside.ensures.not;
+          closes = c.close-in-Err-make_beside.ensures;
+        },
+      )),
       refl,
     ))
