@@ -22,15 +22,8 @@ use crate::system::{Complaints, SystemFiles};
 use night_program::{CopyJob, FailJob, SpinJob, night};
 use night_words::own_words;
 use run_crew::Job;
-use std::alloc::AllocGlobal;
-use std::env::Env;
-use std::fs;
-use std::fs::File;
-use std::io::{Read, Write};
 use std::process::ExitCode;
-use std::sync::Wait;
-use std::thread::{Builder, Threads};
-use std::time::Clock;
+use std::thread::Builder;
 
 /// The most workers that the words can ask for.
 const MOST_WORKERS: usize = 8;
@@ -40,60 +33,50 @@ const STACK: usize = 4 << 20;
 
 /// Runs in a thread with a stack of its own, since the one that the system gives may be too small.
 fn main(rt: HostRuntime) -> ExitCode {
-    let all = move || run(&rt, rt.stdin(), rt.stdout(), rt.stderr());
+    let all = move || -> u8 {
+        let alloc = rt.alloc();
+        let words = own_words(&rt);
+        // A list for each worker, as far as there is memory: a crew of more is told that it is
+        // wanting.
+        let mut jobs: Vec<Vec<Box<dyn Job + Send>>> = Vec::new(alloc);
+        for _ in 0..MOST_WORKERS {
+            let Ok(spin) = Box::new(alloc, SpinJob) else {
+                break;
+            };
+            let Ok(fail) = Box::new(alloc, FailJob) else {
+                break;
+            };
+            let Ok(copy) = Box::new(alloc, CopyJob) else {
+                break;
+            };
+            let mut list: Vec<Box<dyn Job + Send>> = Vec::new(alloc);
+            if list.push(spin).is_err() || list.push(fail).is_err() || list.push(copy).is_err() {
+                break;
+            }
+            if jobs.push(list).is_err() {
+                break;
+            }
+        }
+        let complaints = Complaints::new();
+        let mut files = SystemFiles::new(&rt, alloc, &complaints);
+        let mut clock = SystemClock::new(&rt);
+        let (mut input, mut output, mut errors) = (rt.stdin(), rt.stdout(), rt.stderr());
+        let ended = night(
+            &rt,
+            alloc,
+            words,
+            jobs,
+            &mut files,
+            &mut clock,
+            &mut input,
+            &mut output,
+            &mut errors,
+        );
+        ended.status
+    };
     let builder = Builder::new().stack_size(STACK);
     ExitCode::from(match builder.spawn(&rt, all) {
         Ok(thread) => thread.join(&rt),
-        Err(_) => run(&rt, rt.stdin(), rt.stdout(), rt.stderr()),
+        Err(_) => all(),
     })
-}
-
-/// Does what the program's words ask for, and gives its exit status.
-fn run<R, I: Read + Drop, O: Write + Drop, E: Write + Drop>(
-    rt: &R,
-    input: I,
-    output: O,
-    errors: E,
-) -> u8
-where
-    R: AllocGlobal + Env + Clock + fs::Files<File = File> + Threads + Wait + Sync,
-{
-    let (mut input, mut output, mut errors) = (input, output, errors);
-    let alloc = rt.alloc();
-    let words = own_words(rt);
-    // A list for each worker, as far as there is memory: a crew of more is told that it is wanting.
-    let mut jobs: Vec<Vec<Box<dyn Job + Send>>> = Vec::new(alloc);
-    for _ in 0..MOST_WORKERS {
-        let Ok(spin) = Box::new(alloc, SpinJob) else {
-            break;
-        };
-        let Ok(fail) = Box::new(alloc, FailJob) else {
-            break;
-        };
-        let Ok(copy) = Box::new(alloc, CopyJob) else {
-            break;
-        };
-        let mut list: Vec<Box<dyn Job + Send>> = Vec::new(alloc);
-        if list.push(spin).is_err() || list.push(fail).is_err() || list.push(copy).is_err() {
-            break;
-        }
-        if jobs.push(list).is_err() {
-            break;
-        }
-    }
-    let complaints = Complaints::new();
-    let mut files = SystemFiles::new(rt, alloc, &complaints);
-    let mut clock = SystemClock::new(rt);
-    let ended = night(
-        rt,
-        alloc,
-        words,
-        jobs,
-        &mut files,
-        &mut clock,
-        &mut input,
-        &mut output,
-        &mut errors,
-    );
-    ended.status
 }

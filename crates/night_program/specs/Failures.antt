@@ -14,6 +14,8 @@ use Rattle.night_program.specs.declared.failures.Failure.{Failure}
 use Rattle.night_program.specs.declared.failures.FileFailure.{FileFailure}
 use Rattle.night_program.specs.declared.failures.FileName.{FileName}
 use Rattle.night_program.specs.declared.failures.FileName.TheVariants.{Beside, Own}
+use Rattle.night_program.specs.declared.reasons.Reason.{Reason}
+use Rattle.night_program.specs.declared.reasons.Reason.TheVariants.{InUse}
 use Rattle.night_program.specs.Files.{beside}
 
 -- The name of a file that is told: one that the words have, or that of the file beside it.
@@ -34,6 +36,19 @@ abbrev pub IsNoFile : List ℕ → Failure → Type 0
 IsNoFile name failure =
     (failure.fault ≡ Store (Faulty DiskFailed))
     × ((file : FileFailure) × (failure.file ≡ Some file) × (name_text file.name ≡ name))
+
+-- The file that is to blame where a store isn't put in place: the one beside it, where another
+-- program has that by then, or else its own.
+abbrev pub blamed : List ℕ → Reason → List ℕ
+blamed store InUse = beside store
+blamed store _ = store
+
+-- A store wasn't put in place: the device failed, and the file that is to blame is named.
+abbrev pub IsUnput : List ℕ → Failure → Type 0
+IsUnput store failure =
+    (failure.fault ≡ Store (Faulty DiskFailed))
+    × ((file : FileFailure) × (failure.file ≡ Some file)
+    × (name_text file.name ≡ blamed store file.reason))
 
 -- This fault ended it, and this holds of the file of which a call failed.
 abbrev pub FailsBy : (Option FileFailure → Type 0) → RunFault → Result Done Failure → Type 0

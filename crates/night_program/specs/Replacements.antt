@@ -10,7 +10,7 @@ use Rattle.night_program.specs.declared.endings.Done.{Done}
 use Rattle.night_program.specs.declared.failures.Failure.{Failure}
 use Rattle.night_program.specs.declared.renewals.Kept.{Kept}
 use Rattle.night_program.specs.Failures.{AnswersAlone, AnswersOver, FailsBy, HasNoFile, HasNoSize}
-use Rattle.night_program.specs.Failures.{Names, NamesOne}
+use Rattle.night_program.specs.Failures.{IsUnput, Names, NamesOne}
 use Rattle.night_program.specs.Files.{FilesView, Holds, HoldsAlone, IsKept, IsNotMade, IsReplaced}
 use Rattle.night_program.specs.Files.{IsSettled, Makes, beside}
 use Rattle.night_program.specs.Stores.{Prints, Remakes, sizes_line}
@@ -58,7 +58,8 @@ module _ {F D : Type 0} (state : D → DiskState) (seen : FilesView F D) where
       (IsReplaced seen left (beside store) store f0 f1
       × ((done : Result ⊤ RunFault) × Prints (sizes_line kept.before kept.left) done w0 w1
       × AnswersOver (Names store) done answer))
-      ⊎ (IsNotPut left read (beside store) store f0 f1 × HasNoFile store answer × (w1 ≡ w0))
+      ⊎ (IsNotPut left read (beside store) store f0 f1
+      × ((failure : Failure) × (answer ≡ Err failure) × IsUnput store failure) × (w1 ≡ w0))
   Puts store (Err why) read left answer f0 f1 w0 w1 =
       IsNotBeside store read f0 f1
       × FailsBy (NamesOne store (beside store)) why answer × (w1 ≡ w0)

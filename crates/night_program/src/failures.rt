@@ -2,7 +2,8 @@
 
 ghost use Rattle.std.specs.Prelude.{◌≡◌, None, Some};
 ghost use Rattle.night_program.specs.Failures.{AnswersAlone, AnswersOver, AnswersStrict};
-ghost use Rattle.night_program.specs.Failures.{IsNoFile, Names, NamesOne, name_text};
+ghost use Rattle.night_program.specs.Failures.{IsNoFile, IsUnput, Names, NamesOne, blamed};
+ghost use Rattle.night_program.specs.Failures.{name_text};
 
 use crate::endings::Done;
 use crate::files::Why;
@@ -65,6 +66,33 @@ pub fn not_had<'a>(name: FileName<'a>, reason: Reason) -> Failure<'a>
     Failure {
         fault: RunFault::Store(Trouble::Faulty(Fault::DiskFailed)),
         file: Some(FileFailure { name, reason }),
+    }
+}
+
+/// What is told where a store isn't put in place. `InUse` is said of the file beside it, which is
+/// another program's by then, and all else of its own.
+pub fn not_put<'a>(store: &'a str, reason: Reason) -> Failure<'a>
+    ensures { IsUnput store.now result }
+{
+    let fault = RunFault::Store(Trouble::Faulty(Fault::DiskFailed));
+    let name = blamed(store, &reason);
+    Failure {
+        fault,
+        file: Some(FileFailure { name, reason }),
+    }
+}
+
+/// The file that is to blame where a store isn't put in place.
+fn blamed<'a>(store: &'a str, reason: &Reason) -> FileName<'a>
+    ensures { name_text result ≡ blamed store.now reason.now }
+{
+    match reason {
+        Reason::InUse => FileName::Beside(store),
+        Reason::EndedEarly
+        | Reason::OtherName
+        | Reason::NotAFile
+        | Reason::Unsynced
+        | Reason::Said(_) => FileName::Own(store),
     }
 }
 

@@ -10,6 +10,7 @@ ghost use Rattle.night_program.specs.Replacements.{LacksBeside, MakesBeside};
 use crate::endings::Done;
 use crate::failures::{
     BESIDE, Failure, FileName, done_alone, done_over, done_over_two, failed_over, no_file, not_had,
+    not_put,
 };
 use crate::files::{Files, Made, Opened};
 use crate::reasons::Reason;
@@ -110,7 +111,7 @@ fn put_renewed<'a, F: Files, O: Write>(
     match done {
         Ok(kept) => match put(left, source, name, store, files) {
             Ok(()) => done_over(print_sizes(kept, output), store, &why),
-            Err(reason) => Err(no_file(store, reason)),
+            Err(reason) => Err(not_put(store, reason)),
         },
         Err(fault) => {
             files.remove(name);

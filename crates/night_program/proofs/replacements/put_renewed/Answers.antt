@@ -23,7 +23,7 @@ returns-in-Ok g c =
       remakes = c.remake-done.ensures;
       puts = rw c.in-Ok.is (inr (
         rw c.requires.named at c.in-Err-put.ensures.not,
-        (c.no_file.result, refl, c.no_file.ensures),
+        (c.not_put.result, refl, c.not_put.ensures),
         refl,
       ));
     }
