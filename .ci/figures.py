@@ -8,7 +8,7 @@ import os
 import re
 from dataclasses import asdict, dataclass
 
-ROW = re.compile(r"^\| `(\w+)` \| (\d+) \| ([\d.]+) \|", re.M)
+ROW = re.compile(r"^\| `(\w+)` \| (\d+) \| (\d+\.\d) \|", re.M)
 GB = 1_000_000_000
 
 
