@@ -1,4 +1,4 @@
-"""What the proof of each crate took when it was last done: how long, how much work, how much memory.
+"""What the proof of each crate took when it was last done: how long, what work, what memory.
 
 The figures of this machine are kept in a file of the user's cache. Until a crate was proved here,
 its figures are those of the table in docs/build.md.

@@ -20,7 +20,7 @@ class Step:
     waits: Set[str]
     seconds: float
     memory: float
-    take: Callable[[int], bool]  # is given how many processors it may use, returns whether all went well
+    take: Callable[[int], bool]  # gets how many processors it may use, returns whether all is well
 
     def needs(self, jobs: int) -> float:
         return self.memory * (1 + FOR_A_JOB * (jobs - 1))
