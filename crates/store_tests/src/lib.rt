@@ -11,6 +11,8 @@ mod disks;
 #[cfg(test)]
 mod files;
 #[cfg(test)]
+mod forgetful;
+#[cfg(test)]
 mod journals;
 #[cfg(test)]
 mod pairs;

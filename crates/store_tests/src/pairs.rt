@@ -47,6 +47,18 @@ pub const ONE_BATCH: Pair = Pair {
     batches: &[&FIRST],
 };
 
+pub const BOTH_BATCHES: Pair = Pair {
+    numbers: (1, 52),
+    image: &OPENED,
+    batches: &[&FIRST, &SECOND],
+};
+
+pub const CHECKPOINTED: Pair = Pair {
+    numbers: (2, 0),
+    image: &FORMATTED,
+    batches: &[],
+};
+
 /// Says whether a store holds this pair.
 pub fn is_pair(stored: &Stored, pair: &Pair) -> bool {
     let mut lent = stored.batches();

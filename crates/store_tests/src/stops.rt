@@ -3,8 +3,9 @@
 use crate::asserts::holds;
 use crate::bytes::{disk_of, left};
 use crate::pairs::{
-    AS_FORMATTED, AS_OPENED, Call, Calls, FIRST, FLUSH_TWICE, FORMATTED, ONE_BATCH, OPEN, OPENED,
-    Pair, SECOND, behind, formatted, holds_pair, recovered, small_behind,
+    AS_FORMATTED, AS_OPENED, BOTH_BATCHES, CHECKPOINTED, Call, Calls, FIRST, FLUSH_TWICE,
+    FORMATTED, ONE_BATCH, OPEN, OPENED, Pair, behind, formatted, holds_pair, recovered,
+    small_behind,
 };
 use run_disk::{MemoryDisk, Torn};
 use run_journal::Stored;
@@ -31,18 +32,6 @@ type Stop = (
     &'static Pair<'static>,
     &'static Pair<'static>,
 );
-
-const BOTH_BATCHES: Pair = Pair {
-    numbers: (1, 52),
-    image: &OPENED,
-    batches: &[&FIRST, &SECOND],
-};
-
-const CHECKPOINTED: Pair = Pair {
-    numbers: (2, 0),
-    image: &FORMATTED,
-    batches: &[],
-};
 
 /// A later checkpoint.
 const CHECKPOINT: Calls = &[
