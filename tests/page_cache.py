@@ -137,6 +137,11 @@ class Cache:
             found.inodes[number] = Inode(bytes_of(path), device, dirty, mode)
         return found
 
+    def linked(self, name: str, to: str) -> "Cache":
+        """The folder has this link, too, which nothing here speaks of."""
+        os.symlink(to, self.path(name))
+        return self
+
     def rename(self, old: str, new: str) -> None:
         """So does `mv`: nothing of it is durable yet."""
         left = self.left()
