@@ -270,7 +270,7 @@ static int breaks(const char *what, const char *name)
     if (all_calls == dying)
         end_it();
     if (all_calls == halting)
-        kill(getpid(), SIGSTOP);
+        raise(SIGSTOP);
     if (all_calls != breaking)
         return 0;
     errno = EIO;
@@ -289,7 +289,7 @@ static int counted(const char *what, off_t at, size_t count)
     calls++;
     tell(what, at, count);
     if (stop && calls == atol(stop))
-        kill(getpid(), SIGSTOP);
+        raise(SIGSTOP);
     if (calls == killing) {
         leave_rest();
         end_it();
@@ -557,7 +557,7 @@ int flock(int fd, int how)
     if (breaks_at("lock", fd))
         return -1;
     if (fd == file && stop && !atol(stop))
-        kill(getpid(), SIGSTOP);
+        raise(SIGSTOP);
     if (fd == file && number_of("HURT_LOCK")) {
         errno = (int)number_of("HURT_LOCK");
         return -1;

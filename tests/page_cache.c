@@ -102,7 +102,7 @@ static int fails(const char *what, const char *name)
     if (told >= 0)
         dprintf(told, "%s %s\n", what, name);
     if (calls == stopping)
-        kill(getpid(), SIGSTOP);
+        raise(SIGSTOP);
     if (calls == killing) {
         kill(getpid(), SIGKILL);
         give_up("it wasn't killed");
