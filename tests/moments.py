@@ -1,5 +1,5 @@
-"""What a store may hold over which only the clock was moved, as the acknowledgements say; for the
-scripts that stop programs and then ask what is left."""
+"""What a store may hold over which only the clock was moved, as the acknowledgements say, and at
+which calls a program is stopped; for the scripts that then ask what is left."""
 
 import re
 from dataclasses import dataclass
@@ -56,3 +56,15 @@ def moment_of(ended: Ended) -> Moment | None:
     """The moment that an inspection shows, if it shows one."""
     found = SHOWN.fullmatch(ended.output) if ended.status == 0 else None
     return Moment(int(found[1]), int(found[2])) if found else None
+
+
+def telling(calls: list[str]) -> list[int]:
+    """The places of the calls, from 1, before which a stop may leave something of its own: no read
+    and no close, and of a row of writes its ends, and few within."""
+    kinds, found = [it.split()[0] for it in calls], []
+    for at, kind in enumerate(kinds):
+        around = kinds[max(at - 2, 0):at] + kinds[at + 1:at + 3]
+        is_within = kind == "write" and not set(around) - {"read", "write"} and at % 150
+        if kind not in ("read", "close") and not is_within:
+            found.append(at + 1)
+    return found
