@@ -364,6 +364,29 @@ int close(int fd)
     return (int)syscall(SYS_close, fd);
 }
 
+/* (a second descriptor of a file is one of the same file) */
+int fcntl64(int fd, int what, ...)
+{
+    va_list words;
+    va_start(words, what);
+    long word = va_arg(words, long);
+    va_end(words);
+    int done = (int)syscall(SYS_fcntl, fd, what, word);
+    int is_second = what == F_DUPFD || what == F_DUPFD_CLOEXEC;
+    if (is_second && done >= 0 && done < MOST_FILES && file_at(fd))
+        open_files[done] = open_files[fd];
+    return done;
+}
+
+int fcntl(int fd, int what, ...)
+{
+    va_list words;
+    va_start(words, what);
+    long word = va_arg(words, long);
+    va_end(words);
+    return fcntl64(fd, what, word);
+}
+
 ssize_t read(int fd, void *bytes, size_t count)
 {
     return fails_at("read", fd) ? -1 : syscall(SYS_read, fd, bytes, count);
