@@ -1,0 +1,93 @@
+"""The report in Prometheus' text format, for the folder of the node exporter's textfile collector.
+
+A sample has no time of its own, as that collector wants it; what isn't known has no sample.
+"""
+
+from __future__ import annotations
+
+from collections.abc import Iterator
+
+from .report_words import by_group, counts, end_of, escaped, last_end
+from .rows import PHASES, Report, Row, Try
+
+Labels = dict[str, str]
+Sample = tuple[Labels, float]
+
+
+def prom(report: Report) -> str:
+    """All families, each with what it is (HELP), its type and its samples."""
+    store = {"store": report.store}
+    commands = [({**store, "group": it.group, "key": it.key}, it) for it in report.rows]
+    families = (
+        ("night", "Number of the night, from 1.", [(store, float(report.night))]),
+        ("begin_timestamp_seconds", "When the night began.", known(store, report.began)),
+        ("last_end_timestamp_seconds", "When the last command ended.",
+         known(store, last_end(report.rows))),
+        ("last_success_timestamp_seconds",
+         "When the night's last command ended, if all of them are ok.",
+         known(store, success(report))),
+        ("commands", "Commands of a group, by how they stand.", list(standing(report))),
+        ("group_deadline_timestamp_seconds", "When the group's deadline passes.",
+         [sample for group, _ in by_group(report)
+          for sample in known({**store, "group": group.name}, group.deadline)]),
+        ("group_canceled", "1 if the group is canceled or its deadline has passed.",
+         [({**store, "group": group.name}, float(group.is_done))
+          for group, _ in by_group(report)]),
+        ("command_tries", "Tries of the command in this night.",
+         [(labels, float(len(row.tries))) for labels, row in commands]),
+        ("command_end_timestamp_seconds", "When the command's last try ended.",
+         [it for labels, row in commands for it in known(labels, last_end([row]))]),
+        ("command_duration_seconds", "How long the command's last ended try took.",
+         [it for labels, row in commands for it in known(labels, duration(row))]),
+        ("command_last_success_timestamp_seconds", "When the command ended ok in this night.",
+         [it for labels, row in commands for it in known(labels, success_of(row))]),
+    )
+    return "".join(family(f"night_run_{name}", said, samples)
+                   for name, said, samples in families if samples)
+
+
+def known(labels: Labels, value: float | None) -> list[Sample]:
+    return [] if value is None else [(labels, value)]
+
+
+def standing(report: Report) -> Iterator[Sample]:
+    """How many commands of each group stand how, the phases that none is in too."""
+    for group, rows in by_group(report):
+        found = counts(rows)
+        for phase in PHASES:
+            yield ({"store": report.store, "group": group.name, "phase": phase},
+                   float(found.get(phase, 0)))
+
+
+def success(report: Report) -> float | None:
+    """When the last command ended, where every one is ok."""
+    is_well = all(it.phase == "ok" for it in report.rows)
+    return last_end(report.rows) if is_well else None
+
+
+def success_of(row: Row) -> float | None:
+    ends = [end_of(it) for it in row.tries if it.end == "ok"]
+    return ends[-1] if ends else None
+
+
+def duration(row: Row) -> float | None:
+    ended: list[Try] = [it for it in row.tries if it.took is not None]
+    return ended[-1].took if ended else None
+
+
+def family(name: str, said: str, samples: list[Sample]) -> str:
+    lines = [f"# HELP {name} {said}", f"# TYPE {name} gauge"]
+    for labels, value in samples:
+        shown = ",".join(f'{key}="{label(it)}"' for key, it in labels.items())
+        lines.append(f"{name}{{{shown}}} {number(value)}")
+    return "".join(f"{it}\n" for it in lines)
+
+
+def label(text: str) -> str:
+    """A label's value: UTF-8, with a backslash before a quote, a backslash and a line's end."""
+    whole = "".join(escaped(it) if "\ud800" <= it <= "\udfff" else it for it in text)
+    return whole.replace("\\", "\\\\").replace('"', '\\"').replace("\n", "\\n")
+
+
+def number(value: float) -> str:
+    return f"{value:.3f}".rstrip("0").rstrip(".")

@@ -1,0 +1,92 @@
+"""The report as a text for a mail: 72 columns, what didn't end well first.
+
+Only a path may be longer, so that it can be copied whole.
+"""
+
+from __future__ import annotations
+
+import collections
+import textwrap
+from collections.abc import Iterator
+
+from .report_words import (by_group, counts, facts, line_shown, of_all, plain, told, tries_told,
+                           verdict, when_told, why_done)
+from .rows import Report, Row
+
+COLUMNS = 72
+# So many failures are told with their last lines, and so many names of what shares a reason.
+MOST_TOLD, MOST_NAMED = 20, 12
+# What didn't end well, besides failures.
+OTHERS = ("canceled", "not begun", "interrupted")
+
+
+def text(report: Report) -> str:
+    """The whole report, with a line feed at its end."""
+    return "".join(f"{it}\n" for it in lines(report))
+
+
+def lines(report: Report) -> Iterator[str]:
+    yield from wrapped(verdict(report)[1])
+    yield from wrapped(f"{plain(report.store)}, night {report.night}, {when_told(report)}")
+    yield from wrapped(told(counts(report.rows)))
+    failed = [it for it in report.rows if it.phase == "failed"]
+    if failed:
+        yield from headed("Failed")
+        for at, row in enumerate(failed):
+            yield from failure(row) if at < MOST_TOLD else wrapped(named(row))
+    others = list(unlucky(report))
+    if others:
+        yield from headed("Not done")
+        for it in others:
+            yield from wrapped(it)
+    if report.rows:
+        yield from headed("Groups")
+        yield from groups(report)
+
+
+def headed(head: str) -> Iterator[str]:
+    yield from ("", head.upper(), "")
+
+
+def named(row: Row) -> str:
+    return f"{row.group} {row.key}: {plain(row.end) or row.phase}"
+
+
+def failure(row: Row) -> Iterator[str]:
+    """A failure: its end, its tries, its command, its last lines, and the path of all of them."""
+    yield from wrapped(f"{named(row)} ({tries_told(row)})")
+    yield from wrapped(line_shown(row.command), "  $ ", "    ")
+    for it in row.tail:
+        yield from wrapped(line_shown(it).expandtabs(), "  | ", "  | ")
+    if row.output:
+        yield f"  {plain(row.output)}"
+
+
+def unlucky(report: Report) -> Iterator[str]:
+    """What else didn't end well, those that share a reason together."""
+    found = collections.defaultdict(list)
+    for row in report.rows:
+        if row.phase in OTHERS:
+            found[row.phase, plain(row.end)].append(f"{row.group} {row.key}")
+    for (phase, end), names in found.items():
+        why = end if end.startswith(phase) else f"{phase}: {end}" if end else phase
+        more = len(names) - MOST_NAMED
+        shown = ", ".join(names[:MOST_NAMED]) + (f" and {more} more" if more > 0 else "")
+        yield f"{len(names)} {why} ({shown})"
+
+
+def groups(report: Report) -> Iterator[str]:
+    whole = of_all(report)
+    said = [*facts(whole), *why_done(whole)] if whole else []
+    if said:
+        yield from wrapped(f"all groups: {'; '.join(said)}")
+    for group, rows in by_group(report):
+        said = [told(counts(rows)), *facts(group), *why_done(group)]
+        yield from wrapped(f"{group.name}: {'; '.join(said)}")
+
+
+def wrapped(line: str, first: str = "", later: str = "  ") -> list[str]:
+    """A line as some of 72 columns; the first begins with `first`, each other one with `later`."""
+    return textwrap.wrap(line, COLUMNS, initial_indent=first, subsequent_indent=later,
+                         expand_tabs=False, replace_whitespace=False, drop_whitespace=True,
+                         break_on_hyphens=False) or [first.rstrip()]

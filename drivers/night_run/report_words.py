@@ -1,0 +1,160 @@
+"""The words that the forms of a report share: counts, a verdict, moments and texts of others.
+
+Moments are shown in this machine's time zone.
+"""
+
+from __future__ import annotations
+
+import collections
+import re
+import time
+import unicodedata
+from collections.abc import Iterable
+
+from .rows import OF_ALL, PHASES, Group, Report, Row, Try
+
+# A line of somebody else's that is longer is cut.
+MOST_SHOWN = 400
+# Characters that do something else than to be seen: controls, directions, lone surrogates.
+UNSEEN = ("Cc", "Cf", "Cs", "Zl", "Zp")
+# The cause of a scope that its deadline cancelled.
+DEADLINE = re.compile(r"(until|within) \S+$")
+
+
+def plain(text: str) -> str:
+    """A text to be seen only: `\\xff` for a byte that isn't UTF-8, `\\x1b` for an escape."""
+    return "".join(it if it == "\t" or unicodedata.category(it) not in UNSEEN else escaped(it)
+                   for it in text)
+
+
+def escaped(character: str) -> str:
+    code = ord(character)
+    if 0xDC80 <= code <= 0xDCFF:
+        return f"\\x{code - 0xDC00:02x}"
+    return f"\\x{code:02x}" if code < 0x100 else f"\\u{code:04x}"
+
+
+def line_shown(line: str) -> str:
+    """A line of output as a terminal ends up with it: what follows its last carriage return."""
+    shown = plain(line.rstrip("\r\n").rpartition("\r")[2])
+    return shown if len(shown) <= MOST_SHOWN else f"{shown[:MOST_SHOWN]} .."
+
+
+def counts(rows: Iterable[Row]) -> dict[str, int]:
+    """How many of the rows stand how, in the order of PHASES, without those of which none does."""
+    found = collections.Counter(it.phase for it in rows)
+    return {phase: found[phase] for phase in PHASES if found[phase]}
+
+
+def told(found: dict[str, int]) -> str:
+    """Counts in words: `2 ok, 1 failed`."""
+    return ", ".join(f"{count} {phase}" for phase, count in found.items()) or "none"
+
+
+def commands(number: int) -> str:
+    return f"{number} command{'' if number == 1 else 's'}"
+
+
+def verdict(report: Report) -> tuple[str, str]:
+    """The night in a word, `good`, `bad`, `open` or `busy`, and in a few."""
+    found, total = counts(report.rows), len(report.rows)
+    lost = total - sum(found.get(it, 0) for it in ("ok", "running", "waiting", "interrupted"))
+    if found.get("failed"):
+        return "bad", f"{found['failed']} of {total} failed"
+    if lost:
+        return "bad", f"{lost} of {total} not done"
+    if found.get("running"):
+        return "busy", f"Running: {found.get('ok', 0)} of {total} done"
+    if found.get("ok", 0) < total:
+        return "open", f"Unfinished: {total - found.get('ok', 0)} of {total} are left"
+    return ("good", f"All is well: {commands(total)} ok") if total else ("open", "No commands")
+
+
+def by_group(report: Report) -> list[tuple[Group, list[Row]]]:
+    """Each group with its rows; one of which only rows are known comes last."""
+    rows: dict[str, list[Row]] = {it.name: [] for it in report.groups}
+    for it in report.rows:
+        rows.setdefault(it.group, []).append(it)
+    known = {it.name: it for it in report.groups}
+    return [(known.get(name) or Group(name, False, "", None, None), found)
+            for name, found in rows.items() if name != OF_ALL]
+
+
+def of_all(report: Report) -> Group | None:
+    """What is said of all groups together."""
+    return next((it for it in report.groups if it.name == OF_ALL), None)
+
+
+def facts(group: Group) -> list[str]:
+    """What was set for a group: its limit and its deadline."""
+    found = [f"limit {group.limit}"] if group.limit is not None else []
+    if group.deadline is not None:
+        found.append(f"deadline {moment(group.deadline)}")
+    return found
+
+
+def why_done(group: Group) -> list[str]:
+    """Why a group is done: its deadline's words, or its cancel's; nothing if it isn't."""
+    if not group.is_done:
+        return []
+    word = "deadline passed" if DEADLINE.match(group.cause) else "canceled"
+    return [f"{word}: {plain(group.cause)}" if group.cause else word]
+
+
+def kind_of(it: Try) -> str:
+    """The phase that a try's end stands for."""
+    if it.end.startswith("canceled"):
+        return "canceled"
+    return {"": "running", "ok": "ok", "interrupted": "interrupted"}.get(it.end, "failed")
+
+
+def end_of(it: Try) -> float | None:
+    """When a try ended, or None where it runs or its times are unknown."""
+    return None if it.began is None or it.took is None else it.began + it.took
+
+
+def last_end(rows: Iterable[Row]) -> float | None:
+    ends = [end for row in rows for end in map(end_of, row.tries) if end is not None]
+    return max(ends, default=None)
+
+
+def tries_told(row: Row) -> str:
+    """A command's tries in words: `3 tries, the last at 03:12:04 for 1h02m`."""
+    if not row.tries:
+        return "not tried"
+    last = row.tries[-1]
+    number = len(row.tries)
+    found = "1 try, at" if number == 1 else f"{number} tries, the last at"
+    if last.began is None:
+        return f"{found} a time that isn't known"
+    took = "" if last.took is None else f" for {span(last.took)}"
+    return f"{found} {clock(last.began)}{took}"
+
+
+def moment(when: float) -> str:
+    return time.strftime("%Y-%m-%d %H:%M", time.localtime(when))
+
+
+def clock(when: float) -> str:
+    return time.strftime("%H:%M:%S", time.localtime(when))
+
+
+def span(seconds: float) -> str:
+    """A length of time: `0.4s`, `12s`, `1m05s`, `2h07m`."""
+    if seconds < 9.95:
+        return f"{max(seconds, 0):.1f}s"
+    whole = round(seconds)
+    if whole < 60:
+        return f"{whole}s"
+    if whole < 3600:
+        return f"{whole // 60}m{whole % 60:02}s"
+    return f"{whole // 3600}h{whole % 3600 // 60:02}m"
+
+
+def when_told(report: Report) -> str:
+    """From when to when: the last end, or now where something isn't ended."""
+    is_over = verdict(report)[0] != "busy"
+    end = (last_end(report.rows) if is_over else None) or report.now
+    if report.began is None:
+        return f"as of {moment(report.now)}"
+    return f"{moment(report.began)} to {moment(end)} ({span(end - report.began)})"
