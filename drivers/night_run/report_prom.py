@@ -30,7 +30,7 @@ def prom(report: Report) -> str:
         ("group_deadline_timestamp_seconds", "When the group's deadline passes.",
          [sample for group, _ in by_group(report)
           for sample in known({**store, "group": group.name}, group.deadline)]),
-        ("group_canceled", "1 if the group is canceled or its deadline has passed.",
+        ("group_canceled", "Whether the group is canceled or its deadline has passed.",
          [({**store, "group": group.name}, float(group.is_done))
           for group, _ in by_group(report)]),
         ("command_tries", "Tries of the command in this night.",
