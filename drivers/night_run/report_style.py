@@ -5,7 +5,7 @@ STYLE = """
 :root { color-scheme: light dark;
   --paper: #f6f7f9; --card: #ffffff; --ink: #1c2430; --soft: #5b6675; --line: #dde2e8;
   --on: #ffffff; --ok: #2b7a4b; --failed: #c0282d; --canceled: #a65a00; --not-begun: #7b5e96;
-  --interrupted: #56606e; --running: #1f66b5; --waiting: #8793a1; --track: #eef1f4; }
+  --interrupted: #56606e; --running: #1f66b5; --waiting: #76828f; --track: #eef1f4; }
 @media (prefers-color-scheme: dark) { :root {
   --paper: #12161c; --card: #1b212a; --ink: #e6eaf0; --soft: #9aa6b5; --line: #303947;
   --on: #0c1016; --ok: #5cc283; --failed: #ff7b76; --canceled: #eba04b; --not-begun: #b79ad3;
