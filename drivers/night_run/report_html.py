@@ -114,8 +114,9 @@ def groups(report: Report, axis: Axis) -> Iterator[Html]:
         return
     yield tag("h2", "Groups")
     yield tag("section", bar(report.rows), legend(report.rows), class_="card")
+    whole = of_all(report)
     for group, rows in by_group(report):
-        said = [*(tag("span", it, class_="soft") for it in facts(group)),
+        said = [*(tag("span", it, class_="soft") for it in facts(group, whole)),
                 *(tag("span", it, class_="why") for it in why_done(group))]
         yield tag("section", tag("div", tag("h3", group.name), tag("span", told(counts(rows))),
                                  *said, class_="head"),
@@ -173,7 +174,9 @@ def tried(it: Try, now: float, axis: Axis) -> Iterator[Html]:
 
 def said_of(row: Row) -> str:
     """How a command stands, beside its line."""
+    again = f", {len(row.tries)} tries" if len(row.tries) > 1 else ""
+    if row.phase == "waiting":
+        return f"waiting after {row.end}{again}" if row.end else "waiting"
     last = row.tries[-1] if row.tries else None
     took = f" {span(last.took)}" if last and last.took is not None else ""
-    again = f", {len(row.tries)} tries" if len(row.tries) > 1 else ""
     return f"{row.phase}{took}{again}"

@@ -81,7 +81,7 @@ def groups(report: Report) -> Iterator[str]:
     if said:
         yield from wrapped(f"all groups: {'; '.join(said)}")
     for group, rows in by_group(report):
-        said = [told(counts(rows)), *facts(group), *why_done(group)]
+        said = [told(counts(rows)), *facts(group, whole), *why_done(group)]
         yield from wrapped(f"{group.name}: {'; '.join(said)}")
 
 

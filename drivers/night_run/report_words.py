@@ -19,6 +19,8 @@ MOST_SHOWN = 400
 UNSEEN = ("Cc", "Cf", "Cs", "Zl", "Zp")
 # The cause of a scope that its deadline cancelled.
 DEADLINE = re.compile(r"(until|within) \S+$")
+# Its cause if the words of its deadline aren't known any more.
+PASSED = "its deadline has passed"
 
 
 def plain(text: str) -> str:
@@ -85,10 +87,10 @@ def of_all(report: Report) -> Group | None:
     return next((it for it in report.groups if it.name == OF_ALL), None)
 
 
-def facts(group: Group) -> list[str]:
-    """What was set for a group: its limit and its deadline."""
+def facts(group: Group, whole: Group | None = None) -> list[str]:
+    """What was set for a group: its limit, and its deadline unless that is the whole night's."""
     found = [f"limit {group.limit}"] if group.limit is not None else []
-    if group.deadline is not None:
+    if group.deadline is not None and (whole is None or group.deadline != whole.deadline):
         found.append(f"deadline {moment(group.deadline)}")
     return found
 
@@ -97,6 +99,8 @@ def why_done(group: Group) -> list[str]:
     """Why a group is done: its deadline's words, or its cancel's; nothing if it isn't."""
     if not group.is_done:
         return []
+    if group.cause == PASSED:
+        return [PASSED]
     word = "deadline passed" if DEADLINE.match(group.cause) else "canceled"
     return [f"{word}: {plain(group.cause)}" if group.cause else word]
 
