@@ -36,20 +36,27 @@ _night() {
 }
 
 _night_run() {
-    local current=${COMP_WORDS[COMP_CWORD]} before=${COMP_WORDS[COMP_CWORD - 1]} jobs
+    local current=${COMP_WORDS[COMP_CWORD]} before=${COMP_WORDS[COMP_CWORD - 1]}
     COMPREPLY=()
     case $before in
         -j | --grace) return ;;
+        --on-failure)
+            mapfile -t COMPREPLY < <(compgen -c -- "$current" | sort -u)
+            return ;;
+        --report)
+            mapfile -t COMPREPLY < <(compgen -W "html text prom" -- "$current")
+            return ;;
         --cancel)
             # the groups of the file of commands, if it stands before
-            jobs=${COMP_WORDS[2]}
-            [[ -f $jobs ]] || return
-            mapfile -t COMPREPLY < <(compgen -W "night $(_night_run_groups "$jobs")" -- "$current")
+            [[ -f ${COMP_WORDS[2]} ]] || return
+            mapfile -t COMPREPLY < <(
+                compgen -W "night $(_night_run_groups "${COMP_WORDS[2]}")" -- "$current")
             return ;;
     esac
     if [[ $current == -* ]]; then
         mapfile -t COMPREPLY < <(
-            compgen -W "-j --grace --failed --list --cancel --help" -- "$current")
+            compgen -W "-j --grace --failed --again --nightly --quiet --on-failure --list --json \
+                --dry-run --report --cancel --version --help" -- "$current")
     else
         compopt -o filenames 2> /dev/null
         mapfile -t COMPREPLY < <(compgen -f -- "$current")
