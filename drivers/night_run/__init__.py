@@ -1,16 +1,23 @@
-"""Runs shell commands as the tasks of a store of `night`, over a run of `night script`.
+"""Runs shell commands as the tasks of a store of `night`, over runs of `night script`.
 
-`words` reads the command line and `jobs` the file of commands; `driver` is the loop, over `plan`
-(what is submitted), `night` (the program), `store` (the files and their locks), `commands`,
-`cancels` and `log`. Before it come `leftovers` (commands of a driver that was killed) and `renewal`
-(of a store that is nearly full, over `past`). docs/driver.md has the rules that keep it safe, and
-what it can't keep.
+    words      the command line                    jobs        the file of commands
+    state      what `inspect --json` prints        facts       what a night has so far
+    plan       what may be begun now (pure)        loop        the rules, and the loop
+    night      the program `night`                 opening     a session, made ready for the loop
+    commands   processes: begun, stopped, reaped   leftovers   those of a driver that was killed
+    cancels    what another terminal asks for      renewal     of a store that is nearly full
+    files      what lies beside the store          past, log   two of these files
+    views      rows for a list and a report        summary     what is printed at the end
+
+docs/driver.md has the rules that keep it safe, and what it can't keep.
 """
 
-import sys
+from __future__ import annotations
 
-# Takes away the line of progress, which only a terminal gets.
-CLEAR = "\r\x1b[K" if sys.stderr.isatty() else ""
+VERSION = "night-run 0.2.0"
+
+# A command's group, as the file of commands has it, and its key.
+Name = tuple[str, str]
 
 
 class Mistake(Exception):
@@ -18,13 +25,19 @@ class Mistake(Exception):
 
 
 class Fault(Exception):
-    """What no run can go on behind. Status 3."""
+    """What no run can go on after. Status 3."""
 
 
-def base_of(group):
+def base_of(name: str) -> str:
     """The group of the file of commands of which this is a round, as `disks` of `disks--2`."""
-    return group.partition("--")[0]
+    return name.partition("--")[0]
 
 
-def tell(text):
-    print(f"{CLEAR}night-run: {text}", file=sys.stderr, flush=True)
+def round_of(name: str) -> int:
+    """Which round of its group this is: 1 for `disks`, 2 for `disks--2` and `disks--2--until`."""
+    number = name.partition("--")[2].partition("--")[0]
+    return int(number) if number.isdecimal() else 1
+
+
+def named(base: str, number: int) -> str:
+    return base if number == 1 else f"{base}--{number}"

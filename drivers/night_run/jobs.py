@@ -1,165 +1,226 @@
 """The file of commands, line by line:
 
     GROUP KEY COMMAND..        a command, which /bin/sh runs
-    GROUP: SETTING..           of a group: limit N, until MOMENT, within TIME
+    GROUP: SETTING..           settings of a group
+    GROUP KEY: SETTING..       settings of one command, which win over its group's
     night: SETTING..           of all groups together: until MOMENT, within TIME
     # ..                       counts for nothing, as an empty line does
 
 A moment is a time of day, 05:30, the next one there is, or a date and time, 2026-11-26T05:30, of
-this machine's zone unless it ends with its offset. A time is 2h, 90m, 1h30m or 45s, from the moment
-at which the group is first made.
+this machine's zone unless it ends with its offset. A time is 2h, 90m, 1h30m or 45s. The settings
+and their words are those of `settings`.
 """
 
-import datetime
-import re
-from typing import NamedTuple
+from __future__ import annotations
 
-from . import Mistake, tell
+import collections
+import re
+from collections.abc import Iterable, Iterator
+from dataclasses import dataclass
+
+from . import Mistake, Name
+from .settings import FORMS, OF_ALL, Settings, Wrong, read_settings, short
+from .telling import note
 
 NAME = re.compile(r"[a-z0-9_-]{1,32}")
 GROUP = re.compile(r"(?!.*--)[a-z0-9_-]{1,20}")
-TIME = re.compile(r"(?=\d)(?:(\d{1,6})h)?(?:(\d{1,6})m)?(?:(\d{1,6})s)?")
-# Each setting, and the form of its value.
-SETTINGS = {"limit": re.compile(r"\d+"), "within": TIME,
-            "until": re.compile(r"\d+:\d+(:\d+)?|\d+-\d+-\d+T\S+")}
-OF_ALL = "night"
-LAST_MOMENT = 253_000_000_000
-# So many characters of a word are shown.
-MOST_SHOWN = 40
+A_LINE = "a line is GROUP KEY COMMAND.., or GROUP: and settings"
 
 
-class Deadline(NamedTuple):
-    """A deadline as the file says it."""
+@dataclass(frozen=True)
+class Job:
+    """A command of the file, with all that is set for it."""
 
-    word: str
-    said: str
+    group: str
+    key: str
+    command: str
+    after: tuple[Name | str, ...]  # commands, and whole groups
+    retries: int
+    wait: int  # seconds before a retry
+    timeout: int | None
+    timeout_said: str
+    folder: str | None
+    env: tuple[tuple[str, str], ...]
+    keeps: bool  # processes that it leaves may live on
 
-    def moment(self, now):
-        """The first whole second at which it has passed, for a group that is made now."""
-        if self.word == "within":
-            hours, minutes, seconds = (int(it or 0) for it in TIME.fullmatch(self.said).groups())
-            return now + 3600 * hours + 60 * minutes + seconds
-        if ":" in self.said[:3]:
-            return next_time(datetime.time.fromisoformat(self.said), now)
-        when = datetime.datetime.fromisoformat(re.sub(r"[Zz]$", "+00:00", self.said))
-        return int(when.timestamp())
-
-    def __str__(self):
-        return f"{self.word} {self.said}"
-
-
-def next_time(time, now):
-    """The next moment behind now at which the clock of this machine's zone shows this time."""
-    day = datetime.datetime.fromtimestamp(now).date()
-    for later in range(3):
-        when = datetime.datetime.combine(day + datetime.timedelta(later), time)
-        if when.timestamp() > now:
-            return int(when.timestamp())
-    raise ValueError("no such time")
-
-
-class Settings:
-    """What lines `GROUP: ..` say of a group."""
-
-    def __init__(self):
-        self.limit = self.deadline = None
+    @property
+    def name(self) -> Name:
+        return self.group, self.key
 
 
 class Jobs:
     """The commands by group and key, in the file's order, and the settings of each group."""
 
-    def __init__(self, path):
-        self.path, self.commands, self.lines, self.set_in = path, {}, {}, {}
-        self.settings = {OF_ALL: Settings()}
+    def __init__(self, path: str) -> None:
+        self.path = path
+        self.texts: dict[Name, str] = {}
+        self.lines: dict[Name, int] = {}
+        self.groups: dict[str, Settings] = {OF_ALL: Settings(0)}
+        self.own: dict[Name, Settings] = {}
         try:
             with open(path, encoding="utf-8", errors="surrogateescape") as file:
                 for number, line in enumerate(file, 1):
                     self.read(number, line.rstrip("\n").strip(" \t\r"))
         except OSError as error:
             raise Mistake(f"{path}: {error.strerror}") from error
+        if not self.texts:
+            raise Mistake(f"{path}: it has no command")
+        self.all: dict[Name, Job] = {it: self.job(it) for it in self.texts}
+        self.members: dict[str, list[Name]] = collections.defaultdict(list)
+        for name in self.all:
+            self.members[name[0]].append(name)
+        self.order = self.sorted()
+        # those whose end matters to others
+        self.matter = {it for job in self.all.values() for it in job.after}
+        self.matter |= {group for group, its in self.groups.items() if its.stops}
 
-    def tell_unused(self):
-        """Tells settings of groups that have no command, as where a name is mistyped."""
-        for group, line in self.set_in.items():
-            if group not in (OF_ALL, *self.groups()):
-                tell(f"{self.path}: line {line}: the group {group} has no command")
+    def limit(self, group: str) -> int | None:
+        return self.groups[group].limit
 
-    def groups(self):
-        return list(dict.fromkeys(group for group, _ in self.commands))
+    def stops(self, group: str) -> bool:
+        return self.groups[group].stops
 
-    def read(self, number, line):
-        def mistake(why):
-            return Mistake(f"{self.path}: line {number}: {why}")
+    def matters(self, name: Name) -> bool:
+        """Whether a failure of this command decides about others."""
+        return name in self.matter or name[0] in self.matter
 
+    def tell_unused(self) -> None:
+        """Tells settings of what has no command, as where a name is mistyped."""
+        for group, its in self.groups.items():
+            if group != OF_ALL and group not in self.members:
+                note(f"{self.path}: line {its.line}: the group {group} has no command")
+        for (group, key), its in self.own.items():
+            if (group, key) not in self.all:
+                note(f"{self.path}: line {its.line}: {group} has no command {key}")
+
+    # --- lines
+
+    def mistake(self, number: int, why: object) -> Mistake:
+        return Mistake(f"{self.path}: line {number}: {why}")
+
+    def read(self, number: int, line: str) -> None:
         if not line or line.startswith("#"):
             return
+        try:
+            self.read_words(number, line)
+        except Wrong as wrong:
+            raise self.mistake(number, wrong) from None
+
+    def read_words(self, number: int, line: str) -> None:
         if "\0" in line:
-            raise mistake("it has a byte 0, as no text does")
+            raise Wrong("it has a byte 0, as no text does")
         words = line.split(None, 2)
         if words[0].endswith(":"):
-            self.set(words[0][:-1], line.split()[1:], mistake)
-            self.set_in.setdefault(words[0][:-1], number)
+            self.set(words[0][:-1], number, line[len(words[0]):])
+        elif len(words) > 1 and words[1].endswith(":"):
+            self.set_one(words[0], words[1][:-1], number, words[2] if words[2:] else "")
         elif len(words) < 3:
-            raise mistake("a line is GROUP KEY COMMAND.., or GROUP: and settings")
+            raise Wrong(A_LINE)
         else:
-            self.add(number, *words, mistake)
+            self.add(number, *words)
 
-    def add(self, number, group, key, command, mistake):
-        check_group(group, mistake)
-        if not NAME.fullmatch(key):
-            raise mistake(f"the key {short(key)} is not 1 to 32 of a-z, 0-9, - and _")
+    def add(self, number: int, group: str, key: str, command: str) -> None:
+        check_group(group)
+        check_key(key)
         if group == OF_ALL:
-            raise mistake(f"the group {group} is all groups together")
-        if (group, key) in self.commands:
+            raise Wrong(f"the group {group} is all groups together")
+        if (group, key) in self.texts:
             first = self.lines[group, key]
-            same = "twice" if command == self.commands[group, key] else "with two commands"
-            raise mistake(f"the key {key} of {group} stands {same}, first in line {first}")
-        if key in SETTINGS and SETTINGS[key].fullmatch(command):
-            raise mistake(f"a setting stands behind a colon, as {group}: {key} {command}")
-        self.commands[group, key], self.lines[group, key] = command, number
-        self.settings.setdefault(group, Settings())
+            same = "twice" if command == self.texts[group, key] else "with two commands"
+            raise Wrong(f"the key {key} of {group} stands {same}, first in line {first}")
+        if key in FORMS and FORMS[key].fullmatch(command):
+            raise Wrong(f"a setting stands behind a colon, as {group}: {key} {command}")
+        self.texts[group, key], self.lines[group, key] = command, number
+        self.groups.setdefault(group, Settings(0))
 
-    def set(self, group, words, mistake):
-        check_group(group, mistake)
-        settings = self.settings.setdefault(group, Settings())
-        if not words or len(words) % 2:
-            raise mistake("settings are limit N, until MOMENT, within TIME")
-        for word, value in zip(words[::2], words[1::2]):
-            what = "limit" if word == "limit" else "deadline"
-            if word not in SETTINGS:
-                raise mistake(f"no setting is called {short(word)}")
-            if getattr(settings, what) is not None:
-                raise mistake(f"{group} has a {what} already")
-            setattr(settings, what, (limit_of if what == "limit" else deadline_of)(
-                group, word, value, mistake))
+    def set(self, group: str, number: int, rest: str) -> None:
+        check_group(group)
+        settings = self.groups.setdefault(group, Settings(number))
+        settings.line = settings.line or number
+        read_settings(settings, group, rest, is_one=False, line=number)
+
+    def set_one(self, group: str, key: str, number: int, rest: str) -> None:
+        check_group(group)
+        check_key(key)
+        if group == OF_ALL:
+            raise Wrong(f"the group {group} is all groups together")
+        settings = self.own.setdefault((group, key), Settings(number))
+        read_settings(settings, f"{group} {key}", rest, is_one=True, line=number)
+
+    # --- what they come to
+
+    def job(self, name: Name) -> Job:
+        group, own = self.groups[name[0]], self.own.get(name, Settings(0))
+        by = own if own.retries is not None else group
+        timed = own if own.timeout is not None else group
+        after, line = (own.after, own.after_line) if own.after else (group.after, group.after_line)
+        return Job(
+            *name, self.texts[name], tuple(self.need(name[0], it, line) for it in after),
+            by.retries or 0, by.wait, timed.timeout, timed.timeout_said,
+            own.folder if own.folder is not None else group.folder,
+            tuple({**group.env, **own.env}.items()), own.keeps or group.keeps)
+
+    def need(self, group: str, word: str, line: int) -> Name | str:
+        """What a word behind `after` names: a key of the same group, GROUP/KEY, or a group."""
+        where, slash, key = word.partition("/")
+        is_group = word in self.groups and word != OF_ALL and any(it[0] == word for it in self.texts)
+        if slash and (where, key) in self.texts:
+            return where, key
+        if (group, word) in self.texts and is_group:
+            raise self.mistake(line, f"after {word}: it is a group, and a key of {group};"
+                                     f" {group}/{word} is the key")
+        if (group, word) in self.texts:
+            return group, word
+        if is_group:
+            return word
+        raise self.mistake(line, f"after {short(word)}: no such key of {group}, and no such group")
+
+    def sorted(self) -> list[Name | str]:
+        """Commands and groups, each behind all that it waits for; a group behind its commands."""
+        needs: dict[Name | str, Iterable[Name | str]] = {
+            it: job.after for it, job in self.all.items()}
+        needs.update(self.members)
+        left = {it: len(set(its)) for it, its in needs.items()}
+        wants: dict[Name | str, list[Name | str]] = collections.defaultdict(list)
+        for it, its in needs.items():
+            for other in set(its):
+                wants[other].append(it)
+        ready = [it for it, count in left.items() if not count]
+        for it in ready:
+            for other in wants[it]:
+                left[other] -= 1
+                if not left[other]:
+                    ready.append(other)
+        if len(ready) < len(needs):
+            self.refuse_cycle(needs, set(needs) - set(ready))
+        return ready
+
+    def refuse_cycle(self, needs: dict[Name | str, Iterable[Name | str]],
+                     left: set[Name | str]) -> None:
+        """Names the commands of a cycle, and the line of the setting that closes it."""
+        at = next(it for it in needs if it in left)
+        seen: list[Name | str] = []
+        while at not in seen:
+            seen.append(at)
+            at = next(it for it in needs[at] if it in left)
+        ring = [*seen[seen.index(at):], at]
+        first = next(it for it in ring if isinstance(it, tuple))
+        own = self.own.get(first)
+        line = own.after_line if own and own.after else self.groups[first[0]].after_line
+        told = ", after ".join(it if isinstance(it, str) else "/".join(it) for it in ring)
+        raise self.mistake(line or self.lines[first], f"a cycle: {told}")
 
 
-def short(word):
-    """A word as a mistake shows it."""
-    return repr(word if len(word) <= MOST_SHOWN else f"{word[:MOST_SHOWN]}..")
+def names(order: Iterable[Name | str]) -> Iterator[Name]:
+    return (it for it in order if isinstance(it, tuple))
 
 
-def check_group(group, mistake):
+def check_group(group: str) -> None:
     if not GROUP.fullmatch(group) or group == "root":
-        raise mistake(f"the group {short(group)} is not 1 to 20 of a-z, 0-9, - and _ without --,"
-                      " or it is root")
+        raise Wrong(f"the group {short(group)} is not 1 to 20 of a-z, 0-9, - and _ without --,"
+                    " or it is root")
 
 
-def limit_of(group, _, value, mistake):
-    if group == OF_ALL:
-        raise mistake("the limit of all groups together is the option -j")
-    if not re.fullmatch(r"\d{1,2}", value) or not 1 <= int(value) <= 64:
-        raise mistake(f"the limit {short(value)} is not 1 to 64")
-    return int(value)
-
-
-def deadline_of(_, word, value, mistake):
-    made = Deadline(word, value)
-    if word == "within" and not TIME.fullmatch(value):
-        raise mistake(f"the time {short(value)} is not as 2h, 90m, 1h30m or 45s")
-    try:
-        if not 0 <= made.moment(0 if word == "within" else 1_000_000) <= LAST_MOMENT:
-            raise ValueError
-    except (ValueError, OverflowError, OSError):
-        raise mistake(f"the moment {short(value)} is not as 05:30 or 2026-11-26T05:30") from None
-    return made
+def check_key(key: str) -> None:
+    if not NAME.fullmatch(key):
+        raise Wrong(f"the key {short(key)} is not 1 to 32 of a-z, 0-9, - and _")

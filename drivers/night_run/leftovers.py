@@ -1,97 +1,139 @@
-"""Commands that a killed driver left run: they are waited for, and stopped as it would have stopped
-them. STORE.pids has each command's process, which leads its group, written before it begins."""
+"""Commands that a killed driver left. STORE.pids has a line for each process that was begun:
+
+    GROUP KEY TRY BOOT PID START
+
+A command writes its own before it does anything else, and holds the file's lock until then. So
+once the driver has the lock, each command that lives stands there; its process number, when that
+began and which boot it was tell it from any other process. The line of a `night` has the group
+`night`. (An older driver's line is `PID GROUP KEY`; its commands have the folder of outputs open.)
+"""
+
+from __future__ import annotations
 
 import contextlib
 import os
 import re
 import signal
 import time
+from collections.abc import Iterator
 
-from . import cancels, tell
-from .night import CLOCK_NOT_FORWARD, Night, NightEnded
-from .store import cause_of, try_lock
+from . import Fault, base_of
+from .commands import Running
+from .files import Files, try_lock
+from .jobs import Jobs
+from .processes import Process, boot, group_exists, lives, members, stat_of
+from .settings import OF_ALL
+from .telling import note
 
-LINE = re.compile(r"(\d+) (\S+) (\S+)")
-DEADLINE = re.compile(r"live; deadline (\d+)")
-
-
-def wait_for_commands(store, grace):
-    """The descriptor that commands inherit, once none of an earlier driver is left."""
-    held, is_free = store.hold()
-    if not is_free:
-        found = ", ".join(map(str, processes_with(store.out))) or "unknown"
-        tell(f"waiting: commands of the last run still run; processes {found}")
-        left = Leftovers(store, grace, held)
-        while not try_lock(held):
-            left.tick()
-            time.sleep(0.2)
-    return held
+LINE = re.compile(r"([a-z0-9_-]{1,32}) ([a-z0-9_-]{1,32}) ([0-9]+) (\S+) ([0-9]+) ([0-9]+)")
+OLD_LINE = re.compile(r"([0-9]+) ([a-z0-9_-]{1,32}) ([a-z0-9_-]{1,32})")
+# So many seconds a command may take to write its line, and a `night` to end behind its driver.
+PATIENCE = 10.0
 
 
-class Leftovers:
-    def __init__(self, store, grace, held):
-        self.store, self.grace, self.held = store, grace, held
-        self.state, self.asked, self.killed = None, {}, set()
+class Leftover(Running):
+    """A command of an earlier driver, or what it left of its process group."""
 
-    def tick(self):
-        """Stops those whose group is canceled, or its deadline has passed."""
-        if not self.store.exists():
+    def __init__(self, group: str, key: str, process: Process, keeps: bool) -> None:
+        super().__init__((base_of(group), key), process.pid)
+        self.process, self.keeps = process, keeps
+        self.is_orphaned = False
+
+    def is_there(self) -> bool:
+        """Whether it still runs. What a command leaves goes with it, unless it may live on."""
+        if lives(self.process):
+            return True
+        if self.keeps or self.process.boot != boot() or not group_exists(self.pid):
+            return False
+        leader = stat_of(self.pid)
+        if leader and leader.start != self.process.start:
+            # (a number is given anew only once its whole group is gone)
+            return False
+        self.is_orphaned = True
+        return any(not it.is_dead for it in members(self.pid))
+
+
+def open_pids(files: Files) -> int:
+    """The file of processes, once no command is about to write into it."""
+    file = os.open(files.pids, os.O_RDWR | os.O_CREAT | os.O_APPEND, 0o666)
+    end = time.monotonic() + PATIENCE
+    while not try_lock(file):
+        if time.monotonic() >= end:
+            raise Fault(f"{files.shown}.pids is locked by another program")
+        time.sleep(0.005)
+    return file
+
+
+def left_commands(files: Files, pids: int, jobs: Jobs) -> list[Leftover]:
+    """The commands that still run. Where there is none, the file is emptied."""
+    found = [it for it in written(read(pids), files, jobs) if it.is_there()]
+    if not found:
+        os.ftruncate(pids, 0)
+    return found
+
+
+def read(pids: int) -> str:
+    return os.pread(pids, os.fstat(pids).st_size, 0).decode("ascii", "replace")
+
+
+def written(text: str, files: Files, jobs: Jobs) -> Iterator[Leftover]:
+    """What the lines of the file say was begun."""
+    olds = None
+    for line in text.splitlines():
+        if found := LINE.fullmatch(line):
+            group, key = found[1], found[2]
+            process = Process(found[4], int(found[5]), int(found[6]))
+        elif found := OLD_LINE.fullmatch(line):
+            group, key = found[2], found[3]
+            olds = set(processes_with(files.out)) if olds is None else olds
+            stat = stat_of(int(found[1]))
+            if stat is None or stat.pid not in olds:
+                continue
+            process = Process(boot(), stat.pid, stat.start)
+        else:
+            continue
+        if group != OF_ALL:
+            job = jobs.all.get((base_of(group), key))
+            yield Leftover(group, key, process, job is not None and job.keeps)
+
+
+def running_now(files: Files) -> set[tuple[str, str]]:
+    """The commands that run at this moment, by the file of processes; nothing is locked."""
+    with contextlib.suppress(OSError), open(files.pids, "rb") as file:
+        text = file.read().decode("ascii", "replace")
+        its = [(base_of(it[1]), it[2], Process(it[4], int(it[5]), int(it[6])))
+               for it in map(LINE.fullmatch, text.splitlines()) if it and it[1] != OF_ALL]
+        return {(group, key) for group, key, process in its if lives(process)}
+    return set()
+
+
+def end_night(files: Files, pids: int) -> None:
+    """Waits for the `night` of a killed driver, which ends with its input; one that doesn't, as
+    where it is stopped, is killed."""
+    its = [Process(it[4], int(it[5]), int(it[6]))
+           for it in map(LINE.fullmatch, read(pids).splitlines()) if it and it[1] == OF_ALL]
+    end = time.monotonic() + PATIENCE
+    while its := [it for it in its if lives(it)]:
+        if time.monotonic() >= end:
+            for it in its:
+                note(f"the `night` of the last run didn't end: process {it.pid} is killed")
+                with contextlib.suppress(ProcessLookupError, PermissionError):
+                    os.kill(it.pid, signal.SIGKILL)
             return
-        with contextlib.suppress(NightEnded):
-            if cancels.is_asked(self.store.path):
-                self.obey()
-            self.state = self.state or self.store.state()
-        if self.state:
-            there = set(processes_with(self.store.out))
-            for pid, group, key in begun(self.store.path):
-                if pid in there and is_over(self.state.scopes.get(group, ""), time.time()):
-                    self.stop(pid, f"{group} {key}")
-
-    def obey(self):
-        """Cancels what is asked for. The opening interrupts the tasks of these commands, as the one
-        behind them would."""
-        night = Night(self.store.path, self.held)
-        night.ask(f"advance {int(time.time())}", may=[CLOCK_NOT_FORWARD])
-        cancels.obey(self.store.path, night)
-        night.end()
-        self.state = None
-
-    def stop(self, pid, name):
-        """Asks a command to end, once, and kills it behind the grace."""
-        now = time.monotonic()
-        if pid not in self.asked:
-            self.asked[pid] = now
-            tell(f"{name}: its group is done, and so it is stopped")
-            signal_group(pid, signal.SIGTERM)
-        elif now >= self.asked[pid] + self.grace and pid not in self.killed:
-            self.killed.add(pid)
-            signal_group(pid, signal.SIGKILL)
+        time.sleep(0.01)
 
 
-def begun(path):
-    """The processes of commands, each with its group and its key."""
-    with contextlib.suppress(FileNotFoundError), open(f"{path}.pids", encoding="ascii") as file:
-        for found in filter(None, map(LINE.fullmatch, file.read().splitlines())):
-            yield int(found[1]), found[2], found[3]
+def sign_night(pids: int, pid: int) -> None:
+    """Writes the line of a `night`."""
+    found = stat_of(pid)
+    if found:
+        os.write(pids, f"{OF_ALL} script 0 {boot()} {pid} {found.start}\n".encode())
 
 
-def is_over(look, now):
-    """Whether a scope is done, or will be where the clock is moved to now."""
-    deadline = DEADLINE.match(look)
-    return cause_of(look) is not None or deadline is not None and int(deadline[1]) <= now
-
-
-def signal_group(pid, which):
-    with contextlib.suppress(ProcessLookupError, PermissionError):
-        if os.getpgid(pid) == pid:
-            os.killpg(pid, which)
-
-
-def processes_with(path):
+def processes_with(path: str) -> Iterator[int]:
     """The processes that have this file open, as far as the system shows them."""
-    there = os.path.realpath(path)
-    for it in filter(str.isdigit, os.listdir("/proc") if os.path.isdir("/proc") else ()):
+    for it in filter(str.isdecimal, os.listdir("/proc") if os.path.isdir("/proc") else ()):
         with contextlib.suppress(OSError):
             files = [os.readlink(f"/proc/{it}/fd/{at}") for at in os.listdir(f"/proc/{it}/fd")]
-            if there in files and int(it) != os.getpid():
+            if path in files and int(it) != os.getpid():
                 yield int(it)

@@ -4,69 +4,116 @@
 
 They are tabs apart, `parallel --joblog`'s way. Try is which one of the key in its group it was,
 from 0, as in the name of its output. End is `ok`, an error's text, or `interrupted`. Of a task
-whose line was lost with a driver, and of one that was never begun, Began and Seconds are -.
+whose line was lost with a driver, and of one that was never begun, Began and Seconds are -. A line
+of another form is passed over.
 """
 
-import os
-import time
+from __future__ import annotations
 
-from . import base_of, tell
+import datetime
+import os
+import re
+import time
+from collections.abc import Iterator
+from dataclasses import dataclass
+
+from .telling import note_once
 
 HEAD = "Try\tGroup\tKey\tBegan\tSeconds\tEnd\tCommand\n"
+LINE = re.compile(r"([0-9]{1,6})\t([a-z0-9_-]{1,32})\t([a-z0-9_-]{1,32})\t([^\t]*)\t([^\t]*)"
+                  r"\t([^\t]*)\t(.*)")
+
+# A task: its group, its key, and which try of the key it is.
+Tried = tuple[str, str, int]
+
+
+@dataclass(frozen=True)
+class Line:
+    began: str
+    seconds: str
+    end: str
+    command: str
+
+    def began_at(self) -> float | None:
+        try:
+            return datetime.datetime.strptime(self.began, "%Y-%m-%dT%H:%M:%S%z").timestamp()
+        except (ValueError, OverflowError):
+            return None
+
+    def took(self) -> float | None:
+        return float(self.seconds) if re.fullmatch(r"[0-9]{1,9}\.[0-9]{1,6}", self.seconds) \
+            else None
+
+    def ended_at(self) -> float | None:
+        began, took = self.began_at(), self.took()
+        return None if began is None or took is None else began + took
+
+
+def read_log(path: str, shown: str) -> dict[Tried, Line]:
+    """The lines of the log at this path, in their order; none where it can't be read."""
+    found: dict[Tried, Line] = {}
+    try:
+        with open(path, encoding="utf-8", errors="surrogateescape", newline="\n") as file:
+            for line in file:
+                if it := LINE.fullmatch(line.rstrip("\n")):
+                    found.setdefault((it[2], it[3], int(it[1])), Line(*it.groups()[3:]))
+    except FileNotFoundError:
+        pass
+    except OSError as error:
+        note_once(f"{shown}.log: {error.strerror}")
+    return found
+
+
+def text_of_line(command: str) -> str:
+    """A command as a line has it."""
+    return command.replace("\t", " ")
 
 
 class Log:
-    def __init__(self, path):
-        self.path, self.noted = path, set()
+    """The log of the driver that runs. One that can't be written ends no night."""
+
+    def __init__(self, path: str, shown: str) -> None:
+        self.shown = shown
+        self.lines = read_log(path, shown)
+        self.file = -1
         try:
-            text = read(path)
-            for line in text.splitlines():
-                tried, *name = line.split("\t")[:3]
-                if tried.isdigit():
-                    self.noted.add((int(tried), tuple(name)))
-            self.write("" if text.endswith("\n") else "\n" if text else HEAD)
+            self.file = os.open(path, os.O_RDWR | os.O_APPEND | os.O_CREAT, 0o666)
+            size = os.fstat(self.file).st_size
+            is_cut = size and os.pread(self.file, 1, size - 1) != b"\n"
+            self.write("\n" if is_cut else "" if size else HEAD)
         except OSError as error:
             self.failed(error)
 
-    def failed(self, error):
-        tell(f"{self.path}: {error.strerror}")
+    def failed(self, error: OSError) -> None:
+        note_once(f"{self.shown}.log: {error.strerror}")
 
-    def write(self, text):
-        with open(self.path, "a", encoding="utf-8", errors="surrogateescape") as file:
-            file.write(text)
-
-    def sync(self):
-        try:
-            with open(self.path, "a", encoding="utf-8") as file:
-                os.fsync(file.fileno())
-        except OSError as error:
-            self.failed(error)
-
-    def note_all(self, state, jobs):
-        """Notes what the store has as ended, and isn't there yet."""
-        for it, tried in state.tries():
-            if it.end():
-                text = jobs.commands.get((base_of(it.group), it.key), "-")
-                self.ended(tried, it.name(), it.end(), None, text)
-
-    def ended(self, tried, name, end, command, text):
-        """Notes the end of a task, once."""
-        if (tried, name) in self.noted:
+    def write(self, text: str) -> None:
+        if self.file < 0 or not text:
             return
-        self.noted.add((tried, name))
-        began, took = "-", "-"
-        if command:
-            began = time.strftime("%Y-%m-%dT%H:%M:%S%z", time.localtime(command.began))
-            took, text = f"{command.took:.3f}", command.text
-        line = "\t".join([str(tried), *name, began, took, end, text.replace("\t", " ")])
         try:
-            self.write(f"{line}\n")
+            os.write(self.file, text.encode("utf-8", "surrogateescape"))
         except OSError as error:
             self.failed(error)
 
+    def sync(self) -> None:
+        if self.file >= 0:
+            try:
+                os.fsync(self.file)
+            except OSError as error:
+                self.failed(error)
 
-def read(path):
-    if not os.path.exists(path):
-        return ""
-    with open(path, encoding="utf-8", errors="surrogateescape") as file:
-        return file.read()
+    def add(self, ends: Iterator[tuple[Tried, Line]]) -> None:
+        """Notes the ends of tasks that it doesn't have, all in one write."""
+        made = []
+        for tried, line in ends:
+            if tried not in self.lines:
+                self.lines[tried] = line
+                group, key, number = tried
+                made.append("\t".join([str(number), group, key, line.began, line.seconds,
+                                       line.end, line.command]) + "\n")
+        self.write("".join(made))
+
+
+def line_of(began: float | None, took: float | None, end: str, command: str) -> Line:
+    when = "-" if began is None else time.strftime("%Y-%m-%dT%H:%M:%S%z", time.localtime(began))
+    return Line(when, "-" if took is None else f"{took:.3f}", end, text_of_line(command))

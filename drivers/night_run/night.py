@@ -1,11 +1,19 @@
-"""The program `night`: one run of `night script`, and the words that print at once."""
+"""The program `night`: the words that print at once, and a run of `night script`.
 
+A reply that doesn't come within `SECONDS` is a fault: the run is killed then, a stopped one too.
+"""
+
+from __future__ import annotations
+
+import contextlib
 import os
 import re
+import select
 import shutil
+import signal
 import subprocess
-import tempfile
 import time
+from collections.abc import Callable, Sequence
 
 from . import Fault
 
@@ -13,126 +21,170 @@ from . import Fault
 # fewer, so that neither fills a pipe, of one page of memory at least, whose other end waits.
 BATCH = 16
 # Refusals, by their numbers (docs/formats.md).
-SESSION_FULL, CLOCK_NOT_FORWARD, NOTHING_READY, LIMIT_WHILE_ACTIVE = "21", "17", "19", "13"
-TOO_MANY_TASKS, ALREADY_DONE = "9", "12"
+NO_SUCH_SCOPE, TOO_MANY_SCOPES, TOO_MANY_GROUPS, TOO_MANY_TASKS = 1, 7, 8, 9
+ALREADY_DONE, LIMIT_WHILE_ACTIVE, WAITED, CLOCK_NOT_FORWARD = 12, 13, 15, 17
+NOTHING_READY, SESSION_FULL = 19, 21
+FULL = (TOO_MANY_SCOPES, TOO_MANY_GROUPS, TOO_MANY_TASKS)
+SECONDS = 30.0
+# A renewal fills and syncs a file.
+RENEWAL_SECONDS = 300.0
 # So often in a row the store may be in use, a tenth of a second each.
 MOST_BUSY = 100
+REFUSED = re.compile(r"refused ([0-9]+) ")
 
 
 class NightEnded(Exception):
-    """The run of `night` ended, by a signal where its status is below 0, and told this."""
+    """A run of `night` ended, by a signal where its status is below 0, and told this."""
 
-    def __init__(self, status, told=""):
+    def __init__(self, status: int, told: str = "") -> None:
         super().__init__(status)
         self.status, self.told = status, told
 
-    def is_in_use(self):
+    def is_in_use(self) -> bool:
         """Whether another program had the store, an `inspect` that reads it for a moment, too."""
         return "in use by another program" in self.told
 
-    def __str__(self):
-        return f"{self.told}`night` ended with status {self.status}"
+    def __str__(self) -> str:
+        told = "; ".join(it.removeprefix("night: ") for it in self.told.splitlines())
+        return f"{told}; `night` ended with status {self.status}".removeprefix("; ")
 
 
 class SessionFull(Exception):
     """The session's log has no room; the next run of `night` begins with an empty one."""
 
 
-def program():
+def program() -> str:
     """The program: what NIGHT names, the one on the path, or the one of this repository."""
-    named = os.environ.get("NIGHT")
-    if named and not shutil.which(named):
-        raise Fault(f"NIGHT names no program: {named}")
+    given = os.environ.get("NIGHT")
+    if given and not shutil.which(given):
+        raise Fault(f"NIGHT names no program: {given}")
     here = os.path.dirname(os.path.dirname(os.path.dirname(os.path.realpath(__file__))))
-    for it in (named, shutil.which("night"), f"{here}/crates/night/out/night"):
-        if it and shutil.which(it):
-            return it
+    for it in (given, shutil.which("night"), f"{here}/crates/night/out/night"):
+        if it and (found := shutil.which(it)):
+            return found
     raise Fault("no program `night`: `rt run` in crates/night makes it; put it on the path, or name"
                 " it by NIGHT")
 
 
-def printed(*words):
-    """What `night` prints for these words; what it tells on standard error is told."""
-    done = subprocess.run([program(), *words], stdin=subprocess.DEVNULL, stdout=subprocess.PIPE,
-                          text=True, start_new_session=True)
-    if done.returncode < 0:
-        raise NightEnded(done.returncode)
-    if done.returncode:
-        raise Fault(f"`night {' '.join(words)}` ended with status {done.returncode}")
-    return done.stdout
-
-
-def renew(store, lock):
-    """Renews a store in its place; what is printed of it. The lock is inherited, so that a renewal
-    that outlives its driver is seen."""
-    for _ in range(MOST_BUSY):
-        done = subprocess.run([program(), "renew", "--in-place", store], stdin=subprocess.DEVNULL,
-                              capture_output=True, text=True, pass_fds=[lock],
-                              start_new_session=True)
-        ended = NightEnded(done.returncode, done.stderr)
+def ran(*words: str, seconds: float = SECONDS) -> str:
+    """What `night` prints for these words. While the store is in use it is tried again."""
+    for busy in range(MOST_BUSY):
+        try:
+            done = subprocess.run([program(), *words], stdin=subprocess.DEVNULL, text=True,
+                                  errors="replace", capture_output=True, timeout=seconds,
+                                  start_new_session=True)
+        except subprocess.TimeoutExpired:
+            raise NightEnded(-signal.SIGKILL, f"no end within {seconds:.0f} s") from None
         if not done.returncode:
-            return done.stdout.rstrip("\n")
-        if not ended.is_in_use():
+            return done.stdout
+        ended = NightEnded(done.returncode, done.stderr)
+        if not ended.is_in_use() or busy == MOST_BUSY - 1:
             break
         time.sleep(0.1)
-    raise Fault(str(ended))
+    raise ended
 
 
-def refusal(reply):
+def refusal(reply: str) -> int | None:
     """The number of a refusal, or None."""
-    found = re.match(r"refused (\d+) ", reply)
-    return found[1] if found else None
+    found = REFUSED.match(reply)
+    return int(found[1]) if found else None
 
 
-class Night:
-    """A run of `night script` over a store."""
+class Session:
+    """A run of `night script` over a store. While a reply is waited for, what comes by `wake` is
+    served by `meanwhile`, which says how many seconds may still pass, if fewer than usual."""
 
-    def __init__(self, store, lock):
-        # (a pipe for what it tells would have to be read, too)
-        self.told = tempfile.TemporaryFile("w+")
+    def __init__(self, store: str, wake: int, meanwhile: Callable[[], float]) -> None:
+        self.meanwhile = meanwhile
         self.it = subprocess.Popen(
-            [program(), "script", store], stdin=subprocess.PIPE, stdout=subprocess.PIPE, text=True,
-            stderr=self.told, pass_fds=[lock], start_new_session=True)
+            [program(), "script", store], stdin=subprocess.PIPE, stdout=subprocess.PIPE,
+            stderr=subprocess.PIPE, bufsize=0, start_new_session=True)
+        assert self.it.stdin and self.it.stdout and self.it.stderr
+        self.lines, self.replies, self.told = self.it.stdin, self.it.stdout, self.it.stderr
+        os.set_blocking(self.replies.fileno(), False)
+        self.poll = select.poll()
+        self.poll.register(self.replies, select.POLLIN)
+        self.poll.register(wake, select.POLLIN)
+        self.left = b""
 
-    def ask(self, *lines, may=()):
+    def ask(self, lines: Sequence[str], may: Sequence[int] = ()) -> list[str]:
         """The replies to these lines. One that is refused is a fault, but for the numbers of may:
         then its reply is the refusal."""
-        replies = []
+        replies: list[str] = []
         for at in range(0, len(lines), BATCH):
             part = lines[at:at + BATCH]
-            found = self.sent(part)
-            replies += found
-            for line, reply in zip(part, found):
-                number = refusal(reply)
-                if number == SESSION_FULL:
-                    raise SessionFull
-                if reply == "bad line" or number and number not in may:
-                    raise Fault(f"`{line}`: {reply}")
+            try:
+                self.lines.write("".join(f"{it}\n" for it in part).encode("ascii"))
+            except BrokenPipeError:
+                raise self.lost() from None
+            replies += self.read(len(part))
+        numbers = [refusal(it) if it.startswith("refused") else None for it in replies]
+        if SESSION_FULL in numbers:
+            raise SessionFull
+        for line, reply, number in zip(lines, replies, numbers):
+            if reply == "bad line" or number is not None and number not in may:
+                raise Fault(f"`{line}`: {reply}")
         return replies
 
-    def sent(self, lines):
-        try:
-            self.it.stdin.write("".join(f"{it}\n" for it in lines))
-            self.it.stdin.flush()
-        except BrokenPipeError:
-            pass
-        found = []
-        for _ in lines:
-            reply = self.it.stdout.readline()
-            if not reply.endswith("\n") or reply.startswith("fault "):
-                self.end()
-                raise NightEnded(0)
-            found.append(reply[:-1])
+    def read(self, count: int) -> list[str]:
+        """So many replies."""
+        began = time.monotonic()
+        while self.left.count(b"\n") < count:
+            if b"fault " in self.left:
+                raise self.lost()
+            limit = min(SECONDS, self.meanwhile())
+            left = began + limit - time.monotonic()
+            if left <= 0:
+                self.kill()
+                raise NightEnded(-signal.SIGKILL, f"no reply within {limit:.0f} s")
+            self.poll.poll(min(left, 1.0) * 1000)
+            self.fill()
+        *lines, self.left = self.left.split(b"\n", count)
+        found = [it.decode("ascii", "replace") for it in lines]
+        if any(it.startswith("fault ") for it in found):
+            raise self.lost()
         return found
 
-    def end(self):
-        """Ends the input, and waits until the program has ended: all events are durable then."""
+    def fill(self) -> None:
+        """Takes what it has printed so far."""
         try:
-            self.it.stdin.close()
-        except BrokenPipeError:
-            pass
-        self.it.stdout.read()
-        self.it.stdout.close()
-        if self.it.wait():
-            self.told.seek(0)
-            raise NightEnded(self.it.returncode, self.told.read())
+            part = os.read(self.replies.fileno(), 65536)
+        except BlockingIOError:
+            return
+        if not part:
+            raise self.lost()
+        self.left += part
+
+    def lost(self) -> NightEnded:
+        """How it ended, where that is too early."""
+        try:
+            self.close()
+        except NightEnded as ended:
+            return ended
+        return NightEnded(0, "it ended too early")
+
+    def close(self) -> None:
+        """Ends the input, and waits until the program has ended: all events are durable then."""
+        with contextlib.suppress(BrokenPipeError):
+            self.lines.close()
+        end = time.monotonic() + SECONDS
+        while (status := self.it.poll()) is None and time.monotonic() < end:
+            self.meanwhile()
+            time.sleep(0.002)
+        if status is None:
+            self.kill()
+            raise NightEnded(-signal.SIGKILL, f"no end within {SECONDS:.0f} s")
+        told = self.told.read().decode("utf-8", "replace")
+        self.free()
+        if status:
+            raise NightEnded(status, told)
+
+    def kill(self) -> None:
+        self.it.kill()
+        self.it.wait()
+        self.free()
+
+    def free(self) -> None:
+        for it in (self.lines, self.replies, self.told):
+            with contextlib.suppress(OSError):
+                it.close()

@@ -1,48 +1,84 @@
 """STORE.ended: how each command ended whose group a renewal has given back. Its first line is
-`events N`, so many as the store had at least when it was written, and each other one
 
-    GROUP KEY END
+    events N night M round R lines L
 
-END is `ok`, or an error's text. What the store itself has of a key is later, and counts.
+so many events as the store had at least when it was written, which night it was, the greatest round
+that a name had, and how many lines follow. Each of these is one of
+
+    GROUP KEY END              END is `ok`, or an error's text
+    : GROUP CAUSE              the group's scope was done, and is gone, too
+    : GROUP                    a name that was had, and that nothing else here has
+
+What the store itself has of a key is later, and counts. (An older driver's first line is
+`events N` alone: it knew one night.)
 """
+
+from __future__ import annotations
 
 import os
 import re
+from collections.abc import Iterable
+from dataclasses import dataclass, field
 
-from . import Fault
+from . import Fault, base_of, round_of
+from .files import sync_folder
 
-HEAD = re.compile(r"events (\d+)")
+HEAD = re.compile(r"events ([0-9]{1,20})"
+                  r"(?: night ([0-9]{1,9}) round ([0-9]{1,9}) lines ([0-9]{1,9}))?")
 LINE = re.compile(r"([a-z0-9_-]{1,32}) ([a-z0-9_-]{1,32}) ([ -~]{1,64})")
+NAMED = re.compile(r": ([a-z0-9_-]{1,32})(?: ([ -~]{1,64}))?")
 
 
-def read_past(path):
-    """How many events a store has at least whose file this is, and its other lines."""
+@dataclass
+class Past:
+    """What the file says; of a store that was never renewed it says nothing."""
+
+    events: int = 0
+    night: int = 1
+    round: int = 0
+    ends: list[tuple[str, str, str]] = field(default_factory=list)
+    done: dict[str, str] = field(default_factory=dict)
+    had: list[str] = field(default_factory=list)
+
+    def rounds(self) -> Iterable[tuple[str, int]]:
+        for it in [*(group for group, _, _ in self.ends), *self.done, *self.had]:
+            yield base_of(it), round_of(it)
+
+
+def read_past(path: str, shown: str) -> Past:
+    """What the file of this path says. A line that is none of its own is a fault: nothing says
+    then what had ended, and all would run again."""
     try:
-        with open(f"{path}.ended", encoding="ascii", errors="replace") as file:
-            lines = file.read().splitlines()
+        with open(path, encoding="ascii", errors="replace") as file:
+            lines = file.read().split("\n")
     except FileNotFoundError:
-        return 0, []
-    head, *found = (HEAD.fullmatch(lines[0] if lines else ""), *map(LINE.fullmatch, lines[1:]))
-    if not head or None in found:
-        raise Fault(f"{path}.ended: it has lines that are not GROUP KEY END")
-    return int(head[1]), [it.groups() for it in found]
+        return Past()
+    head = HEAD.fullmatch(lines[0])
+    if not head or lines[-1] or int(head[4] or len(lines) - 2) != len(lines) - 2:
+        raise Fault(f"{shown}.ended: it doesn't begin with `events N ..`, or is cut off")
+    past = Past(int(head[1]), int(head[2] or 1), int(head[3] or 1))
+    for number, line in enumerate(lines[1:-1], 2):
+        if found := LINE.fullmatch(line):
+            past.ends.append((found[1], found[2], found[3]))
+        elif (found := NAMED.fullmatch(line)) and found[2]:
+            past.done[found[1]] = found[2]
+        elif found:
+            past.had.append(found[1])
+        else:
+            raise Fault(f"{shown}.ended: line {number} is not GROUP KEY END")
+    return past
 
 
-def write_past(path, events, ends):
-    """Puts these lines in the file's place, durably."""
-    making = f"{path}.ended.new"
+def write_past(path: str, past: Past) -> None:
+    """Puts this in the file's place, durably."""
+    making = f"{path}.new"
     with open(making, "w", encoding="ascii") as file:
-        file.write(f"events {events}\n")
-        file.writelines(f"{group} {key} {end}\n" for group, key, end in ends)
+        file.write(f"events {past.events} night {past.night} round {past.round}"
+                   f" lines {len(past.done) + len(past.had) + len(past.ends)}\n")
+        file.writelines(f": {group} {cause}\n" for group, cause in past.done.items())
+        file.writelines(f": {group}\n" for group in past.had)
+        file.writelines(f"{group} {key} {end}\n" for group, key, end in past.ends)
         file.flush()
         os.fsync(file.fileno())
-    os.replace(making, f"{path}.ended")
-    sync_folder(os.path.dirname(os.path.abspath(path)))
-
-
-def sync_folder(path):
-    folder = os.open(path, os.O_RDONLY)
-    try:
-        os.fsync(folder)
-    finally:
-        os.close(folder)
+    os.replace(making, path)
+    sync_folder(path)

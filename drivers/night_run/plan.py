@@ -1,74 +1,148 @@
-"""What the file of commands asks of a store: scopes, groups, and tasks that are submitted."""
+"""What a night has left to do: pure functions over the file of commands and the facts."""
 
-import time
+from __future__ import annotations
 
-from . import tell
-from .jobs import OF_ALL
-from .night import LIMIT_WHILE_ACTIVE, refusal
-from .store import JOB, cause_of
+from collections.abc import Iterable
+from dataclasses import dataclass
+
+from . import Name
+from .facts import CANCELED, Facts
+from .jobs import Job, Jobs
+
+# How a command stands. The last two are for now.
+OK, FAILED, CANCELLED, NEVER = "ok", "failed", "canceled", "not begun"
+INTERRUPTED, RUNNING, WAITING = "interrupted", "running", "waiting"
+# Those that nothing of this night changes any more.
+FINAL = (OK, FAILED, CANCELLED, NEVER)
 
 
-def make_groups(night, jobs, state, runs_failed):
-    """Makes the scopes and groups that aren't there, and sets the limits that are other ones. A
-    group that is made as all groups together are done lies in the next round of these."""
-    groups = {base: group_of(state, base, runs_failed) for base in jobs.groups()}
-    asked = {base for base, _ in wanted(jobs, state, runs_failed)}
-    new = [it for it, group in groups.items() if group not in state.limits and it in asked]
-    top = state.top()
-    if new and cause_of(state.scopes.get(top, "")) is not None:
-        top = state.next_top()
-    make_scope(night, jobs, state, top, "root", OF_ALL)
-    for base, group in groups.items():
-        if base in new:
-            make_scope(night, jobs, state, group, top, base)
-            night.ask(f"bare {group} {group}")
-        elif group not in state.limits:
+@dataclass(frozen=True)
+class Standing:
+    """How a command stands in its night, and why, where it didn't end well or never begins."""
+
+    phase: str
+    why: str = ""
+
+    @property
+    def is_final(self) -> bool:
+        return self.phase in FINAL
+
+
+@dataclass(frozen=True)
+class Next:
+    """Which commands may be begun now, in order; and when the next one may, if a retry waits."""
+
+    names: tuple[Name, ...]
+    later: float | None
+
+
+def standings(jobs: Jobs, facts: Facts) -> dict[Name, Standing]:
+    """How each command of the file stands, in the file's order."""
+    found: dict[Name, Standing] = {}
+    of_groups: dict[str, tuple[str, Name] | None] = {}
+    failed = first_failures(jobs, facts)
+    for it in jobs.order:
+        if isinstance(it, tuple):
+            found[it] = standing(jobs.all[it], facts, failed, found, of_groups)
+        else:
+            of_groups[it] = group_standing(jobs.members[it], found)
+    return {it: found[it] for it in jobs.all}
+
+
+def first_failures(jobs: Jobs, facts: Facts) -> dict[str, Name]:
+    """Of each group that stops on failure its first command that has failed."""
+    found: dict[str, Name] = {}
+    for group in jobs.members:
+        for it in jobs.members[group] if jobs.stops(group) else ():
+            if it in facts.ends and has_failed(jobs.all[it], facts):
+                found.setdefault(group, it)
+    return found
+
+
+def has_failed(job: Job, facts: Facts) -> bool:
+    """Whether a command that has ended has failed for good."""
+    end = facts.ends[job.name]
+    return end != "ok" and (end.startswith(CANCELED) or job.group in facts.done
+                            or facts.failures.get(job.name, 0) > job.retries)
+
+
+def standing(job: Job, facts: Facts, failed: dict[str, Name], found: dict[Name, Standing],
+             of_groups: dict[str, tuple[str, Name] | None]) -> Standing:
+    """How one command stands, where all that it waits for is found."""
+    name, end = job.name, facts.ends.get(job.name)
+    if name in facts.busy:
+        return Standing(RUNNING)
+    if end == "ok":
+        return Standing(OK)
+    stopped = failed.get(job.group)
+    if end is not None and (stopped or has_failed(job, facts)):
+        return Standing(CANCELLED if end.startswith(CANCELED) else FAILED, end)
+    if job.group in facts.done:
+        return Standing(CANCELLED, CANCELED + facts.done[job.group])
+    if stopped:
+        return Standing(NEVER, f"{stopped[0]} {stopped[1]} failed, and the group stops on failure")
+    for it in job.after:
+        other = of_groups[it] if isinstance(it, str) else dead(found[it], it)
+        if other:
+            said = it if isinstance(it, str) else "/".join(it)
+            whose = "" if isinstance(it, tuple) else f" by {'/'.join(other[1])}"
+            return Standing(NEVER, f"after {said}, which {other[0]}{whose}")
+    if end is not None:
+        return Standing(WAITING, end)
+    return Standing(INTERRUPTED if name in facts.interrupted else WAITING)
+
+
+def dead(it: Standing, name: Name) -> tuple[str, Name] | None:
+    """Why nothing that comes after a command begins any more, if it is so."""
+    why = {FAILED: "failed", CANCELLED: "was canceled", NEVER: "is not begun"}.get(it.phase)
+    return (why, name) if why else None
+
+
+def group_standing(names: Iterable[Name], found: dict[Name, Standing]) -> tuple[str, Name] | None:
+    return next(filter(None, (dead(found[it], it) for it in names)), None)
+
+
+def is_met(jobs: Jobs, facts: Facts, need: Name | str) -> bool:
+    """Whether what a command waits for is ok."""
+    names = jobs.members[need] if isinstance(need, str) else (need,)
+    return all(facts.ends.get(it) == "ok" and it not in facts.busy for it in names)
+
+
+def may_begin(jobs: Jobs, facts: Facts, left: Iterable[Name], places: int, now: float) -> Next:
+    """The first commands of those that are left that may be begun, in the file's order; not more
+    than there are places. What is left is neither ended for good nor never to be begun."""
+    free: dict[str, int] = {}
+    met: dict[Name | str, bool] = {}
+    names: list[Name] = []
+    later: float | None = None
+    for name in left:
+        if len(names) >= places:
+            break
+        group = name[0]
+        if group not in free:
+            free[group] = free_places(jobs, facts, group)
+        if not free[group] or name in facts.busy:
             continue
-        limit = jobs.settings[base].limit
-        if state.limits.get(group) != limit:
-            reply = night.ask(f"limit {group} {limit or 'none'}", may=[LIMIT_WHILE_ACTIVE])[0]
-            if refusal(reply):
-                tell(f"{group} keeps its limit while it has tasks that aren't ended")
+        job = jobs.all[name]
+        for it in job.after:
+            if it not in met:
+                met[it] = is_met(jobs, facts, it)
+        if not all(met[it] for it in job.after):
+            continue
+        due = facts.failed_at[name] + job.wait if name in facts.ends and job.wait else 0
+        if due > now:
+            later = due if later is None else min(later, due)
+            continue
+        names.append(name)
+        free[group] -= 1
+    return Next(tuple(names), later)
 
 
-def group_of(state, base, runs_failed):
-    """The last round of a group; the next one, where that takes no more tasks, and where what
-    failed in one that is done runs again."""
-    group = state.round_of(base)
-    if not group:
-        return state.next_round(base)
-    is_done = cause_of(state.scopes.get(group, "")) is not None
-    failed = [it for (its, _), it in state.last().items() if its == base and it.phase == "error"]
-    return state.next_round(base) if runs_failed and is_done and failed else group
-
-
-def make_scope(night, jobs, state, name, parent, base):
-    """A scope that can be cancelled with a cause, below one with the deadline if it has any."""
-    if name in state.scopes:
-        return
-    deadline = jobs.settings[base].deadline
-    if deadline:
-        until = f"{name}--until"
-        if until not in state.scopes:
-            moment = deadline.moment(int(time.time()))
-            night.ask(f"derive {until} {parent} deadline {moment} {deadline}")
-        parent = until
-    night.ask(f"derive {name} {parent} cause")
-
-
-def wanted(jobs, state, runs_failed):
-    """The commands that have no task yet, and if asked for those that failed."""
-    last = state.last()
-    return [it for it in jobs.commands
-            if it not in last or runs_failed and last[it].phase == "error"]
-
-
-def submissions(jobs, state, runs_failed):
-    """The lines that submit what isn't there, what was interrupted and, if asked for, what failed,
-    each with the name of its command."""
-    made = [(f"retry {it.number}", it.name()) for it in state.last().values()
-            if it.phase == "interrupted"]
-    for base, key in wanted(jobs, state, runs_failed):
-        group = state.round_of(base)
-        made.append((f"go {group} {JOB} {key}", (group, key)))
-    return made
+def free_places(jobs: Jobs, facts: Facts, group: str) -> int:
+    """How many more commands of a group may be begun."""
+    limit = jobs.limit(group)
+    if group in facts.done:
+        return 0
+    if limit is None:
+        return 1 << 30
+    return max(0, limit - sum(it[0] == group for it in facts.busy))

@@ -1,64 +1,107 @@
-"""A store that is nearly full is renewed before a night: what is finished is given back.
+"""A store that is nearly full is renewed before a night, and one that gets full in its midst.
 
-A renewal keeps a group unless it was waited for, and a scope unless it is done. So each group in
-which nothing is left to do is waited for, and its scopes are cancelled. How its commands ended is
-kept in STORE.ended, durable before that, and the store is renewed last. A kill between leaves a
-file that says no more than the store, or groups that take no more tasks: the next run goes on.
+A renewal keeps a group unless it was waited for, and a scope unless it is done. How each command
+ended in this night is kept in STORE.ended, durable first; then every group is waited for, and the
+scopes of earlier nights are cancelled; the store is renewed last. What was interrupted is left to
+do by the file of commands, and needs no row. A kill between leaves a file that says no more than
+the store, and groups that take no more tasks: the next run makes others.
 """
 
-import time
+from __future__ import annotations
 
-from . import Fault, base_of, tell
-from .night import ALREADY_DONE, MOST_BUSY, Night, NightEnded, renew
-from .past import write_past
+import os
+from collections.abc import Callable, Mapping
+
+from . import Fault, Name, base_of, named
+from .facts import Book, book_of, numbered
+from .files import Files, sync_folder
+from .jobs import Jobs
+from .log import Log, line_of
+from .night import RENEWAL_SECONDS, NightEnded, Session, ran
+from .opening import advance, give_back, inspected, now_of, ready_state
+from .past import Past, write_past
+from .state import ENDED, State
+from .telling import note, tell
 
 
-def renew_if_nearly_full(store, log, jobs, held):
-    """Renews the store where less than a quarter of it is free and something can go."""
-    for _ in range(MOST_BUSY):
-        try:
-            if not store.is_nearly_full() or not store.state().finished():
-                return
-            give_back(store, log, jobs, held)
-            break
-        except NightEnded as ended:
-            if ended.status >= 0 and not ended.is_in_use():
-                raise
-            time.sleep(0.1)
-    else:
-        tell(f"{store.path} is nearly full, and in use too often to be renewed")
-        return
+def renew(files: Files, log: Log, past: Past, jobs: Jobs, wake: int,
+          meanwhile: Callable[[], float]) -> tuple[Past, bool]:
+    """Renews the store. What STORE.ended says then, and whether the store could be renewed."""
     try:
-        tell(f"{store.path}: {renew(store.path, held)}")
-    except Fault as fault:
-        tell(f"{store.path} is nearly full, and can't be renewed; it is used as it is: {fault}")
+        state = inspected(files)
+        session = Session(files.path, wake, meanwhile)
+        state = ready_state(session, files, state)
+        advance(session, now_of(state))
+        past = keep(files, log, past, jobs, state, state.count)
+        give_back(session, state, past.night)
+        session.close()
+        said = ran("renew", "--in-place", files.path, seconds=RENEWAL_SECONDS).rstrip("\n")
+        note(f"{files.shown}: {said}")
+        return past, True
+    except (Fault, NightEnded, OSError) as fault:
+        tell(f"{files.shown} is nearly full, and can't be renewed; it is used as it is: {fault}")
+        return past, False
 
 
-def give_back(store, log, jobs, held):
-    """Keeps how the commands of finished groups ended, and lets these groups go."""
-    night = Night(store.path, held)
-    night.ask("flush")
-    state = store.state()
-    gone = state.finished()
-    log.note_all(state, jobs)
+def keep(files: Files, log: Log, past: Past, jobs: Jobs, state: State, events: int) -> Past:
+    """Keeps how each command of the night has ended."""
+    night = max(state.night(), past.night)
+    book = book_of(state, past, night)
+    log.add((tried, line_of(None, None, task.end(), text(jobs, task.name)))
+            for task, tried in numbered(state) if task.end() and not task.is_withdrawn)
     log.sync()
-    write_past(store.path, state.events, ends(state, gone))
-    night.ask(*(line for group in gone for line in closing(state, group)), "flush",
-              may=[ALREADY_DONE])
-    night.end()
+    ends = ends_of(past if past.night == night else Past(), state, book)
+    made = Past(events, night, max([past.round, *book.rounds.values()], default=1),
+                list(ends.values()), done_in(book, state))
+    shown = {group for group, _, _ in made.ends}
+    made.had = [it for it in rounds_had(book) if it not in shown and it not in made.done]
+    write_past(files.ended, made)
+    return made
 
 
-def ends(state, gone):
-    """How each command ended last in a group that goes, behind all that went before."""
-    last = dict(state.past)
-    last.update({(base_of(it.group), it.key): it for it in state.tasks
-                 if it.group in gone and it.has_ended()})
-    return [(it.group, it.key, it.end()) for it in last.values()]
+def text(jobs: Jobs, name: Name) -> str:
+    return jobs.all[name].command if name in jobs.all else "-"
 
 
-def closing(state, group):
-    """The lines behind which a group and its scopes go with a renewal."""
-    yield f"wait {group}"
-    for scope in (f"{group}--until", group):
-        if scope in state.scopes:
-            yield f"cancel {scope}"
+def ends_of(past: Past, state: State, book: Book) -> dict[Name, tuple[str, str, str]]:
+    """The last end of each command of the night; none of one that was interrupted then."""
+    last = {(base_of(group), key): (group, key, end) for group, key, end in past.ends}
+    for name, task in book.last.items():
+        if task.phase in ENDED:
+            last[name] = task.group, task.key, task.end()
+        else:
+            last.pop(name, None)
+    return last
+
+
+def done_in(book: Book, state: State) -> dict[str, str]:
+    """The groups of the night that are done, with the cause."""
+    gone: Mapping[str, str] = book.gone
+    found = dict(gone)
+    found.update({it.name: it.cause or "" for it in book.scopes.values() if it.done})
+    return {name: cause for name, cause in found.items() if cause}
+
+
+def rounds_had(book: Book) -> list[str]:
+    """The last name that each group of the night had."""
+    return [named(base, number) for base, number in book.rounds.items() if base in book.scopes]
+
+
+def make(files: Files) -> None:
+    """Makes the store under another name first, so that one that has its name is whole."""
+    making = f"{files.path}.making"
+    if os.path.exists(making):
+        os.remove(making)
+    ran("format", "--new", making)
+    os.rename(making, files.path)
+    sync_folder(files.path)
+
+
+def make_anew(files: Files, log: Log, past: Past, jobs: Jobs, state: State, ahead: int) -> Past:
+    """Makes another store in the place of one whose clock is ahead, since no clock of a store goes
+    back: each deadline there would have passed. What has ended is kept."""
+    note(f"{files.shown}: its clock is {ahead} s ahead of the machine's; another store is made in"
+         f" its place, and what has ended is kept in {files.shown}.ended")
+    past = keep(files, log, past, jobs, state, 0)
+    make(files)
+    return past

@@ -1,148 +1,428 @@
-"""The words of the command line, and what is printed at the end.
+"""The words of the command line, and what each of them does.
 
-The status is 0 where every command of the file ended well, 1 where one didn't, 2 where the words or
-the file have to be changed, 3 behind a fault.
+The status is 0 where every command of the file is ok, and where a list, a report or a cancel was
+done; 1 where a command isn't; 2 where the words or the file have to be changed; 3 after a fault.
 """
 
+from __future__ import annotations
+
 import argparse
-import collections
+import dataclasses
 import errno
+import json
 import os
 import re
 import sys
+import time
 
-from . import Fault, Mistake, cancels, tell
+from . import VERSION, Fault, Mistake, Name, base_of, cancels, rows, telling
 from .commands import text_of
-from .driver import Driver
+from .facts import book_of, facts_of, when_ended
+from .files import Files
 from .jobs import Jobs
-from .leftovers import wait_for_commands
+from .leftovers import end_night, left_commands, open_pids
 from .log import Log
-from .night import NightEnded, program
-from .renewal import renew_if_nearly_full
-from .store import Store
+from .loop import Driver
+from .night import ALREADY_DONE, NightEnded, Session, program
+from .opening import advance, check, inspected, now_of, ready_state
+from .past import Past, read_past
+from .plan import CANCELLED, FAILED, OK, may_begin, standings
+from .renewal import make, make_anew, renew
+from .settings import OF_ALL
+from .state import State
+from .summary import (alarm, changed, failed_count, failures, is_well, list_lines,
+                      names_not_there, nothing_to_do, total)
+from .telling import note, tell
+from .views import View, look, report
 
 HELP = """Runs the shell commands of the file JOBS as tasks of STORE, which it makes where there is
-none. Run again behind a stop, of whatever kind, it does what is left."""
+none. Run again after a stop, of whatever kind, it does what is left of the night; once all has
+ended it has nothing to do, until --again or --nightly begins the next night over the same file."""
 
 FILE = """A line of JOBS is one of
 
-  GROUP KEY COMMAND..    a command for /bin/sh; a key stands once in its group
-  GROUP: SETTING..       limit N, until 05:30, within 2h
-  night: SETTING..       of all groups together: until 05:30, within 2h
+  GROUP KEY COMMAND..       a command for /bin/sh; a key stands once in its group
+  GROUP: SETTING..          settings of a group
+  GROUP KEY: SETTING..      settings of one command; they win over its group's
+  night: SETTING..          of all groups together: until 05:30, within 8h
   # ..
 
-Beside the store are STORE.log (what ran when, how long, and how it ended) and STORE.out/, which has
-each task's output. A store that is nearly full is renewed first; STORE.ended then has how commands
-ended that it has no more. Ctrl-C once lets the commands that run end, twice stops them.
-docs/driver.md describes all of it, and what is not kept: that a command ran once."""
+Settings, several in a line or in several lines:
+
+  limit N                   (a group) so many of its commands at a time, 1 to 64
+  until 05:30, within 2h    (a group, night) a deadline; then it is stopped, and nothing begun
+  after X..                 begun once these are ok: keys of the group, GROUP/KEY, or groups
+  retries N [wait 30s]      so many more tries after a failure
+  timeout 10m               a try that takes longer is stopped, and has failed
+  in FOLDER                 where it runs
+  env NAME=VALUE            a variable of its environment
+  stop on failure           (a group) after a failure nothing more of it is begun
+  background keep           processes that a command leaves may live on; else they end with it
+
+Each command has NIGHT_STORE, NIGHT_GROUP, NIGHT_KEY and NIGHT_TRY in its environment, an empty
+standard input, and its output in STORE.out/GROUP.KEY.TRY. STORE.log says what ran when, how long,
+and how it ended. Ctrl-C once lets the commands that run end, twice stops them; so does SIGTERM.
+
+The status is 0 where every command of the file is ok (or what was asked for is printed or done),
+1 where one isn't, 2 where the words or the file have to be changed, 3 after a fault.
+
+  0 22 * * *  night-run /var/backup/store /etc/backup.jobs --nightly --quiet
+
+is a line of a crontab. docs/driver.md describes all of it, and what is not kept: that a command ran
+once."""
+
+# A clock of a store that is ahead by more seconds than this is not waited for.
+MOST_AHEAD = 60
+# So many seconds a driver has to obey a cancel.
+CANCEL_SECONDS = 60.0
+FORMS = ("html", "text", "prom")
 
 
-def read_words():
+def read_words() -> argparse.Namespace:
     reader = argparse.ArgumentParser(
         prog="night-run", description=HELP, epilog=FILE, allow_abbrev=False,
+        usage="night-run STORE JOBS [-j N] [--grace S] [--failed | --again | --nightly] [--quiet]\n"
+              "                       [--on-failure COMMAND]\n"
+              "       night-run STORE JOBS --list [--json] | --dry-run | --report html|text|prom\n"
+              "       night-run STORE --cancel GROUP [WHY..]\n"
+              "       night-run --version | --help",
         formatter_class=argparse.RawDescriptionHelpFormatter)
     reader.add_argument("store", metavar="STORE")
     reader.add_argument("jobs", metavar="JOBS", nargs="?", help="the file of commands")
     reader.add_argument("-j", type=number, default=4, metavar="N", dest="most",
                         help="run so many commands at a time, 4 where it is left out")
     reader.add_argument("--grace", type=number, default=10, metavar="SECONDS",
-                        help="kill a command that was asked to end behind so many, 10 if left out")
+                        help="kill what was asked to end after so many, 10 where it is left out")
+    reader.add_argument("--quiet", action="store_true", help="print nothing where all is well")
+    reader.add_argument("--on-failure", metavar="COMMAND", help="run this once at the end where"
+                        " something failed, with the summary on its standard input and NIGHT_STORE"
+                        " and NIGHT_FAILED, a count, in its environment")
     what = reader.add_mutually_exclusive_group()
     what.add_argument("--failed", action="store_true",
-                      help="run again what failed or was canceled, too")
-    what.add_argument("--list", action="store_true", help="print what hasn't ended well")
+                      help="run again what failed or was canceled in this night, too")
+    what.add_argument("--again", action="store_true", help="begin the next night: all runs anew")
+    what.add_argument("--nightly", action="store_true",
+                      help="begin the next night where the last one has ended, else resume it")
+    what.add_argument("--list", action="store_true", help="print what isn't ok, and change nothing")
+    what.add_argument("--dry-run", action="store_true",
+                      help="print what would be begun, and change nothing")
+    what.add_argument("--report", choices=FORMS, metavar="html|text|prom",
+                      help="print the night as a page, a text for a mail, or metrics")
     what.add_argument("--cancel", nargs="+", metavar=("GROUP", "WHY"),
                       help="cancel a group, or `night`, also while another night-run runs it")
+    reader.add_argument("--json", action="store_true", help="with --list: every command, as JSON")
+    reader.add_argument("--version", action="version", version=VERSION)
     found = reader.parse_args()
     if not found.cancel and found.jobs is None:
         reader.error("the file JOBS is missing")
+    if found.json and not found.list:
+        reader.error("--json goes with --list")
     return found
 
 
-def number(word):
-    if not re.fullmatch(r"\d{1,4}", word) or not int(word):
+def number(word: str) -> int:
+    if not re.fullmatch("[0-9]{1,4}", word) or not int(word):
         raise argparse.ArgumentTypeError(f"{word!r} is not a number from 1 to 9999")
     return int(word)
 
 
-def main():
+def main() -> int:
+    keep_streams_open()
+    words = read_words()
     try:
-        words = read_words()
-        store = Store(words.store)
-        store.look()
-        if words.cancel:
-            return cancel(store, *words.cancel)
-        jobs = Jobs(words.jobs)
-        return listed(store, jobs) if words.list else run(store, jobs, words)
+        status = done(words)
+        sys.stdout.flush()
+        return status
     except Mistake as mistake:
         tell(mistake)
         return 2
     except (Fault, NightEnded) as fault:
         tell(fault)
+    except BrokenPipeError:
+        tell("standard output: it is closed")
+        drop_output()
     except OSError as error:
-        tell(f"{error.filename or words.store}: {error.strerror}")
+        tell(f"{error.filename or 'standard output'}: {error.strerror}")
+        drop_output()
     except KeyboardInterrupt:
         tell("ended before it began")
     return 3
 
 
-def run(store, jobs, words):
-    program()
-    jobs.tell_unused()
-    if not store.lock():
-        raise Fault(f"{store.path}: in use by another night-run")
-    held = wait_for_commands(store, words.grace)
-    pids = store.open_pids()
-    if not store.exists():
-        store.make()
-    store.check()
-    log = Log(f"{store.path}.log")
-    renew_if_nearly_full(store, log, jobs, held)
-    Driver(store, jobs, log, words, held, pids).run()
-    return summary(store, jobs)
+def keep_streams_open() -> None:
+    """Opens /dev/null in the place of streams that are closed, so that no file gets there."""
+    while True:
+        file = os.open(os.devnull, os.O_RDWR)
+        if file > 2:
+            os.close(file)
+            return
+        os.set_inheritable(file, True)
 
 
-def cancel(store, group, *why):
-    if not store.exists():
-        raise Mistake(f"{store.path}: {os.strerror(errno.ENOENT)}")
-    why = " ".join(why) or "canceled by hand"
+def drop_output() -> None:
+    """Lets nothing be written any more as the interpreter ends."""
+    null = os.open(os.devnull, os.O_WRONLY)
+    os.dup2(null, 1)
+
+
+def printed(lines: list[str]) -> None:
+    """Prints lines, whatever bytes a command or an output had."""
+    text = "".join(f"{it}\n" for it in lines).encode("utf-8", "surrogateescape")
+    sys.stdout.flush()
+    while text:
+        text = text[os.write(1, text):]
+
+
+def done(words: argparse.Namespace) -> int:
+    files = Files(words.store)
+    files.look()
+    if words.cancel:
+        return cancel(files, *words.cancel)
+    jobs = Jobs(words.jobs)
+    if words.list or words.report or words.dry_run:
+        return shown(files, jobs, words)
+    return Run(files, jobs, words).run()
+
+
+# --- what only reads
+
+def shown(files: Files, jobs: Jobs, words: argparse.Namespace) -> int:
+    view = look(files, jobs)
+    made = report(files, jobs, view)
+    if words.report:
+        from . import report as forms
+        form = {"html": forms.html, "text": forms.text, "prom": forms.prom}[words.report]
+        printed([form(made).rstrip("\n")])
+    elif words.dry_run:
+        printed(planned(jobs, view, words.most))
+    elif words.json:
+        printed([json.dumps([as_json(it) for it in made.rows], indent=1)])
+    else:
+        printed(list_lines(made))
+    return 0
+
+
+def as_json(row: rows.Row) -> dict[str, object]:
+    made = dataclasses.asdict(row)
+    made["tail"] = list(row.tail)
+    return made
+
+
+def planned(jobs: Jobs, view: View, most: int) -> list[str]:
+    """What a run would do with each command, those first that it would begin at once."""
+    left = [name for name, it in view.standings.items() if not it.is_final]
+    at_once = may_begin(jobs, view.facts, left, max(0, most - len(view.facts.busy)), time.time())
+    lines = [f"begin {' '.join(it)}: {jobs.all[it].command}" for it in at_once.names]
+    for name, it in view.standings.items():
+        if name in at_once.names:
+            continue
+        what = "later" if not it.is_final else it.phase
+        why = f": {it.why}" if it.why else ""
+        lines.append(f"{what} {' '.join(name)}{why}")
+    return lines
+
+
+# --- a cancel
+
+def cancel(files: Files, group: str, *words: str) -> int:
+    """Cancels a group: by the driver where one runs, else by itself."""
+    if not files.exists():
+        raise Mistake(f"{files.shown}: {os.strerror(errno.ENOENT)}")
+    why = " ".join(words) or "canceled by hand"
     if text_of(why) != why:
         raise Mistake("WHY is 1 to 64 bytes of printable ASCII")
-    look = cancels.cancel(store, group, why, is_ours=store.lock())
-    print(f"{group}: {look}")
+    scope = scope_of(files, inspected(files), group)
+    request: cancels.Request | None = None
+    end = time.monotonic() + CANCEL_SECONDS
+    while time.monotonic() < end:
+        if files.take(patience=0):
+            cancel_alone(files, group, why)
+            files.release()
+            break
+        if request is None:
+            request = cancels.ask(files, base_of(group), why)
+        elif not cancels.is_open(files, request):
+            request = None
+            break
+        time.sleep(0.05)
+    else:
+        if request:
+            cancels.withdraw(files, request)
+        raise Fault(f"the driver hasn't taken {files.shown}.cancel in {CANCEL_SECONDS:.0f} s:"
+                    f" {group} is not cancelled")
+    if request:
+        cancels.withdraw(files, request)
+    printed([f"{group}: {look_of(inspected(files), scope)}"])
     return 0
 
 
-def phases(store, jobs, is_at_rest):
-    """Each job with how its last task is. What runs where no driver does was interrupted."""
-    last = store.state().last() if store.exists() else {}
-    for job in jobs.commands:
-        task = last.get(job)
-        if not task:
-            yield job, "not submitted"
-        elif task.phase == "running" and is_at_rest:
-            yield job, "interrupted"
-        else:
-            yield job, task.error or task.phase
+def scope_of(files: Files, state: State, group: str) -> str:
+    """The scope that a group has now."""
+    book = book_of(state, Past(), state.night())
+    scope = book.top if group == OF_ALL else book.scopes.get(group)
+    if scope is None or group == "root":
+        raise Mistake(f"{files.shown} has no group {group}")
+    return scope.name
 
 
-def listed(store, jobs):
-    for (group, key), phase in phases(store, jobs, is_at_rest=not store.is_driven()):
-        if phase != "success":
-            print(f"{group} {key}: {phase}")
-    return 0
+def look_of(state: State, name: str) -> str:
+    """How a scope is, as `night inspect` shows it."""
+    it = state.by_name.get(name)
+    if it is None:
+        return "it has gone"
+    deadline = "none" if it.deadline is None else it.deadline
+    if not it.done:
+        return f"live; deadline {deadline}"
+    reason = "context canceled" if it.reason is None else it.reason
+    return f"done; deadline {deadline}; err {reason}; cause {it.cause}"
 
 
-def summary(store, jobs):
-    """Prints what didn't end well, and how many ended how."""
-    found = collections.Counter()
-    for (group, key), phase in phases(store, jobs, is_at_rest=True):
-        is_left = phase in ("not submitted", "held", "ready", "running", "interrupted")
-        kind = "ok" if phase == "success" else "left" if is_left else \
-            "canceled" if phase.startswith("canceled: ") else "failed"
-        found[kind] += 1
-        if kind != "ok":
-            print(f"{group} {key}: {phase}")
-    told = [f"{found[it]} {it}" for it in ("ok", "failed", "canceled", "left") if found[it]]
-    print(f"{len(jobs.commands)} commands: {', '.join(told) or 'none'}")
-    return 1 if len(jobs.commands) > found["ok"] else 0
+def cancel_alone(files: Files, group: str, why: str) -> None:
+    """Cancels a group where no driver runs."""
+    wake, wakes = os.pipe()
+    session = Session(files.path, wake, lambda: 1e9)
+    state = ready_state(session, files, None)
+    advance(session, now_of(state))
+    session.ask([f"cancel {scope_of(files, state, group)} {why}", "flush"], may=[ALREADY_DONE])
+    session.close()
+    os.close(wake)
+    os.close(wakes)
+
+
+# --- a night
+
+class Run:
+    """A run over a night, with its words."""
+
+    def __init__(self, files: Files, jobs: Jobs, words: argparse.Namespace) -> None:
+        self.files, self.jobs, self.words = files, jobs, words
+
+    def run(self) -> int:
+        if self.words.quiet:
+            telling.hold_back()
+        program()
+        self.jobs.tell_unused()
+        if not self.files.exists():
+            self.files.look_for_log()
+        if not self.files.take():
+            raise Fault(f"{self.files.shown}: in use by another night-run")
+        try:
+            return self.run_alone()
+        except (Fault, NightEnded, OSError) as fault:
+            telling.let_go()
+            if self.words.on_failure:
+                text = f"night-run: {fault}\n"
+                alarm(self.words.on_failure, self.files, self.failed_so_far(), text)
+            raise
+
+    def failed_so_far(self) -> int:
+        """How many commands are known not to be ok, one at least."""
+        try:
+            return max(1, failed_count(report(self.files, self.jobs, look(self.files, self.jobs))))
+        except (Fault, NightEnded, OSError):
+            return 1
+
+    def run_alone(self) -> int:
+        pids = open_pids(self.files)
+        end_night(self.files, pids)
+        left = left_commands(self.files, pids, self.jobs)
+        for it in left:
+            note(f"{' '.join(it.name)} still runs from the last run: process {it.pid}")
+        os.makedirs(self.files.out, exist_ok=True)
+        if not self.files.exists():
+            make(self.files)
+            self.files.sign()
+        cancels.pass_over(self.files)
+        self.past = read_past(self.files.ended, self.files.shown)
+        state = inspected(self.files)
+        check(self.files, state, self.past.events)
+        self.log = Log(self.files.log, self.files.shown)
+        driver = Driver(self.files, self.jobs, self.log, self.past, pids, left, self.words.most,
+                        self.words.grace)
+        if not self.prepare(driver, state):
+            return self.idle()
+        driver.run()
+        return self.finish(driver)
+
+    def prepare(self, driver: Driver, state: State) -> bool:
+        """Decides which night it is and what runs again; whether there is something to do."""
+        night = max(state.night(), self.past.night)
+        book = book_of(state, self.past, night)
+        facts = facts_of(state, self.past, self.log.lines, book, time.time(), {})
+        found = standings(self.jobs, facts)
+        driver.night = night
+        is_over = all(it.is_final for it in found.values())
+        has_mark = bool(book.top and f"{book.top.name}--ended" in state.by_name)
+        has_one = bool(state.scopes[1:] or self.past.round)
+        driver.begins_night = has_one and (
+            self.words.again or self.words.nightly and (is_over or has_mark))
+        if self.words.failed:
+            for name, it in found.items():
+                if it.phase in (FAILED, CANCELLED):
+                    driver.forgiven[name] = facts.failures.get(name, 0)
+                    if name[0] in facts.done:
+                        driver.anew.add(name[0])
+        self.tell_missing(facts.interrupted)
+        has_work = not is_over or driver.begins_night or bool(
+            driver.forgiven or driver.left) or self.is_unsaid(state)
+        if has_work:
+            driver.before = self.renewed(driver, state)
+        return has_work
+
+    def is_unsaid(self, state: State) -> bool:
+        """Whether a deadline has passed that the store doesn't know of yet."""
+        return any(not it.done and it.deadline is not None and it.deadline <= time.time()
+                   for it in state.scopes)
+
+    def renewed(self, driver: Driver, state: State) -> State | None:
+        """Renews a store that is nearly full, and makes another one where its clock is ahead. The
+        state that the next opening finds, as far as it is known."""
+        ahead = state.clock - int(time.time())
+        if ahead > MOST_AHEAD:
+            driver.past = make_anew(self.files, self.log, self.past, self.jobs, state, ahead)
+            self.files.sign()
+            return None
+        if state.is_nearly_full():
+            driver.past, _ = renew(self.files, self.log, self.past, self.jobs, driver.wake,
+                                   driver.meanwhile)
+            return None
+        return None if os.path.exists(f"{self.files.path}.failed") else state
+
+    def tell_missing(self, left: set[Name]) -> None:
+        its = names_not_there(self.jobs, left)
+        if its:
+            shown = ", ".join(" ".join(it) for it in its[:5]) + (", .." if its[5:] else "")
+            note(f"{self.jobs.path} lacks {len(its)} commands that are left in"
+                 f" {self.files.shown}: {shown}")
+
+    def idle(self) -> int:
+        """Nothing is left to do in this night."""
+        made, view = self.view()
+        when = when_ended(view.facts, view.lines, set(self.jobs.all))
+        lines = [*failures(made), *changed(self.jobs, made, view.lines), nothing_to_do(made, when)]
+        return self.printed(lines, made)
+
+    def finish(self, driver: Driver) -> int:
+        """Prints how the night stands, and runs what is to be run where something failed."""
+        made, view = self.view()
+        lines = [*failures(made), *changed(self.jobs, made, view.lines),
+                 total(made, len(driver.ran))]
+        failed = failed_count(made)
+        status = self.printed(lines, made)
+        if failed and self.words.on_failure:
+            alarm(self.words.on_failure, self.files, failed, "".join(f"{it}\n" for it in lines))
+        return status
+
+    def view(self) -> tuple[rows.Report, View]:
+        view = look(self.files, self.jobs)
+        return report(self.files, self.jobs, view), view
+
+    def printed(self, lines: list[str], made: rows.Report) -> int:
+        is_quiet = self.words.quiet and is_well(made)
+        if not is_quiet:
+            telling.let_go()
+            printed(lines)
+        return 0 if is_well(made) else 1
+
+
+__all__ = ["OK", "main"]

@@ -1,0 +1,162 @@
+"""What a night has so far: how each command ended in it, and which groups are done."""
+
+from __future__ import annotations
+
+import collections
+import time
+from collections.abc import Iterator, Mapping
+from dataclasses import dataclass, field
+
+from . import Name, base_of, named, round_of
+from .log import Line, Tried
+from .past import Past
+from .settings import OF_ALL
+from .state import ENDED, Scope, State, Task
+
+CANCELED = "canceled: "
+PASSED = "its deadline has passed"
+
+
+@dataclass
+class Facts:
+    """Of one night. A command that isn't in `ends` hasn't ended in it."""
+
+    ends: dict[Name, str] = field(default_factory=dict)  # `ok`, or an error's text
+    failures: dict[Name, int] = field(default_factory=dict)
+    failed_at: dict[Name, float] = field(default_factory=dict)
+    interrupted: set[Name] = field(default_factory=set)
+    done: dict[str, str] = field(default_factory=dict)  # groups, with the cause
+    busy: set[Name] = field(default_factory=set)  # those that live, or whose end isn't recorded
+
+    def ended(self, name: Name, end: str, now: float) -> None:
+        """Takes in the end of a command."""
+        self.interrupted.discard(name)
+        self.ends[name] = end
+        if end != "ok":
+            self.failures[name] = self.failures.get(name, 0) + 1
+            self.failed_at[name] = now
+
+    def cancel(self, group: str, cause: str) -> None:
+        self.done.setdefault(group, cause)
+
+
+@dataclass
+class Book:
+    """Where the commands of a night stand in the store, as a session makes it."""
+
+    night: int
+    round: int  # of new names, at least
+    top: Scope | None = None  # of all groups together
+    scopes: dict[str, Scope] = field(default_factory=dict)  # of each group, its last one
+    gone: dict[str, str] = field(default_factory=dict)  # groups whose scope was done and is gone
+    groups: dict[str, str] = field(default_factory=dict)  # the store's group of each, if it is open
+    limits: dict[str, int | None] = field(default_factory=dict)  # of the store's groups
+    rounds: dict[str, int] = field(default_factory=dict)  # the greatest one of each group
+    tries: collections.Counter[tuple[str, str]] = field(default_factory=collections.Counter)
+    said: dict[str, str] = field(default_factory=dict)  # the deadlines, as the file said them
+    last: dict[Name, Task] = field(default_factory=dict)
+    retried: set[int] = field(default_factory=set)
+
+    def next_name(self, base: str) -> str:
+        """A name for a new scope or group, which nothing had before."""
+        number = self.rounds[base] = max(self.rounds.get(base, 0) + 1, self.round)
+        return named(base, number)
+
+
+def book_of(state: State, past: Past, night: int) -> Book:
+    """The book of a night, by what the store has."""
+    rounds: dict[str, int] = {}
+    for base, number in [*state.rounds(), *past.rounds()]:
+        rounds[base] = max(rounds.get(base, 0), number)
+    if past.round:
+        rounds[OF_ALL] = max(rounds.get(OF_ALL, 0), past.round)
+    tops = state.tops(night, night)
+    book = Book(night, round_of(tops[-1].name) if tops else max(past.round, 1), rounds=rounds)
+    book.top = tops[-1] if tops else None
+    below = {it.number for it in state.scopes if state.night_of(it.number) == night}
+    for scope in state.scopes:
+        if scope.number in below and scope.kind == "cause" and base_of(scope.name) != OF_ALL:
+            book.scopes[base_of(scope.name)] = scope
+            book.said[base_of(scope.name)] = state.said(scope.name) or PASSED
+    last = {it.number: base for base, it in book.scopes.items()}
+    for group in state.groups:
+        book.limits[group.name] = group.limit
+        if group.scope in last and not group.waited:
+            book.groups[last[group.scope]] = group.name
+    ours = {it.name for it in state.groups if it.scope in below}
+    for task in state.tasks:
+        book.tries[task.group, task.key] += 1
+        if task.group in ours and not task.is_withdrawn:
+            book.last[task.name] = task
+        if task.retry_of is not None:
+            book.retried.add(task.retry_of)
+    if past.night == night:
+        book.gone = {base_of(it): cause for it, cause in past.done.items()
+                     if base_of(it) not in book.scopes}
+    return book
+
+
+def numbered(state: State) -> Iterator[tuple[Task, Tried]]:
+    """Each task, with which try of its key in its group it is."""
+    counts: collections.Counter[tuple[str, str]] = collections.Counter()
+    for it in state.tasks:
+        yield it, (it.group, it.key, counts[it.group, it.key])
+        counts[it.group, it.key] += 1
+
+
+def facts_of(state: State, past: Past, lines: Mapping[Tried, Line], book: Book, now: float,
+             forgiven: Mapping[Name, int]) -> Facts:
+    """What a night has so far. So many failures of a command as are forgiven don't count."""
+    facts = Facts()
+    if past.night == book.night:
+        read_past_ends(facts, past, lines, now)
+    ours = {it.name for it in state.groups if state.night_of(it.scope) == book.night}
+    for task, tried in numbered(state):
+        if task.group in ours and not task.is_withdrawn:
+            read_task(facts, task, lines.get(tried), now)
+    for name, count in forgiven.items():
+        left = facts.failures.get(name, 0) - count
+        facts.failures[name] = max(0, left)
+        if left <= 0 and facts.ends.get(name) != "ok":
+            facts.ends.pop(name, None)
+    read_done(facts, book, max(state.clock, now))
+    return facts
+
+
+def read_past_ends(facts: Facts, past: Past, lines: Mapping[Tried, Line], now: float) -> None:
+    """What the ends of a renewed store say; the log says how often a command had failed."""
+    failed = collections.Counter((group, key) for (group, key, _), line in lines.items()
+                                 if line.end not in ("ok", "interrupted"))
+    for group, key, end in past.ends:
+        name = base_of(group), key
+        facts.ended(name, end, now)
+        if end != "ok":
+            facts.failures[name] = max(1, failed[group, key])
+
+
+def read_task(facts: Facts, task: Task, line: Line | None, now: float) -> None:
+    if task.phase in ENDED:
+        when = line.ended_at() if line else None
+        # (the log's moments are whole seconds)
+        facts.ended(task.name, task.end(), now if when is None else min(now, when + 1))
+    else:
+        facts.ends.pop(task.name, None)
+        facts.interrupted.add(task.name)
+
+
+def read_done(facts: Facts, book: Book, now: float) -> None:
+    """Which groups are done, those whose deadline has passed by now among them."""
+    facts.done.update(book.gone)
+    for base, scope in book.scopes.items():
+        if scope.done:
+            facts.cancel(base, scope.cause or "")
+        elif scope.deadline is not None and scope.deadline <= now:
+            facts.cancel(base, book.said.get(base, PASSED))
+
+
+def when_ended(facts: Facts, lines: Mapping[Tried, Line], names: set[Name]) -> str:
+    """When the last of these commands ended, as the log says, in this machine's zone; or ''."""
+    moments = [it.ended_at() for (group, key, _), it in lines.items()
+               if (base_of(group), key) in names and it.began != "-"]
+    last = max((it for it in moments if it is not None), default=None)
+    return "" if last is None else time.strftime("%Y-%m-%d %H:%M", time.localtime(last))

@@ -1,0 +1,142 @@
+"""A store and what lies beside it, under its real path.
+
+    STORE            the store
+    STORE.lock       locked by the one driver that may run; which process that is, and how many
+                     bytes the store has
+    STORE.pids       the processes of its commands; locked by the driver, and by each command until
+                     it has written its line there (`leftovers`)
+    STORE.out/       the output of each task, GROUP.KEY.TRY
+    STORE.log        what ran when, how long, and how it ended (`log`)
+    STORE.cancel     which groups somebody wants to have cancelled (`cancels`)
+    STORE.ended      how commands ended whose groups a renewal has given back (`past`)
+"""
+
+from __future__ import annotations
+
+import contextlib
+import fcntl
+import os
+import re
+import stat
+import time
+
+from . import Fault, Mistake
+from .processes import Process, lives, this_process
+from .telling import note
+
+# Those of a small and of a large store.
+SIZES = 1_572_864, 6_291_456
+# So many seconds another driver's lock is waited for: a cancel has it for a moment.
+PATIENCE = 3.0
+SIZE = re.compile(r"^size ([0-9]+)$", re.M)
+HOLDER = re.compile(r"^process (\S+) ([0-9]+) ([0-9]+)$", re.M)
+
+
+class Files:
+    """The names of a store's files. `shown` is how the store is called in what is told."""
+
+    def __init__(self, given: str) -> None:
+        self.path = os.path.realpath(given)
+        self.shown = given if self.path == os.path.abspath(given) else self.path
+        self.out, self.log = f"{self.path}.out", f"{self.path}.log"
+        self.pids, self.lock = f"{self.path}.pids", f"{self.path}.lock"
+        self.cancel, self.ended = f"{self.path}.cancel", f"{self.path}.ended"
+
+    def exists(self) -> bool:
+        return os.path.exists(self.path)
+
+    def output(self, group: str, key: str, tried: int) -> str:
+        return f"{self.out}/{group}.{key}.{tried}"
+
+    def shown_output(self, output: str) -> str:
+        """An output's path, as the store's is shown."""
+        return f"{self.shown}.out/{os.path.basename(output)}" if output else ""
+
+    def look(self) -> None:
+        """A file that can be no store is a mistake of the words, and nothing is made beside it."""
+        if not self.exists():
+            return
+        found = os.stat(self.path)
+        if not stat.S_ISREG(found.st_mode):
+            raise Mistake(f"{self.shown}: it is no regular file, and so no store")
+        had = self.size()
+        if had and found.st_size < had:
+            raise Fault(f"{self.shown} has {found.st_size} bytes, and had {had}: it was cut off;"
+                        " bring back a whole copy of it")
+        if found.st_size not in SIZES:
+            raise Mistake(f"{self.shown}: it has {found.st_size} bytes, and so is no store")
+
+    def look_for_log(self) -> None:
+        """A store that is gone isn't made anew while what it did is known."""
+        for it in (self.log, self.ended):
+            if os.path.exists(it):
+                name = f"{self.shown}{it[len(self.path):]}"
+                raise Fault(f"{self.shown} is not there, and {name} is: bring the store back, or"
+                            f" put {name} aside for a new one")
+
+    def is_writable(self) -> bool:
+        return os.access(os.path.dirname(self.path), os.W_OK)
+
+    # --- STORE.lock
+
+    def said(self) -> str:
+        with contextlib.suppress(OSError), open(self.lock, encoding="ascii",
+                                                errors="replace") as file:
+            return file.read(4096)
+        return ""
+
+    def size(self) -> int:
+        """How many bytes the store had when a driver had it last, or 0 where nothing says it."""
+        found = SIZE.search(self.said())
+        return int(found[1]) if found else 0
+
+    def holder(self) -> Process | None:
+        """The driver that runs, as far as its line and the system tell."""
+        found = HOLDER.search(self.said())
+        holder = Process(found[1], int(found[2]), int(found[3])) if found else None
+        return holder if holder and lives(holder) else None
+
+    def take(self, patience: float = PATIENCE) -> bool:
+        """Takes the store for this driver; False where another one has it."""
+        self.own = os.open(self.lock, os.O_RDWR | os.O_CREAT, 0o666)
+        end = time.monotonic() + patience
+        while not try_lock(self.own):
+            if time.monotonic() >= end:
+                os.close(self.own)
+                return False
+            time.sleep(0.02)
+        self.sign()
+        return True
+
+    def sign(self) -> None:
+        """Writes who has the lock, and the store's size."""
+        it = this_process()
+        size = os.stat(self.path).st_size if self.exists() else self.size()
+        text = f"process {it.boot} {it.pid} {it.start}\nsize {size}\n"
+        try:
+            os.pwrite(self.own, text.encode(), 0)
+            os.ftruncate(self.own, len(text))
+        except OSError as error:
+            note(f"{self.shown}.lock: {error.strerror}")
+
+    def release(self) -> None:
+        os.close(self.own)
+
+
+def try_lock(file: int) -> bool:
+    try:
+        fcntl.flock(file, fcntl.LOCK_EX | fcntl.LOCK_NB)
+    except BlockingIOError:
+        return False
+    except OSError as error:
+        raise Fault(f"no locks: {error.strerror}") from error
+    return True
+
+
+def sync_folder(path: str) -> None:
+    """Makes the names in the folder of this path durable."""
+    folder = os.open(os.path.dirname(path), os.O_RDONLY)
+    try:
+        os.fsync(folder)
+    finally:
+        os.close(folder)

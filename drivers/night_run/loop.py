@@ -1,0 +1,651 @@
+"""The loop. At every moment, and over any kill, this holds:
+
+ 1. A command begins only after the `acked` of its task's start.
+ 2. A place is free only once the end of the command that had it is acked, or its task is
+    interrupted. So at most `-j` commands, and at most `limit` of a group, live or are unrecorded.
+ 3. Each round takes a bounded time, whatever the commands do: it records ends, moves the clock,
+    obeys cancels, deadlines and timeouts, and begins at most as many as there are free places.
+ 4. No two tries of a key live at a time: who lives stands in STORE.pids, and not in what a command
+    may close.
+ 5. An end that was acked is never run again in its night. A try that was stopped, by a cancel, a
+    deadline, a timeout or a signal of ours, is never ok, whatever its status.
+ 6. After a kill of anything at most the commands run again whose end wasn't acked: `-j` of them,
+    twice that where it is killed twice.
+ 7. A command that has ended has no process left in its group, unless it has `background keep`.
+ 8. What can't be read (a cancel, a log, the ends of a renewed store) ends no night: it is told once
+    and passed over, or the night doesn't begin.
+ 9. `--list`, `--report` and `--dry-run` write nothing, lock nothing, and tell what is so at one
+    moment.
+10. What a night did is said at its end: ran now, ended before, not begun and why. The status is 0
+    only where every command of the file is ok.
+
+1, 2, 3 and 6 are kept by `Driver.round`, 4 by `leftovers` and by `Driver.left`, 5 by
+`Command.end` and `facts`, 7 by `Command.poll`, 8 by `cancels`, `log` and `past`, 9 by `views`, 10
+by `summary`.
+"""
+
+from __future__ import annotations
+
+import bisect
+import contextlib
+import os
+import select
+import signal
+import sys
+import time
+from collections.abc import Callable, Iterator
+
+from . import Fault, Name, base_of, cancels
+from .commands import Command, NotNow, text_of
+from .facts import CANCELED, PASSED, Book, Facts, book_of, facts_of, numbered
+from .files import Files
+from .jobs import Jobs
+from .leftovers import Leftover, sign_night
+from .log import Line, Log, Tried, line_of
+from .night import (ALREADY_DONE, CLOCK_NOT_FORWARD, FULL, MOST_BUSY, NOTHING_READY, NightEnded,
+                    Session, SessionFull, refusal)
+from .opening import (Maker, StoreFull, advance, ready_state, set_limits, withdraw,
+                      withdrawn)
+from .past import Past
+from .plan import may_begin, standings
+from .renewal import renew
+from .settings import OF_ALL
+from .state import ENDED, JOB, State
+from .telling import CLEAR, note, note_once, tell
+
+# So often in a row `night` may end by itself with no end of a command recorded between, ..
+MOST_LOST = 5
+# .. unless the run that ended had gone on for so many seconds.
+GOOD_RUN = 60.0
+# A run of `night` that doesn't answer has so many seconds once the driver is asked to stop.
+HURRY = 3.0
+# With nothing else to do the clock is moved so often.
+TICK = 10
+# How long the loop sleeps at most: beside processes that a command left, and else.
+LINGER, IDLE = 0.02, 1.0
+
+Then = Callable[[str], None]
+
+
+class Batch:
+    """Lines for `night`, each with what its reply leads to. Nothing is led to before the reply to
+    the last one, a flush, has come."""
+
+    def __init__(self) -> None:
+        self.lines: list[str] = []
+        self.then: list[Then | None] = []
+
+    def add(self, line: str, then: Then | None = None) -> None:
+        self.lines.append(line)
+        self.then.append(then)
+
+    def send(self, session: Session) -> None:
+        replies = session.ask([*self.lines, "flush"],
+                              may=[ALREADY_DONE, CLOCK_NOT_FORWARD, NOTHING_READY, 2, *FULL])
+        for reply, then in zip(replies, self.then):
+            if then:
+                then(reply)
+
+
+class Driver:
+    """Runs the commands of a file over a store, from what has ended to the end of the night."""
+
+    def __init__(self, files: Files, jobs: Jobs, log: Log, past: Past, pids: int,
+                 left: list[Leftover], most: int, grace: float) -> None:
+        self.files, self.jobs, self.log, self.past, self.pids = files, jobs, log, past, pids
+        self.left, self.most, self.grace = left, most, grace
+        self.night = 1
+        self.begins_night = False
+        self.forgiven: dict[Name, int] = {}  # of each command failures that don't count
+        self.anew: set[str] = set()  # done groups that get another scope
+        self.commands: dict[Name, Command] = {}  # those that were begun, or are to be
+        self.facts = Facts()
+        self.book = Book(1, 1)
+        self.places = {name: at for at, name in enumerate(jobs.all)}
+        self.names = list(jobs.all)
+        self.open: list[int] = []  # the commands that may be begun some time, by their places
+        self.before: State | None = None  # the state that was read before the next opening
+        self.ran: dict[Name, Command] = {}  # those whose end was recorded in this run
+        self.is_stale = True
+        self.asked_to_end = self.lost = self.busy = 0
+        self.is_full = self.cannot_renew = self.is_open = False
+        self.is_fruitless = self.is_woken = self.has_mark = False
+        self.later: float | None = None
+        self.try_again = 0.0
+        self.clock = self.ticked = 0
+        self.inherited = dict(os.environ)
+        self.shown = ""
+        self.listen()
+
+    # --- from the first round to the last
+
+    def run(self) -> None:
+        try:
+            while self.asked_to_end < 2 or self.commands:
+                try:
+                    self.open_session()
+                    self.work()
+                    self.close()
+                    return
+                except SessionFull:
+                    with contextlib.suppress(NightEnded):
+                        self.session.close()
+                except StoreFull:
+                    self.give_back()
+                except NightEnded as ended:
+                    self.after(ended)
+        finally:
+            self.cut_off()
+            self.clear()
+
+    def after(self, ended: NightEnded) -> None:
+        """Decides whether another run of `night` is begun."""
+        if self.asked_to_end > 1:
+            raise Fault(str(ended))
+        if ended.is_in_use() and not self.is_open and self.busy < MOST_BUSY:
+            self.busy += 1
+            self.meanwhile()
+            time.sleep(0.1)
+            return
+        if self.is_open and time.monotonic() > self.opened + GOOD_RUN:
+            self.lost = 0
+        if ended.status >= 0 and not self.is_open or self.lost >= MOST_LOST:
+            raise Fault(str(ended))
+        self.lost += 1
+        note(f"{ended}; another one is begun")
+
+    def open_session(self) -> None:
+        """Opens a session, and brings the store to what the file of commands asks for."""
+        self.is_open = False
+        before, self.before = self.before, None
+        self.session = Session(self.files.path, self.wake, self.meanwhile)
+        sign_night(self.pids, self.session.it.pid)
+        state = ready_state(self.session, self.files, before)
+        self.is_open, self.busy, self.opened = True, 0, time.monotonic()
+        self.clock, now = state.clock, int(time.time())
+        advance(self.session, now)
+        withdraw(self.session, state)
+        state = withdrawn(state)
+        self.log.add(self.ends_of(state))
+        self.take_in(state)
+        self.make_scopes(state)
+        set_limits(self.session, self.book, self.jobs, list(self.book.groups))
+        self.rebind()
+
+    def close(self) -> None:
+        """Ends the session, with a mark where the whole night has ended."""
+        top = self.book.top
+        found = standings(self.jobs, self.facts)
+        if top and all(it.is_final for it in found.values()) and not self.has_mark:
+            when = time.strftime("%Y-%m-%dT%H:%M:%S%z")
+            self.session.ask([f"derive {top.name}--ended {top.name} value ended {when}"],
+                             may=[4, *FULL])
+        self.session.close()
+
+    def give_back(self) -> None:
+        """Renews the store in the midst of a night. The commands run on meanwhile."""
+        with contextlib.suppress(NightEnded):
+            self.session.close()
+        if not self.cannot_renew and not self.is_fruitless:
+            self.past, is_renewed = renew(self.files, self.log, self.past, self.jobs, self.wake,
+                                          self.meanwhile)
+            self.is_full, self.is_fruitless = False, True
+            if is_renewed:
+                return
+        if not self.cannot_renew:
+            tell(f"{self.files.shown} is full: nothing more is begun in it; run this again")
+        self.is_full = self.cannot_renew = True
+
+    # --- the opening
+
+    def take_in(self, state: State) -> None:
+        """Takes in what the store says of this night, also ends whose reply didn't come."""
+        self.commands = {name: it for name, it in self.commands.items() if it.has_begun}
+        self.book = book_of(state, self.past, self.night + self.begins_night)
+        last = self.book.last
+        for name, command in list(self.commands.items()):
+            if name in last and last[name].phase in ENDED and command.number == last[name].number:
+                self.recorded(command)
+        self.facts = facts_of(state, self.past, self.log.lines, self.book, time.time(),
+                              self.forgiven)
+        self.facts.busy = {it.name for it in self.left} | set(self.commands)
+        self.has_mark = bool(self.book.top and f"{self.book.top.name}--ended" in state.by_name)
+        self.is_stale = True
+        self.ask_why()
+
+    def ask_why(self) -> None:
+        """Asks why scopes are done whose deadline passed as the clock was moved."""
+        its = [(group, it) for group, it in self.book.scopes.items()
+               if group in self.facts.done and not it.done]
+        for (group, _), reply in zip(its, self.session.ask([f"scope {it.name}" for _, it in its])):
+            self.passed(group, reply)
+
+    def ends_of(self, state: State) -> Iterator[tuple[Tried, Line]]:
+        """The lines of the log for what the store has as ended."""
+        for task, tried in numbered(state):
+            if task.end() and not task.is_withdrawn and tried not in self.log.lines:
+                job = self.jobs.all.get(task.name)
+                yield tried, self.line(task.name, task.end(), job.command if job else "-",
+                                       task.number)
+
+    def line(self, name: Name, end: str, text: str, number: int) -> Line:
+        """The line of an end, with its times where its command is at hand."""
+        it = self.commands.get(name)
+        if it and it.number == number and it.took is not None and end != "interrupted":
+            return line_of(it.began, it.took, end, it.job.command)
+        return line_of(None, None, end, text)
+
+    def make_scopes(self, state: State) -> None:
+        """Makes the scopes of what is left to do; a group's anew where its deadline is another one
+        in the file."""
+        maker = Maker(self.session, self.book, self.jobs, state)
+        found = standings(self.jobs, self.facts)
+        wanted = {group for (group, _), it in found.items()
+                  if not it.is_final or group in self.anew}
+        if wanted or self.begins_night or any(it[0] not in self.book.scopes for it in self.commands):
+            old = self.book.top
+            maker.top()
+            moved = old is not None and old is not self.book.top and not maker.is_done(old)
+            for group in self.jobs.members:
+                self.make_scope(maker, group, group in wanted, moved)
+            self.make_for_running(maker)
+            try:
+                maker.send()
+            except StoreFull:
+                if self.is_fruitless:
+                    raise Fault(f"{self.files.shown}: the file has more groups than a store has"
+                                " scopes for") from None
+                raise
+            self.night, self.begins_night = self.book.night, False
+            self.anew.clear()
+
+    def make_scope(self, maker: Maker, group: str, is_wanted: bool, moved: bool) -> None:
+        """Makes the scope of a group, if it needs one."""
+        scope = self.book.scopes.get(group)
+        is_gone = is_wanted and scope is None and group not in self.book.gone
+        is_other = is_wanted and scope is not None and group not in self.facts.done and (
+            moved or maker.is_other(scope, group))
+        if is_gone or is_other or group in self.anew:
+            if is_other and group not in self.anew:
+                said = self.jobs.groups[group].deadline or "none"
+                note(f"{group}: its deadline is now: {said}")
+            maker.group(group)
+            self.facts.done.pop(group, None)
+            self.is_stale = True
+
+    def make_for_running(self, maker: Maker) -> None:
+        """Makes scopes for commands that run on while theirs was done, and went with a renewal."""
+        for group in {it[0] for it in self.commands} - set(self.book.scopes):
+            cause = self.facts.done.get(group)
+            maker.group(group)
+            if cause is not None:
+                maker.lines.append(f"cancel {self.book.scopes[group].name} {cause}")
+
+    def rebind(self) -> None:
+        """Gives each command that runs on, or whose end isn't recorded, a running task again."""
+        batch = Batch()
+        its = [it for it in self.commands.values() if it.end() is not None or it.status is None]
+        for it in its:
+            self.add_start(batch, it)
+        batch.send(self.session)
+        self.look_at_room()
+
+    def look_at_room(self) -> None:
+        if self.is_full and not self.cannot_renew:
+            raise StoreFull
+
+    # --- a round
+
+    def work(self) -> None:
+        while True:
+            self.round()
+            self.show()
+            if self.is_over():
+                return
+            self.wait()
+
+    def round(self) -> None:
+        """Records ends, moves the clock, obeys cancels and deadlines, and begins what has a place:
+        one batch, and one flush, for all of it."""
+        batch = Batch()
+        self.drain()
+        self.is_woken = False
+        self.look_for_leftovers()
+        self.add_ends(batch)
+        asked = self.add_cancels(batch)
+        self.add_clock(batch, bool(batch.lines))
+        begun = self.add_begins(batch)
+        if batch.lines:
+            batch.send(self.session)
+            if asked:
+                cancels.answered(self.files, asked)
+        for it in begun:
+            self.begin(it)
+        self.stop_those_due()
+        self.look_at_room()
+
+    def add_ends(self, batch: Batch) -> None:
+        """The ends of commands. They are logged, and their places free, once all is acked."""
+        now = time.time()
+        for command in list(self.commands.values()):
+            if not command.poll(self.grace):
+                continue
+            end = command.end()
+            if end is None or command.number < 0:
+                self.forget(command)
+                continue
+            what = "ok" if end == "ok" else f"error {end}"
+            batch.add(f"finish {command.number} {what}",
+                      lambda _, its=command: self.recorded(its))
+            self.facts.busy.discard(command.name)
+            self.facts.ended(command.name, end, now)
+            self.reopen(command.name, end)
+
+    def recorded(self, command: Command) -> None:
+        """The end of a command is durable."""
+        self.lost = 0
+        if self.commands.get(command.name) is command:
+            del self.commands[command.name]
+        self.ran[command.name] = command
+        end = command.end() or "interrupted"
+        tried = command.group, command.job.key, command.tried
+        self.log.add(iter([(tried, line_of(command.began, command.took, end,
+                                           command.job.command))]))
+
+    def reopen(self, name: Name, end: str) -> None:
+        """A command that failed may be tried again; one that failed for good may decide about
+        others."""
+        if end == "ok" or name not in self.places:
+            return
+        job = self.jobs.all[name]
+        if self.facts.failures[name] <= job.retries and not end.startswith(CANCELED):
+            bisect.insort(self.open, self.places[name])
+        elif self.jobs.matters(name):
+            self.is_stale = True
+
+    def forget(self, command: Command) -> None:
+        """A command that was cut off: the next opening interrupts its task."""
+        del self.commands[command.name]
+        self.facts.busy.discard(command.name)
+        self.facts.interrupted.add(command.name)
+        tell(f"{command.name[0]} {command.name[1]}: interrupted")
+
+    def add_cancels(self, batch: Batch) -> list[cancels.Request]:
+        """The cancels that are asked for. A group that isn't there has none."""
+        asked = cancels.requests(self.files)
+        for it in asked:
+            groups = list(self.book.scopes) if it.group == OF_ALL else [it.group]
+            tops = [self.book.top] if it.group == OF_ALL and self.book.top else []
+            scopes = [self.book.scopes[group] for group in groups if group in self.book.scopes]
+            for scope in [*tops, *scopes]:
+                batch.add(f"cancel {scope.name} {it.why}")
+            for scope in scopes:
+                self.facts.cancel(base_of(scope.name), it.why)
+            self.is_stale = True
+        return asked
+
+    def add_clock(self, batch: Batch, is_busy: bool) -> None:
+        """Moves the clock: with other lines, where a deadline passes, and once in a while."""
+        now = int(time.time())
+        passed = [(group, it) for group, it in self.book.scopes.items()
+                  if group not in self.facts.done and it.deadline is not None
+                  and it.deadline <= max(now, self.clock)]
+        if now > self.ticked and (is_busy or passed) or now >= self.ticked + TICK:
+            self.ticked = now
+            if now > self.clock:
+                self.clock = now
+                batch.add(f"advance {now}")
+        for group, scope in passed:
+            self.facts.cancel(group, PASSED)
+            self.is_stale = True
+            batch.add(f"scope {scope.name}", lambda reply, its=group: self.passed(its, reply))
+
+    def passed(self, group: str, reply: str) -> None:
+        """Takes in why a scope is done, as the store says it."""
+        _, is_done, cause = reply.partition("; cause ")
+        if is_done:
+            self.facts.done[group] = cause
+
+    def add_begins(self, batch: Batch) -> list[Command]:
+        """Submits and starts what has a place; it begins once that is acked."""
+        if self.is_stale:
+            self.sort_out()
+        self.later = None
+        places = self.most - len(self.facts.busy)
+        if self.asked_to_end or places <= 0 or self.is_full:
+            return []
+        left = (self.names[it] for it in self.open)
+        found = may_begin(self.jobs, self.facts, left, places, time.time())
+        self.later = found.later
+        made = []
+        for name in found.names:
+            at = bisect.bisect_left(self.open, self.places[name])
+            del self.open[at]
+            command = Command(self.jobs.all[name], "", 0, -1, "")
+            self.commands[name] = command
+            self.facts.busy.add(name)
+            self.add_start(batch, command)
+            made.append(command)
+        return made
+
+    def sort_out(self) -> None:
+        """Finds anew which commands may be begun some time."""
+        self.is_stale = False
+        found = standings(self.jobs, self.facts)
+        self.open = [self.places[name] for name, it in found.items()
+                     if not it.is_final and name not in self.facts.busy]
+
+    def add_start(self, batch: Batch, command: Command) -> None:
+        """The lines that submit and start a task for a command."""
+        base, key = command.name
+        group = self.book.groups.get(base)
+        if group is None:
+            group = self.add_group(batch, base)
+        last = self.book.last.get(command.name)
+        is_retry = last is not None and last.group == group and last.phase == "interrupted" \
+            and last.number not in self.book.retried
+        if last is not None and is_retry:
+            self.book.retried.add(last.number)
+            batch.add(f"retry {last.number}", self.submitted)
+        else:
+            batch.add(f"go {group} {JOB} {key}", self.submitted)
+        tried = self.book.tries[group, key]
+        self.book.tries[group, key] += 1
+        batch.add("start", lambda reply: self.started(command, group, tried, reply))
+
+    def add_group(self, batch: Batch, base: str) -> str:
+        """The lines that make a group of the store in a group's scope."""
+        scope = self.book.scopes[base].name
+        taken = self.book.limits
+        group = scope if scope not in taken and scope not in self.had else \
+            self.book.next_name(base)
+        limit = self.jobs.limit(base) if base in self.jobs.members else None
+        self.book.groups[base], self.book.limits[group] = group, limit
+        batch.add(f"bare {group} {scope}", self.submitted)
+        if limit:
+            batch.add(f"limit {group} {limit}")
+        return group
+
+    @property
+    def had(self) -> set[str]:
+        """The names of groups that a renewal gave back."""
+        return {group for group, _, _ in self.past.ends} | set(self.past.had)
+
+    def submitted(self, reply: str) -> None:
+        if refusal(reply):
+            self.is_full = True
+
+    def started(self, command: Command, group: str, tried: int, reply: str) -> None:
+        """A task has started: its command may begin. Or there was no place for it."""
+        words = reply.split()
+        if words[0] != "start":
+            command.number = -1
+            if not command.has_begun:
+                self.drop(command)
+            self.is_full = True
+            return
+        self.is_fruitless = False
+        output = self.files.output(group, command.job.key, tried)
+        if command.output and command.output != output:
+            with contextlib.suppress(OSError):
+                os.rename(command.output, output)
+        command.group, command.tried, command.output = group, tried, output
+        command.number = int(words[1])
+
+    def begin(self, command: Command) -> None:
+        """Begins a command whose start is acked; where the system has no room for it, later."""
+        if command.number < 0 or command.has_begun:
+            return
+        try:
+            command.begin(self.pids, self.files.path, self.inherited)
+        except NotNow as why:
+            self.try_again = time.monotonic() + IDLE
+            note_once(f"{why}: commands are begun later")
+        self.is_woken |= bool(command.failure)
+
+    def stop_those_due(self) -> None:
+        """Stops the commands of groups that are done and those whose time is over, and begins those
+        that had no room."""
+        retry = time.monotonic() >= self.try_again
+        for command in list(self.commands.values()):
+            if not command.has_begun:
+                if self.asked_to_end or command.name[0] in self.facts.done:
+                    self.drop(command)
+                elif retry:
+                    self.begin(command)
+        self.press()
+
+    def drop(self, command: Command) -> None:
+        """A command that was to begin doesn't; its task is interrupted by the next opening."""
+        self.commands.pop(command.name, None)
+        self.facts.busy.discard(command.name)
+        self.is_stale = True
+
+    def press(self) -> None:
+        """Asks commands to end whose time is over, and kills those that don't."""
+        now = int(time.time())
+        for it in [*self.commands.values(), *self.left]:
+            if isinstance(it, Command):
+                if not it.has_begun or it.poll(self.grace) or it.status is not None:
+                    continue
+                if it.is_overdue():
+                    it.stop(f"timeout {it.job.timeout_said}")
+            elif it.is_orphaned:
+                it.stop("")
+            scope = self.book.scopes.get(it.name[0])
+            cause = self.facts.done.get(it.name[0])
+            if cause is None and scope and scope.deadline is not None and scope.deadline <= now:
+                cause = self.book.said.get(it.name[0], PASSED)
+            if cause is not None:
+                it.stop(text_of(f"{CANCELED}{cause}"))
+            elif self.asked_to_end > 1:
+                it.stop("")
+            it.press(self.grace)
+
+    def look_for_leftovers(self) -> None:
+        """Forgets commands of an earlier driver that have ended; they are begun anew."""
+        gone = [it for it in self.left if not it.is_there()]
+        for it in gone:
+            self.left.remove(it)
+            if not any(that.name == it.name for that in self.left):
+                self.facts.busy.discard(it.name)
+            self.is_stale = True
+
+    def is_over(self) -> bool:
+        if self.commands:
+            return False
+        if self.asked_to_end:
+            return self.asked_to_end < 2 or not self.left
+        return not self.left and not self.may_go_on()
+
+    def may_go_on(self) -> bool:
+        """Whether something may be begun now or later."""
+        if self.is_stale or self.is_woken:
+            return True
+        if self.is_full:
+            return False
+        left = (self.names[it] for it in self.open)
+        found = may_begin(self.jobs, self.facts, left, 1, time.time())
+        return bool(found.names) or found.later is not None
+
+    # --- the end of it by a fault
+
+    def cut_off(self) -> None:
+        """Stops what still runs as the driver ends by a fault."""
+        self.asked_to_end = max(self.asked_to_end, 2)
+        while its := [it for it in self.commands.values() if it.has_begun]:
+            for it in its:
+                if it.poll(self.grace):
+                    del self.commands[it.name]
+                    tell(f"{it.name[0]} {it.name[1]}: interrupted")
+            self.press()
+            time.sleep(LINGER)
+
+    # --- signals and the terminal
+
+    def listen(self) -> None:
+        self.wake, wakes = os.pipe()
+        os.set_blocking(self.wake, False)
+        os.set_blocking(wakes, False)
+        self.wakes = wakes
+        signal.set_wakeup_fd(wakes, warn_on_full_buffer=False)
+        signal.signal(signal.SIGCHLD, lambda *_: None)
+        for it, steps in ((signal.SIGINT, 1), (signal.SIGTERM, 2), (signal.SIGHUP, 2)):
+            if signal.getsignal(it) != signal.SIG_IGN:
+                signal.signal(it, lambda *_, steps=steps: self.end_soon(steps))
+
+    def end_soon(self, steps: int) -> None:
+        self.asked_to_end += steps
+        if self.asked_to_end == 1:
+            tell("no command is begun any more; once more stops those that run")
+
+    def wait(self) -> None:
+        """Sleeps until a command ends, a signal comes, the next thing is due, or a second."""
+        if self.is_woken:
+            return
+        seconds = IDLE
+        if any(it.is_lingering for it in self.commands.values()):
+            seconds = LINGER
+        if self.left:
+            seconds = min(seconds, 0.2)
+        now = time.time()
+        moments: list[float] = [it.deadline for group, it in self.book.scopes.items()
+                                if it.deadline is not None and group not in self.facts.done]
+        if self.later is not None:
+            moments.append(self.later)
+        for it in moments:
+            seconds = min(seconds, max(0.0, it - now))
+        poll = select.poll()
+        poll.register(self.wake, select.POLLIN)
+        poll.poll(seconds * 1000)
+
+    def drain(self) -> None:
+        with contextlib.suppress(BlockingIOError):
+            while os.read(self.wake, 4096):
+                self.is_woken = True
+
+    def meanwhile(self) -> float:
+        """What goes on while `night` is waited for: commands are stopped that are due. How many
+        seconds it has in all."""
+        self.drain()
+        self.press()
+        return HURRY if self.asked_to_end > 1 else 1e9
+
+    def show(self) -> None:
+        """A line of progress, on a terminal alone."""
+        if not CLEAR:
+            return
+        ends = self.facts.ends
+        failed = sum(it != "ok" for it in ends.values())
+        text = (f"{len(ends)} of {len(self.jobs.all)} done, {len(self.commands)} running,"
+                f" {failed} failed")
+        with contextlib.suppress(OSError):
+            text = text[:max(1, os.get_terminal_size(sys.stderr.fileno()).columns - 1)]
+        if text != self.shown:
+            self.shown = text
+            with contextlib.suppress(OSError):
+                print(f"{CLEAR}{text}", end="", file=sys.stderr, flush=True)
+
+    def clear(self) -> None:
+        with contextlib.suppress(OSError):
+            print(CLEAR, end="", file=sys.stderr, flush=True)

@@ -1,0 +1,184 @@
+"""A session, made ready for the loop: the store as the file of commands wants it.
+
+Tasks are submitted as they are started, and none before. So what stands ready in a store comes from
+a driver that was killed between the two, or from an older one: it is withdrawn (started, and ended
+with an error that counts for nothing), since a start would take it first.
+"""
+
+from __future__ import annotations
+
+import time
+from collections.abc import Iterable
+from dataclasses import replace
+
+from . import Fault, named
+from .facts import Book
+from .files import Files
+from .jobs import Jobs
+from .night import (ALREADY_DONE, CLOCK_NOT_FORWARD, FULL, LIMIT_WHILE_ACTIVE, NO_SUCH_SCOPE,
+                    NOTHING_READY,
+                    WAITED, Session, ran, refusal)
+from .settings import OF_ALL, Deadline
+from .state import FRESH, JOB, WITHDRAWN, Scope, State, read_state
+
+MOST_BUSY = 100
+
+
+class StoreFull(Exception):
+    """The store has no row for what is to be made; a renewal may give some back."""
+
+
+def inspected(files: Files) -> State:
+    """The state of the store, as far as it can be read."""
+    return read_state(ran("inspect", "--json", files.path), "night")
+
+
+def check(files: Files, state: State, events: int) -> None:
+    """Nothing but a driver's tasks may lie in the store: it would start them, too."""
+    if state.count < events:
+        raise Fault(f"{files.shown}.ended is of another store: put it aside")
+    for it in state.tasks:
+        if it.job != JOB:
+            raise Fault(f"{files.shown} has a task of another kind: {it.number}, {it.job}; a"
+                        " night-run has a store of its own")
+
+
+def ready_state(session: Session, files: Files, before: State | None) -> State:
+    """The state once the session is open. What was read before serves where nothing came between:
+    the opening is one event."""
+    reply = session.ask(["flush"])[0]
+    if before and reply == f"acked {before.count + 1}":
+        return before.reopened()
+    return inspected(files)
+
+
+def withdraw(session: Session, state: State) -> None:
+    """Ends all tasks that stand ready or are held, without beginning them."""
+    left = sum(it.phase in FRESH for it in state.tasks)
+    while left:
+        count = min(8, left)
+        replies = session.ask(["start"] * count, may=[NOTHING_READY])
+        numbers = [it.split()[1] for it in replies if it.startswith("start ")]
+        if not numbers:
+            raise Fault(f"{left} tasks of the store can't be started: a group has the limit 0")
+        session.ask([f"finish {it} error {WITHDRAWN}" for it in numbers])
+        left -= len(numbers)
+
+
+def withdrawn(state: State) -> State:
+    """The state behind that."""
+    tasks = tuple(replace(it, phase="error", error=WITHDRAWN) if it.phase in FRESH else it
+                  for it in state.tasks)
+    return replace(state, tasks=tasks)
+
+
+def now_of(state: State) -> int:
+    """The moment from which a deadline counts: the store's clock never steps back."""
+    return max(int(time.time()), state.clock)
+
+
+class Maker:
+    """Makes the scopes that the groups of the file need, in one batch of lines."""
+
+    def __init__(self, session: Session, book: Book, jobs: Jobs, state: State) -> None:
+        self.session, self.book, self.jobs = session, book, jobs
+        self.now = now_of(state)
+        self.state = state
+        self.lines: list[str] = []
+        self.number = len(state.scopes)
+
+    def top(self) -> None:
+        """Makes the scope of all groups together, where it isn't there, is done, or its deadline
+        is another one now."""
+        book = self.book
+        if book.top and not self.is_done(book.top) and not self.is_other(book.top, OF_ALL):
+            return
+        book.round = max([book.round, *book.rounds.values()]) + 1 if book.rounds else 1
+        book.rounds[OF_ALL] = book.round
+        name = named(OF_ALL, book.round)
+        book.top = self.scope(name, "root", OF_ALL)
+        if book.night > 1:
+            self.derive(f"{name}--round", name, f"value {OF_ALL} {book.night}")
+
+    def below(self) -> str:
+        """The scope in which the groups' scopes lie."""
+        top = self.book.top
+        assert top
+        return f"{top.name}--round" if self.book.night > 1 else top.name
+
+    def group(self, base: str) -> None:
+        """Makes the scope of a group."""
+        name = self.book.next_name(base)
+        self.book.scopes[base] = self.scope(name, self.below(), base)
+        self.book.gone.pop(base, None)
+        self.book.groups.pop(base, None)
+
+    def scope(self, name: str, parent: str, base: str) -> Scope:
+        """A scope that can be cancelled with a cause, below one with the deadline if it has any."""
+        deadline = self.jobs.groups[base].deadline if base in self.jobs.groups else None
+        moment = self.book.top.deadline if self.book.top and base != OF_ALL else None
+        if deadline:
+            own = deadline.moment(self.now)
+            moment = own if moment is None else min(own, moment)
+            self.derive(f"{name}--until", parent, f"deadline {own} {deadline}")
+            parent = f"{name}--until"
+        number = self.derive(name, parent, "cause")
+        if deadline:
+            self.derive(f"{name}--said", name, f"value deadline {deadline}")
+        return Scope(number, name, None, "cause", None, None, moment, False, None)
+
+    def derive(self, name: str, parent: str, kind: str) -> int:
+        self.lines.append(f"derive {name} {parent} {kind}")
+        self.number += 1
+        return self.number - 1
+
+    def is_done(self, scope: Scope) -> bool:
+        return scope.done or scope.deadline is not None and scope.deadline <= self.now
+
+    def is_other(self, scope: Scope, base: str) -> bool:
+        """Whether the file has another deadline for a scope than it was made with."""
+        wanted = self.jobs.groups[base].deadline if base in self.jobs.groups else None
+        return deadline_changed(self.state, scope, wanted)
+
+    def send(self) -> None:
+        # (below a scope that has no place there is none)
+        replies = self.session.ask([*self.lines, "flush"], may=[NO_SUCH_SCOPE, *FULL])
+        self.lines = []
+        if any(refusal(it) for it in replies):
+            raise StoreFull
+
+
+def deadline_changed(state: State, scope: Scope, wanted: Deadline | None) -> bool:
+    if scope.name not in state.by_name:
+        return False
+    said = state.said(scope.name)
+    if said is None and state.has_own_deadline(scope.number):
+        # (of an older driver, which didn't keep the words)
+        return wanted is None
+    return (str(wanted) if wanted else None) != said
+
+
+def set_limits(session: Session, book: Book, jobs: Jobs, bases: Iterable[str]) -> None:
+    """Sets the limits of open groups that the file has otherwise. (The driver itself begins no more
+    than the file says, so one that can't be set now isn't missed.)"""
+    lines = []
+    for base in bases:
+        group = book.groups.get(base)
+        if group and base in jobs.members and book.limits.get(group) != jobs.limit(base):
+            lines.append(f"limit {group} {jobs.limit(base) or 'none'}")
+            book.limits[group] = jobs.limit(base)
+    session.ask(lines, may=[LIMIT_WHILE_ACTIVE, WAITED])
+
+
+def advance(session: Session, now: int) -> None:
+    """Moves the clock; one that is ahead is held where it is."""
+    session.ask([f"advance {now}"], may=[CLOCK_NOT_FORWARD])
+
+
+def give_back(session: Session, state: State, night: int) -> None:
+    """The lines behind which all groups go with a renewal, and the scopes of earlier nights."""
+    withdraw(session, state)
+    lines = [f"wait {it.name}" for it in state.groups if not it.waited]
+    for top in state.tops(1, night - 1):
+        lines += [f"cancel {it}" for it in (f"{top.name}--until", top.name) if it in state.by_name]
+    session.ask([*lines, "flush"], may=[ALREADY_DONE])

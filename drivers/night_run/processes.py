@@ -1,0 +1,94 @@
+"""Processes as the system shows them in /proc: by number, start and boot, which no two share."""
+
+from __future__ import annotations
+
+import contextlib
+import functools
+import os
+import signal
+from collections.abc import Iterator
+from dataclasses import dataclass
+
+
+@dataclass(frozen=True)
+class Process:
+    boot: str
+    pid: int
+    start: int  # in the system's own ticks since the boot
+
+
+@dataclass(frozen=True)
+class Stat:
+    pid: int
+    phase: str
+    group: int
+    session: int
+    start: int
+
+    @property
+    def is_dead(self) -> bool:
+        return self.phase in "ZX"
+
+
+@functools.cache
+def boot() -> str:
+    """This boot of the machine."""
+    with contextlib.suppress(OSError), open("/proc/sys/kernel/random/boot_id",
+                                            encoding="ascii") as file:
+        return file.read().strip()
+    return "-"
+
+
+def stat_of(pid: int) -> Stat | None:
+    """What /proc shows of a process, or None where there is none."""
+    try:
+        with open(f"/proc/{pid}/stat", "rb") as file:
+            # (the name in parentheses may have any byte)
+            it = file.read().rpartition(b")")[2].split()
+        return Stat(pid, it[0].decode("ascii"), int(it[2]), int(it[3]), int(it[19]))
+    except (OSError, IndexError, ValueError):
+        return None
+
+
+def this_process() -> Process:
+    found = stat_of(os.getpid())
+    return Process(boot(), os.getpid(), found.start if found else 0)
+
+
+def lives(it: Process) -> bool:
+    """Whether this very process still runs."""
+    if it.boot != boot():
+        return False
+    found = stat_of(it.pid)
+    return found is not None and found.start == it.start and not found.is_dead
+
+
+def group_exists(pid: int) -> bool:
+    """Whether a process group has a member, a dead one that nobody has waited for, too."""
+    try:
+        os.killpg(pid, 0)
+    except ProcessLookupError:
+        return False
+    except PermissionError:
+        return True
+    return True
+
+
+def group_lives(pid: int) -> bool:
+    """Whether a process group has a member that is not dead."""
+    if not group_exists(pid):
+        return False
+    return any(not it.is_dead for it in members(pid)) or not os.path.isdir("/proc/self")
+
+
+def members(group: int) -> Iterator[Stat]:
+    """The processes of a group, which leads a session of its own."""
+    for it in filter(str.isdecimal, os.listdir("/proc") if os.path.isdir("/proc") else ()):
+        found = stat_of(int(it))
+        if found and found.group == group and found.session == group:
+            yield found
+
+
+def signal_group(pid: int, which: signal.Signals) -> None:
+    with contextlib.suppress(ProcessLookupError, PermissionError):
+        os.killpg(pid, which)

@@ -1,0 +1,159 @@
+"""What `night inspect --json` prints, as rows, and what a night is in them.
+
+A night is the first of a store, or one that lies below a scope of kind value whose key is `night`
+and whose text is the night's number. In it `night`, or `night--2`, is the scope of all groups
+together, their top; below it each group has a scope of its name, of kind cause, below one with its
+deadline if it has any (`disks--until`; the words that said it are the value of `disks--said`). The
+tasks lie in bare groups in these scopes. `disks--2` is a later round of
+`disks`: of another night, or of a group that was done or given back by a renewal.
+"""
+
+from __future__ import annotations
+
+import functools
+import json
+from collections.abc import Iterator
+from dataclasses import dataclass, replace
+from typing import Any
+
+from . import Fault, Name, base_of, round_of
+from .settings import OF_ALL
+
+JOB = "sh"
+# The error of a task that was submitted and is not begun: it counts as if it weren't there.
+WITHDRAWN = "withdrawn"
+ENDED, FRESH = ("success", "error"), ("held", "ready")
+
+
+@dataclass(frozen=True)
+class Scope:
+    number: int
+    name: str
+    parent: int | None
+    kind: str
+    key: str | None
+    value: str | None
+    deadline: int | None
+    done: bool
+    cause: str | None
+
+
+@dataclass(frozen=True)
+class Group:
+    number: int
+    name: str
+    scope: int
+    limit: int | None
+    waited: bool
+
+
+@dataclass(frozen=True)
+class Task:
+    number: int
+    group: str
+    job: str
+    key: str
+    phase: str
+    error: str | None
+    retry_of: int | None
+
+    @property
+    def name(self) -> Name:
+        return base_of(self.group), self.key
+
+    @property
+    def is_withdrawn(self) -> bool:
+        return self.phase == "error" and self.error == WITHDRAWN
+
+    def end(self) -> str:
+        """How it ended, as the log says it; empty where it hasn't."""
+        if self.phase in ENDED:
+            return self.error or "ok"
+        return "interrupted" if self.phase == "interrupted" else ""
+
+
+@dataclass(frozen=True)
+class State:
+    count: int
+    clock: int
+    room: dict[str, int]
+    scopes: tuple[Scope, ...]
+    groups: tuple[Group, ...]
+    tasks: tuple[Task, ...]
+
+    def reopened(self) -> State:
+        """The state that an opening makes of it: what ran is interrupted."""
+        tasks = tuple(replace(it, phase="interrupted", error=None) if it.phase == "running" else it
+                      for it in self.tasks)
+        return replace(self, count=self.count + 1, tasks=tasks)
+
+    def line(self, number: int | None) -> Iterator[Scope]:
+        """A scope and those above it, from it up to root."""
+        while number is not None:
+            scope = self.scopes[number]
+            yield scope
+            number = scope.parent
+
+    def night_of(self, number: int) -> int:
+        """The night that a scope is of."""
+        for it in self.line(number):
+            if it.kind == "value" and it.key == OF_ALL and (it.value or "").isdecimal():
+                return int(it.value or "")
+        return 1
+
+    @functools.cached_property
+    def by_name(self) -> dict[str, Scope]:
+        return {it.name: it for it in self.scopes}
+
+    def said(self, name: str) -> str | None:
+        """The words of the deadline that a scope has of its own."""
+        said = self.by_name.get(f"{name}--said")
+        return said.value if said else None
+
+    def has_own_deadline(self, number: int) -> bool:
+        parent = self.scopes[number].parent
+        return parent is not None and self.scopes[parent].kind == "deadline"
+
+    def night(self) -> int:
+        """The last night that there is."""
+        return max(self.night_of(it.number) for it in self.scopes)
+
+    def tops(self, least: int, most: int) -> list[Scope]:
+        """The scopes of all groups together, of these nights."""
+        nights = {it.parent: self.night_of(it.number) for it in self.scopes
+                  if it.kind == "value" and it.key == OF_ALL}
+        return [it for it in self.scopes if base_of(it.name) == OF_ALL and it.kind == "cause"
+                and least <= nights.get(it.number, 1) <= most]
+
+    def rounds(self) -> Iterator[tuple[str, int]]:
+        """Each group of the file that a scope or a group is of, and which round of it that is."""
+        for scope in self.scopes[1:]:
+            yield base_of(scope.name), round_of(scope.name)
+        for group in self.groups:
+            yield base_of(group.name), round_of(group.name)
+
+    def is_nearly_full(self) -> bool:
+        """Whether less than a quarter of its scopes, groups or tasks is free."""
+        have = {"scopes": len(self.scopes), "groups": len(self.groups), "tasks": len(self.tasks)}
+        return any(4 * have[what] > 3 * most for what, most in self.room.items())
+
+
+def read_state(text: str, program: str) -> State:
+    """The rows of what was printed; a Fault where it isn't a state."""
+    try:
+        shown = json.loads(text)
+        groups = tuple(picked(Group, it) for it in shown["groups"])
+        names = [it.name for it in groups]
+        tasks = tuple(
+            Task(it["number"], names[it["group"]], it["job"], it["argument"], it["phase"],
+                 it["error"], it["retry_of"]) for it in shown["tasks"])
+        return State(shown["count"], shown["clock"], dict(shown["room"]),
+                     tuple(picked(Scope, it) for it in shown["scopes"]), groups, tasks)
+    except (ValueError, KeyError, TypeError, IndexError) as error:
+        raise Fault(f"`{program} inspect --json` printed no state of a store; is it the program"
+                    f" night, of version 0.2.0 or later? ({type(error).__name__})") from None
+
+
+def picked(kind: Any, row: dict[str, Any]) -> Any:
+    """A row of this dataclass, of the fields of its names."""
+    return kind(**{name: row[name] for name in kind.__dataclass_fields__})

@@ -1,0 +1,100 @@
+"""What is printed at the end: what didn't end well, and how many commands did."""
+
+from __future__ import annotations
+
+import collections
+import os
+import subprocess
+from collections.abc import Mapping
+
+from . import Name, rows
+from .commands import SHELL
+from .files import Files
+from .jobs import Jobs
+from .log import Line, Tried, text_of_line
+from .plan import CANCELLED, FAILED, NEVER, OK
+from .telling import tell
+
+# The counts of the last line, in order.
+KINDS = ("ok", "failed", "canceled", "not begun", "left")
+
+
+def kind_of(phase: str) -> str:
+    return phase if phase in (OK, FAILED, CANCELLED, NEVER) else "left"
+
+
+def said(row: rows.Row) -> str:
+    """How a command stands, in a line."""
+    if row.phase == NEVER:
+        return f"{NEVER}: {row.end}"
+    return row.end or row.phase
+
+
+def list_lines(report: rows.Report) -> list[str]:
+    return [f"{it.group} {it.key}: {said(it)}" for it in report.rows if it.phase != OK]
+
+
+def failures(report: rows.Report) -> list[str]:
+    """A line for each command that didn't end well, and the last ones that it printed."""
+    lines = []
+    for it in report.rows:
+        if it.phase == OK:
+            continue
+        is_shown = it.output and it.phase in (FAILED, CANCELLED)
+        lines.append(f"{it.group} {it.key}: {said(it)}" + (f"; {it.output}" if is_shown else ""))
+        lines += [f"    {printable(line)}" for line in (it.tail if is_shown else ())]
+    return lines
+
+
+def printable(line: str) -> str:
+    """A line without what moves a terminal's cursor or changes its colors."""
+    return "".join(it if it.isprintable() or it == "\t" else "?" for it in line)
+
+
+def changed(jobs: Jobs, report: rows.Report, lines: Mapping[Tried, Line]) -> list[str]:
+    """The commands whose text is another one than that which ended ok."""
+    had = {(group.partition("--")[0], key): line.command
+           for (group, key, _), line in lines.items() if line.end == "ok" and line.command != "-"}
+    return [f"{it.group} {it.key}: its command has changed since it ended; --again runs it"
+            for it in report.rows if it.phase == OK
+            and had.get((it.group, it.key), None) not in (None, text_of_line(it.command))]
+
+
+def total(report: rows.Report, ran_now: int) -> str:
+    found = collections.Counter(kind_of(it.phase) for it in report.rows)
+    told = ", ".join(f"{found[it]} {it}" for it in KINDS if found[it])
+    return f"{len(report.rows)} commands: {told or 'none'}; {ran_now} run now"
+
+
+def nothing_to_do(report: rows.Report, when: str) -> str:
+    found = collections.Counter(kind_of(it.phase) for it in report.rows)
+    ended = sum(count for kind, count in found.items() if kind != "left")
+    bad = [f"{found[it]} {it}" for it in KINDS[1:] if found[it]]
+    failed = f"; --failed runs those again that are not ok ({', '.join(bad)})" if bad else ""
+    moment = f" ({when})" if when else ""
+    return f"nothing to do: {ended} ended before{moment}; --again runs them anew{failed}"
+
+
+def is_well(report: rows.Report) -> bool:
+    return all(it.phase == OK for it in report.rows)
+
+
+def failed_count(report: rows.Report) -> int:
+    return sum(it.phase in (FAILED, CANCELLED, NEVER) for it in report.rows)
+
+
+def alarm(command: str, files: Files, count: int, text: str) -> None:
+    """Runs the command of --on-failure, with what was printed on its input."""
+    try:
+        subprocess.run([SHELL, "-c", command], input=text.encode("utf-8", "surrogateescape"),
+                       env={**os.environ, "NIGHT_STORE": files.path, "NIGHT_FAILED": str(count)},
+                       check=True)
+    except subprocess.CalledProcessError as error:
+        tell(f"--on-failure: it ended with status {error.returncode}")
+    except OSError as error:
+        tell(f"--on-failure: {error.strerror}")
+
+
+def names_not_there(jobs: Jobs, left: set[Name]) -> list[Name]:
+    """Commands that are left in a store and not in the file."""
+    return sorted(it for it in left if it not in jobs.all)

@@ -1,0 +1,48 @@
+"""What is told on standard error. With `--quiet` notices are held back until something isn't well.
+"""
+
+from __future__ import annotations
+
+import contextlib
+import sys
+
+# Takes away the line of progress, which only a terminal gets.
+CLEAR = "\r\x1b[K" if sys.stderr is not None and sys.stderr.isatty() else ""
+
+_held: list[str] | None = None
+_once: set[str] = set()
+
+
+def hold_back() -> None:
+    """From now on notices are kept, for `let_go`."""
+    global _held
+    _held = []
+
+
+def let_go() -> None:
+    """Tells what was held back, and from now on all at once."""
+    global _held
+    lines, _held = _held or [], None
+    for it in lines:
+        tell(it)
+
+
+def tell(text: object) -> None:
+    # (a standard error that is closed or full ends no night)
+    with contextlib.suppress(OSError, ValueError):
+        print(f"{CLEAR}night-run: {text}", file=sys.stderr, flush=True)
+
+
+def note(text: str) -> None:
+    """Tells what is no fault."""
+    if _held is None:
+        tell(text)
+    else:
+        _held.append(text)
+
+
+def note_once(text: str) -> None:
+    """Tells it the first time alone."""
+    if text not in _once:
+        _once.add(text)
+        note(text)

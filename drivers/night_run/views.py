@@ -1,0 +1,135 @@
+"""A night as rows, for a list and a report: nothing is written, locked or begun."""
+
+from __future__ import annotations
+
+import os
+import time
+from collections.abc import Mapping
+from dataclasses import dataclass
+
+from . import Name, base_of, rows
+from .facts import Book, Facts, book_of, facts_of, numbered
+from .files import Files
+from .jobs import Jobs
+from .leftovers import running_now
+from .log import Line, Tried, read_log
+from .opening import check, inspected
+from .past import Past, read_past
+from .plan import RUNNING, Standing, standings
+from .settings import OF_ALL
+from .state import State
+
+# So many last lines of an output are shown, of so many last bytes.
+LINES, BYTES = 3, 4096
+EMPTY = State(0, 0, {}, (), (), ())
+
+
+@dataclass(frozen=True)
+class View:
+    """What is so at one moment."""
+
+    state: State
+    past: Past
+    lines: Mapping[Tried, Line]
+    book: Book
+    facts: Facts
+    standings: Mapping[Name, Standing]
+
+
+def look(files: Files, jobs: Jobs) -> View:
+    """Reads a night. A store that isn't there has nothing."""
+    while True:
+        past = read_past(files.ended, files.shown)
+        state = inspected(files) if files.exists() else EMPTY
+        if read_past(files.ended, files.shown) == past:
+            break
+    check(files, state, past.events if files.exists() else 0)
+    lines = read_log(files.log, files.shown)
+    night = max(state.night() if state.scopes else 1, past.night)
+    book = book_of(state, past, night)
+    facts = facts_of(state, past, lines, book, time.time(), {})
+    facts.busy = running_in(files, state, book)
+    return View(state, past, lines, book, facts, standings(jobs, facts))
+
+
+def running_in(files: Files, state: State, book: Book) -> set[Name]:
+    """What runs: tasks that have a driver, and commands that a killed one left."""
+    found = {name for name in running_now(files)
+             if name not in book.last or book.last[name].phase in ("running", "interrupted")}
+    if files.holder():
+        found |= {name for name, task in book.last.items() if task.phase == "running"}
+    return found
+
+
+def report(files: Files, jobs: Jobs, view: View) -> rows.Report:
+    """A night as rows."""
+    tries = tries_of(view)
+    made = tuple(row(files, view, jobs.all[name].command, name, tries.get(name, []))
+                 for name in jobs.all)
+    moments = [it.began for one in made for it in one.tries if it.began is not None]
+    return rows.Report(files.shown, view.book.night, time.time(), min(moments, default=None),
+                       groups(jobs, view), made)
+
+
+def row(files: Files, view: View, command: str, name: Name,
+        tries: list[tuple[str, rows.Try]]) -> rows.Row:
+    standing = view.standings[name]
+    output = next((path for path in (files.output(group, name[1], it.number)
+                                     for group, it in reversed(tries)) if os.path.exists(path)), "")
+    return rows.Row(*name, command, standing.phase, standing.why, tuple(it for _, it in tries),
+                    files.shown_output(output), tail(output))
+
+
+def tries_of(view: View) -> dict[Name, list[tuple[str, rows.Try]]]:
+    """The tries of each command in this night, with the store's group of each."""
+    found: dict[Name, list[tuple[str, rows.Try]]] = {}
+    seen: set[Tried] = set()
+    ours = {it.name for it in view.state.groups
+            if view.state.night_of(it.scope) == view.book.night}
+    gone = set()
+    if view.past.night == view.book.night:
+        gone = {group for group, _, _ in view.past.ends} | set(view.past.had)
+    for tried, line in view.lines.items():
+        if tried[0] in gone or tried[0] in ours:
+            seen.add(tried)
+            add_try(found, tried, line.began_at(), line.took(), line.end)
+    for task, tried in numbered(view.state):
+        if task.group in ours and not task.is_withdrawn and tried not in seen:
+            is_running = task.phase == "running" and task.name in view.facts.busy
+            add_try(found, tried, None, None, "" if is_running else task.end() or "interrupted")
+    return found
+
+
+def add_try(found: dict[Name, list[tuple[str, rows.Try]]], tried: Tried, began: float | None,
+            took: float | None, end: str) -> None:
+    group, key, number = tried
+    found.setdefault((base_of(group), key), []).append((group, rows.Try(number, began, took, end)))
+
+
+def groups(jobs: Jobs, view: View) -> tuple[rows.Group, ...]:
+    """All groups together, and each group of the file."""
+    top, done = view.book.top, view.facts.done
+    of_all = rows.Group(OF_ALL, bool(top and top.done), top.cause or "" if top else "",
+                        top.deadline if top else None, None)
+    made = [of_all]
+    for name in jobs.members:
+        scope = view.book.scopes.get(name)
+        made.append(rows.Group(name, name in done, done.get(name, ""),
+                               scope.deadline if scope else None, jobs.limit(name)))
+    return tuple(made)
+
+
+def tail(output: str) -> tuple[str, ...]:
+    """The last lines of an output."""
+    try:
+        with open(output, "rb") as file:
+            file.seek(max(0, os.path.getsize(output) - BYTES))
+            text = file.read(BYTES)
+    except OSError:
+        return ()
+    lines = text.decode("utf-8", "surrogateescape").rstrip("\n").split("\n")
+    return tuple(it.rstrip("\r") for it in lines[-LINES:] if it.strip())
+
+
+def is_running(view: View, name: Name) -> bool:
+    return view.standings[name].phase == RUNNING
