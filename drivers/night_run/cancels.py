@@ -2,10 +2,15 @@
 
     BOOT PID START GROUP WHY
 
-each, where BOOT, PID and START are the process that waits for it. The driver takes a line away once
-its cancel is durable. A line counts while its process waits: one that an earlier driver left is
-passed over, so that it doesn't cancel another night. (An older driver's line is `GROUP WHY`, and
-counts while the driver runs that it was written to.)
+each, where BOOT, PID and START are the process that waits for it. Once its cancel is durable the
+driver puts an answer in the line's place, and the process that waits takes that away:
+
+    : BOOT PID START GROUP ANSWER
+
+ANSWER is how the group's scope is then, or `-` where there is no such group. A line counts while
+its process waits: one that an earlier driver left is passed over, so that it doesn't cancel another
+night. (An older driver's line is `GROUP WHY`, and counts while the driver runs that it was written
+to.)
 """
 
 from __future__ import annotations
@@ -14,7 +19,7 @@ import contextlib
 import fcntl
 import os
 import re
-from collections.abc import Iterator
+from collections.abc import Iterable, Iterator, Mapping
 from dataclasses import dataclass
 from typing import BinaryIO
 
@@ -24,6 +29,8 @@ from .processes import Process, lives, this_process
 from .telling import note_once
 
 LINE = re.compile(r"(?:(\S{36}|-) ([0-9]+) ([0-9]+) )?([a-z0-9_-]{1,32}) ([ -~]{1,64})")
+ANSWER = re.compile(r": (\S{36}|-) ([0-9]+) ([0-9]+) ([a-z0-9_-]{1,32}) (.+)")
+NO_GROUP = "-"
 
 
 @dataclass(frozen=True)
@@ -44,6 +51,15 @@ def read_requests(text: str) -> list[Request]:
     return found
 
 
+def read_answers(text: str) -> dict[Process, str]:
+    """The answers that wait for a process which is still there."""
+    found = {}
+    for it in map(ANSWER.fullmatch, text.split("\n")):
+        if it and lives(process := Process(it[1], int(it[2]), int(it[3]))):
+            found[process] = f"{it[4]} {it[5]}"
+    return found
+
+
 @contextlib.contextmanager
 def opened(path: str) -> Iterator[BinaryIO]:
     """The file, for this process alone."""
@@ -57,77 +73,106 @@ def text_in(file: BinaryIO) -> str:
     return file.read().decode("ascii", "replace")
 
 
-def is_asked(files: Files) -> bool:
-    try:
-        return os.stat(files.cancel).st_size > 0
-    except OSError:
-        return False
-
-
-def pass_over(files: Files) -> None:
-    """Takes away what nobody waits for any more."""
-    if not is_asked(files):
-        return
-    try:
-        with opened(files.cancel) as file:
-            its = read_requests(text_in(file))
-            kept = [it for it in its if it.process and lives(it.process)]
-            rewrite(file, [it.line for it in kept])
-    except OSError as error:
-        note_once(f"{files.shown}.cancel: {error.strerror}; no cancel is taken")
-        return
-    for it in its:
-        if it not in kept:
-            note_once(f"a cancel of {it.group} is passed over: who asked for it has gone")
-
-
-def requests(files: Files) -> list[Request]:
-    """What is asked for now. A file that can't be read is told once, and passed over."""
-    if not is_asked(files):
-        return []
-    try:
-        with opened(files.cancel) as file:
-            its = read_requests(text_in(file))
-            if not its:
-                rewrite(file, [])
-            return its
-    except OSError as error:
-        note_once(f"{files.shown}.cancel: {error.strerror}; no cancel is taken")
-        return []
-
-
-def answered(files: Files, done: list[Request]) -> None:
-    """Takes these away: they are durable."""
-    try:
-        with opened(files.cancel) as file:
-            left = [it.line for it in read_requests(text_in(file)) if it not in done]
-            rewrite(file, left)
-    except OSError as error:
-        note_once(f"{files.shown}.cancel: {error.strerror}")
-
-
-def rewrite(file: BinaryIO, lines: list[str]) -> None:
+def rewrite(file: BinaryIO, requests: Iterable[Request], answers: Mapping[Process, str]) -> None:
+    """Writes these lines, and no others."""
+    lines = [f"{it.line}\n" for it in requests]
+    lines += [f": {it.boot} {it.pid} {it.start} {answer}\n" for it, answer in answers.items()]
     file.seek(0)
     file.truncate(0)
-    file.write("".join(f"{it}\n" for it in lines).encode("ascii", "replace"))
+    file.write("".join(lines).encode("ascii", "replace"))
     file.flush()
 
+
+# --- the driver
+
+class Desk:
+    """The driver's side of the file. One that can't be read or written is told once."""
+
+    def __init__(self, files: Files) -> None:
+        self.files = files
+
+    def failed(self, error: OSError) -> None:
+        note_once(f"{self.files.shown}.cancel: {error.strerror}; no cancel is taken")
+
+    def is_asked(self) -> bool:
+        """Whether something is in the file. It is looked at often."""
+        try:
+            return os.stat(self.files.cancel).st_size > 0
+        except OSError:
+            return False
+
+    def pass_over(self) -> None:
+        """Takes away what nobody waits for any more."""
+        if not self.is_asked():
+            return
+        try:
+            with opened(self.files.cancel) as file:
+                its = read_requests(text_in(file))
+                kept = [it for it in its if it.process and lives(it.process)]
+                rewrite(file, kept, {})
+        except OSError as error:
+            self.failed(error)
+            return
+        for it in its:
+            if it not in kept:
+                note_once(f"a cancel of {it.group} is passed over: who asked for it has gone")
+
+    def requests(self) -> list[Request]:
+        """What is asked for now."""
+        if not self.is_asked():
+            return []
+        try:
+            with opened(self.files.cancel) as file:
+                text = text_in(file)
+                its, answers = read_requests(text), read_answers(text)
+                if not its:
+                    rewrite(file, [], answers)
+                return its
+        except OSError as error:
+            self.failed(error)
+            return []
+
+    def answer(self, done: Mapping[Request, str]) -> None:
+        """Puts answers in the place of requests, which are durable."""
+        try:
+            with opened(self.files.cancel) as file:
+                text = text_in(file)
+                left = [it for it in read_requests(text) if it not in done]
+                answers = read_answers(text)
+                answers.update({it.process: f"{it.group} {answer}"
+                                for it, answer in done.items() if it.process})
+                rewrite(file, left, answers)
+        except OSError as error:
+            self.failed(error)
+
+
+# --- who asks
 
 def ask(files: Files, group: str, why: str) -> Request:
     """Writes a request of this process."""
     it = this_process()
-    line = f"{it.boot} {it.pid} {it.start} {group} {why}"
+    made = Request(f"{it.boot} {it.pid} {it.start} {group} {why}", it, group, why)
     with opened(files.cancel) as file:
-        lines = [it.line for it in read_requests(text_in(file))]
-        rewrite(file, [*lines, line])
-    return Request(line, it, group, why)
+        text = text_in(file)
+        rewrite(file, [*read_requests(text), made], read_answers(text))
+    return made
 
 
-def is_open(files: Files, request: Request) -> bool:
-    """Whether a request stands there still."""
+def answered(files: Files, request: Request) -> str:
+    """The answer to a request, which is taken away with it; or an empty text."""
+    assert request.process
     with opened(files.cancel) as file:
-        return request in read_requests(text_in(file))
+        answer = read_answers(text_in(file)).get(request.process, "")
+    if answer:
+        withdraw(files, request)
+    return answer.partition(" ")[2]
 
 
 def withdraw(files: Files, request: Request) -> None:
-    answered(files, [request])
+    """Takes away a request, and what was answered."""
+    with opened(files.cancel) as file:
+        text = text_in(file)
+        answers = read_answers(text)
+        if request.process:
+            answers.pop(request.process, None)
+        rewrite(file, [it for it in read_requests(text) if it != request], answers)

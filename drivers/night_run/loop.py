@@ -35,7 +35,8 @@ import sys
 import time
 from collections.abc import Callable, Iterator
 
-from . import Fault, Name, base_of, cancels
+from . import Fault, Name, base_of
+from .cancels import NO_GROUP, Desk, Request
 from .commands import Command, NotNow, text_of
 from .facts import CANCELED, PASSED, Book, Facts, book_of, facts_of, numbered
 from .files import Files
@@ -94,6 +95,7 @@ class Driver:
                  left: list[Leftover], most: int, grace: float) -> None:
         self.files, self.jobs, self.log, self.past, self.pids = files, jobs, log, past, pids
         self.left, self.most, self.grace = left, most, grace
+        self.desk = Desk(files)
         self.night = 1
         self.begins_night = False
         self.forgiven: dict[Name, int] = {}  # of each command failures that don't count
@@ -317,8 +319,8 @@ class Driver:
         begun = self.add_begins(batch)
         if batch.lines:
             batch.send(self.session)
-            if asked:
-                cancels.answered(self.files, asked)
+        if asked:
+            self.desk.answer(asked)
         for it in begun:
             self.begin(it)
         self.stop_those_due()
@@ -370,19 +372,24 @@ class Driver:
         self.facts.interrupted.add(command.name)
         tell(f"{command.name[0]} {command.name[1]}: interrupted")
 
-    def add_cancels(self, batch: Batch) -> list[cancels.Request]:
-        """The cancels that are asked for. A group that isn't there has none."""
-        asked = cancels.requests(self.files)
-        for it in asked:
+    def add_cancels(self, batch: Batch) -> dict[Request, str]:
+        """The cancels that are asked for, and the answers to them, once all is acked."""
+        answers: dict[Request, str] = {}
+        for it in self.desk.requests():
+            answers[it] = NO_GROUP
             groups = list(self.book.scopes) if it.group == OF_ALL else [it.group]
-            tops = [self.book.top] if it.group == OF_ALL and self.book.top else []
             scopes = [self.book.scopes[group] for group in groups if group in self.book.scopes]
-            for scope in [*tops, *scopes]:
-                batch.add(f"cancel {scope.name} {it.why}")
             for scope in scopes:
                 self.facts.cancel(base_of(scope.name), it.why)
+            if it.group == OF_ALL and self.book.top:
+                scopes.insert(0, self.book.top)
+            for scope in scopes:
+                batch.add(f"cancel {scope.name} {it.why}")
+            for scope in scopes[:1]:
+                batch.add(f"scope {scope.name}",
+                          lambda reply, its=it: answers.__setitem__(its, reply))
             self.is_stale = True
-        return asked
+        return answers
 
     def add_clock(self, batch: Batch, is_busy: bool) -> None:
         """Moves the clock: with other lines, where a deadline passes, and once in a while."""

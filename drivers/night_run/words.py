@@ -17,16 +17,16 @@ import time
 
 from . import VERSION, Fault, Mistake, Name, base_of, cancels, rows, telling
 from .commands import text_of
-from .facts import book_of, facts_of, when_ended
+from .facts import Book, Facts, book_of, facts_of, when_ended
 from .files import Files
 from .jobs import Jobs
 from .leftovers import end_night, left_commands, open_pids
 from .log import Log
 from .loop import Driver
 from .night import ALREADY_DONE, NightEnded, Session, program
-from .opening import advance, check, inspected, now_of, ready_state
+from .opening import advance, check, inspected, now_of
 from .past import Past, read_past
-from .plan import CANCELLED, FAILED, OK, may_begin, standings
+from .plan import CANCELLED, FAILED, may_begin, standings
 from .renewal import make, make_anew, renew
 from .settings import OF_ALL
 from .state import State
@@ -231,29 +231,31 @@ def cancel(files: Files, group: str, *words: str) -> int:
     why = " ".join(words) or "canceled by hand"
     if text_of(why) != why:
         raise Mistake("WHY is 1 to 64 bytes of printable ASCII")
-    scope = scope_of(files, inspected(files), group)
-    request: cancels.Request | None = None
-    end = time.monotonic() + CANCEL_SECONDS
-    while time.monotonic() < end:
-        if files.take(patience=0):
-            cancel_alone(files, group, why)
-            files.release()
-            break
-        if request is None:
-            request = cancels.ask(files, base_of(group), why)
-        elif not cancels.is_open(files, request):
-            request = None
-            break
-        time.sleep(0.05)
-    else:
-        if request:
-            cancels.withdraw(files, request)
-        raise Fault(f"the driver hasn't taken {files.shown}.cancel in {CANCEL_SECONDS:.0f} s:"
-                    f" {group} is not cancelled")
-    if request:
-        cancels.withdraw(files, request)
-    printed([f"{group}: {look_of(inspected(files), scope)}"])
+    printed([f"{group}: {cancelled(files, group, why)}"])
     return 0
+
+
+def cancelled(files: Files, group: str, why: str) -> str:
+    """How the scope of a group is, once it is cancelled."""
+    if files.take(patience=0):
+        return cancel_alone(files, group, why)
+    request = cancels.ask(files, base_of(group), why)
+    end = time.monotonic() + CANCEL_SECONDS
+    try:
+        while time.monotonic() < end:
+            answer = cancels.answered(files, request)
+            if answer == cancels.NO_GROUP:
+                raise Mistake(f"{files.shown} has no group {group}")
+            if answer:
+                return answer
+            if files.take(patience=0):
+                # (its driver has ended)
+                return cancel_alone(files, group, why)
+            time.sleep(0.05)
+    finally:
+        cancels.withdraw(files, request)
+    raise Fault(f"the driver hasn't taken {files.shown}.cancel in {CANCEL_SECONDS:.0f} s:"
+                f" {group} is not cancelled")
 
 
 def scope_of(files: Files, state: State, group: str) -> str:
@@ -265,28 +267,19 @@ def scope_of(files: Files, state: State, group: str) -> str:
     return scope.name
 
 
-def look_of(state: State, name: str) -> str:
-    """How a scope is, as `night inspect` shows it."""
-    it = state.by_name.get(name)
-    if it is None:
-        return "it has gone"
-    deadline = "none" if it.deadline is None else it.deadline
-    if not it.done:
-        return f"live; deadline {deadline}"
-    reason = "context canceled" if it.reason is None else it.reason
-    return f"done; deadline {deadline}; err {reason}; cause {it.cause}"
-
-
-def cancel_alone(files: Files, group: str, why: str) -> None:
+def cancel_alone(files: Files, group: str, why: str) -> str:
     """Cancels a group where no driver runs."""
+    state = inspected(files)
+    scope = scope_of(files, state, group)
     wake, wakes = os.pipe()
     session = Session(files.path, wake, lambda: 1e9)
-    state = ready_state(session, files, None)
     advance(session, now_of(state))
-    session.ask([f"cancel {scope_of(files, state, group)} {why}", "flush"], may=[ALREADY_DONE])
+    _, look, _ = session.ask([f"cancel {scope} {why}", f"scope {scope}", "flush"],
+                             may=[ALREADY_DONE])
     session.close()
     os.close(wake)
     os.close(wakes)
+    return look
 
 
 # --- a night
@@ -332,7 +325,7 @@ class Run:
         if not self.files.exists():
             make(self.files)
             self.files.sign()
-        cancels.pass_over(self.files)
+        cancels.Desk(self.files).pass_over()
         self.past = read_past(self.files.ended, self.files.shown)
         state = inspected(self.files)
         check(self.files, state, self.past.events)
@@ -364,15 +357,17 @@ class Run:
                         driver.anew.add(name[0])
         self.tell_missing(facts.interrupted)
         has_work = not is_over or driver.begins_night or bool(
-            driver.forgiven or driver.left) or self.is_unsaid(state)
+            driver.forgiven or driver.left) or self.is_unsaid(book, facts)
         if has_work:
             driver.before = self.renewed(driver, state)
         return has_work
 
-    def is_unsaid(self, state: State) -> bool:
-        """Whether a deadline has passed that the store doesn't know of yet."""
-        return any(not it.done and it.deadline is not None and it.deadline <= time.time()
-                   for it in state.scopes)
+    def is_unsaid(self, book: Book, facts: Facts) -> bool:
+        """Whether a deadline has passed over something that is left, and the store has yet to be
+        told."""
+        return any(group in facts.done and not scope.done and any(
+            it not in facts.ends for it in self.jobs.members.get(group, ()))
+            for group, scope in book.scopes.items())
 
     def renewed(self, driver: Driver, state: State) -> State | None:
         """Renews a store that is nearly full, and makes another one where its clock is ahead. The
@@ -423,6 +418,3 @@ class Run:
             telling.let_go()
             printed(lines)
         return 0 if is_well(made) else 1
-
-
-__all__ = ["OK", "main"]
