@@ -57,6 +57,12 @@ class Book:
     last: dict[Name, Task] = field(default_factory=dict)
     retried: set[int] = field(default_factory=set)
 
+    def say(self, base: str, scope: Scope, own: str | None, of_all: str | None) -> None:
+        """Keeps which deadline a group is stopped by: at one moment that of all groups together
+        comes first."""
+        is_of_all = self.top is not None and self.top.deadline == scope.deadline
+        self.said[base] = (of_all if is_of_all else own) or PASSED
+
     def next_name(self, base: str) -> str:
         """A name for a new scope or group, which nothing had before."""
         number = self.rounds[base] = max(self.rounds.get(base, 0) + 1, self.round)
@@ -77,7 +83,9 @@ def book_of(state: State, past: Past, night: int) -> Book:
     for scope in state.scopes:
         if scope.number in below and scope.kind == "cause" and base_of(scope.name) != OF_ALL:
             book.scopes[base_of(scope.name)] = scope
-            book.said[base_of(scope.name)] = state.said(scope.name) or PASSED
+    top_said = state.said(book.top.name) if book.top else None
+    for base, scope in book.scopes.items():
+        book.say(base, scope, state.said(scope.name), top_said)
     last = {it.number: base for base, it in book.scopes.items()}
     for group in state.groups:
         book.limits[group.name] = group.limit

@@ -403,7 +403,7 @@ class Driver:
                 self.clock = now
                 batch.add(f"advance {now}")
         for group, scope in passed:
-            self.facts.cancel(group, PASSED)
+            self.facts.cancel(group, self.book.said.get(group, PASSED))
             self.is_stale = True
             batch.add(f"scope {scope.name}", lambda reply, its=group: self.passed(its, reply))
 
@@ -578,13 +578,18 @@ class Driver:
     # --- the end of it by a fault
 
     def cut_off(self) -> None:
-        """Stops what still runs as the driver ends by a fault."""
-        self.asked_to_end = max(self.asked_to_end, 2)
-        while its := [it for it in self.commands.values() if it.has_begun]:
-            for it in its:
-                if it.poll(self.grace):
-                    del self.commands[it.name]
-                    tell(f"{it.name[0]} {it.name[1]}: interrupted")
+        """Stops what still runs as the driver ends by a fault; what an earlier one left, only where
+        a signal asks for that."""
+        is_asked, self.asked_to_end = self.asked_to_end > 1, max(self.asked_to_end, 2)
+        self.left = self.left if is_asked else []
+        while True:
+            for it in [it for it in self.commands.values() if it.poll(self.grace)]:
+                del self.commands[it.name]
+                tell(f"{it.name[0]} {it.name[1]}: interrupted")
+            self.commands = {name: it for name, it in self.commands.items() if it.has_begun}
+            self.left = [it for it in self.left if it.is_there()]
+            if not self.commands and not self.left:
+                return
             self.press()
             time.sleep(LINGER)
 

@@ -109,7 +109,10 @@ class Maker:
     def group(self, base: str) -> None:
         """Makes the scope of a group."""
         name = self.book.next_name(base)
-        self.book.scopes[base] = self.scope(name, self.below(), base)
+        scope = self.book.scopes[base] = self.scope(name, self.below(), base)
+        own, of_all = (str(its.deadline) if its and its.deadline else None for its in (
+            self.jobs.groups.get(base), self.jobs.groups[OF_ALL]))
+        self.book.say(base, scope, own, of_all)
         self.book.gone.pop(base, None)
         self.book.groups.pop(base, None)
 

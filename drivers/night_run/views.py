@@ -15,7 +15,8 @@ from .leftovers import running_now
 from .log import Line, Tried, read_log
 from .opening import check, inspected
 from .past import Past, read_past
-from .plan import RUNNING, Standing, standings
+from .plan import Standing, standings
+from .processes import this_process
 from .settings import OF_ALL
 from .state import State
 
@@ -56,7 +57,8 @@ def running_in(files: Files, state: State, book: Book) -> set[Name]:
     """What runs: tasks that have a driver, and commands that a killed one left."""
     found = {name for name in running_now(files)
              if name not in book.last or book.last[name].phase in ("running", "interrupted")}
-    if files.holder():
+    holder = files.holder()
+    if holder and holder != this_process():
         found |= {name for name, task in book.last.items() if task.phase == "running"}
     return found
 
@@ -129,7 +131,3 @@ def tail(output: str) -> tuple[str, ...]:
         return ()
     lines = text.decode("utf-8", "surrogateescape").rstrip("\n").split("\n")
     return tuple(it.rstrip("\r") for it in lines[-LINES:] if it.strip())
-
-
-def is_running(view: View, name: Name) -> bool:
-    return view.standings[name].phase == RUNNING

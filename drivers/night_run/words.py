@@ -12,7 +12,6 @@ import errno
 import json
 import os
 import re
-import sys
 import time
 
 from . import VERSION, Fault, Mistake, Name, base_of, cancels, rows, telling
@@ -130,20 +129,16 @@ def main() -> int:
     keep_streams_open()
     words = read_words()
     try:
-        status = done(words)
-        sys.stdout.flush()
-        return status
+        return done(words)
     except Mistake as mistake:
         tell(mistake)
         return 2
     except (Fault, NightEnded) as fault:
         tell(fault)
-    except BrokenPipeError:
-        tell("standard output: it is closed")
-        drop_output()
+    except NotPrinted as error:
+        tell(f"standard output: {error}")
     except OSError as error:
-        tell(f"{error.filename or 'standard output'}: {error.strerror}")
-        drop_output()
+        tell(f"{error.filename}: {error.strerror}" if error.filename else error.strerror)
     except KeyboardInterrupt:
         tell("ended before it began")
     return 3
@@ -159,18 +154,18 @@ def keep_streams_open() -> None:
         os.set_inheritable(file, True)
 
 
-def drop_output() -> None:
-    """Lets nothing be written any more as the interpreter ends."""
-    null = os.open(os.devnull, os.O_WRONLY)
-    os.dup2(null, 1)
+class NotPrinted(Exception):
+    """Standard output takes nothing more."""
 
 
 def printed(lines: list[str]) -> None:
     """Prints lines, whatever bytes a command or an output had."""
     text = "".join(f"{it}\n" for it in lines).encode("utf-8", "surrogateescape")
-    sys.stdout.flush()
-    while text:
-        text = text[os.write(1, text):]
+    try:
+        while text:
+            text = text[os.write(1, text):]
+    except OSError as error:
+        raise NotPrinted(error.strerror) from None
 
 
 def done(words: argparse.Namespace) -> int:
