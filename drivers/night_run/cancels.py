@@ -26,6 +26,7 @@ from typing import BinaryIO
 from . import base_of
 from .files import Files
 from .processes import Process, lives, this_process
+from .regular import open_regular
 from .telling import note_once
 
 LINE = re.compile(r"(?:(\S{36}|-) ([0-9]+) ([0-9]+) )?([a-z0-9_-]{1,32}) ([ -~]{1,64})")
@@ -63,7 +64,7 @@ def read_answers(text: str) -> dict[Process, str]:
 @contextlib.contextmanager
 def opened(path: str) -> Iterator[BinaryIO]:
     """The file, for this process alone."""
-    with open(os.open(path, os.O_RDWR | os.O_CREAT, 0o666), "r+b") as file:
+    with open(open_regular(path, os.O_RDWR | os.O_CREAT), "r+b") as file:
         fcntl.flock(file, fcntl.LOCK_EX)
         yield file
 

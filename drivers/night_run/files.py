@@ -22,6 +22,7 @@ import time
 
 from . import Fault, Mistake
 from .processes import Process, lives, this_process
+from .regular import open_regular, read_regular
 from .telling import note
 
 # Those of a small and of a large store.
@@ -80,9 +81,8 @@ class Files:
     # --- STORE.lock
 
     def said(self) -> str:
-        with contextlib.suppress(OSError), open(self.lock, encoding="ascii",
-                                                errors="replace") as file:
-            return file.read(4096)
+        with contextlib.suppress(OSError):
+            return read_regular(self.lock).decode("ascii", "replace")
         return ""
 
     def size(self) -> int:
@@ -98,7 +98,7 @@ class Files:
 
     def take(self, patience: float = PATIENCE) -> bool:
         """Takes the store for this driver; False where another one has it."""
-        self.own = os.open(self.lock, os.O_RDWR | os.O_CREAT, 0o666)
+        self.own = open_regular(self.lock, os.O_RDWR | os.O_CREAT)
         end = time.monotonic() + patience
         while not try_lock(self.own):
             if time.monotonic() >= end:

@@ -22,6 +22,7 @@ from .commands import Running
 from .files import Files, try_lock
 from .jobs import Jobs
 from .processes import Process, boot, group_exists, lives, members, stat_of
+from .regular import open_regular, read_regular
 from .settings import OF_ALL
 from .telling import note
 
@@ -55,7 +56,7 @@ class Leftover(Running):
 
 def open_pids(files: Files) -> int:
     """The file of processes, once no command is about to write into it."""
-    file = os.open(files.pids, os.O_RDWR | os.O_CREAT | os.O_APPEND, 0o666)
+    file = open_regular(files.pids, os.O_RDWR | os.O_CREAT | os.O_APPEND)
     end = time.monotonic() + PATIENCE
     while not try_lock(file):
         if time.monotonic() >= end:
@@ -99,8 +100,8 @@ def written(text: str, files: Files, jobs: Jobs) -> Iterator[Leftover]:
 
 def running_now(files: Files) -> set[tuple[str, str]]:
     """The commands that run at this moment, by the file of processes; nothing is locked."""
-    with contextlib.suppress(OSError), open(files.pids, "rb") as file:
-        text = file.read().decode("ascii", "replace")
+    with contextlib.suppress(OSError):
+        text = read_regular(files.pids).decode("ascii", "replace")
         its = [(base_of(it[1]), it[2], Process(it[4], int(it[5]), int(it[6])))
                for it in map(LINE.fullmatch, text.splitlines()) if it and it[1] != OF_ALL]
         return {(group, key) for group, key, process in its if lives(process)}

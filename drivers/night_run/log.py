@@ -17,6 +17,7 @@ import time
 from collections.abc import Iterator
 from dataclasses import dataclass
 
+from .regular import open_regular, read_regular
 from .telling import note_once
 
 HEAD = "Try\tGroup\tKey\tBegan\tSeconds\tEnd\tCommand\n"
@@ -53,10 +54,10 @@ def read_log(path: str, shown: str) -> dict[Tried, Line]:
     """The lines of the log at this path, in their order; none where it can't be read."""
     found: dict[Tried, Line] = {}
     try:
-        with open(path, encoding="utf-8", errors="surrogateescape", newline="\n") as file:
-            for line in file:
-                if it := LINE.fullmatch(line.rstrip("\n")):
-                    found.setdefault((it[2], it[3], int(it[1])), Line(*it.groups()[3:]))
+        text = read_regular(path).decode("utf-8", "surrogateescape")
+        for line in text.split("\n"):
+            if it := LINE.fullmatch(line):
+                found.setdefault((it[2], it[3], int(it[1])), Line(*it.groups()[3:]))
     except FileNotFoundError:
         pass
     except OSError as error:
@@ -77,7 +78,7 @@ class Log:
         self.lines = read_log(path, shown)
         self.file = -1
         try:
-            self.file = os.open(path, os.O_RDWR | os.O_APPEND | os.O_CREAT, 0o666)
+            self.file = open_regular(path, os.O_RDWR | os.O_APPEND | os.O_CREAT)
             size = os.fstat(self.file).st_size
             is_cut = size and os.pread(self.file, 1, size - 1) != b"\n"
             self.write("\n" if is_cut else "" if size else HEAD)

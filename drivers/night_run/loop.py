@@ -652,7 +652,8 @@ class Driver:
         text = (f"{len(ends)} of {len(self.jobs.all)} done, {len(self.commands)} running,"
                 f" {failed} failed")
         with contextlib.suppress(OSError):
-            text = text[:max(1, os.get_terminal_size(sys.stderr.fileno()).columns - 1)]
+            columns = os.get_terminal_size(sys.stderr.fileno()).columns
+            text = text[:columns - 1] if columns > 1 else text
         if text != self.shown:
             self.shown = text
             with contextlib.suppress(OSError):

@@ -11,7 +11,7 @@ import time
 from collections.abc import Iterable
 from dataclasses import replace
 
-from . import Fault, named
+from . import Fault, base_of, named
 from .facts import Book
 from .files import Files
 from .jobs import Jobs
@@ -178,10 +178,14 @@ def advance(session: Session, now: int) -> None:
     session.ask([f"advance {now}"], may=[CLOCK_NOT_FORWARD])
 
 
-def give_back(session: Session, state: State, night: int) -> None:
-    """The lines behind which all groups go with a renewal, and the scopes of earlier nights."""
+def give_back(session: Session, state: State, night: int, needed: Iterable[str]) -> None:
+    """The lines behind which all groups go with a renewal, and the scopes of earlier nights, and of
+    groups that have nothing left to do; those that are needed are named."""
     withdraw(session, state)
     lines = [f"wait {it.name}" for it in state.groups if not it.waited]
-    for top in state.tops(1, night - 1):
-        lines += [f"cancel {it}" for it in (f"{top.name}--until", top.name) if it in state.by_name]
+    gone = [it.name for it in state.tops(1, night - 1)]
+    gone += [it.name for it in state.scopes if it.kind == "cause" and base_of(it.name) != OF_ALL
+             and base_of(it.name) not in needed and state.night_of(it.number) == night]
+    for name in gone:
+        lines += [f"cancel {it}" for it in (f"{name}--until", name) if it in state.by_name]
     session.ask([*lines, "flush"], may=[ALREADY_DONE])

@@ -22,6 +22,7 @@ from dataclasses import dataclass, field
 
 from . import Fault, base_of, round_of
 from .files import sync_folder
+from .regular import read_regular
 
 HEAD = re.compile(r"events ([0-9]{1,20})"
                   r"(?: night ([0-9]{1,9}) round ([0-9]{1,9}) lines ([0-9]{1,9}))?")
@@ -49,10 +50,11 @@ def read_past(path: str, shown: str) -> Past:
     """What the file of this path says. A line that is none of its own is a fault: nothing says
     then what had ended, and all would run again."""
     try:
-        with open(path, encoding="ascii", errors="replace") as file:
-            lines = file.read().split("\n")
+        lines = read_regular(path).decode("ascii", "replace").split("\n")
     except FileNotFoundError:
         return Past()
+    except OSError as error:
+        raise Fault(f"{shown}.ended: {error.strerror}") from None
     head = HEAD.fullmatch(lines[0])
     if not head or lines[-1] or int(head[4] or len(lines) - 2) != len(lines) - 2:
         raise Fault(f"{shown}.ended: it doesn't begin with `events N ..`, or is cut off")

@@ -10,16 +10,18 @@ the store, and groups that take no more tasks: the next run makes others.
 from __future__ import annotations
 
 import os
+import time
 from collections.abc import Callable, Mapping
 
 from . import Fault, Name, base_of, named
-from .facts import Book, book_of, numbered
+from .facts import Book, book_of, facts_of, numbered
 from .files import Files, sync_folder
 from .jobs import Jobs
 from .log import Log, line_of
 from .night import RENEWAL_SECONDS, NightEnded, Session, ran
 from .opening import advance, give_back, inspected, now_of, ready_state
 from .past import Past, write_past
+from .plan import standings
 from .state import ENDED, State
 from .telling import note, tell
 
@@ -33,7 +35,7 @@ def renew(files: Files, log: Log, past: Past, jobs: Jobs, wake: int,
         state = ready_state(session, files, state)
         advance(session, now_of(state))
         past = keep(files, log, past, jobs, state, state.count)
-        give_back(session, state, past.night)
+        give_back(session, state, past.night, needed(log, past, jobs, state))
         session.close()
         said = ran("renew", "--in-place", files.path, seconds=RENEWAL_SECONDS).rstrip("\n")
         note(f"{files.shown}: {said}")
@@ -41,6 +43,13 @@ def renew(files: Files, log: Log, past: Past, jobs: Jobs, wake: int,
     except (Fault, NightEnded, OSError) as fault:
         tell(f"{files.shown} is nearly full, and can't be renewed; it is used as it is: {fault}")
         return past, False
+
+
+def needed(log: Log, past: Past, jobs: Jobs, state: State) -> set[str]:
+    """The groups of the file in which something is left to do."""
+    book = book_of(state, past, past.night)
+    facts = facts_of(state, past, log.lines, book, time.time(), {})
+    return {group for (group, _), it in standings(jobs, facts).items() if not it.is_final}
 
 
 def keep(files: Files, log: Log, past: Past, jobs: Jobs, state: State, events: int) -> Past:

@@ -37,13 +37,13 @@ class View:
     standings: Mapping[Name, Standing]
 
 
-def look(files: Files, jobs: Jobs) -> View:
-    """Reads a night. A store that isn't there has nothing."""
-    while True:
-        past = read_past(files.ended, files.shown)
-        state = inspected(files) if files.exists() else EMPTY
-        if read_past(files.ended, files.shown) == past:
-            break
+def look(files: Files, jobs: Jobs, past: Past | None = None) -> View:
+    """Reads a night. A store that isn't there has nothing. A driver knows the ends of a renewed
+    store itself."""
+    if past is None:
+        past, state = moment(files)
+    else:
+        state = inspected(files)
     check(files, state, past.events if files.exists() else 0)
     lines = read_log(files.log, files.shown)
     night = max(state.night() if state.scopes else 1, past.night)
@@ -51,6 +51,15 @@ def look(files: Files, jobs: Jobs) -> View:
     facts = facts_of(state, past, lines, book, time.time(), {})
     facts.busy = running_in(files, state, book)
     return View(state, past, lines, book, facts, standings(jobs, facts))
+
+
+def moment(files: Files) -> tuple[Past, State]:
+    """What the store and the ends of a renewed one say at one moment."""
+    while True:
+        past = read_past(files.ended, files.shown)
+        state = inspected(files) if files.exists() else EMPTY
+        if read_past(files.ended, files.shown) == past:
+            return past, state
 
 
 def running_in(files: Files, state: State, book: Book) -> set[Name]:

@@ -387,14 +387,14 @@ class Run:
 
     def idle(self) -> int:
         """Nothing is left to do in this night."""
-        made, view = self.view()
+        made, view = self.view(self.past)
         when = when_ended(view.facts, view.lines, set(self.jobs.all))
         lines = [*failures(made), *changed(self.jobs, made, view.lines), nothing_to_do(made, when)]
         return self.printed(lines, made)
 
     def finish(self, driver: Driver) -> int:
         """Prints how the night stands, and runs what is to be run where something failed."""
-        made, view = self.view()
+        made, view = self.view(driver.past)
         lines = [*failures(made), *changed(self.jobs, made, view.lines),
                  total(made, len(driver.ran))]
         failed = failed_count(made)
@@ -403,8 +403,8 @@ class Run:
             alarm(self.words.on_failure, self.files, failed, "".join(f"{it}\n" for it in lines))
         return status
 
-    def view(self) -> tuple[rows.Report, View]:
-        view = look(self.files, self.jobs)
+    def view(self, past: Past) -> tuple[rows.Report, View]:
+        view = look(self.files, self.jobs, past)
         return report(self.files, self.jobs, view), view
 
     def printed(self, lines: list[str], made: rows.Report) -> int:

@@ -1,0 +1,576 @@
+"""Nights that are killed: at random moments, before a start or an end is durable, in a renewal."""
+
+from __future__ import annotations
+
+import collections
+import os
+import random
+import re
+import shutil
+import signal
+import time
+from collections.abc import Callable
+
+from by_hand import Store
+from driver_room import (Room, Shared, children, hit, job, kill, most_at_once, name_of, nights_in)
+from running import bytes_of
+
+Part = Callable[[Shared], None]
+Begun = dict[str, int]
+
+# Stands for `night`: passes lines on one by one, and does something once so many have started.
+BETWEEN = """#!/usr/bin/env python3
+import fcntl, os, signal, subprocess, sys
+night, what, at = {night!r}, {what!r}, {at}
+def exec_night():
+    os.execv(night, [night, *sys.argv[1:]])
+if sys.argv[1] != "script":
+    exec_night()
+if what == "page":
+    fcntl.fcntl(0, 1031, 4096), fcntl.fcntl(1, 1031, 4096)
+    exec_night()
+if os.path.exists("was_here"):
+    exec_night()
+it = subprocess.Popen([night, *sys.argv[1:]], stdin=subprocess.PIPE, stdout=subprocess.PIPE)
+def ask(line):
+    it.stdin.write(line), it.stdin.flush()
+    return it.stdout.readline()
+starts = 0
+for line in sys.stdin.buffer:
+    if (what == "cut" and starts >= at and line == b"flush\\n"
+            or what == "late" and starts >= at and line.startswith(b"finish ")):
+        open("was_here", "w").close()
+        it.kill(), it.wait(), os.kill(os.getppid(), signal.SIGKILL), os._exit(0)
+    reply = ask(line)
+    starts += reply.startswith(b"start ")
+    if what == "fill" and starts >= at and line == b"flush\\n":
+        open("was_here", "w").close()
+        now, last = 3_000_000_000, b"ok\\n"
+        while last == b"ok\\n":
+            it.stdin.write(b"".join(b"advance %d\\n" % one for one in range(now, now + 500)))
+            it.stdin.flush()
+            last = [it.stdout.readline() for _ in range(500)][-1]
+            now += 500
+        starts = -1000000
+    sys.stdout.buffer.write(reply), sys.stdout.buffer.flush()
+it.stdin.close()
+sys.stdout.buffer.write(it.stdout.read())
+"""
+
+# Stands for `night` as a store is renewed, and stops there what it can.
+RENEWING = """#!/usr/bin/env python3
+import os, signal, subprocess, sys
+night, what, at, words = {night!r}, {what!r}, {at}, sys.argv[1:]
+def die():
+    open("was_here", "w").close()
+    os.kill(os.getppid(), signal.SIGKILL), os._exit(0)
+if os.path.exists("was_here"):
+    what = ""
+if words[0] == "renew":
+    if what == "before":
+        die()
+    if what == "fails":
+        sys.exit("night: s: it fails")
+    status = subprocess.run([night, *words]).returncode
+    if what == "behind":
+        die()
+    sys.exit(status)
+if words[0] != "script" or what != "line":
+    os.execv(night, [night, *words])
+it = subprocess.Popen([night, *words], stdin=subprocess.PIPE, stdout=subprocess.PIPE)
+seen = 0
+for line in sys.stdin.buffer:
+    if seen or line.startswith(b"wait "):
+        if not os.path.exists("s.ended"):
+            open("too_soon", "w").close()
+        if seen == at:
+            it.kill(), it.wait(), die()
+        seen += 1
+    it.stdin.write(line), it.stdin.flush()
+    sys.stdout.buffer.write(it.stdout.readline()), sys.stdout.buffer.flush()
+if seen:
+    it.kill(), it.wait(), die()
+it.stdin.close()
+sys.stdout.buffer.write(it.stdout.read())
+"""
+
+
+def between(tries: Shared, jobs: list[str], what: str, at: int = 3) -> Room:
+    return Room(tries, jobs, BETWEEN.format(night=tries.program, what=what, at=at))
+
+
+# --- what is so after a kill, and at the end
+
+def looked(room: Room, kind: str, ended: Begun) -> None:
+    """What the store has after a kill; `ended` has how often each ended command had begun."""
+    tries, begun = room.tries, room.begun()
+    if not room.has("s"):
+        tries.holds(f"{kind}: no store, no command", begun, not begun)
+        return
+    tasks = room.tasks()
+    started = collections.Counter(name for name, phase in tasks.values()
+                                  if phase not in ("ready", "held"))
+    for name, count in begun.items():
+        tries.holds(f"{kind}: each start was recorded", name, count <= started[name],
+                    f"begun {count} times, started {started[name]} times")
+    for name, count in ended.items():
+        tries.holds(f"{kind}: nothing that ended runs again", name, begun[name] == count,
+                    f"begun {count} times, and then {begun[name]}")
+    for task, it in room.log().items():
+        tries.holds(f"{kind}: the log says no more than the store", task, it == tasks.get(task),
+                    f"{it}, and {tasks.get(task)}")
+    ended.update({name: begun[name] for name, phase in tasks.values()
+                  if phase == "success" or phase.startswith("error")})
+
+
+def whole(room: Room, kind: str, ended: Begun, failing: list[str]) -> None:
+    """Runs a night to its end, and looks at all of it."""
+    tries = room.tries
+    every = {name_of(it) for it in room.jobs if ":" not in it.split()[0]}
+    status, output = room.run()
+    looked(room, kind, ended)
+    tries.is_same(f"{kind}: every one ends", room.path, set(ended), every)
+    tries.is_same(f"{kind}: the status", output, status, 1 if failing else 0)
+    shown = [it.split(";")[0] for it in output.splitlines() if it.split(":")[0].replace(" ", ".")
+             in every]
+    tries.is_same(f"{kind}: what failed", room.path, shown,
+                  [f"{it.replace('.', ' ')}: exit 3" for it in failing])
+    missing = set(ended) - set(room.lines("done"))
+    tries.is_same(f"{kind}: each ran to its end", room.path, missing, set())
+    room.agrees(kind)
+    begun = room.begun()
+    status, output = room.last()
+    tries.holds(f"{kind}: run again", room.path, status == (1 if failing else 0)
+                and output.startswith(f"nothing to do: {len(every)} ended before"),
+                (status, output))
+    tries.is_same(f"{kind}: and nothing is begun", room.path, room.begun(), begun)
+
+
+# --- kills
+
+def kills(tries: Shared, dice: random.Random, rounds: int) -> None:
+    kind, at, hits = "killed at random", 0, collections.Counter[str]()
+    while at < rounds:
+        jobs = ["a: limit 3", "c: limit 1"]
+        jobs += [job(dice.choice("abbc"), f"k{it}", dice.choice((0, 0.02, 0.1)),
+                     "; exit 3" if it % 9 == 0 else "") for it in range(60)]
+        room, ended = Room(tries, jobs), dict[str, int]()
+        failing = [name_of(it) for it in jobs if it.endswith("exit 3")]
+        while at < rounds and len(ended) < 60:
+            run, who = room.start(), ""
+            while at < rounds and run.poll() is None and who in ("", "night"):
+                time.sleep(dice.uniform(0, 0.8))
+                who = dice.choice(("driver", "night", "both", "all"))
+                hit(run, who)
+                hits[who], at = hits[who] + 1, at + 1
+            if who == "night":
+                # (a driver that lost its `night` goes on)
+                time.sleep(dice.uniform(0, 0.3))
+                hit(run, "driver")
+            room.ended(run)
+            room.settle()
+            looked(room, kind, ended)
+        whole(room, kind, ended, failing)
+    print(f"{kind}: {dict(hits)}")
+
+
+def cuts(tries: Shared) -> None:
+    """`night` and the driver are killed as a start is in memory alone, or before a finish is
+    passed."""
+    for what, at in (("cut", 1), ("cut", 5), ("late", 1), ("late", 5)):
+        kind = f"cut before {'a start' if what == 'cut' else 'an end'} is durable"
+        room, ended = between(tries, [job("g", f"k{it}", 0.05) for it in range(7)], what, at), \
+            dict[str, int]()
+        tries.is_same(f"{kind}: it is killed", at, room.run(), (-signal.SIGKILL, ""))
+        room.settle()
+        if what == "cut":
+            tries.holds(f"{kind}: its command hasn't begun", at, len(room.lines("begun")) < at,
+                        room.lines("begun"))
+        looked(room, kind, ended)
+        whole(room, kind, ended, [])
+
+
+def night_is_killed(tries: Shared) -> None:
+    """`night` alone is killed while commands run: they run on, and each begins once."""
+    jobs = ["g: limit 2", *(job("g", f"k{it}", 0.6) for it in range(6)),
+            *(job("h", f"k{it}", 0.6) for it in range(6))]
+    kind = "night is killed"
+    room, ended = Room(tries, jobs), dict[str, int]()
+    run, killed, hits = room.start("s", "JOBS", "-j", "8"), set[int](), 0
+    for many in (2, 5, 9):
+        # (one that was killed is listed until its driver has seen it)
+        room.until(lambda many=many: len(room.lines("begun")) >= many
+                   and not killed.issuperset(nights_in(children(run.pid))))
+        nights = nights_in(children(run.pid))
+        kill(nights)
+        hits += not killed.issuperset(nights)
+        killed.update(nights)
+    tries.is_same(f"{kind}: its driver goes on", room.path, (*room.ended(run), hits),
+                  (0, "12 commands: 12 ok; 12 run now\n", 3))
+    told = "night-run: `night` ended with status -9; another one is begun\n"
+    tries.is_same(f"{kind}: told", room.path, room.errors, told * 3)
+    tries.is_same(f"{kind}: each began once", room.path, set(room.begun().values()), {1})
+    tries.is_same(f"{kind}: the limit holds", room.path, most_at_once(room, "g"), 2)
+    whole(room, kind, ended, [])
+
+
+def full_session(tries: Shared) -> None:
+    """A session whose log is full is followed by another one, without a word."""
+    jobs = ["g: limit 2", *(job("g", f"k{it}", 0.4) for it in range(6)),
+            *(job("h", f"k{it}", 0.4) for it in range(6))]
+    kind = "the session's log is full"
+    room, ended = between(tries, jobs, "fill"), dict[str, int]()
+    tries.is_same(f"{kind}: it goes on", room.path, room.run("s", "JOBS", "-j", "8"),
+                  (0, "12 commands: 12 ok; 12 run now\n"))
+    tries.is_same(f"{kind}: it was", room.path, (room.has("was_here"), room.errors), (True, ""))
+    tries.is_same(f"{kind}: each began once", room.path, set(room.begun().values()), {1})
+    tries.is_same(f"{kind}: the limit holds", room.path, most_at_once(room, "g"), 2)
+    looked(room, kind, ended)
+    tries.is_same(f"{kind}: all ended", room.path, len(ended), 12)
+
+
+def resumed(tries: Shared) -> None:
+    """Some forty commands, of which some fail and one is cancelled; all is killed in the middle."""
+    kind = "a night"
+    jobs = ["pack: limit 4", "sums: limit 4", "cut: within 6s"]
+    jobs += [job("pack", f"gz-{it}", 0.1) for it in range(19)] + ["pack none gzip -kf in/none"]
+    jobs += [job("sums", f"sha-{it}", 0.1) for it in range(18)] + ["sums none sha256sum in/none"]
+    jobs += ["long big echo long.big >> began; sleep 1000",
+             "cut off trap '' TERM; while :; do sleep 0.1; done"]
+    room, ended = Room(tries, jobs), dict[str, int]()
+    run = room.start("s", "JOBS", "-j", "6", "--grace", "1")
+    tries.holds(f"{kind}: eight end", room.path, room.until(lambda: len(room.lines("s.log")) > 8))
+    hit(run, "all")
+    room.ended(run)
+    room.settle()
+    looked(room, kind, ended)
+    listed = room.run("s", "JOBS", "--list")[1].splitlines()
+    tries.is_same(f"{kind}: what is left", room.path, len(listed), 41 - sum(
+        phase == "success" for _, phase in room.tasks().values()))
+    run = room.start("s", "JOBS", "-j", "6", "--grace", "1")
+    tries.holds(f"{kind}: the long one runs", room.path, room.until(lambda: room.lines("began")))
+    found = room.run("s", "--cancel", "long", "not", "tonight", errors="errors2")
+    tries.is_same(f"{kind}: it is cancelled", room.path, found, (
+        0, "long: done; deadline none; err context canceled; cause not tonight\n"))
+    status, output = room.ended(run)
+    looked(room, kind, ended)
+    shown = [it.split(";")[0] for it in output.splitlines() if not it.startswith(" ")]
+    tries.is_same(f"{kind}: its end", room.path, (status, shown), (1, [
+        "pack none: exit 1", "sums none: exit 1", "long big: canceled: not tonight",
+        "cut off: canceled: within 6s", "41 commands: 37 ok, 2 failed, 2 canceled"]))
+    room.agrees(kind)
+    tries.is_same(f"{kind}: each was done", room.path, set(room.lines("done")),
+                  {name_of(it) for it in jobs if "begun" in it})
+
+
+def left_behind(tries: Shared) -> None:
+    """Commands of a killed driver run on; the next one stops them as it would its own, and the
+    others don't wait for them."""
+    jobs = ["soon: within 9s", job("soon", "a", 60), "hard: within 9s",
+            "hard b echo hard.b >> begun; trap '' TERM; while :; do sleep 0.1; done",
+            job("late", "c", 60), job("free", "d", 6), job("more", "e")]
+    kind = "commands are left"
+    room = Room(tries, jobs)
+    run = room.start("s", "JOBS", "-j", "4")
+    tries.holds(f"{kind}: they run", room.path, room.until(lambda: len(room.lines("begun")) == 4))
+    hit(run, "both")
+    room.ended(run)
+    run = room.start("s", "JOBS", "-j", "5", "--grace", "1")
+    room.until(lambda: "more.e" in room.lines("done"))
+    tries.is_same(f"{kind}: another one doesn't wait", room.path, "free.d" in room.lines("done"),
+                  False)
+    cancelled = room.run("s", "--cancel", "late", "not", "now", errors="errors2")
+    tries.is_same(f"{kind}: one is cancelled", room.path, cancelled,
+                  (0, "late: done; deadline none; err context canceled; cause not now\n"))
+    status, output = room.ended(run, 60)
+    shown = [it.split("; s.out")[0] for it in output.splitlines() if not it.startswith(" ")]
+    tries.is_same(f"{kind}: its end", room.path, (status, shown), (1, [
+        "soon a: canceled: within 9s", "hard b: canceled: within 9s", "late c: canceled: not now",
+        "5 commands: 2 ok, 3 canceled; 2 run now"]))
+    tries.is_same(f"{kind}: told", room.path, len(re.findall(
+        r"^night-run: \S+ \S still runs from the last run: process \d+$", room.errors, re.M)), 4)
+    tries.is_same(f"{kind}: what was stopped isn't begun again", room.path, room.begun(),
+                  {"soon.a": 1, "hard.b": 1, "late.c": 1, "free.d": 2, "more.e": 1})
+
+
+def faults(tries: Shared) -> None:
+    room = Room(tries, [job("g", "a", 8), job("g", "b", 0)])
+    run = room.start("s", "JOBS", "-j", "1")
+    room.until(lambda: room.lines("begun"))
+    tries.is_same("a second driver", room.path,
+                  (room.run(errors="errors2"), room.text("errors2")),
+                  ((3, ""), "night-run: s: in use by another night-run\n"))
+    room.ended(run)
+    found = room.run("s", "--cancel", "g", "too", "late"), room.run("s", "--cancel", "h")
+    tries.is_same("a cancel without a driver", room.path, found, (
+        (0, "g: done; deadline none; err context canceled; cause too late\n"), (2, "")))
+    tries.is_same("a cancel of no group", room.path, room.errors, "night-run: s has no group h\n")
+
+    room = Room(tries, [job("g", "a"), job("g", "b")])
+    os.makedirs(f"{room.path}/s.out/g.a.0")
+    tries.is_same("a command that can't be started", room.path, room.run(), (
+        1, "g a: can't be started: Is a directory; s.out/g.a.0\n2 commands: 1 ok, 1 failed;"
+           " 2 run now\n"))
+    room.agrees("a command that can't be started")
+
+    room = Room(tries, ["g a true"])
+    refused = room.script(["group x root", "go x copy a", "start"])
+    tries.is_same("a store of other tasks: made", room.path, refused, "")
+    before = bytes_of(f"{room.path}/s")
+    tries.is_same("a store of other tasks", room.path, (room.run(), room.errors),
+                  ((3, ""), "night-run: s has a task of another kind: 0, copy; a night-run has"
+                   " a store of its own\n"))
+    tries.is_file("a store of other tasks: its bytes", room.path, f"{room.path}/s", before)
+
+    group = "group-of-many-tasks"
+    room = between(tries, [f"{group} key-{it:028} true" for it in range(300)], "page")
+    tries.is_same("pipes of one page", room.path, room.last("s", "JOBS", "-j", "32"),
+                  (0, "300 commands: 300 ok; 300 run now"))
+
+
+def damaged(tries: Shared) -> None:
+    """What lies beside a store and can't be read: the night doesn't begin, or goes on."""
+    kind = "a damaged s.ended"
+    room = Room(tries, [job("g", "a"), job("g", "b", 2)])
+    run = room.start()
+    room.until(lambda: len(room.lines("begun")) == 2)
+    room.write("s.ended", "events 1\ng \n")
+    kill(nights_in(children(run.pid)))
+    tries.is_same(f"{kind}, in the midst of a night", room.path, room.ended(run)[0], 0)
+    for text in ("", "events 1", "events 1\ng a ok", "events 1\ng b \xff ok\n",
+                 "events 1 night 1 round 1 lines 2\ng a ok\n", "events 1\n\n"):
+        room.write("s.ended", text)
+        status, _ = room.run()
+        tries.holds(f"{kind}: no night begins", text, status == 3 and "s.ended" in room.errors,
+                    (status, room.errors))
+    room.write("s.ended", "events 99999\n")
+    tries.is_same(f"{kind}: that of another store", room.path, (room.run(), room.errors),
+                  ((3, ""), "night-run: s.ended is of another store: put it aside\n"))
+    os.remove(f"{room.path}/s.ended")
+    os.remove(f"{room.path}/s.log")
+    for make in (os.mkdir, os.mkfifo):
+        room = Room(tries, [job("g", "a", 1)])
+        make(f"{room.path}/s.log")
+        room.script([])
+        tries.is_same("a log that can't be written", make.__name__, room.run(seconds=40)[0], 0)
+    for name in ("s.ended", "s.pids", "s.lock"):
+        room = Room(tries, [job("g", "a")])
+        room.script([])
+        os.mkfifo(f"{room.path}/{name}")
+        tries.is_same("a pipe beside a store", name, (room.run(seconds=40)[0], room.has("begun")),
+                      (3, False))
+
+
+def all_canceled(tries: Shared) -> None:
+    """After a cancel of all groups together what failed and what is new runs in a next round."""
+    kind = "all are canceled"
+    room = Room(tries, [job("g", "a", end="; test -e fine"), job("g", "c")])
+    tries.is_same(f"{kind}: before", room.path, room.run()[0], 1)
+    tries.is_same(f"{kind}: so they are", room.path, room.run("s", "--cancel", "night", "why"), (
+        0, "night: done; deadline none; err context canceled; cause why\n"))
+    room.write("fine", "")
+    room.set([*room.jobs, job("h", "b"), job("g", "d")])
+    status, output = room.run()
+    tries.is_same(f"{kind}: a new group is none of them", room.path, (status, output.splitlines()), (
+        1, ["g a: exit 1; s.out/g.a.0", "g d: canceled: why",
+            "4 commands: 2 ok, 1 failed, 1 canceled; 1 run now"]))
+    tries.is_same(f"{kind}: failed ones run again", room.path, room.last("s", "JOBS", "--failed"), (
+        0, "4 commands: 4 ok; 2 run now"))
+    tries.is_same(f"{kind}: nothing else does", room.path, room.begun(),
+                  {"g.a": 2, "g.c": 1, "g.d": 1, "h.b": 1})
+    room.agrees(kind)
+
+
+def old_night(tries: Shared) -> None:
+    """A night that an older driver left is resumed: all its tasks were submitted at once."""
+    kind = "a night of an older driver"
+    jobs = ["g: limit 2", *(job("g", f"k{it}") for it in range(8)), job("h", "x")]
+    room = Room(tries, jobs)
+    refused = room.script([
+        "derive night root cause", "derive g night cause", "bare g g", "limit g 2",
+        "derive h--until night deadline 9000000000 late", "derive h h--until cause", "bare h h",
+        *(f"go g sh k{it}" for it in range(8)), "go h sh x", "start", "start",
+        "finish 0 ok", "start", "finish 1 error exit 3", "start"])
+    tries.is_same(f"{kind}: it is made", room.path, refused, "")
+    room.write("s.log", "Try\tGroup\tKey\tBegan\tSeconds\tEnd\tCommand\n0\tg\tk0\t"
+               "2026-11-26T22:04:01+0000\t0.010\tok\techo\n")
+    room.write("s.ended", "events 1\nold gone ok\n")
+    room.write("s.pids", "1 g k2\n99999999 g k3\n")
+    status, output = room.run("s", "JOBS", "-j", "4", seconds=60)
+    tries.is_same(kind, room.path, (status, output.splitlines()[-1]),
+                  (1, "9 commands: 8 ok, 1 failed; 7 run now"))
+    tries.is_same(f"{kind}: what had ended isn't begun", room.path, room.begun(),
+                  {**{f"g.k{it}": 1 for it in range(2, 8)}, "h.x": 1})
+    tries.holds(f"{kind}: the limit holds", room.path, most_at_once(room, "g") <= 2)
+
+
+# --- renewals
+
+class Full:
+    """A store that is nearly full, with what lies beside it: of a night that has ended, of other
+    groups that have, and of a group with a command that is left."""
+
+    OLD = ["a: limit 2", *(job("a", f"k{it}") for it in range(6)), job("b", "good"),
+           job("b", "bad", end="; exit 3")]
+    LEFT = [job("u", "k0"), job("u", "k1")]
+    NEW = [job("a", "k6"), job("a", "k7"), job("c", "k0")]
+
+    def __init__(self, tries: Shared, groups: int, tasks: int) -> None:
+        self.tries, self.groups, self.tasks = tries, groups, tasks
+        room = Room(tries, self.OLD)
+        self.made = room.path
+        store = Store(False)
+        store.made()
+        room.write("s", bytes(store.bytes))
+        room.run()
+        number, lines = 8, []
+        for group in range(groups):
+            name = f"f{group}"
+            lines += [f"derive {name}--until night deadline 9000000000 late",
+                      f"derive {name} {name}--until cause", f"bare {name} {name}"]
+            for it in range(tasks):
+                lines += [f"go {name} sh k{it}", "start", f"finish {number + it} ok"]
+            number += tasks
+        lines += ["derive u night cause", "bare u u", "go u sh k0", "start", f"finish {number} ok",
+                  "go u sh k1"]
+        tries.is_same("a full store is made", room.path, room.script(lines), "")
+
+    def room(self, what: str = "", at: int = 0) -> Room:
+        """A copy of it, in which a renewal is stopped so."""
+        room = Room(self.tries, [])
+        shutil.copytree(self.made, room.path, dirs_exist_ok=True)
+        room.set(self.OLD + self.LEFT + self.NEW)
+        room.night = room.program("between", RENEWING.format(night=self.tries.program, what=what,
+                                                             at=at))
+        return room
+
+    def ends(self, room: Room, kind: str, renewals: int = 1, is_brief: bool = False) -> None:
+        """Runs a night to its end, and looks at it: nothing that had ended is begun again."""
+        tries = self.tries
+        status, output = room.last()
+        tries.is_same(f"{kind}: its end", room.path, (status, output),
+                      (1, "13 commands: 12 ok, 1 failed; 4 run now"))
+        told = room.errors
+        tries.is_same(f"{kind}: it is renewed", told, len(re.findall(
+            r"^night-run: s: renewed; events \d+; scopes \d+ of \d+; groups \d+ of \d+;"
+            r" tasks \d+ of \d+$", told, re.M)), renewals)
+        every = {name_of(it): 1 for it in room.jobs if ":" not in it.split()[0]}
+        del every["u.k0"]  # (it was ended by hand)
+        tries.is_same(f"{kind}: each began once", room.path, room.begun(), every)
+        tries.is_same(f"{kind}: each ran to its end", room.path, set(room.lines("done")),
+                      set(every))
+        if is_brief:
+            return
+        begun = room.begun()
+        tries.is_same(f"{kind}: run again", room.path, (room.run()[0], room.errors), (1, ""))
+        tries.is_same(f"{kind}: and nothing is begun", room.path, room.begun(), begun)
+        tries.is_same(f"{kind}: listed", room.path, room.run("s", "JOBS", "--list"),
+                      (0, "b bad: exit 3\n"))
+        room.write("JOBS", "".join(f"{it}\n" for it in room.jobs).replace("; exit 3", ""))
+        tries.is_same(f"{kind}: what failed, again", room.path, room.last("s", "JOBS", "--failed"),
+                      (0, "13 commands: 13 ok; 1 run now"))
+        tries.is_same(f"{kind}: and nothing else", room.path, room.begun(), {**every, "b.bad": 2})
+
+    def looks(self, room: Room, kind: str) -> None:
+        """What is left in the store and beside it."""
+        tries = self.tries
+        tries.is_same(f"{kind}: what is left", room.path, {it: phase for it, (_, phase) in
+                                                          room.tasks().items()},
+                      {(it, 0): "success" for it in ("u--2.k1", "a--2.k6", "a--2.k7", "c.k0")})
+        tries.is_same(f"{kind}: the scopes left", room.path, re.findall(
+            r"^scope \d+ (\S+)", room.shown(), re.M), ["root", "night", "a", "u", "c",
+                                                       "night--ended"])
+        ended = [f"f{group} k{it} ok" for group in range(self.groups) for it in range(self.tasks)]
+        ended += [f"a k{it} ok" for it in range(6)] + ["b good ok", "b bad exit 3", "u k0 ok"]
+        tries.is_same(f"{kind}: what had ended", room.path, sorted(
+            it for it in room.lines("s.ended")[1:] if not it.startswith(":")), sorted(ended))
+        names = {(it, 0) for it in (*("{}.{}".format(*it.split()[:2]) for it in ended), "u--2.k1",
+                                    "a--2.k6", "a--2.k7", "c.k0")}
+        tries.is_same(f"{kind}: the log has all", room.path, set(room.log()), names)
+
+
+def renewals(tries: Shared, dice: random.Random, rounds: int) -> None:
+    """Stores that are nearly full are renewed before the night, and that is stopped anywhere."""
+    tasks, groups = Full(tries, 1, 1560), Full(tries, 94, 1)
+    for what, full in (("tasks", tasks), ("groups", groups)):
+        kind = f"renewed, nearly full of {what}"
+        room = full.room()
+        full.ends(room, kind, is_brief=True)
+        full.looks(room, kind)
+    kind = "a renewal fails"
+    room = groups.room("fails")
+    found, told = room.last(), room.errors
+    tries.is_same(f"{kind}: told", room.path, told, "night-run: s is nearly full, and can't be"
+                  " renewed; it is used as it is: s: it fails; `night` ended with status 1\n")
+    tries.is_same(f"{kind}: its end", room.path, found,
+                  (1, "13 commands: 12 ok, 1 failed; 4 run now"))
+    stopped_renewals(tries, groups if tries.is_short else tasks)
+    killed_renewals(tries, groups, dice, rounds)
+
+
+def stopped_renewals(tries: Shared, full: Full) -> None:
+    # (each group is waited for; the scopes of b and of those that fill it are cancelled, of these
+    # both; then the flush, and the end of the lines)
+    last = (full.groups + 3) + (1 + 2 * full.groups) + 1
+    lines = (0, 5, last - 1, last) if tries.is_short else tuple(range(last + 1))
+    for what, at in [("before", 0), ("behind", 0), *(("line", it) for it in lines)]:
+        kind = "a renewal is stopped"
+        room = full.room(what, at)
+        tries.is_same(f"{kind}: it is", (what, at), room.run(), (-signal.SIGKILL, ""))
+        room.settle()
+        tries.is_same(f"{kind}: nothing is begun", (what, at), len(room.begun()), 8)
+        tries.holds(f"{kind}: what had ended is kept first", (what, at), not room.has("too_soon"))
+        full.ends(room, kind, 0 if what == "behind" else 1, is_brief=tries.is_short)
+
+
+def killed_renewals(tries: Shared, full: Full, dice: random.Random, rounds: int) -> None:
+    hits = collections.Counter[str]()
+    for at in range(rounds):
+        kind, room = "a renewal is killed at random", full.room()
+        for _ in range(3):
+            run = room.start()
+            time.sleep(dice.uniform(0, 1.2))
+            who = dice.choice(("driver", "night", "both", "all"))
+            hit(run, who)
+            hits[who] += 1
+            room.ended(run)
+            room.settle()
+        status, output = room.last()
+        begun = room.begun()
+        tries.holds(f"{kind}: what had ended isn't begun again", at,
+                    all(begun[f"a.k{it}"] == 1 for it in range(6))
+                    and begun["b.good"] == begun["b.bad"] == 1 and not begun["u.k0"], begun)
+        tries.holds(f"{kind}: every one ends", at, status == 1 and (
+            "12 ok, 1 failed" in output or "nothing to do: 13 ended" in output), (status, output))
+    print(f"killed at random, over stores to be renewed: {dict(hits)}")
+
+
+def full_in_the_midst(tries: Shared) -> None:
+    """A store that gets full in the midst of a night is renewed there, and commands run on."""
+    kind = "a store gets full"
+    room = Room(tries, [job("g", "long", 20), *(job("g", f"k{it}") for it in range(640))])
+    store = Store(False)
+    store.made()
+    room.write("s", bytes(store.bytes))
+    lines = ["derive night root cause", "derive f night cause", "bare f f"]
+    for it in range(1500):
+        lines += [f"go f sh k{it}", "start", f"finish {it} ok"]
+    tries.is_same(f"{kind}: made", room.path, room.script(lines), "")
+    tries.is_same(kind, room.path, room.last("s", "JOBS", "-j", "8"),
+                  (0, "641 commands: 641 ok; 641 run now"))
+    tries.is_same(f"{kind}: it is renewed", room.path, room.errors.count("renewed; events"), 1)
+    tries.is_same(f"{kind}: each began once", room.path, set(room.begun().values()), {1})
+    tries.is_same(f"{kind}: run again", room.path, (room.run()[0], len(room.lines("begun"))),
+                  (0, 641))
+
+
+def parts(tries: Shared, seed: int) -> list[Part]:
+    """The parts of these tries, those that take longest first."""
+    def random_kills(tries: Shared) -> None:
+        kills(tries, random.Random(seed), 8 if tries.is_short else 60)
+
+    def random_renewals(tries: Shared) -> None:
+        renewals(tries, random.Random(seed), 2 if tries.is_short else 20)
+
+    return [random_renewals, random_kills, full_in_the_midst, resumed, left_behind, cuts,
+            night_is_killed, full_session, faults, damaged, all_canceled, old_night]

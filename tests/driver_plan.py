@@ -1,0 +1,222 @@
+"""Tables over the driver's pure functions: what a file of commands says, and what may be begun."""
+
+from __future__ import annotations
+
+import datetime
+import os
+import sys
+import tempfile
+from types import ModuleType
+
+from driver_room import Shared
+
+Name = tuple[str, str]
+# Commands of a file, and settings of it; how each command that is named ended; then how each
+# command stands.
+STANDINGS: list[tuple[str, str, dict[str, str], dict[str, str]]] = [
+    ("nothing has ended", "g a x\ng b x", {}, {"g a": "waiting", "g b": "waiting"}),
+    ("an end", "g a x\ng b x", {"g a": "ok"}, {"g a": "ok", "g b": "waiting"}),
+    ("a failure", "g a x\ng b x", {"g a": "exit 3"}, {"g a": "failed", "g b": "waiting"}),
+    ("a failure with retries left", "g: retries 2\ng a x", {"g a": "exit 3*2"}, {"g a": "waiting"}),
+    ("retries used up", "g: retries 2\ng a x", {"g a": "exit 3*3"}, {"g a": "failed"}),
+    ("a command's own retries", "g: retries 2\ng a x\ng a: retries 0", {"g a": "exit 3"},
+     {"g a": "failed"}),
+    ("an interruption", "g a x", {"g a": "interrupted"}, {"g a": "interrupted"}),
+    ("it runs", "g a x", {"g a": "running"}, {"g a": "running"}),
+    ("after one that is left", "g a x\ng b x\ng b: after a", {}, {"g b": "waiting"}),
+    ("after a failure", "g a x\ng b x\ng b: after a", {"g a": "exit 1"}, {"g b": "not begun"}),
+    ("after a failure that is tried again", "g a x\ng a: retries 1\ng b x\ng b: after a",
+     {"g a": "exit 1"}, {"g a": "waiting", "g b": "waiting"}),
+    ("after what isn't begun", "g a x\ng b x\ng b: after a\nh c x\nh c: after g/b",
+     {"g a": "exit 1"}, {"g b": "not begun", "h c": "not begun"}),
+    ("after a group with a failure", "g a x\ng b x\nh: after g\nh c x", {"g a": "exit 1"},
+     {"g b": "waiting", "h c": "not begun"}),
+    ("after a canceled one", "g a x\ng b x\ng b: after a", {"g a": "canceled: why"},
+     {"g a": "canceled", "g b": "not begun"}),
+    ("a canceled one isn't tried again", "g: retries 9\ng a x", {"g a": "canceled: why"},
+     {"g a": "canceled"}),
+    ("stop on failure", "g: stop on failure\ng a x\ng b x\nh c x", {"g b": "exit 1"},
+     {"g a": "not begun", "g b": "failed", "h c": "waiting"}),
+    ("stop on failure: retries first", "g: stop on failure retries 1\ng a x\ng b x",
+     {"g b": "exit 1"}, {"g a": "waiting", "g b": "waiting"}),
+    ("a done group", "g a x\ng b x\nh c x", {"g a": "ok", "g": "why"},
+     {"g a": "ok", "g b": "canceled", "h c": "waiting"}),
+    ("a done group: no retry", "g: retries 5\ng a x", {"g a": "exit 1", "g": "why"},
+     {"g a": "failed"}),
+]
+
+# Likewise; then the free places, and what may be begun.
+NEXT: list[tuple[str, str, dict[str, str], int, list[str]]] = [
+    ("the first ones", "g a x\ng b x\ng c x", {}, 2, ["g a", "g b"]),
+    ("no place", "g a x", {}, 0, []),
+    ("the file's order", "h a x\ng b x\nh c x", {"h a": "ok"}, 9, ["g b", "h c"]),
+    ("an interrupted one in its place", "g: limit 1\ng a x\ng b x", {"g a": "interrupted"}, 9,
+     ["g a"]),
+    ("a limit", "g: limit 2\ng a x\ng b x\ng c x\nh d x", {"g a": "running"}, 9, ["g b", "h d"]),
+    ("after", "g a x\ng b x\ng b: after a\ng c x", {}, 9, ["g a", "g c"]),
+    ("after, once it is ok", "g a x\ng b x\ng b: after a", {"g a": "ok"}, 9, ["g b"]),
+    ("after a group", "g a x\ng b x\nh: after g\nh c x", {"g a": "ok"}, 9, ["g b"]),
+    ("after a whole group", "g a x\ng b x\nh: after g\nh c x", {"g a": "ok", "g b": "ok"}, 9,
+     ["h c"]),
+    ("a retry that waits", "g: retries 1 wait 30s\ng a x\ng b x", {"g a": "exit 1"}, 9, ["g b"]),
+    ("a retry that is due", "g: retries 1 wait 5s\ng a x", {"g a": "exit 1"}, 9, ["g a"]),
+    ("a retry at once", "g: retries 1\ng a x", {"g a": "exit 1"}, 9, ["g a"]),
+    ("a done group", "g a x\nh b x", {"g": "why"}, 9, ["h b"]),
+]
+
+ALL = ("settings are limit N, until MOMENT, within TIME, after X.., retries N [wait TIME],"
+       " timeout TIME, in FOLDER, env NAME=VALUE, stop on failure, background keep")
+# Lines of a file of commands that are mistakes, with the line's number and why.
+MISTAKES = [
+    ("g a true\ng a false", 2, "the key a of g stands with two commands, first in line 1"),
+    ("g a true\n\ng a true", 3, "the key a of g stands twice, first in line 1"),
+    ("g a", 1, "a line is GROUP KEY COMMAND.., or GROUP: and settings"),
+    ("# x\ng A true", 2, "the key 'A' is not 1 to 32 of a-z, 0-9, - and _"),
+    ("g " + "k" * 33 + " true", 1,
+     "the key '" + "k" * 33 + "' is not 1 to 32 of a-z, 0-9, - and _"),
+    ("a--b c true", 1, "the group 'a--b' is not 1 to 20 of a-z, 0-9, - and _ without --,"
+     " or it is root"),
+    ("root c true", 1, "the group 'root' is not 1 to 20 of a-z, 0-9, - and _ without --,"
+     " or it is root"),
+    ("night c true", 1, "the group night is all groups together"),
+    ("g:", 1, ALL),
+    ("g: limit", 1, f"the limit is missing; {ALL}"),
+    ("g: limit 0", 1, "the limit '0' is not 1 to 64"),
+    ("g: limit 65", 1, "the limit '65' is not 1 to 64"),
+    ("g: limit ٣", 1, "the limit '٣' is not 1 to 64"),
+    ("night: limit 3", 1, "the limit of all groups together is the option -j"),
+    ("night: retries 3", 1,
+     "all groups together have a deadline alone: until MOMENT, within TIME"),
+    ("g: until 25:00", 1, "the moment '25:00' is not as 05:30 or 2026-11-26T05:30"),
+    ("g: until 2026-02-30T05:30", 1,
+     "the moment '2026-02-30T05:30' is not as 05:30 or 2026-11-26T05:30"),
+    ("g: within 2", 1, "the time '2' is not as 2h, 90m, 1h30m or 45s"),
+    ("g: within ٣h", 1, "the time '٣h' is not as 2h, 90m, 1h30m or 45s"),
+    ("g: within 2h until 05:30", 1, "g has a deadline already"),
+    ("g: limit 2\ng: limit 2", 2, "g has a limit already"),
+    ("g: speed 2", 1, "no setting is called 'speed'"),
+    ("g a printf '\0'", 1, "it has a byte 0, as no text does"),
+    ("g limit 2", 1, "a setting stands behind a colon, as g: limit 2"),
+    ("g until 05:30", 1, "a setting stands behind a colon, as g: until 05:30"),
+    ("g within 1h30m", 1, "a setting stands behind a colon, as g: within 1h30m"),
+    ("g timeout 10m", 1, "a setting stands behind a colon, as g: timeout 10m"),
+    ("g retries 3 wait 10s", 1, "a setting stands behind a colon, as g: retries 3 wait 10s"),
+    ("g " + "k" * 41 + " true", 1,
+     "the key '" + "k" * 40 + "..' is not 1 to 32 of a-z, 0-9, - and _"),
+    ("g: timeout 0s", 1, "a timeout has a second at least"),
+    ("g: timeout 1s\ng: timeout 2s", 2, "g has a timeout already"),
+    ("g: retries many", 1, "the number of retries 'many' is not 0 to 999"),
+    ("g: retries 1 wait", 1, f"the time to wait is missing; {ALL}"),
+    ("g: in", 1, f"the folder is missing; {ALL}"),
+    ("g: env A", 1, "'A' is not as NAME=VALUE"),
+    ("g: env NIGHT_KEY=x", 1, "the variable NIGHT_KEY is the driver's own"),
+    ("g: env 'A=b", 1, "a quotation: No closing quotation"),
+    ("g: stop on success", 1, "the setting is stop on failure"),
+    ("g: background", 1, "keep is missing; " + ALL),
+    ("g one: limit 2", 1, "limit, until, within and stop on failure are settings of a group"),
+    ("g: after", 1, f"what it comes after is missing; {ALL}"),
+    ("g one: after two", 1, "after 'two': no such key of g, and no such group"),
+    ("g one: after h/two", 1, "after 'h/two': no such key of g, and no such group"),
+    ("h one true\ng h true\ng one: after h", 3,
+     "after h: it is a group, and a key of g; g/h is the key"),
+    ("g two true\ng one: after two\ng two: after one", 3,
+     "a cycle: g/two, after g/one, after g/two"),
+    ("g one: after g", 1, "a cycle: g/one, after g, after g/one"),
+    ("h: after g\nh a true\ng one: after h/a", 1, "a cycle: h/a, after g, after g/one, after h/a"),
+]
+
+NOON = int(datetime.datetime(2026, 11, 26, 12, 0).timestamp())
+# What a deadline says, and the seconds from noon of the 26th to it.
+MOMENTS = [
+    ("within 2h", 7200), ("within 90m", 5400), ("within 1h30m", 5400), ("within 45s", 45),
+    ("until 13:00", 3600), ("until 12:00", 86400), ("until 11:59", 86340),
+    ("until 2026-11-26T12:30", 1800), ("until 2026-11-26T11:30", -1800),
+]
+
+
+def driver_module(tries: Shared, name: str) -> ModuleType:
+    """A module of the driver that is tried."""
+    folder = os.path.dirname(os.path.realpath(tries.driver))
+    if folder not in sys.path:
+        sys.path.insert(0, folder)
+    return __import__(f"night_run.{name}", fromlist=["night_run"])
+
+
+def jobs_of(tries: Shared, text: str) -> object:
+    with tempfile.NamedTemporaryFile("w", dir=tries.folder) as file:
+        file.write(f"{text}\n")
+        file.flush()
+        return driver_module(tries, "jobs").Jobs(file.name)
+
+
+def pair(words: str) -> Name:
+    group, _, key = words.partition(" ")
+    return group, key
+
+
+def facts_of(tries: Shared, ends: dict[str, str]) -> object:
+    """The facts behind these ends, all of a moment ten seconds ago."""
+    facts = driver_module(tries, "facts").Facts()
+    for words, end in ends.items():
+        name = pair(words)
+        if not name[1]:
+            facts.cancel(name[0], end)
+        elif end == "running":
+            facts.busy.add(name)
+        elif end == "interrupted":
+            facts.interrupted.add(name)
+        else:
+            text, _, count = end.partition("*")
+            for _ in range(int(count or 1)):
+                facts.ended(name, text, 990.0)
+    return facts
+
+
+def stand(tries: Shared) -> None:
+    plan = driver_module(tries, "plan")
+    for what, text, ends, wanted in STANDINGS:
+        found = plan.standings(jobs_of(tries, text), facts_of(tries, ends))
+        shown = {it: found[pair(it)].phase for it in wanted}
+        tries.is_same("how a command stands", what, shown, wanted)
+
+
+def next_ones(tries: Shared) -> None:
+    plan = driver_module(tries, "plan")
+    for what, text, ends, places, wanted in NEXT:
+        jobs, facts = jobs_of(tries, text), facts_of(tries, ends)
+        left = [name for name, it in plan.standings(jobs, facts).items() if not it.is_final]
+        found = plan.may_begin(jobs, facts, left, places, 1000.0).names
+        tries.is_same("what may be begun", what, [" ".join(it) for it in found], wanted)
+
+
+def mistakes(tries: Shared) -> None:
+    """Each mistake is told with file, line and reason."""
+    wrong = driver_module(tries, "jobs").Mistake
+    for text, line, why in MISTAKES:
+        whole = f"{text}\ng one true"
+        try:
+            made = jobs_of(tries, whole)
+            found = f"no mistake: {made}"
+        except wrong as mistake:
+            found = str(mistake).partition(": ")[2]
+        tries.is_same("a mistake", text, found, f"line {line}: {why}")
+
+
+def moments(tries: Shared) -> None:
+    deadline = driver_module(tries, "settings").Deadline
+    for said, wanted in MOMENTS:
+        word, _, value = said.partition(" ")
+        tries.is_same("a deadline", said, deadline(word, value).moment(NOON) - NOON, wanted)
+
+
+def cycles_are_long(tries: Shared) -> None:
+    """A chain of thousands of commands is sorted, and a failure at its head is known at its end."""
+    plan, count = driver_module(tries, "plan"), 5000
+    lines = [f"g k{it} x" for it in range(count)]
+    lines += [f"g k{it}: after k{it - 1}" for it in range(1, count)]
+    jobs = jobs_of(tries, "\n".join(reversed(lines)))
+    found = plan.standings(jobs, facts_of(tries, {"g k0": "exit 1"}))
+    tries.is_same("a long chain", count, found["g", f"k{count - 1}"].phase, "not begun")
+
+
+TABLES = [stand, next_ones, mistakes, moments, cycles_are_long]

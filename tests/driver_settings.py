@@ -1,0 +1,316 @@
+"""Each setting of a file of commands, each word of the command line, and words that go astray."""
+
+from __future__ import annotations
+
+import json
+import os
+import re
+import signal
+import subprocess
+import time
+
+from driver_room import Room, Shared, environments, job, kill, most_at_once
+
+# Words that name a wrong file, or no program: the status, and why. The room has a file `bytes` and
+# `null`, a link to a device.
+ASTRAY = [
+    (("JOBS", "JOBS"), 2, "JOBS: it has 9 bytes, and so is no store"),
+    ((".", "JOBS"), 2, ".: it is no regular file, and so no store"),
+    (("null", "JOBS"), 2, "/dev/null: it is no regular file, and so no store"),
+    (("s", "bytes"), 2, "bytes: line 1: it has a byte 0, as no text does"),
+    (("s", "missing"), 2, "missing: No such file or directory"),
+    (("s", "--cancel", "g"), 2, "s: No such file or directory"),
+    (("s", "JOBS"), 3, "NIGHT names no program: ./missing"),
+]
+# Words that are told with the usage.
+UNUSABLE = [("s",), ("s", "JOBS", "-j", "0"), ("s", "JOBS", "-j", "x"), ("s", "JOBS", "--json"),
+            ("s", "JOBS", "--failed", "--again"), ("s", "JOBS", "--report", "pdf"),
+            ("s", "JOBS", "--unknown")]
+
+
+def retries(tries: Shared) -> None:
+    kind = "retries"
+    room = Room(tries, [
+        "g: retries 2 wait 1s", "g a date +%s.%N >> moments; echo g.a >> begun; exit 3",
+        "g b echo $NIGHT_TRY >> begun; [ $NIGHT_TRY = 1 ]", "h c echo h.c >> begun; exit 1"])
+    status, output = room.run()
+    shown = [it for it in output.splitlines() if not it.startswith(" ")]
+    tries.is_same(kind, room.path, (status, shown), (1, [
+        "g a: exit 3; s.out/g.a.2", "h c: exit 1; s.out/h.c.0",
+        "3 commands: 1 ok, 2 failed; 3 run now"]))
+    tries.is_same(f"{kind}: so often", room.path, room.begun(), {"g.a": 3, "0": 1, "1": 1, "h.c": 1})
+    moments = [float(it) for it in room.lines("moments")]
+    waits = [later - one for one, later in zip(moments, moments[1:])]
+    tries.holds(f"{kind}: they wait", room.path, all(1 <= it < 20 for it in waits), waits)
+    room.agrees(kind)
+    kind = "retries over a stop"
+    room = Room(tries, ["g: retries 3", "g a echo g.a >> begun; sleep 0.5; exit 3"])
+    run = room.start()
+    room.until(lambda: len(room.lines("begun")) == 3)
+    kill([run.pid], which=signal.SIGTERM)
+    room.ended(run)
+    tries.is_same(kind, room.path, (room.run()[0], room.begun()), (1, {"g.a": 5}))
+
+
+def timeout(tries: Shared) -> None:
+    kind = "a timeout"
+    room = Room(tries, ["g a echo x; sleep 60", "g a: timeout 1s",
+                        "g b trap '' TERM; while :; do sleep 0.1; done", "g b: timeout 1s",
+                        "g c trap 'exit 0' TERM; sleep 60 & wait", "g c: timeout 1s",
+                        "g d sleep 1.2", "g d: timeout 9s"])
+    began = time.monotonic()
+    status, output = room.run("s", "JOBS", "--grace", "1")
+    shown = [it for it in output.splitlines() if not it.startswith(" ")]
+    tries.is_same(kind, room.path, (status, shown), (1, [
+        f"g {it}: timeout 1s; s.out/g.{it}.0" for it in "abc"] + [
+        "4 commands: 1 ok, 3 failed; 4 run now"]))
+    took = time.monotonic() - began
+    tries.holds(f"{kind}: they are stopped", room.path, took < 40, took)
+    tries.is_same(f"{kind}: no process is left", room.path,
+                  [it for it in environments(room.path) if "sleep" in it], [])
+
+
+def places(tries: Shared) -> None:
+    """A folder, an environment, and what the driver puts there."""
+    kind = "a command's place"
+    room = Room(tries, [
+        "g: in sub env A=group env B='two words'",
+        'g a echo "$A|$B|$(basename "$PWD")|$NIGHT_GROUP|$NIGHT_KEY|$NIGHT_TRY|$NIGHT_STORE"',
+        "g a: env A=own", "g b cat; pwd", "g b: in /", "g c true", "g c: in ./missing"])
+    os.mkdir(f"{room.path}/sub")
+    status, output = room.run()
+    tries.is_same(kind, room.path, (status, output.splitlines()[:1]), (
+        1, ["g c: can't be started: No such file or directory"]))
+    tries.is_same(f"{kind}: its environment", room.path, room.text("s.out/g.a.0"),
+                  f"own|two words|sub|g|a|0|{os.path.realpath(room.path)}/s\n")
+    tries.is_same(f"{kind}: its own folder", room.path, room.text("s.out/g.b.0"), "/\n")
+    room.run("s", "JOBS", "--again")
+    tries.is_same(f"{kind}: the group has no round", room.path,
+                  room.text("s.out/g--2.a.0").split("|")[3:6], ["g", "a", "0"])
+
+
+def after(tries: Shared) -> None:
+    """An order holds over kills."""
+    kind = "an order"
+    room = Room(tries, [job("g", "a", 0.4), job("g", "b", 0.2), "g b: after a", job("h", "c"),
+                        "h: after g", job("i", "d"), "i d: after h/c g/a"])
+    for _ in range(3):
+        run = room.start()
+        time.sleep(0.9)
+        kill([run.pid])
+        room.ended(run)
+        room.settle()
+    tries.is_same(kind, room.path, room.run()[0], 0)
+    lines, done = room.lines("begun"), set(room.lines("done"))
+    first = {it: lines.index(it) for it in set(lines)}
+    tries.holds(f"{kind}: it is kept", room.path,
+                first["g.a"] < first["g.b"] < first["h.c"] < first["i.d"], lines)
+    tries.is_same(f"{kind}: all end", room.path, done, {"g.a", "g.b", "h.c", "i.d"})
+    kind = "an order: a failure that is mended"
+    room = Room(tries, [job("g", "a", end="; test -e fine"), job("g", "b"), "g b: after a"])
+    tries.is_same(f"{kind}: before", room.path, room.run()[0], 1)
+    room.write("fine", "")
+    tries.is_same(kind, room.path, (room.last("s", "JOBS", "--failed"), room.begun()),
+                  ((0, "2 commands: 2 ok; 2 run now"), {"g.a": 2, "g.b": 1}))
+
+
+def stop_on_failure(tries: Shared) -> None:
+    kind = "stop on failure"
+    room = Room(tries, ["g: limit 1 stop on failure", job("g", "a"), job("g", "b", end="; exit 3"),
+                        job("g", "c"), job("h", "d")])
+    status, output = room.run("s", "JOBS", "--list")[0], room.run()[1]
+    shown = [it for it in output.splitlines() if not it.startswith(" ")]
+    tries.is_same(kind, room.path, (status, shown), (0, [
+        "g b: exit 3; s.out/g.b.0",
+        "g c: not begun: g b failed, and the group stops on failure",
+        "4 commands: 2 ok, 1 failed, 1 not begun; 3 run now"]))
+    tries.is_same(f"{kind}: run again", room.path, (room.run()[0], room.begun()),
+                  (1, {"g.a": 1, "g.b": 1, "h.d": 1}))
+
+
+def limits(tries: Shared) -> None:
+    kind = "a limit"
+    room = Room(tries, ["g: limit 2", *(job("g", f"k{it}", 0.2) for it in range(6)),
+                        *(job("h", f"k{it}", 0.2) for it in range(6))])
+    tries.is_same(kind, room.path, room.run("s", "JOBS", "-j", "6")[0], 0)
+    tries.is_same(f"{kind}: it holds", room.path, most_at_once(room, "g"), 2)
+    tries.holds(f"{kind}: the other group has none", room.path, 2 < most_at_once(room, "h") <= 6)
+
+
+def summaries(tries: Shared) -> None:
+    """What a night says at its end, with --quiet too, and what --on-failure is given."""
+    kind = "a summary"
+    alarm = "{ echo $NIGHT_FAILED $NIGHT_STORE; cat; } > alarm"
+    room = Room(tries, ["g a for i in 1 2 3 4 5; do echo line $i; done; exit 3", "g b true"])
+    wanted = ("g a: exit 3; s.out/g.a.0\n    line 3\n    line 4\n    line 5\n"
+              "2 commands: 1 ok, 1 failed; 2 run now\n")
+    tries.is_same(kind, room.path, room.run("s", "JOBS", "--on-failure", alarm), (1, wanted))
+    tries.is_same(f"{kind}: the alarm", room.path, room.text("alarm"),
+                  f"1 {os.path.realpath(room.path)}/s\n{wanted}")
+    os.remove(f"{room.path}/alarm")
+    status, output = room.run("s", "JOBS", "--quiet", "--on-failure", alarm)
+    tries.holds(f"{kind}: nothing to do behind a failure", room.path, status == 1
+                and "nothing to do: 2 ended before" in output and "--failed" in output
+                and not room.has("alarm"), (status, output))
+    room.set(["h: within 1h", "g a true", "g b true"])
+    found = room.run("s", "JOBS", "--failed", "--quiet", "--on-failure", alarm), room.errors
+    tries.is_same(f"{kind}: --quiet where all is well", room.path, (found, room.has("alarm")),
+                  (((0, ""), ""), False))
+    room = Room(tries, ["g a true"])
+    room.write("s.ended", "nothing of this\n")
+    room.script([])
+    tries.is_same(f"{kind}: a fault", room.path, room.run("s", "JOBS", "--on-failure", alarm)[0], 3)
+    tries.holds(f"{kind}: a fault: the alarm", room.path, room.text("alarm").startswith("1 ")
+                and "s.ended" in room.text("alarm"), room.text("alarm"))
+
+
+def views(tries: Shared) -> None:
+    kind = "views"
+    room = Room(tries, [job("g", "a"), job("g", "b", end="; echo oh; exit 3"), job("g", "c"),
+                        "g c: after b", job("g", "d")])
+    shown = room.run("s", "JOBS", "--dry-run")[1].splitlines()
+    tries.is_same(f"{kind}: a dry run", room.path, ([it.partition(":")[0] for it in shown],
+                                                    room.has("begun"), room.has("s")),
+                  (["begin g a", "begin g b", "begin g d", "later g c"], False, False))
+    room.run()
+    tries.is_same(f"{kind}: a list", room.path, room.run("s", "JOBS", "--list"), (
+        0, "g b: exit 3\ng c: not begun: after g/b, which failed\n"))
+    status, output = room.run("s", "JOBS", "--list", "--json")
+    found = {it["key"]: (it["phase"], it["end"], [one["end"] for one in it["tries"]], it["output"],
+                         it["tail"]) for it in json.loads(output)}
+    tries.is_same(f"{kind}: as JSON", room.path, (status, found), (0, {
+        "a": ("ok", "", ["ok"], "s.out/g.a.0", []),
+        "b": ("failed", "exit 3", ["exit 3"], "s.out/g.b.0", ["oh"]),
+        "c": ("not begun", "after g/b, which failed", [], "", []),
+        "d": ("ok", "", ["ok"], "s.out/g.d.0", [])}))
+    for form, word in (("text", "exit 3"), ("html", "<html"), ("prom", "# TYPE")):
+        status, output = room.run("s", "JOBS", "--report", form)
+        tries.holds(f"{kind}: a report", form, status == 0 and word in output, output[:200])
+    tries.holds(f"{kind}: a version", room.path, re.fullmatch(
+        r"night-run \d+\.\d+\.\d+\n", room.run("--version")[1]))
+
+
+def failed(tries: Shared) -> None:
+    """--failed, --again and --nightly behind failures, cancels and stops."""
+    kind = "what failed, again"
+    room = Room(tries, [job("g", "a", end="; test -e fine"), job("h", "b", 30), job("g", "c")])
+    run = room.start()
+    room.until(lambda: room.has("s.out/h.b.0"))
+    room.until(lambda: len(room.lines("s.log")) == 3)
+    room.run("s", "--cancel", "h", "not", "now", errors="errors2")
+    tries.is_same(f"{kind}: before", room.path, room.ended(run)[1].splitlines()[-1],
+                  "3 commands: 1 ok, 1 failed, 1 canceled; 3 run now")
+    room.write("fine", "")
+    room.set([job("g", "a", end="; test -e fine"), job("h", "b"), job("g", "c")])
+    tries.is_same(kind, room.path, (room.last("s", "JOBS", "--failed"), room.begun()), (
+        (0, "3 commands: 3 ok; 2 run now"), {"g.a": 2, "h.b": 2, "g.c": 1}))
+    room.agrees(kind)
+    kind = "a night that is left"
+    room = Room(tries, [job("g", f"k{it}", 0.3) for it in range(4)])
+    run = room.start("s", "JOBS", "-j", "1")
+    room.until(lambda: len(room.lines("begun")) == 2)
+    kill([run.pid], which=signal.SIGTERM)
+    room.ended(run)
+    tries.is_same(f"{kind}: --nightly resumes it", room.path,
+                  (room.run("s", "JOBS", "--nightly")[0], room.begun()["g.k0"]), (0, 1))
+    tries.is_same(f"{kind}: and begins the next one", room.path,
+                  (room.run("s", "JOBS", "--nightly")[0], room.begun()["g.k0"]), (0, 2))
+
+
+def nightly(tries: Shared) -> None:
+    """--nightly where a line is added, and where a deadline passed that no driver saw."""
+    kind = "the next night behind an added line"
+    room = Room(tries, [job("g", "a")])
+    room.run()
+    room.set([job("g", "a"), job("g", "b")])
+    tries.is_same(kind, room.path, (room.run("s", "JOBS", "--nightly")[0], room.begun()),
+                  (0, {"g.a": 2, "g.b": 1}))
+    kind = "the next night behind a deadline"
+    room = Room(tries, ["night: within 3s", job("g", "a", 1), job("g", "b", 1)])
+    run = room.start("s", "JOBS", "-j", "1")
+    room.until(lambda: room.lines("begun"))
+    kill([run.pid], which=signal.SIGTERM)
+    room.ended(run)
+    time.sleep(3.5)
+    tries.is_same(kind, room.path, (room.run("s", "JOBS", "--nightly", "-j", "2")[0],
+                                    room.begun()), (0, {"g.a": 2, "g.b": 1}))
+
+
+def astray(tries: Shared) -> None:
+    """Words by which a newcomer goes astray: each is told, and nothing is made."""
+    for words, status, why in ASTRAY:
+        room = Room(tries, ["g a true"])
+        room.write("bytes", "\0" * 4096)
+        os.symlink("/dev/null", f"{room.path}/null")
+        night = "./missing" if "NIGHT" in why else ""
+        tries.is_same("astray", words, (room.run(*words, night=night), room.errors),
+                      ((status, ""), f"night-run: {why}\n"))
+        tries.is_same("astray: nothing is made", words, sorted(os.listdir(room.path)),
+                      ["JOBS", "bytes", "errors", "null"])
+    for words in UNUSABLE:
+        room = Room(tries, ["g a true"])
+        tries.is_same("unusable words", words, (room.run(*words), room.errors.split(" ")[0]),
+                      ((2, ""), "usage:"))
+    room = Room(tries, ["disk: limit 1", "disks: limit 1", "disks a true", "disks b: timeout 1s"])
+    tries.is_same("a group with no command", room.path, (room.run()[0], room.errors), (
+        0, "night-run: JOBS: line 1: the group disk has no command\n"
+           "night-run: JOBS: line 4: disks has no command b\n"))
+
+
+def keys(tries: Shared) -> None:
+    """Ctrl-C once, twice, and SIGTERM."""
+    jobs = [job("g", f"k{it}", 0.8) for it in range(4)]
+    left = ["g k2: waiting", "g k3: waiting"]
+    soon = "night-run: no command is begun any more; once more stops those that run\n"
+    cut = [f"night-run: g k{it}: interrupted\n" for it in range(2)]
+    both = ["g k0: interrupted", "g k1: interrupted"]
+    for kind, signals, told, wanted in (
+            ("Ctrl-C", [signal.SIGINT], soon, [*left, "4 commands: 2 ok, 2 left; 2 run now"]),
+            ("Ctrl-C twice", [signal.SIGINT] * 2, soon + "".join(cut),
+             [*both, *left, "4 commands: 4 left; 0 run now"]),
+            ("SIGTERM", [signal.SIGTERM], "".join(cut),
+             [*both, *left, "4 commands: 4 left; 0 run now"])):
+        room = Room(tries, jobs)
+        run = room.start("s", "JOBS", "-j", "2")
+        room.until(lambda room=room: len(room.lines("begun")) == 2)
+        for it in signals:
+            kill([run.pid], which=it)
+            time.sleep(0.1)
+        status, output = room.ended(run)
+        tries.is_same(kind, room.path, (status, output.splitlines(), sorted(
+            room.errors.splitlines(True))), (1, wanted, sorted(told.splitlines(True))))
+        tries.is_same(f"{kind}: listed", room.path, room.run("s", "JOBS", "--list"),
+                      (0, "".join(f"{it}\n" for it in wanted[:-1])))
+        tries.is_same(f"{kind}: run again", room.path, (room.run()[0], set(room.lines("done"))),
+                      (0, {f"g.k{it}" for it in range(4)}))
+        room.agrees(kind)
+
+
+def terminals(tries: Shared) -> None:
+    """A line of progress, on a terminal alone, and no wider than that."""
+    room = Room(tries, [job("g", "a"), job("g", "b", end="; exit 3")])
+    told = on_a_terminal(room)
+    tries.holds("progress on a terminal", room.path,
+                told.endswith("\r\x1b[K2 of 2 done, 0 running, 1 failed\r\x1b[K"), told)
+    tries.is_same("progress: none into a file", room.path, (room.run()[0], room.errors), (1, ""))
+
+
+def on_a_terminal(room: Room) -> str:
+    """What a driver tells a terminal."""
+    ours, its = os.openpty()
+    with subprocess.Popen([room.tries.driver, "s", "JOBS"], cwd=room.path, stderr=its,
+                          stdin=subprocess.DEVNULL, stdout=subprocess.DEVNULL,
+                          start_new_session=True, env={**os.environ, "NIGHT": room.night}):
+        os.close(its)
+        told = b""
+        while True:
+            try:
+                told += os.read(ours, 4096)
+            except OSError:
+                break
+    os.close(ours)
+    return told.decode()
+
+
+SETTINGS = [retries, timeout, places, after, stop_on_failure, limits, summaries, views, failed,
+            nightly, astray, keys, terminals]
