@@ -164,7 +164,7 @@ def bad_cancels(tries: Shared) -> None:
     for what in ("bytes", "a folder"):
         room = Room(tries, [job("g", "a", 1.5)])
         run = room.start()
-        room.until(lambda room=room: room.lines("begun"))
+        room.until(lambda: room.lines("begun"))
         if what == "bytes":
             room.write("s.cancel", b"g \xff\n\x00\n")
         else:
@@ -207,7 +207,7 @@ def two_tries(tries: Shared) -> None:
         os.mkdir(f"{room.path}/x")
         os.symlink("../s", f"{room.path}/x/s")
         run = room.start()
-        room.until(lambda room=room: room.lines("begun"))
+        room.until(lambda: room.lines("begun"))
         hit(run, "both")
         room.ended(run)
         if what == "its output is removed":

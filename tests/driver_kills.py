@@ -199,7 +199,7 @@ def night_is_killed(tries: Shared) -> None:
     run, killed, hits = room.start("s", "JOBS", "-j", "8"), set[int](), 0
     for many in (2, 5, 9):
         # (one that was killed is listed until its driver has seen it)
-        room.until(lambda many=many: len(room.lines("begun")) >= many
+        room.until(lambda: len(room.lines("begun")) >= many
                    and not killed.issuperset(nights_in(children(run.pid))))
         nights = nights_in(children(run.pid))
         kill(nights)

@@ -12,7 +12,7 @@ import subprocess
 import tempfile
 import threading
 import time
-from collections.abc import Callable, Iterable, Sequence
+from collections.abc import Callable, Iterable, Iterator, Sequence
 from typing import IO, Any
 
 from running import HERE, Tries, bytes_of
@@ -67,7 +67,7 @@ class Room:
 
     def text(self, name: str) -> str:
         path = f"{self.path}/{name}"
-        return bytes_of(path).decode(errors="replace") if os.path.isfile(path) else ""
+        return str(bytes_of(path), errors="replace") if os.path.isfile(path) else ""
 
     def lines(self, name: str) -> list[str]:
         return self.text(name).splitlines()
@@ -78,14 +78,13 @@ class Room:
     # --- runs
 
     def start(self, *words: str, night: str = "", driver: str = "", errors: str = "errors",
-              **how: Any) -> subprocess.Popen[str]:
+              stdout: int | IO[str] = subprocess.PIPE) -> subprocess.Popen[str]:
         words = words or ("s", "JOBS")
         with open(f"{self.path}/{errors}", "w", encoding="utf-8") as told:
-            given = {"stdout": subprocess.PIPE, "cwd": self.path, **how}
             return subprocess.Popen(
                 [*self.before, driver or self.tries.driver, *words], stdin=subprocess.DEVNULL,
-                text=True, errors="replace", stderr=told, start_new_session=True,
-                env={**os.environ, "NIGHT": night or self.night}, **given)
+                text=True, stdout=stdout, stderr=told, start_new_session=True, cwd=self.path,
+                env={**os.environ, "NIGHT": night or self.night})
 
     def ended(self, run: subprocess.Popen[str], seconds: float = 120,
               errors: str = "errors") -> tuple[int | str, str]:
@@ -232,7 +231,7 @@ def hit(run: subprocess.Popen[str], who: str) -> None:
 
 
 @contextlib.contextmanager
-def locked(path: str) -> Iterable[IO[str]]:  # type: ignore[misc]
+def locked(path: str) -> Iterator[IO[str]]:
     """Holds a lock of a file."""
     with open(path, "a", encoding="ascii") as file:
         fcntl.flock(file, fcntl.LOCK_EX)

@@ -272,7 +272,7 @@ def keys(tries: Shared) -> None:
              [*both, *left, "4 commands: 4 left; 0 run now"])):
         room = Room(tries, jobs)
         run = room.start("s", "JOBS", "-j", "2")
-        room.until(lambda room=room: len(room.lines("begun")) == 2)
+        room.until(lambda: len(room.lines("begun")) == 2)
         for it in signals:
             kill([run.pid], which=it)
             time.sleep(0.1)

@@ -62,10 +62,11 @@ def read_answers(text: str) -> dict[Process, str]:
 
 
 @contextlib.contextmanager
-def opened(path: str) -> Iterator[BinaryIO]:
-    """The file, for this process alone."""
+def opened(path: str, waits: bool = True) -> Iterator[BinaryIO]:
+    """The file, for this process alone; BlockingIOError where another one has it and this one
+    doesn't wait."""
     with open(open_regular(path, os.O_RDWR | os.O_CREAT), "r+b") as file:
-        fcntl.flock(file, fcntl.LOCK_EX)
+        fcntl.flock(file, fcntl.LOCK_EX if waits else fcntl.LOCK_EX | fcntl.LOCK_NB)
         yield file
 
 
@@ -87,12 +88,15 @@ def rewrite(file: BinaryIO, requests: Iterable[Request], answers: Mapping[Proces
 # --- the driver
 
 class Desk:
-    """The driver's side of the file. One that can't be read or written is told once."""
+    """The driver's side of the file. One that can't be read or written is told once; one that
+    another process has is looked at in the next round."""
 
     def __init__(self, files: Files) -> None:
         self.files = files
 
     def failed(self, error: OSError) -> None:
+        if isinstance(error, BlockingIOError):
+            return
         note_once(f"{self.files.shown}.cancel: {error.strerror}; no cancel is taken")
 
     def is_asked(self) -> bool:
@@ -107,7 +111,7 @@ class Desk:
         if not self.is_asked():
             return
         try:
-            with opened(self.files.cancel) as file:
+            with opened(self.files.cancel, waits=False) as file:
                 its = read_requests(text_in(file))
                 kept = [it for it in its if it.process and lives(it.process)]
                 rewrite(file, kept, {})
@@ -123,7 +127,7 @@ class Desk:
         if not self.is_asked():
             return []
         try:
-            with opened(self.files.cancel) as file:
+            with opened(self.files.cancel, waits=False) as file:
                 text = text_in(file)
                 its, answers = read_requests(text), read_answers(text)
                 if not its:
@@ -136,7 +140,7 @@ class Desk:
     def answer(self, done: Mapping[Request, str]) -> None:
         """Puts answers in the place of requests, which are durable."""
         try:
-            with opened(self.files.cancel) as file:
+            with opened(self.files.cancel, waits=False) as file:
                 text = text_in(file)
                 left = [it for it in read_requests(text) if it not in done]
                 answers = read_answers(text)

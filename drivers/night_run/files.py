@@ -9,6 +9,7 @@
     STORE.log        what ran when, how long, and how it ended (`log`)
     STORE.cancel     which groups somebody wants to have cancelled (`cancels`)
     STORE.ended      how commands ended whose groups a renewal has given back (`past`)
+    STORE.failed     `night` has seen a sync of the store fail; its next opening mends it
 """
 
 from __future__ import annotations
@@ -67,6 +68,20 @@ class Files:
         if found.st_size not in SIZES:
             raise Mistake(f"{self.shown}: it has {found.st_size} bytes, and so is no store")
 
+    def is_marked(self) -> bool:
+        """Whether a sync of the store has failed; the next opening by `night` mends it."""
+        return os.path.exists(f"{self.path}.failed")
+
+    def forget_pages(self) -> None:
+        """Lets the system forget what it holds of the store in memory: after a failed sync that may
+        be more than the disk has, and the next reader is to see the disk."""
+        with contextlib.suppress(OSError):
+            file = open_regular(self.path, os.O_RDONLY)
+            try:
+                os.posix_fadvise(file, 0, 0, os.POSIX_FADV_DONTNEED)
+            finally:
+                os.close(file)
+
     def look_for_log(self) -> None:
         """A store that is gone isn't made anew while what it did is known."""
         for it in (self.log, self.ended):
@@ -74,9 +89,6 @@ class Files:
                 name = f"{self.shown}{it[len(self.path):]}"
                 raise Fault(f"{self.shown} is not there, and {name} is: bring the store back, or"
                             f" put {name} aside for a new one")
-
-    def is_writable(self) -> bool:
-        return os.access(os.path.dirname(self.path), os.W_OK)
 
     # --- STORE.lock
 

@@ -15,7 +15,7 @@ from __future__ import annotations
 
 import collections
 import re
-from collections.abc import Iterable, Iterator
+from collections.abc import Iterable
 from dataclasses import dataclass
 
 from . import Mistake, Name
@@ -111,7 +111,7 @@ class Jobs:
             raise Wrong("it has a byte 0, as no text does")
         words = line.split(None, 2)
         if words[0].endswith(":"):
-            self.set(words[0][:-1], number, line[len(words[0]):])
+            self.set_group(words[0][:-1], number, line[len(words[0]):])
         elif len(words) > 1 and words[1].endswith(":"):
             self.set_one(words[0], words[1][:-1], number, words[2] if words[2:] else "")
         elif len(words) < 3:
@@ -133,7 +133,7 @@ class Jobs:
         self.texts[group, key], self.lines[group, key] = command, number
         self.groups.setdefault(group, Settings(0))
 
-    def set(self, group: str, number: int, rest: str) -> None:
+    def set_group(self, group: str, number: int, rest: str) -> None:
         check_group(group)
         settings = self.groups.setdefault(group, Settings(number))
         settings.line = settings.line or number
@@ -178,8 +178,8 @@ class Jobs:
     def sorted(self) -> list[Name | str]:
         """Commands and groups, each behind all that it waits for; a group behind its commands."""
         needs: dict[Name | str, Iterable[Name | str]] = {
-            it: job.after for it, job in self.all.items()}
-        needs.update(self.members)
+            **{it: job.after for it, job in self.all.items()},
+            **{it: tuple(its) for it, its in self.members.items()}}
         left = {it: len(set(its)) for it, its in needs.items()}
         wants: dict[Name | str, list[Name | str]] = collections.defaultdict(list)
         for it, its in needs.items():
@@ -209,10 +209,6 @@ class Jobs:
         line = own.after_line if own and own.after else self.groups[first[0]].after_line
         told = ", after ".join(it if isinstance(it, str) else "/".join(it) for it in ring)
         raise self.mistake(line or self.lines[first], f"a cycle: {told}")
-
-
-def names(order: Iterable[Name | str]) -> Iterator[Name]:
-    return (it for it in order if isinstance(it, tuple))
 
 
 def check_group(group: str) -> None:

@@ -20,8 +20,8 @@ from collections.abc import Iterator
 from . import Fault, base_of
 from .commands import Running
 from .files import Files, try_lock
-from .jobs import Jobs
-from .processes import Process, boot, group_exists, lives, members, stat_of
+from .jobs import Job, Jobs
+from .processes import Process, age, boot, group_exists, lives, members, stat_of
 from .regular import open_regular, read_regular
 from .settings import OF_ALL
 from .telling import note
@@ -35,10 +35,15 @@ PATIENCE = 10.0
 class Leftover(Running):
     """A command of an earlier driver, or what it left of its process group."""
 
-    def __init__(self, group: str, key: str, process: Process, keeps: bool) -> None:
+    def __init__(self, group: str, key: str, process: Process, job: Job | None) -> None:
         super().__init__((base_of(group), key), process.pid)
-        self.process, self.keeps = process, keeps
+        self.process = process
+        self.keeps = job is not None and job.keeps
+        self.timeout = job.timeout if job else None
         self.is_orphaned = False
+
+    def is_overdue(self) -> bool:
+        return self.timeout is not None and age(self.process) >= self.timeout
 
     def is_there(self) -> bool:
         """Whether it still runs. What a command leaves goes with it, unless it may live on."""
@@ -94,8 +99,7 @@ def written(text: str, files: Files, jobs: Jobs) -> Iterator[Leftover]:
         else:
             continue
         if group != OF_ALL:
-            job = jobs.all.get((base_of(group), key))
-            yield Leftover(group, key, process, job is not None and job.keeps)
+            yield Leftover(group, key, process, jobs.all.get((base_of(group), key)))
 
 
 def running_now(files: Files) -> set[tuple[str, str]]:

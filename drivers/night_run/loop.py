@@ -34,10 +34,11 @@ import signal
 import sys
 import time
 from collections.abc import Callable, Iterator
+from functools import partial
 
 from . import Fault, Name, base_of
 from .cancels import NO_GROUP, Desk, Request
-from .commands import Command, NotNow, text_of
+from .commands import Command, NotNow, Running, text_of
 from .facts import CANCELED, PASSED, Book, Facts, book_of, facts_of, numbered
 from .files import Files
 from .jobs import Jobs
@@ -90,6 +91,9 @@ class Batch:
 
 class Driver:
     """Runs the commands of a file over a store, from what has ended to the end of the night."""
+
+    session: Session
+    opened: float  # when that was
 
     def __init__(self, files: Files, jobs: Jobs, log: Log, past: Past, pids: int,
                  left: list[Leftover], most: int, grace: float) -> None:
@@ -144,6 +148,7 @@ class Driver:
         """Decides whether another run of `night` is begun."""
         if self.asked_to_end > 1:
             raise Fault(str(ended))
+        self.files.forget_pages()
         if ended.is_in_use() and not self.is_open and self.busy < MOST_BUSY:
             self.busy += 1
             self.meanwhile()
@@ -151,7 +156,8 @@ class Driver:
             return
         if self.is_open and time.monotonic() > self.opened + GOOD_RUN:
             self.lost = 0
-        if ended.status >= 0 and not self.is_open or self.lost >= MOST_LOST:
+        is_hopeless = ended.status >= 0 and not self.is_open and not self.files.is_marked()
+        if is_hopeless or self.lost >= MOST_LOST:
             raise Fault(str(ended))
         self.lost += 1
         note(f"{ended}; another one is begun")
@@ -337,13 +343,12 @@ class Driver:
                 self.forget(command)
                 continue
             what = "ok" if end == "ok" else f"error {end}"
-            batch.add(f"finish {command.number} {what}",
-                      lambda _, its=command: self.recorded(its))
+            batch.add(f"finish {command.number} {what}", partial(self.recorded, command))
             self.facts.busy.discard(command.name)
             self.facts.ended(command.name, end, now)
             self.reopen(command.name, end)
 
-    def recorded(self, command: Command) -> None:
+    def recorded(self, command: Command, _: str = "ok") -> None:
         """The end of a command is durable."""
         self.lost = 0
         if self.commands.get(command.name) is command:
@@ -386,8 +391,7 @@ class Driver:
             for scope in scopes:
                 batch.add(f"cancel {scope.name} {it.why}")
             for scope in scopes[:1]:
-                batch.add(f"scope {scope.name}",
-                          lambda reply, its=it: answers.__setitem__(its, reply))
+                batch.add(f"scope {scope.name}", partial(answers.__setitem__, it))
             self.is_stale = True
         return answers
 
@@ -405,7 +409,7 @@ class Driver:
         for group, scope in passed:
             self.facts.cancel(group, self.book.said.get(group, PASSED))
             self.is_stale = True
-            batch.add(f"scope {scope.name}", lambda reply, its=group: self.passed(its, reply))
+            batch.add(f"scope {scope.name}", partial(self.passed, group))
 
     def passed(self, group: str, reply: str) -> None:
         """Takes in why a scope is done, as the store says it."""
@@ -445,9 +449,7 @@ class Driver:
     def add_start(self, batch: Batch, command: Command) -> None:
         """The lines that submit and start a task for a command."""
         base, key = command.name
-        group = self.book.groups.get(base)
-        if group is None:
-            group = self.add_group(batch, base)
+        group = self.book.groups.get(base) or self.add_group(batch, base)
         last = self.book.last.get(command.name)
         is_retry = last is not None and last.group == group and last.phase == "interrupted" \
             and last.number not in self.book.retried
@@ -458,7 +460,7 @@ class Driver:
             batch.add(f"go {group} {JOB} {key}", self.submitted)
         tried = self.book.tries[group, key]
         self.book.tries[group, key] += 1
-        batch.add("start", lambda reply: self.started(command, group, tried, reply))
+        batch.add("start", partial(self.started, command, group, tried))
 
     def add_group(self, batch: Batch, base: str) -> str:
         """The lines that make a group of the store in a group's scope."""
@@ -530,24 +532,27 @@ class Driver:
 
     def press(self) -> None:
         """Asks commands to end whose time is over, and kills those that don't."""
-        now = int(time.time())
-        for it in [*self.commands.values(), *self.left]:
-            if isinstance(it, Command):
-                if not it.has_begun or it.poll(self.grace) or it.status is not None:
-                    continue
-                if it.is_overdue():
-                    it.stop(f"timeout {it.job.timeout_said}")
-            elif it.is_orphaned:
-                it.stop("")
-            scope = self.book.scopes.get(it.name[0])
-            cause = self.facts.done.get(it.name[0])
-            if cause is None and scope and scope.deadline is not None and scope.deadline <= now:
-                cause = self.book.said.get(it.name[0], PASSED)
-            if cause is not None:
-                it.stop(text_of(f"{CANCELED}{cause}"))
-            elif self.asked_to_end > 1:
-                it.stop("")
-            it.press(self.grace)
+        for command in self.commands.values():
+            if command.has_begun and not command.poll(self.grace) and command.status is None:
+                if command.is_overdue():
+                    command.stop(f"timeout {command.job.timeout_said}")
+                self.press_one(command)
+        for left in self.left:
+            if left.is_orphaned or left.is_overdue():
+                left.stop("")
+            self.press_one(left)
+
+    def press_one(self, it: Running) -> None:
+        scope = self.book.scopes.get(it.name[0])
+        cause = self.facts.done.get(it.name[0])
+        if cause is None and scope and scope.deadline is not None \
+                and scope.deadline <= time.time():
+            cause = self.book.said.get(it.name[0], PASSED)
+        if cause is not None:
+            it.stop(text_of(f"{CANCELED}{cause}"))
+        elif self.asked_to_end > 1:
+            it.stop("")
+        it.press(self.grace)
 
     def look_for_leftovers(self) -> None:
         """Forgets commands of an earlier driver that have ended; they are begun anew."""
@@ -604,9 +609,9 @@ class Driver:
         signal.signal(signal.SIGCHLD, lambda *_: None)
         for it, steps in ((signal.SIGINT, 1), (signal.SIGTERM, 2), (signal.SIGHUP, 2)):
             if signal.getsignal(it) != signal.SIG_IGN:
-                signal.signal(it, lambda *_, steps=steps: self.end_soon(steps))
+                signal.signal(it, partial(self.end_soon, steps))
 
-    def end_soon(self, steps: int) -> None:
+    def end_soon(self, steps: int, *_: object) -> None:
         self.asked_to_end += steps
         if self.asked_to_end == 1:
             tell("no command is begun any more; once more stops those that run")

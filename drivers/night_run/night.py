@@ -1,6 +1,6 @@
 """The program `night`: the words that print at once, and a run of `night script`.
 
-A reply that doesn't come within `SECONDS` is a fault: the run is killed then, a stopped one too.
+A reply that doesn't come in its time is a fault: the run is killed then, a stopped one too.
 """
 
 from __future__ import annotations
@@ -26,7 +26,9 @@ ALREADY_DONE, LIMIT_WHILE_ACTIVE, WAITED, CLOCK_NOT_FORWARD = 12, 13, 15, 17
 NOTHING_READY, SESSION_FULL = 19, 21
 FULL = (TOO_MANY_SCOPES, TOO_MANY_GROUPS, TOO_MANY_TASKS)
 SECONDS = 30.0
-# A renewal fills and syncs a file.
+# A word reads a whole store, or makes one; a session begins with that, too.
+WHOLE_SECONDS = 120.0
+# A renewal does both.
 RENEWAL_SECONDS = 300.0
 # So often in a row the store may be in use, a tenth of a second each.
 MOST_BUSY = 100
@@ -66,7 +68,7 @@ def program() -> str:
                 " it by NIGHT")
 
 
-def ran(*words: str, seconds: float = SECONDS) -> str:
+def ran(*words: str, seconds: float = WHOLE_SECONDS) -> str:
     """What `night` prints for these words. While the store is in use it is tried again."""
     for busy in range(MOST_BUSY):
         try:
@@ -106,6 +108,7 @@ class Session:
         self.poll.register(self.replies, select.POLLIN)
         self.poll.register(wake, select.POLLIN)
         self.left = b""
+        self.has_replied = False
 
     def ask(self, lines: Sequence[str], may: Sequence[int] = ()) -> list[str]:
         """The replies to these lines. One that is refused is a fault, but for the numbers of may:
@@ -132,13 +135,14 @@ class Session:
         while self.left.count(b"\n") < count:
             if b"fault " in self.left:
                 raise self.lost()
-            limit = min(SECONDS, self.meanwhile())
+            limit = min(SECONDS if self.has_replied else WHOLE_SECONDS, self.meanwhile())
             left = began + limit - time.monotonic()
             if left <= 0:
                 self.kill()
                 raise NightEnded(-signal.SIGKILL, f"no reply within {limit:.0f} s")
             self.poll.poll(min(left, 1.0) * 1000)
             self.fill()
+        self.has_replied = True
         *lines, self.left = self.left.split(b"\n", count)
         found = [it.decode("ascii", "replace") for it in lines]
         if any(it.startswith("fault ") for it in found):

@@ -63,6 +63,16 @@ def lives(it: Process) -> bool:
     return found is not None and found.start == it.start and not found.is_dead
 
 
+def age(it: Process) -> float:
+    """How many seconds ago a process of this boot began; 0 where the system doesn't say."""
+    try:
+        with open("/proc/uptime", encoding="ascii") as file:
+            up = float(file.read().split()[0])
+    except (OSError, ValueError, IndexError):
+        return 0.0
+    return max(0.0, up - it.start / os.sysconf("SC_CLK_TCK"))
+
+
 def group_exists(pid: int) -> bool:
     """Whether a process group has a member, a dead one that nobody has waited for, too."""
     try:

@@ -22,7 +22,7 @@ from .jobs import Jobs
 from .leftovers import end_night, left_commands, open_pids
 from .log import Log
 from .loop import Driver
-from .night import ALREADY_DONE, NightEnded, Session, program
+from .night import ALREADY_DONE, RENEWAL_SECONDS, NightEnded, Session, program, ran
 from .opening import advance, check, inspected, now_of
 from .past import Past, read_past
 from .plan import CANCELLED, FAILED, may_begin, standings
@@ -322,7 +322,7 @@ class Run:
             self.files.sign()
         cancels.Desk(self.files).pass_over()
         self.past = read_past(self.files.ended, self.files.shown)
-        state = inspected(self.files)
+        state = self.first_look()
         check(self.files, state, self.past.events)
         self.log = Log(self.files.log, self.files.shown)
         driver = Driver(self.files, self.jobs, self.log, self.past, pids, left, self.words.most,
@@ -331,6 +331,14 @@ class Run:
             return self.idle()
         driver.run()
         return self.finish(driver)
+
+    def first_look(self) -> State:
+        """The state of the store. One whose sync failed is mended by an opening first."""
+        if self.files.is_marked():
+            self.files.forget_pages()
+            note(f"{self.files.shown}: a sync of it has failed; `night` mends it")
+            ran("script", self.files.path, seconds=RENEWAL_SECONDS)
+        return inspected(self.files)
 
     def prepare(self, driver: Driver, state: State) -> bool:
         """Decides which night it is and what runs again; whether there is something to do."""
@@ -376,7 +384,7 @@ class Run:
             driver.past, _ = renew(self.files, self.log, self.past, self.jobs, driver.wake,
                                    driver.meanwhile)
             return None
-        return None if os.path.exists(f"{self.files.path}.failed") else state
+        return None if self.files.is_marked() else state
 
     def tell_missing(self, left: set[Name]) -> None:
         its = names_not_there(self.jobs, left)
