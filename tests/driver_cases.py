@@ -174,6 +174,18 @@ def bad_cancels(tries: Shared) -> None:
         tries.is_same(f"{kind}: {what}: the next night", room.path, room.run()[0], 0)
 
 
+def held_cancels(tries: Shared) -> None:
+    """A process that keeps the lock of the cancels keeps nothing waiting."""
+    kind = "a lock of the cancels that is kept"
+    room = Room(tries, ["g: within 3s", job("g", "a", 60), *(job("h", f"k{it}") for it in range(40))])
+    room.write("s.cancel", "g why\n")
+    with locked(f"{room.path}/s.cancel"):
+        room.write("s.cancel", "g why\n")
+        status, output = room.run("s", "JOBS", "--grace", "1", seconds=60)
+    tries.is_same(kind, room.path, (status, output.splitlines()[-1]),
+                  (1, "41 commands: 40 ok, 1 canceled; 41 run now"))
+
+
 def late_cancels(tries: Shared) -> None:
     """A cancel that a driver doesn't take any more is done, and cancels no later night."""
     kind = "a cancel in a driver's last moment"
@@ -461,6 +473,6 @@ def order(tries: Shared) -> None:
 
 
 CASES = [short_commands, short_deadline, short_cancel, full_store, night_dies, lists, bad_cancels,
-         late_cancels, two_tries, backgrounds, stopped_ok, no_room, clock_ahead, other_jobs,
+         held_cancels, late_cancels, two_tries, backgrounds, stopped_ok, no_room, clock_ahead, other_jobs,
          many_groups, texts, no_traces, hung_night, missing_store, edits, second_evening, order]
 

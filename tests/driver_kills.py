@@ -478,8 +478,8 @@ class Full:
                                                           room.tasks().items()},
                       {(it, 0): "success" for it in ("u--2.k1", "a--2.k6", "a--2.k7", "c.k0")})
         tries.is_same(f"{kind}: the scopes left", room.path, re.findall(
-            r"^scope \d+ (\S+)", room.shown(), re.M), ["root", "night", "a", "u", "c",
-                                                       "night--ended"])
+            r"^scope \d+ (\S+)", room.shown(), re.M), ["root", "night", "a", "night--ended", "u",
+                                                       "c"])
         ended = [f"f{group} k{it} ok" for group in range(self.groups) for it in range(self.tasks)]
         ended += [f"a k{it} ok" for it in range(6)] + ["b good ok", "b bad exit 3", "u k0 ok"]
         tries.is_same(f"{kind}: what had ended", room.path, sorted(

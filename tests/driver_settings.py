@@ -68,6 +68,15 @@ def timeout(tries: Shared) -> None:
     tries.holds(f"{kind}: they are stopped", room.path, took < 40, took)
     tries.is_same(f"{kind}: no process is left", room.path,
                   [it for it in environments(room.path) if "sleep" in it], [])
+    kind = "a timeout over a kill"
+    room = Room(tries, ["g a echo g.a >> begun; sleep 60", "g a: timeout 3s"])
+    run = room.start()
+    room.until(lambda: room.lines("begun"))
+    kill([run.pid])
+    room.ended(run)
+    status, output = room.run("s", "JOBS", seconds=50)
+    tries.is_same(kind, room.path, (status, output.splitlines()[0]),
+                  (1, "g a: timeout 3s; s.out/g.a.1"))
 
 
 def places(tries: Shared) -> None:
