@@ -473,6 +473,6 @@ def order(tries: Shared) -> None:
 
 
 CASES = [short_commands, short_deadline, short_cancel, full_store, night_dies, lists, bad_cancels,
-         held_cancels, late_cancels, two_tries, backgrounds, stopped_ok, no_room, clock_ahead, other_jobs,
-         many_groups, texts, no_traces, hung_night, missing_store, edits, second_evening, order]
-
+         held_cancels, late_cancels, two_tries, backgrounds, stopped_ok, no_room, clock_ahead,
+         other_jobs, many_groups, texts, no_traces, hung_night, missing_store, edits,
+         second_evening, order]

@@ -111,8 +111,13 @@ class Command(Running):
             if self.status is None:
                 self.reap()
             if self.status is not None:
-                self.is_gone = self.job.keeps or not self.pid or self.is_left_alone(grace)
+                self.is_gone = self.may_leave or not self.pid or self.is_left_alone(grace)
         return self.is_gone
+
+    @property
+    def may_leave(self) -> bool:
+        """Whether processes of its group may live on: not those of a try that was stopped."""
+        return self.job.keeps and self.stopped is None
 
     def reap(self) -> None:
         """Takes its status where it has ended. What is left of its group is asked to end before
@@ -124,7 +129,7 @@ class Command(Running):
             if os.waitid(os.P_PID, self.pid, os.WEXITED | os.WNOHANG | os.WNOWAIT) is None:
                 return
             self.took = time.monotonic() - self.since
-            if not self.job.keeps:
+            if not self.may_leave:
                 signal_group(self.pid, signal.SIGTERM)
             self.status = os.waitstatus_to_exitcode(os.waitpid(self.pid, 0)[1])
         except ChildProcessError:

@@ -144,7 +144,7 @@ def read_past_ends(facts: Facts, past: Past, lines: Mapping[Tried, Line], now: f
 
 def read_task(facts: Facts, task: Task, line: Line | None, now: float) -> None:
     if task.phase in ENDED:
-        when = line.ended_at() if line else None
+        when = line.ended_at() if line and task.error else None
         # (the log's moments are whole seconds)
         facts.ended(task.name, task.end(), now if when is None else min(now, when + 1))
     else:

@@ -37,7 +37,8 @@ class Line:
 
     def began_at(self) -> float | None:
         try:
-            return datetime.datetime.strptime(self.began, "%Y-%m-%dT%H:%M:%S%z").timestamp()
+            when = datetime.datetime.fromisoformat(self.began)
+            return when.timestamp() if when.tzinfo else None
         except (ValueError, OverflowError):
             return None
 
