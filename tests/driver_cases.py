@@ -177,7 +177,8 @@ def bad_cancels(tries: Shared) -> None:
 def held_cancels(tries: Shared) -> None:
     """A process that keeps the lock of the cancels keeps nothing waiting."""
     kind = "a lock of the cancels that is kept"
-    room = Room(tries, ["g: within 3s", job("g", "a", 60), *(job("h", f"k{it}") for it in range(40))])
+    many = [job("h", f"k{it}") for it in range(40)]
+    room = Room(tries, ["g: within 3s", job("g", "a", 60), *many])
     room.write("s.cancel", "g why\n")
     with locked(f"{room.path}/s.cancel"):
         room.write("s.cancel", "g why\n")

@@ -371,8 +371,9 @@ def all_canceled(tries: Shared) -> None:
     room.write("fine", "")
     room.set([*room.jobs, job("h", "b"), job("g", "d")])
     status, output = room.run()
-    tries.is_same(f"{kind}: a new group is none of them", room.path, (status, output.splitlines()), (
-        1, ["g a: exit 1; s.out/g.a.0", "g d: canceled: why",
+    tries.is_same(f"{kind}: a new group is none of them", room.path,
+                  (status, output.splitlines()), (1, [
+        "g a: exit 1; s.out/g.a.0", "g d: canceled: why",
             "4 commands: 2 ok, 1 failed, 1 canceled; 1 run now"]))
     tries.is_same(f"{kind}: failed ones run again", room.path, room.last("s", "JOBS", "--failed"), (
         0, "4 commands: 4 ok; 2 run now"))

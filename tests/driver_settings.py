@@ -38,7 +38,8 @@ def retries(tries: Shared) -> None:
     tries.is_same(kind, room.path, (status, shown), (1, [
         "g a: exit 3; s.out/g.a.2", "h c: exit 1; s.out/h.c.0",
         "3 commands: 1 ok, 2 failed; 3 run now"]))
-    tries.is_same(f"{kind}: so often", room.path, room.begun(), {"g.a": 3, "0": 1, "1": 1, "h.c": 1})
+    tries.is_same(f"{kind}: so often", room.path, room.begun(),
+                  {"g.a": 3, "0": 1, "1": 1, "h.c": 1})
     moments = [float(it) for it in room.lines("moments")]
     waits = [later - one for one, later in zip(moments, moments[1:])]
     tries.holds(f"{kind}: they wait", room.path, all(1 <= it < 20 for it in waits), waits)

@@ -65,6 +65,7 @@ class Jobs:
             raise Mistake(f"{path}: {error.strerror}") from error
         if not self.texts:
             raise Mistake(f"{path}: it has no command")
+        self.with_commands = {group for group, _ in self.texts}
         self.all: dict[Name, Job] = {it: self.job(it) for it in self.texts}
         self.members: dict[str, list[Name]] = collections.defaultdict(list)
         for name in self.all:
@@ -163,7 +164,7 @@ class Jobs:
     def need(self, group: str, word: str, line: int) -> Name | str:
         """What a word behind `after` names: a key of the same group, GROUP/KEY, or a group."""
         where, slash, key = word.partition("/")
-        is_group = word in self.groups and word != OF_ALL and any(it[0] == word for it in self.texts)
+        is_group = word != OF_ALL and word in self.with_commands
         if slash and (where, key) in self.texts:
             return where, key
         if (group, word) in self.texts and is_group:

@@ -250,7 +250,8 @@ class Driver:
         found = standings(self.jobs, self.facts)
         wanted = {group for (group, _), it in found.items()
                   if not it.is_final or group in self.anew}
-        if wanted or self.begins_night or any(it[0] not in self.book.scopes for it in self.commands):
+        homeless = any(it[0] not in self.book.scopes for it in self.commands)
+        if wanted or self.begins_night or homeless:
             old = self.book.top
             maker.top()
             moved = old is not None and old is not self.book.top and not maker.is_done(old)

@@ -1,4 +1,4 @@
-"""Files that are opened as files alone: a pipe in the place of one would keep its opener waiting."""
+"""Files that are opened as files alone: a pipe in the place of one keeps its opener waiting."""
 
 from __future__ import annotations
 
