@@ -273,7 +273,8 @@ def no_room(tries: Shared) -> None:
     if os.getuid() or not shutil.which("setpriv") or not shutil.which("prlimit"):
         tries.skip(kind, "it takes root, setpriv and prlimit")
         return
-    room = Room(tries, [job("g", f"k{it}", 0.5) for it in range(10)])
+    # (commands that need no other process: else these fail, and not their starts)
+    room = Room(tries, [f"g k{it} echo g.k{it} >> begun; exec sleep 0.5" for it in range(10)])
     os.chmod(room.path, 0o777)
     user = str(61_000 + os.getpid() % 1000)
     room.before = ["setpriv", f"--reuid={user}", f"--regid={user}", "--clear-groups", "prlimit",
