@@ -1,0 +1,340 @@
+"""What a random night runs: its commands, what each does, and the settings of its file."""
+
+import random
+import time
+from collections.abc import Callable
+from dataclasses import dataclass, field, replace
+from typing import Any
+
+# The shapes of nights: how often each is taken.
+SHAPES = {"mixed": 8, "many": 4, "stops": 3, "names": 3, "damage": 2, "clock": 1}
+
+
+@dataclass(frozen=True)
+class Command:
+    """A command: its place, what `nights_job` is told, and its settings."""
+
+    group: str
+    key: str
+    milliseconds: int = 0
+    status: int = 0
+    fails: int = 0
+    flags: str = ""
+    form: str = "exec {}"
+    after: tuple[str, ...] = ()
+    retries: int | None = None
+    wait: int = 0
+    timeout: int | None = None
+    folder: str = ""
+    word: str = ""
+
+    def shell(self, program: str, room: str) -> str:
+        """What /bin/sh is given."""
+        words = (program, room, self.group, self.key, self.milliseconds, self.status, self.fails,
+                 self.flags or "-")
+        return self.form.format(" ".join(map(str, words)))
+
+    def settings(self) -> list[str]:
+        found = []
+        if self.after:
+            found.append("after " + " ".join(self.after))
+        if self.retries is not None:
+            found.append(f"retries {self.retries}" + (f" wait {self.wait}s" if self.wait else ""))
+        if self.timeout is not None:
+            found.append(f"timeout {self.timeout}s")
+        if self.folder:
+            found.append(f"in {self.folder}")
+        if self.word:
+            found.append(f"env WORD={self.word}")
+        return found
+
+
+@dataclass
+class Group:
+    """The settings of a group."""
+
+    name: str
+    limit: int | None = None
+    until: int | None = None
+    within: int | None = None
+    after: tuple[str, ...] = ()
+    retries: int | None = None
+    timeout: int | None = None
+    stops: bool = False
+    keeps: bool = False
+
+    def settings(self) -> list[str]:
+        found = []
+        if self.limit is not None:
+            found.append(f"limit {self.limit}")
+        if self.until is not None:
+            moment = time.strftime("%Y-%m-%dT%H:%M:%SZ", time.gmtime(self.until))
+            found.append(f"until {moment}")
+        if self.within is not None:
+            found.append(f"within {self.within}s")
+        if self.after:
+            found.append("after " + " ".join(self.after))
+        if self.retries is not None:
+            found.append(f"retries {self.retries}")
+        if self.timeout is not None:
+            found.append(f"timeout {self.timeout}s")
+        if self.stops:
+            found.append("stop on failure")
+        if self.keeps:
+            found.append("background keep")
+        return found
+
+
+@dataclass
+class Plan:
+    """A night: its file, the words of its driver, and how often it is disturbed."""
+
+    shape: str
+    most: int
+    grace: int
+    groups: dict[str, Group]
+    commands: dict[str, Command] = field(default_factory=dict)
+    disturbances: int = 3
+    slow: int = 0
+    # What is done to drivers, and between them; anything where it is empty.
+    kinds: tuple[str, ...] = ()
+    rests: tuple[str, ...] = ()
+    is_brief: bool = False
+
+    def text(self, dice: random.Random, program: str, room: str) -> str:
+        """The file of commands. Settings may stand anywhere."""
+        lines = [f"{it.group} {it.key} {it.shell(program, room)}"
+                 for it in self.commands.values()]
+        for group in self.groups.values():
+            for it in group.settings():
+                lines.insert(dice.randrange(len(lines) + 1), f"{group.name}: {it}")
+        for command in self.commands.values():
+            if command.settings():
+                lines.insert(dice.randrange(len(lines) + 1),
+                             f"{command.group} {command.key}: {' '.join(command.settings())}")
+        return "".join(f"{it}\n" for it in ("# a night", "", *lines))
+
+    def has_deadline(self, group: str) -> bool:
+        return self.groups[group].until is not None or self.groups[group].within is not None
+
+    def retries_of(self, key: str) -> int:
+        command = self.commands[key]
+        own, its = command.retries, self.groups[command.group].retries
+        return own if own is not None else its or 0
+
+    def timeout_of(self, key: str) -> int | None:
+        command = self.commands[key]
+        own = command.timeout
+        return own if own is not None else self.groups[command.group].timeout
+
+    def before(self, key: str) -> set[str]:
+        """The keys after which this one comes."""
+        command = self.commands[key]
+        found: set[str] = set()
+        for name in (command.after or self.groups[command.group].after):
+            if name in self.groups:
+                found |= {it.key for it in self.commands.values() if it.group == name}
+            else:
+                found.add(name.rpartition("/")[2])
+        return found
+
+
+def make_plan(dice: random.Random, knows: bool, shape: str = "") -> Plan:
+    """A random night; with settings that today's driver knows alone, or all."""
+    if shape in BRIEF:
+        return BRIEF[shape]()
+    shape = shape or dice.choices(list(SHAPES), list(SHAPES.values()))[0]
+    names = dice.sample(("disks", "mails", "sums", "a", "b-2"), dice.randint(1, 4))
+    plan = Plan(shape, dice.choice((1, 2, 3, 4, 4, 8, 8)), dice.choice((1, 1, 2)),
+                {it: Group(it) for it in names})
+    makers = {"mixed": mixed, "many": many, "stops": stops, "names": of_names,
+              "damage": mixed, "clock": mixed}
+    for it in makers[shape](dice, names):
+        plan.commands[it.key] = it
+    for group in plan.groups.values():
+        set_group(dice, plan, group, knows)
+    if knows:
+        add_settings(dice, plan)
+    plan.disturbances = dice.randint(1, 3) if shape == "many" else dice.randint(0, 5)
+    plan.slow = dice.choice((0, 0, 0, 0, 3, 20))
+    return plan
+
+
+def mixed(dice: random.Random, names: list[str]) -> list[Command]:
+    """Short and long ones, some of which fail."""
+    return [Command(dice.choice(names), f"k{at:02}",
+                    dice.choice((0, 0, 1, 5, 20, 60, 200)),
+                    dice.choice((0, 0, 0, 0, 0, 0, 0, 0, 1, 9)),
+                    dice.choice((0, 0, 0, 0, 0, 0, 1, 2)),
+                    flags_of(dice, "ccibhd", 0.15), form_of(dice))
+            for at in range(dice.randint(15, 60))]
+
+
+def many(dice: random.Random, names: list[str]) -> list[Command]:
+    """Hundreds that are as short as they can be."""
+    failing = dice.choice((0.0, 0.0, 0.02))
+    return [Command(dice.choice(names), f"k{at:03}", 0, int(dice.random() < failing))
+            for at in range(dice.randint(100, 250))]
+
+
+def stops(dice: random.Random, names: list[str]) -> list[Command]:
+    """Those that are stopped: some ignore that, some answer it with status 0."""
+    return [Command(dice.choice(names), f"k{at:02}", dice.choice((10, 300, 900, 2500)), 0, 0,
+                    flags_of(dice, "ziizzbhd", 0.7), form_of(dice))
+            for at in range(dice.randint(4, 14))]
+
+
+def of_names(dice: random.Random, names: list[str]) -> list[Command]:
+    """Those whose try a driver may fail to see: they close what they inherit."""
+    return [Command(dice.choice(names), f"k{at:02}", dice.choice((5, 100, 500, 1200)), 0, 0,
+                    flags_of(dice, "cccd", 0.8), form_of(dice))
+            for at in range(dice.randint(4, 14))]
+
+
+def flags_of(dice: random.Random, flags: str, chance: float) -> str:
+    """One of the flags, or none. One that leaves a process leaves it in its own group."""
+    return dice.choice(flags) if dice.random() < chance else ""
+
+
+def form_of(dice: random.Random) -> str:
+    return dice.choice(("exec {}", "exec {}", "{}", "{}; exit $?", ": | {}"))
+
+
+def set_group(dice: random.Random, plan: Plan, group: Group, knows: bool) -> None:
+    if dice.random() < 0.4:
+        group.limit = dice.randint(1, 4)
+    if plan.shape in ("many", "stops", "mixed") and dice.random() < 0.3:
+        if dice.random() < 0.6:
+            group.until = int(time.time()) + dice.randint(2, 5)
+        else:
+            group.within = dice.randint(1, 4)
+    if not knows:
+        return
+    group.stops = dice.random() < 0.1
+    group.keeps = dice.random() < 0.2
+    if dice.random() < 0.2:
+        group.retries = dice.randint(0, 2)
+    if plan.shape == "stops" and dice.random() < 0.4:
+        group.timeout = 1
+    earlier = list(plan.groups)[:list(plan.groups).index(group.name)]
+    if earlier and dice.random() < 0.15:
+        group.after = tuple(dice.sample(earlier, 1))
+
+
+def add_settings(dice: random.Random, plan: Plan) -> None:
+    """Settings of single commands. Each comes after earlier ones alone, so that there is no
+    cycle."""
+    order = list(plan.groups)
+    seen: list[Command] = []
+    for key, it in plan.commands.items():
+        chance = 0.03 if plan.shape == "many" else 0.2
+        may = [other for other in seen if order.index(other.group) <= order.index(it.group)]
+        if may and dice.random() < chance:
+            picked = dice.sample(may, min(len(may), dice.choice((1, 1, 2, 3))))
+            it = replace(it, after=tuple(
+                other.key if other.group == it.group else f"{other.group}/{other.key}"
+                for other in picked))
+        if dice.random() < chance:
+            it = replace(it, retries=dice.randint(0, 3), wait=dice.choice((0, 0, 1)))
+        if plan.shape == "stops" and dice.random() < 0.3:
+            it = replace(it, timeout=dice.choice((1, 1, 30)))
+        if dice.random() < chance / 2:
+            it = replace(it, folder="in", word=dice.choice(("x", "a=b", "y-1")))
+        plan.commands[key] = it
+        seen.append(it)
+
+
+# --- brief nights, each for one kind of wrong driver
+
+def brief(shape: str, most: int, commands: list[Command], *kinds: str, slow: int = 0,
+          rests: tuple[str, ...] = ()) -> Plan:
+    """A night that is disturbed once by each of these."""
+    groups = {it.group: Group(it.group) for it in commands}
+    return Plan(shape, most, 1, groups, {it.key: it for it in commands}, len(kinds), slow, kinds,
+                rests, is_brief=True)
+
+
+def alike(count: int, milliseconds: int, group: str = "a", **how: Any) -> list[Command]:
+    return [Command(group, f"{group}{at:03}", milliseconds, **how) for at in range(count)]
+
+
+def acks() -> Plan:
+    return brief("acks", 4, alike(20, 0), slow=20)
+
+
+def places() -> Plan:
+    return brief("places", 3, alike(60, 0), slow=5)
+
+
+def limits() -> Plan:
+    plan = brief("limits", 6, alike(12, 60) + alike(6, 60, "b"))
+    plan.groups["a"].limit = 2
+    return plan
+
+
+def late() -> Plan:
+    """One command after the other, long behind the group's deadline and a cancel."""
+    plan = brief("late", 2, alike(60, 50) + alike(60, 50, "b"), "cancel b")
+    plan.groups["a"].within = 1
+    return plan
+
+
+def alive() -> Plan:
+    return brief("alive", 3, alike(4, 1500, flags="c"), "both", "driver")
+
+
+def zero() -> Plan:
+    """Commands that are stopped by their timeout, and answer that with status 0."""
+    plan = brief("zero", 4, alike(4, 9000, flags="z") + alike(2, 10, "b"))
+    plan.groups["a"].timeout = 1
+    return plan
+
+
+def termed() -> Plan:
+    """The same, by a signal to the driver."""
+    return brief("termed", 4, alike(4, 700, flags="z"), "term", "term")
+
+
+def failing() -> Plan:
+    return brief("failing", 2, alike(12, 5, status=1) + alike(12, 5, "b"), "both", "driver",
+                 "both")
+
+
+def twice() -> Plan:
+    return brief("twice", 2, alike(120, 0), "both", "both", "driver")
+
+
+def background() -> Plan:
+    return brief("background", 3, alike(2, 20, flags="b") + alike(2, 20, "b", flags="h"))
+
+
+def spoilt() -> Plan:
+    return brief("spoilt", 2, alike(12, 150), "spoil s.cancel", "spoil s.log", "both")
+
+
+def looked() -> Plan:
+    return brief("looked", 2, alike(10, 300), "all", "all", rests=("look",))
+
+
+def chained() -> Plan:
+    """Each comes after the one before it; the first ones of two chains fail, for good or once."""
+    commands = []
+    for group, status, fails in (("a", 1, 0), ("b", 0, 1), ("c", 0, 0)):
+        for at in range(4):
+            key = f"{group}{at}"
+            commands.append(Command(
+                group, key, 60, status if not at else 0, fails if not at else 0,
+                after=(f"{group}{at - 1}",) if at else (), retries=1))
+    return brief("chained", 4, commands, "both", "driver")
+
+
+def stopping() -> Plan:
+    """A group that stops on its first failure."""
+    plan = brief("stopping", 1, [Command("a", "a0", 5, 1), *alike(10, 60)[1:]], "both")
+    plan.groups["a"].stops = True
+    return plan
+
+
+BRIEF: dict[str, Callable[[], Plan]] = {it.__name__: it for it in (
+    acks, places, limits, late, alive, zero, termed, failing, twice, background, spoilt, looked,
+    chained, stopping)}

@@ -1,0 +1,474 @@
+"""A random night from its first line to its last: drivers are begun, disturbed and begun again
+until it has ended, and then it is compared with what its commands told."""
+
+import json
+import os
+import random
+import shutil
+import signal
+import subprocess
+import time
+from dataclasses import dataclass
+
+from nights_oracle import Seen, Stop, complaints, end_between, epoch_of, night_of
+from nights_plan import Command, Group, make_plan
+from nights_room import SECONDS_TO_END, Room, Tools, command_line, hit, kill, processes
+
+# What is done to a driver, and how often.
+KILLS = {"driver": 6, "both": 4, "night": 3, "rest": 2, "all": 2}
+ASKED = {"int": 2, "term": 2, "int twice": 1, "hup": 1}
+OTHERS = {"cancel": 3, "second": 1, "halt": 1}
+ENDED = ("ok", "failed", "canceled", "not begun")
+# A moment that is long past the end of any night here.
+YEARS = 3 * 365 * 86400
+
+
+@dataclass(frozen=True)
+class Outcome:
+    """A night that was played: how many commands began in it, and what was wrong."""
+
+    seed: int
+    shape: str
+    tries: int
+    bad: list[str]
+    folder: str
+    notes: list[str]
+
+
+def play(tools: Tools, seed: int, shape: str = "") -> Outcome:
+    dice = random.Random(seed)
+    plan = make_plan(dice, tools.knows, shape)
+    room = Room(tools, plan, dice)
+    try:
+        Night(room).play()
+    except Exception as error:  # noqa: BLE001 (a night that can't be looked at has failed)
+        room.bad.append(f"the test itself: {type(error).__name__}: {error}")
+    finally:
+        room.clear()
+    seen = room.look()
+    bad = room.bad + complaints(seen)
+    if not bad:
+        shutil.rmtree(room.path)
+    return Outcome(seed, plan.shape, len(seen.all_tries()), bad, room.path, room.notes)
+
+
+class Night:
+    """A night in a room."""
+
+    def __init__(self, room: Room) -> None:
+        self.room, self.plan, self.dice, self.tools = room, room.plan, room.dice, room.tools
+        self.left, self.cause = self.plan.disturbances, "night"
+        self.can_cancel, self.begun = True, 0
+        if self.plan.shape == "clock":
+            self.room.environment.update(LD_PRELOAD=f"{self.tools.folder}/clock.so",
+                                         NIGHTS_CLOCK=f"{room.path}/clock")
+
+    def play(self) -> None:
+        if self.plan.is_brief:
+            return self.to_its_end([])
+        lister = self.start_lister() if self.dice.random() < 0.1 else None
+        try:
+            self.to_its_end([])
+            if self.tools.knows and self.dice.random() < 0.3:
+                self.tries_failed_ones()
+            if self.tools.knows and self.dice.random() < 0.4:
+                self.left, self.cause = self.dice.randint(0, 2), "night"
+                self.to_its_end([self.dice.choice(("--again", "--nightly"))])
+        finally:
+            if lister:
+                os.killpg(lister.pid, signal.SIGKILL)
+                lister.wait()
+        self.room.holds(not self.room.text("lists"), "9: a list beside it failed")
+
+    # --- drivers, one after the other
+
+    def to_its_end(self, words: list[str]) -> None:
+        """Runs drivers until the night has ended, and compares it."""
+        self.begun = begun = self.room.told_size()
+        while self.left > 0:
+            if self.run_disturbed(words):
+                words = []
+                break
+            self.rest()
+            if self.room.told_size() > begun:
+                words = []
+            elif words:
+                words = ["--nightly"]
+        self.restore()
+        began = time.monotonic()
+        status, output = self.room.end(self.room.start(*words), began, self.opens())
+        self.compare(status, output)
+        self.runs_nothing(status)
+        if self.plan.shape == "clock":
+            self.goes_on_later()
+
+    def has_begun(self) -> bool:
+        """Whether something of this night has begun, so that it is what a cancel is of."""
+        return self.room.told_size() > self.begun
+
+    def opens(self) -> str:
+        """Whether the next run is the first one of a night."""
+        cause, self.cause = self.cause, ""
+        return cause
+
+    def run_disturbed(self, words: list[str]) -> bool:
+        """Runs a driver and disturbs it. Whether the night has ended."""
+        room, began = self.room, time.monotonic()
+        is_twin = self.dice.random() < 0.08
+        driver = room.start(*words)
+        twin = room.start(*words, errors="errors.twin") if is_twin else None
+        opened = self.opens()
+        if twin:
+            driver = self.one_of(driver, twin)
+        asked = False
+        while driver.poll() is None and self.left > 0 and not asked:
+            self.wait_for_moment(driver)
+            self.left -= 1
+            if driver.poll() is None:
+                asked = self.disturb(driver)
+        if not asked:
+            status, _ = room.end(driver, began, opened)
+            room.holds(status in (0, 1), f"8: a driver ended with status {status}:"
+                       f" {room.text('errors')[-400:]}")
+            return status in (0, 1)
+        room.end(driver, began, opened, SECONDS_TO_END)
+        self.stop("asked")
+        return False
+
+    def one_of(self, driver: subprocess.Popen[str],
+               twin: subprocess.Popen[str]) -> subprocess.Popen[str]:
+        """Of two that were begun at a time the one that has the store."""
+        end = time.monotonic() + 30
+        while driver.poll() is None and twin.poll() is None and time.monotonic() < end:
+            time.sleep(0.01)
+        first, other = (driver, twin) if driver.poll() is not None else (twin, driver)
+        if first.poll() == 3:
+            first.communicate()
+        elif first.poll() is not None and other.poll() is None:
+            # (it has done all before the other one began)
+            other.communicate()
+            return first
+        self.room.holds(not (first.poll() == 3 and other.poll() == 3),
+                        "4: of two drivers at a time none ran")
+        return other
+
+    def wait_for_moment(self, driver: subprocess.Popen[str]) -> None:
+        """Waits until some commands more have told something, or a time."""
+        most = 2 if self.plan.is_brief else 2 * len(self.plan.commands)
+        size = self.room.told_size() + 75 * self.dice.randint(1, most)
+        if self.dice.random() < 0.35 and not self.plan.is_brief:
+            end, size = time.monotonic() + self.dice.uniform(0, 1.5), 1 << 60
+        else:
+            end = time.monotonic() + (120 if self.plan.is_brief else 4)
+        while driver.poll() is None and time.monotonic() < end and self.room.told_size() < size:
+            time.sleep(0.004)
+        time.sleep(self.dice.choice((0, 0, 0.003, 0.02)))
+
+    # --- what is done to a driver
+
+    def disturb(self, driver: subprocess.Popen[str]) -> bool:
+        """Does something to a driver. Whether it was to end by that."""
+        kinds = {**KILLS, **ASKED, **OTHERS}
+        if self.plan.shape in ("damage", "clock"):
+            kinds[self.plan.shape] = 15
+        what, _, of = self.dice.choices(list(kinds), list(kinds.values()))[0].partition(" ")
+        if self.plan.kinds:
+            what, _, of = self.plan.kinds[-1 - self.left].partition(" ")
+        self.room.note(f"{what} {of}")
+        if what in KILLS:
+            hit(driver, what)
+            self.stop(what)
+            return what != "night"
+        if what in ASKED:
+            return self.ask_to_end(driver, what)
+        getattr(self, f"do_{what}")(driver, of)
+        return False
+
+    def stop(self, how: str) -> None:
+        if how != "night":
+            self.room.seen.stops.append(Stop(time.monotonic(), how, self.plan.most))
+
+    def ask_to_end(self, driver: subprocess.Popen[str], what: str) -> bool:
+        which = {"term": signal.SIGTERM, "hup": signal.SIGHUP}.get(what, signal.SIGINT)
+        driver.send_signal(which)
+        if what == "int twice":
+            time.sleep(self.dice.choice((0.0, 0.05, 0.3)))
+            if driver.poll() is None:
+                driver.send_signal(which)
+        return True
+
+    def do_cancel(self, driver: subprocess.Popen[str], of: str) -> None:
+        if self.can_cancel and self.has_begun():
+            group = of or self.dice.choice([*self.plan.groups] * 2 + ["night"])
+            self.room.cancel(group, lambda: driver.poll() is None)
+            it = self.room.seen.cancels[-1]
+            self.room.holds(it.status in (0, 2) or not it.had_driver,
+                            f"3: a cancel of {group} beside a driver ended with {it.status}")
+
+    def do_second(self, driver: subprocess.Popen[str], _: str) -> None:
+        """Another driver, which doesn't get the store; or this one has ended by then."""
+        began = time.monotonic()
+        other = self.room.start(errors="errors.second")
+        status, _ = self.room.end(other, began, "")
+        self.room.holds(status == 3 or driver.poll() is not None,
+                        f"4: a second driver ended with status {status}")
+
+    def do_halt(self, driver: subprocess.Popen[str], _: str) -> None:
+        """Its `night` stands still for a while."""
+        nights = [it for it in processes() if self.is_night_of(driver, it)]
+        for it in nights:
+            kill(it, signal.SIGSTOP)
+        time.sleep(self.dice.uniform(0, 1.5))
+        for it in nights:
+            kill(it, signal.SIGCONT)
+
+    def is_night_of(self, driver: subprocess.Popen[str], pid: int) -> bool:
+        words = command_line(pid).split("\0")
+        try:
+            return "script" in words and os.readlink(f"/proc/{pid}/cwd") == self.room.path
+        except OSError:
+            return False
+
+    def do_clock(self, _: subprocess.Popen[str], __: str) -> None:
+        self.room.write("clock", str(self.dice.choice((0, -3600, -86400, 7200, YEARS))))
+
+    def do_damage(self, _: subprocess.Popen[str], __: str) -> None:
+        how = self.dice.choice(("bytes", "bytes", "cut", "folder", "gone", "line"))
+        self.spoil(self.dice.choice(("s.cancel", "s.log")), how)
+
+    def do_spoil(self, _: subprocess.Popen[str], of: str) -> None:
+        self.spoil(of, "bytes")
+
+    def spoil(self, name: str, how: str) -> None:
+        """Spoils a file beside the store."""
+        path, dice = self.room.path, self.dice
+        self.room.note(f"damage {name}: {how}")
+        clear(f"{path}/{name}")
+        if how == "folder":
+            os.mkdir(f"{path}/{name}")
+            self.can_cancel = self.can_cancel and name != "s.cancel"
+        elif how != "gone":
+            made = {"bytes": dice.randbytes(dice.choice((1, 40, 3000))), "cut": b"0\tdisks\tk",
+                    "line": b"disks \xff\xfe\n\n \x00\ndisks\n" + b"x" * 500 + b"\n"}[how]
+            with open(f"{path}/{name}", "wb") as file:
+                file.write(made)
+
+    def restore(self) -> None:
+        """Takes back what the last run shall not meet."""
+        if os.path.isdir(f"{self.room.path}/s.cancel"):
+            clear(f"{self.room.path}/s.cancel")
+        self.can_cancel = True
+        self.room.write("clock", "0")
+
+    # --- between two drivers
+
+    def rest(self) -> None:
+        """What is done while no driver runs."""
+        dice, room = self.dice, self.room
+        kinds = {"": 13, "look": 4, "cancel": 1, "gone": 2 if self.plan.shape == "names" else 0,
+                 "damage": 8 if self.plan.shape == "damage" else 0}
+        what = dice.choice(self.plan.rests) if self.plan.rests else "" if self.plan.is_brief \
+            else dice.choices(list(kinds), list(kinds.values()))[0]
+        room.note(f"rest: {what}")
+        if what == "look" and self.is_quiet():
+            self.look_only()
+        elif what == "gone" and os.path.isdir(f"{room.path}/s.out"):
+            shutil.rmtree(f"{room.path}/s.out")
+        elif what == "cancel" and self.can_cancel and self.has_begun():
+            room.cancel(dice.choice(list(self.plan.groups)), lambda: False)
+        elif what == "damage":
+            self.spoil(dice.choice(("s.cancel", "s.log")), dice.choice(("bytes", "cut", "gone")))
+        if dice.random() < 0.3:
+            time.sleep(dice.uniform(0, 0.8))
+
+    def is_quiet(self) -> bool:
+        """Waits until nothing of the room runs but what commands left."""
+        left = {it.pid for it in self.room.look().left}
+        end = time.monotonic() + 4
+        while time.monotonic() < end:
+            if not any(self.is_here(it) for it in processes() if it not in left):
+                return True
+            time.sleep(0.05)
+        return False
+
+    def is_here(self, pid: int) -> bool:
+        try:
+            return os.readlink(f"/proc/{pid}/cwd") == self.room.path
+        except OSError:
+            return False
+
+    def look_only(self) -> None:
+        """What only looks changes nothing, and says that nothing runs."""
+        room = self.room
+        before = room.snapshot()
+        kinds: list[tuple[str, ...]] = [("--list",)]
+        if self.tools.knows:
+            kinds += [("--list", "--json"), ("--dry-run",), ("--report", "text")]
+        for it in kinds:
+            status, output, told = room.run("s", "JOBS", *it)
+            room.holds(status == 0, f"9: {' '.join(it)} ended with status {status}: {told[-300:]}")
+            room.holds(": running" not in output or it != ("--list",),
+                       f"9: {' '.join(it)} says that one runs: {output[-300:]}")
+        if not self.is_near_deadline():
+            self.look_at_once()
+        changed = {it for it in before.items() ^ room.snapshot().items()}
+        room.holds(not changed, f"9: what only looks has changed {sorted(it[0] for it in changed)}")
+
+    def is_near_deadline(self) -> bool:
+        """Whether one passes about now, so that two looks may differ."""
+        return any(it.until is not None and -2 < it.until - time.time() < 5
+                   or it.within is not None for it in self.plan.groups.values())
+
+    def look_at_once(self) -> None:
+        """Several that look at a time see the same."""
+        room = self.room
+        at_once = [room.spawn([self.tools.driver, "s", "JOBS", "--list"], f"errors.{it}")
+                   for it in range(3)]
+        found = {(it.communicate()[0], it.returncode) for it in at_once}
+        room.holds(len(found) == 1, f"9: three lists at a time differ: {sorted(found)}")
+
+    def start_lister(self) -> subprocess.Popen[str]:
+        """Something that looks all the time, beside the night."""
+        one = f"'{self.tools.driver}' s JOBS --list >/dev/null 2>errors.lists"
+        other = f"'{self.tools.driver}' s JOBS --dry-run >/dev/null 2>errors.lists"
+        both = f"{one} || cat errors.lists >> lists; {other if self.tools.knows else ':'}"
+        return self.room.spawn(["sh", "-c", f"while :; do {both}; sleep 0.2; done"], "errors.loop")
+
+    # --- what is compared
+
+    def compare(self, status: int | None, output: str) -> None:
+        """Compares how a night ended with what its commands told."""
+        room, seen = self.room, self.room.look()
+        if not room.holds(status in (0, 1), f"8: a night ended with status {status}:"
+                          f" {room.text('errors')[-400:]}"):
+            return
+        phases = self.phases()
+        for key in self.plan.commands:
+            self.compare_key(seen, key, phases.get(key, "nothing"), phases)
+        is_ok = all(phases.get(it) == "ok" for it in self.plan.commands)
+        room.holds((status == 0) == is_ok, f"10: status {status}, and the commands are {phases}")
+        count = sum(it == "ok" for it in phases.values())
+        wanted = f"{len(self.plan.commands)} commands: "
+        told = output.splitlines()[-1:] or [""]
+        room.holds(told[0].startswith(wanted) and (f"{count} ok" in told[0] or not count)
+                   or "nothing to do" in output,
+                   f"10: the summary is {told[0]!r}, and {count} are ok")
+        self.look_for_left(seen)
+
+    def phases(self) -> dict[str, str]:
+        """How each command is, by `--list`."""
+        words = ("s", "JOBS", "--list", *(("--json",) if self.tools.knows else ()))
+        status, output, told = self.room.run(*words)
+        self.room.holds(status == 0, f"9: --list ended with status {status}: {told[-300:]}")
+        if self.tools.knows:
+            return {it["key"]: it["phase"] for it in json.loads(output)}
+        found = {it: "ok" for it in self.plan.commands}
+        for line in output.splitlines():
+            name, _, phase = line.partition(": ")
+            found[name.split()[1]] = phase_of(phase)
+        return found
+
+    def compare_key(self, seen: Seen, key: str, phase: str, phases: dict[str, str]) -> None:
+        now = time.monotonic()
+        since = night_of(seen, now)
+        tries = [it for it in seen.tries[key] if it.began > since]
+        last = tries[-1] if tries else None
+        end = end_between(seen, key, since, now)
+        holds = self.room.holds
+        holds(phase in ENDED, f"10: {key} is {phase} at the end")
+        holds(phase != "ok" or bool(last and last.is_whole() and end == "ok"),
+              f"10: {key} is ok, and its last try was {last}, its end {end}")
+        holds(end != "ok" or phase == "ok", f"10: {key} had ended ok, and is {phase}")
+        if phase == "failed" and last and end and end.startswith("exit "):
+            holds(end == f"exit {last.status}", f"10: {key} is `{end}`, and ended as {last}")
+        may = self.may_be_canceled(seen, key, since)
+        holds(phase != "canceled" or may, f"6: {key} is canceled, and nobody did that")
+        if not may and phase != "ok" and last:
+            timeout = self.plan.timeout_of(key)
+            holds(not last.is_whole() or timeout is not None,
+                  f"10: {key} is {phase}, and its last try was {last}")
+        if phase == "not begun" or not last and phase == "canceled":
+            holds(may or self.has_reason(key, phases), f"10: {key} is {phase}, without a reason")
+
+    def may_be_canceled(self, seen: Seen, key: str, since: float) -> bool:
+        group = self.plan.commands[key].group
+        return self.plan.has_deadline(group) or any(
+            it.group in (group, "night") and it.done > max(since, epoch_of(seen, it.done))
+            for it in seen.cancels)
+
+    def has_reason(self, key: str, phases: dict[str, str]) -> bool:
+        """Whether this one may not be begun: what it comes after, or its group, has failed."""
+        group = self.plan.commands[key].group
+        return any(phases.get(it) != "ok" for it in self.plan.before(key)) or (
+            self.plan.groups[group].stops
+            and any(phases.get(it.key) == "failed" for it in self.plan.commands.values()
+                    if it.group == group))
+
+    def look_for_left(self, seen: Seen) -> None:
+        """No process is left in the group of a command, unless its group keeps it."""
+        now = time.monotonic()
+        end = now + 1.5 + seen.slack(now, now)
+        must_go = [it for it in seen.left if it.flag != "d"
+                   and not self.plan.groups[self.plan.commands[it.key].group].keeps]
+        while time.monotonic() < end and any(self.is_there(it.pid) for it in must_go):
+            time.sleep(0.05)
+        for it in must_go:
+            self.room.holds(not self.is_there(it.pid),
+                            f"7: {it.key} has left the process {it.pid} ({it.flag})")
+        if any(it.how == "all" for it in seen.stops):
+            return
+        for it in seen.left:
+            tries = [one for one in seen.tries[it.key] if one.is_whole()]
+            kept = self.plan.groups[self.plan.commands[it.key].group].keeps
+            if it.flag in "bh" and kept and tries and len(seen.tries[it.key]) == 1:
+                self.room.holds(self.is_there(it.pid) or self.may_be_canceled(seen, it.key, 0.0),
+                                f"7: {it.key} had left {it.pid}, to keep, and it was ended")
+
+    def is_there(self, pid: int) -> bool:
+        return f"{self.room.path}\0" in command_line(pid)
+
+    def runs_nothing(self, status: int | None) -> None:
+        """A night that has ended runs nothing more."""
+        size = self.room.told_size()
+        began = time.monotonic()
+        again, output = self.room.end(self.room.start(), began, "")
+        self.room.holds(again == status, f"5: run again its status is {again}, and was {status}")
+        self.room.holds(self.room.told_size() == size, "5: run again it began something")
+        self.room.holds(not self.tools.knows or "nothing to do" in output,
+                        f"10: run again it prints {output!r}")
+
+    # --- what comes after a night
+
+    def tries_failed_ones(self) -> None:
+        began = time.monotonic()
+        status, output = self.room.end(self.room.start("--failed"), began, "failed")
+        self.compare(status, output)
+
+    def goes_on_later(self) -> None:
+        """A clock that was once ahead doesn't make a later deadline pass."""
+        it = Command("later", f"z{len(self.plan.commands)}")
+        self.plan.commands[it.key] = it
+        self.plan.groups.setdefault("later", Group("later"))
+        text = self.room.text("JOBS")
+        is_new = "later: within" not in text
+        self.room.write("JOBS", text + ("later: within 1h\n" if is_new else "")
+                        + f"{it.group} {it.key} {it.shell(self.tools.job, self.room.path)}\n")
+        began = time.monotonic()
+        status, output = self.room.end(self.room.start(), began, "")
+        self.compare(status, output)
+
+
+def phase_of(told: str) -> str:
+    """The phase that a line of `--list` says."""
+    if told.startswith("canceled: "):
+        return "canceled"
+    if told in ("not submitted", "held", "ready"):
+        return "waiting"
+    return told if told in ("running", "interrupted") else "failed"
+
+
+def clear(path: str) -> None:
+    if os.path.isdir(path) and not os.path.islink(path):
+        shutil.rmtree(path)
+    elif os.path.lexists(path):
+        os.remove(path)

@@ -1,0 +1,314 @@
+"""A folder with a file of commands, a store and drivers over it, and what is done to them."""
+
+import fcntl
+import hashlib
+import os
+import random
+import shutil
+import signal
+import subprocess
+import tempfile
+import time
+from collections.abc import Callable
+from dataclasses import dataclass
+
+from nights_oracle import Cancel, Run, Seen, Stop, read_acked, read_told
+from nights_pace import Pace
+from nights_plan import Plan
+
+HERE = os.path.dirname(os.path.abspath(__file__))
+# So long a driver that nothing disturbs may take, and one that was asked to end.
+SECONDS, SECONDS_TO_END = 45.0, 20.0
+# What a driver prints on a fault of its own.
+TRACEBACK = "Traceback (most recent call last)"
+
+
+@dataclass(frozen=True)
+class Tools:
+    """The programs of the nights: what stands for `night`, a command, and the library."""
+
+    folder: str
+    driver: str
+    knows: bool
+    pace: Pace
+
+    @property
+    def night(self) -> str:
+        return f"{self.folder}/night"
+
+    @property
+    def job(self) -> str:
+        return f"{self.folder}/job"
+
+
+def make_tools(folder: str, program: str, driver: str) -> Tools:
+    """Builds the programs; the driver is asked what it knows."""
+    shutil.copy(program, f"{folder}/night.real")
+    os.chmod(f"{folder}/night.real", 0o755)
+    for source, name, words in (("job", "job", ""), ("between", "night", ""),
+                                ("clock", "clock.so", "-shared -fPIC -ldl")):
+        built = subprocess.run(["cc", "-O1", "-o", f"{folder}/{name}",
+                                f"{HERE}/nights_{source}.c", *words.split()],
+                               capture_output=True, text=True)
+        if built.returncode:
+            raise SystemExit(f"nights: cc can't build nights_{source}.c:\n{built.stderr}")
+    told = subprocess.run([driver, "--help"], capture_output=True, text=True,
+                          env={**os.environ, "NIGHT": f"{folder}/night"})
+    pace = Pace()
+    pace.start()
+    return Tools(folder, driver, "--again" in told.stdout, pace)
+
+
+class Room:
+    """A folder in which a night runs."""
+
+    def __init__(self, tools: Tools, plan: Plan, dice: random.Random) -> None:
+        self.tools, self.plan, self.dice = tools, plan, dice
+        self.path = tempfile.mkdtemp(prefix="room-", dir=tools.folder)
+        for it in ("locks", "tries", "in", "x"):
+            os.mkdir(f"{self.path}/{it}")
+        os.symlink("../s", f"{self.path}/x/s")
+        os.symlink("../JOBS", f"{self.path}/x/JOBS")
+        self.write("JOBS", plan.text(dice, tools.job, self.path))
+        self.write("slow", str(plan.slow))
+        self.environment = {**os.environ, "NIGHT": tools.night}
+        self.seen = Seen(plan, slack=tools.pace.slack)
+        self.bad: list[str] = []
+        self.notes: list[str] = []
+        self.bound(plan.most)
+
+    # --- files
+
+    def write(self, name: str, text: str) -> None:
+        with open(f"{self.path}/.new", "w", encoding="utf-8") as file:
+            file.write(text)
+        os.rename(f"{self.path}/.new", f"{self.path}/{name}")
+
+    def text(self, name: str) -> str:
+        try:
+            with open(f"{self.path}/{name}", encoding="utf-8", errors="replace") as file:
+                return file.read()
+        except FileNotFoundError:
+            return ""
+
+    def told_size(self) -> int:
+        try:
+            return os.path.getsize(f"{self.path}/told")
+        except FileNotFoundError:
+            return 0
+
+    def bound(self, most: int) -> None:
+        """Tells the commands how many of them may run at a time."""
+        limits = "".join(f" {it.name} {it.limit}" for it in self.plan.groups.values()
+                         if it.limit is not None)
+        self.write("bounds", f"{most}{limits}\n")
+
+    # --- drivers
+
+    def note(self, what: str) -> None:
+        self.notes.append(f"{time.monotonic():.3f} {what}")
+
+    def holds(self, is_so: bool, complaint: str) -> bool:
+        if not is_so:
+            self.bad.append(complaint)
+        return is_so
+
+    def words(self, *more: str) -> list[str]:
+        """The words of a driver over this store; it is opened by one of its names."""
+        store = self.dice.choice(("s", "s", "./s", f"{self.path}/s", "x/s"))
+        if not self.tools.knows and not os.path.exists(f"{self.path}/s"):
+            store = "s"
+        jobs = self.dice.choice(("JOBS", "JOBS", "x/JOBS"))
+        return [self.tools.driver, store, jobs, "-j", str(self.plan.most), "--grace",
+                str(self.plan.grace), *more]
+
+    def start(self, *more: str, errors: str = "errors") -> subprocess.Popen[str]:
+        words = self.words(*more)
+        self.note(f"start {' '.join(words[1:])}")
+        return self.spawn(words, errors)
+
+    def spawn(self, words: list[str], errors: str) -> subprocess.Popen[str]:
+        with open(f"{self.path}/{errors}", "w", encoding="utf-8") as file:
+            return subprocess.Popen(words, cwd=self.path, stdin=subprocess.DEVNULL, text=True,
+                                    errors="replace", stdout=subprocess.PIPE, stderr=file,
+                                    start_new_session=True, env=self.environment)
+
+    def end(self, driver: subprocess.Popen[str], began: float, opened: str,
+            seconds: float = SECONDS) -> tuple[int | None, str]:
+        """How a driver ended and what it printed; None where it hangs."""
+        status: int | None
+        try:
+            output = self.output_of(driver, seconds)
+            status = driver.returncode
+        except subprocess.TimeoutExpired:
+            self.show_hanging(driver)
+            hit(driver, "rest")
+            output, status = driver.communicate()[0], None
+            self.seen.stops.append(Stop(time.monotonic(), "it hung", self.plan.most))
+            self.bad.append(f"3: a driver didn't end in {seconds:.0f} s")
+        self.note(f"ended with status {status}")
+        told = self.text("errors")
+        self.holds(TRACEBACK not in told, f"8: a traceback: {told[-600:]}")
+        self.seen.runs.append(Run(began, time.monotonic(), status, opened))
+        return status, output
+
+    def output_of(self, driver: subprocess.Popen[str], seconds: float) -> str:
+        """What a driver printed, once it has ended; it may take longer where all does."""
+        began = time.monotonic()
+        while True:
+            try:
+                return driver.communicate(timeout=2)[0]
+            except subprocess.TimeoutExpired:
+                now = time.monotonic()
+                if now - began > seconds * (0.5 + self.tools.pace.slack(began, now)):
+                    raise
+
+    def show_hanging(self, driver: subprocess.Popen[str]) -> None:
+        shown = subprocess.run(["ps", "-o", "pid,ppid,pgid,stat,wchan,etimes,args", "--ppid",
+                                str(driver.pid), "-p", str(driver.pid)],
+                               capture_output=True, text=True)
+        self.note(f"it hangs: {self.text('errors')[-500:]}\n{shown.stdout}")
+
+    def run(self, *words: str,
+            beside: Callable[[], None] | None = None) -> tuple[int, str, str]:
+        """Runs a driver that only looks, or is to end at once; a hanging one is a fault."""
+        driver = self.spawn([self.tools.driver, *words], "errors.aside")
+        while beside and driver.poll() is None:
+            beside()
+            time.sleep(0.003)
+        try:
+            output = self.output_of(driver, SECONDS_TO_END)
+        except subprocess.TimeoutExpired:
+            driver.kill()
+            output = driver.communicate()[0]
+            self.bad.append(f"3: night-run {' '.join(words)} hangs")
+        told = self.text("errors.aside")
+        self.holds(TRACEBACK not in told, f"8: night-run {' '.join(words)}: {told[-600:]}")
+        return driver.returncode, output, told
+
+    def cancel(self, group: str, had_driver: Callable[[], bool]) -> None:
+        """Cancels a group from a second process."""
+        asked, had = time.monotonic(), had_driver()
+        written: list[float] = []
+        status, output, told = self.run("s", "--cancel", group, "not", "tonight",
+                                        beside=lambda: self.watch(written))
+        done = time.monotonic()
+        self.note(f"cancel {group}: status {status} {output.strip()} {told.strip()}")
+        self.seen.cancels.append(Cancel(group, asked, done, status, had and had_driver(),
+                                        *written))
+
+    def watch(self, written: list[float]) -> None:
+        """Notes when a cancel is asked for."""
+        try:
+            if not written and os.path.getsize(f"{self.path}/s.cancel"):
+                written.append(time.monotonic())
+        except OSError:
+            pass
+
+    # --- what is seen
+
+    def look(self) -> Seen:
+        """All that is known by now."""
+        seen = Seen(self.plan, stops=list(self.seen.stops), runs=list(self.seen.runs),
+                    cancels=list(self.seen.cancels), slack=self.seen.slack)
+        read_told(seen, f"{self.path}/told")
+        read_acked(seen, f"{self.path}/acked")
+        return seen
+
+    def snapshot(self) -> dict[str, tuple[int, int, str]]:
+        """Each file of the store's, with its times and its bytes."""
+        found = {}
+        for folder, _, files in os.walk(self.path):
+            for name in (*files, "."):
+                path = os.path.join(folder, name)
+                at = os.stat(path, follow_symlinks=False)
+                is_ours = name.startswith("errors") or path == f"{self.path}/."
+                if not is_ours:
+                    found[path] = at.st_mtime_ns, at.st_ino, digest(path)
+        return found
+
+    def are_free(self) -> bool:
+        """Whether no command runs: each lock is free."""
+        for it in os.listdir(f"{self.path}/locks"):
+            if it.startswith("key."):
+                file = os.open(f"{self.path}/locks/{it}", os.O_RDONLY)
+                try:
+                    fcntl.flock(file, fcntl.LOCK_EX | fcntl.LOCK_NB)
+                except BlockingIOError:
+                    return False
+                finally:
+                    os.close(file)
+        return True
+
+    def processes(self) -> list[int]:
+        """The commands of this room that are there, and what they left."""
+        return [it for it in processes() if f"{self.path}\0" in command_line(it)]
+
+    def clear(self) -> None:
+        """Ends what is left of it."""
+        for it in self.processes():
+            kill(it)
+
+
+def digest(path: str) -> str:
+    if not os.path.isfile(path):
+        return ""
+    with open(path, "rb") as file:
+        return hashlib.sha256(file.read()).hexdigest()
+
+
+def processes() -> list[int]:
+    return [int(it) for it in os.listdir("/proc") if it.isdigit()]
+
+
+def command_line(pid: int) -> str:
+    try:
+        with open(f"/proc/{pid}/cmdline", encoding="utf-8", errors="replace") as file:
+            return file.read()
+    except OSError:
+        return ""
+
+
+def children(parent: int) -> dict[int, str]:
+    """The processes that this one has begun, each with its name."""
+    found = {}
+    for it in processes():
+        try:
+            with open(f"/proc/{it}/stat", encoding="utf-8", errors="replace") as file:
+                name, _, rest = file.read().partition("(")[2].rpartition(")")
+        except OSError:
+            continue
+        if int(rest.split()[1]) == parent:
+            found[it] = name
+    return found
+
+
+def kill(pid: int, how: int = signal.SIGKILL) -> None:
+    try:
+        os.kill(pid, how)
+    except ProcessLookupError:
+        pass
+
+
+def kill_group(pid: int) -> None:
+    try:
+        os.killpg(pid, signal.SIGKILL)
+    except ProcessLookupError:
+        pass
+
+
+def hit(driver: subprocess.Popen[str], who: str) -> int:
+    """Kills the driver, its `night`, both, all but the commands, or all. How many `night`s."""
+    if who in ("rest", "all"):
+        # (so that it begins no other)
+        kill(driver.pid, signal.SIGSTOP)
+    below = children(driver.pid) if who != "driver" else {}
+    nights = [it for it, name in below.items() if name in ("night", "night.real")]
+    if who != "night":
+        kill(driver.pid)
+    for it, name in below.items():
+        if it in nights or who in ("rest", "all") and name.startswith("python"):
+            kill(it)
+        elif who == "all":
+            kill_group(it)
+    return len(nights)

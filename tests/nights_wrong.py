@@ -1,0 +1,96 @@
+"""Wrong drivers: changes of the driver's text, each of which a night has to find.
+
+`wrong_drivers/NAME.edit` has lines `file:`, `old:` and `new:`, as a must-fail edit has, `breaks:`
+with the number of an invariant, or the setting, and `nights:` with the shapes of the nights that
+are to find that it doesn't hold. An `old:` stands exactly once in its file.
+"""
+
+import os
+import shutil
+import time
+from concurrent.futures import ThreadPoolExecutor
+from dataclasses import dataclass, replace
+
+from nights_play import play
+from nights_room import HERE, Tools
+
+# So many nights are played over a wrong driver before it passes, and so many drivers at a time.
+NIGHTS, BESIDE = 8, 4
+
+
+@dataclass(frozen=True)
+class Change:
+    file: str
+    old: str
+    new: str
+
+
+@dataclass(frozen=True)
+class Wrong:
+    name: str
+    breaks: str
+    shapes: tuple[str, ...]
+    changes: tuple[Change, ...]
+
+
+def read_wrong(path: str) -> Wrong:
+    """Reads an edit. All spaces behind `old: ` and `new: ` count."""
+    said = {"breaks": "", "nights": "", "file": "", "old": ""}
+    changes = []
+    with open(path, encoding="utf-8") as lines:
+        for line in lines:
+            what, _, text = line.rstrip("\n").partition(": ")
+            if what in said:
+                said[what] = text
+            elif what == "new":
+                changes.append(Change(said["file"], said["old"], text))
+    name = os.path.basename(path).removesuffix(".edit")
+    return Wrong(name, said["breaks"], tuple(said["nights"].split()), tuple(changes))
+
+
+def made(wrong: Wrong, tools: Tools) -> str:
+    """The wrong driver, in a copy of the drivers' folder."""
+    folder = f"{tools.folder}/{wrong.name}"
+    shutil.copytree(os.path.dirname(tools.driver), folder,
+                    ignore=shutil.ignore_patterns("__pycache__"))
+    for it in wrong.changes:
+        path = f"{folder}/{it.file}"
+        with open(path, encoding="utf-8") as file:
+            text = file.read()
+        if text.count(it.old) != 1:
+            raise ValueError(f"`{it.old}` stands {text.count(it.old)} times in {it.file}")
+        with open(path, "w", encoding="utf-8") as file:
+            file.write(text.replace(it.old, it.new))
+    return f"{folder}/{os.path.basename(tools.driver)}"
+
+
+def try_one(wrong: Wrong, tools: Tools) -> bool:
+    """Plays nights over a wrong driver until one fails. Whether it was found."""
+    began, others = time.monotonic(), list[str]()
+    try:
+        wrongly = replace(tools, driver=made(wrong, tools))
+    except (OSError, ValueError) as error:
+        print(f"FAILED the wrong driver {wrong.name}: {error}", flush=True)
+        return False
+    for at in range(NIGHTS):
+        it = play(wrongly, at, wrong.shapes[at % len(wrong.shapes)])
+        shutil.rmtree(it.folder, ignore_errors=True)
+        why = next((bad for bad in it.bad if bad.startswith(f"{wrong.breaks}: ")), None)
+        if why:
+            print(f"found: {wrong.name}: {why.splitlines()[0][:150]};"
+                  f" {time.monotonic() - began:.0f} s", flush=True)
+            return True
+        others += it.bad[:1]
+    print(f"FAILED the wrong driver {wrong.name} passes {NIGHTS} nights; {others[:2]}", flush=True)
+    return False
+
+
+def try_wrong_drivers(tools: Tools, name: str) -> int:
+    """Tries every one, or that of this name; how many weren't found."""
+    folder = f"{HERE}/wrong_drivers"
+    every = [read_wrong(f"{folder}/{it}") for it in sorted(os.listdir(folder))
+             if it.endswith(".edit") and name in ("every", it.removesuffix(".edit"))]
+    with ThreadPoolExecutor(BESIDE) as pool:
+        found = list(pool.map(lambda it: try_one(it, tools), every))
+    print(f"ran: wrong drivers: {len(every)}, {found.count(False)} passed")
+    return found.count(False) if every else 1
