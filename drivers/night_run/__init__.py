@@ -14,8 +14,6 @@ docs/driver.md has the rules that keep it safe, and what it can't keep.
 
 from __future__ import annotations
 
-VERSION = "night-run 0.2.0"
-
 # A command's group, as the file of commands has it, and its key.
 Name = tuple[str, str]
 

@@ -14,7 +14,7 @@ import os
 import re
 import time
 
-from . import VERSION, Fault, Mistake, Name, base_of, cancels, rows, telling
+from . import Fault, Mistake, Name, base_of, cancels, rows, telling
 from .commands import text_of
 from .facts import Book, Facts, book_of, facts_of, when_ended
 from .files import Files
@@ -32,6 +32,7 @@ from .state import State
 from .summary import (alarm, changed, failed_count, failures, is_well, list_lines,
                       names_not_there, nothing_to_do, total)
 from .telling import note, tell
+from .version import version
 from .views import View, look, report
 
 HELP = """Runs the shell commands of the file JOBS as tasks of STORE, which it makes where there is
@@ -110,7 +111,7 @@ def read_words() -> argparse.Namespace:
     what.add_argument("--cancel", nargs="+", metavar=("GROUP", "WHY"),
                       help="cancel a group, or `night`, also while another night-run runs it")
     reader.add_argument("--json", action="store_true", help="with --list: every command, as JSON")
-    reader.add_argument("--version", action="version", version=VERSION)
+    reader.add_argument("--version", action="version", version=f"night-run {version()}")
     found = reader.parse_args()
     if not found.cancel and found.jobs is None:
         reader.error("the file JOBS is missing")
