@@ -33,7 +33,7 @@ const FAILED: Said<'static> = Said::Faulty(Fault::DiskFailed);
 type Back<D> = (D, Option<Fault>, Vec<Reply>);
 
 /// Opens a disk, plays steps where it is opened, and gives it back.
-fn play_or_fail<D: RunDisk + Drop>(
+pub fn play_or_fail<D: RunDisk + Drop>(
     rt: &impl Abort,
     alloc: Global,
     disk: D,

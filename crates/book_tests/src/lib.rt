@@ -21,6 +21,8 @@ mod disks;
 #[cfg(test)]
 mod failures;
 #[cfg(test)]
+mod forgetful;
+#[cfg(test)]
 mod kills;
 #[cfg(test)]
 mod looks;
