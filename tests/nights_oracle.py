@@ -204,12 +204,13 @@ def places(seen: Seen) -> Iterator[str]:
 
 def cancels_obeyed(seen: Seen) -> Iterator[str]:
     for it in seen.cancels:
-        if it.written is not None and it.had_driver:
+        if it.written is not None:
             obeyed = next((at for at, group in seen.canceled
                            if group == it.group and at > it.written), it.done)
             begun = starts_in(seen, it.written, obeyed)
-            if obeyed - it.written > PROMPT + seen.slack(it.written, obeyed) or \
-                    begun > ROUNDS * seen.plan.most:
+            is_slow = obeyed - it.written > PROMPT + seen.slack(it.written, obeyed)
+            # (a driver that ends meanwhile has let it wait, too)
+            if is_slow and it.had_driver or begun > ROUNDS * seen.plan.most:
                 yield (f"3: the cancel of {it.group} was obeyed {obeyed - it.written:.2f} s later,"
                        f" after {begun} commands had been begun")
         if it.status:
