@@ -114,7 +114,8 @@ class Night:
     def run_disturbed(self, words: list[str]) -> bool:
         """Runs a driver and disturbs it. Whether the night has ended."""
         room, began = self.room, time.monotonic()
-        is_twin = self.dice.random() < 0.08
+        # (of two with --again the second may begin a night more, once the first has ended)
+        is_twin = self.dice.random() < 0.08 and not words
         driver = room.start(*words)
         twin = room.start(*words, errors="errors.twin") if is_twin else None
         opened = self.opens()

@@ -356,6 +356,7 @@ class Driver:
             del self.commands[command.name]
         self.ran[command.name] = command
         end = command.end() or "interrupted"
+        self.is_woken |= end != "ok"
         tried = command.group, command.job.key, command.tried
         self.log.add(iter([(tried, line_of(command.began, command.took, end,
                                            command.job.command))]))
@@ -426,7 +427,8 @@ class Driver:
         places = self.most - len(self.facts.busy)
         if self.asked_to_end or places <= 0 or self.is_full:
             return []
-        left = (self.names[it] for it in self.open)
+        # (another try waits until the end of the one before is durable)
+        left = (it for it in map(self.names.__getitem__, self.open) if it not in self.commands)
         found = may_begin(self.jobs, self.facts, left, places, time.time())
         self.later = found.later
         made = []

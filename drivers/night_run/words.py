@@ -361,7 +361,7 @@ class Run:
                         driver.anew.add(name[0])
         self.tell_missing(facts.interrupted)
         has_work = not is_over or driver.begins_night or bool(
-            driver.forgiven or driver.left) or self.is_unsaid(book, facts)
+            driver.forgiven or driver.left) or not has_mark and self.is_unsaid(book, facts)
         if has_work:
             driver.before = self.renewed(driver, state)
         return has_work
