@@ -20,6 +20,8 @@ mod failures;
 #[cfg(test)]
 mod faults;
 #[cfg(test)]
+mod forgetful;
+#[cfg(test)]
 mod gates;
 #[cfg(test)]
 mod jobs;
