@@ -243,6 +243,8 @@ class Night:
     def spoil(self, name: str, how: str) -> None:
         """Spoils a file beside the store."""
         path, dice = self.room.path, self.dice
+        if not os.path.exists(f"{path}/s"):
+            return  # (a log beside no store is a store that was lost)
         self.room.note(f"damage {name}: {how}")
         clear(f"{path}/{name}")
         if how == "folder":
