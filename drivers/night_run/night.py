@@ -69,7 +69,8 @@ def program() -> str:
 
 
 def ran(*words: str, seconds: float = WHOLE_SECONDS) -> str:
-    """What `night` prints for these words. While the store is in use it is tried again."""
+    """What `night` prints for these words. While the store is in use it is tried again, and so is an
+    inspection that a signal ended."""
     for busy in range(MOST_BUSY):
         try:
             done = subprocess.run([program(), *words], stdin=subprocess.DEVNULL, text=True,
@@ -80,7 +81,8 @@ def ran(*words: str, seconds: float = WHOLE_SECONDS) -> str:
         if not done.returncode:
             return done.stdout
         ended = NightEnded(done.returncode, done.stderr)
-        if not ended.is_in_use() or busy == MOST_BUSY - 1:
+        was_killed = done.returncode < 0 and words[0] == "inspect"
+        if not (ended.is_in_use() or was_killed) or busy == MOST_BUSY - 1:
             break
         time.sleep(0.1)
     raise ended
