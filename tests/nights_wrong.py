@@ -15,7 +15,7 @@ from nights_play import play
 from nights_room import HERE, Tools
 
 # So many nights are played over a wrong driver before it passes, and so many drivers at a time.
-NIGHTS, BESIDE = 8, 4
+NIGHTS, BESIDE = 24, 4
 
 
 @dataclass(frozen=True)

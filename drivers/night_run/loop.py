@@ -367,7 +367,9 @@ class Driver:
         if end == "ok" or name not in self.places:
             return
         job = self.jobs.all[name]
-        if self.facts.failures[name] <= job.retries and not end.startswith(CANCELED):
+        if self.jobs.stops(name[0]):
+            self.is_stale = True  # (another command may have failed while this one lingered)
+        elif self.facts.failures[name] <= job.retries and not end.startswith(CANCELED):
             bisect.insort(self.open, self.places[name])
         elif self.jobs.matters(name):
             self.is_stale = True
