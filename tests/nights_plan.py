@@ -216,7 +216,8 @@ def set_group(dice: random.Random, plan: Plan, group: Group, knows: bool) -> Non
         group.retries = dice.randint(0, 2)
     if plan.shape == "stops" and dice.random() < 0.4:
         group.timeout = 1
-    earlier = list(plan.groups)[:list(plan.groups).index(group.name)]
+    used = {it.group for it in plan.commands.values()}
+    earlier = [it for it in list(plan.groups)[:list(plan.groups).index(group.name)] if it in used]
     if earlier and dice.random() < 0.15:
         group.after = tuple(dice.sample(earlier, 1))
 

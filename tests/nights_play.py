@@ -388,7 +388,9 @@ class Night:
         holds(phase != "canceled" or may, f"6: {key} is canceled, and nobody did that")
         if not may and phase != "ok" and last:
             timeout = self.plan.timeout_of(key)
-            holds(not last.is_whole() or timeout is not None,
+            # (one whose end a kill took isn't begun again where its group has stopped since)
+            is_lost = end is None and phase == "not begun"
+            holds(not last.is_whole() or timeout is not None or is_lost,
                   f"10: {key} is {phase}, and its last try was {last}")
         if phase == "not begun" or not last and phase == "canceled":
             holds(may or self.has_reason(key, phases), f"10: {key} is {phase}, without a reason")
