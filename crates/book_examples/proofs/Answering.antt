@@ -15,8 +15,8 @@ use Rattle.run_disk.specs.Disk.{last_moment}
 use Rattle.run_disk.specs.Runs.{Passed}
 use Rattle.run_disk.specs.Runs.{FailedAt}
 use Rattle.model_laws.proofs.RunLemmas.{run_counts}
-use Rattle.model_examples.specs.Calls.{acked, checkpoint, faulty, flush, scope_made}
-use Rattle.model_examples.specs.Nights.{new_store}
+use Rattle.book_examples.specs.Calls.{acked, checkpoint, faulty, flush, scope_made}
+use Rattle.book_examples.specs.Nights.{new_store}
 use Rattle.book_model.specs.Books.{BookView, Checkpoints, Flushes, MustCheckpoint}
 use Rattle.book_model.specs.Nights.{HasKept}
 use Rattle.book_model.specs.Openings.{Recovers}

@@ -11,8 +11,8 @@ use Rattle.model_laws.proofs.Reopening.{reopened}
 use Rattle.model_laws.proofs.Starting.{formatted_consistent}
 use Rattle.model_laws.proofs.StateSteps.{run_keeps}
 use Rattle.run_model.specs.Session.{accepted}
-use Rattle.model_examples.specs.Nights.{new_store, state_of, steps_of, stopped_night}
-use Rattle.model_examples.specs.Retries.{one_interrupted}
+use Rattle.book_examples.specs.Nights.{new_store, state_of, steps_of, stopped_night}
+use Rattle.book_examples.specs.Retries.{one_interrupted}
 use Rattle.book_model.specs.Meanings.{IsReadTo}
 use Rattle.book_examples.specs.Stores.{empty_image, interrupted_image}
 

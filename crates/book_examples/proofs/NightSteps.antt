@@ -8,7 +8,7 @@ use Rattle.run_model.specs.declared.commands.Wish.TheVariants.{Cancel}
 use Rattle.run_model.specs.Allowed.{run}
 use Rattle.run_model.specs.Event.{Event}
 use Rattle.run_model.specs.State.{State}
-use Rattle.model_examples.specs.Calls.{acked, derive, flush, scope_made}
+use Rattle.book_examples.specs.Calls.{acked, derive, flush, scope_made}
 use Rattle.book_model.specs.Machines.{GoesOn, Running, StopsAt, Stored, TakesAll, opened_at}
 use Rattle.book_model.specs.Machines.{took}
 use Rattle.book_model.specs.ManyNights.{answers_of, moves_of, steps_of}

@@ -1,4 +1,10 @@
+pub mod Calls
+pub mod Fulls
+pub mod Nights
 pub mod Plays
+pub mod Retries
+pub mod Rooms
+pub mod Runs
 pub mod Steps
 pub mod Stores
 pub mod TwoNights

@@ -10,10 +10,10 @@ use Rattle.run_model.specs.declared.tasks.Phase.TheVariants.{Ready}
 use Rattle.run_model.specs.Event.{Event}
 use Rattle.run_model.specs.Event as event
 use Rattle.run_model.specs.Session.{Session, session_after}
-use Rattle.model_examples.specs.Calls.{acked, cancel, checkpoint, derive, done, faulty, flush, go}
-use Rattle.model_examples.specs.Calls.{group, group_made, refused, scope_made, start, started}
-use Rattle.model_examples.specs.Calls.{submitted}
-use Rattle.model_examples.specs.Nights.{new_store}
+use Rattle.book_examples.specs.Calls.{acked, cancel, checkpoint, derive, done, faulty, flush, go}
+use Rattle.book_examples.specs.Calls.{group, group_made, refused, scope_made, start, started}
+use Rattle.book_examples.specs.Calls.{submitted}
+use Rattle.book_examples.specs.Nights.{new_store}
 
 -- A scope, its child, and a cancel of the first.
 abbrev pub first_three : List Step

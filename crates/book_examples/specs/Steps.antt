@@ -9,9 +9,9 @@ use Rattle.run_model.specs.declared.layouts.Layout.TheVariants.{Small}
 use Rattle.run_model.specs.declared.refusals.Refusal.TheVariants.{Broken}
 use Rattle.run_disk.specs.Disk.{DiskState}
 use Rattle.run_disk.specs.Files.{file_state}
-use Rattle.model_examples.specs.Calls.{acked, checkpoint, derive, faulty, flush, refused}
-use Rattle.model_examples.specs.Calls.{scope_made}
-use Rattle.model_examples.specs.Nights.{new_store}
+use Rattle.book_examples.specs.Calls.{acked, checkpoint, derive, faulty, flush, refused}
+use Rattle.book_examples.specs.Calls.{scope_made}
+use Rattle.book_examples.specs.Nights.{new_store}
 use Rattle.book_model.specs.Books.{BookView}
 use Rattle.book_examples.specs.Plays.{after_three, first_events, first_three, three_replies}
 

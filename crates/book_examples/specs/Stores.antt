@@ -8,7 +8,7 @@ use Rattle.run_model.specs.State.{State}
 use Rattle.run_model.specs.Step.{step}
 use Rattle.record_view.specs.declared.heads.ImageVersion.{ImageVersion}
 use Rattle.record_view.specs.Image.{image_in}
-use Rattle.model_examples.specs.Retries.{one_interrupted}
+use Rattle.book_examples.specs.Retries.{one_interrupted}
 use Rattle.book_examples.specs.Plays.{after_three}
 
 -- An image with this version byte and this count below 256, at clock 0, without a row.

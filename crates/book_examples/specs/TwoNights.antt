@@ -6,8 +6,8 @@ use Rattle.run_model.specs.declared.commands.Wish.TheVariants.{Cancel, Cause}
 use Rattle.run_model.specs.declared.layouts.Layout.TheVariants.{Small}
 use Rattle.run_model.specs.Session.{session_after}
 use Rattle.run_model.specs.State.{State, formatted}
-use Rattle.model_examples.specs.Calls.{acked, cancel, derive, done, flush, scope_made}
-use Rattle.model_examples.specs.Nights.{new_store}
+use Rattle.book_examples.specs.Calls.{acked, cancel, derive, done, flush, scope_made}
+use Rattle.book_examples.specs.Nights.{new_store}
 use Rattle.book_model.specs.ManyNights.{Night, Spent}
 
 -- The store: root alone.

@@ -2,7 +2,7 @@
 
 ghost use Rattle.std.specs.Prelude.{◌≡◌, [], None, Some};
 ghost use Rattle.run_model.specs.Session.{accepted, acknowledged};
-ghost use Rattle.model_examples.specs.Nights.{new_store};
+ghost use Rattle.book_examples.specs.Nights.{new_store};
 ghost use Rattle.book_model.specs.Plays.{Plays, last_acked, sound, stuck, taken};
 ghost use Rattle.book_examples.specs.Plays.{after_all, after_three, all_played, first_events};
 ghost use Rattle.book_examples.specs.Plays.{numbers_spent, played, refused_all};

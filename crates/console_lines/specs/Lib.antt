@@ -1,5 +1,6 @@
 pub mod Asked
 pub mod Checked
+pub mod Counted
 pub mod Entries
 pub mod EntryNights
 pub mod Faults

@@ -1,7 +1,7 @@
 //! The lines of the console: what each asks for, and what its reply and a state's rows print.
 //!
 //! [`read_line`] reads a line, and says what it asks for: an [`Asked`]. A [`Reply`] is gathered as
-//! its line, and so is a [`Row`] of a state.
+//! its line, and so is a [`Row`] of a state. [`Tallies`] count tasks, job by job.
 //! `specs/Script.antt` says what is replied to a whole input, and `specs/Strict.antt` which of its
 //! lines a strict run runs.
 #![tactic(auto)]
@@ -14,6 +14,8 @@ mod faults;
 mod gathers;
 mod group_lines;
 pub mod group_nights;
+mod job_keys;
+mod job_tallies;
 pub mod laws;
 mod lines;
 pub mod listed_nights;
@@ -35,6 +37,7 @@ pub use asked::Asked;
 pub use entries::{Entry, LONGEST_ENTRY};
 pub use faults::RunFault;
 pub use gathers::{LONGEST_REPLY, gather_scope};
+pub use job_tallies::Tallies;
 pub use lines::{LONGEST_INPUT, LONGEST_LINE, read_line};
 pub use replies::Reply;
 pub use rows::{LONGEST_ROW, Row};

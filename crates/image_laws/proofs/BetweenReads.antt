@@ -17,8 +17,8 @@ use Rattle.run_model.specs.Scopes.{own_hit, is_group_kind}
 use Rattle.run_model.specs.State.{State}
 use Rattle.record_view.proofs.Codecs.{both_true, first_true, second_true}
 use Rattle.record_view.specs.Between.{belongs, fits_scope, lives_in, has_group, fits_between}
-use Rattle.work_laws.proofs.Checked.{all_pass, pass_all}
-use Rattle.work_laws.proofs.Linked.{or_right, or_from, not_so, so_not, any_at, some_at}
+use Rattle.record_view.proofs.Checked.{all_pass, pass_all}
+use Rattle.record_view.proofs.Linked.{or_right, or_from, not_so, so_not, any_at, some_at}
 
 -- ---- one group and its scope
 

@@ -27,7 +27,7 @@ use Rattle.image_laws.specs.Whole.{image_at, joined, whole}
 use Rattle.record_view.specs.WorkRows.{AreWorkRows, work_at}
 use Rattle.image_laws.proofs.BetweenReads.{between_test, between_from}
 use Rattle.image_laws.proofs.Parts.{tree_part, work_part, cross_part, all_parts}
-use Rattle.work_laws.proofs.WorkReads.{work_again, work_takes}
+use Rattle.record_view.proofs.WorkReads.{work_again, work_takes}
 
 regrouped : (w x y z : List ℕ) → ((w ++ x) ++ y) ++ z ≡ w ++ (x ++ (y ++ (z ++ [])))
 regrouped w x y z =

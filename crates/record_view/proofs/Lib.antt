@@ -1,10 +1,12 @@
 pub mod BodyLaws
+pub mod Checked
 pub mod Choices
 pub mod Codecs
 pub mod Fields
 pub mod ImageLengths
 pub mod Joins
 pub mod Lengths
+pub mod Linked
 pub mod LongCodecs
 pub mod NumberLaws
 pub mod Parts
@@ -16,4 +18,5 @@ pub mod RowJoins
 pub mod RowLengths
 pub mod Walks
 pub mod WholeImages
+pub mod WorkReads
 pub mod Written

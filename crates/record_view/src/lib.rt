@@ -4,7 +4,8 @@
 //! and walked in a row with others, each exactly by the grammar. What is kept of a view is copied
 //! by [`copies`]. No call takes memory. The grammar of records stands in `Spelling.antt` of
 //! `run_model/specs/`, by the cases of the event, and that of rows in `specs/Image.antt`, both
-//! apart from the code. The laws of the first are the contracts of [`laws`].
+//! apart from the code. The laws of the first are the contracts of [`laws`], those of the rows of an
+//! image's work of [`works`].
 #![tactic(auto)]
 
 mod bodies;
@@ -23,6 +24,7 @@ mod scope_rows;
 mod task_rows;
 mod texts;
 mod views;
+pub mod works;
 
 pub use events::Events;
 pub use group_rows::{GroupRow, group_row, put_group, read_group};

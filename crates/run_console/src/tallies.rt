@@ -12,12 +12,11 @@ ghost use Rattle.console_lines.specs.declared.replies.Reply.TheVariants as said;
 ghost use Rattle.run_console.specs.Progress.{Told, Untold};
 
 use crate::writings::{Gathered, gather_bytes, write_gathered};
-use console_lines::RunFault;
+use console_lines::{RunFault, Tallies};
 use run_model::TaskLook;
 use run_state::State;
 use std::alloc::{AllocError, Allocator};
 use std::io::Write;
-use task_tally::Tallies;
 
 /// Gathers the tally of a state's tasks. Where there is no memory for it, what was gathered before
 /// is written, and nothing of it.

@@ -28,7 +28,7 @@ use Rattle.record_view.proofs.Joins.{put_then}
 use Rattle.scope_tree.specs.TreeRows.{tree_at}
 use Rattle.image_laws.specs.Whole.{image_at, whole}
 use Rattle.image_laws.proofs.WholeReads.{image_again}
-use Rattle.work_laws.proofs.WorkReads.{nothing_read, work_again}
+use Rattle.record_view.proofs.WorkReads.{nothing_read, work_again}
 
 -- ---- reading
 

@@ -1,5 +1,9 @@
-pub mod Renewed
-pub mod Kept
-pub mod Told
+pub mod Alike
+pub mod Answered
+pub mod Days
 pub mod Examples
+pub mod GoingOn
+pub mod Kept
 pub mod Marks
+pub mod Renewed
+pub mod Told

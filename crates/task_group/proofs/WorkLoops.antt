@@ -9,7 +9,7 @@ use Rattle.record_view.specs.RowReading.{group_row_at, task_at}
 use Rattle.record_view.specs.WorkRows.{AreWorkRows, can_come, each_passes, has_new_name}
 use Rattle.record_view.specs.WorkRows.{has_work_room, is_settled, more_at, work_at, work_made}
 use Rattle.record_view.specs.WorkRows.{work_rows_at}
-use Rattle.work_laws.proofs.WorkReads.{no_work_stands, work_takes}
+use Rattle.record_view.proofs.WorkReads.{no_work_stands, work_takes}
 
 -- A task can come behind the rows so far, of which the groups stay.
 pub come_as : (start now : WorkState) (row : Task) → now.layout ≡ start.layout

@@ -4,7 +4,7 @@ use Rattle.run_model.specs.declared.commands.Step.{Step}
 use Rattle.run_model.specs.declared.commands.Wish.TheVariants.{Cancel}
 use Rattle.run_model.specs.declared.faults.Fault.TheVariants.{DiskFailed}
 use Rattle.run_model.specs.declared.refusals.Refusal.TheVariants.{Broken}
-use Rattle.model_examples.specs.Calls.{checkpoint, derive, faulty, flush, refused}
+use Rattle.book_examples.specs.Calls.{checkpoint, derive, faulty, flush, refused}
 use Rattle.book_examples.proofs.Answering.{failure_caused, flush_faulty, three_then}
 use Rattle.book_examples.specs.Steps.{failed}
 use Rattle.book_examples.proofs.steps.a_flush_fails.Goals as goal

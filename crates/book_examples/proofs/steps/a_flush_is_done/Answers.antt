@@ -1,5 +1,5 @@
 use Rattle.std.proofs.Common.{[], ◌∷◌, refl}
-use Rattle.model_examples.specs.Calls.{acked, flush}
+use Rattle.book_examples.specs.Calls.{acked, flush}
 use Rattle.book_examples.proofs.Answering.{batches_one, count_told, flush_acked, flush_again}
 use Rattle.book_examples.proofs.Answering.{three_then}
 use Rattle.book_examples.specs.Steps.{flushed}

@@ -1,5 +1,5 @@
 use Rattle.std.proofs.Common.{◌++◌, arith}
-use Rattle.model_examples.specs.Nights.{new_store}
+use Rattle.book_examples.specs.Nights.{new_store}
 use Rattle.book_model.proofs.FrontLemmas.{front_least}
 use Rattle.book_examples.specs.Plays.{first_events}
 use Rattle.book_examples.specs.Stores.{two_events}

@@ -1,7 +1,7 @@
 use Rattle.std.proofs.Common.{[], ◌∷◌, refl, lit≤}
 use Rattle.record_view.specs.declared.heads.ImageVersion.TheVariants.{One}
 use Rattle.run_model.specs.Event.{Retry}
-use Rattle.model_examples.specs.Retries.{one_interrupted}
+use Rattle.book_examples.specs.Retries.{one_interrupted}
 use Rattle.book_examples.specs.Stores.{retry_record}
 use Rattle.book_examples.proofs.Images.{at_start, interrupted_one, interrupted_two}
 use Rattle.book_examples.proofs.stores.a_retry_stands_behind_version_2.Goals as goal

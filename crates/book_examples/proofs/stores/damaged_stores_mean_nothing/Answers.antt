@@ -5,7 +5,7 @@ use Rattle.record_view.specs.declared.heads.ImageVersion.TheVariants.{Two}
 use Rattle.record_view.specs.Reading.{body_at, derive_at, event_at, kind_at, kind_by, number_at}
 use Rattle.record_view.specs.Reading.{numbered_at, part_at, tested_at, text_at, whole_body_at}
 use Rattle.record_view.proofs.RecordLaws.{none_begins}
-use Rattle.model_examples.specs.Nights.{new_store}
+use Rattle.book_examples.specs.Nights.{new_store}
 use Rattle.book_examples.specs.Stores.{cut_record, rest_of_records, with_len, with_parent, with_tag}
 use Rattle.book_examples.proofs.Images.{at_start, opened_image}
 use Rattle.book_examples.proofs.stores.damaged_stores_mean_nothing.Goals as goal

@@ -1,5 +1,5 @@
 use Rattle.std.proofs.Common.{[], ◌∷◌, refl}
-use Rattle.model_examples.specs.Nights.{new_store}
+use Rattle.book_examples.specs.Nights.{new_store}
 use Rattle.run_model.specs.State.{formatted}
 use Rattle.run_model.specs.declared.layouts.Layout.TheVariants.{Small}
 use Rattle.book_examples.specs.Plays.{first_events}

@@ -1,0 +1,45 @@
+-- What the table of the jobs holds, and one task more in it.
+use Rattle.std.specs.Prelude.{ℕ, ◌+◌, min, if◌then◌else◌, List, [], ◌∷◌, Option, Some, None}
+use Rattle.std.specs.Str.{bytes_eq}
+use Rattle.run_model.specs.declared.tasks.Phase.{Phase}
+use Rattle.run_model.specs.declared.tasks.Phase.TheVariants as phase
+use Rattle.console_lines.specs.declared.tallies.Counts.{Counts}
+use Rattle.console_lines.specs.declared.tallies.Tally.{Tally}
+use Rattle.console_lines.specs.declared.job_keys.Job.{Job}
+
+-- A job is counted to this number at most.
+abbrev pub MOST : ℕ
+MOST = 65535
+
+-- An entry of the table is a tally.
+abbrev pub shown : Job × Counts → Tally
+shown entry = record { job = entry.0.name; counts = entry.1 }
+
+-- What is counted of a job; none where none of its tasks was counted.
+abbrev pub counted_at : List ℕ → List Tally → Option Counts
+counted_at job [] = None
+counted_at job (tally ∷ tallies) =
+    if bytes_eq job tally.job then Some tally.counts else counted_at job tallies
+
+-- The counts of no task.
+abbrev pub no_tasks : Counts
+no_tasks = record { total = 0; success = 0; failure = 0; interrupted = 0 }
+
+-- A count with one more, where it isn't the greatest yet.
+abbrev pub raised : ℕ → ℕ
+raised n = min (n + 1) MOST
+
+-- The counts with one task more, which is in this phase.
+abbrev pub one_more : Phase → Counts → Counts
+one_more phase.Success c = record c { total = raised c.total; success = raised c.success }
+one_more (phase.Failure error) c = record c { total = raised c.total; failure = raised c.failure }
+one_more phase.Interrupted c =
+    record c { total = raised c.total; interrupted = raised c.interrupted }
+one_more _ c = record c { total = raised c.total }
+
+-- The tallies where this is counted of a job; a new one goes last.
+abbrev pub with_tally : List ℕ → Counts → List Tally → List Tally
+with_tally job counts [] = record { job = job; counts = counts } ∷ []
+with_tally job counts (tally ∷ tallies) =
+    if bytes_eq job tally.job then record { job = tally.job; counts = counts } ∷ tallies
+    else tally ∷ with_tally job counts tallies

@@ -1,4 +1,0 @@
-pub mod GoingOn
-pub mod Alike
-pub mod Answered
-pub mod Examples

@@ -1,0 +1,141 @@
+-- What goes on is answered as it is in the old store.
+use Rattle.std.proofs.Common.{◌≡◌, ℕ, true, List, Option, Some, None, slice_get, refl, sym, ap}
+use Rattle.std.proofs.Common.{◌∙◌}
+use Rattle.std.specs.List.{filter_map}
+use Rattle.std.specs.Option.{option_map}
+use Rattle.run_model.specs.declared.answers.GroupLook.{GroupLook}
+use Rattle.run_model.specs.declared.answers.Look.{Look}
+use Rattle.run_model.specs.declared.answers.TaskLook.{TaskLook}
+use Rattle.run_model.specs.declared.groups.Group.{Group}
+use Rattle.run_model.specs.declared.scopes.Hit.{Hit}
+use Rattle.run_model.specs.declared.scopes.Scope.{Scope}
+use Rattle.run_model.specs.declared.tasks.Phase.{Phase}
+use Rattle.run_model.specs.declared.tasks.Task.{Task}
+use Rattle.run_model.specs.Questions.{group_look_of, look_of, task_look_of}
+use Rattle.run_model.specs.Rules.{IsConsistent}
+use Rattle.run_model.specs.Scopes.{AreOrdered, deadline_of, ending, line_within, text_under}
+use Rattle.run_model.specs.Scopes.{upwards, value_of}
+use Rattle.run_model.specs.State.{State}
+use Rattle.run_model.specs.Tasks.{is_admitted, phase_by, unfinished_in}
+use Rattle.state_renewal.specs.Renewed.{new_number, Part, group_anew, scope_anew, state_anew}
+use Rattle.state_renewal.specs.Renewed.{task_anew}
+use Rattle.state_renewal.specs.Alike.{GoOnAlike, group_look_anew, task_look_anew}
+use Rattle.state_renewal.proofs.Chains.{deadline_told, ending_told, line_told, scopes_anew}
+use Rattle.state_renewal.proofs.Chains.{value_told}
+use Rattle.state_renewal.proofs.Goes.{Goes, hangs}
+use Rattle.state_renewal.proofs.RowsAnew.{anew_get, row_anew}
+use Rattle.state_renewal.proofs.Works.{admitted_anew, first_anew, unfinished_same}
+
+-- ---- scopes
+
+abbrev look : List ℕ → Option Hit → Option ℕ → Look
+look name end deadline = record {
+  name = name;
+  done = option_map (λ hit. (hit.reason, hit.cause)) end;
+  deadline = deadline;
+}
+
+looks_alike : (part : Part) (p : State) → AreOrdered p.tree.scopes
+    → AreOrdered (state_anew part p).tree.scopes → Goes part p → (s : ℕ)
+    → part.scopes s ≡ true
+    → look_of (state_anew part p) (new_number part.scopes s) ≡ look_of p s
+looks_alike part p ordered anew go s is =
+    row_anew (option_map (λ row. look row.name (ending rows new) (deadline_of rows new)))
+    (option_map (λ row. look row.name (ending p.tree.scopes s) (deadline_of p.tree.scopes s)))
+    part.scopes (scope_anew part) p.tree.scopes s refl
+    (λ row at.
+    let told = line_told part p.tree.scopes ordered anew go.scopes.each s row at is in
+    ap (λ o. Some (look row.name o (deadline_of rows new)))
+    (ending_told part p.tree.scopes s told)
+    ∙ ap (λ o. Some (look row.name (ending p.tree.scopes s) o))
+    (deadline_told part p.tree.scopes s told)) is
+  where
+    new : ℕ
+    new = new_number part.scopes s
+
+    rows : List Scope
+    rows = scopes_anew part p.tree.scopes
+
+no_value : (rows : List Scope) (s : ℕ) (key : List ℕ) → slice_get rows s ≡ None
+    → value_of rows s key ≡ None
+no_value rows s key at =
+    ap (λ o. slice_get (filter_map (λ r. text_under key r.1.kind)
+    (upwards (line_within s rows) s o)) 0) at
+
+values_alike : (part : Part) (p : State) → AreOrdered p.tree.scopes
+    → AreOrdered (state_anew part p).tree.scopes → Goes part p → (s : ℕ) (key : List ℕ)
+    → part.scopes s ≡ true
+    → value_of (state_anew part p).tree.scopes (new_number part.scopes s) key
+    ≡ value_of p.tree.scopes s key
+values_alike part p ordered anew go s key is = by_row (slice_get p.tree.scopes s) refl
+  where
+    by_row : (o : Option Scope) → slice_get p.tree.scopes s ≡ o
+        → value_of (state_anew part p).tree.scopes (new_number part.scopes s) key
+        ≡ value_of p.tree.scopes s key
+    by_row None at =
+        no_value (state_anew part p).tree.scopes (new_number part.scopes s) key
+        (anew_get part.scopes (scope_anew part) p.tree.scopes s is
+        ∙ ap (option_map (scope_anew part)) at)
+        ∙ sym (no_value p.tree.scopes s key at)
+    by_row (Some row) at =
+        value_told part p.tree.scopes s key
+        (line_told part p.tree.scopes ordered anew go.scopes.each s row at is)
+
+-- ---- groups and tasks
+
+abbrev group_look : ℕ → Group → GroupLook
+group_look unfinished row = record {
+  name = row.name;
+  scope = row.scope;
+  unfinished = unfinished;
+  limit = row.limit;
+  waited = row.waited;
+  error = row.error;
+}
+
+groups_alike : (part : Part) (p : State) → Goes part p → (g : ℕ) → part.groups g ≡ true
+    → group_look_of (state_anew part p) (new_number part.groups g)
+    ≡ option_map (group_look_anew part) (group_look_of p g)
+groups_alike part p go g is =
+    ap (λ k. option_map (group_look k)
+    (slice_get (state_anew part p).work.groups (new_number part.groups g)))
+    (unfinished_same part p.work g go.work.tasks.each is)
+    ∙ row_anew (option_map (group_look unfinished))
+    (λ o. option_map (group_look_anew part) (option_map (group_look unfinished) o)) part.groups
+    (group_anew part) p.work.groups g refl (λ row at. refl) is
+  where
+    unfinished : ℕ
+    unfinished = unfinished_in g p.work.tasks
+
+abbrev task_look : Phase → Task → TaskLook
+task_look phase row = record {
+  group = row.group;
+  job = row.job;
+  argument = row.argument;
+  phase = phase;
+  retry_of = row.retry_of;
+}
+
+tasks_alike : (part : Part) (p : State) → Goes part p → (n : ℕ) → part.tasks n ≡ true
+    → task_look_of (state_anew part p) (new_number part.tasks n)
+    ≡ option_map (task_look_anew part) (task_look_of p n)
+tasks_alike part p go n is =
+    row_anew
+    (option_map (λ row. task_look
+    (phase_by (is_admitted (state_anew part p).work (new_number part.tasks n) row) row.stage) row))
+    (λ o. option_map (task_look_anew part)
+    (option_map (λ row. task_look (phase_by (is_admitted p.work n row) row.stage) row) o))
+    part.tasks (task_anew part) p.work.tasks n refl
+    (λ row at.
+    ap (λ b. Some (task_look (phase_by b row.stage) (task_anew part row)))
+    (admitted_anew part p.work n row go.work.tasks.each at is)) is
+
+pub alike : (part : Part) (p : State) → IsConsistent p → IsConsistent (state_anew part p)
+    → Goes part p → GoOnAlike part p (state_anew part p)
+alike part p consistent anew go = record {
+  scopes = looks_alike part p consistent.numbered.ordered anew.numbered.ordered go;
+  values = values_alike part p consistent.numbered.ordered anew.numbered.ordered go;
+  groups = groups_alike part p go;
+  tasks = tasks_alike part p go;
+  next = first_anew part p consistent (hangs part p go).work;
+}

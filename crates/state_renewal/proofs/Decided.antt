@@ -1,0 +1,156 @@
+-- An event that names what goes on is decided alike by both stores.
+use Rattle.std.proofs.Common.{◌≡◌, ◌&&◌, ◌+◌, ◌*◌, ℕ, Bool, true, false, not, List, [], ◌∷◌}
+use Rattle.std.proofs.Common.{Option, Some, refl, sym, ap, ◌∙◌}
+use Rattle.std.specs.Prelude.{Result, Ok, Err, if◌then◌else◌, nat_lt}
+use Rattle.std.proofs.lemmas.Bool.{both_ways, false_from_ne_true}
+use Rattle.run_model.specs.declared.bounds.TheConstants.{FINISH_ROOM, SESSION_LEN}
+use Rattle.run_model.specs.declared.commands.Command.{Command}
+use Rattle.run_model.specs.declared.commands.Command.TheVariants as command
+use Rattle.run_model.specs.declared.refusals.Refusal.{Refusal}
+use Rattle.run_model.specs.declared.refusals.Refusal.TheVariants as refusal
+use Rattle.run_model.specs.Allowed.{allowed, refusals, unless}
+use Rattle.run_model.specs.Event.{Event}
+use Rattle.run_model.specs.Event as event
+use Rattle.run_model.specs.Lengths.{body_len}
+use Rattle.run_model.specs.Spelling.{record_len}
+use Rattle.run_model.proofs.Lengths.{record_len_is}
+use Rattle.run_model.specs.Replies.{and_then, decided, if_room, group_of, has_waited, is_full}
+use Rattle.run_model.specs.Replies.{is_repeated}
+use Rattle.run_model.specs.Rules.{IsConsistent}
+use Rattle.run_model.specs.State.{State}
+use Rattle.run_model.specs.Step.{step}
+use Rattle.run_model.specs.Tasks.{is_running, is_unfinished, running_count}
+use Rattle.std.specs.List.{list_all}
+use Rattle.state_renewal.specs.Renewed.{Part, group_anew, state_anew, task_anew, work_anew}
+use Rattle.state_renewal.specs.Told.{event_anew, has_place, names_part}
+use Rattle.state_renewal.specs.Answered.{reply_anew, calls_part, command_anew}
+use Rattle.state_renewal.proofs.Refusals.{refusals_anew}
+use Rattle.state_renewal.proofs.Goes.{hangs}
+use Rattle.state_renewal.proofs.Runs.{Both, are_both, both_step}
+use Rattle.state_renewal.proofs.Steps.{step_anew}
+use Rattle.state_renewal.proofs.Hangs.{WorkHangs}
+use Rattle.state_renewal.proofs.Named.{group_on}
+use Rattle.state_renewal.proofs.PassAnew.{count_all_anew}
+use Rattle.state_renewal.proofs.RowsAnew.{test_anew}
+use Rattle.state_renewal.proofs.Works.{gone_ended}
+use Rattle.model_laws.proofs.Admission.{running_unfinished}
+
+-- ---- repeated waits
+
+pub repeated_same : (part : Part) (p : State) (call : Command)
+    → IsConsistent (state_anew part p) → calls_part part p call ≡ true
+    → is_repeated (state_anew part p) (command_anew part call) ≡ is_repeated p call
+repeated_same part p (command.Derive name parent wish) anew is = refl
+repeated_same part p (command.Cancel scope cause) anew is = refl
+repeated_same part p (command.Advance moment) anew is = refl
+repeated_same part p (command.Group name parent) anew is = refl
+repeated_same part p (command.Bare name scope) anew is = refl
+repeated_same part p (command.SetLimit group limit) anew is = refl
+repeated_same part p (command.Go group job argument) anew is = refl
+repeated_same part p (command.TryGo group job argument) anew is = refl
+repeated_same part p (command.Retry n) anew is = refl
+repeated_same part p (command.Wait group) anew is =
+    let on = group_on part p group anew is in
+    ap (has_waited (state_anew part p).work) on.1
+    ∙ test_anew (λ row. row.waited) part.groups (group_anew part) p.work.groups (group_of p group)
+    (λ row. refl) on.0
+
+-- ---- the room of the log
+
+running_same : (part : Part) (p : State) → IsConsistent p → WorkHangs part p.work
+    → running_count (work_anew part p.work).tasks ≡ running_count p.work.tasks
+running_same part p consistent go =
+    count_all_anew part.tasks (task_anew part) (λ task. is_running task.stage)
+    (λ task. is_running task.stage) p.work.tasks
+    (record {
+      on = λ n x found goes. refl;
+      gone =
+          λ n x found goes.
+          false_from_ne_true (is_running x.stage)
+          (λ runs.
+          both_ways (is_unfinished x.stage) (gone_ended part p n x consistent go found goes)
+          (running_unfinished x.stage runs));
+    })
+
+fields_anew : (part : Part) (e : Event) → body_len (event_anew part e) ≡ body_len e
+fields_anew part (event.Derive name parent kind) = refl
+fields_anew part (event.Cancel s cause) = refl
+fields_anew part (event.Advance moment) = refl
+fields_anew part (event.Group name parent) = refl
+fields_anew part (event.Bare name s) = refl
+fields_anew part (event.SetLimit g limit) = refl
+fields_anew part (event.Go g job argument) = refl
+fields_anew part (event.TryGo g job argument) = refl
+fields_anew part (event.Retry n) = refl
+fields_anew part (event.Start n) = refl
+fields_anew part (event.Finish n outcome) = refl
+fields_anew part (event.Wait g) = refl
+fields_anew part event.Restart = refl
+
+-- The record is as long in both logs.
+len_anew : (part : Part) (e : Event) → record_len (event_anew part e) ≡ record_len e
+len_anew part e =
+    record_len_is (event_anew part e) ∙ ap (λ n. 3 + n) (fields_anew part e)
+    ∙ sym (record_len_is e)
+
+abbrev full_at : ℕ → ℕ → ℕ → Bool
+full_at log len running = nat_lt SESSION_LEN (log + len + FINISH_ROOM * running)
+
+full_anew : (part : Part) (p : State) (log : ℕ) (e : Event) → Both part p
+    → names_part part e ≡ true → allowed p e ≡ true
+    → is_full (state_anew part p) log (event_anew part e) ≡ is_full p log e
+full_anew part p log e both is may =
+    let behind = both_step part p e both is may in
+    ap (λ len. full_at log len
+    (running_count (step (state_anew part p) (event_anew part e)).work.tasks)) (len_anew part e)
+    ∙ ap (λ q. full_at log (record_len e) (running_count q.work.tasks))
+    (step_anew part p e both.old both.go is)
+    ∙ ap (full_at log (record_len e))
+    (running_same part (step p e) behind.old (hangs part (step p e) behind.go).work)
+
+-- ---- decisions
+
+-- What follows alike from two events, follows alike where each is decided by the same tests.
+pub tests_alike : {X : Type 0} (tell : X → X) (tests : List (Bool × Refusal)) (full_new full : Bool)
+    (f e : Event) (new old : Option Event → Result X Refusal)
+    → (list_all (λ t. not t.0) tests ≡ true → full_new ≡ full)
+    → new (Some f) ≡ reply_anew tell (old (Some e))
+    → and_then (unless tests (if full_new then Err refusal.SessionFull else Ok (Some f))) new
+    ≡ reply_anew tell
+    (and_then (unless tests (if full then Err refusal.SessionFull else Ok (Some e))) old)
+tests_alike tell [] full_new full f e new old same some =
+    ap (λ b. and_then (if b then Err refusal.SessionFull else Ok (Some f)) new) (same refl)
+    ∙ by_room full
+  where
+    by_room : (b : Bool)
+        → and_then (if b then Err refusal.SessionFull else Ok (Some f)) new
+        ≡ reply_anew tell (and_then (if b then Err refusal.SessionFull else Ok (Some e)) old)
+    by_room true = refl
+    by_room false = some
+tests_alike tell (t ∷ tests) full_new full f e new old same some =
+    by_test t.0 same (λ rest. tests_alike tell tests full_new full f e new old rest some)
+  where
+    rest_of : Bool → Event → Result (Option Event) Refusal
+    rest_of b e = unless tests (if b then Err refusal.SessionFull else Ok (Some e))
+
+    by_test : (b : Bool) → ((not b && list_all (λ t. not t.0) tests) ≡ true → full_new ≡ full)
+        → ((list_all (λ t. not t.0) tests ≡ true → full_new ≡ full)
+        → and_then (rest_of full_new f) new ≡ reply_anew tell (and_then (rest_of full e) old))
+        → and_then (if b then Err t.1 else rest_of full_new f) new
+        ≡ reply_anew tell (and_then (if b then Err t.1 else rest_of full e) old)
+    by_test true same behind = refl
+    by_test false same behind = behind same
+
+-- What follows alike from an event and from the same told anew, follows alike where it is decided.
+pub decided_alike : {X : Type 0} (tell : X → X) (part : Part) (p : State) (log : ℕ) (e : Event)
+    (new old : Option Event → Result X Refusal) → Both part p → names_part part e ≡ true
+    → has_place p e ≡ true → (list_all (λ t. not t.0) (refusals p e) ≡ true → allowed p e ≡ true)
+    → new (Some (event_anew part e)) ≡ reply_anew tell (old (Some e))
+    → and_then (decided (state_anew part p) log (event_anew part e)) new
+    ≡ reply_anew tell (and_then (decided p log e) old)
+decided_alike tell part p log e new old both is place may some =
+    let f = event_anew part e in
+    ap (λ tests. and_then (unless tests (if_room (state_anew part p) log f)) new)
+    (refusals_anew part p e (are_both part p both) is place)
+    ∙ tests_alike tell (refusals p e) (is_full (state_anew part p) log f) (is_full p log e) f e
+    new old (λ none. full_anew part p log e both is (may none)) some

@@ -1,0 +1,76 @@
+-- Events that name what goes on lead both stores the same way.
+use Rattle.std.proofs.Common.{◌≡◌, Bool, true, false, List, [], ◌∷◌, map, Some, None, refl, ap}
+use Rattle.std.proofs.Common.{subst, ◌∙◌}
+use Rattle.std.specs.Option.{option_and_then}
+use Rattle.std.specs.Prelude.{if◌then◌else◌}
+use Rattle.std.proofs.lemmas.Bool.{and_parts}
+use Rattle.std.proofs.lemmas.Option.{none-some, same_Some}
+use Rattle.run_model.specs.Allowed.{allowed, run}
+use Rattle.run_model.specs.Event.{Event}
+use Rattle.run_model.specs.Rules.{IsConsistent}
+use Rattle.run_model.specs.State.{State}
+use Rattle.run_model.specs.Step.{step}
+use Rattle.model_laws.proofs.StateSteps.{kept_by}
+use Rattle.state_renewal.specs.Renewed.{Part, state_anew}
+use Rattle.state_renewal.specs.GoingOn.{all_name_part}
+use Rattle.state_renewal.specs.Told.{event_anew, names_part}
+use Rattle.state_renewal.proofs.Refusals.{allowed_anew}
+use Rattle.state_renewal.proofs.Hangs.{AreBoth}
+use Rattle.state_renewal.proofs.Goes.{Goes, hangs}
+use Rattle.state_renewal.proofs.GoesStill.{goes_still}
+use Rattle.state_renewal.proofs.Steps.{step_anew}
+
+-- Of a state, and of what goes on of it: both keep the rules, and what goes on hangs together.
+pub record Both (part : Part) (p : State) : Type 0 where
+  pub old : IsConsistent p
+  pub new : IsConsistent (state_anew part p)
+  pub go : Goes part p
+
+pub are_both : (part : Part) (p : State) → Both part p → AreBoth part p
+are_both part p both = record { old = both.old; new = both.new; hangs = hangs part p both.go }
+
+pub both_step : (part : Part) (p : State) (e : Event) → Both part p → names_part part e ≡ true
+    → allowed p e ≡ true → Both part (step p e)
+both_step part p e both is may = record {
+  old = kept_by p e both.old may;
+  new =
+      subst IsConsistent (step_anew part p e both.old both.go is)
+      (kept_by (state_anew part p) (event_anew part e) both.new
+      (allowed_anew part p e (are_both part p both) is may));
+  go = goes_still part p e both.go is;
+}
+
+-- The new store is led as the old one is, and both keep what they had.
+pub record IsLed (part : Part) (p : State) (events : List Event) (q : State) : Type 0 where
+  pub run : run (state_anew part p) (map (event_anew part) events) ≡ Some (state_anew part q)
+  pub both : Both part q
+
+pub led : (part : Part) (events : List Event) (p q : State) → Both part p
+    → all_name_part part events ≡ true → run p events ≡ Some q → IsLed part p events q
+led part [] p q both are has =
+    let same = same_Some p q has in
+    record { run = ap (λ r. Some (state_anew part r)) same; both = subst (Both part) same both }
+led part (e ∷ events) p q both are has =
+    by_allowed (λ r after. led part events r q after parts.1) (allowed p e) refl has
+  where
+    parts : (names_part part e ≡ true) × (all_name_part part events ≡ true)
+    parts = and_parts (names_part part e) (all_name_part part events) are
+
+    by_allowed : ((r : State) → Both part r → run r events ≡ Some q → IsLed part r events q)
+        → (b : Bool) → allowed p e ≡ b
+        → option_and_then (λ r. run r events) (if b then Some (step p e) else None) ≡ Some q
+        → IsLed part p (e ∷ events) q
+    by_allowed behind false not none = absurd (none-some q none)
+    by_allowed behind true may rest_led =
+        let rest =
+        behind (step p e) (both_step part p e both parts.0 may) rest_led in
+        record {
+          run =
+              ap (λ b. option_and_then (λ r. run r (map (event_anew part) events))
+              (if b then Some (step (state_anew part p) (event_anew part e)) else None))
+              (allowed_anew part p e (are_both part p both) parts.0 may)
+              ∙ ap (λ r. run r (map (event_anew part) events))
+              (step_anew part p e both.old both.go parts.0)
+              ∙ rest.run;
+          both = rest.both;
+        }

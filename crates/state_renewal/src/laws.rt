@@ -1,0 +1,88 @@
+//! The laws: a store that was renewed, and the one that it was made of, are led and answer alike
+//! from then on.
+//!
+//! `p` is the state that was renewed, and `q` any later one, to which events lead that name what
+//! goes on alone: what the renewal keeps, and what is made later. What goes on of `q` is the state
+//! of the renewed store, which the same events have led there, told by the new numbers.
+
+ghost use Rattle.std.specs.Prelude.{◌≡◌, ◌&&◌, ℕ, List, Some, false, map, true};
+ghost use Rattle.run_model.specs.declared.commands.Command.{Command};
+ghost use Rattle.run_model.specs.declared.groups.Group.{Group};
+ghost use Rattle.run_model.specs.declared.tasks.Outcome.{Outcome};
+ghost use Rattle.run_model.specs.declared.tasks.Task.{Task};
+ghost use Rattle.run_model.specs.Allowed.{allowed, run};
+ghost use Rattle.run_model.specs.Event.{Event};
+ghost use Rattle.run_model.specs.Replies.{event_of, reply, reply_finish, reply_start};
+ghost use Rattle.run_model.specs.Rules.{IsConsistent, HasRow};
+ghost use Rattle.run_model.specs.Scopes.{is_done};
+ghost use Rattle.run_model.specs.State.{State};
+ghost use Rattle.run_model.specs.Tasks.{is_unfinished};
+ghost use Rattle.state_renewal.specs.Renewed.{new_number, renewed, state_anew};
+ghost use Rattle.state_renewal.specs.Told.{has_place, event_anew, names_part};
+ghost use Rattle.state_renewal.specs.Alike.{GoOnAlike};
+ghost use Rattle.state_renewal.specs.Answered.{answer_anew, calls_part, command_anew, reply_anew};
+ghost use Rattle.state_renewal.specs.Answered.{started_anew};
+ghost use Rattle.state_renewal.specs.GoingOn.{GoesOn, going_on};
+
+/// The renewed state is what goes on of the old one. And whatever the old one is then led to, the
+/// same events are allowed of the renewed one, and lead it to what goes on of that.
+pub fn both_are_led_alike()
+    ensures begins { (p : State) → IsConsistent p → state_anew (going_on p) p ≡ renewed p }
+    ensures run { (p q : State) (events : List Event) → GoesOn p events q
+        → run (renewed p) (map (event_anew (going_on p)) events)
+        ≡ Some (state_anew (going_on p) q) }
+{}
+
+/// Each question of what goes on is answered alike: of scopes, of values, of groups, of tasks, and
+/// of the task that is started next.
+pub fn both_answer_questions_alike()
+    ensures { (p q : State) (events : List Event) → GoesOn p events q
+        → GoOnAlike (going_on p) q (state_anew (going_on p) q) }
+{}
+
+/// A command that names what goes on is answered alike at each length of the log, or refused for
+/// the same reason, where the names that it gives are free in the old store, and there is room. A
+/// start is answered alike, and so is a finish of a task that goes on.
+pub fn both_answer_calls_alike()
+    ensures commands { (p q : State) (events : List Event) (log : ℕ) (call : Command)
+        → GoesOn p events q → calls_part (going_on p) q call ≡ true
+        → has_place q (event_of q call) ≡ true
+        → reply (state_anew (going_on p) q) log (command_anew (going_on p) call)
+        ≡ reply_anew (answer_anew (going_on p)) (reply q log call) }
+    ensures starts { (p q : State) (events : List Event) (log : ℕ) → GoesOn p events q
+        → reply_start (state_anew (going_on p) q) log
+        ≡ reply_anew (started_anew (going_on p)) (reply_start q log) }
+    ensures finishes { (p q : State) (events : List Event) (n : ℕ) (outcome : Outcome)
+        → GoesOn p events q → (going_on p).tasks n ≡ true
+        → reply_finish (state_anew (going_on p) q) (new_number (going_on p).tasks n) outcome
+        ≡ reply_finish q n outcome }
+{}
+
+/// An event that names what goes on is allowed of the old store exactly where it is allowed of the
+/// renewed one, and the old one has its names free and room for it: so the renewed one allows more
+/// only for names and for room that are free again.
+pub fn only_names_and_room_are_free_again()
+    ensures { (p q : State) (events : List Event) (e : Event) → GoesOn p events q
+        → names_part (going_on p) e ≡ true → allowed q e
+        ≡ (allowed (state_anew (going_on p) q) (event_anew (going_on p) e) && has_place q e) }
+{}
+
+/// What doesn't go on is finished, and stays so: a scope is done, a group was waited for, and a
+/// task has ended.
+pub fn what_does_not_go_on_is_finished()
+    ensures scopes { (p q : State) (events : List Event) (s : ℕ) → GoesOn p events q
+        → (going_on p).scopes s ≡ false → is_done q.tree.scopes s ≡ true }
+    ensures groups { (p q : State) (events : List Event) (g : ℕ) (row : Group)
+        → GoesOn p events q → HasRow q.work.groups g row → (going_on p).groups g ≡ false
+        → row.waited ≡ true }
+    ensures tasks { (p q : State) (events : List Event) (n : ℕ) (row : Task)
+        → GoesOn p events q → HasRow q.work.tasks n row → (going_on p).tasks n ≡ false
+        → is_unfinished row.stage ≡ false }
+{}
+
+/// What a renewal leaves of a store doesn't depend on renewals before: it leaves the same of the
+/// store that was renewed and of the one that wasn't.
+pub fn earlier_renewals_leave_no_trace()
+    ensures { (p q : State) (events : List Event) → GoesOn p events q
+        → renewed (state_anew (going_on p) q) ≡ renewed q }
+{}
