@@ -93,23 +93,23 @@ room_is : (g m : List ℕ) (w0 w1 : Option (List ℕ)) (room : Told [] g m w0 w1
     → room.out ++ m ≡ g
 room_is g m w0 w1 room = sym room.told ∙ append-nil g
 
-pub end_stopped :
-    (why : RunFault) (trouble : Trouble) (end g m : List ℕ) (w0 w1 w2 : Option (List ℕ))
+pub end_stopped : {D : Type 0}
+    (why : RunFault) (trouble : Trouble) (c : BookView D) (end g m : List ℕ)
+    (w0 w1 w2 : Option (List ℕ))
     → Told [] g m w0 w1
     → Troubled why trouble m w1 w2
-    → EndStops why end g w0 w2
-end_stopped fault.Output trouble end g m w0 w1 w2 room stop =
+    → EndStops why c end g w0 w2
+end_stopped fault.Output trouble c end g m w0 w1 w2 room stop =
     let P : List ℕ → Type 0 = λ t. WritesPart w0 w2 t in
-    part_more g end w0 w2
-    (subst P (room_is g m w0 w1 room) (part_behind room.out m w0 w1 w2 room.written stop))
-end_stopped (fault.Store why) trouble end g m w0 w1 w2 room stop =
+    inl (subst P (room_is g m w0 w1 room) (part_behind room.out m w0 w1 w2 room.written stop))
+end_stopped (fault.Store why) trouble c end g m w0 w1 w2 room stop =
     let P : List ℕ → Type 0 = λ t. WritesTrouble why t w0 w2 in
     let Q : Trouble → Type 0 = λ t. WritesTrouble t m w1 w2 in
     subst P (room_is g m w0 w1 room)
     (trouble_behind why room.out m w0 w1 w2 room.written (subst Q (sym stop.0) stop.1))
-end_stopped fault.Input trouble end g m w0 w1 w2 room stop = absurd stop
-end_stopped fault.InputTooLong trouble end g m w0 w1 w2 room stop = absurd stop
-end_stopped fault.Memory trouble end g m w0 w1 w2 room stop = absurd stop
+end_stopped fault.Input trouble c end g m w0 w1 w2 room stop = absurd stop
+end_stopped fault.InputTooLong trouble c end g m w0 w1 w2 room stop = absurd stop
+end_stopped fault.Memory trouble c end g m w0 w1 w2 room stop = absurd stop
 
 -- ---- one line
 

@@ -12,7 +12,12 @@ use Rattle.console_lines.specs.Lines.{whole_lines, open_line, lines_of}
 use Rattle.console_lines.specs.Progress.{IsFront}
 use Rattle.console_lines.specs.Script.{after_lines, closing, replies, script}
 use Rattle.console_lines.proofs.Steps.{replies-append}
-use Rattle.run_console.specs.Progress.{BeginsScript, IsTold, IsWritten, RunStops, said_of, untried}
+use Rattle.run_console.specs.Progress.{BeginsScript, IsTold, IsWritten, RunStops, untried}
+
+-- What is replied to the lines that were run; where no line is left, the closing line comes after.
+abbrev said_of : Session → (ran left : List (List ℕ)) → List ℕ
+said_of s ran [] = replies s ran ++ closing (after_lines s ran)
+said_of s ran (line ∷ left) = replies s ran
 
 -- The first of these lines, where the last one is left, are first ones without it.
 first_lines :
@@ -69,6 +74,14 @@ replies_said : (s : Session) (ran left : List (List ℕ))
 replies_said s ran [] = (closing (after_lines s ran), refl)
 replies_said s ran (x ∷ left) = ([], sym (append-nil (replies s ran)))
 
+-- A prefix of the replies is one of what was said.
+front_said : (s : Session) (ran left : List (List ℕ)) (front : List ℕ)
+    → IsFront front (replies s ran) → IsFront front (said_of s ran left)
+front_said s ran [] front (rest, e) =
+    let end = closing (after_lines s ran) in
+    (rest ++ end, ap (λ t. t ++ end) e ∙ append_assoc front rest end)
+front_said s ran (x ∷ left) front h = h
+
 -- What was written: a front of what was said, and behind it what was told of a trouble.
 record Fronts (why : RunFault) (s : Session) (ran left : List (List ℕ))
     (w0 w1 : Option (List ℕ)) : Type 0 where
@@ -82,39 +95,49 @@ no_more : (front : List ℕ) (w0 w1 : Option (List ℕ))
     → Appends w0 w1 front → Appends w0 w1 (front ++ [])
 no_more front w0 w1 h = subst (λ t. Appends w0 w1 t) (sym (append-nil front)) h
 
-fronts_of :
-    (why : RunFault) (s : Session) (ran left : List (List ℕ)) (w0 w1 : Option (List ℕ))
-    → IsWritten why s ran left w0 w1
+fronts_of : {D : Type 0}
+    (why : RunFault) (s : Session) (ran left : List (List ℕ)) (c : BookView D)
+    (w0 w1 : Option (List ℕ))
+    → IsWritten why s ran left c w0 w1
     → Fronts why s ran left w0 w1
-fronts_of fault.Output s ran left w0 w1 h = record {
+fronts_of fault.Output s ran left c w0 w1 (inl h) = record {
   front = h.0;
-  begins = (h.1.0, h.1.1);
+  begins = front_said s ran left h.0 (h.1.0, h.1.1);
   told = [];
   trouble = refl;
   written = no_more h.0 w0 w1 h.2;
 }
-fronts_of (fault.Store why) s ran left w0 w1 h = record {
+fronts_of fault.Output s ran left c w0 w1 (inr (none, saved, h)) =
+    let Begins : List (List ℕ) → Type 0 = λ l. IsFront h.0 (said_of s ran l) in
+    record {
+      front = h.0;
+      begins = subst Begins (sym none) (h.1.0, h.1.1);
+      told = [];
+      trouble = refl;
+      written = no_more h.0 w0 w1 h.2;
+    }
+fronts_of (fault.Store why) s ran left c w0 w1 h = record {
   front = replies s ran;
   begins = replies_said s ran left;
   told = h.0;
   trouble = h.1;
   written = h.2;
 }
-fronts_of fault.Input s ran left w0 w1 h = record {
+fronts_of fault.Input s ran left c w0 w1 h = record {
   front = replies s ran;
   begins = replies_said s ran left;
   told = [];
   trouble = refl;
   written = no_more (replies s ran) w0 w1 h;
 }
-fronts_of fault.InputTooLong s ran left w0 w1 h = record {
+fronts_of fault.InputTooLong s ran left c w0 w1 h = record {
   front = replies s ran;
   begins = replies_said s ran left;
   told = [];
   trouble = refl;
   written = no_more (replies s ran) w0 w1 h;
 }
-fronts_of fault.Memory s ran left w0 w1 h = record {
+fronts_of fault.Memory s ran left c w0 w1 h = record {
   front = replies s ran;
   begins = replies_said s ran left;
   told = [];
@@ -135,7 +158,7 @@ pub stops_begin : {D : Type 0} (state : D → DiskState)
     → RunStops state why b c r0 r1 w0 w1
     → BeginsScript why b.session r0 r1 w0 w1
 stops_begin state why b c r0 r1 w0 w1 h =
-    let w = fronts_of why b.session h.ran h.left w0 w1 h.written in
+    let w = fronts_of why b.session h.ran h.left c w0 w1 h.written in
     record {
       bytes = h.bytes;
       read = h.read;

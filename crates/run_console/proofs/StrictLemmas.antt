@@ -392,7 +392,7 @@ stops_of state why bytes lines more b d r0 r1 w0 w1 f read few is cut reads =
             tries_next state cut.tried.middle d why left
             (tries_more state cut.tried.middle d why cut.left more cut.tried.tried);
       };
-      written = written_so why b.session cut.ran left w0 w1 cut.written;
+      written = written_so why b.session cut.ran left d w0 w1 cut.written;
     }
 
 -- The lines of a strict run begin with those up to some LF, where none before the last strays.
@@ -493,7 +493,7 @@ pub stops_reading_strictly : {D : Type 0} (state : D → DiskState)
     → ((left : List (List ℕ)) → untried why left ≡ left)
     → ((left : List (List ℕ)) → IsRunStopped why left)
     → (Appends w0 w1 (replies b.session (whole_lines [] bytes))
-    → IsWritten why b.session (whole_lines [] bytes) (open_line [] bytes ∷ []) w0 w1)
+    → IsWritten why b.session (whole_lines [] bytes) (open_line [] bytes ∷ []) c w0 w1)
     → ((steps : List Step) → Tries state c why steps c)
     → StopsStrictly state why b c r0 r1 w0 w1
 stops_reading_strictly state why n bytes tail b c r0 r1 w0 w1 read clean reached all_left stopped
@@ -545,7 +545,7 @@ pub stops_closing_strictly : {D : Type 0} (state : D → DiskState)
     (r0 r1 w0 w2 w3 : Option (List ℕ))
     → RanStrictly state stray b d g r0 r1 w0 w2
     → e.session ≡ d.session
-    → EndStops why (closing d.session) g w2 w3
+    → EndStops why e (closing d.session) g w2 w3
     → Tries state d why (step.Flush ∷ []) e
     → StopsStrictly state why b e r0 r1 w0 w3
 stops_closing_strictly state why b d e g stray r0 r1 w0 w2 w3 ran same end flushed =
@@ -558,11 +558,11 @@ stops_closing_strictly state why b d e g stray r0 r1 w0 w2 w3 ran same end flush
       left = [];
       lines_are = sym (append-nil lines);
       read_for = λ _. subst P (sym (append-nil lines)) ran.read_for;
-      stopped = end_stops why (closing d.session) g w2 w3 end;
-      reached = reached_end why (closing d.session) g w2 w3 ran.bytes lines end ran.within;
+      stopped = end_stops why e (closing d.session) g w2 w3 end;
+      reached = reached_end why e (closing d.session) g w2 w3 ran.bytes lines end ran.within;
       session = same ∙ ran.ran.session;
       tried = record { middle = d; taken = ran.ran.taken; tried = flushed };
-      written = end_wrote state why b d lines g w0 w2 w3 ran.ran end;
+      written = end_wrote state why b d e lines g w0 w2 w3 ran.ran end;
     }
 
 -- The closing line was written.

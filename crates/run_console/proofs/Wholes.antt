@@ -1,7 +1,7 @@
 -- A whole input: what was read of it, and how its run ended.
 use Rattle.std.specs.Prelude.{◌≡◌, ◌≤◌, ◌+◌, ◌-◌, min, ℕ, List, [], ◌∷◌, ◌++◌, Option, length, take}
 use Rattle.std.specs.Io.KnownBytes.{Appends, Consumes, IsAtEnd}
-use Rattle.std.proofs.Common.{arith, refl, sym, ap, ◌∙◌, subst, append_assoc, append-nil}
+use Rattle.std.proofs.Common.{arith, inl, inr, refl, sym, ap, ◌∙◌, subst, append_assoc, append-nil}
 use Rattle.std.proofs.Common.{length-append}
 use Rattle.std.proofs.lemmas.List.{length-take, length-take-le}
 use Rattle.run_model.specs.Session.{Session}
@@ -21,9 +21,8 @@ use Rattle.run_console.specs.Rows.{TakesAll, Tries, next_steps}
 use Rattle.run_console.proofs.Rows.{takes_join, tries_more, tries_next}
 use Rattle.run_console.specs.Progress.{Cut, EndStops, IsOfLine, IsReached, IsRunStopped, IsStopped}
 use Rattle.run_console.specs.Progress.{IsWritten, PartRan, Ran, ReadsAll, RunStops, RunsAll, Told}
-use Rattle.run_console.specs.Progress.{WritesTrouble, Wrote, said_of, untried}
-use Rattle.run_console.proofs.Lines.{cut_then, part_behind, part_more}
-use Rattle.run_console.proofs.Lines.{ran_then, trouble_behind}
+use Rattle.run_console.specs.Progress.{WritesTrouble, Wrote, untried}
+use Rattle.run_console.proofs.Lines.{cut_then, part_behind, ran_then, trouble_behind}
 
 -- ---- what is read
 
@@ -81,7 +80,7 @@ pub stops_reading : {D : Type 0} (state : D → DiskState)
     → ((left : List (List ℕ)) → untried why left ≡ left)
     → ((left : List (List ℕ)) → IsRunStopped why left)
     → (Appends w0 w1 (replies b.session (whole_lines [] bytes))
-    → IsWritten why b.session (whole_lines [] bytes) (open_line [] bytes ∷ []) w0 w1)
+    → IsWritten why b.session (whole_lines [] bytes) (open_line [] bytes ∷ []) c w0 w1)
     → ((steps : List Step) → Tries state c why steps c)
     → RunStops state why b c r0 r1 w0 w1
 stops_reading state why bytes tail b c r0 r1 w0 w1 read part reached all_left stopped written
@@ -107,24 +106,15 @@ stops_reading state why bytes tail b c r0 r1 w0 w1 read part reached all_left st
       written = written (subst P (sym (ran.replied ∙ append-nil ran.out)) ran.written);
     }
 
--- What is said before lines that are left.
-said_before : (s : Session) (ran left : List (List ℕ)) (y : List ℕ)
-    → said_of s ran (left ++ y ∷ []) ≡ replies s ran
-said_before s ran [] y = refl
-said_before s ran (x ∷ left) y = refl
-
-written_before :
-    (why : RunFault) (s : Session) (ran left : List (List ℕ)) (y : List ℕ)
-    (w0 w1 : Option (List ℕ))
-    → Wrote why (replies s ran) w0 w1
-    → IsWritten why s ran (left ++ y ∷ []) w0 w1
-written_before fault.Output s ran left y w0 w1 h =
-    let P : List ℕ → Type 0 = λ x. WritesPart w0 w1 x in
-    subst P (sym (said_before s ran left y)) h
-written_before (fault.Store why) s ran left y w0 w1 h = h
-written_before fault.Memory s ran left y w0 w1 h = h
-written_before fault.Input s ran left y w0 w1 h = h
-written_before fault.InputTooLong s ran left y w0 w1 h = h
+-- What was written up to a line that stopped.
+pub written_so : {D : Type 0} (why : RunFault) (s : Session) (ran left : List (List ℕ))
+    (c : BookView D) (w0 w1 : Option (List ℕ))
+    → Wrote why (replies s ran) w0 w1 → IsWritten why s ran left c w0 w1
+written_so fault.Output s ran left c w0 w1 h = inl h
+written_so (fault.Store why) s ran left c w0 w1 h = h
+written_so fault.Memory s ran left c w0 w1 h = h
+written_so fault.Input s ran left c w0 w1 h = h
+written_so fault.InputTooLong s ran left c w0 w1 h = h
 
 pub reached_in : (why : RunFault) (bytes : List ℕ) (ran : List (List ℕ))
     → IsOfLine why
@@ -196,7 +186,7 @@ stops_in_a_part state why bytes part tail b c d r0 r1 r2 w0 w1 w2 f read more fe
             (tries_more state whole.tried.middle d why whole.left (last ∷ [])
             whole.tried.tried);
       };
-      written = written_before why s whole.ran whole.left last w0 w2 whole.written;
+      written = written_so why s whole.ran (whole.left ++ last ∷ []) d w0 w2 whole.written;
     }
 
 -- ---- the end of the input
@@ -222,7 +212,8 @@ pub end_told : {D : Type 0} (state : D → DiskState)
 end_told state b d lines g w0 w2 w3 ran told =
     let P : List ℕ → Type 0 = λ x. Appends w0 w3 x in
     let end = closing d.session in
-    let text : said_of b.session lines [] ≡ ran.out ++ told.out =
+    let text : replies b.session lines ++ closing (after_lines b.session lines)
+    ≡ ran.out ++ told.out =
     ap (λ t. replies b.session lines ++ closing t) (sym
     ran.session)
     ∙ ap (λ x. x ++ end) ran.replied
@@ -231,46 +222,50 @@ end_told state b d lines g w0 w2 w3 ran told =
     subst P (sym text) (appends_then w0 w2 w3 ran.out told.out ran.written told.written)
 
 -- What stopped in the end.
-pub end_stops : (why : RunFault) (end g : List ℕ) (w2 w3 : Option (List ℕ))
-    → EndStops why end g w2 w3 → IsRunStopped why []
-end_stops (fault.Store why) end g w2 w3 h = tt
-end_stops fault.Output end g w2 w3 h = tt
-end_stops fault.Memory end g w2 w3 h = absurd h
-end_stops fault.Input end g w2 w3 h = tt
-end_stops fault.InputTooLong end g w2 w3 h = tt
+pub end_stops : {D : Type 0} (why : RunFault) (e : BookView D) (end g : List ℕ)
+    (w2 w3 : Option (List ℕ))
+    → EndStops why e end g w2 w3 → IsRunStopped why []
+end_stops (fault.Store why) e end g w2 w3 h = tt
+end_stops fault.Output e end g w2 w3 h = tt
+end_stops fault.Memory e end g w2 w3 h = absurd h
+end_stops fault.Input e end g w2 w3 h = tt
+end_stops fault.InputTooLong e end g w2 w3 h = tt
 
-pub reached_end : (why : RunFault) (end g : List ℕ) (w2 w3 : Option (List ℕ)) (bytes : List ℕ)
-    (lines : List (List ℕ))
-    → EndStops why end g w2 w3
+pub reached_end : {D : Type 0} (why : RunFault) (e : BookView D) (end g : List ℕ)
+    (w2 w3 : Option (List ℕ)) (bytes : List ℕ) (lines : List (List ℕ))
+    → EndStops why e end g w2 w3
     → length bytes ≤ LONGEST_INPUT + 1 → IsReached why bytes lines
-reached_end (fault.Store why) end g w2 w3 bytes lines h few = few
-reached_end fault.Output end g w2 w3 bytes lines h few = few
-reached_end fault.Memory end g w2 w3 bytes lines h few = few
-reached_end fault.Input end g w2 w3 bytes lines h few = absurd h
-reached_end fault.InputTooLong end g w2 w3 bytes lines h few = absurd h
+reached_end (fault.Store why) e end g w2 w3 bytes lines h few = few
+reached_end fault.Output e end g w2 w3 bytes lines h few = few
+reached_end fault.Memory e end g w2 w3 bytes lines h few = few
+reached_end fault.Input e end g w2 w3 bytes lines h few = absurd h
+reached_end fault.InputTooLong e end g w2 w3 bytes lines h few = absurd h
 
 -- What was written up to there.
-pub end_wrote : {D : Type 0} (state : D → DiskState) (why : RunFault) (b d : BookView D)
+pub end_wrote : {D : Type 0} (state : D → DiskState) (why : RunFault) (b d e : BookView D)
     (lines : List (List ℕ)) (g : List ℕ)
     (w0 w2 w3 : Option (List ℕ))
     → Ran state lines b d [] g w0 w2
-    → EndStops why (closing d.session) g w2 w3
-    → IsWritten why b.session lines [] w0 w3
-end_wrote state fault.Output b d lines g w0 w2 w3 ran h =
+    → EndStops why e (closing d.session) g w2 w3
+    → IsWritten why b.session lines [] e w0 w3
+end_wrote state fault.Output b d e lines g w0 w2 w3 ran (inl h) =
+    let P : List ℕ → Type 0 = λ x. WritesPart w0 w3 x in
+    inl (subst P (sym ran.replied) (part_behind ran.out g w0 w2 w3 ran.written h))
+end_wrote state fault.Output b d e lines g w0 w2 w3 ran (inr (saved, h)) =
     let P : List ℕ → Type 0 = λ x. WritesPart w0 w3 x in
     let s = b.session in
     let end = closing d.session in
-    let text : said_of s lines [] ≡ ran.out ++ (g ++ end) =
+    let text : replies s lines ++ closing (after_lines s lines) ≡ ran.out ++ (g ++ end) =
     ap (λ t. replies s lines ++ closing t) (sym ran.session)
     ∙ ap (λ x. x ++ end) ran.replied
     ∙ append_assoc ran.out g end in
-    subst P (sym text) (part_behind ran.out (g ++ end) w0 w2 w3 ran.written h)
-end_wrote state (fault.Store why) b d lines g w0 w2 w3 ran h =
+    inr (refl, saved, subst P (sym text) (part_behind ran.out (g ++ end) w0 w2 w3 ran.written h))
+end_wrote state (fault.Store why) b d e lines g w0 w2 w3 ran h =
     let P : List ℕ → Type 0 = λ x. WritesTrouble why x w0 w3 in
     subst P (sym ran.replied) (trouble_behind why ran.out g w0 w2 w3 ran.written h)
-end_wrote state fault.Memory b d lines g w0 w2 w3 ran h = absurd h
-end_wrote state fault.Input b d lines g w0 w2 w3 ran h = absurd h
-end_wrote state fault.InputTooLong b d lines g w0 w2 w3 ran h = absurd h
+end_wrote state fault.Memory b d e lines g w0 w2 w3 ran h = absurd h
+end_wrote state fault.Input b d e lines g w0 w2 w3 ran h = absurd h
+end_wrote state fault.InputTooLong b d e lines g w0 w2 w3 ran h = absurd h
 
 -- The closing line was written behind them.
 pub runs_all : {D : Type 0} (state : D → DiskState)
@@ -308,22 +303,6 @@ stopped_so fault.Input left h = tt
 stopped_so fault.InputTooLong left h = tt
 stopped_so fault.Output left h = tt
 
--- What was said of these lines, and what else there is to say where none is left.
-more_said : (s : Session) (ran left : List (List ℕ)) (w0 w1 : Option (List ℕ))
-    → WritesPart w0 w1 (replies s ran) → WritesPart w0 w1 (said_of s ran left)
-more_said s ran [] w0 w1 h = part_more (replies s ran) (closing (after_lines s ran)) w0 w1 h
-more_said s ran (line ∷ left) w0 w1 h = h
-
--- What was written up to a line that stopped.
-pub written_so : (why : RunFault) (s : Session) (ran left : List (List ℕ))
-    (w0 w1 : Option (List ℕ))
-    → Wrote why (replies s ran) w0 w1 → IsWritten why s ran left w0 w1
-written_so fault.Output s ran left w0 w1 h = more_said s ran left w0 w1 h
-written_so (fault.Store why) s ran left w0 w1 h = h
-written_so fault.Memory s ran left w0 w1 h = h
-written_so fault.Input s ran left w0 w1 h = h
-written_so fault.InputTooLong s ran left w0 w1 h = h
-
 -- The last line stopped.
 pub stops_in_the_last : {D : Type 0} (state : D → DiskState)
     (why : RunFault) (b c d : BookView D) (tail : List ℕ) (r0 r1 w0 w1 w2 : Option (List ℕ))
@@ -352,7 +331,7 @@ stops_in_the_last state why b c d tail r0 r1 w0 w1 w2 f reads cut =
         tried =
             tries_next state whole.tried.middle d why whole.left whole.tried.tried;
       };
-      written = written_so why b.session whole.ran whole.left w0 w2 whole.written;
+      written = written_so why b.session whole.ran whole.left d w0 w2 whole.written;
     }
 
 -- The last flush stopped, or the writer failed behind it.
@@ -361,7 +340,7 @@ pub stops_closing : {D : Type 0} (state : D → DiskState)
     → (reads : ReadsAll state b c tail r0 r1 w0 w1)
     → Ran state (open_line [] reads.bytes ∷ []) c d [] g w1 w2
     → e.session ≡ d.session
-    → EndStops why (closing d.session) g w2 w3
+    → EndStops why e (closing d.session) g w2 w3
     → Tries state d why (step.Flush ∷ []) e
     → RunStops state why b e r0 r1 w0 w3
 stops_closing state why b c d e tail g r0 r1 w0 w1 w2 w3 reads last same end flushed =
@@ -375,11 +354,11 @@ stops_closing state why b c d e tail g r0 r1 w0 w1 w2 w3 reads last same end flu
       left = [];
       lines_are = sym (append-nil lines);
       ended = λ _. reads.ended;
-      stopped = end_stops why (closing d.session) g w2 w3 end;
+      stopped = end_stops why e (closing d.session) g w2 w3 end;
       reached =
-          reached_end why (closing d.session) g w2 w3 bytes lines end
+          reached_end why e (closing d.session) g w2 w3 bytes lines end
           (omega (arith, reads.within));
       session = same ∙ ran.session;
       tried = record { middle = d; taken = ran.taken; tried = flushed };
-      written = end_wrote state why b d lines g w0 w2 w3 ran end;
+      written = end_wrote state why b d e lines g w0 w2 w3 ran end;
     }

@@ -52,19 +52,28 @@ pub record RunsAll {D : Type 0} (state : D → DiskState) (b c : BookView D)
   pub written : Appends w0 w1 (script b.session bytes)
   pub saved : c.durable ≡ c.session.state.count
 
--- What is replied to the lines that were run; where no line is left, the closing line is behind.
-abbrev pub said_of : Session → (ran left : List (List ℕ)) → List ℕ
-said_of s ran [] = replies s ran ++ closing (after_lines s ran)
-said_of s ran (line ∷ left) = replies s ran
+-- All events of a book are durable.
+abbrev pub IsSaved : {D : Type 0} → BookView D → Type 0
+IsSaved book = book.durable ≡ book.session.state.count
 
--- What was written, by what stopped the run: the replies to all lines that were run. Behind them
--- stands what was written of the line of a trouble of the store. Where the writer failed it is a
--- front of what was said, and not all of it.
-abbrev pub IsWritten :
-    RunFault → Session → (ran left : List (List ℕ)) → Option (List ℕ) → Option (List ℕ) → Type 0
-IsWritten fault.Output s ran left old new = WritesPart old new (said_of s ran left)
-IsWritten (fault.Store why) s ran left old new = WritesTrouble why (replies s ran) old new
-IsWritten _ s ran left old new = Appends old new (replies s ran)
+-- The writer failed: a prefix of the replies to the lines that were run was written, and not all
+-- of them. Or no line is left, and all events are durable: then it is a prefix of these and of the
+-- closing line.
+abbrev pub IsPartWritten : {D : Type 0} → Session → (ran left : List (List ℕ)) → BookView D
+    → (old new : Option (List ℕ)) → Type 0
+IsPartWritten s ran left c old new =
+    WritesPart old new (replies s ran)
+    ⊎ ((left ≡ []) × IsSaved c
+    × WritesPart old new (replies s ran ++ closing (after_lines s ran)))
+
+-- What was written, by what stopped the run, which left this book: the replies to all lines that
+-- were run, and after them what was written of the line of a trouble of the store. Where the writer
+-- failed it is a part. So no byte of a closing line is written before its events are durable.
+abbrev pub IsWritten : {D : Type 0} → RunFault → Session → (ran left : List (List ℕ))
+    → BookView D → (old new : Option (List ℕ)) → Type 0
+IsWritten fault.Output s ran left c old new = IsPartWritten s ran left c old new
+IsWritten (fault.Store why) s ran left c old new = WritesTrouble why (replies s ran) old new
+IsWritten _ s ran left c old new = Appends old new (replies s ran)
 
 -- How much was read and run, by what stopped the run. A failed read, and an input of which a byte
 -- more was read than it may have, come behind all lines that an LF ended.
@@ -110,7 +119,7 @@ pub record RunStops {D : Type 0} (state : D → DiskState)
   pub reached : IsReached why bytes ran
   pub session : c.session ≡ after_lines b.session ran
   pub tried : TriesLine state b why ran (next_steps left) c
-  pub written : IsWritten why b.session ran left w0 w1
+  pub written : IsWritten why b.session ran left c w0 w1
 
 -- What was written of a trouble's line: a front of it where the store stopped the run, else
 -- nothing.
@@ -244,12 +253,15 @@ Troubled (fault.Store why) trouble before w0 w1 =
     (why ≡ trouble) × WritesTrouble trouble before w0 w1
 Troubled _ trouble before w0 w1 = ⊥
 
--- The end stopped: what was gathered before was written, and behind it a front of the line of a
--- trouble; where the writer failed, a front of what was gathered and the closing line.
-abbrev pub EndStops : RunFault → List ℕ → List ℕ → Option (List ℕ) → Option (List ℕ) → Type 0
-EndStops fault.Output end before w0 w1 = WritesPart w0 w1 (before ++ end)
-EndStops (fault.Store why) end before w0 w1 = WritesTrouble why before w0 w1
-EndStops _ end before w0 w1 = ⊥
+-- The end stopped, and left this book: what was gathered before was written, and after it a prefix
+-- of the line of a trouble; where the writer failed, a part of what was gathered, or, once all
+-- events are durable, of that and the closing line.
+abbrev pub EndStops : {D : Type 0} → RunFault → BookView D → (end before : List ℕ)
+    → (w0 w1 : Option (List ℕ)) → Type 0
+EndStops fault.Output c end before w0 w1 =
+    WritesPart w0 w1 before ⊎ (IsSaved c × WritesPart w0 w1 (before ++ end))
+EndStops (fault.Store why) c end before w0 w1 = WritesTrouble why before w0 w1
+EndStops _ c end before w0 w1 = ⊥
 
 -- ---- a part of an input, where `begun` was begun and `before` gathered when it came
 

@@ -64,7 +64,7 @@ pub record StopsStrictly {D : Type 0} (state : D → DiskState)
   pub reached : IsReached why bytes ran
   pub session : c.session ≡ after_lines b.session ran
   pub tried : TriesLine state b why ran (next_steps left) c
-  pub written : IsWritten why b.session ran left w0 w1
+  pub written : IsWritten why b.session ran left c w0 w1
 
 -- ---- for private functions: no public contract cites what follows
 

@@ -142,7 +142,7 @@ pub fn close<W: Write, D: RunDisk, B: Allocator>(
     requires sound { book.old.journal.broken ≡ false }
     ensures whole { OnOk result (Told (closing book.old.session) gathered.old.items []
         (W.contents output.old) (W.contents output.new)) }
-    ensures stops { IfErr result (λ fault. EndStops fault
+    ensures stops { IfErr result (λ fault. EndStops fault book.new
         (closing book.old.session) gathered.old.items
         (W.contents output.old) (W.contents output.new)) }
     ensures session { book.new.session ≡ book.old.session }

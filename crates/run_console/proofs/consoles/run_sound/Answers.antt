@@ -87,7 +87,7 @@ returns-clause-stops g c =
     let w1 = g.W.Write.contents c.run_whole_lines.new.output in
     let w2 = g.W.Write.contents c.gather_line.new.output in
     let w3 = g.W.Write.contents c.close.new.output in
-    let Ends : RunFault → Type 0 = λ why. EndStops why (closing d.session) f w2 w3 in
+    let Ends : RunFault → Type 0 = λ why. EndStops why e (closing d.session) f w2 w3 in
     let Flushed : RunFault → Type 0 = λ why.
     Tries state d why (step.Flush ∷ []) e in
     let Stops : RunFault → Type 0 = λ why. RunStops state why b e r0 r1 w0 w3 in
