@@ -9,7 +9,7 @@ use crate::disks::{Inode, SystemDisk};
 use crate::marks::Mark;
 use night_program::{BESIDE, Files, Made, Opened, Reason};
 use run_disk::{DiskFailed, FileDisk, RunDisk};
-use std::alloc::Global;
+use std::alloc::{AllocError, Global};
 use std::fs::{File, Metadata, OpenOptions, TryLockError};
 use std::os::unix::fs::{MetadataExt, OpenOptionsExt, fchown};
 use std::path::{Path, PathBuf};
@@ -141,13 +141,13 @@ impl<'a, S: fs::Files<File = File>> SystemFiles<'a, S> {
     fn path(&self, name: &str) -> Result<PathBuf, Reason> {
         match self.system.canonicalize(self.alloc, name) {
             Ok(path) => Ok(path),
-            Err(_) => or_reason(PathBuf::from_str(self.alloc, name).map_err(io::Error::from)),
+            Err(_) => or_no_memory(PathBuf::from_str(self.alloc, name)),
         }
     }
 
     /// The place of the mark of the store in the file of this path.
     fn mark(&self, path: &str) -> Result<Mark<'a, S>, Reason> {
-        or_reason(Mark::beside(self.system, self.alloc, path).map_err(io::Error::from))
+        or_no_memory(Mark::beside(self.system, self.alloc, path))
     }
 
     /// Gives a file the owner and the rights of the one of this name, if there is to be one.
@@ -278,7 +278,7 @@ impl<'a, S: fs::Files<File = File>> SystemFiles<'a, S> {
     /// Puts a copy of the file of this path in its place, and gives it: what reads of the old one
     /// give is on the device then, which it may not have been before.
     fn renewed(&self, file: &File, path: &str) -> Result<File, Reason> {
-        let beside = or_reason([path, BESIDE].concat(self.alloc).map_err(io::Error::from))?;
+        let beside = or_no_memory([path, BESIDE].concat(self.alloc))?;
         let beside = beside.as_str();
         self.clear(beside)?;
         let mut how = OpenOptions::new();
@@ -505,6 +505,14 @@ fn or_reason<T>(done: io::Result<T>) -> Result<T, Reason> {
     match done {
         Ok(value) => Ok(value),
         Err(error) => Err(Reason::of(&error)),
+    }
+}
+
+/// What was made in memory, or that none is left.
+fn or_no_memory<T>(made: Result<T, AllocError>) -> Result<T, Reason> {
+    match made {
+        Ok(value) => Ok(value),
+        Err(_) => Err(Reason::NoMemory),
     }
 }
 

@@ -5,7 +5,7 @@ use Rattle.run_model.specs.declared.faults.Trouble.TheVariants.{Faulty}
 use Rattle.run_model.specs.Layouts.{layout_of}
 use Rattle.run_disk.specs.Disk.{DiskState}
 use Rattle.console_lines.specs.declared.faults.RunFault.{RunFault}
-use Rattle.console_lines.specs.declared.faults.RunFault.TheVariants.{Store}
+use Rattle.console_lines.specs.declared.faults.RunFault.TheVariants.{Memory, Store}
 use Rattle.console_lines.specs.declared.strays.StrayLine.{StrayLine}
 use Rattle.run_console.specs.Troubles.{stopped}
 use Rattle.night_program.specs.declared.endings.Done.{Done}
@@ -15,7 +15,7 @@ use Rattle.night_program.specs.declared.failures.FileFailure.{FileFailure}
 use Rattle.night_program.specs.declared.failures.FileName.{FileName}
 use Rattle.night_program.specs.declared.failures.FileName.TheVariants.{Beside, Own}
 use Rattle.night_program.specs.declared.reasons.Reason.{Reason}
-use Rattle.night_program.specs.declared.reasons.Reason.TheVariants.{InUse}
+use Rattle.night_program.specs.declared.reasons.Reason.TheVariants.{InUse, NoMemory}
 use Rattle.night_program.specs.Files.{beside}
 
 -- The name of a file that is told: one that the words have, or that of the file beside it.
@@ -31,11 +31,16 @@ Names name file = IfSome file (λ f. name_text f.name ≡ name)
 abbrev pub NamesOne : (old new : List ℕ) → Option FileFailure → Type 0
 NamesOne old new file = Names old file ⊎ Names new file
 
--- The file of this name wasn't had: the device failed, and the file is named.
+-- The fault of a file that isn't had: memory was wanting, or the device failed.
+abbrev pub fault_of : Reason → RunFault
+fault_of NoMemory = Memory
+fault_of _ = Store (Faulty DiskFailed)
+
+-- The file of this name wasn't had: it is named with why, and the fault is that of the reason.
 abbrev pub IsNoFile : List ℕ → Failure → Type 0
 IsNoFile name failure =
-    (failure.fault ≡ Store (Faulty DiskFailed))
-    × ((file : FileFailure) × (failure.file ≡ Some file) × (name_text file.name ≡ name))
+    (file : FileFailure) × (failure.file ≡ Some file) × (name_text file.name ≡ name)
+    × (failure.fault ≡ fault_of file.reason)
 
 -- The file that is to blame where a store isn't put in place: the one beside it, where another
 -- program has that by then, or else its own.
@@ -43,12 +48,13 @@ abbrev pub blamed : List ℕ → Reason → List ℕ
 blamed store InUse = beside store
 blamed store _ = store
 
--- A store wasn't put in place: the device failed, and the file that is to blame is named.
+-- A store wasn't put in place: the file that is to blame is named with why, and the fault is that
+-- of the reason.
 abbrev pub IsUnput : List ℕ → Failure → Type 0
 IsUnput store failure =
-    (failure.fault ≡ Store (Faulty DiskFailed))
-    × ((file : FileFailure) × (failure.file ≡ Some file)
-    × (name_text file.name ≡ blamed store file.reason))
+    (file : FileFailure) × (failure.file ≡ Some file)
+    × (name_text file.name ≡ blamed store file.reason)
+    × (failure.fault ≡ fault_of file.reason)
 
 -- This fault ended it, and this holds of the file of which a call failed.
 abbrev pub FailsBy : (Option FileFailure → Type 0) → RunFault → Result Done Failure → Type 0

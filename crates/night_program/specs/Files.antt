@@ -32,8 +32,8 @@ IsSettled s = s.honest → IsAtRest s
 abbrev pub beside : List ℕ → List ℕ
 beside name = name ++ codes ".renewing"
 
--- The file of a name couldn't be made anew: it may be emptied or gone, or be there, and no other one
--- changed. Where it had to be new, all files are as they were, or it was made.
+-- The file of a name couldn't be made anew: it may be emptied or gone, or be there, and no other
+-- one changed. Where it had to be new, all files are as they were, or it was made.
 abbrev pub IsNotMade : {F D : Type 0} → FilesView F D → List ℕ → (only_new : Bool)
     → (f0 f1 : F) → Type 0
 IsNotMade seen name true f0 f1 = (f1 ≡ f0) ⊎ seen.removes f1 name f0

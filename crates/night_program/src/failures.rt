@@ -3,7 +3,7 @@
 ghost use Rattle.std.specs.Prelude.{◌≡◌, None, Some};
 ghost use Rattle.night_program.specs.Failures.{AnswersAlone, AnswersOver, AnswersStrict};
 ghost use Rattle.night_program.specs.Failures.{IsNoFile, IsUnput, Names, NamesOne, blamed};
-ghost use Rattle.night_program.specs.Failures.{name_text};
+ghost use Rattle.night_program.specs.Failures.{fault_of, name_text};
 
 use crate::endings::Done;
 use crate::files::Why;
@@ -64,8 +64,23 @@ pub fn not_had<'a>(name: FileName<'a>, reason: Reason) -> Failure<'a>
     ensures { IsNoFile (name_text name.entry) result }
 {
     Failure {
-        fault: RunFault::Store(Trouble::Faulty(Fault::DiskFailed)),
+        fault: fault_of(&reason),
         file: Some(FileFailure { name, reason }),
+    }
+}
+
+/// The fault of a file that isn't had: the device failed, or memory is wanting.
+fn fault_of(reason: &Reason) -> RunFault
+    ensures { result ≡ fault_of reason.now }
+{
+    match reason {
+        Reason::NoMemory => RunFault::Memory,
+        Reason::InUse
+        | Reason::EndedEarly
+        | Reason::OtherName
+        | Reason::NotAFile
+        | Reason::Unsynced
+        | Reason::Said(_) => RunFault::Store(Trouble::Faulty(Fault::DiskFailed)),
     }
 }
 
@@ -74,7 +89,7 @@ pub fn not_had<'a>(name: FileName<'a>, reason: Reason) -> Failure<'a>
 pub fn not_put<'a>(store: &'a str, reason: Reason) -> Failure<'a>
     ensures { IsUnput store.now result }
 {
-    let fault = RunFault::Store(Trouble::Faulty(Fault::DiskFailed));
+    let fault = fault_of(&reason);
     let name = blamed(store, &reason);
     Failure {
         fault,
@@ -92,6 +107,7 @@ fn blamed<'a>(store: &'a str, reason: &Reason) -> FileName<'a>
         | Reason::OtherName
         | Reason::NotAFile
         | Reason::Unsynced
+        | Reason::NoMemory
         | Reason::Said(_) => FileName::Own(store),
     }
 }

@@ -24,6 +24,8 @@ pub enum Reason {
     /// A sync of it failed, so that what reads give may not be on the device, and it couldn't be
     /// made anew from that.
     Unsynced,
+    /// No memory is left for its name, or for that of a file beside it.
+    NoMemory,
     /// What the system said, at most 96 bytes of it.
     Said(ArrayString<96>),
 }
@@ -56,6 +58,7 @@ impl fmt::Display for Reason {
             Reason::OtherName => f.write_str("its file has another name, too"),
             Reason::NotAFile => f.write_str("not a file"),
             Reason::Unsynced => f.write_str("a sync of it failed: put a copy in its place"),
+            Reason::NoMemory => f.write_str("no memory is left for its name"),
             Reason::Said(text) => f.write_str(text.as_str()),
         }
     }
