@@ -69,7 +69,7 @@ replies_said : (s : Session) (ran left : List (List ℕ))
 replies_said s ran [] = (closing (after_lines s ran), refl)
 replies_said s ran (x ∷ left) = ([], sym (append-nil (replies s ran)))
 
--- What was written: a front of what was said, and behind it what was told of a trouble.
+-- What was written: a front of what was said, and after it what was told of a trouble.
 record Fronts (why : RunFault) (s : Session) (ran left : List (List ℕ))
     (w0 w1 : Option (List ℕ)) : Type 0 where
   front : List ℕ
