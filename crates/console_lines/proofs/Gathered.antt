@@ -1,4 +1,4 @@
--- Texts that are gathered one behind the other.
+-- Texts that are gathered one after the other.
 use Rattle.std.specs.Prelude.{◌≡◌, ◌+◌, ◌≤◌, ℕ, List, ◌++◌}
 use Rattle.std.proofs.Common.{arith, ap, ◌∙◌, append_assoc}
 use Rattle.console_lines.specs.Gathers.{Gathers}
@@ -17,7 +17,7 @@ pub gathers_three : (a b c d x y z : List ℕ) (p q r : ℕ)
 gathers_three a b c d x y z p q r h k m =
     gathers_then a b d x (y ++ z) p (q + r) h (gathers_then b c d y z q r k m)
 
--- One text behind another, written between the two.
+-- One text after another, written between the two.
 infixr 5 ◌followed_by◌
 pub ◌followed_by◌ : {a b c x y : List ℕ} {p q : ℕ}
     → Gathers a b x p → Gathers b c y q → Gathers a c (x ++ y) (p + q)

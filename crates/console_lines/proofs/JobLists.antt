@@ -13,7 +13,7 @@ use Rattle.console_lines.specs.Tallies.{jobs_of}
 abbrev pub is_among : List ℕ → List (List ℕ) → Bool
 is_among job jobs = list_any (bytes_eq job) jobs
 
--- A job goes behind these, unless it is among them.
+-- A job goes after these, unless it is among them.
 abbrev pub with_job : List (List ℕ) → List ℕ → List (List ℕ)
 with_job jobs job = if is_among job jobs then jobs else jobs ++ job ∷ []
 
@@ -150,7 +150,7 @@ behind_by a k jobs false false h e =
     ∙ sym (with_step (a ∷ without a jobs) k false
     (among_step k a (without a jobs) false h ∙ among_without a k jobs h ∙ e))
 
--- The last task's job goes behind those of the others.
+-- The last task's job goes after those of the others.
 pub jobs_more : (tasks : List Task) (task : Task)
     → jobs_of (tasks ++ task ∷ []) ≡ with_job (jobs_of tasks) task.job
 jobs_more [] task = refl

@@ -111,13 +111,13 @@ lines_are_steps s (line ∷ lines) =
 
 -- ---- texts
 
--- A value's text is all that stands behind its key.
+-- A value's text is all that stands after its key.
 pub value_text :
     (key text : List ℕ)
     → wish_of (codes "value") (key ∷ words_of text) ≡ Some (wished (wish.Value key text))
 value_text key text = ap (λ t. option_map (λ x. wished (wish.Value key x)) t) (rest_is (Some text))
 
--- A deadline's cause is all that stands behind its moment.
+-- A deadline's cause is all that stands after its moment.
 pub deadline_cause :
     (word cause : List ℕ) (moment : ℕ)
     → moment_of word ≡ Some (Ok moment)
@@ -127,7 +127,7 @@ deadline_cause word cause moment h =
     ap (λ m. option_map (deadline_at (rest_of (words_of cause))) m) h
     ∙ ap (λ t. Some (wished (wish.Deadline moment t))) (rest_is (Some cause))
 
--- A timeout's cause is all that stands behind its number.
+-- A timeout's cause is all that stands after its number.
 pub timeout_cause :
     (word cause : List ℕ) (seconds : ℕ)
     → number_of word ≡ Some seconds

@@ -1,4 +1,4 @@
--- The lines of two parts of an input, one behind the other.
+-- The lines of two parts of an input, one after the other.
 use Rattle.std.specs.Prelude.{◌≡◌, ◌==◌, ◌<◌, ◌≤◌, ◌+◌, ℕ, false, min}
 use Rattle.std.specs.Prelude.{List, [], ◌∷◌, ◌++◌, length}
 use Rattle.std.proofs.Common.{arith, refl, sym, ap, ◌∙◌, append-nil}

@@ -1,4 +1,4 @@
--- The nodes of a state that a store can keep: each but root stands behind its parent.
+-- The nodes of a state that a store can keep: each but root stands after its parent.
 use Rattle.std.specs.Prelude.{◌≡◌, ◌≤◌, ◌<◌, ◌+◌, ℕ, zero, suc, Bool, true, false}
 use Rattle.std.specs.Prelude.{List, [], ◌∷◌, ◌++◌, length, map, slice_get, Option, Some, None}
 use Rattle.std.specs.Option.{option_map_or}

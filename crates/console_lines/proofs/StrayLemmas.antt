@@ -1,4 +1,4 @@
--- The first line that strays, among lines that are one behind the other.
+-- The first line that strays, among lines that are one after the other.
 use Rattle.std.specs.Prelude.{◌≡◌, ◌+◌, ℕ, Bool, true, false, List, [], ◌∷◌, ◌++◌, length}
 use Rattle.std.specs.Prelude.{map, Option, Some, None, is_some, if◌then◌else◌}
 use Rattle.std.specs.Option.{option_map_or}
@@ -14,7 +14,7 @@ use Rattle.console_lines.specs.Strict.{stray_among, stray_at, stray_from, stray_
 use Rattle.console_lines.specs.Strict.{strict_lines_of}
 use Rattle.console_lines.proofs.Splits.{whole_lines-append, open_line-append}
 
--- ---- lines of which none strays, and what is behind them
+-- ---- lines of which none strays, and what comes after them
 
 none_first : (n : ℕ) (first : Option Stray) (rest : Option StrayLine)
     → option_map_or (λ why. Some (record { number = n; why = why })) first rest ≡ None
@@ -22,7 +22,7 @@ none_first : (n : ℕ) (first : Option Stray) (rest : Option StrayLine)
 none_first n None rest h = (refl, h)
 none_first n (Some why) rest h = absurd (grind (arith, h))
 
--- The search goes on behind them.
+-- The search goes on after them.
 pub none_then : (n : ℕ) (s : Session) (xs ys : List (List ℕ))
     → stray_from n s xs ≡ None
     → stray_from n s (xs ++ ys) ≡ stray_from (n + length xs) (after_lines s xs) ys
@@ -57,7 +57,7 @@ some_first n x None stray rest more lines all h behind =
     ((behind h).0, ap (λ t. x ∷ t) (behind h).1)
 some_first n x (Some why) stray rest more lines all h behind = (h, refl)
 
--- What is behind them doesn't matter.
+-- What comes after them doesn't matter.
 pub some_more : (n : ℕ) (s : Session) (xs ys : List (List ℕ)) (stray : StrayLine)
     → stray_from n s xs ≡ Some stray
     → (stray_from n s (xs ++ ys) ≡ Some stray) × (strict_lines s (xs ++ ys) ≡ strict_lines s xs)
@@ -111,7 +111,7 @@ lines_around front behind =
     ∙ append_assoc first (line ∷ whole_lines [] behind) (open_line [] behind ∷ [])
     ∙ sym (append_assoc first (line ∷ []) (lines_of behind))
 
--- What is behind the line that strays doesn't matter.
+-- What comes after the line that strays doesn't matter.
 pub strays_before : (s : Session) (front behind : List ℕ) (stray : StrayLine)
     → stray_in s front ≡ Some stray
     → (stray_in s (front ++ 10 ∷ behind) ≡ Some stray)

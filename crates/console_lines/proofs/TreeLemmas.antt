@@ -62,7 +62,7 @@ drawn_same (suc a) (suc b) n parents less p q =
     (λ m low high. drawn_same a b m parents high
     (omega (arith, p, low)) (omega (arith, q, low))))
 
--- ---- what is drawn behind a node
+-- ---- what is drawn after a node
 
 -- The node comes first, and its children follow.
 pub node_first : (parents : List ℕ) (n : ℕ) → n < length parents
@@ -76,7 +76,7 @@ pub childless : (parents : List ℕ) (n : ℕ) → n < length parents → childr
 childless parents n less none =
     node_first parents n less ∙ ap (λ ns. n ∷ forest parents ns) none
 
--- Behind a node with children the first of them is drawn, and all below it.
+-- After a node with children the first of them is drawn, and all below it.
 pub first_child : (parents : List ℕ) (n child : ℕ) (rest : List ℕ) → n < length parents
     → children parents n ≡ child ∷ rest
     → all_below parents n ≡ n ∷ (all_below parents child ++ forest parents rest)
@@ -100,7 +100,7 @@ after_same (suc a) (suc b) (suc n) parents rising p q =
 
 -- ---- the places of a number
 
--- Where this place is the first, the row has the number there, and the others are found behind it.
+-- Where this place is the first, the row has the number there, and the others are found after it.
 pub record IsFirst (parent place : ℕ) (row : List ℕ) (found : ℕ) (others : List ℕ) : Type 0 where
   pub skipped : ℕ
   pub place_is : found ≡ place + skipped
@@ -169,7 +169,7 @@ drop_behind (suc n) k (first ∷ rest) =
     let e : suc n + k ≡ suc (n + k) = omega arith in
     drop_behind n k rest ∙ sym (ap (λ m. drop m (first ∷ rest)) e)
 
--- The first of the nodes behind a node that have a parent has this parent, and the others are its
+-- The first of the nodes after a node that have a parent has this parent, and the others are its
 -- later siblings.
 pub first_behind : (parents : List ℕ) (n parent found : ℕ) (others : List ℕ)
     → behind parents n parent ≡ found ∷ others

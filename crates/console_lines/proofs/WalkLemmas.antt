@@ -36,7 +36,7 @@ empty (m ∷ rest) e = absurd (cc)
 
 -- ---- a row that is looked through
 
--- The place that is looked at has another number, so those behind it are left.
+-- The place that is looked at has another number, so those after it are left.
 pub places_past : (parent place : ℕ) (row : List ℕ) → place < length row
     → (get_or row place 0 ≡ parent → ⊥)
     → places_of parent place (drop place row)
@@ -62,9 +62,9 @@ pub places_end : (parent place : ℕ) (row : List ℕ) → length row ≤ place
 places_end parent place row past =
     ap (λ ns. slice_get (places_of parent place ns) 0) (drop_all place row past)
 
--- ---- the first node behind a node that has this parent
+-- ---- the first node after a node that has this parent
 
--- It stands behind the node, has this parent, and what else has it stands behind it.
+-- It stands after the node, has this parent, and what else has it stands after it.
 pub record IsFound (parents : List ℕ) (n parent found : ℕ) : Type 0 where
   pub behind_it : n < found
   pub within : found < length parents
@@ -98,7 +98,7 @@ found parents n parent m less e =
 
 -- ---- what is drawn from a node on
 
--- Behind a node with children the first of them is drawn.
+-- After a node with children the first of them is drawn.
 pub child_next : (parents : List ℕ) (n child : ℕ) → AreRising parents → n < length parents
     → IsFound parents n n child → drawn_from parents n ≡ n ∷ drawn_from parents child
 child_next parents n zero rising less p = absurd (omega (arith, p.behind_it))
@@ -111,7 +111,7 @@ child_next parents n (suc c) rising less p =
     (after_same n c n parents rising (omega arith) (omega (arith, p.behind_it))
     ∙ ap (after c parents) (sym p.parent_is)))
 
--- Behind a node without a child what follows it is drawn.
+-- After a node without a child what follows it is drawn.
 pub none_next : (parents : List ℕ) (n : ℕ) → n < length parents → children parents n ≡ []
     → drawn_from parents n ≡ n ∷ after n parents n
 none_next parents n less none =

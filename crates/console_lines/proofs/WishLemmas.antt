@@ -1,4 +1,4 @@
--- What a derive is refused by its wish comes behind what it is refused by its names.
+-- What a derive is refused by its wish comes after what it is refused by its names.
 use Rattle.std.specs.Prelude.{◌≡◌, ℕ, Bool, true, false, not, ◌&&◌, if◌then◌else◌, List, ◌∷◌}
 use Rattle.std.specs.Prelude.{Option, Some, None, Result, Ok, Err}
 use Rattle.std.specs.List.{list_all}
@@ -33,7 +33,7 @@ behind_names true true false t name parent wish = refl
 behind_names true true true false name parent wish = refl
 behind_names true true true true name parent wish = refl
 
--- A wish that was judged is refused behind the names.
+-- A wish that was judged is refused after the names.
 pub judged_behind_names :
     (name parent : List ℕ) (w : Wished)
     → asks_judged name parent (judged w) ≡ asks_derive name parent w

@@ -24,7 +24,7 @@ is_space b = b == 32
 has_words : (line : List ℕ) → 0 < length (words_of line)
 has_words line = grind (arith, length-slice_split (λ b. b == 32) line)
 
--- The first word ends at the first space, and the others are behind it.
+-- The first word ends at the first space, and the others come after it.
 pub words_at_space :
     (line : List ℕ) (i : ℕ)
     → position (λ b. b == 32) line ≡ Some i
@@ -79,7 +79,7 @@ asks_alone_words : (a : Asked) (words : List (List ℕ)) → 0 < length words
 asks_alone_words a [] h = absurd (omega (arith, h))
 asks_alone_words a (word ∷ words) h = refl
 
--- A line that nothing stands behind is a bad line where a word is left over.
+-- A line that no word may follow is a bad line where a word is left over.
 pub asks_alone_more : (a : Asked) (line : List ℕ) → asks_alone a (words_of line) ≡ asked.BadLine
 asks_alone_more a line = asks_alone_words a (words_of line) (has_words line)
 
@@ -87,7 +87,7 @@ success_words : (words : List (List ℕ)) → 0 < length words → success_of wo
 success_words [] h = absurd (omega (arith, h))
 success_words (word ∷ words) h = refl
 
--- Nothing stands behind a success.
+-- Nothing stands after a success.
 pub success_more : (line : List ℕ) → success_of (words_of line) ≡ None
 success_more line = success_words (words_of line) (has_words line)
 
@@ -96,6 +96,6 @@ only_word_words : (word : List ℕ) (words : List (List ℕ)) → 0 < length wor
 only_word_words word [] h = absurd (omega (arith, h))
 only_word_words word (more ∷ words) h = refl
 
--- A word with another behind it is not the last.
+-- A word with another after it is not the last.
 pub only_word_more : (word line : List ℕ) → only_word (word ∷ words_of line) ≡ None
 only_word_more word line = only_word_words word (words_of line) (has_words line)

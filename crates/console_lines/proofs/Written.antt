@@ -41,12 +41,12 @@ consumes_then (Some x) (Some y) (Some z) xs ys h k =
 
 -- ---- fronts
 
--- What is put behind some bytes leaves some.
+-- What is put after some bytes leaves some.
 more_than_none : (xs ys : List ℕ) → xs ≢ [] → xs ++ ys ≢ []
 more_than_none [] ys h = absurd (h refl)
 more_than_none (x ∷ xs) ys h = λ e. omega (arith, ap length e)
 
--- A front of the second of two texts, behind the whole of the first, is one of both.
+-- A front of the second of two texts, after the whole of the first, is one of both.
 pub front_behind : (front xs ys : List ℕ) → IsCut front ys → IsCut (xs ++ front) (xs ++ ys)
 front_behind front xs ys k =
     (k.0, ap (λ t. xs ++ t) k.1 ∙ sym (append_assoc xs front k.0), k.2)

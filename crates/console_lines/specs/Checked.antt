@@ -43,8 +43,8 @@ texts_in (command.Derive name parent wish) = texts_in_wish wish
 texts_in (command.Cancel scope cause) = option_to_list cause
 texts_in _ = []
 
--- A word in the place of a name that is no name is refused first, and then a text that is none.
--- What else a line is refused by itself comes behind these.
+-- A word in the place of a name that is not a name is refused first, and then a text that is not a
+-- text. What else refuses a line by itself comes after these.
 abbrev pub checked : List (List ℕ) → List (List ℕ) → Asked → Asked
 checked names texts asks =
     if not (list_all is_name names) then asked.Refused refusal.BadName

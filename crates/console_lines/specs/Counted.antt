@@ -15,7 +15,7 @@ MOST = 65535
 abbrev pub shown : Job × Counts → Tally
 shown entry = record { job = entry.0.name; counts = entry.1 }
 
--- What is counted of a job; none where none of its tasks was counted.
+-- What is counted of a job; none if none of its tasks was counted.
 abbrev pub counted_at : List ℕ → List Tally → Option Counts
 counted_at job [] = None
 counted_at job (tally ∷ tallies) =
@@ -25,7 +25,7 @@ counted_at job (tally ∷ tallies) =
 abbrev pub no_tasks : Counts
 no_tasks = record { total = 0; success = 0; failure = 0; interrupted = 0 }
 
--- A count with one more, where it isn't the greatest yet.
+-- A count with one more, if it isn't the greatest yet.
 abbrev pub raised : ℕ → ℕ
 raised n = min (n + 1) MOST
 
@@ -37,7 +37,7 @@ one_more phase.Interrupted c =
     record c { total = raised c.total; interrupted = raised c.interrupted }
 one_more _ c = record c { total = raised c.total }
 
--- The tallies where this is counted of a job; a new one goes last.
+-- The tallies, with this as what is counted of a job; a new one goes last.
 abbrev pub with_tally : List ℕ → Counts → List Tally → List Tally
 with_tally job counts [] = record { job = job; counts = counts } ∷ []
 with_tally job counts (tally ∷ tallies) =

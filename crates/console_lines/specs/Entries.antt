@@ -182,7 +182,7 @@ entry_text (entry.Scope n parent kind look) = scope_object n parent kind look
 entry_text (entry.Group n look) = group_object n look
 entry_text (entry.Task n look) = task_object n look
 
--- Each entry of a list stands on a line of its own, behind a comma if another is before it.
+-- Each entry of a list stands on a line of its own, after a comma if another is before it.
 abbrev pub separator : Bool → List ℕ
 separator first = if first then codes "\n" else codes ",\n"
 

@@ -5,12 +5,12 @@ use Rattle.std.specs.Prelude.{◌≡◌, ℕ, List, [], ◌∷◌, ◌++◌, cod
 use Rattle.console_lines.specs.Entries.{json_text}
 use Rattle.console_lines.specs.Nights.{Night, session_of}
 
--- Texts one behind the other.
+-- Texts one after the other.
 abbrev pub joined : List String → List ℕ
 joined [] = []
 joined (text ∷ texts) = codes text ++ joined texts
 
--- Behind a night these texts, one behind the other, are printed as JSON.
+-- After a night these texts, one after the other, are printed as JSON.
 abbrev pub IsShown : Night → List String → Type 0
 IsShown night texts = json_text (session_of night).state ≡ joined texts
 

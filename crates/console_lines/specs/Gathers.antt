@@ -1,7 +1,7 @@
--- How replies are gathered, one behind the other.
+-- How replies are gathered, one after the other.
 use Rattle.std.specs.Prelude.{◌≡◌, ◌≤◌, ◌+◌, ℕ, List, ◌++◌, length}
 
--- What was gathered goes on by a text, of at most so many bytes.
+-- A text of at most so many bytes is appended to what was gathered.
 pub record Gathers (old new text : List ℕ) (most : ℕ) : Type 0 where
   pub items : new ≡ old ++ text
   pub fits : length new ≤ length old + most

@@ -1,4 +1,4 @@
--- What is asked of groups: the forms of their lines, by the words behind the first.
+-- What is asked of groups: the forms of their lines, by the words after the first.
 use Rattle.std.specs.Prelude.{ℕ, nat_le, if◌then◌else◌, List, [], ◌∷◌, codes, Option, Some, None}
 use Rattle.std.specs.Option.{option_map_or, option_and_then}
 use Rattle.std.specs.Str.{bytes_eq}

@@ -4,7 +4,7 @@ use Rattle.std.specs.Prelude.{ℕ, List, [], ◌∷◌, ◌++◌, codes}
 use Rattle.console_lines.specs.Nights.{Night, shown}
 
 -- Of a group of limit 2, two tasks are ready, and the third is held until one of them has finished.
--- A try is refused where its task would be held.
+-- A try is refused if its task would be held.
 abbrev pub limit_of_two : Night
 limit_of_two =
     ("group g root", "group 0 scope 1")
@@ -31,7 +31,7 @@ limit_of_none =
     ∷ ("wait g", "refused 16 Unfinished 1")
     ∷ []
 
--- The first error is the group's, and the cause of its scope; a wait says it each time.
+-- The first error is the group's, and the cause of its scope; a wait returns it each time.
 abbrev pub two_errors : Night
 two_errors =
     ("group g root", "group 0 scope 1")
@@ -72,7 +72,7 @@ refused_groups =
     ∷ ("start", "refused 19 NothingReady")
     ∷ []
 
--- Of two jobs three tasks are there, and two of them have finished.
+-- There are three tasks of two jobs, and two of them have finished.
 abbrev pub two_jobs : Night
 two_jobs =
     ("group g root", "group 0 scope 1")
@@ -91,7 +91,7 @@ two_tallies =
     shown (codes "tally spin total 2; success 0; failure 1; interrupted 0")
     ++ shown (codes "tally copy total 1; success 1; failure 0; interrupted 0")
 
--- Where there is no task, a tally prints nothing.
+-- If there is no task, a tally prints nothing.
 abbrev pub no_jobs : Night
 no_jobs = ("tally", "") ∷ ("group g root", "group 0 scope 1") ∷ ("tally", "") ∷ []
 
@@ -139,8 +139,8 @@ bad_group_lines =
     ∷ ("tally all", "bad line")
     ∷ []
 
--- Words that are no names come first, then errors that are no texts, and then numbers that no task
--- has. Zeros may stand before a number.
+-- Words that are not names come first, then errors that are not texts, and then numbers that no
+-- task has. Zeros may stand before a number.
 abbrev pub bad_group_words : Night
 bad_group_words =
     ("group  root", "refused 5 BadName")

@@ -13,11 +13,11 @@ use Rattle.console_lines.specs.Replies.{group_text, phase_text, scope_text}
 abbrev pub numbered : List ℕ → ℕ → List ℕ
 numbered word n = word ++ (codes " " ++ (decimal n ++ codes " "))
 
--- Behind them a name, as in `scope 1 a `.
+-- After them a name, as in `scope 1 a `.
 abbrev pub named : List ℕ → ℕ → List ℕ → List ℕ
 named word n name = numbered word n ++ (name ++ codes " ")
 
--- Which task this one is a retry of, where it is one.
+-- Which task this one is a retry of, if it is one.
 abbrev pub retry_text : Option ℕ → List ℕ
 retry_text None = []
 retry_text (Some n) = codes " retry of " ++ decimal n
@@ -43,7 +43,7 @@ row_text (row.Task n group look) = named (codes "task") n group ++ work_text loo
 abbrev pub row_line : Row → List ℕ
 row_line row = row_text row ++ 10 ∷ []
 
--- The line of what is seen, where something is.
+-- The line of what is seen, if something is.
 abbrev pub seen_line : Option Row → List ℕ
 seen_line seen = option_map_or row_line seen []
 

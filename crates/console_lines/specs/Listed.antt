@@ -19,19 +19,19 @@ phase_word phase.Success = codes "success"
 phase_word (phase.Failure error) = codes "error"
 phase_word phase.Interrupted = codes "interrupted"
 
--- A word is as it is asked for; where none is asked for, each is.
+-- A word is as it is asked for; if none is asked for, each is.
 abbrev pub is_as_asked : Option (List ℕ) → List ℕ → Bool
 is_as_asked None word = true
 is_as_asked (Some asked) word = bytes_eq asked word
 
--- A row is listed where it is a task's, and the word of its phase and the name of its group are as
+-- A row is listed if it is a task's, and the word of its phase and the name of its group are as
 -- they are asked for.
 abbrev pub is_listed : (phase group : Option (List ℕ)) → Row → Bool
 is_listed phase group (row.Task n name look) =
     is_as_asked phase (phase_word look.phase) && is_as_asked group name
 is_listed phase group _ = false
 
--- The row, where it is listed.
+-- The row, if it is listed.
 abbrev pub if_listed : (phase group : Option (List ℕ)) → Row → Option Row
 if_listed phase group row = if is_listed phase group row then Some row else None
 
@@ -40,7 +40,7 @@ abbrev pub listed_line : (phase group : Option (List ℕ)) → State → ℕ →
 listed_line phase group p n =
     seen_line (option_and_then (if_listed phase group) (task_row p n))
 
--- All that is listed: of each task in order its line, as a whole state's print has it, where it is
--- in this phase and of the group of this name. Where none is asked for, all of them are listed.
+-- All that is listed: the line of each task in order, as a whole state's print has it, if the task
+-- is in this phase and of the group of this name. If none is asked for, all of them are listed.
 abbrev pub listed : (phase group : Option (List ℕ)) → State → List ℕ
 listed phase group p = lines_below (listed_line phase group p) (length p.work.tasks)

@@ -19,6 +19,6 @@ three_tasks =
     ∷ ("finish 2 error no room", "ok")
     ∷ []
 
--- Behind that night these tasks are listed.
+-- After that night these tasks are listed.
 abbrev pub IsListed : (phase group : Option (List ℕ)) → String → Type 0
 IsListed phase group text = listed phase group (session_of three_tasks).state ≡ codes text

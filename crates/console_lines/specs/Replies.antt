@@ -121,7 +121,7 @@ reply_text (reply.Failed why) = trouble_text why
 abbrev pub reply_line : Reply → List ℕ
 reply_line reply = reply_text reply ++ 10 ∷ []
 
--- Some replies, one line behind the other.
+-- Some replies, one line after the other.
 abbrev pub reply_lines : List Reply → List ℕ
 reply_lines [] = []
 reply_lines (reply ∷ replies) = reply_line reply ++ reply_lines replies

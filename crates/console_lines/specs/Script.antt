@@ -20,15 +20,15 @@ use Rattle.console_lines.specs.Tallies.{tallies_of}
 
 -- ---- one line
 
--- A scope that is there is told, and one that is not there is refused.
+-- The reply about a scope: how it is, and a refusal if there is no such scope.
 abbrev pub scope_reply : State → List ℕ → Reply
 scope_reply p name =
     option_map_or (λ look. said.Scope look)
     (option_and_then (λ s. look_of p s) (scope_named p.tree name))
     (said.Refused refusal.NoSuchScope)
 
--- What a scope that is there holds under a key is told. A scope that is not there is refused first,
--- and then a key under which nothing is held.
+-- The reply about a value: what the scope holds under a key. A scope that is not there is refused
+-- first, and then a key under which nothing is held.
 abbrev pub value_reply : State → List ℕ → List ℕ → Reply
 value_reply p name key =
     option_map_or
@@ -36,21 +36,21 @@ value_reply p name key =
     (said.Refused refusal.NoValue))
     (scope_named p.tree name) (said.Refused refusal.NoSuchScope)
 
--- How far a task that is there is, is told, and one that is not there is refused.
+-- The reply about a task: how far it is, and a refusal if there is no such task.
 abbrev pub task_reply : State → ℕ → Reply
 task_reply p n =
     option_map_or (λ look. said.Task n look.phase) (task_look_of p n)
     (said.Refused refusal.NoSuchTask)
 
--- A group that is there is told, and one that is not there is refused.
+-- The reply about a group: how it is, and a refusal if there is no such group.
 abbrev pub group_reply : State → List ℕ → Reply
 group_reply p name =
     option_map_or (λ look. said.Group look)
     (option_and_then (λ g. group_look_of p g) (group_named p.work name))
     (said.Refused refusal.NoSuchGroup)
 
--- The reply to what a line asks for: to a step what the session answers it. An empty line has none,
--- and a tally one for each job.
+-- The replies to what a line asks for. The reply to a step is the session's answer to it. An empty
+-- line has none, and a tally has one for each job.
 abbrev pub replies_to : Session → Asked → List Reply
 replies_to s asked.Nothing = []
 replies_to s asked.BadLine = said.BadLine ∷ []
@@ -62,7 +62,7 @@ replies_to s (asked.Task n) = task_reply s.state n ∷ []
 replies_to s (asked.Result group) = group_reply s.state group ∷ []
 replies_to s asked.Tally = map said.Tally (tallies_of s.state.work.tasks)
 
--- The step that is asked for, where one is.
+-- The step that is asked for, if one is.
 abbrev pub step_of : Asked → Option Step
 step_of (asked.Step x) = Some x
 step_of _ = None
@@ -75,7 +75,7 @@ after_asked s asks = with_event s (option_and_then (event_of_step s) (step_of as
 unfoldable pub after_line : Session → List ℕ → Session
 after_line s line = after_asked s (asked_of line)
 
--- What a line is replied.
+-- The reply to a line.
 unfoldable pub reply : Session → List ℕ → List ℕ
 reply s line = reply_lines (replies_to s (asked_of line))
 
@@ -91,7 +91,7 @@ abbrev pub steps_of : List (List ℕ) → List Step
 steps_of [] = []
 steps_of (line ∷ lines) = cons_option (step_of (asked_of line)) (steps_of lines)
 
--- What these lines are replied, one after another.
+-- The replies to these lines, one after another.
 abbrev pub replies : Session → List (List ℕ) → List ℕ
 replies s [] = []
 replies s (line ∷ lines) = reply s line ++ replies (after_line s line) lines

@@ -1,4 +1,4 @@
--- A strict run of lines: it ends behind the first line that strays.
+-- A strict run of lines: it ends after the first line that strays.
 use Rattle.std.specs.Prelude.{ℕ, ◌+◌, if◌then◌else◌, List, [], ◌∷◌, ◌++◌, codes, Option, Some}
 use Rattle.std.specs.Prelude.{None, is_some}
 use Rattle.std.specs.Fmt.{decimal}
@@ -15,7 +15,7 @@ use Rattle.console_lines.specs.Lines.{lines_of}
 use Rattle.console_lines.specs.Replies.{reply_text}
 use Rattle.console_lines.specs.Script.{after_line, after_lines, closing, replies, replies_to}
 
--- A reply strays that says a bad line or a refusal, and no other does.
+-- A reply strays if it is a bad line or a refusal, and no other does.
 abbrev pub stray_of : Reply → Option Stray
 stray_of said.BadLine = Some stray.BadLine
 stray_of (said.Refused why) = Some (stray.Refused why)
@@ -27,11 +27,11 @@ abbrev pub stray_among : List Reply → Option Stray
 stray_among [] = None
 stray_among (reply ∷ replies) = option_or (stray_of reply) (stray_among replies)
 
--- A line strays where one of its replies does.
+-- A line strays if one of its replies does.
 unfoldable pub stray_at : Session → List ℕ → Option Stray
 stray_at s line = stray_among (replies_to s (asked_of line))
 
--- The first of these lines that strays, and its number, where the first of them has this number. An
+-- The first of these lines that strays, and its number, when the first of them has this number. An
 -- empty line counts, too.
 abbrev pub stray_from : ℕ → Session → List (List ℕ) → Option StrayLine
 stray_from n s [] = None
@@ -43,13 +43,13 @@ stray_from n s (line ∷ lines) =
 abbrev pub stray_in : Session → List ℕ → Option StrayLine
 stray_in s bytes = stray_from 1 s (lines_of bytes)
 
--- Of these lines the ones up to the first that strays, and all where none does.
+-- These lines up to the first that strays, and all of them if none does.
 abbrev pub strict_lines : Session → List (List ℕ) → List (List ℕ)
 strict_lines s [] = []
 strict_lines s (line ∷ lines) =
     line ∷ (if is_some (stray_at s line) then [] else strict_lines (after_line s line) lines)
 
--- The lines that a strict run runs of an input.
+-- The lines of an input that a strict run runs.
 abbrev pub strict_lines_of : Session → List ℕ → List (List ℕ)
 strict_lines_of s bytes = strict_lines s (lines_of bytes)
 
@@ -59,12 +59,12 @@ abbrev pub strict_script : Session → List ℕ → List ℕ
 strict_script s bytes =
     replies s (strict_lines_of s bytes) ++ closing (after_lines s (strict_lines_of s bytes))
 
--- What a line that strays is replied.
+-- The reply to a line that strays.
 abbrev pub stray_reply : Stray → Reply
 stray_reply stray.BadLine = said.BadLine
 stray_reply (stray.Refused why) = said.Refused why
 
--- A line that strays is told by its number and its reply, as in `line 7: refused 12 AlreadyDone`.
+-- A line that strays is shown as its number and its reply, as in `line 7: refused 12 AlreadyDone`.
 abbrev pub stray_text : StrayLine → List ℕ
 stray_text line =
     codes "line " ++ decimal line.number ++ codes ": " ++ reply_text (stray_reply line.why)

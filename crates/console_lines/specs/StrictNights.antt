@@ -1,4 +1,4 @@
--- The examples of strict runs over a newly opened store. The lines behind the one that strays have
+-- The examples of strict runs over a newly opened store. The lines after the one that strays have
 -- no reply.
 use Prim.Native.String.{String}
 use Rattle.std.specs.Prelude.{◌≡◌, ℕ, [], ◌∷◌, ◌++◌, codes, Some, None}
@@ -14,7 +14,8 @@ IsWhole night last =
     (strict_script (opened Small) (typed night) ≡ told night ++ shown (codes last))
     × (stray_in (opened Small) (typed night) ≡ None)
 
--- They are, and the line of this number strays, for this reason.
+-- The lines are replied to as expected, this is the closing line, and the line of this number
+-- strays, for this reason.
 abbrev pub EndsAt : Night → String → ℕ → Stray → Type 0
 EndsAt night last number why =
     (strict_script (opened Small) (typed night) ≡ told night ++ shown (codes last))

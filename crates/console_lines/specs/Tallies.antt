@@ -32,7 +32,7 @@ counts_of tasks job = record {
 }
 
 -- The jobs of these tasks, each once, in the order of their first tasks: the first task's job comes
--- first, and behind it those of the other tasks but this one.
+-- first, and after it those of the other tasks but this one.
 abbrev pub jobs_of : List Task → List (List ℕ)
 jobs_of [] = []
 jobs_of (task ∷ tasks) = task.job ∷ filter (λ job. not (bytes_eq task.job job)) (jobs_of tasks)

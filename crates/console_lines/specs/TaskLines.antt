@@ -1,4 +1,4 @@
--- What is asked of tasks and of the store: the forms of their lines, by the words behind the first.
+-- What is asked of tasks and of the store: the forms of their lines, by the words after the first.
 use Rattle.std.specs.Prelude.{ℕ, if◌then◌else◌, List, [], ◌∷◌, codes, Option, Some, None}
 use Rattle.std.specs.Option.{option_map, option_map_or, option_and_then}
 use Rattle.std.specs.Str.{bytes_eq}
@@ -32,13 +32,13 @@ abbrev pub texts_in_outcome : Outcome → List (List ℕ)
 texts_in_outcome outcome.Success = []
 texts_in_outcome (outcome.Failure error) = error ∷ []
 
--- A line of a finish, whose error may be any bytes: a number that no task has is refused behind it.
+-- A line of a finish, whose error may be any bytes: a number that no task has is refused after it.
 abbrev pub asks_finish : ℕ → Outcome → Asked
 asks_finish number outcome =
     checked [] (texts_in_outcome outcome)
     (asks_task (λ n. asked.Step (step.Finish n outcome)) number)
 
--- A line that nothing stands behind.
+-- A line that no word may follow.
 abbrev pub asks_alone : Asked → List (List ℕ) → Asked
 asks_alone asks [] = asks
 asks_alone asks _ = asked.BadLine
@@ -48,7 +48,7 @@ abbrev pub asks_number : (ℕ → Asked) → List (List ℕ) → Asked
 asks_number asks words =
     option_map_or asks (option_and_then number_of (only_word words)) asked.BadLine
 
--- ok: nothing stands behind it.
+-- ok: no word may follow it.
 abbrev pub success_of : List (List ℕ) → Option Outcome
 success_of [] = Some outcome.Success
 success_of _ = None

@@ -25,7 +25,7 @@ abbrev pub below : List (List ℕ × String) → List ℕ
 below [] = []
 below (line ∷ lines) = line.0 ++ (codes line.1 ++ 10 ∷ below lines)
 
--- Behind a night these lines are drawn, that of the store first.
+-- After a night these lines are drawn, that of the store first.
 abbrev pub IsDrawn : Night → List (List ℕ × String) → Type 0
 IsDrawn night lines = tree_text (session_of night).state ≡ below lines
 
@@ -43,7 +43,7 @@ kinds_drawn =
     ∷ (s 6 ++ l, "group 0 g unfinished 0; limit none; waited no; error none")
     ∷ []
 
--- What is drawn of the night of three tasks. A bare group stands below root, behind root's scopes.
+-- What is drawn of the night of three tasks. A bare group stands below root, after root's scopes.
 abbrev pub tasks_drawn : List (List ℕ × String)
 tasks_drawn =
     ([], "events 10; clock 0; scopes 2 of 1024; groups 2 of 128; tasks 3 of 2048")

@@ -35,7 +35,7 @@ parents_of p =
 abbrev pub parent_of : List ℕ → ℕ → ℕ
 parent_of parents n = option_map_or (λ parent. parent) (slice_get parents n) 0
 
--- The places in this row that have this parent, where its first place has this number.
+-- The places in this row that have this parent, when its first place has this number.
 abbrev pub places_of : (parent place : ℕ) → List ℕ → List ℕ
 places_of parent place [] = []
 places_of parent place (first ∷ rest) =
@@ -43,11 +43,11 @@ places_of parent place (first ∷ rest) =
     then place ∷ places_of parent (suc place) rest
     else places_of parent (suc place) rest
 
--- The nodes behind a node that have this parent.
+-- The nodes after a node that have this parent.
 abbrev pub behind : List ℕ → (n parent : ℕ) → List ℕ
 behind parents n parent = places_of parent (suc n) (drop (suc n) parents)
 
--- A node's children stand behind it, and its later siblings too.
+-- A node's children stand after it, and its later siblings too.
 abbrev pub children : List ℕ → ℕ → List ℕ
 children parents n = behind parents n n
 
@@ -83,7 +83,7 @@ branch = 226 ∷ 148 ∷ 156 ∷ 226 ∷ 148 ∷ 128 ∷ []
 abbrev pub corner : List ℕ
 corner = 226 ∷ 148 ∷ 148 ∷ 226 ∷ 148 ∷ 128 ∷ []
 
--- The first of two texts where siblings of the node follow, and the second where none does.
+-- The first of two texts if siblings of the node follow, and the second if none does.
 abbrev pub by_siblings : (more last : List ℕ) → List ℕ → ℕ → List ℕ
 by_siblings more last parents n =
     if nat_eq (length (later_siblings parents n)) 0 then last else more
@@ -107,7 +107,7 @@ lead parents n = if nat_eq n 0 then [] else (above parents n ++ mark parents n)
 
 -- ---- lines
 
--- What a scope is; of one that holds a value its key and text follow.
+-- What a scope is; if it holds a value, its key and text follow.
 abbrev pub kind_text : Kind → List ℕ
 kind_text (kind.Value key text) = codes "value " ++ (key ++ (codes " " ++ text))
 kind_text kind = kind_word kind
@@ -122,7 +122,7 @@ abbrev pub tree_scope : State → ℕ → List ℕ
 tree_scope p s = option_map_or (λ row. option_map_or (kind_line s row.kind) (look_of p s) [])
     (slice_get p.tree.scopes s) []
 
--- A group and a task have the lines that they have where a whole state is printed.
+-- A group and a task have the lines that they have when a whole state is printed.
 abbrev pub work_line : State → ℕ → List ℕ
 work_line p n =
     if nat_lt n (length p.work.groups)

@@ -25,7 +25,7 @@ after (suc most) parents (suc n) =
 abbrev pub drawn_from : List ℕ → ℕ → List ℕ
 drawn_from parents n = all_below parents n ++ after n parents n
 
--- From the next node on, where there is one.
+-- What is drawn from the next node on, if there is one.
 abbrev pub drawn_next : List ℕ → Option ℕ → List ℕ
 drawn_next parents next = option_map_or (drawn_from parents) next []
 

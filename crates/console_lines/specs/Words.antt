@@ -8,8 +8,8 @@ use Rattle.std.specs.Option.{option_map}
 abbrev pub words_of : List ℕ → List (List ℕ)
 words_of line = slice_split (λ b. b == 32) line
 
--- The rest of a line, from a word on: these words with a space between each two. Where no word is
--- left there is no rest.
+-- The rest of a line, from a word on: these words with a space between each two. If no word is left
+-- there is no rest.
 abbrev pub rest_of : List (List ℕ) → Option (List ℕ)
 rest_of [] = None
 rest_of (word ∷ words) = Some (join_with_byte 32 (word ∷ words))
@@ -19,7 +19,7 @@ abbrev pub only_word : List (List ℕ) → Option (List ℕ)
 only_word (word ∷ []) = Some word
 only_word _ = None
 
--- The words of what is left of a line, where anything is.
+-- The words of what is left of a line, if anything is.
 abbrev pub words_in : Option (List ℕ) → List (List ℕ)
 words_in None = []
 words_in (Some left) = words_of left

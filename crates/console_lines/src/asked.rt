@@ -7,7 +7,7 @@ use run_model::{Name, Refusal, Step};
 pub enum Asked {
     /// Nothing: the line is empty, and has no reply.
     Nothing,
-    /// It is no line of the console.
+    /// It is not a line of the console.
     BadLine,
     /// It is refused by itself, in every state.
     Refused(Refusal),

@@ -8,7 +8,7 @@ ghost use Rattle.console_lines.specs.Words.{lent};
 
 use run_model::{Refusal, Text};
 
-/// The cause of these bytes, and `BadText` where they are there and no text.
+/// The cause of these bytes, and `BadText` if they are there and not a text.
 pub(crate) fn read_cause(cause: Option<&[u8]>) -> Result<Option<Text>, Refusal>
     ensures cause { IfOk result (λ text. text ≡ lent cause.entry) }
     ensures accepted { IsOk result ↔ IsTrue (list_all is_text (option_to_list (lent cause.entry))) }

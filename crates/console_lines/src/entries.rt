@@ -1,5 +1,5 @@
-//! An [`Entry`] is what JSON tells of a store, of a scope, of a group or of a task. It takes no
-//! memory.
+//! An [`Entry`] is what is printed as JSON of a store, of a scope, of a group or of a task. It
+//! takes no memory.
 
 ghost use Rattle.std.specs.Fmt.{decimal};
 ghost use Rattle.std.specs.List.{flat_map};
@@ -27,7 +27,7 @@ use run_model::{
 /// No entry has more bytes, with what stands before it in a list.
 pub const LONGEST_ENTRY: usize = 552;
 
-/// What JSON tells of a store, of a scope, of a group or of a task.
+/// What is printed as JSON of a store, of a scope, of a group or of a task.
 #[derive(Drop)]
 pub enum Entry {
     /// A store: how many events there were, the clock, and how large it is.
@@ -41,7 +41,7 @@ pub enum Entry {
 }
 
 impl Entry {
-    /// Appends the entry of a list, on a line of its own, behind a comma unless it is the first.
+    /// Appends the entry of a list, on a line of its own, after a comma unless it is the first.
     pub fn gather_next<const N: usize>(&self, first: bool, out: &mut ArrayVec<u8, N>)
         requires { array_vec_len out.old + LONGEST_ENTRY ≤ N }
         ensures { Gathers out.old.items out.new.items (separator first ++ entry_text self.now)
@@ -407,7 +407,7 @@ fn push_string_byte<const N: usize>(out: &mut ArrayVec<u8, N>, byte: u8)
     }
 }
 
-/// Says whether a byte has a backslash before it in a string.
+/// Returns whether a byte has a backslash before it in a string.
 fn is_escaped(byte: u8) -> bool
     ensures { result ≡ is_escaped byte }
 {

@@ -1,4 +1,4 @@
-//! Examples of a state that is printed as JSON, behind the lines of a night.
+//! Examples of a state that is printed as JSON, after the lines of a night.
 //!
 //! Each function has an empty body, and its clause is the example, as in [`nights`](crate::nights).
 

@@ -1,4 +1,4 @@
-//! A [`Reply`] is gathered behind other replies, as one line. It takes no memory.
+//! A [`Reply`] is gathered after other replies, as one line. It takes no memory.
 
 ghost use Rattle.std.specs.Option.{option_map};
 ghost use Rattle.std.specs.Prelude.{◌≡◌, ◌++◌, ◌+◌, ◌≤◌, [], ◌∷◌, IfSome, None};
@@ -41,8 +41,8 @@ impl Reply {
     }
 }
 
-/// Appends how a scope is, as [`Reply::Scope`] is written, with its LF: its deadline, and, where it
-/// is done, why and with which cause. Here the cause is lent.
+/// Appends how a scope is, as [`Reply::Scope`] is written, with its LF: its deadline, and, if it is
+/// done, why and with which cause. Here the cause is lent.
 pub fn gather_scope<const N: usize>(
     done: Option<(Reason, &[u8])>,
     deadline: Option<Moment>,
@@ -178,7 +178,7 @@ pub(crate) fn push<const N: usize>(out: &mut ArrayVec<u8, N>, bytes: &[u8])
     }
 }
 
-/// A refusal. The unfinished tasks are counted behind the name.
+/// A refusal. The unfinished tasks are counted after the name.
 fn push_refusal<const N: usize>(out: &mut ArrayVec<u8, N>, refusal: Refusal)
     requires { array_vec_len out.old + 70 ≤ N }
     ensures { Gathers out.old.items out.new.items (refusal_text refusal) 70 }
@@ -245,7 +245,7 @@ fn push_answer<const N: usize>(out: &mut ArrayVec<u8, N>, answer: &Answer)
     }
 }
 
-/// A group that was made, with its scope where it has one of its own.
+/// A group that was made, with its scope if it has one of its own.
 fn push_new_group<const N: usize>(out: &mut ArrayVec<u8, N>, group: u16, scope: Option<u16>)
     requires { array_vec_len out.old + 23 ≤ N }
     ensures { Gathers out.old.items out.new.items (answer_text (Answer.Group group scope)) 23 }
@@ -258,7 +258,7 @@ fn push_new_group<const N: usize>(out: &mut ArrayVec<u8, N>, group: u16, scope: 
     }
 }
 
-/// How a wait ended, with the error where there was one.
+/// How a wait ended, with the error if there was one.
 fn push_wait<const N: usize>(out: &mut ArrayVec<u8, N>, error: &Option<Text>)
     requires { array_vec_len out.old + 75 ≤ N }
     ensures { Gathers out.old.items out.new.items (answer_text (Answer.Waited error.now)) 75 }
@@ -364,7 +364,7 @@ fn push_limit<const N: usize>(out: &mut ArrayVec<u8, N>, limit: Limit)
     }
 }
 
-/// Says whether something was done.
+/// Appends whether something was done.
 fn push_yes_or_no<const N: usize>(out: &mut ArrayVec<u8, N>, done: bool)
     requires { array_vec_len out.old + 3 ≤ N }
     ensures { Gathers out.old.items out.new.items (yes_or_no done) 3 }

@@ -52,7 +52,7 @@ pub fn a_tally_without_tasks_has_no_line()
     ensures { IsPrinted no_jobs "acked 2" }
 {}
 
-/// Where the session's log is full, a start is refused, and a wait that is repeated is answered.
+/// When the session's log is full, a start is refused, and a wait that is repeated is answered.
 pub fn a_full_session_refuses_starts()
     ensures start { reply (record (session_of two_jobs) { log = 1048576 }) (codes "start")
         ≡ codes "refused 21 SessionFull\n" }

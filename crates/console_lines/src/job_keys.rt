@@ -11,7 +11,7 @@ ghost use Rattle.std.proofs.Common.{rules};
 use run_model::Name;
 use std::hash::{Hash, Hasher};
 
-/// A job, which two tasks share where its name is the same.
+/// A job. Two tasks share it if its name is the same.
 #[derive(Drop)]
 pub struct Job {
     pub name: Name,

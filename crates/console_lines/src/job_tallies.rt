@@ -19,8 +19,8 @@ use std::alloc::{AllocError, Allocator};
 use std::hash::{BuildHasherDefault, FoldHasher};
 use std::marker::Model;
 
-/// What is counted of some tasks, one tally for each job, in the order of their first tasks. It has
-/// memory by the number of jobs.
+/// What is counted of some tasks, one tally for each job, in the order of their first tasks. It
+/// takes memory by the number of jobs.
 #[derive(Drop)]
 pub struct Tallies<A: Allocator> {
     jobs: IndexMap<Job, Counts, BuildHasherDefault<FoldHasher>, A>,
@@ -66,7 +66,7 @@ impl<A: Allocator + Copy> Tallies<A> {
     }
 
     /// The lines that a tally of the tasks prints, each with its LF. It fails only for want of
-    /// memory, and only where a task was counted.
+    /// memory, and only if a task was counted.
     #[tactic(auto, using(crate::proofs::Tallying::lines_more))]
     pub fn to_lines<B: Allocator + Copy>(&self, alloc: B) -> Result<String<B>, AllocError>
         ensures lines { IfOk result (λ lines.
@@ -91,7 +91,7 @@ impl<A: Allocator + Copy> Tallies<A> {
         }
     }
 
-    /// Sets what is counted of a job. Where the memory for a new one is refused, nothing changes.
+    /// Sets what is counted of a job. If the memory for a new one is refused, nothing changes.
     #[tactic(auto, using(crate::proofs::Tallying::put_in))]
     fn put(&mut self, job: Job, counts: Counts) -> Result<(), AllocError>
         ensures put { OnOk result (self.new ≡ with_tally job.name counts self.old) }

@@ -36,7 +36,7 @@ pub fn the_rest_of_a_line_has_all_its_bytes()
     ensures { (line : List ℕ) → rest_of (words_of line) ≡ Some line }
 {}
 
-/// A value's text, and the cause of a deadline or a timeout, has all bytes behind the word before.
+/// A value's text, and the cause of a deadline or a timeout, has all bytes after the word before.
 pub fn a_text_has_all_bytes_behind_the_word_before()
     ensures value { (key text : List ℕ)
         → wish_of (codes "value") (key ∷ words_of text) ≡ Some (wished (Wish.Value key text)) }
@@ -48,7 +48,7 @@ pub fn a_text_has_all_bytes_behind_the_word_before()
         ≡ Some (wished (Wish.Timeout seconds (Some cause))) }
 {}
 
-/// A moment out of range is refused behind names and texts, whatever the session is.
+/// A moment out of range is refused after names and texts, whatever the session is.
 pub fn a_moment_out_of_range_is_refused_behind_names_and_texts()
     ensures names { (name parent : List ℕ) (cause : Option (List ℕ)) (why : Refusal)
         → list_all is_name (name ∷ parent ∷ []) ≡ false
@@ -64,7 +64,7 @@ pub fn a_moment_out_of_range_is_refused_behind_names_and_texts()
 {}
 
 /// What is printed for the lines of a first part of an input is what is printed first, whatever
-/// comes behind.
+/// comes after it.
 pub fn replies_dont_wait_for_what_follows()
     ensures { (s : Session) (first more : List ℕ)
         → IsFront (replies s (whole_lines [] first)) (script s (first ++ more)) }
@@ -76,14 +76,14 @@ pub fn lines_leave_what_their_steps_leave()
         → after_lines s lines ≡ session_after s (steps_of lines) }
 {}
 
-/// A line that is too long may be cut behind 257 bytes: its reply and the session stay the same.
+/// A line that is too long may be cut after 257 bytes: its reply and the session stay the same.
 pub fn a_long_line_may_be_cut()
     ensures reply { (s : Session) (line : List ℕ) → reply s (kept line) ≡ reply s line }
     ensures session { (s : Session) (line : List ℕ)
         → after_line s (kept line) ≡ after_line s line }
 {}
 
-/// What is behind the first line that strays changes nothing of a strict run.
+/// What comes after the first line that strays changes nothing of a strict run.
 pub fn a_strict_run_doesnt_see_behind_its_stray_line()
     ensures stray { (s : Session) (front behind : List ℕ) (stray : StrayLine)
         → stray_in s front ≡ Some stray → stray_in s (front ++ 10 ∷ behind) ≡ Some stray }
@@ -92,7 +92,7 @@ pub fn a_strict_run_doesnt_see_behind_its_stray_line()
         → strict_script s (front ++ 10 ∷ behind) ≡ strict_script s front }
 {}
 
-/// Where no line strays, a strict run prints the script.
+/// If no line strays, a strict run prints the script.
 pub fn a_strict_run_without_a_stray_line_is_a_run()
     ensures { (s : Session) (bytes : List ℕ) → stray_in s bytes ≡ None
         → strict_script s bytes ≡ script s bytes }
@@ -104,7 +104,7 @@ pub fn a_tree_has_no_more_levels_than_nodes()
         → drawn_below levels parents 0 ≡ drawn parents }
 {}
 
-/// Where a state keeps the rules, each node of its tree but root stands behind its parent.
+/// If a state keeps the rules, each node of its tree but root stands after its parent.
 pub fn a_node_stands_behind_its_parent()
     ensures { (p : State) → IsConsistent p → AreRising (parents_of p) }
 {}

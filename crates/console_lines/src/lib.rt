@@ -1,9 +1,9 @@
 //! The lines of the console: what each asks for, and what its reply and a state's rows print.
 //!
-//! [`read_line`] reads a line, and says what it asks for: an [`Asked`]. A [`Reply`] is gathered as
-//! its line, and so is a [`Row`] of a state. [`Tallies`] count tasks, job by job.
-//! `specs/Script.antt` says what is replied to a whole input, and `specs/Strict.antt` which of its
-//! lines a strict run runs.
+//! [`read_line`] reads a line, and returns what it asks for: an [`Asked`]. A [`Reply`] is gathered
+//! as its line, and so is a [`Row`] of a state. [`Tallies`] count tasks, job by job.
+//! `specs/Script.antt` defines what is replied to a whole input, and `specs/Strict.antt` which of
+//! its lines a strict run runs.
 #![tactic(auto)]
 
 mod asked;

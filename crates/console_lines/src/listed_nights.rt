@@ -1,4 +1,4 @@
-//! Examples of tasks that are listed: behind the lines of a night, by phase, by group and by both.
+//! Examples of tasks that are listed: after the lines of a night, by phase, by group and by both.
 //!
 //! Each function has an empty body, and its clauses are the example, as in
 //! [`nights`](crate::nights).
@@ -12,7 +12,7 @@ pub fn the_night_is_printed()
     ensures { IsPrinted three_tasks "acked 10" }
 {}
 
-/// Where neither is asked for, all tasks are listed.
+/// If neither is asked for, all tasks are listed.
 pub fn all_tasks_are_listed()
     ensures { IsListed None None
         "task 0 g copy a running\ntask 1 g copy b held\ntask 2 h mail c error no room\n" }
@@ -26,7 +26,7 @@ pub fn tasks_are_listed_by_phase()
     ensures success { IsListed (Some (codes "success")) None "" }
 {}
 
-/// By a group its own are, and none where there is no such group.
+/// By a group its own are, and none if there is no such group.
 pub fn tasks_are_listed_by_group()
     ensures first { IsListed None (Some (codes "g"))
         "task 0 g copy a running\ntask 1 g copy b held\n" }

@@ -7,8 +7,8 @@ use crate::rows::Row;
 use run_model::Phase;
 
 impl Row {
-    /// Says whether it is the row of a task in this phase, by the phase's word, and of the group of
-    /// this name. Where one of the two is left out, each task's is as it should be.
+    /// Returns whether it is the row of a task in this phase, by the phase's word, and of the group
+    /// of this name. If one of the two is left out, each task's is as it should be.
     pub fn is_listed(&self, phase: Option<&str>, group: Option<&str>) -> bool
         ensures { result ≡ is_listed (option_map (λ word. word.now) phase.entry)
             (option_map (λ word. word.now) group.entry) self.now }
@@ -23,7 +23,7 @@ impl Row {
     }
 }
 
-/// Says whether a word is as it is asked for.
+/// Returns whether a word is as it is asked for.
 fn is_as_asked(asked: Option<&str>, word: &[u8]) -> bool
     ensures { result ≡ is_as_asked (option_map (λ word. word.now) asked.entry) word.now }
 {

@@ -1,16 +1,16 @@
-//! A [`Reply`] is what a line is answered.
+//! A [`Reply`] is the answer to a line.
 
 use crate::tallies::Tally;
 use run_model::{GroupLook, Look, Phase, Refusal, Text, Trouble};
 
-/// What a line is answered.
+/// The answer to a line.
 #[derive(Drop)]
 pub enum Reply {
-    /// It is no line of the console: `bad line`.
+    /// It is not a line of the console: `bad line`.
     BadLine,
     /// It is refused, and changed nothing: `refused 12 AlreadyDone`.
     Refused(Refusal),
-    /// What a step is answered: `scope 1`, `start 0 copy a`, `acked 4` and likewise.
+    /// The answer to a step: `scope 1`, `start 0 copy a`, `acked 4` and likewise.
     Step(run_model::Reply),
     /// How a scope is: `live; deadline D`, or `done; deadline D; err E; cause C`.
     Scope(Look),

@@ -106,7 +106,7 @@ fn push_work<const N: usize>(out: &mut ArrayVec<u8, N>, look: &TaskLook)
     push_retry(out, look.retry_of);
 }
 
-/// Which task this one is a retry of, where it is one.
+/// Which task this one is a retry of, if it is one.
 fn push_retry<const N: usize>(out: &mut ArrayVec<u8, N>, retry_of: Option<u16>)
     requires { array_vec_len out.old + 30 ≤ N }
     ensures { Gathers out.old.items out.new.items (retry_text retry_of) 30 }

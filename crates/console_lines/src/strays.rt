@@ -1,4 +1,4 @@
-//! A line that strays: it is a bad line or is refused, and a strict run ends behind it.
+//! A line that strays: it is a bad line or is refused, and a strict run ends after it.
 
 ghost use Rattle.std.specs.Prelude.{◌≡◌, Some};
 ghost use Rattle.console_lines.specs.Strict.{stray_of, stray_text};
@@ -10,14 +10,14 @@ use std::fmt;
 /// Why a line strays.
 #[derive(Clone, Copy, Debug, PartialEq, Eq)]
 pub enum Stray {
-    /// It is no line of the console.
+    /// It is not a line of the console.
     BadLine,
     /// It was refused.
     Refused(Refusal),
 }
 
 impl Stray {
-    /// Why a line of this reply strays, and `None` where it doesn't.
+    /// Why a line of this reply strays, and `None` if it doesn't.
     pub fn of(reply: &Reply) -> Option<Stray>
         ensures { result ≡ stray_of reply.now }
     {

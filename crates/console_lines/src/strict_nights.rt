@@ -13,12 +13,12 @@ ghost use Rattle.console_lines.specs.StrictNights.{question_is_refused, third_is
 use crate::strays::Stray;
 use run_model::Refusal;
 
-/// What is behind a line that is refused isn't run.
+/// What comes after a line that is refused isn't run.
 pub fn a_strict_run_ends_behind_a_refusal()
     ensures { EndsAt third_is_refused "acked 3" 3 (Stray.Refused Refusal.AlreadyDone) }
 {}
 
-/// So it is behind a bad line.
+/// What comes after a bad line isn't run.
 pub fn a_strict_run_ends_behind_a_bad_line()
     ensures { EndsAt first_is_bad "acked 1" 1 Stray.BadLine }
 {}
@@ -47,7 +47,7 @@ pub fn the_last_line_strays_too()
         ≡ Some (record { number = 2; why = Stray.BadLine }) }
 {}
 
-/// A line that strays is told by its number and its reply.
+/// A line that strays is shown as its number and its reply.
 pub fn a_stray_line_is_told()
     ensures bad { stray_text (record { number = 7; why = Stray.BadLine })
         ≡ codes "line 7: bad line" }

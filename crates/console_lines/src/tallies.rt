@@ -1,4 +1,4 @@
-//! A [`Tally`] says of one job how many tasks it has, and how they ended.
+//! A [`Tally`] holds how many tasks one job has, and how they ended.
 
 ghost use Rattle.std.specs.Prelude.{◌≡◌, IfOk};
 ghost use Rattle.std.specs.String.{string_bytes};

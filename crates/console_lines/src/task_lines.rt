@@ -78,7 +78,7 @@ fn read_outcome(number: u64, left: Option<&[u8]>) -> Asked
     }
 }
 
-/// Nothing is left behind `ok`.
+/// Nothing is left after `ok`.
 fn read_success(number: u64, left: Option<&[u8]>) -> Asked
     ensures { result ≡ option_map_or (asks_finish number) (success_of (words_in (lent left.entry)))
         Asked.BadLine }

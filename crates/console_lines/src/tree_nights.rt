@@ -1,4 +1,4 @@
-//! Examples of a state that is drawn as a tree, behind the lines of a night.
+//! Examples of a state that is drawn as a tree, after the lines of a night.
 //!
 //! Each function has an empty body, and its clause is the example, as in [`nights`](crate::nights).
 

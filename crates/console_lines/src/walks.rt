@@ -16,7 +16,7 @@ pub const MOST_NODES: usize = 12416;
 /// What is drawn for the nodes above a node: at most four bytes for each.
 pub type Above = ArrayVec<u8, 49664>;
 
-/// The node that is drawn behind this one, `None` behind the last. What is drawn above the one is
+/// The node that is drawn after this one, `None` after the last. What is drawn above the one is
 /// changed into what is drawn above the other.
 pub fn next_node(parents: &[u16], node: u16, above: &mut Above) -> Option<u16>
     requires few { length parents.now ≤ MOST_NODES }
@@ -56,7 +56,7 @@ fn passing(parents: &[u16], node: u16) -> &'static [u8]
     by_siblings(b"\xe2\x94\x82 ", b"  ", parents, node)
 }
 
-/// The first of two texts where siblings of the node follow, and else the second.
+/// The first of two texts if siblings of the node follow, and else the second.
 fn by_siblings(
     more: &'static [u8],
     last: &'static [u8],
@@ -72,7 +72,7 @@ fn by_siblings(
     }
 }
 
-/// The node that is drawn behind this one and all below it: the next sibling, of it or of the
+/// The node that is drawn after this one and all below it: the next sibling, of it or of the
 /// nearest node above it that has one.
 fn next_beside(parents: &[u16], node: u16, above: &mut Above) -> Option<u16>
     requires few { length parents.now ≤ MOST_NODES }
@@ -131,7 +131,7 @@ fn parent_of(parents: &[u16], node: u16) -> u16
     }
 }
 
-/// The first of the nodes behind a node that have this parent.
+/// The first of the nodes after a node that have this parent.
 fn first_behind(parents: &[u16], node: u16, parent: u16) -> Option<u16>
     requires few { length parents.now ≤ MOST_NODES }
     ensures { result ≡ slice_get (behind parents.now node parent) 0 }

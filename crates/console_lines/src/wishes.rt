@@ -1,4 +1,4 @@
-//! A wish is the kind of scope that a `derive` asks for, with what stands behind the kind.
+//! A wish is the kind of scope that a `derive` asks for, with what stands after the kind.
 //!
 //! `None` is a wish of another form. A refusal is the first that the wish has by itself.
 
@@ -14,7 +14,7 @@ use crate::words::next_word;
 use run_model::{Moment, Name, Refusal, Text, Wish, is_spelled};
 use written_moment::{read_moment, read_number};
 
-/// The wish of this kind with what is left behind it.
+/// The wish of this kind with what is left after it.
 pub(crate) fn read_wish(kind: &[u8], left: Option<&[u8]>) -> Option<Result<Wish, Refusal>>
     ensures { result ≡ option_map judged (wish_of kind.now (words_in (lent left.entry))) }
 {
@@ -35,7 +35,7 @@ pub(crate) fn read_wish(kind: &[u8], left: Option<&[u8]>) -> Option<Result<Wish,
     }
 }
 
-/// A wish behind which nothing may be left.
+/// A wish after which nothing may be left.
 fn read_alone(wish: Wish, left: Option<&[u8]>) -> Option<Result<Wish, Refusal>>
     requires names { names_in_wish wish ≡ [] }
     requires texts { texts_in_wish wish ≡ [] }
@@ -74,7 +74,7 @@ fn read_value(left: Option<&[u8]>) -> Option<Result<Wish, Refusal>>
     Some(value(key, text))
 }
 
-/// A moment that is out of range is refused behind its cause.
+/// A moment that is out of range is refused after its cause.
 fn deadline(moment: Result<Moment, Refusal>, cause: Option<&[u8]>) -> Result<Wish, Refusal>
     ensures { result ≡ judged (deadline_at (lent cause.entry) moment) }
 {

@@ -1,11 +1,11 @@
 //! A line is split into words at each single space, so an empty word is a word.
 //!
-//! What is left of a line is the bytes behind a space, and `None` behind the last word.
+//! What is left of a line is the bytes after a space, and `None` after the last word.
 
 ghost use Rattle.std.specs.Prelude.{◌≡◌, ◌==◌, [], ◌∷◌, MatchOption, position};
 ghost use Rattle.console_lines.specs.Words.{words_in, only_word, lent};
 
-/// The next word and what is left behind it, and `None` where no word is left.
+/// The next word and what is left after it, and `None` if no word is left.
 pub(crate) fn next_word(left: Option<&[u8]>) -> Option<(&[u8], Option<&[u8]>)>
     ensures { MatchOption result (words_in (lent left.entry) ≡ [])
         (λ next. words_in (lent left.entry)
@@ -18,7 +18,7 @@ pub(crate) fn next_word(left: Option<&[u8]>) -> Option<(&[u8], Option<&[u8]>)>
     }
 }
 
-/// The last word, and `None` where another is left behind it or none is.
+/// The last word, and `None` if another is left after it or none is.
 pub(crate) fn last_word(left: Option<&[u8]>) -> Option<&[u8]>
     ensures { lent result ≡ only_word (words_in (lent left.entry)) }
 {

@@ -75,7 +75,7 @@ pub fn records<D: RunDisk>(rt: &impl Abort, alloc: Global, book: &Book<D>) -> Ve
     done(rt, Vec::from_slice(alloc, book.history().rest()), "memory")
 }
 
-/// What a crash behind so many calls leaves, torn in this way.
+/// What a crash after so many calls leaves, torn in this way.
 pub fn left(rt: &impl Abort, alloc: Global, disk: &MemoryDisk, calls: u64, torn: Torn) -> Vec<u8> {
     assert!(rt; calls <= disk.calls());
     done(rt, disk.image(alloc, calls, torn), "memory")

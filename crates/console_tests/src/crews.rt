@@ -81,7 +81,7 @@ fn stored(rt: &impl Abort, alloc: Global, lines: &'static [u8]) -> Vec<u8> {
 }
 
 /// Lines of a night, how many workers come then, what they print and what is answered; and lines
-/// behind them, with their replies.
+/// after them, with their replies.
 struct Row {
     lines: &'static [u8],
     workers: usize,
@@ -170,7 +170,7 @@ fn a_crew_works_off_a_file(rt: HostRuntime) {
     }
 }
 
-/// A store with 64 tasks, behind 66 events.
+/// A store with 64 tasks, after 66 events.
 fn store_of_64(rt: &impl Abort, alloc: Global) -> MemoryDisk {
     let mut book = opened(rt, alloc, formatted(rt, alloc, Layout::Small));
     let mut output = Vec::new(alloc);
@@ -200,7 +200,7 @@ fn four_workers_work_off_64_tasks(rt: HostRuntime) {
     holds(&rt, output.as_slice() == printed.as_slice(), "text", 0);
 }
 
-/// The call of a device that fails, behind the ten of an opening, under one worker with one task;
+/// The call of a device that fails, after the ten of an opening, under one worker with one task;
 /// and what is printed then. A flush makes six calls, and the last one is refused by a book that
 /// broke before.
 static FAILED: [(u64, &[u8]); 4] = [

@@ -245,7 +245,7 @@ const NAMES: Night = (
 );
 
 /// What is refused of tasks while they are held, ready or running, when they have ended, and
-/// behind a wait.
+/// after a wait.
 const REFUSED_TASKS: Night = (
     b"group g root\n\
      limit x 1\n\

@@ -10,7 +10,7 @@ use run_model::Layout;
 use std::alloc::Global;
 use std::process::Abort;
 
-/// What is typed behind an opening, and what is seen then: a night that stops with a running and a
+/// What is typed after an opening, and what is seen then: a night that stops with a running and a
 /// held task, and one that submits the interrupted task anew.
 static SEEN: [Night; 2] = [
     (

@@ -97,7 +97,7 @@ static GROUPS: &[Part] = &[
 ];
 
 /// As many scopes as there can be: a parent and a name come before them, and they before a timeout
-/// past the greatest moment; then as many groups, which come behind scopes.
+/// past the greatest moment; then as many groups, which come after scopes.
 static SCOPES_AND_GROUPS: &[Part] = &[
     Typed(0, 1_023, "derive s", " root cancel"),
     Printed(1, 1_024, "scope ", ""),
@@ -284,7 +284,7 @@ static ONE_BATCH: &[Part] = &[
     Times(1, b"flush\n", b"acked 23833\nacked 23833\n"),
 ];
 
-/// Behind that batch there is no room for another.
+/// After that batch there is no room for another.
 static NO_ROOM: &[Part] = &[
     Times(1, b"group g root\n", b"group 0 scope 1\n"),
     Times(2, b"limit g 2\n", b"ok\n"),

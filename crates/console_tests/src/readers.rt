@@ -4,7 +4,7 @@ use linked_list_allocator::LocalHeap;
 use std::cell::Cell;
 use std::io::{self, ErrorKind, Read};
 
-/// What a reader does behind its last byte.
+/// What a reader does after its last byte.
 #[derive(Clone, Copy)]
 pub enum Behind {
     /// It is at its end.

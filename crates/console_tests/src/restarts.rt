@@ -1,9 +1,9 @@
-//! Nights that go on behind a stop: what was running is interrupted, and is submitted anew by a
+//! Nights that go on after a stop: what was running is interrupted, and is submitted anew by a
 //! line.
 
 use crate::runs::{Night, assert_opened_again};
 
-/// A night that is stopped behind its flush, with the first of two tasks running.
+/// A night that is stopped after its flush, with the first of two tasks running.
 const STOPPED: Night = (
     b"group g root\nlimit g 1\ngo g copy a\ngo g copy b\nstart\nflush\n",
     b"group 0 scope 1\n\

@@ -85,7 +85,7 @@ pub fn assert_printed(rt: &impl Abort, alloc: Global, nights: &[Night]) {
     }
 }
 
-/// Asserts what is printed for each of these nights, one behind the other over one book.
+/// Asserts what is printed for each of these nights, one after the other over one book.
 pub fn assert_goes_on(rt: &impl Abort, alloc: Global, nights: &[Night]) {
     let mut book = fresh(rt, alloc);
     for (n, night) in nights.iter().enumerate() {
@@ -96,7 +96,7 @@ pub fn assert_goes_on(rt: &impl Abort, alloc: Global, nights: &[Night]) {
     }
 }
 
-/// Asserts what is printed for each of these nights, behind an opening each of one disk.
+/// Asserts what is printed for each of these nights, after an opening each of one disk.
 pub fn assert_opened_again(rt: &impl Abort, alloc: Global, nights: &[Night]) {
     let mut disk = formatted(rt, alloc, Layout::Small);
     for (n, night) in nights.iter().enumerate() {
@@ -142,7 +142,7 @@ fn lines_over<W: Write, D: RunDisk>(
     Ok(())
 }
 
-/// What stands second in each row, one behind the other.
+/// What stands second in each row, one after the other.
 pub fn joined(rt: &impl Abort, alloc: Global, rows: &[Night]) -> Vec<u8> {
     let mut bytes = Vec::new(alloc);
     for row in rows.iter() {

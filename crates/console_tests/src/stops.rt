@@ -18,7 +18,7 @@ const TYPED: &[u8] = b"derive a root cause\n\nderive b a cancel\ncancel a disk\n
 const PRINTED: &[u8] = b"scope 1\nscope 2\nok\nrefused 12 AlreadyDone\n\
     done; deadline none; err context canceled; cause disk\nacked 4\n";
 
-/// How the book is behind some of its lines, as the questions show it.
+/// How the book is after some of its lines, as the questions show it.
 const NEW: &[u8] = b"refused 1 NoSuchScope\nrefused 1 NoSuchScope\nacked 1\n";
 
 const ONE: &[u8] = b"live; deadline none\nrefused 1 NoSuchScope\nacked 2\n";
@@ -28,7 +28,7 @@ const TWO: &[u8] = b"live; deadline none\nlive; deadline none\nacked 3\n";
 const DONE: &[u8] = b"done; deadline none; err context canceled; cause disk\n\
     done; deadline none; err context canceled; cause disk\nacked 4\n";
 
-/// Behind each of its lines that an LF ends: how many bytes were typed, how many are replied, and
+/// After each of its lines that an LF ends: how many bytes were typed, how many are replied, and
 /// how the book is.
 static STEPS: [(usize, usize, &[u8]); 6] = [
     (0, 0, NEW),
@@ -55,7 +55,7 @@ fn is_front(text: &[u8], whole: &[u8], count: usize) -> bool {
     text.len() == count && whole.starts_with(text)
 }
 
-/// Asserts how a run ends whose input fails behind so many bytes.
+/// Asserts how a run ends whose input fails after so many bytes.
 fn assert_unread(rt: &impl Abort, alloc: Global, part: usize, given: usize) {
     let (replied, shown) = behind(given);
     let bytes = TYPED.get(..given).unwrap_or(TYPED);
@@ -77,7 +77,7 @@ fn a_failed_read_leaves_no_whole_line_without_its_reply(rt: HostRuntime) {
 }
 
 /// How a book is that is read by one byte at a time, where so many bytes were written and no more
-/// can be: the line is run whose reply is cut, and none behind it.
+/// can be: the line is run whose reply is cut, and none after it.
 fn cut_at(written: usize) -> &'static [u8] {
     for (_, replied, shown) in STEPS.iter() {
         if written < *replied {
@@ -228,7 +228,7 @@ fn memory_is_given_back(rt: HostRuntime) {
     }
 }
 
-/// Lines, how many `x` come behind them, how the run ends, what is printed, and how many bytes are
+/// Lines, how many `x` come after them, how the run ends, what is printed, and how many bytes are
 /// not read: one byte more is read than an input may have.
 static SIZES: [(&[u8], usize, Result<(), RunFault>, &[u8], usize); 5] = [
     (b"", 16_777_216, Ok(()), b"bad line\nacked 1\n", 0),

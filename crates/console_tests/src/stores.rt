@@ -22,7 +22,7 @@ static TEARS: [(Torn, Torn); 3] = [
     (Torn::Front(0), Torn::Front(1)),
 ];
 
-/// Asserts how many events are stored in what a stop behind so many calls leaves, torn so that all
+/// Asserts how many events are stored in what a stop after so many calls leaves, torn so that all
 /// that was not synced stays closed, and so that it opens.
 fn assert_stored(
     rt: &impl Abort,
@@ -61,7 +61,7 @@ const LINES: [Night; 6] = [
 /// The last save, and how many device calls it makes.
 static SAVES: [(&[u8], u64); 2] = [(b"flush", 6), (b"checkpoint", 7)];
 
-/// How many events are stored behind so many calls of a save, of which the last but one opens a
+/// How many events are stored after so many calls of a save, of which the last but one opens a
 /// gate and the last syncs.
 fn saved_behind(made: u64, calls: u64) -> (u64, u64) {
     if made < calls.saturating_sub(1) {
@@ -237,7 +237,7 @@ fn assert_fails<D: RunDisk + Drop>(
     assert_broken(rt, alloc, &mut book, row);
 }
 
-/// Asserts so for a device that fails for good behind so many calls of the night, and for one that
+/// Asserts so for a device that fails for good after so many calls of the night, and for one that
 /// fails the next call alone. A format makes no call of these, and an opening 10.
 fn assert_fails_behind(
     rt: &impl Abort,
@@ -264,7 +264,7 @@ fn a_failed_device_ends_a_run(rt: HostRuntime) {
     }
 }
 
-/// Runs an input over a device that fails behind so many of its calls.
+/// Runs an input over a device that fails after so many of its calls.
 fn fused<W: Write>(
     rt: &impl Abort,
     alloc: Global,
@@ -312,7 +312,7 @@ fn a_fault_is_printed_as_far_as_it_goes(rt: HostRuntime) {
     }
 }
 
-/// A store whose generation is the last but one, so that no checkpoint is left behind its opening.
+/// A store whose generation is the last but one, so that no checkpoint is left after its opening.
 fn last_but_one(rt: &impl Abort, alloc: Global) -> MemoryDisk {
     let disk = formatted(rt, alloc, Layout::Small);
     let image = left(rt, alloc, &disk, 8, Torn::Keep);
@@ -346,7 +346,7 @@ const AT_THE_END: &[Part] = &[
 const NO_SCOPES: &[u8] = b"refused 1 NoSuchScope\nrefused 1 NoSuchScope\nfault 10 NumbersSpent\n";
 
 /// What is typed and printed, how many events there are then, and what the book is asked and told
-/// behind it: it isn't broken.
+/// after it: it isn't broken.
 static SPENT: [(&[Part], u64, &[u8]); 3] = [
     (
         ONE_EVENT,

@@ -1,4 +1,4 @@
-//! Strict runs: which line strays, what is printed up to it, and what is left behind it.
+//! Strict runs: which line strays, what is printed up to it, and what is left after it.
 
 use crate::asserts::{done, holds};
 use crate::books::{counts, formatted, fresh, opened, ran_strictly};
@@ -105,7 +105,7 @@ fn a_strict_run_ends_behind_the_first_line_that_strays(rt: HostRuntime) {
     }
 }
 
-/// A run ends behind the line of this number, which is refused.
+/// A run ends after the line of this number, which is refused.
 fn refused(number: u64, why: Refusal) -> Result<Option<StrayLine>, RunFault> {
     Ok(line(Some((number, Stray::Refused(why)))))
 }
@@ -114,7 +114,7 @@ fn refused(number: u64, why: Refusal) -> Result<Option<StrayLine>, RunFault> {
 /// 4,096 bytes each don't have them all.
 const MANY: usize = 1_200;
 
-/// So many questions, a line that is refused, and 5,000 bytes behind it.
+/// So many questions, a line that is refused, and 5,000 bytes after it.
 fn long_input(rt: &impl Abort, alloc: Global) -> Vec<u8> {
     let mut bytes = Vec::new(alloc);
     for _ in 0..MANY {
@@ -163,7 +163,7 @@ fn no_more_is_read_behind_the_part_of_the_line_that_strays(rt: HostRuntime) {
     assert!(rt; input.len() == 1_828, "what isn't read");
 }
 
-/// Two lines that are accepted, one that strays, and one behind it.
+/// Two lines that are accepted, one that strays, and one after it.
 const TYPED: &[u8] = b"derive a root cancel\ncancel a\ncancel a\nderive b root cause\n";
 
 const PRINTED: &[u8] = b"scope 1\nok\nrefused 12 AlreadyDone\nacked 3\n";
@@ -187,7 +187,7 @@ fn a_failed_read_before_the_line_that_strays_is_a_fault(rt: HostRuntime) {
         let mut printed = Vec::new(rt.alloc());
         let result = ran_strictly(rt.alloc(), &mut input, &mut printed, &mut book);
         let (replied, events) = behind(given);
-        // The third line ends with the 39th byte. Where that is there, nothing is read behind it.
+        // The third line ends with the 39th byte. Where that is there, nothing is read after it.
         let told = match given {
             0..=38 => {
                 result == Err(RunFault::Input)
@@ -206,7 +206,7 @@ fn a_failed_read_before_the_line_that_strays_is_a_fault(rt: HostRuntime) {
 }
 
 /// Where so many bytes can be written, how many events there are, and how many of them are durable:
-/// all that is replied is written at the end, behind the flush.
+/// all that is replied is written at the end, after the flush.
 fn cut_at(written: usize, part: usize) -> (u64, u64) {
     match (part, written) {
         (1, 0..=7) => (2, 1),

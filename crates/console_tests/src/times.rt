@@ -20,7 +20,7 @@ static ROWS: [Row; 13] = [
     (&[7], b"", b"ok\nacked 2\n", 2),
     (&[7], b"\n", b"ok\nacked 2\n", 2),
     (&[0], b"scope root\n", b"live; deadline none\nacked 1\n", 1),
-    // A deadline passes by itself, and the line behind the last LF comes at no moment.
+    // A deadline passes by itself, and the line after the last LF comes at no moment.
     (
         &[100, 100, 101],
         b"derive a root deadline 101 late\nscope a\nscope a\n",
@@ -50,7 +50,7 @@ static ROWS: [Row; 13] = [
         b"ok\nok\nlive; deadline none\nlive; deadline none\nok\nlive; deadline none\nacked 4\n",
         4,
     ),
-    // Another one is behind the time, and is refused.
+    // Another one is to a moment before the time, and is refused.
     (
         &[100, 101],
         b"advance 50\nscope root\n",

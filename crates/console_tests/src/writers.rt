@@ -14,7 +14,7 @@ pub enum End {
     TakesNothing,
 }
 
-/// Takes at most `part` bytes at a write. Behind so many writes one fails or takes nothing, and the
+/// Takes at most `part` bytes at a write. After so many writes one fails or takes nothing, and the
 /// later ones are like the first.
 #[derive(Drop)]
 pub struct EndingWriter {

@@ -1,4 +1,4 @@
--- The words behind `demo`: its flag, and the mark `--`.
+-- The words after `demo`: its flag, and the mark `--`.
 use Rattle.std.proofs.Common.{◌≡◌, ◌∙◌, ◌∷◌, ◌++◌, ◌⊎◌, Bool, List, None, [], ap}
 use Rattle.std.proofs.Common.{false, inl, inr, refl, subst, true}
 use Rattle.std.specs.Prelude.{codes}
@@ -19,7 +19,7 @@ demo_shape = slice_index_or (built night).subs 0 above
 formed : IsFormed demo_shape
 formed = record { once = refl; forms = (is_flag (codes "strict") refl, (is_help refl, tt)) }
 
--- where the walk stands behind these words
+-- where the walk stands after these words
 data At (seen : List Text) (w : Walk) : Type 0 where
   begun : seen ≡ [] → w ≡ stands [] None 1 false → At seen w
   behind : seen ≡ mark ∷ [] → w ≡ stands [] None 1 true → At seen w

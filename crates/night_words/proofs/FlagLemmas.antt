@@ -1,4 +1,4 @@
--- The parser's look at a word behind a command that takes flags and options: it is the mark `--`,
+-- The parser's look at a word after a command that takes flags and options: it is the mark `--`,
 -- one of these, or a value.
 use Rattle.std.proofs.Common.{◌≡◌, ◌∙◌, ◌∷◌, ◌⊎◌, ℕ, Bool, List, Option, Some, None, [], ap, cond}
 use Rattle.std.proofs.Common.{false, inl, inr, length, refl, subst, suc, sym, true, zero}
@@ -101,7 +101,7 @@ stands rows pending position behind = standing rows pending idle position behind
 
 -- ---- a word
 
--- what a word comes to, and where the walk stands behind it
+-- what a word comes to, and where the walk stands after it
 pub data Comes (s : Shape) (r : List Row) (p : Option (Text × List Text)) (q : Waiting) (n : ℕ)
     (word : Text) : Type 0 where
   by_mark : word ≡ mark → walked s.rules [] (standing r p q n false) word ≡ standing r p q n true
@@ -196,7 +196,7 @@ module _ (s : Shape) (formed : IsFormed s) where
     abbrev met : Held × Step
     met = subcommand_or_other s.rules None q n word (held r p)
 
-    -- and where the walk stands behind it
+    -- and where the walk stands after it
     abbrev Meets : Held × Step → Type 0
     Meets m = step_fault s n m.0 m.1 ≡ []
         → walked s.rules [] (standing r p q n false) word

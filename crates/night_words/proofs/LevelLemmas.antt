@@ -21,7 +21,7 @@ pub lower_passes : (s : Shape) (ns : Names) (words : List Text) (has : Bool) (lo
     → level_fault s ns nothing_held words has lower ≡ [] → lower ≡ []
 lower_passes s ns words has lower none = first_none _ _ (second_none _ _ none)
 
--- neither in the first word, nor in those behind it
+-- neither in the first word, nor in those after it
 pub first_passes : (s : Shape) (ns : Names) (w : Walk) (word : Text) (rest : List Text)
     → walk_fault s ns w (word ∷ rest) ≡ [] → turn_fault s ns w word ≡ []
 unfolding walk_fault
@@ -32,7 +32,7 @@ pub rest_passes : (s : Shape) (ns : Names) (w : Walk) (word : Text) (rest : List
 unfolding walk_fault
 rest_passes s ns w word rest none = second_none _ _ none
 
--- nor behind the last word
+-- nor after the last word
 pub end_passes : (s : Shape) (words : List Text) → level_fault s [] nothing_held words false [] ≡ []
     → check_fault s (finished s.rules (walk s.rules [] nothing_held words).held) false ≡ []
 end_passes s words none =

@@ -1,4 +1,4 @@
--- The words behind `migrate` or `renew`: they name two stores, and the parser reads them; or a flag
+-- The words after `migrate` or `renew`: they name two stores, and the parser reads them; or a flag
 -- stands there.
 use Rattle.std.proofs.Common.{◌≡◌, ◌∙◌, ◌∷◌, ◌++◌, ◌⊎◌, Bool, List, Option, Some, None, [], ap}
 use Rattle.std.proofs.Common.{false, inl, inr, refl, subst, sym, true}
@@ -90,7 +90,7 @@ row_of x = used (place (codes "STORE") 1 true) (x ∷ []) []
 abbrev new_stored : Text → Option (Text × List Text)
 new_stored y = Some (codes "NEW", y ∷ [])
 
--- where the walk stands behind these words
+-- where the walk stands after these words
 data At (c : Pair) (seen : List Text) (w : Walk) : Type 0 where
   begun : seen ≡ [] → w ≡ stands [] None 1 false → At c seen w
   begun_behind : seen ≡ mark ∷ [] → w ≡ stands [] None 1 true → At c seen w
@@ -195,7 +195,7 @@ module _ (c : Pair) (seen : List Text) (w : Walk) (word : Text) where
       absurd (stray_behind c (row_of x) (new_stored y) word (subst Turns ew none))
   step (flagged k) none = flagged (keeps (shape_of c) (formed c) w word k none)
 
--- ---- all the words behind the command
+-- ---- all the words after the command
 
 -- the rows at the end
 abbrev pub read_by : Pair → Walk → List Row
@@ -243,7 +243,7 @@ store_is_read migrates rows full none = given_is_read (codes "STORE") rows full
 store_is_read renews rows full none =
     given_is_read (codes "STORE") rows full (one_given (is_given (codes "STORE") rows) none)
 
--- and a new one behind `migrate`
+-- and a new one after `migrate`
 new_is_read : (rows : List Row) → IsFull rows → check_fault (shape_of migrates) rows false ≡ []
     → (x : Text) × (first_of (codes "NEW") rows ≡ Some x)
 new_is_read rows full none = given_is_read (codes "NEW") rows full
@@ -329,7 +329,7 @@ behind_both c rest none = ends c rest (walk (shape_of c).rules [] nothing_held r
     (end_passes (shape_of c) rest none)
     (end_settles (shape_of c) rest none)
 
--- behind `migrate` the words name two, whatever they are
+-- after `migrate` the words name two, whatever they are
 pub record BehindBoth (rest : List Text) : Type 0 where
   pub store : Text
   pub given : Text

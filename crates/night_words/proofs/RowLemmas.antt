@@ -1,4 +1,4 @@
--- What the parser has read stays read: rows go behind those that are there.
+-- What the parser has read stays read: rows go after those that are there.
 use Rattle.std.proofs.Common.{◌≡◌, ◌∙◌, ◌∷◌, ◌++◌, Bool, List, Some, None, [], ap}
 use Rattle.std.proofs.Common.{append-nil, append_assoc, cond, false, refl, subst, sym, true}
 use Rattle.std.specs.Prelude.{◌&&◌, ◌||◌, find, fold, if◌then◌else◌, not, option_and_then}
@@ -23,7 +23,7 @@ full_both : (a b : List Row) → IsFull a → IsFull b → IsFull (a ++ b)
 full_both [] b f g = g
 full_both (r ∷ rs) b f g = (f.0, full_both rs b f.1 g)
 
--- full rows go behind the old ones
+-- full rows go after the old ones
 pub record Grows (old new : List Row) : Type 0 where
   pub more : List Row
   pub is : new ≡ old ++ more
@@ -44,7 +44,7 @@ grows_full a b more full = subst IsFull (sym more.is) (full_both a more.more ful
 
 -- ---- what is read
 
--- what was read first of an argument is read behind more rows, too
+-- what was read first of an argument is read after more rows, too
 first_behind : (id v : Text) (rows more : List Row) → first_of id rows ≡ Some v
     → first_of id (rows ++ more) ≡ Some v
 first_behind id v [] more is = cc
@@ -63,7 +63,7 @@ pub grows_first : (id v : Text) (a b : List Row) → Grows a b → first_of id a
 grows_first id v a b more is =
     ap (λ l. first_of id l) more.is ∙ first_behind id v a more.more is
 
--- of an argument that has no row yet, the row that goes behind is read
+-- of an argument that has no row yet, the row that goes after is read
 pub first_last : (id : Text) (new : Row) (rows : List Row) → has_row id rows ≡ false
     → bytes_eq new.id id ≡ true → first_of id (rows ++ new ∷ []) ≡ slice_get new.values 0
 first_last id new [] none same =
@@ -98,7 +98,7 @@ given_is_read id (r ∷ rs) full given =
 
 -- ---- what is used
 
--- where no row is of this argument, a change of its row is a row behind them
+-- where no row is of this argument, a change of its row is a row after them
 at_end : (id : Text) (change : Row → List Row) (missing rows : List Row) → has_row id rows ≡ false
     → at_row id change missing rows ≡ rows ++ missing
 at_end id change missing [] none = refl

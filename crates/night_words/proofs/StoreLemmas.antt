@@ -1,4 +1,4 @@
--- The words behind a command over a store that takes flags or options: the store, these, and the
+-- The words after a command over a store that takes flags or options: the store, these, and the
 -- mark `--`.
 use Rattle.std.proofs.Common.{◌≡◌, ◌∙◌, ◌∷◌, ◌++◌, ◌⊎◌, ℕ, Bool, List, Option, Some, None, [], ap}
 use Rattle.std.proofs.Common.{false, inl, inr, refl, subst, sym, true}
@@ -123,7 +123,7 @@ quiet inspects rows unset =
 abbrev pub stored : Text → Option (Text × List Text)
 stored x = Some (codes "STORE", x ∷ [])
 
--- where the walk stands behind these words
+-- where the walk stands after these words
 data At (c : Command) (seen : List Text) (w : Walk) : Type 0 where
   begun : seen ≡ [] → w ≡ stands [] None 1 false → At c seen w
   begun_behind : seen ≡ mark ∷ [] → w ≡ stands [] None 1 true → At c seen w
@@ -199,7 +199,7 @@ module _ (c : Command) (seen : List Text) (w : Walk) (word : Text) where
       absurd (stray_behind c [] (stored x) word (subst Turns ew none))
   step (used_flag k) none = used_flag (keeps (shape c) (formed c) w word k none)
 
--- ---- all the words behind the command
+-- ---- all the words after the command
 
 abbrev rows_at_end : Command → Walk → List Row
 rows_at_end c w = end_rows (shape c) (formed c) w

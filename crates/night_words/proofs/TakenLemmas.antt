@@ -1,4 +1,4 @@
--- The words that are taken: a command, and the words behind it that it takes.
+-- The words that are taken: a command, and the words after it that it takes.
 use Rattle.std.proofs.Common.{◌≡◌, ◌∙◌, ◌∷◌, ◌++◌, ◌⊎◌, Bool, List, Option, Some, None, [], ap}
 use Rattle.std.proofs.Common.{append-nil, append_assoc, cond, false, inl, inr, refl, subst}
 use Rattle.std.proofs.Common.{sym}
@@ -131,9 +131,9 @@ first_word word none =
         (mark_or_value above above_is_strict 1 word [] None (first_none _ _ none))
         (second_none _ _ none))))))))
 
--- ---- the words behind a command
+-- ---- the words after a command
 
--- a walk that met the command keeps the words behind it
+-- a walk that met the command keeps the words after it
 keeps_words : (name : Text) (taken rest : List Text) (w : Walk) → w.stopped ≡ Some (name, taken)
     → (fold (walked above.rules names) w rest).stopped ≡ Some (name, taken ++ rest)
 unfolding walked
@@ -143,7 +143,7 @@ keeps_words name taken (x ∷ rest) w is =
     (ap (λ o. (walked_from above.rules names o w x).stopped) is)
     ∙ ap (λ t. Some (name, t)) (append_assoc taken (x ∷ []) rest)
 
--- where the walk over a command and the words behind it stops
+-- where the walk over a command and the words after it stops
 abbrev stop : List Text → Option (Text × List Text)
 stop words = (walk above.rules names nothing_held words).stopped
 
@@ -172,7 +172,7 @@ new_at name command rest met = ap (λ o. new_in (entered (built night) o)) met
 
 -- ---- all of the words
 
--- a word that the parser found behind the command that it entered
+-- a word that the parser found after the command that it entered
 abbrev found_by : List Text → Text → Option Text
 found_by words id = word_in id (subcommand_of night words)
 
@@ -223,7 +223,7 @@ demo_taken name rest none =
     (λ unset. asks_demo name rest (demo_alone rest (below_passes demo rest met none)
     (ap is_true (sym (found_at (codes "strict") name demo rest met)) ∙ unset)))
 
--- the words behind a command that name a store ask for it
+-- the words after a command that name a store ask for it
 asks_over : (name command store : Text) (rest : List Text)
     → (rest ≡ store ∷ []) ⊎ ((rest ≡ mark ∷ store ∷ []) ⊎ (rest ≡ store ∷ mark ∷ []))
     → AsksOver command store (name ∷ command ∷ rest)
@@ -233,7 +233,7 @@ asks_over name command store rest (inr (inl e)) =
 asks_over name command store rest (inr (inr e)) =
     (name, inr (inr (ap (λ r. name ∷ command ∷ r) e)))
 
--- no flag is there, by what the parser found behind the command
+-- no flag is there, by what the parser found after the command
 unset_alike : (c : Command) (a b : Text → Option Text) → ((id : Text) → a id ≡ b id)
     → IsUnset c a → IsUnset c b
 unset_alike formats a b same u = ap is_true (sym (same (codes "new"))) ∙ u
@@ -316,7 +316,7 @@ renew_taken name rest none =
     (b.both given (sym (new_at name renew rest met) ∙ new)
     (ap is_true (sym (found_at (codes "in-place") name renew rest met)) ∙ unset)))
 
--- behind `crew` the parser may have read a store
+-- after `crew` the parser may have read a store
 crew_taken : (name : Text) (rest : List Text) → Taken (name ∷ crew ∷ rest)
 unfolding walked
 crew_taken name rest =
@@ -332,7 +332,7 @@ no_words : Finds [] → ⊥
 unfolding clap_on_literals
 no_words none = cc
 
--- behind the mark each word is one that nothing takes
+-- after the mark each word is one that nothing takes
 above_stray : (word : Text)
     → turn_fault above names (walked above.rules names start mark) word ≡ [] → ⊥
 unfolding walked
@@ -416,7 +416,7 @@ is_store formats P one two three = one
 is_store scripts P one two three = two
 is_store inspects P one two three = three
 
--- two stores that are named behind `migrate` are those that the words ask for
+-- two stores that are named after `migrate` are those that the words ask for
 asks_two : (words : List Text) (named : Named) (new : Option Text) (old given : Text)
     → IsTaken words named new → NamesTwo migrate old given named new
     → AsksForTwo migrate old given words
@@ -455,7 +455,7 @@ store_read (Some e) c s store named read =
     option_map_or (λ (p : Text × Option Text). p.1) n None in
     ap text (sym (ap inner named) ∙ read)
 
--- two stores behind `renew`, not in place, likewise
+-- two stores after `renew`, not in place, likewise
 asks_renewal : (words : List Text) (entered : Option (Text × List Row)) (old given : Text)
     → entered ≡ subcommand_of night words → IsTaken words (named_in entered) (new_in entered)
     → NamesRenewal old (Some given) false entered → AsksForTwo renew old given words

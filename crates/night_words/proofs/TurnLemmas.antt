@@ -18,7 +18,7 @@ use Rattle.clap.specs.Walk.{value}
 use Rattle.clap.specs.declared.error.kind.ErrorKind.{ErrorKind}
 use Rattle.night_words.specs.Commands.{night}
 
--- `--`, behind which no word is a flag
+-- `--`, after which no word is a flag
 abbrev pub mark : Text
 mark = 45 ∷ 45 ∷ []
 

@@ -1,4 +1,4 @@
--- What is used behind a command stays told: a flag that stands there, and the value of an option.
+-- What is used after a command stays told: a flag that stands there, and the value of an option.
 use Rattle.std.proofs.Common.{◌≡◌, ◌∙◌, ◌∷◌, ◌++◌, ℕ, Bool, List, Option, Some, None, [], ap}
 use Rattle.std.proofs.Common.{false, length, refl, subst, suc, sym, true}
 use Rattle.std.specs.Prelude.{◌&&◌, ◌==◌, codes, if◌then◌else◌, is_some}
@@ -191,7 +191,7 @@ module _ (s : Shape) (formed : IsFormed s) where
       fine = subst (λ o. option_map_or (λ b. use_fault false b values r) o [] ≡ []) at
           (subst (λ o. settle_fault s.rules false (held r o) ≡ []) e (once r p none))
 
-  -- the rows behind a use
+  -- the rows after a use
   abbrev Reacts : Rule → List Text → List Row → Option (Text × List Text) → Type 0
   Reacts a values r p = react_fault s.rules s.args_override_self a values (held r p) ≡ []
 
@@ -397,7 +397,7 @@ module _ (s : Shape) (formed : IsFormed s) where
       (word_kept k.rows k.pending k.position word k.full k.touched k.waiting k.behind
       (subst (λ v. turn_fault s [] v word ≡ []) k.is none))
 
-  -- ---- behind the last word
+  -- ---- after the last word
 
   -- what is read at the end
   abbrev pub end_rows : Walk → List Row
@@ -427,7 +427,7 @@ module _ (s : Shape) (formed : IsFormed s) where
       → settle_fault s.rules s.args_override_self w.held ≡ [] → IsFull (end_rows w)
   kept_full w k none = end_full k.rows k.pending w k.full (ap (λ (v : Walk). v.held) k.is) none
 
-  -- ---- a word behind words of which none was a flag or an option
+  -- ---- a word after words of which none was a flag or an option
 
   -- what it comes to
   pub data Came (r : List Row) (p : Option (Text × List Text)) (n : ℕ) (w : Walk) (word : Text)

@@ -26,7 +26,7 @@ use Rattle.night_words.specs.declared.asked.WordsFault.TheVariants.{Views, Worke
 
 -- ---- the command line
 
--- `night` itself: a command is wanted, without any word there is help, and there is a version
+-- `night` itself: it needs a command, it shows help if there is no word, and it has a version
 abbrev pub night_alone : Shape
 night_alone = record (new_app (codes "night")).top {
   has_version = true;
@@ -42,7 +42,7 @@ flag id = record (new_rule id) { long = Some id; action = Some SetTrue }
 abbrev pub demo_line : App
 demo_line = with_rule (new_app (codes "demo")) (flag (codes "strict"))
 
--- a word that names a store, which is wanted; help has one name for it
+-- a word that names a store, which is needed; help has one name for it
 abbrev pub wanted : Text → Rule
 wanted id = record (new_rule id) { action = Some Set; required = true; value_names = 1 }
 
@@ -63,7 +63,7 @@ script_line = with_rule
 abbrev pub value_option : Text → Rule
 value_option id = record (new_rule id) { long = Some id; action = Some Set; value_names = 1 }
 
--- one that takes three flags, and may be told of a phase and of a group
+-- one that takes three flags, and may be given a phase and a group
 abbrev pub inspect_line : App
 inspect_line =
     with_rule
@@ -91,7 +91,7 @@ renew_line =
     (with_rule (store_line (codes "renew")) (free (codes "NEW")))
     (flag (codes "in-place"))
 
--- a command that takes the name of a store and a flag, and may be told how many workers there are
+-- a command that takes the name of a store and a flag, and may be given the number of workers
 abbrev pub crew_line : App
 crew_line = with_rule
     (with_rule (store_line (codes "crew")) (value_option (codes "workers")))
@@ -116,28 +116,28 @@ night =
     crew_line.top)
     renew_line.top
 
--- what the parser finds in these words, the program's own name first: nothing where they ask for a
+-- what the parser finds in these words, the program's own name first: nothing if they ask for a
 -- command; help and the version are found like mistakes
 abbrev pub faults_of : List Text → Kinds
 faults_of words = fault_of night words
 
 -- ---- the commands
 
--- the words ask for this command alone: it stands behind the program's own name, and the mark `--`
--- may stand behind it
+-- the words ask for this command alone: it stands after the program's own name, and the mark `--`
+-- may stand after it
 abbrev pub AsksAlone : Text → List Text → Type 0
 AsksAlone command words = (name : Text) × ((words ≡ name ∷ command ∷ [])
     ⊎ (words ≡ name ∷ command ∷ codes "--" ∷ []))
 
--- the words ask for this command over this store: they stand behind the program's own name, and the
--- mark `--` may stand before or behind the store
+-- the words ask for this command over this store: they stand after the program's own name, and the
+-- mark `--` may stand before or after the store
 abbrev pub AsksOver : Text → Text → List Text → Type 0
 AsksOver command store words = (name : Text) × ((words ≡ name ∷ command ∷ store ∷ [])
     ⊎ ((words ≡ name ∷ command ∷ codes "--" ∷ store ∷ [])
     ⊎ (words ≡ name ∷ command ∷ store ∷ codes "--" ∷ [])))
 
--- the words ask for this command from this store to that one: the two stand behind the program's
--- own name and the command, and the mark `--` may stand before, between or behind them
+-- the words ask for this command from this store to that one: the two stand after the program's
+-- own name and the command, and the mark `--` may stand before, between or after them
 abbrev pub AsksForTwo : (command old new : Text) → List Text → Type 0
 AsksForTwo command old new words = (name : Text)
     × ((words ≡ name ∷ command ∷ old ∷ new ∷ [])
@@ -153,15 +153,15 @@ command_in entered = option_map (λ s. s.0) entered
 abbrev pub word_in : Text → Option (Text × List Row) → Option Text
 word_in id entered = option_and_then (λ s. first_of id s.1) entered
 
--- whether the words have this flag, as the parser tells it: by `true`, and by `false` where it
--- stands nowhere
+-- whether the words have this flag, as the parser returns it: `true`, and `false` if it stands
+-- nowhere
 abbrev pub is_true : Option Text → Bool
 is_true word = option_map_or (λ text. bytes_eq text (codes "true")) word false
 
 abbrev pub has_flag : Text → Option (Text × List Row) → Bool
 has_flag id entered = is_true (word_in id entered)
 
--- so many workers: one digit from 1 to 8, or 4 where there is no word
+-- so many workers: one digit from 1 to 8, or 4 if there is no word
 abbrev pub workers_of : Option Text → Option ℕ
 workers_of None = Some 4
 workers_of (Some (digit ∷ [])) =
@@ -194,7 +194,7 @@ abbrev pub names_phase : Option Text → Bool
 names_phase word = option_map_or (λ text. list_any (bytes_eq text) phases) word true
 
 -- the lines of tasks alone are asked for, by the flag or by one of the two options; here and below
--- `word` says which word was found for an argument
+-- `word` gives the word that was found for an argument
 abbrev pub asks_tasks : (word : Text → Option Text) → Bool
 asks_tasks word = is_true (word (codes "tasks"))
     || (is_some (word (codes "phase")) || is_some (word (codes "group")))
@@ -209,7 +209,7 @@ abbrev pub are_two : (a b c : Bool) → Bool
 are_two a b c = (a && b) || ((a && c) || (b && c))
 
 -- one view is asked for, or none and all is shown; the two options go with the view of tasks, and
--- the phase is told by its word. More than one view is a mistake, and so is another word
+-- the phase is given by its word. More than one view is a mistake, and so is another word
 abbrev pub IsView : (word : Text → Option Text) → Result View WordsFault → Type 0
 IsView word (Ok Whole) = AsksViews false false false word
 IsView word (Ok (Tasks phase group)) = AsksViews true false false word
@@ -242,36 +242,36 @@ NamesCrew store workers known entered = (command_in entered ≡ Some (codes "cre
     × (workers_of (word_in (codes "workers") entered) ≡ workers)
     × (has_flag (codes "known") entered ≡ known)
 
--- the words ask for `demo`, as the parser reads them: it stands behind the program's own name, and
--- `--strict` may stand behind it
+-- the words ask for `demo`, as the parser reads them: it stands after the program's own name, and
+-- `--strict` may stand after it
 abbrev pub AsksForDemo : Bool → List Text → Type 0
 AsksForDemo strict words = NamesDemo strict (subcommand_of night words)
 
--- the words ask for a new store in this file, as the parser reads them: it stands behind the
--- program's own name and `format`, and `--new` may stand before or behind it
+-- the words ask for a new store in this file, as the parser reads them: it stands after the
+-- program's own name and `format`, and `--new` may stand before or after it
 abbrev pub AsksForFormat : Text → Bool → List Text → Type 0
 AsksForFormat store is_new words = NamesFormat store is_new (subcommand_of night words)
 
--- the words ask for a run over this store, as the parser reads them: it stands behind the program's
--- own name and `script`, and before or behind it may stand `--strict` and `--now`
+-- the words ask for a run over this store, as the parser reads them: it stands after the program's
+-- own name and `script`, and before or after it may stand `--strict` and `--now`
 abbrev pub AsksForScript : Text → Bool → Bool → List Text → Type 0
 AsksForScript store strict is_timed words =
     NamesScript store strict is_timed (subcommand_of night words)
 
 -- the words ask for what this view shows of the store, as the parser reads them: the store stands
--- behind the program's own name and `inspect`, and the flag of the view, or its options as
--- `--phase held` or `--phase=held`, may stand before or behind it
+-- after the program's own name and `inspect`, and the flag of the view, or its options as
+-- `--phase held` or `--phase=held`, may stand before or after it
 abbrev pub AsksForInspect : Text → View → List Text → Type 0
 AsksForInspect store view words =
     NamesInspect store (Ok view) (subcommand_of night words)
 
 -- the words ask for a renewal of this store in its place, as the parser reads them: it stands alone
--- behind the program's own name and `renew`, and `--in-place` stands before or behind it
+-- after the program's own name and `renew`, and `--in-place` stands before or after it
 abbrev pub AsksForRenewalInPlace : Text → List Text → Type 0
 AsksForRenewalInPlace store words = NamesRenewal store None true (subcommand_of night words)
 
 -- the words ask for a crew of so many workers over this store, as the parser reads them: the store
--- stands behind the program's own name and `crew`, and before or behind it may stand `--workers N`
+-- stands after the program's own name and `crew`, and before or after it may stand `--workers N`
 -- or `--workers=N`, and `--known`
 abbrev pub AsksForCrew : Text → ℕ → Bool → List Text → Type 0
 AsksForCrew store workers known words =
@@ -291,11 +291,11 @@ AsksFor (Renew old new) words =
 AsksFor (RenewInPlace store) words = AsksForRenewalInPlace store.now words
 AsksFor (Help text) words = Unit {0}
 
--- the words lead to this fault: to that of equal names where a migration or a renewal is asked for
--- from a store to itself, to that of the workers where a crew of none, of more than 8 or of no
--- number is, to that of the views where more than one is, to that of the phase where the tasks in
--- one are that has no such word, and to that of the place where a renewal is asked for with neither
--- a new store nor `--in-place`, or with both; of the others `IsAnswer` tells
+-- the words lead to this fault: to that of equal names if a migration or a renewal is asked for
+-- from a store to itself, to that of the workers if a crew of none, of more than 8 or of no number
+-- is, to that of the views if more than one is, to that of the phase if the tasks in one are that
+-- has no such word, and to that of the place if a renewal is asked for with neither a new store nor
+-- `--in-place`, or with both; `IsAnswer` defines the others
 abbrev pub IsCausedBy : WordsFault → List Text → Type 0
 IsCausedBy SameStores words = (store : Text)
     × (AsksForTwo (codes "migrate") store store words
@@ -310,7 +310,7 @@ IsCausedBy Place words = (store : Text) × ((new : Option Text)
     × NamesRenewal store new (is_some new) (subcommand_of night words))
 IsCausedBy why words = Unit {0}
 
--- ---- what is answered
+-- ---- what is returned
 
 -- help, or the version
 abbrev pub IsHelp : ErrorKind → Type 0
@@ -320,8 +320,8 @@ IsHelp kind = (kind ≡ DisplayHelp) ⊎ (kind ≡ DisplayVersion)
 abbrev pub IsMistake : ErrorKind → Type 0
 IsMistake kind = (kind ≢ DisplayHelp) × (kind ≢ DisplayVersion) × (kind ≢ OutOfMemory)
 
--- what is answered where the parser may find these: a command exactly where it finds nothing, but
--- for equal names, a wrong number of workers, several views, a wrong phase and a wrong place
+-- what is returned when the parser may find these: a command exactly if it finds nothing, but for
+-- equal names, a wrong number of workers, several views, a wrong phase and a wrong place
 abbrev pub IsAnswer : Kinds → Result Asked WordsFault → Type 0
 IsAnswer kinds (Ok (Help text)) = (kind : ErrorKind) × IsAmong kind kinds × IsHelp kind
 IsAnswer kinds (Ok command) = kinds ≡ []
@@ -334,7 +334,7 @@ IsAnswer kinds (Err Place) = kinds ≡ []
 IsAnswer kinds (Err NotText) = ⊥
 IsAnswer kinds (Err Memory) = Unit {0}
 
--- the words could not be had from the system: that is no mistake in them
+-- the words could not be got from the system: that is not a mistake in them
 abbrev pub IsOfSystem : WordsFault → Type 0
 IsOfSystem (Mistake text) = ⊥
 IsOfSystem SameStores = ⊥
@@ -345,7 +345,7 @@ IsOfSystem Place = ⊥
 IsOfSystem NotText = Unit {0}
 IsOfSystem Memory = Unit {0}
 
--- what standard error shows where words ask for nothing
+-- what standard error shows when words ask for nothing
 abbrev pub fault_text : WordsFault → List ℕ
 fault_text (Mistake text) = string_bytes text
 fault_text SameStores = codes "error: OLD and NEW name the same file\n"
@@ -360,7 +360,7 @@ fault_text Memory = codes "night: fault 1 Memory\n"
 
 -- ---- for private functions: no public contract cites what follows
 
--- what is answered where the parser found this
+-- what is returned when the parser found this
 abbrev pub IsShown : ErrorKind → Result Asked WordsFault → Type 0
 IsShown kind (Ok (Help text)) = IsHelp kind
 IsShown kind (Ok command) = ⊥
@@ -373,7 +373,7 @@ IsShown kind (Err Place) = ⊥
 IsShown kind (Err NotText) = ⊥
 IsShown kind (Err Memory) = Unit {0}
 
--- the name of a command, and its store where it has one
+-- the name of a command, and its store if it has one
 abbrev pub Named : Type 0
 Named = Option (Text × Option Text)
 
@@ -424,7 +424,7 @@ Asks named new entered (Err Place) = (store : Text)
     × ((new_one : Option Text) × NamesRenewal store new_one (is_some new_one) entered)
 Asks named new entered (Err why) = ⊥
 
--- a command is named, and the stores that it wants
+-- a command is named, and the stores that it needs
 abbrev pub IsNamed : Named → Option Text → Type 0
 IsNamed named new = ((first : Option Text) × (named ≡ Some (codes "demo", first)))
     ⊎ (((first : Option Text) × (named ≡ Some (codes "crew", first)))

@@ -9,18 +9,18 @@ use std::fmt;
 #[derive(Drop)]
 pub enum Asked<'a> {
     /// `demo`: the input runs over a book in memory; with `--strict` up to the first line that is
-    /// no line or is refused.
+    /// not a line or is refused.
     Demo {
         strict: bool,
     },
-    /// `format STORE`: the file becomes a new store; with `--new` only where there is no file of
-    /// that name.
+    /// `format STORE`: the file becomes a new store; with `--new` only if there is no file of that
+    /// name.
     Format {
         store: &'a str,
         is_new: bool,
     },
     /// `script STORE`: the input runs over the store; with `--strict` up to the first line that is
-    /// no line or is refused, and with `--now` by the time of the machine.
+    /// not a line or is refused, and with `--now` by the time of the machine.
     Script {
         store: &'a str,
         strict: bool,
@@ -32,7 +32,7 @@ pub enum Asked<'a> {
         view: View<'a>,
     },
     /// `crew STORE --workers N`: so many threads, 1 to 8, work off the ready tasks of the store;
-    /// with `--known` only where they know the job of each task that isn't ended.
+    /// with `--known` only if they know the job of each task that isn't ended.
     Crew {
         store: &'a str,
         workers: u8,
@@ -72,7 +72,7 @@ pub enum View<'a> {
 /// fault of that name.
 #[derive(Drop)]
 pub enum WordsFault {
-    /// The words are no command of the program; the text says what is wrong, and what would be
+    /// The words are not a command of the program; the text gives what is wrong, and what would be
     /// right.
     Mistake(String),
     /// A migration or a renewal is asked for, but OLD and NEW are one name.
@@ -85,7 +85,7 @@ pub enum WordsFault {
     Phase,
     /// A renewal is asked for, but with neither NEW nor `--in-place`, or with both.
     Place,
-    /// A word is no text in UTF-8.
+    /// A word is not text in UTF-8.
     NotText,
     /// There was no memory to read the words.
     Memory,

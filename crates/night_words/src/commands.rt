@@ -87,7 +87,7 @@ fn night_alone<'a>(alloc: Global) -> Command<'a>
         .arg_required_else_help(true)
 }
 
-/// A command line with one more command, where there was memory for both.
+/// A command line with one more command, if there was memory for both.
 fn with_command<'a>(
     line: Result<Command<'a>, AllocError>,
     command: Result<Command<'a>, AllocError>,
@@ -292,7 +292,7 @@ fn renew_command<'a>(alloc: Global) -> Result<Command<'a>, AllocError>
     )
 }
 
-/// A command with one more word, where there was memory for both.
+/// A command with one more word, if there was memory for both.
 fn with_word<'a>(
     command: Result<Command<'a>, AllocError>,
     word: Arg<'a>,
@@ -328,7 +328,7 @@ fn flag_word<'a>(alloc: Global, id: &'a str, help: &'a str) -> Arg<'a>
         .help(help)
 }
 
-/// A word that names a store, which its command wants, and what help calls it.
+/// A word that names a store, which its command needs, and what help calls it.
 fn store_word<'a>(alloc: Global, id: &'a str, name: &'a str, help: &'a str) -> Arg<'a>
     ensures rule { rule_of result ≡ wanted id.now }
     ensures local { result.global ≡ false }

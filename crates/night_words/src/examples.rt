@@ -13,7 +13,7 @@ ghost use Rattle.night_words.specs.declared.asked.View.TheVariants.{Json, Tasks,
 ghost use Rattle.night_words.specs.declared.asked.WordsFault.TheVariants.{Phase, Place, SameStores};
 ghost use Rattle.night_words.specs.declared.asked.WordsFault.TheVariants.{Views, Workers};
 
-/// `demo` is a command, and the mark behind which no flag stands is no word of it.
+/// `demo` is a command, and the mark after which no flag stands is no word of it.
 pub fn demo_is_a_command()
     ensures alone { (name : List ℕ) → faults_of (name ∷ codes "demo" ∷ []) ≡ [] }
     ensures marked { (name : List ℕ) → faults_of (name ∷ codes "demo" ∷ codes "--" ∷ []) ≡ [] }
@@ -21,7 +21,7 @@ pub fn demo_is_a_command()
         → faults_of (name ∷ codes "demo" ∷ codes "--strict" ∷ []) ≡ [] }
 {}
 
-/// It is strict where its flag stands there.
+/// It is strict if its flag stands there.
 pub fn demo_may_be_strict()
     ensures alone { (name : List ℕ) → AsksForDemo false (name ∷ codes "demo" ∷ []) }
     ensures marked { (name : List ℕ)
@@ -32,7 +32,7 @@ pub fn demo_may_be_strict()
         → AsksForDemo true (name ∷ codes "demo" ∷ codes "--strict" ∷ codes "--" ∷ []) }
 {}
 
-/// `format`, `script` and `inspect` are commands over a store. Behind the mark its name may look
+/// `format`, `script` and `inspect` are commands over a store. After the mark its name may look
 /// like a flag.
 pub fn a_store_is_named()
     ensures format { (name : List ℕ) → faults_of (name ∷ codes "format" ∷ codes "a" ∷ []) ≡ [] }
@@ -60,8 +60,8 @@ pub fn a_new_store_is_named()
         (name ∷ codes "format" ∷ codes "--" ∷ codes "--new" ∷ []) }
 {}
 
-/// `script` runs over a store, and is strict where its flag stands there, and by the machine's time
-/// where the other one does.
+/// `script` runs over a store, and is strict if its flag stands there, and by the machine's time if
+/// the other one does.
 pub fn a_script_may_be_strict()
     ensures alone { (name : List ℕ)
         → AsksForScript (codes "a") false false (name ∷ codes "script" ∷ codes "a" ∷ []) }
@@ -151,7 +151,7 @@ pub fn flags_are_taken()
         → faults_of (name ∷ codes "crew" ∷ codes "--known" ∷ codes "a" ∷ []) ≡ [] }
 {}
 
-/// A flag stands once, behind its own command.
+/// A flag stands once, after its own command.
 pub fn other_flags_are_mistakes()
     ensures inspect { (name : List ℕ)
         → faults_of (name ∷ codes "inspect" ∷ codes "--new" ∷ codes "a" ∷ [])
@@ -181,7 +181,7 @@ pub fn other_flags_are_mistakes()
         ≡ kind.ArgumentConflict ∷ [] }
 {}
 
-/// One store is wanted.
+/// One store is needed.
 pub fn a_store_is_wanted()
     ensures none { (name : List ℕ) → faults_of (name ∷ codes "script" ∷ [])
         ≡ kind.MissingRequiredArgument ∷ [] }
@@ -194,7 +194,7 @@ pub fn a_store_is_wanted()
         ≡ kind.UnknownArgument ∷ [] }
 {}
 
-/// `migrate` is a command over two stores, which may look like flags behind the mark.
+/// `migrate` is a command over two stores, which may look like flags after the mark.
 pub fn two_stores_are_named()
     ensures alone { (name : List ℕ)
         → faults_of (name ∷ codes "migrate" ∷ codes "a" ∷ codes "b" ∷ []) ≡ [] }
@@ -233,7 +233,7 @@ pub fn a_store_may_be_renewed_in_place()
         (subcommand_of night (name ∷ codes "renew" ∷ codes "a" ∷ codes "b" ∷ [])) }
 {}
 
-/// Two stores are wanted.
+/// Two stores are needed.
 pub fn two_stores_are_wanted()
     ensures one { (name : List ℕ) → faults_of (name ∷ codes "migrate" ∷ codes "a" ∷ [])
         ≡ kind.MissingRequiredArgument ∷ [] }
@@ -242,7 +242,7 @@ pub fn two_stores_are_wanted()
         ≡ kind.UnknownArgument ∷ [] }
 {}
 
-/// `crew` is a command over a store, of 4 workers where it isn't told of another number.
+/// `crew` is a command over a store, of 4 workers if no other number is given.
 pub fn a_crew_is_named()
     ensures alone { (name : List ℕ)
         → AsksForCrew (codes "a") 4 false (name ∷ codes "crew" ∷ codes "a" ∷ []) }
@@ -258,7 +258,7 @@ pub fn a_crew_is_named()
         (name ∷ codes "crew" ∷ codes "a" ∷ codes "--known" ∷ codes "--workers" ∷ codes "2" ∷ []) }
 {}
 
-/// A crew has 1 to 8 workers, told once, and a store.
+/// A crew has 1 to 8 workers, given once, and a store.
 pub fn other_crews_are_mistakes()
     ensures none { (name : List ℕ) → IsCausedBy Workers
         (name ∷ codes "crew" ∷ codes "a" ∷ codes "--workers=0" ∷ []) }

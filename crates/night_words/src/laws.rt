@@ -1,5 +1,5 @@
-//! What the words of a command that takes a flag are where they don't have it: the parser's reading
-//! of them, told word by word.
+//! What the words of a command that takes a flag are when they don't have it: the parser's reading
+//! of them, word by word.
 
 ghost use Rattle.std.specs.Prelude.{◌≡◌, ℕ, List, [], codes, false};
 ghost use Rattle.night_words.specs.Commands.{AsksAlone, AsksForDemo, AsksForFormat};
@@ -12,8 +12,8 @@ pub fn demo_stands_alone()
         → AsksAlone (codes "demo") words }
 {}
 
-/// A store that needn't be new stands alone behind `format`, one whose run isn't strict behind
-/// `script`, and one of which all is printed behind `inspect`.
+/// A store that needn't be new stands alone after `format`, one whose run isn't strict after
+/// `script`, and one of which all is printed after `inspect`.
 pub fn a_store_stands_alone()
     ensures format { (store : List ℕ) (words : List (List ℕ)) → faults_of words ≡ []
         → AsksForFormat store false words → AsksOver (codes "format") store words }
@@ -23,8 +23,7 @@ pub fn a_store_stands_alone()
         → AsksForInspect store Whole words → AsksOver (codes "inspect") store words }
 {}
 
-/// And where it stands alone there, it needn't be new, its run isn't strict, and all of it is
-/// printed.
+/// And if it stands alone there, it needn't be new, its run isn't strict, and all of it is printed.
 pub fn a_store_alone_has_no_flag()
     ensures format { (store : List ℕ) (words : List (List ℕ)) → faults_of words ≡ []
         → AsksOver (codes "format") store words → AsksForFormat store false words }

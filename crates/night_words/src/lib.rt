@@ -1,7 +1,7 @@
 //! The words of the command line of `night`: what they ask for, or why they ask for nothing.
 //!
 //! [`own_words`] gives the words that the program was started with, [`read_words`] reads them.
-//! `specs/Commands.antt` says which words are taken.
+//! `specs/Commands.antt` defines which words are taken.
 #![tactic(auto)]
 
 mod asked;

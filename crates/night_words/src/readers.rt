@@ -19,8 +19,8 @@ use std::alloc::Global;
 use std::env::{Args, Env};
 use std::{env, io};
 
-/// The words that the program was started with, the program's own name first. `NotText` where one
-/// of them is no text in UTF-8, `Memory` where there was no memory for them.
+/// The words that the program was started with, the program's own name first. `NotText` if one of
+/// them is not text in UTF-8, `Memory` if there was no memory for them.
 pub fn own_words<R: Env + AllocGlobal>(rt: &R) -> Result<Vec<String>, WordsFault>
     ensures { IfErr result IsOfSystem }
 {
@@ -121,7 +121,7 @@ fn asked_of<'a>(matches: &ArgMatches<'a>) -> Result<Asked<'a>, WordsFault>
     for_two(store, new, false)
 }
 
-/// Says whether the words have this flag of the command that was used.
+/// Returns whether the words have this flag of the command that was used.
 fn is_set(inner: &ArgMatches, id: &str) -> bool
     ensures { result ≡ is_true (first_value (found_of inner.now) id.now) }
 {
@@ -168,7 +168,7 @@ fn tasks<'a>(phase: Option<&'a str>, group: Option<&'a str>) -> Result<View<'a>,
     }
 }
 
-/// Says whether a word names a phase of a task.
+/// Returns whether a word names a phase of a task.
 fn is_phase(word: &str) -> bool
     ensures { result ≡ names_phase (Some word.now) }
 {
@@ -192,7 +192,7 @@ fn crew<'a>(store: &'a str, workers: Option<&'a str>, known: bool) -> Result<Ask
     }
 }
 
-/// How many workers a word asks for: one digit from 1 to 8. They are 4 where there is none.
+/// How many workers a word asks for: one digit from 1 to 8. They are 4 if there is none.
 fn workers_of(text: Option<&str>) -> Option<u8>
     ensures { result ≡ workers_of (option_map (λ word. word.now) text.entry) }
 {

@@ -126,7 +126,7 @@ fn assert_nights<R: Threads + Wait + Sync + Abort>(rt: &R, alloc: Global, first:
     }
 }
 
-// Behind the ten calls of the opening, a night makes six for each flush: of a start, of a finish,
+// After the ten calls of the opening, a night makes six for each flush: of a start, of a finish,
 // and the last one. A flush may save several events, and the more workers meet, the fewer there
 // are.
 

@@ -33,7 +33,7 @@ impl<D: RunDisk, S: Ledger, F: Ledger> Acknowledges for Desk<D, S, F> {
 }
 
 /// Takes the lock before the first turn of a task, and counts the tasks whose start it finds
-/// durable: of the tasks of one worker, task n is started by event 2 * n behind the first start.
+/// durable: of the tasks of one worker, task n is started by event 2 * n after the first start.
 #[derive(Drop)]
 struct Durable<'a, T: Acknowledges, R: Wait> {
     rt: &'a R,
@@ -167,7 +167,7 @@ fn flushed_night<
     requires finishes { (finishes.name ≡ F.name) × (finishes.parts ≡ F.parts)
         × (vec_len jobs < F.parts) }
 {
-    // Behind two starts.
+    // After two starts.
     let finish = book.durable().saturating_add(3);
     let (desk, mut seat) = Desk::<D, S, F>::new(book, starts, finishes);
     let shared = Mutex::new(desk);

@@ -44,7 +44,7 @@ const JSON: &str = "{\"count\":6,\"clock\":0,\"layout\":\"small\",\
      {\"number\":1,\"group\":0,\"job\":\"copy\",\"argument\":\"b\",\"phase\":\"held\",\
      \"error\":null,\"retry_of\":null}]}\n";
 
-/// What is typed behind the stop.
+/// What is typed after the stop.
 const AGAIN: &str = "task 0\ntask 1\nresult g\nscope g\n";
 
 /// What is printed then.
@@ -113,7 +113,7 @@ fn migrated(rt: &impl Abort, alloc: Global, small: &[u8]) -> (Shelf, Vec<u8>, Ve
     (large, output, left(rt, alloc, &old))
 }
 
-/// What is done with the large store, one behind the other.
+/// What is done with the large store, one after the other.
 static MIGRATED: [Over; 2] = [
     (&["inspect", "new.store"], "", (0, INSPECTED, "")),
     (&["script", "new.store"], AGAIN, (0, GOES_ON, "")),
@@ -258,11 +258,11 @@ fn a_night_is_renewed(rt: HostRuntime) {
     }
 }
 
-/// Disks that fail behind so many calls, whether the file can't be replaced, and why there is no
+/// Disks that fail after so many calls, whether the file can't be replaced, and why there is no
 /// renewal.
 type Unrenewed = (u64, bool, &'static str);
 
-/// What is told of a renewal in place over disks that fail behind so many calls, of which the old
+/// What is told of a renewal in place over disks that fail after so many calls, of which the old
 /// one is read by six and the new one written by eight and read by three, or over a file that can't
 /// be replaced.
 static UNRENEWED: [Unrenewed; 4] = [
@@ -306,7 +306,7 @@ fn a_store_that_is_not_renewed_in_place_stays(rt: HostRuntime) {
 /// What is told of a disk that fails, and its file.
 const BROKEN: &str = "night: fault 2 DiskFailed\nnight: b: broken\n";
 
-/// Words that make a file, over a disk that fails behind so many calls: whether there was one of
+/// Words that make a file, over a disk that fails after so many calls: whether there was one of
 /// its name before, and whether the file is taken away again.
 type Making = (&'static [&'static str], &'static str, u64, bool);
 

@@ -165,7 +165,7 @@ impl Files for Shelf {
     }
 }
 
-/// Tells why a call of a disk failed that fails behind so many.
+/// Tells why a call of a disk failed that fails after so many.
 #[derive(Drop)]
 pub struct Broken(u64);
 

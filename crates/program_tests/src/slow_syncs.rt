@@ -156,7 +156,7 @@ fn slow_night<
     requires finishes { (finishes.name ≡ F.name) × (finishes.parts ≡ F.parts)
         × (vec_len jobs < F.parts) }
 {
-    // Behind three starts and the first finish.
+    // After three starts and the first finish.
     let finish = book.durable().saturating_add(5);
     let (desk, mut seat) = Desk::<D, S, F>::new(book, starts, finishes);
     let shared = Mutex::new(desk);
@@ -199,7 +199,7 @@ fn marks_of(rt: &impl Abort, alloc: Global) -> Arc<Marks> {
 }
 
 // The turn of task 1 is over before the sync is, so its worker waits for the lock to finish it, and
-// rings just behind the flush that the first ring was for. Nobody else flushes before task 2 goes
+// rings just after the flush that the first ring was for. Nobody else flushes before task 2 goes
 // on.
 #[test]
 fn a_finish_behind_a_slow_sync_becomes_durable(rt: HostRuntime) {

@@ -220,7 +220,7 @@ fn turns_made<R: Threads + Wait + Sync + Abort>(rt: &R, alloc: Global, call: u64
     turns.load(Ordering::SeqCst)
 }
 
-// The opening makes ten calls, and the flush of the first start the six behind them.
+// The opening makes ten calls, and the flush of the first start the six after them.
 #[test]
 fn no_turn_is_made_where_the_flush_of_the_start_fails(rt: HostRuntime) {
     for call in 11..=17_u64 {

@@ -105,7 +105,7 @@ drawn_all p above g h w0 w1 to =
     sym (append-nil to.done) ∙ sym to.drawn_is in
     subst (λ t. Told t g h w0 w1) (ap (flat_map (node_line p)) nodes) to.told
 
--- Less is left to draw behind a node.
+-- Less is left to draw after a node.
 pub drawn_less : (ps : List ℕ) (n : ℕ) (next : Option ℕ)
     → drawn_from ps n ≡ n ∷ drawn_next ps next
     → length (drawn_next ps next) < length (drawn_next ps (Some n))

@@ -1,4 +1,4 @@
--- Texts that are told behind what was gathered, and how one line and a whole run end.
+-- Texts that are told after what was gathered, and how one line and a whole run end.
 use Rattle.std.specs.Prelude.{◌≡◌, ◌≢◌, ◌⊎◌, ℕ, List, [], ◌∷◌, ◌++◌, Option, length}
 use Rattle.std.specs.Prelude.{Result, Ok, Err, OnOk, OnErr}
 use Rattle.std.specs.Io.KnownBytes.{Appends}
@@ -72,7 +72,7 @@ ran_told state b g m w0 w1 room = record {
   taken = takes_none state b;
 }
 
--- A trouble behind the room that was made.
+-- A trouble after the room that was made.
 pub cut_stopped : {D : Type 0} (state : D → DiskState)
     (why : RunFault) (trouble : Trouble) (line : List ℕ) (b c : BookView D) (g m : List ℕ)
     (w0 w1 w2 : Option (List ℕ))

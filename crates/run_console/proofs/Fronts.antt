@@ -82,7 +82,7 @@ front_said s ran [] front (rest, e) =
     (rest ++ end, ap (λ t. t ++ end) e ∙ append_assoc front rest end)
 front_said s ran (x ∷ left) front h = h
 
--- What was written: a front of what was said, and behind it what was told of a trouble.
+-- What was written: a front of what was said, and after it what was told of a trouble.
 record Fronts (why : RunFault) (s : Session) (ran left : List (List ℕ))
     (w0 w1 : Option (List ℕ)) : Type 0 where
   front : List ℕ

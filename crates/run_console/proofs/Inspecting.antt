@@ -1,4 +1,4 @@
--- Texts that are told one behind the other: the rows of a state, and the state itself.
+-- Texts that are told one after the other: the rows of a state, and the state itself.
 use Rattle.std.specs.Prelude.{◌≡◌, ◌+◌, ◌-◌, ◌<◌, ℕ, zero, suc, List, [], ◌++◌, Option}
 use Rattle.std.specs.Io.KnownBytes.{Appends}
 use Rattle.std.proofs.Common.{sym, ap, ◌∙◌, subst, arith, add-one, append_assoc, append-nil}

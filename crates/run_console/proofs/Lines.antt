@@ -48,7 +48,7 @@ replies_then xs ys b c h =
 pub lasts_then : (b c d : Session) → Lasts b c → Lasts c d → Lasts b d
 lasts_then b c d = stays_join b.state c.state d.state
 
--- ---- what is written behind what was written
+-- ---- what is written after what was written
 
 -- Of some text that goes on what was written, a front was written, and not all.
 pub part_behind :
@@ -304,7 +304,7 @@ cut_then state why xs ys b c d f g w0 w1 w2 one two =
       };
     }
 
--- Lines behind one that stopped change nothing of that.
+-- Lines after one that stopped change nothing of that.
 pub stopped_more : (why : RunFault) (left ys : List (List ℕ))
     → IsStopped why left → IsStopped why (left ++ ys)
 stopped_more (fault.Store why) [] ys h = absurd h
@@ -315,7 +315,7 @@ stopped_more fault.Input left ys h = tt
 stopped_more fault.InputTooLong left ys h = tt
 stopped_more fault.Output left ys h = tt
 
--- Lines that were cut are cut, whatever lines are behind them.
+-- Lines that were cut are cut, whatever lines come after them.
 pub cut_more : {D : Type 0} (state : D → DiskState)
     (why : RunFault) (xs ys : List (List ℕ)) (b c : BookView D) (f : List ℕ)
     (w0 w1 : Option (List ℕ))

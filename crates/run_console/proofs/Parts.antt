@@ -80,7 +80,7 @@ part_full state begun part tail f g byte b c w0 w1 other so_far full =
     part_on state begun part tail tail f g byte b c w0 w1 other so_far
     (kept_full tail (open_line begun part) byte so_far.tail_is full)
 
--- The next line is cut, whatever bytes are behind its LF.
+-- The next line is cut, whatever bytes come after its LF.
 pub part_cut : {D : Type 0} (state : D → DiskState)
     (why : RunFault) (begun all part more : List ℕ) (b c d : BookView D) (tail f g : List ℕ)
     (w0 w1 w2 : Option (List ℕ))

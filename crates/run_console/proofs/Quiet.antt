@@ -116,7 +116,7 @@ line_ran state begun front xs tail more f g h b c d w0 w1 w2 so_far quiet ran no
     (part_quiet state begun front xs tail (kept (tail ++ xs)) f g b c w0 w1 so_far quiet refl)
     (subst P (open_quiet begun front xs quiet) ran) none
 
--- Or it was cut, whatever bytes are behind its LF.
+-- Or it was cut, whatever bytes come after its LF.
 pub line_cut : {D : Type 0} (state : D → DiskState)
     (why : RunFault) (begun all front xs behind tail f g : List ℕ) (b c d : BookView D)
     (w0 w1 w2 : Option (List ℕ))

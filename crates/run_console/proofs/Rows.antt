@@ -1,4 +1,4 @@
--- The steps that lines play over a book, one line behind the other.
+-- The steps that lines play over a book, one line after the other.
 use Rattle.std.specs.Prelude.{◌≡◌, ◌||◌, Bool, false, ℕ, List, [], ◌∷◌, ◌++◌, Option, Some, None}
 use Rattle.std.specs.Prelude.{Err}
 use Rattle.std.specs.List.{cons_option, list_any}
@@ -103,7 +103,7 @@ module _ {D : Type 0} (state : D → DiskState) where
   tries_any a b fault.InputTooLong steps p = p
   tries_any a b fault.Memory steps p = p
 
-  -- More lines are behind those that are left.
+  -- More lines come after those that are left.
   pub tries_more : (a b : BookView D) (why : RunFault) (left more : List (List ℕ))
       → Tries state a why (first_steps left) b → Tries state a why (first_steps (left ++ more)) b
   tries_more a b why [] more p = tries_any a b why (first_steps more) p
@@ -115,7 +115,7 @@ module _ {D : Type 0} (state : D → DiskState) where
   tries_next a b why [] p = tries_any a b why (step.Flush ∷ []) p
   tries_next a b why (line ∷ left) p = p
 
-  -- A step that the store stopped, behind its trouble.
+  -- A step that the store stopped, after its trouble.
   pub tries_troubled : (old new : BookView D) (why : RunFault) (trouble : Trouble)
       (steps : List Step) (g : List ℕ) (w0 w1 : Option (List ℕ))
       → StepsOn state old steps (reply_of_save (Err trouble) ∷ []) new

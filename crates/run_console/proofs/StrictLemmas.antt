@@ -207,7 +207,7 @@ clean_parts state n m xs ys tail b c w0 w1 one two =
     (clean_then 1 n m b.session c.session (whole_lines [] xs) (whole_lines (open_line [] xs) ys)
     one.runs.ran.session one.clean two)
 
--- The lines up to some LF of a part, behind those before it.
+-- The lines up to some LF of a part, after those before it.
 lines_up_to : (xs front : List ℕ)
     → lines_of (xs ++ front) ≡ whole_lines [] xs ++ lines_to (open_line [] xs) front
 lines_up_to xs front =
@@ -217,14 +217,14 @@ lines_up_to xs front =
     ∙ append_assoc (whole_lines [] xs) (whole_lines (open_line [] xs) front)
     (open_line (open_line [] xs) front ∷ [])
 
--- An input up to some LF, and what is behind it.
+-- An input up to some LF, and what comes after it.
 around : (xs part front behind : List ℕ)
     → part ≡ front ++ 10 ∷ behind
     → xs ++ part ≡ (xs ++ front) ++ 10 ∷ behind
 around xs part front behind e =
     ap (λ t. xs ++ t) e ∙ sym (append_assoc xs front (10 ∷ behind))
 
--- Of a part that was read at once little is behind an LF.
+-- Of a part that was read at once little comes after an LF.
 few_behind : (part front behind : List ℕ)
     → part ≡ front ++ 10 ∷ behind → length part ≤ 4096 → length behind < 4096
 few_behind part front behind e h =
@@ -232,7 +232,7 @@ few_behind part front behind e h =
 
 -- ---- a line strays
 
--- The last of the first lines strays, whatever is behind its LF.
+-- The last of the first lines strays, whatever comes after its LF.
 strays_first : (s : Session) (bytes front behind : List ℕ) (stray : StrayLine)
     → bytes ≡ front ++ 10 ∷ behind
     → Found 1 s (lines_of front) stray
@@ -344,7 +344,7 @@ no_end : (xs ys : List (List ℕ)) → xs ++ ys ≡ [] → ys ≡ []
 no_end [] ys e = e
 no_end (x ∷ xs) ys e = absurd (omega (arith, ap length e))
 
--- Where no line is left behind one that stopped, there is none behind.
+-- Where no line is left after one that stopped, none follows.
 none_behind : (why : RunFault) (left more : List (List ℕ))
     → IsStopped why left → untried why (left ++ more) ≡ [] → more ≡ []
 none_behind (fault.Store why) [] more h e = absurd h
@@ -355,7 +355,7 @@ none_behind fault.Input left more h e = no_end left more e
 none_behind fault.InputTooLong left more h e = no_end left more e
 none_behind fault.Output left more h e = no_end left more e
 
--- Lines of which the first were run stopped, and more are behind them.
+-- Lines of which the first were run stopped, and more come after them.
 stops_of : {D : Type 0} (state : D → DiskState)
     (why : RunFault) (bytes : List ℕ) (lines more : List (List ℕ)) (b d : BookView D)
     (r0 r1 w0 w1 : Option (List ℕ))
@@ -483,7 +483,7 @@ stops_behind_part state n m bytes part tail more g b c d r0 r1 r2 w0 w1 w2 w3 re
     ∙ ap (λ l. l ++ last ∷ []) lines)
     tried (λ e. left_over [] last _ e)
 
--- A fault of reading, behind all lines that an LF ended.
+-- A fault of reading, after all lines that an LF ended.
 pub stops_reading_strictly : {D : Type 0} (state : D → DiskState)
     (why : RunFault) (n : ℕ) (bytes tail : List ℕ) (b c : BookView D)
     (r0 r1 w0 w1 : Option (List ℕ))
@@ -539,7 +539,7 @@ stops_at_last state why m b c d tail r0 r1 w0 w1 w2 f reads cut =
 
 -- ---- the end
 
--- The last flush stopped, or the writer failed behind it.
+-- The last flush stopped, or the writer failed after it.
 pub stops_closing_strictly : {D : Type 0} (state : D → DiskState)
     (why : RunFault) (b d e : BookView D) (g : List ℕ) (stray : Option StrayLine)
     (r0 r1 w0 w2 w3 : Option (List ℕ))

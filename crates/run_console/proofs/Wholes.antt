@@ -66,12 +66,12 @@ reads_all state bytes tail b c r0 r1 r2 w0 w1 read none ended within part =
 
 -- ---- a run that stops
 
--- A line behind is left.
+-- A line after these is left.
 pub left_over : (xs : List (List ℕ)) (y : List ℕ) (X : Type 0) → xs ++ y ∷ [] ≡ [] → X
 left_over [] y X e = absurd (omega (arith, ap length e))
 left_over (x ∷ xs) y X e = absurd (omega (arith, ap length e))
 
--- A fault of reading, behind all lines that an LF ended.
+-- A fault of reading, after all lines that an LF ended.
 pub stops_reading : {D : Type 0} (state : D → DiskState)
     (why : RunFault) (bytes tail : List ℕ) (b c : BookView D) (r0 r1 w0 w1 : Option (List ℕ))
     → Consumes r0 r1 bytes
@@ -126,7 +126,7 @@ reached_in fault.Memory bytes ran f h = h
 reached_in fault.Input bytes ran f h = absurd f
 reached_in fault.InputTooLong bytes ran f h = absurd f
 
--- A line that stopped, with lines behind, stops a run.
+-- A line that stopped, with lines after it, stops a run.
 run_stopped : (why : RunFault) (left : List (List ℕ)) (y : List ℕ)
     → IsStopped why left → IsRunStopped why (left ++ y ∷ [])
 run_stopped (fault.Store why) [] y h = absurd h
@@ -137,7 +137,7 @@ run_stopped fault.Input left y h = tt
 run_stopped fault.InputTooLong left y h = tt
 run_stopped fault.Output left y h = tt
 
--- A line that was not tried is behind.
+-- A line that was not tried follows.
 untried_more : (why : RunFault) (left : List (List ℕ)) (y : List ℕ) (X : Type 0)
     → IsStopped why left → untried why (left ++ y ∷ []) ≡ [] → X
 untried_more (fault.Store why) [] y X h e = absurd h
@@ -148,7 +148,7 @@ untried_more fault.Input left y X h e = left_over left y X e
 untried_more fault.InputTooLong left y X h e = left_over left y X e
 untried_more fault.Output left y X h e = left_over left y X e
 
--- A line stopped behind some part of the input.
+-- A line stopped after some part of the input.
 pub stops_in_a_part : {D : Type 0} (state : D → DiskState)
     (why : RunFault) (bytes part tail : List ℕ) (b c d : BookView D)
     (r0 r1 r2 w0 w1 w2 : Option (List ℕ))
@@ -202,7 +202,7 @@ all_ran state b c d tail g r0 r1 w0 w1 w2 reads last =
     w2
     reads.part.ran last
 
--- The closing line was told behind these lines.
+-- The closing line was told after these lines.
 pub end_told : {D : Type 0} (state : D → DiskState)
     (b d : BookView D) (lines : List (List ℕ)) (g : List ℕ) (w0 w2 w3 : Option (List ℕ))
     → Ran state lines b d [] g w0 w2
@@ -267,7 +267,7 @@ end_wrote state fault.Memory b d e lines g w0 w2 w3 ran h = absurd h
 end_wrote state fault.Input b d e lines g w0 w2 w3 ran h = absurd h
 end_wrote state fault.InputTooLong b d e lines g w0 w2 w3 ran h = absurd h
 
--- The closing line was written behind them.
+-- The closing line was written after them.
 pub runs_all : {D : Type 0} (state : D → DiskState)
     (b c d e : BookView D) (tail g : List ℕ) (r0 r1 w0 w1 w2 w3 : Option (List ℕ))
     → (reads : ReadsAll state b c tail r0 r1 w0 w1)
@@ -334,7 +334,7 @@ stops_in_the_last state why b c d tail r0 r1 w0 w1 w2 f reads cut =
       written = written_so why b.session whole.ran whole.left d w0 w2 whole.written;
     }
 
--- The last flush stopped, or the writer failed behind it.
+-- The last flush stopped, or the writer failed after it.
 pub stops_closing : {D : Type 0} (state : D → DiskState)
     (why : RunFault) (b c d e : BookView D) (tail g : List ℕ) (r0 r1 w0 w1 w2 w3 : Option (List ℕ))
     → (reads : ReadsAll state b c tail r0 r1 w0 w1)

@@ -1,4 +1,4 @@
--- A night of worker threads over a store: what it leaves, and what is told of it.
+-- A night of worker threads over a store: what it leaves, and what is printed of it.
 use Rattle.std.specs.Prelude.{◌≡◌, ◌⊎◌, ◌≤◌, ◌+◌, ◌++◌, ℕ, List, length, Bool, Option, Result, Ok}
 use Rattle.std.specs.Prelude.{Err, Some, true, ⊤, [], codes, is_ok, IfOk, MatchResult, OnOk}
 use Rattle.std.specs.Fmt.{decimal}
@@ -33,21 +33,21 @@ use Rattle.console_lines.specs.Progress.{WritesPart}
 use Rattle.console_lines.specs.Replies.{reply_line}
 use Rattle.run_console.specs.Troubles.{stopped}
 
--- ---- what is told
+-- ---- what is printed
 
--- A line of two numbers, each behind its words.
+-- A line of two numbers, each after its words.
 abbrev pub numbers_line : List ℕ → ℕ → List ℕ → ℕ → List ℕ
 numbers_line before one between other =
     before ++ decimal one ++ between ++ decimal other ++ codes "\n"
 
--- What is told of an audit: how many starts and finishes the history has, or what strays first.
+-- What is printed of an audit: how many starts and finishes the history has, or what strays first.
 abbrev pub audit_line : Result ⊤ Strayed → (starts finishes : ℕ) → List ℕ
 audit_line (Ok done) starts finishes =
     numbers_line (codes "audit ok; starts ") starts (codes "; finishes ") finishes
 audit_line (Err strayed) starts finishes =
     numbers_line (codes "audit strayed; worker ") strayed.worker (codes "; note ") strayed.note
 
--- What is told behind it: how many events are durable, where the last flush was done.
+-- What is printed after it: how many events are durable, if the last flush was done.
 abbrev pub flush_line : Result ℕ Trouble → List ℕ
 flush_line (Ok count) = reply_line (said.Step (told.Acked count))
 flush_line (Err why) = []
@@ -57,12 +57,12 @@ abbrev pub of_device : Trouble → Trouble
 of_device (Refused why) = Faulty DiskFailed
 of_device (Faulty why) = Faulty why
 
--- What is answered where all was told: whether the audit is Ok, or the fault of the last flush.
+-- What is returned if all was printed: whether the audit is Ok, or the fault of the last flush.
 abbrev pub told_of : Result ⊤ Strayed → Result ℕ Trouble → Result Bool RunFault
 told_of audited (Ok count) = Ok (is_ok audited)
 told_of audited (Err why) = Err (Store (of_device why))
 
--- The audit and the last flush were told whole; or the writer failed, and a part was told.
+-- The audit and the last flush were printed whole; or the writer failed, and a part was printed.
 abbrev pub IsTold : Result ⊤ Strayed → (starts finishes : ℕ) → Result ℕ Trouble
     → Result Bool RunFault → (w0 w1 : Option (List ℕ)) → Type 0
 IsTold audited starts finishes flushed answer w0 w1 =
@@ -84,7 +84,7 @@ pub record IsWorked {D : Type 0} (state : D → DiskState) (known : Known) (work
     (audited : Result ⊤ Strayed) (starts finishes : ℕ) (flushed : Result ℕ Trouble)
     (left : D) : Type 0
   where
-    -- the book as the threads left it, and the desk behind its flush
+    -- the book as the threads left it, and the desk after its flush
     pub book : BookView D
     pub desk : DeskView D
     pub lists : List (List Note)
@@ -110,12 +110,12 @@ pub record IsWorked {D : Type 0} (state : D → DiskState) (known : Known) (work
 abbrev pub Promises : DiskState → (State → Type 0) → Type 0
 Promises s says = s.honest → IsAtRest s → (p : State) → Stores s.now p → says p
 
--- The bytes store this state, or one that some first of these events lead to behind a restart.
+-- The bytes store this state, or one that a prefix of these events leads to after a restart.
 abbrev pub StoresNight : State → List Event → List ℕ → Type 0
 StoresNight p work bytes = Stores bytes p ⊎ StoresFront (restarted p) work 0 bytes
 
--- Starts and finishes alone were made behind a restart, and a crash at any moment from `old` on
--- leaves the state that was stored, or one that some first of them lead to.
+-- Starts and finishes alone were made after a restart, and a crash at any moment from `old` on
+-- leaves the state that was stored, or one that a prefix of them leads to.
 pub record KeepsNight (p : State) (work : List Event) (old new : DiskState) : Type 0 where
   pub only : list_all is_work work ≡ true
   pub any_moment : LeavesOnly (StoresNight p work) old new
@@ -128,10 +128,11 @@ pub record AcksNight (p : State) (work : List Event) (n : ℕ) (s : DiskState) :
   pub counted : n ≡ state.count
   pub stores : (x : List ℕ) → s.images x → Stores x state
 
--- A night over a disk, which is handed back: no book was opened, the fault tells why, and nothing
--- was told. Or a book was opened; and memory or a thread was wanting then, and nothing was told, or
--- the workers worked, and it was told what they left. And what a crash leaves of the disk at any
--- moment since the call's start, where it was honest and at rest.
+-- A night over a disk, which is handed back: how it ended, what was printed, and what a crash
+-- leaves of the disk at any moment since the call's start, if the disk was honest and at rest.
+-- Either no book was opened, the fault gives the reason, and nothing was printed. Or a book was
+-- opened: then memory or a thread was wanting, and nothing was printed, or the workers worked, and
+-- what they left was printed.
 abbrev pub CrewEnds : {D : Type 0} → (D → DiskState) → (given : D) → (workers : ℕ)
     → Result Bool RunFault → (left : D) → (w0 w1 : Option (List ℕ)) → Type 0
 CrewEnds {D = D} state given workers answer left w0 w1 =

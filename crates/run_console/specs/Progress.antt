@@ -31,7 +31,7 @@ use Rattle.run_console.specs.SessionLines.{IsSaving}
 abbrev pub Lasts : Session → Session → Type 0
 Lasts b c = Stays b.state c.state
 
--- Behind a text that was written, a front of the line of a trouble was written.
+-- After a text that was written, a prefix of the line of a trouble was written.
 abbrev pub WritesTrouble : Trouble → List ℕ → Option (List ℕ) → Option (List ℕ) → Type 0
 WritesTrouble why text old new =
     (front : List ℕ) × IsFront front (reply_line (said.Failed why))
@@ -76,7 +76,7 @@ IsWritten (fault.Store why) s ran left c old new = WritesTrouble why (replies s 
 IsWritten _ s ran left c old new = Appends old new (replies s ran)
 
 -- How much was read and run, by what stopped the run. A failed read, and an input of which a byte
--- more was read than it may have, come behind all lines that an LF ended.
+-- more was read than it may have, come after all lines that an LF ended.
 abbrev pub IsReached : RunFault → List ℕ → List (List ℕ) → Type 0
 IsReached fault.Input bytes ran =
     (length bytes ≤ LONGEST_INPUT) × (ran ≡ whole_lines [] bytes)
@@ -92,7 +92,7 @@ IsStopped fault.Memory [] = ⊥
 IsStopped fault.Memory (line ∷ left) = asked_of line ≡ asked.Tally
 IsStopped _ left = Unit {0}
 
--- So it is in a run, which the store stops in its last flush, too, where no line is left.
+-- The same for a run, which the store stops in its last flush, too, if no line is left.
 abbrev pub IsRunStopped : RunFault → List (List ℕ) → Type 0
 IsRunStopped (fault.Store why) [] = Unit {0}
 IsRunStopped why left = IsStopped why left
@@ -103,8 +103,8 @@ untried (fault.Store why) (line ∷ left) = left
 untried fault.Memory (line ∷ left) = left
 untried _ left = left
 
--- A run stopped: the first lines of what was read were run, their steps taken, and this became of
--- the next step. The last line, which no LF ends, was tried only where the end of the input was
+-- A run stopped: the first lines of what was read were run, their steps were taken, and this became
+-- of the next step. The last line, which no LF ends, was tried only if the end of the input was
 -- read.
 pub record RunStops {D : Type 0} (state : D → DiskState)
     (why : RunFault) (b c : BookView D) (r0 r1 w0 w1 : Option (List ℕ))
@@ -121,15 +121,14 @@ pub record RunStops {D : Type 0} (state : D → DiskState)
   pub tried : TriesLine state b why ran (next_steps left) c
   pub written : IsWritten why b.session ran left c w0 w1
 
--- What was written of a trouble's line: a front of it where the store stopped the run, else
--- nothing.
+-- What was written of a trouble's line: a prefix of it if the store stopped the run, else nothing.
 abbrev pub IsTold : RunFault → List ℕ → Type 0
 IsTold (fault.Store why) told = IsFront told (reply_line (said.Failed why))
 IsTold _ told = told ≡ []
 
--- What was written of an input begins its script: it is a front of the replies to the lines that an
--- LF ended, or, where the input was read to its end, of its script. Where the store stopped the
--- run, a front of its trouble's line stands behind.
+-- What was written of an input begins its script: it is a prefix of the replies to the lines that
+-- an LF ended, or, if the input was read to its end, of its script. If the store stopped the run, a
+-- prefix of its trouble's line follows.
 pub record BeginsScript
     (why : RunFault) (b : Session) (r0 r1 w0 w1 : Option (List ℕ))
     : Type 0 where
@@ -144,8 +143,8 @@ pub record BeginsScript
 
 -- ---- one line
 
--- A line was run, its step taken where it asks for one, and its reply was written. All events are
--- durable behind a flush and a checkpoint.
+-- A line was run, its step taken if it asks for one, and its reply was written. All events are
+-- durable after a flush and a checkpoint.
 pub record LineRuns {D : Type 0} (state : D → DiskState) (line : List ℕ) (b c : BookView D)
     (w0 w1 : Option (List ℕ)) : Type 0 where
   pub session : c.session ≡ after_line b.session line
@@ -153,9 +152,9 @@ pub record LineRuns {D : Type 0} (state : D → DiskState) (line : List ℕ) (b 
   pub written : Appends w0 w1 (reply b.session line)
   pub saved : IsSaving (asked_of line) → c.durable ≡ c.session.state.count
 
--- A line stopped. Where the writer failed, it was run, and a front of its reply was written, and
--- not all. Where the store failed in a flush or a checkpoint, that is what the step was answered,
--- and a front of the trouble's line was written. Where memory was wanting for a tally, nothing was
+-- A line stopped. If the writer failed, the line was run, and a prefix of its reply was written,
+-- and not all. If the store failed in a flush or a checkpoint, that is the answer to the step, and
+-- a prefix of the trouble's line was written. If memory was wanting for a tally, nothing was
 -- written, and the book is as it was. Neither of these changes the session.
 abbrev pub LineStops :
     {D : Type 0} → (D → DiskState) → RunFault → List ℕ → BookView D → BookView D
@@ -181,7 +180,7 @@ IsOfLine _ = Unit {0}
 
 -- ---- what a line asks for
 
--- It was done, and this is what it is replied: its step was taken, where it asks for one.
+-- It was done, and this is the reply: its step was taken, if it asks for one.
 pub record Does {D : Type 0} (state : D → DiskState) (a : Asked) (b c : BookView D)
     (answers : List Reply) : Type 0 where
   pub taken : TakesAll state b (steps_asked a) c
@@ -199,7 +198,7 @@ pub record Fails {D : Type 0} (state : D → DiskState) (a : Asked) (why : Troub
 
 -- ---- some lines
 
--- These lines were run, where `before` was gathered when they came. Of it and of their replies the
+-- These lines were run, and `before` was gathered when they came. Of it and of their replies the
 -- first bytes were written, and the rest is gathered.
 pub record Ran {D : Type 0} (state : D → DiskState)
     (lines : List (List ℕ)) (b c : BookView D) (before gathered : List ℕ) (w0 w1 : Option (List ℕ))
@@ -210,8 +209,8 @@ pub record Ran {D : Type 0} (state : D → DiskState)
   pub session : c.session ≡ after_lines b.session lines
   pub taken : TakesAll state b (steps_of lines) c
 
--- What was written of a text, by what stopped: all of it, behind it a front of the line of a
--- trouble, or, where the writer failed, a front of it and not all.
+-- What was written of a text, by what stopped: all of it, after it a prefix of the line of a
+-- trouble, or, if the writer failed, a prefix of the text and not all.
 abbrev pub Wrote : RunFault → List ℕ → Option (List ℕ) → Option (List ℕ) → Type 0
 Wrote fault.Output text old new = WritesPart old new text
 Wrote (fault.Store why) text old new = WritesTrouble why text old new
@@ -231,21 +230,21 @@ pub record Cut {D : Type 0} (state : D → DiskState)
   pub session : c.session ≡ after_lines b.session ran
   pub tried : TriesLine state b why ran (first_steps left) c
 
--- A text went behind what was gathered before: the first bytes were written, and the rest is
+-- A text was appended to what was gathered before: the first bytes were written, and the rest is
 -- gathered.
 pub record Told (text before gathered : List ℕ) (w0 w1 : Option (List ℕ)) : Type 0 where
   pub out : List ℕ
   pub written : Appends w0 w1 out
   pub told : before ++ text ≡ out ++ gathered
 
--- It did not: what was gathered before was written, where memory was wanting for the text; where
--- the writer failed, a front of both.
+-- The text was not appended. If memory was wanting for it, what was gathered before was written; if
+-- the writer failed, a prefix of both.
 abbrev pub Untold : RunFault → List ℕ → List ℕ → Option (List ℕ) → Option (List ℕ) → Type 0
 Untold fault.Output text before w0 w1 = WritesPart w0 w1 (before ++ text)
 Untold fault.Memory text before w0 w1 = Appends w0 w1 before
 Untold _ text before w0 w1 = ⊥
 
--- A trouble was told behind what was gathered before, unless the writer failed in that.
+-- A trouble was reported after what was gathered before, unless the writer failed in that.
 abbrev pub Troubled :
     RunFault → Trouble → List ℕ → Option (List ℕ) → Option (List ℕ) → Type 0
 Troubled fault.Output trouble before w0 w1 = WritesPart w0 w1 before
@@ -254,7 +253,7 @@ Troubled (fault.Store why) trouble before w0 w1 =
 Troubled _ trouble before w0 w1 = ⊥
 
 -- The end stopped, and left this book: what was gathered before was written, and after it a prefix
--- of the line of a trouble; where the writer failed, a part of what was gathered, or, once all
+-- of the line of a trouble; if the writer failed, a part of what was gathered, or, once all
 -- events are durable, of that and the closing line.
 abbrev pub EndStops : {D : Type 0} → RunFault → BookView D → (end before : List ℕ)
     → (w0 w1 : Option (List ℕ)) → Type 0
@@ -263,7 +262,7 @@ EndStops fault.Output c end before w0 w1 =
 EndStops (fault.Store why) c end before w0 w1 = WritesTrouble why before w0 w1
 EndStops _ c end before w0 w1 = ⊥
 
--- ---- a part of an input, where `begun` was begun and `before` gathered when it came
+-- ---- a part of an input, when `begun` was begun and `before` gathered when it came
 
 -- The lines that an LF ends were run, and of the line that is begun this is kept.
 pub record PartRan {D : Type 0} (state : D → DiskState)

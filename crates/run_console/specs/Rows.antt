@@ -21,8 +21,8 @@ pub record TakesAll {D : Type 0} (state : D → DiskState) (old : BookView D) (s
   pub row : StepsOn state old steps answers new
   pub fine : list_any is_fault answers ≡ false
 
--- What became of the step that was next, by what stopped: a fault of the store is its answer;
--- where the writer failed it was answered, or not tried; behind any other fault it wasn't tried.
+-- What became of the step that was next, by what stopped: a fault of the store is its answer; if
+-- the writer failed it was answered, or not tried; after any other fault it wasn't tried.
 abbrev pub Tries :
     {D : Type 0} → (D → DiskState) → BookView D → RunFault → List Step → BookView D → Type 0
 Tries state old (fault.Store why) steps new =
@@ -31,12 +31,12 @@ Tries state old fault.Output steps new =
     (new ≡ old) ⊎ ((answers : List Reply) × StepsOn state old steps answers new)
 Tries state old _ steps new = new ≡ old
 
--- The step of the first of these lines, where there is a line, and it asks for a step.
+-- The step of the first of these lines, if there is a line, and it asks for a step.
 abbrev pub first_steps : List (List ℕ) → List Step
 first_steps [] = []
 first_steps (line ∷ left) = steps_of (line ∷ [])
 
--- The step that comes next: that of the next line, or, behind the last, the closing flush.
+-- The step that comes next: that of the next line, or, after the last, the closing flush.
 abbrev pub next_steps : List (List ℕ) → List Step
 next_steps [] = step.Flush ∷ []
 next_steps (line ∷ left) = steps_of (line ∷ [])
@@ -50,6 +50,6 @@ pub record TriesLine {D : Type 0} (state : D → DiskState) (old : BookView D) (
 
 -- ---- for private functions: no public contract cites what follows
 
--- The step that is asked for, where one is.
+-- The step that is asked for, if one is.
 abbrev pub steps_asked : Asked → List Step
 steps_asked a = cons_option (step_of a) []

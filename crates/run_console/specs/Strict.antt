@@ -17,8 +17,8 @@ use Rattle.run_console.specs.Progress.{Cut, IsReached, IsRunStopped, IsWritten, 
 use Rattle.run_console.specs.Progress.{ReadsAll, untried}
 use Rattle.run_console.specs.Rows.{TakesAll, TriesLine, next_steps}
 
--- These lines stand first in what was read, with an LF behind the last of them, and fewer than so
--- many bytes were read behind it.
+-- These lines stand first in what was read, with an LF after the last of them, and fewer than so
+-- many bytes were read after it.
 pub record StandsFirst (lines : List (List ℕ)) (bytes : List ℕ) (few : ℕ) : Type 0 where
   pub front : List ℕ
   pub behind : List ℕ
@@ -32,8 +32,8 @@ abbrev pub IsReadFor : List (List ℕ) → List ℕ → Option (List ℕ) → Ty
 IsReadFor lines bytes r1 = IsAtEnd r1 ⊎ StandsFirst lines bytes 4096
 
 -- A strict run came to its end: of what was read the lines up to the first that strays were run,
--- and the strict script was written. All events are durable. Where no line strays, the input was
--- read to its end.
+-- and the strict script was written. All events are durable. If no line strays, the input was read
+-- to its end.
 pub record RunsStrictly {D : Type 0} (state : D → DiskState)
     (stray : Option StrayLine) (old new : BookView D) (r0 r1 w0 w1 : Option (List ℕ))
     : Type 0 where
@@ -68,23 +68,23 @@ pub record StopsStrictly {D : Type 0} (state : D → DiskState)
 
 -- ---- for private functions: no public contract cites what follows
 
--- None of these lines strays, where the first has the number n, and the line behind them has the
+-- None of these lines strays, when the first has the number n, and the line after them has the
 -- number m.
 pub record Clean (n m : ℕ) (s : Session) (lines : List (List ℕ)) : Type 0 where
   pub none : stray_from n s lines ≡ None
   pub next : m ≡ n + length lines
 
--- The last of these lines is the first that strays, where the first has the number n.
+-- The last of these lines is the first that strays, when the first has the number n.
 pub record Found (n : ℕ) (s : Session) (lines : List (List ℕ)) (stray : StrayLine) : Type 0 where
   pub found : stray_from n s lines ≡ Some stray
   pub all : strict_lines s lines ≡ lines
 
--- The lines of a part up to some LF: those that end in this front of it, and the one that the LF
+-- The lines of a part up to some LF: those that end in this prefix of it, and the one that the LF
 -- ends.
 abbrev pub lines_to : (begun front : List ℕ) → List (List ℕ)
 lines_to begun front = whole_lines begun front ++ open_line begun front ∷ []
 
--- A part was run up to the line that strays, where its first line has the number n.
+-- A part was run up to the line that strays, when its first line has the number n.
 pub record PartStrays {D : Type 0} (state : D → DiskState)
     (stray : StrayLine) (n : ℕ) (begun part : List ℕ) (b c : BookView D)
     (before gathered : List ℕ) (w0 w1 : Option (List ℕ))

@@ -10,7 +10,7 @@ use Rattle.book_model.specs.Books.{BookView}
 use Rattle.console_lines.specs.declared.faults.RunFault.{RunFault}
 use Rattle.console_lines.specs.declared.faults.RunFault.TheVariants as fault
 
--- What a fault of a store is to a run: want of memory is told from all else.
+-- What a fault of a store is to a run: want of memory is kept apart from all else.
 abbrev pub stopped : Fault → RunFault
 stopped of_store.Memory = fault.Memory
 stopped why = fault.Store (Faulty why)
@@ -39,8 +39,8 @@ abbrev pub Tells : {D : Type 0} → (D → DiskState) → BookView D → Trouble
 Tells state old why new = TellsSpent why new ⊎ TellsFailed state old why new
 
 -- What a fault that stopped a run over a book that wasn't broken says of its store: the fault of
--- the store tells its trouble; where the writer failed, a book that is broken had a trouble, too,
--- whose line wasn't written; behind any other fault the book isn't broken.
+-- the store gives its trouble; if the writer failed, a book that is broken had a trouble, too,
+-- whose line wasn't written; after any other fault the book isn't broken.
 abbrev pub Accounts :
     {D : Type 0} → (D → DiskState) → BookView D → RunFault → BookView D → Type 0
 Accounts state old (fault.Store why) new = Tells state old why new

@@ -33,17 +33,17 @@ use std::io::{Read, Write};
 /// Runs each line of the input over the book and writes its reply; at the end of the input it
 /// flushes, and writes the closing line.
 ///
-/// What is replied to the lines that were read is written before more is read. So where a read
-/// fails (`Input`) or the input is longer than 16,777,216 bytes (`InputTooLong`), each line that an
-/// LF ended was run and has its reply. Where a write fails or takes nothing (`Output`), what was
-/// written is a front of the replies to the lines that were run, and some of these may have none.
-/// Where the store fails in a flush or a checkpoint (`Store`), its line is written behind the
-/// replies; where there is no memory for a tally (`Memory`), each line before it has its reply. The
-/// last line, which no LF ends, is run where the end of the input is read behind it.
+/// What is replied to the lines that were read is written before more is read. So if a read fails
+/// (`Input`) or the input is longer than 16,777,216 bytes (`InputTooLong`), each line that an LF
+/// ended was run and has its reply. If a write fails or takes nothing (`Output`), what was written
+/// is a prefix of the replies to the lines that were run, and some of these may have none. If the
+/// store fails in a flush or a checkpoint (`Store`), its line is written after the replies; if
+/// there is no memory for a tally (`Memory`), each line before it has its reply. The last line,
+/// which no LF ends, is run if the end of the input is read after it.
 ///
-/// At most one byte more is read than an input may have. At every exit the session is what the
-/// lines that were run made of it, and the book carries on. Memory is taken for a tally alone. The
-/// writer isn't flushed: hand in one that keeps nothing back.
+/// At most one byte more is read than an input may have. At every exit the session is the result of
+/// the lines that were run, and the book carries on. Memory is taken for a tally alone. The writer
+/// isn't flushed: hand in one that keeps nothing back.
 ///
 /// A book that is broken is left as it is, and nothing is read or written.
 pub fn run<A: Allocator + Copy, R: Read, W: Write, D: RunDisk, B: Allocator>(
@@ -78,9 +78,9 @@ pub fn run<A: Allocator + Copy, R: Read, W: Write, D: RunDisk, B: Allocator>(
 
 /// Runs one line over the book, and writes its reply; an empty line has none.
 ///
-/// The line is run also where its reply can't be written (`Output`); of the reply a front is
-/// written then, and not all of it. A flush or a checkpoint that the store doesn't take (`Store`),
-/// and a tally that there is no memory for (`Memory`), change no state.
+/// The line is run even if its reply can't be written (`Output`); a prefix of the reply is written
+/// then, and not all of it. A flush or a checkpoint that the store doesn't take (`Store`), and a
+/// tally that there is no memory for (`Memory`), change no state.
 ///
 /// A book that is broken is left as it is, and nothing is written.
 pub fn line<A: Allocator + Copy, W: Write, D: RunDisk, B: Allocator>(
@@ -109,7 +109,7 @@ pub fn line<A: Allocator + Copy, W: Write, D: RunDisk, B: Allocator>(
     write_gathered(&mut gathered, output)
 }
 
-/// So it is over a book that isn't broken.
+/// The same over a book that isn't broken.
 fn run_sound<A: Allocator + Copy, R: Read, W: Write, D: RunDisk, B: Allocator>(
     alloc: A,
     input: &mut R,
@@ -160,8 +160,8 @@ pub fn close<W: Write, D: RunDisk, B: Allocator>(
     write_gathered(gathered, output)
 }
 
-/// Runs one line over the book, and gathers its reply; an empty line has none. It answers why the
-/// line strays, where it does. The clauses speak of each line that asks for the same, since a line
+/// Runs one line over the book, and gathers its reply; an empty line has none. It returns why the
+/// line strays, if it does. The clauses speak of each line that asks for the same, since a line
 /// that is too long is handed in without its end. There are more than six, since one line, a run
 /// and a strict run take different ones.
 pub fn gather_line<A: Allocator + Copy, W: Write, D: RunDisk, B: Allocator>(
@@ -207,7 +207,7 @@ pub fn gather_line<A: Allocator + Copy, W: Write, D: RunDisk, B: Allocator>(
 }
 
 /// Gathers how the scope of this name is. Its cause is lent by the state, since this is what is
-/// asked most often. It answers why the line strays, where it does.
+/// asked most often. It returns why the line strays, if it does.
 fn gather_look<B: Allocator>(
     name: &Name,
     state: &State<B>,
@@ -233,7 +233,7 @@ fn gather_look<B: Allocator>(
     }
 }
 
-/// Why a line of this reply strays, where it does.
+/// Why a line of this reply strays, if it does.
 fn stray_of(reply: &Option<Reply>) -> Option<Stray>
     ensures { result ≡ stray_among (option_to_list reply.now) }
 {
@@ -243,7 +243,7 @@ fn stray_of(reply: &Option<Reply>) -> Option<Stray>
     }
 }
 
-/// Says whether a line asks for a tally.
+/// Returns whether a line asks for a tally.
 fn is_tally(asked: &Asked) -> bool
     ensures { result ≡ is_tally asked.now }
 {

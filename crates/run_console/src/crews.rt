@@ -1,4 +1,4 @@
-//! A night of worker threads over a store, and what is told of it.
+//! A night of worker threads over a store, and what is printed of it.
 
 ghost use Rattle.std.specs.Prelude.{◌≡◌, ◌+◌, ◌++◌, ◌<◌, ◌≤◌, codes, length, vec_len, IfErr, IfOk};
 ghost use Rattle.std.specs.Fmt.{decimal};
@@ -26,17 +26,17 @@ use std::sync::{Mutex, Wait};
 use std::thread::Threads;
 
 /// Opens the store on a disk, works off its ready tasks by one thread for each list of jobs, as
-/// [`run_night`] does, and prints what an audit says of the night: `audit ok; starts S; finishes F`
-/// with the starts and the finishes since the opening, or `audit strayed; worker W; note K`. Behind
-/// it `acked N`, with the number of all events, which are durable then. The answer is whether the
+/// [`run_night`] does, and prints the audit of the night: `audit ok; starts S; finishes F` with the
+/// starts and the finishes since the opening, or `audit strayed; worker W; note K`. After it comes
+/// `acked N`, with the number of all events, which are durable then. The result is whether the
 /// audit is Ok.
 ///
-/// `Memory` where a growth or the start of a thread was refused; and a fault of the opening is
-/// `Store`. Nothing is printed then. Where the last flush isn't done, the audit's line alone is
-/// printed, and the fault is `Store`, too: that of a device for a book that broke before. `Output`
-/// where not all could be printed.
+/// The fault is `Memory` if a growth or the start of a thread was refused, and a fault of the
+/// opening is `Store`. Nothing is printed then. If the last flush isn't done, the audit's line
+/// alone is printed, and the fault is `Store`, too: that of a device for a book that broke before.
+/// The fault is `Output` if not all could be printed.
 ///
-/// The disk is dropped: [`crew_over`] hands it back, and so says what is left on it.
+/// The disk is dropped: [`crew_over`] hands it back, and so states what is left on it.
 pub fn crew<D: RunDisk + Drop + Send, G: Gate + Sync, R: Threads + Wait + Sync, W: Write>(
     rt: &R,
     alloc: Global,
@@ -52,9 +52,9 @@ pub fn crew<D: RunDisk + Drop + Send, G: Gate + Sync, R: Threads + Wait + Sync, 
     done
 }
 
-/// A crew's night, as [`crew`] has it, that hands the disk back. Whatever it answers, a crash at
-/// any moment since the call began leaves the state that was stored, or what a restart of it and
-/// some first of the night's starts and finishes lead to; and behind a printed `acked N`, all N.
+/// A crew's night, as [`crew`] has it, that hands the disk back. Whatever it returns, a crash at
+/// any moment since the call began leaves the state that was stored, or what a restart of it and a
+/// prefix of the night's starts and finishes lead to; and after a printed `acked N`, all N.
 pub fn crew_over<D: RunDisk + Drop + Send, G: Gate + Sync, R: Threads + Wait + Sync, W: Write>(
     rt: &R,
     alloc: Global,
@@ -84,7 +84,7 @@ pub fn crew_over<D: RunDisk + Drop + Send, G: Gate + Sync, R: Threads + Wait + S
     }
 }
 
-/// What is told of a night.
+/// What is printed of a night.
 #[derive(Clone, Copy)]
 struct Night {
     audited: Result<(), Strayed>,
@@ -130,7 +130,7 @@ fn work<
         Ok((lists, _)) => lists,
         Err(fault) => return (Err(fault), desk.into_book().into_disk()),
     };
-    // What the night's own last flush answers, no clause can tie to this desk. Behind one that was
+    // No clause can tie the answer of the night's own last flush to this desk. After one that was
     // done this one finds nothing to do.
     let flushed = desk.flush();
     let _book = desk.book();
@@ -146,7 +146,7 @@ fn work<
     (Ok(night), disk)
 }
 
-/// Prints what is told of a night. It takes no memory.
+/// Prints the lines of a night. It takes no memory.
 fn tell<W: Write>(night: &Night, output: &mut W) -> Result<bool, RunFault>
     ensures { IsTold night.now.audited night.now.starts night.now.finishes night.now.flushed
         result (W.contents output.old) (W.contents output.new) }
@@ -157,7 +157,7 @@ fn tell<W: Write>(night: &Night, output: &mut W) -> Result<bool, RunFault>
     told(night)
 }
 
-/// What is answered where all was told.
+/// What is returned if all was printed.
 fn told(night: &Night) -> Result<bool, RunFault>
     ensures { result ≡ told_of night.now.audited night.now.flushed }
 {
@@ -167,7 +167,7 @@ fn told(night: &Night) -> Result<bool, RunFault>
     }
 }
 
-/// Gathers the line of the audit and, where the last flush was done, that of what is durable.
+/// Gathers the line of the audit and, if the last flush was done, that of what is durable.
 fn gather_night(night: &Night, gathered: &mut Gathered)
     requires { array_vec_len gathered.old + 1024 ≤ 8192 }
     ensures { gathered.new.items ≡ gathered.old.items ++ (audit_line night.now.audited
@@ -203,7 +203,7 @@ fn gather_audit(night: &Night, gathered: &mut Gathered)
     }
 }
 
-/// A line of two numbers, each behind its words.
+/// A line of two numbers, each after its words.
 fn push_numbers(gathered: &mut Gathered, before: &[u8], one: u64, between: &[u8], other: u64)
     requires room { array_vec_len gathered.old + 128 ≤ 8192 }
     requires few { length before.now + length between.now ≤ 40 }
@@ -215,7 +215,7 @@ fn push_numbers(gathered: &mut Gathered, before: &[u8], one: u64, between: &[u8]
     push_last(gathered, between, other);
 }
 
-/// The second of the numbers, behind its words, and the line's end.
+/// The second of the numbers, after its words, and the line's end.
 fn push_last(gathered: &mut Gathered, between: &[u8], other: u64)
     requires { array_vec_len gathered.old + length between.now + 21 ≤ 8192 }
     ensures { Gathers gathered.old.items gathered.new.items

@@ -20,8 +20,7 @@ use std::io::Write;
 
 /// Prints a state as one object of JSON: how many events there were, the clock, the layout and how
 /// much there can be, and a list of the scopes, one of the groups and one of the tasks. It takes no
-/// memory. Where a write fails or takes nothing (`Output`), what was written is a front, and not
-/// all.
+/// memory. If a write fails or takes nothing (`Output`), what was written is a prefix, and not all.
 pub fn print_json<W: Write, B: Allocator>(state: &State<B>, output: &mut W) -> Result<(), RunFault>
     ensures whole { OnOk result (Appends (W.contents output.old) (W.contents output.new)
         (json_text state.now)) }
@@ -83,7 +82,7 @@ fn gather_last<W: Write, B: Allocator>(
     gather_bytes(b"]}\n", gathered, output)
 }
 
-/// Gathers these bytes, and behind them the entries of these rows.
+/// Gathers these bytes, and after them the entries of these rows.
 fn gather_list<W: Write, B: Allocator>(
     head: &[u8],
     rows: Rows,
@@ -101,7 +100,7 @@ fn gather_list<W: Write, B: Allocator>(
     gather_entries(rows, state, gathered, output)
 }
 
-/// Gathers the entries of these rows. What is gathered is written where there is no room for
+/// Gathers the entries of these rows. What is gathered is written when there is no room for
 /// another.
 fn gather_entries<W: Write, B: Allocator>(
     rows: Rows,
@@ -143,7 +142,7 @@ fn scope_entry<B: Allocator>(number: u16, state: &State<B>) -> Option<Entry>
     Some(Entry::Scope(number, row.parent, row.kind.copy(), look))
 }
 
-/// Gathers the entry of this number in a list, where there is one.
+/// Gathers the entry of this number in a list, if there is one.
 fn gather_entry<W: Write>(
     number: u16,
     entry: Option<Entry>,
@@ -163,7 +162,7 @@ fn gather_entry<W: Write>(
     Ok(())
 }
 
-/// Makes room for another entry: where there is none, all that was gathered is written.
+/// Makes room for another entry: if there is none, all that was gathered is written.
 pub(crate) fn make_entry_room<W: Write>(
     gathered: &mut Gathered,
     output: &mut W,

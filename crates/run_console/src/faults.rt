@@ -7,7 +7,7 @@ ghost use Rattle.run_console.specs.Troubles.{stopped};
 use console_lines::RunFault;
 use run_model::{Fault, Trouble};
 
-/// What a fault of a store is to a run: want of memory is told from all else.
+/// What a fault of a store is to a run: want of memory is kept apart from all else.
 pub fn stopped(fault: Fault) -> RunFault
     ensures { result ≡ stopped fault }
 {

@@ -134,7 +134,7 @@ fn end_line<A: Allocator + Copy, W: Write, D: RunDisk, B: Allocator>(
     Ok(())
 }
 
-/// Keeps so many of these bytes as there is room for, behind those that are kept.
+/// Keeps as many of these bytes as fit, after those that are kept.
 fn keep(bytes: &[u8], tail: &mut OpenLine)
     ensures { tail.new.items ≡ kept (tail.old.items ++ bytes.now) }
 {
@@ -145,7 +145,7 @@ fn keep(bytes: &[u8], tail: &mut OpenLine)
     }
 }
 
-/// Reads some bytes; none where the input is at its end.
+/// Reads some bytes; none when the input is at its end.
 pub fn read_some<R: Read>(input: &mut R, room: &mut [u8]) -> Result<usize, RunFault>
     ensures bound { ReadsAtMost result room.new }
     ensures bytes { ReadConsumes (R.remaining input.old) (R.remaining input.new) result room.new }

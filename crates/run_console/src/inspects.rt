@@ -15,8 +15,8 @@ use std::alloc::Allocator;
 use std::io::Write;
 
 /// Prints a state: how many events there were and the clock, and a line for each scope, each group
-/// and each task. It takes no memory. Where a write fails or takes nothing (`Output`), what was
-/// written is a front, and not all.
+/// and each task. It takes no memory. If a write fails or takes nothing (`Output`), what was
+/// written is a prefix, and not all.
 pub fn inspect<W: Write, B: Allocator>(state: &State<B>, output: &mut W) -> Result<(), RunFault>
     ensures whole { OnOk result (Appends (W.contents output.old) (W.contents output.new)
         (inspected state.now)) }
@@ -81,7 +81,7 @@ pub(crate) fn scope_row<B: Allocator>(number: u16, state: &State<B>) -> Option<&
     state.scopes().get(number as usize)
 }
 
-/// Gathers these rows of a state. What is gathered is written where there is no room for another.
+/// Gathers these rows of a state. What is gathered is written when there is no room for another.
 fn gather_rows<W: Write, B: Allocator>(
     rows: Rows,
     state: &State<B>,
@@ -100,7 +100,7 @@ fn gather_rows<W: Write, B: Allocator>(
     Ok(())
 }
 
-/// Gathers a row, where there is one.
+/// Gathers a row, if there is one.
 pub(crate) fn gather_row<W: Write>(
     row: Option<Row>,
     gathered: &mut Gathered,

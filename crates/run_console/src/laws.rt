@@ -19,8 +19,8 @@ ghost use Rattle.run_console.specs.Troubles.{Accounts};
 
 use run_disk::RunDisk;
 
-/// What is printed for a line that asks for a step is what the step was answered: the steps of
-/// lines that were run were answered as the session says, and a line's reply is that answer's line.
+/// What is printed for a line that asks for a step is the answer to the step: the steps of lines
+/// that were run were answered as the session says, and a line's reply is that answer's line.
 pub fn what_is_printed_is_what_was_answered<D: RunDisk>()
     ensures row { (old new : BookView D) (lines : List (List ℕ)) → old.journal.broken ≡ false
         → IsReached old → (taken : TakesAll D.state old (steps_of lines) new)
@@ -30,7 +30,7 @@ pub fn what_is_printed_is_what_was_answered<D: RunDisk>()
 {}
 
 /// A fault that stopped a run, a strict run or a line over a book that wasn't broken has its cause
-/// in the store: which trouble the store's fault tells, and from what. That follows from the steps
+/// in the store: which trouble the store's fault gives, and from what. That follows from the steps
 /// that were taken, and from what became of the next.
 pub fn a_fault_that_stops_a_run_has_its_cause<D: RunDisk>()
     ensures run { (why : RunFault) (b c : BookView D) (r0 r1 w0 w1 : Option (List ℕ))

@@ -3,7 +3,7 @@
 //! [`run`] runs a whole input, and [`line`] one line. What is written for a whole input is its
 //! script, as `console_lines` defines it. [`inspect`] prints a state, [`list_tasks`] the lines of
 //! its tasks alone, [`print_json`] all of it as one object of JSON, and [`print_tree`] as a tree.
-//! [`crew`] works off the tasks of a store, and tells how that ended.
+//! [`crew`] works off the tasks of a store, and prints how that ended.
 #![tactic(auto)]
 
 mod answers;

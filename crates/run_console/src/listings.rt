@@ -15,9 +15,9 @@ use std::alloc::Allocator;
 use std::io::Write;
 
 /// Prints the lines of those tasks of a state that are in this phase, by its word, and of the group
-/// of this name, as [`inspect`](crate::inspect) prints them. Where one of the two is left out, each
-/// task's is as it should be. It takes no memory. Where a write fails or takes nothing (`Output`),
-/// what was written is a front, and not all.
+/// of this name, as [`inspect`](crate::inspect) prints them. If one of the two is left out, each
+/// task's is as it should be. It takes no memory. If a write fails or takes nothing (`Output`),
+/// what was written is a prefix, and not all.
 pub fn list_tasks<W: Write, B: Allocator>(
     state: &State<B>,
     phase: Option<&str>,
@@ -37,7 +37,7 @@ pub fn list_tasks<W: Write, B: Allocator>(
     write_gathered(&mut gathered, output)
 }
 
-/// Gathers the tasks that are listed. What is gathered is written where there is no room for
+/// Gathers the tasks that are listed. What is gathered is written when there is no room for
 /// another.
 fn gather_tasks<W: Write, B: Allocator>(
     state: &State<B>,
@@ -60,7 +60,7 @@ fn gather_tasks<W: Write, B: Allocator>(
     Ok(())
 }
 
-/// The row of the task of this number, where it is listed.
+/// The row of the task of this number, if it is listed.
 fn listed_task<B: Allocator>(
     number: u16,
     state: &State<B>,

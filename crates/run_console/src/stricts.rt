@@ -1,4 +1,4 @@
-//! A strict run: it ends behind the first line that is a bad line or is refused.
+//! A strict run: it ends after the first line that is a bad line or is refused.
 
 ghost use Rattle.std.specs.Prelude.{◌≡◌, ◌<◌, ◌+◌, ◌^◌, [], Err, List, ℕ, true, false, length};
 ghost use Rattle.std.specs.Prelude.{IfErr, IfOk, OnOk};
@@ -21,15 +21,15 @@ use std::alloc::Allocator;
 use std::io::{Read, Write};
 
 /// Runs each line of the input over the book and writes its reply, as [`run`](crate::run) does, up
-/// to the first line that strays: one that is a bad line or is refused. Behind it, or at the end of
-/// the input, it flushes, and writes the closing line. It answers which line strayed, and why.
+/// to the first line that strays: one that is a bad line or is refused. After it, or at the end of
+/// the input, it flushes, and writes the closing line. It returns which line strayed, and why.
 ///
-/// What was read behind the line that strays is dropped: at most what one read gave, of 4,096
-/// bytes. Nothing of it is run, and no more is read. An input that is too long (`InputTooLong`) may
-/// have a line that strays in its first 16,777,217 bytes, which is answered then.
+/// What was read after the line that strays is dropped: at most what one read gave, of 4,096 bytes.
+/// Nothing of it is run, and no more is read. An input that is too long (`InputTooLong`) may have a
+/// line that strays in its first 16,777,217 bytes, which is returned then.
 ///
-/// Each fault is as that of `run` over the lines up to the one that strays. Where the last flush or
-/// write fails, the fault is answered, and not the line.
+/// Each fault is as that of `run` over the lines up to the one that strays. If the last flush or
+/// write fails, the fault is returned, and not the line.
 ///
 /// A book that is broken is left as it is, and nothing is read or written.
 pub fn run_strict<A: Allocator + Copy, R: Read, W: Write, D: RunDisk, B: Allocator>(
@@ -58,7 +58,7 @@ pub fn run_strict<A: Allocator + Copy, R: Read, W: Write, D: RunDisk, B: Allocat
     run_sound(alloc, input, output, book)
 }
 
-/// So it is over a book that isn't broken.
+/// The same over a book that isn't broken.
 fn run_sound<A: Allocator + Copy, R: Read, W: Write, D: RunDisk, B: Allocator>(
     alloc: A,
     input: &mut R,

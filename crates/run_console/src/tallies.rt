@@ -18,8 +18,8 @@ use run_state::State;
 use std::alloc::{AllocError, Allocator};
 use std::io::Write;
 
-/// Gathers the tally of a state's tasks. Where there is no memory for it, what was gathered before
-/// is written, and nothing of it.
+/// Gathers the tally of a state's tasks. If there is no memory for it, what was gathered before is
+/// written, and nothing of it.
 pub fn gather_tally<A: Allocator + Copy, W: Write, B: Allocator>(
     alloc: A,
     state: &State<B>,
@@ -41,8 +41,8 @@ pub fn gather_tally<A: Allocator + Copy, W: Write, B: Allocator>(
     gather_bytes(lines.as_bytes(), gathered, output)
 }
 
-/// The lines of the tally, each with its LF. It fails only for want of memory, and only where there
-/// is a line.
+/// The lines of the tally, each with its LF. It fails only for want of memory, and only if there is
+/// a line.
 #[tactic(auto, using(crate::proofs::Counting::has_line, crate::proofs::Counting::has_tally))]
 fn tally_lines<A: Allocator + Copy, B: Allocator>(
     alloc: A,
@@ -57,8 +57,8 @@ fn tally_lines<A: Allocator + Copy, B: Allocator>(
     tallies.to_lines(alloc)
 }
 
-/// What is counted of the tasks of a state. It fails only for want of memory, and only where there
-/// is a task.
+/// What is counted of the tasks of a state. It fails only for want of memory, and only if there is
+/// a task.
 fn count_tasks<A: Allocator + Copy, B: Allocator>(
     alloc: A,
     state: &State<B>,

@@ -30,8 +30,7 @@ type Parents = ArrayVec<u16, MOST_NODES>;
 
 /// Prints a state as a tree: how many events there were, the clock and how full the store is, and a
 /// line for each scope, each group and each task below that of what it belongs to. It takes no
-/// memory. Where a write fails or takes nothing (`Output`), what was written is a front, and not
-/// all.
+/// memory. If a write fails or takes nothing (`Output`), what was written is a prefix, and not all.
 pub fn print_tree<W: Write, B: Allocator>(state: &State<B>, output: &mut W) -> Result<(), RunFault>
     ensures whole { OnOk result (Appends (W.contents output.old) (W.contents output.new)
         (tree_text state.now)) }
@@ -164,7 +163,7 @@ fn gather_scope<W: Write, B: Allocator>(
     Ok(())
 }
 
-/// Gathers the line of a scope where there is room.
+/// Gathers the line of a scope when there is room.
 fn push_scope<B: Allocator>(number: u16, state: &State<B>, gathered: &mut Gathered)
     requires { array_vec_len gathered.old + LONGEST_TREE_SCOPE ≤ 8192 }
     ensures { gathered.new.items ≡ gathered.old.items ++ tree_scope state.now number }
@@ -176,7 +175,7 @@ fn push_scope<B: Allocator>(number: u16, state: &State<B>, gathered: &mut Gather
     }
 }
 
-/// What is seen of a group, and behind the groups of a task.
+/// What is seen of a group, and after the groups of a task.
 fn work_row<B: Allocator>(number: u16, state: &State<B>) -> Option<Row>
     ensures { seen_line result ≡ work_line state.now number }
 {

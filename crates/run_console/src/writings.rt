@@ -1,6 +1,6 @@
 //! What is written: replies and rows are gathered, and written many at a time.
 //!
-//! A write that fails or takes nothing ends it, and what was taken before is a front.
+//! A write that fails or takes nothing ends it, and what was taken before is a prefix.
 
 ghost use Rattle.std.specs.Option.{option_to_list};
 ghost use Rattle.std.specs.Prelude.{◌≡◌, ◌+◌, ◌≤◌, ◌++◌, [], OnOk, OnErr, IfErr};
@@ -23,7 +23,7 @@ const ROOM: usize = 8192;
 /// Replies, and rows of a state, that aren't written yet.
 pub type Gathered = ArrayVec<u8, ROOM>;
 
-/// Makes room for another reply or row: where there is none, all that was gathered is written.
+/// Makes room for another reply or row: if there is none, all that was gathered is written.
 pub fn make_room<W: Write>(gathered: &mut Gathered, output: &mut W) -> Result<(), RunFault>
     ensures told { OnOk result (Told [] gathered.old.items gathered.new.items
         (W.contents output.old) (W.contents output.new)) }
@@ -38,7 +38,7 @@ pub fn make_room<W: Write>(gathered: &mut Gathered, output: &mut W) -> Result<()
     Ok(())
 }
 
-/// Gathers a reply, where there is one.
+/// Gathers a reply, if there is one.
 pub fn gather_reply(reply: Option<Reply>, gathered: &mut Gathered)
     requires { array_vec_len gathered.old + LONGEST_REPLY ≤ 8192 }
     ensures { gathered.new.items ≡ gathered.old.items ++ reply_lines (option_to_list reply) }
@@ -48,8 +48,8 @@ pub fn gather_reply(reply: Option<Reply>, gathered: &mut Gathered)
     }
 }
 
-/// Gathers all of these bytes. Where there is no room for them, what was gathered is written, and
-/// where they are more than there ever is room for, they are, too.
+/// Gathers all of these bytes. If there is no room for them, what was gathered is written, and if
+/// they are more than there ever is room for, they are, too.
 pub fn gather_bytes<W: Write>(
     bytes: &[u8],
     gathered: &mut Gathered,
@@ -70,7 +70,7 @@ pub fn gather_bytes<W: Write>(
     }
 }
 
-/// Writes all that was gathered, and these bytes behind it.
+/// Writes all that was gathered, and these bytes after it.
 fn write_behind<W: Write>(
     bytes: &[u8],
     gathered: &mut Gathered,
@@ -86,7 +86,7 @@ fn write_behind<W: Write>(
     write_whole(output, bytes)
 }
 
-/// Writes what was gathered, and behind it the line of a trouble, as far as it goes. The fault is
+/// Writes what was gathered, and after it the line of a trouble, as far as it goes. The fault is
 /// the trouble, unless the writer failed before its line.
 pub fn stop<W: Write>(trouble: Trouble, gathered: &mut Gathered, output: &mut W) -> RunFault
     ensures { Troubled result trouble gathered.old.items

@@ -172,7 +172,7 @@ line_within s line latest h = asked_within s (asked_of line) latest h
 
 -- ---- timed lines
 
--- Behind the advance that is put before a line.
+-- After the advance that is put before a line.
 put_within : (s : Session) (later : Bool) (latest moment : ℕ)
     → clock_of s ≤ latest
     → moment ≤ GREATEST_MOMENT

@@ -1,4 +1,4 @@
--- What a weave has to give, before a byte is taken and behind it.
+-- What a weave has to give, before a byte is taken and after it.
 use Rattle.std.specs.Prelude.{◌≡◌, ◌==◌, ◌≤◌, ◌<◌, ◌+◌, drop, if◌then◌else◌, Bool, true, false}
 use Rattle.std.specs.Prelude.{ℕ, List, [], ◌∷◌, ◌++◌, length, Option, Some, None}
 use Rattle.std.specs.Option.{option_map, option_and_then}

@@ -14,7 +14,7 @@ use Rattle.timed_input.specs.Timed.{advance_line, advance_to, further, input_of,
 use Rattle.timed_input.specs.Timed.{latest_behind, timed, timed_lines}
 use Rattle.timed_input.specs.Weaving.{advance_text, left_of, moved, woven}
 
--- The timed lines behind the advance that stands before the first.
+-- The timed lines after the advance that stands before the first.
 abbrev first_timed : ℕ → List ℕ → List (List ℕ) → List (List ℕ)
 first_timed latest moments [] = []
 first_timed latest moments (line ∷ lines) =
@@ -69,7 +69,7 @@ before_input true moment lines text h e =
     ∙ sym (append_assoc (advance_line moment) (10 ∷ []) text)
 before_input false moment lines text h e = e
 
--- The lines behind an LF, where those behind it without their advance are known.
+-- The lines after an LF, where those after it without their advance are known.
 behind : (latest : ℕ) (moments bytes : List ℕ)
     → ((l : ℕ) (told : List ℕ)
     → input_of (first_timed l told (lines_of bytes)) ≡ woven l told [] bytes)

@@ -14,12 +14,12 @@ advance_text latest [] = []
 advance_text latest (moment ∷ moments) =
     if nat_lt latest moment then advance_line moment ++ 10 ∷ [] else []
 
--- The latest moment behind it.
+-- The latest moment after it.
 abbrev pub moved : ℕ → (moments : List ℕ) → ℕ
 moved latest [] = latest
 moved latest (moment ∷ moments) = max latest moment
 
--- What is given of these bytes, where a line was begun, and its moment was asked for.
+-- What is given of these bytes, when a line was begun and its moment was asked for.
 abbrev pub woven : ℕ → (moments begun bytes : List ℕ) → List ℕ
 woven latest moments begun [] = []
 woven latest moments begun (b ∷ bytes) =
@@ -28,19 +28,19 @@ woven latest moments begun (b ∷ bytes) =
     ++ woven (moved (latest_behind latest begun) moments) (drop 1 moments) [] bytes
     else b ∷ woven latest moments (kept (begun ++ b ∷ [])) bytes
 
--- So it is where it is told whether that was asked for.
+-- The same, when it is known whether that moment was asked for.
 abbrev pub left_of : (is_asked : Bool) → ℕ → (moments begun bytes : List ℕ) → List ℕ
 left_of true latest moments begun bytes = woven latest moments begun bytes
 left_of false latest moments begun bytes =
     advance_text latest moments ++ woven (moved latest moments) (drop 1 moments) begun bytes
 
--- What a weave has to give where it takes these bytes: what is ready, and what is given of them.
+-- What a weave has to give when it takes these bytes: what is ready, and what is given of them.
 abbrev pub left_in : {C : Type 0} → (C → Option (List ℕ)) → Weave C → List ℕ → Option (List ℕ)
 left_in moments w bytes =
     option_map (λ told. w.ready.items ++ left_of w.is_asked w.latest told w.line.items bytes)
     (moments w.clock)
 
--- What is left of an input; none behind its end.
+-- What is left of an input; none after its end.
 abbrev pub read_on : (is_ended : Bool) → Option (List ℕ) → Option (List ℕ)
 read_on true known = Some []
 read_on false known = known

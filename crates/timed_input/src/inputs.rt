@@ -13,18 +13,18 @@ use run_model::Moment;
 use std::io;
 use std::io::Read;
 
-/// An input whose lines come with the machine's time before them: before each line that is read,
-/// also the one behind the last LF, the clock is asked once, as the line's first byte or the end of
-/// the input was read. Where its moment is later than the latest so far, `advance MOMENT` is given
+/// An input whose lines come with the machine's time before them. Before each line that is read,
+/// also the one after the last LF, the clock is asked once, when the line's first byte or the end
+/// of the input was read. If its moment is later than the latest so far, `advance MOMENT` is given
 /// as a line before it.
 ///
 /// The latest moment so far is that of all these lines, of each line that asks for an advance
-/// itself, and the one that was handed in. So a time that steps back puts no line, and nor does one
-/// that a user's own advance went past.
+/// itself, and the one that was handed in. So a time that steps back adds no line, and neither does
+/// a time that a user's own advance went past.
 ///
-/// Bytes come in the order of the input, and nothing of them is left out. The inner input is read
-/// only where nothing of it is left to be given, at most 256 bytes at a time, and not again behind
-/// its end.
+/// Bytes come in the order of the input, and none of them is left out. The inner input is read only
+/// when nothing of it is left to be given, at most 256 bytes at a time, and not again after its
+/// end.
 #[derive(Drop)]
 pub struct TimedInput<R, C> {
     input: R,
@@ -45,7 +45,7 @@ impl<R: Read, C: MachineTime> TimedInput<R, C> {
         }
     }
 
-    /// Readies some bytes; none where the input is at its end.
+    /// Readies some bytes; none when the input is at its end.
     fn fill(&mut self) -> io::Result<()>
         requires { self.old.weave.ready.items ≡ [] }
         ensures left { Keeps (timed_left R.remaining C.moments self.old)

@@ -20,15 +20,15 @@ pub fn an_advance_line_asks_for_an_advance()
         → asked_of (advance_line moment) ≡ Asked.Step (Step.Command (Command.Advance moment)) }
 {}
 
-/// No line moves a clock past the latest moment behind it, whatever the session is.
+/// No line moves a clock past the latest moment after it, whatever the session is.
 pub fn no_line_moves_a_clock_past_the_latest_moment()
     ensures { (s : Session) (line : List ℕ) (latest : ℕ) → s.state.tree.clock ≤ latest
         → (after_line s line).state.tree.clock ≤ latest_behind latest line }
 {}
 
 /// So each advance that is put before a line is to a moment later than the clock of the state that
-/// it comes to, where the latest moment that was handed in was the clock or a later one. It is
-/// refused only where a session's log has no room for it.
+/// it comes to, if the latest moment that was handed in was the clock or a later one. It is refused
+/// only if it doesn't fit in a session's log.
 pub fn no_advance_is_behind_the_clock()
     ensures { (s : Session) (latest : ℕ) (moments : List ℕ) (lines : List (List ℕ))
         → s.state.tree.clock ≤ latest → All (λ moment. moment ≤ GREATEST_MOMENT) moments

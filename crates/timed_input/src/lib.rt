@@ -1,8 +1,8 @@
 //! An input with the machine's time before its lines.
 //!
-//! A [`TimedInput`] reads another input and asks a [`MachineTime`] before each line. Where the
-//! moment that it is then is later than all before, the line `advance MOMENT` is given first. So
-//! whoever runs the lines has its clock moved along while somebody types, and nothing else differs.
+//! A [`TimedInput`] reads another input and asks a [`MachineTime`] before each line. If the moment
+//! that it is then is later than all before, the line `advance MOMENT` is given first. So the clock
+//! of whoever runs the lines moves along while somebody types, and nothing else differs.
 #![tactic(auto)]
 
 mod inputs;

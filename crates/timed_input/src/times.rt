@@ -6,12 +6,12 @@ ghost use Rattle.timed_input.specs.Times.{TellsNext};
 use run_model::Moment;
 
 /// A clock that is asked which moment it is. The program asks the machine's; a test hands in the
-/// moments, and each of them is told once.
+/// moments, and each of them is returned once.
 pub trait MachineTime {
-    // The moments that it will tell from here on, where they are known.
+    // The moments that it will return from here on, if they are known.
     ghost moments: { Self → Option (List ℕ) } = { λ _. None };
 
-    /// The moment that it is, and `None` where that isn't known or is no moment.
+    /// The moment that it is, and `None` if that isn't known or is not a moment.
     fn now(&mut self) -> Option<Moment>
         ensures { TellsNext (moments self.old) (moments self.new) result };
 }

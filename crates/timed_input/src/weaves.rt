@@ -54,7 +54,7 @@ impl<C: MachineTime> Weave<C> {
         }
     }
 
-    /// Says whether no byte is ready.
+    /// Returns whether no byte is ready.
     pub fn is_empty(&self) -> bool
         ensures none { result ≡ true → self.now.ready.items ≡ [] }
         ensures some { result ≡ false → 0 < array_vec_len self.now.ready }
@@ -93,7 +93,7 @@ impl<C: MachineTime> Weave<C> {
         }
     }
 
-    /// Begins a line, where none was begun: where the moment that it is is later than the latest so
+    /// Begins a line, if none was begun. If the moment that it is then is later than the latest so
     /// far, an advance to it is readied.
     pub fn begin_line(&mut self)
         requires { array_vec_len self.old.ready + 21 ≤ ROOM }
@@ -129,7 +129,7 @@ impl<C: MachineTime> Weave<C> {
         self.is_asked = false;
     }
 
-    /// Gives as many of the bytes that are ready as there is room for, and says how many.
+    /// Gives as many of the bytes that are ready as fit, and returns how many.
     pub fn give(&mut self, out: &mut [u8]) -> usize
         ensures count { result ≡ min (length out.old) (array_vec_len self.old.ready) }
         ensures given { self.old.ready.items ≡ take result out.new ++ self.new.ready.items }
@@ -152,7 +152,7 @@ impl<C: MachineTime> Weave<C> {
     }
 }
 
-/// The latest moment behind what a line asks for.
+/// The latest moment after what a line asks for.
 fn latest_asked(latest: Moment, asked: &Asked) -> Moment
     ensures { result ≡ latest_asked latest asked.now }
 {

@@ -16,7 +16,7 @@ const TEXT: &[u8] = &[b'x'; 64];
 
 const REST: &[u8] = &[b'x'; 28];
 
-/// Appends pieces, one behind the other.
+/// Appends pieces, one after the other.
 fn push_all(image: &mut Vec<u8>, pieces: &[&[u8]]) -> Result<(), AllocError> {
     for piece in pieces.iter() {
         image.extend_from_slice(piece)?;
@@ -31,7 +31,7 @@ fn push_greatest_scope(image: &mut Vec<u8>, n: u16) -> Result<(), AllocError> {
     push_all(image, EXCEEDED)
 }
 
-/// What stands behind the name in the row of the greatest scope.
+/// What stands after the name in the row of the greatest scope.
 const EXCEEDED: &[&[u8]] = &[
     b"\x00\x00\x03\x00\x00\x00\x00\x00\x00\x00\x00\x40",
     TEXT,

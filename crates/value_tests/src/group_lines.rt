@@ -126,7 +126,7 @@ static BAD_LINES: [&[u8]; 52] = [
     b"tally all",
 ];
 
-/// Lines with a word that is no name, whatever stands behind it.
+/// Lines with a word that is no name, whatever stands after it.
 static BAD_NAMES: [&[u8]; 17] = [
     b"group  root",
     b"group g ",

@@ -11,7 +11,7 @@ use run_state::State;
 use std::alloc::{AllocError, Global};
 use std::process::Abort;
 
-/// Bytes one behind the other.
+/// Bytes one after the other.
 pub type Pieces = &'static [&'static [u8]];
 
 /// How many rows an image has: of scopes, of groups, and of tasks.
@@ -27,7 +27,7 @@ pub struct Head {
 }
 
 impl Head {
-    /// The head of so many rows in version 2, at clock 200 and behind ten events.
+    /// The head of so many rows in version 2, at clock 200 and after ten events.
     pub fn of(rows: Counts) -> Head {
         Head {
             version: 2,
@@ -58,7 +58,7 @@ fn joined(alloc: Global, head: Head, pieces: &[&[u8]]) -> Result<Vec<u8>, AllocE
     Ok(image)
 }
 
-/// A head and the pieces behind it.
+/// A head and the pieces after it.
 pub fn image(rt: &impl Abort, alloc: Global, head: Head, pieces: &[&[u8]]) -> Vec<u8> {
     done(rt, joined(alloc, head, pieces), "memory")
 }

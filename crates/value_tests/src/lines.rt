@@ -164,7 +164,7 @@ static BAD_LINES: [&[u8]; 45] = [
     b"value a k k",
 ];
 
-/// Lines with a word that is no name, whatever stands behind it.
+/// Lines with a word that is no name, whatever stands after it.
 static BAD_NAMES: [&[u8]; 18] = [
     b"scope ",
     b"scope a\r",

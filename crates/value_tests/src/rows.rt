@@ -108,7 +108,7 @@ const GROUP_SCOPE: ScopeRow = ScopeRow {
     hit: None,
 };
 
-/// The row of a scope that is hit, and of a group's scope with a byte behind it.
+/// The row of a scope that is hit, and of a group's scope with a byte after it.
 static SCOPES: [(&[u8], ScopeRow, &[u8]); 2] = [
     (
         b"\x01a\x00\x00\x02\x01\x00\x00\x00\x00\x00\x00\x00\x04\x00\x00\x00\x00\x00\x00\x00\
@@ -200,7 +200,7 @@ const FIRST: TaskRow = TaskRow {
     retry_of: None,
 };
 
-/// Rows of a version, the task, and what is behind it.
+/// Rows of a version, the task, and what comes after it.
 static TASKS: [(&[u8], ImageVersion, TaskRow, &[u8]); 3] = [
     (TASK_BYTES, ImageVersion::Two, TASK, b""),
     (

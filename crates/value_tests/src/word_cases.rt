@@ -64,7 +64,7 @@ pub static STORES: [Case; 8] = [
     (&["script", ""], Told::Script("", false, false)),
 ];
 
-/// A flag before and behind the store; behind `--` it is the name of a store.
+/// A flag before and after the store; after `--` it is the name of a store.
 pub static FLAGS: [Case; 12] = [
     (&["format", "--new", "a"], Told::Store("format", "a", true)),
     (&["format", "a", "--new"], Told::Store("format", "a", true)),
@@ -98,7 +98,7 @@ pub static FLAGS: [Case; 12] = [
     ),
 ];
 
-/// `--now` and `--strict`, together or one alone; behind `--` each is the name of a store.
+/// `--now` and `--strict`, together or one alone; after `--` each is the name of a store.
 pub static RUNS: [Case; 8] = [
     (&["script", "--now", "a"], Told::Script("a", false, true)),
     (&["script", "a", "--now"], Told::Script("a", false, true)),
@@ -134,7 +134,7 @@ const TASKS: View<'static> = View::Tasks {
     group: None,
 };
 
-/// The flags of a view, one alone; behind `--` each is the name of a store.
+/// The flags of a view, one alone; after `--` each is the name of a store.
 pub static VIEWS: [Case; 13] = [
     (&["inspect", "--tasks", "a"], Told::Inspect("a", TASKS)),
     (&["inspect", "a", "--tasks"], Told::Inspect("a", TASKS)),

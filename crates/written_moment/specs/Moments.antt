@@ -22,7 +22,7 @@ is_local bytes =
     && is_in 0 59 (slice_range bytes 14 16)
     && is_in 0 59 (slice_range bytes 17 19)
 
--- An offset is `Z`, or hours 0 to 23 and minutes 0 to 59 behind a sign.
+-- An offset is `Z`, or hours 0 to 23 and minutes 0 to 59 after a sign.
 unfoldable pub is_offset : List ℕ → Bool
 is_offset bytes =
     bytes_eq bytes (codes "Z")
@@ -30,28 +30,28 @@ is_offset bytes =
     && is_in 0 23 (slice_range bytes 1 3)
     && is_in 0 59 (slice_range bytes 4 6))
 
--- A date and time: its first 19 bytes are a date and a time of day, and its offset is behind them.
+-- A date and time: its first 19 bytes are a date and a time of day, and its offset follows them.
 unfoldable pub is_date_time : List ℕ → Bool
 is_date_time word = is_local (take 19 word) && is_offset (drop 19 word)
 
--- The whole seconds of an instant, where there is one. It is given in nanoseconds.
+-- The whole seconds of an instant, if there is one. The instant is given in nanoseconds.
 abbrev pub seconds_of : {E : Type 0} → Result ℤ E → Option ℤ
 seconds_of (Ok instant) = Some (int_div instant (pos 1_000_000_000))
 seconds_of (Err why) = None
 
--- The instant of a date and time is what jiff states of its reading. It may refuse one, as a day
--- that its month doesn't have.
+-- The instant of a date and time is what jiff states of its reading. jiff may refuse one, such as a
+-- day that its month doesn't have.
 abbrev pub instant_of : List ℕ → Option ℤ
 instant_of word = seconds_of (parse_timestamp word)
 
--- The moment of so many seconds since 1970-01-01T00:00:00Z, where that is a moment.
+-- The moment of so many seconds since 1970-01-01T00:00:00Z, if that is a moment.
 unfoldable pub moment_at : ℤ → Result ℕ Refusal
 moment_at (pos seconds) =
     if nat_le seconds GREATEST_MOMENT then Ok seconds else Err refusal.MomentOutOfRange
 moment_at (negsuc n) = Err refusal.MomentOutOfRange
 
--- The moment of a date and time. A year that isn't read is out of range, whatever stands behind it;
--- a word of another form, and one that jiff refuses, is none.
+-- The moment of a date and time. A year outside 1969 to 9987 is out of range, whatever follows it.
+-- A word of another form, and one that jiff refuses, has no moment.
 unfoldable pub date_time_of : List ℕ → Option (Result ℕ Refusal)
 date_time_of word =
     if not (is_date_time word) then None

@@ -5,11 +5,11 @@ use Rattle.std.specs.Char.{is_ascii_digit}
 use Rattle.std.specs.List.{list_all, zip}
 use Rattle.written_moment.specs.Numbers.{number_of}
 
--- A byte is what a byte of a shape asks for: at a `d` a digit, else that byte itself.
+-- What fits a byte of a shape: a digit if that is a `d`, else that byte itself.
 abbrev pub is_like : ℕ → ℕ → Bool
 is_like shape byte = if shape == 100 then is_ascii_digit byte else byte == shape
 
--- A word has a shape where they are of one length and each byte is what the shape asks for.
+-- A word has a shape if they are of one length and each byte fits the shape's.
 unfoldable pub has_shape : List ℕ → List ℕ → Bool
 has_shape shape word =
     length shape == length word && list_all (λ pair. is_like pair.0 pair.1) (zip shape word)

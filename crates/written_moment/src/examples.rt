@@ -17,7 +17,7 @@ pub fn digits_are_seconds()
     ensures sign { IsNoMoment "-1" }
 {}
 
-/// A date and time has an offset, which is behind its local time.
+/// A date and time has an offset, which comes after its local time.
 pub fn a_date_and_time_has_an_offset()
     ensures zulu { Writes "2024-01-01T02:00:00Z" 1704074400 }
     ensures east { Writes "2024-01-01T03:00:00+01:00" 1704074400 }
@@ -25,7 +25,7 @@ pub fn a_date_and_time_has_an_offset()
     ensures leap { Writes "2000-02-29T12:34:56Z" 951827696 }
 {}
 
-/// The form is asked before the year, and the year before the calendar.
+/// The form is checked before the year, and the year before the calendar.
 pub fn the_form_comes_before_the_year()
     ensures form { IsNoMoment "9999-12-31T24:00:00Z" }
     ensures year { IsOutOfRange "9988-02-30T00:00:00Z" }

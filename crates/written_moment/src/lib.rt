@@ -1,7 +1,8 @@
 //! Numbers and moments as a person writes them in a line.
 //!
 //! A number is 1 to 12 digits. A moment is a number of seconds since 1970-01-01T00:00:00Z, or a
-//! date and time with an offset, as `2024-01-01T03:00:00+01:00`, whose instant is what `jiff` says.
+//! date and time with an offset, as `2024-01-01T03:00:00+01:00`, whose instant is what `jiff`
+//! returns.
 #![tactic(auto)]
 
 pub mod examples;

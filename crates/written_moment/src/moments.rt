@@ -1,6 +1,6 @@
 //! A moment in a line is its seconds since 1970-01-01T00:00:00Z, or a date and time.
 //!
-//! A date and time has the form `dddd-dd-ddTdd:dd:dd` with an offset behind it: `Z`, `+dd:dd` or
+//! A date and time has the form `dddd-dd-ddTdd:dd:dd` with an offset after it: `Z`, `+dd:dd` or
 //! `-dd:dd`.
 
 ghost use Rattle.std.specs.Prelude.{◌≡◌, ◌≤◌, length, IsTrue, pos};
@@ -16,10 +16,10 @@ use std::str;
 /// How many bytes of a date and time stand before its offset.
 const LOCAL_LEN: usize = 19;
 
-/// The moment that a word writes, `MomentOutOfRange` where that is before 0 or past the greatest
-/// moment, and `None` where the word has another form or `jiff` refuses it.
+/// The moment that a word writes, `MomentOutOfRange` if that is before 0 or past the greatest
+/// moment, and `None` if the word has another form or `jiff` refuses it.
 ///
-/// A date and time of a year before 1969 or after 9987 is out of range, also where there is no such
+/// A date and time of a year before 1969 or after 9987 is out of range, even if there is no such
 /// day.
 pub fn read_moment(word: &[u8]) -> Option<Result<Moment, Refusal>>
     ensures { result ≡ moment_of word.now }
@@ -30,7 +30,7 @@ pub fn read_moment(word: &[u8]) -> Option<Result<Moment, Refusal>>
     }
 }
 
-/// The moment of a word that is no number.
+/// The moment of a word that is not a number.
 #[tactic(auto, unfolding(crate::specs::Moments::date_time_of))]
 fn read_date_time(word: &[u8]) -> Option<Result<Moment, Refusal>>
     ensures { result ≡ date_time_of word.now }
@@ -45,7 +45,7 @@ fn read_date_time(word: &[u8]) -> Option<Result<Moment, Refusal>>
     Some(moment_at(seconds))
 }
 
-/// Says whether a word has the form of a date and time.
+/// Returns whether a word has the form of a date and time.
 #[tactic(auto, unfolding(crate::specs::Moments::is_date_time))]
 fn is_date_time(word: &[u8]) -> bool
     ensures value { result ≡ is_date_time word.now }
@@ -58,7 +58,7 @@ fn is_date_time(word: &[u8]) -> bool
     is_local(local) && is_offset(offset)
 }
 
-/// Says whether these bytes have the form of a date and time, without its offset.
+/// Returns whether these bytes have the form of a date and time, without its offset.
 #[tactic(auto, unfolding(crate::specs::Moments::is_local))]
 fn is_local(bytes: &[u8]) -> bool
     ensures { result ≡ is_local bytes.now }
@@ -73,7 +73,7 @@ fn is_local(bytes: &[u8]) -> bool
         && is_in(0, 59, &bytes[17..19])
 }
 
-/// Says whether these bytes have the form of an offset.
+/// Returns whether these bytes have the form of an offset.
 #[tactic(auto, unfolding(crate::specs::Moments::is_offset))]
 fn is_offset(bytes: &[u8]) -> bool
     ensures { result ≡ is_offset bytes.now }
@@ -87,7 +87,7 @@ fn is_offset(bytes: &[u8]) -> bool
     is_in(0, 23, &bytes[1..3]) && is_in(0, 59, &bytes[4..6])
 }
 
-/// The seconds since 1970-01-01T00:00:00Z, as `jiff` reads them, and `None` where it refuses.
+/// The seconds since 1970-01-01T00:00:00Z, as `jiff` reads them, and `None` if it refuses.
 fn read_instant(word: &[u8]) -> Option<i64>
     requires { IsTrue (is_date_time word.now) }
     ensures { result ≡ instant_of word.now }

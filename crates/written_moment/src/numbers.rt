@@ -9,7 +9,7 @@ ghost use Rattle.written_moment.specs.Numbers.{is_number, number_of};
 /// The most digits of a number.
 pub const LONGEST_NUMBER: usize = 12;
 
-/// The number that a word writes, and `None` where it is no number.
+/// The number that a word writes, and `None` if it is not a number.
 #[tactic(auto, unfolding(crate::specs::Numbers::is_number))]
 pub fn read_number(word: &[u8]) -> Option<u64>
     ensures value { result ≡ number_of word.now }
@@ -22,7 +22,7 @@ pub fn read_number(word: &[u8]) -> Option<u64>
     }
 }
 
-/// Says whether a word is a number.
+/// Returns whether a word is a number.
 #[tactic(auto, unfolding(crate::specs::Numbers::is_number))]
 fn is_number(word: &[u8]) -> bool
     ensures { result ≡ is_number word.now }

@@ -1,4 +1,4 @@
-//! A shape says of each byte of a word what it has to be: `d` a digit, all else itself.
+//! A shape gives what each byte of a word has to be: `d` a digit, all else itself.
 
 ghost use Rattle.std.specs.List.{list_all, zip};
 ghost use Rattle.std.specs.Prelude.{◌≡◌, IsTrue, length};
@@ -6,7 +6,7 @@ ghost use Rattle.written_moment.specs.Shapes.{has_shape, is_like, is_in};
 
 use crate::numbers::read_number;
 
-/// Says whether a word has this shape.
+/// Returns whether a word has this shape.
 #[tactic(auto, unfolding(crate::specs::Shapes::has_shape))]
 pub(crate) fn has_shape(shape: &[u8], word: &[u8]) -> bool
     ensures value { result ≡ has_shape shape.now word.now }
@@ -15,7 +15,7 @@ pub(crate) fn has_shape(shape: &[u8], word: &[u8]) -> bool
     shape.len() == word.len() && are_like(shape, word)
 }
 
-/// Says whether a part of a word writes a number in this range.
+/// Returns whether a part of a word writes a number in this range.
 #[tactic(auto, unfolding(crate::specs::Shapes::is_in))]
 pub(crate) fn is_in(low: u64, high: u64, part: &[u8]) -> bool
     ensures { result ≡ is_in low high part.now }
@@ -32,7 +32,7 @@ fn are_like(shape: &[u8], word: &[u8]) -> bool
     shape.iter().zip(word).all(|(s, b)| is_like(*s, *b))
 }
 
-/// Says whether a byte is what a byte of a shape asks for.
+/// Returns whether a byte fits a byte of a shape.
 fn is_like(shape: u8, byte: u8) -> bool
     ensures { result ≡ is_like shape byte }
 {

@@ -27,7 +27,7 @@ pub fn add_again(rt: &impl Abort, steps: &mut Vec<Step>, call: Call, times: u64)
     }
 }
 
-/// Adds advances of the clock by one second each, behind this moment.
+/// Adds advances of the clock by one second each, after this moment.
 pub fn add_advances(rt: &impl Abort, steps: &mut Vec<Step>, from: u64, to: u64) {
     for before in from..to {
         add(rt, steps, step(rt, Call::Advance(before.saturating_add(1))));

@@ -1,4 +1,4 @@
-//! A store of version 1 behind its first opening, with one change each: what a recovery answers,
+//! A store of version 1 after its first opening, with one change each: what a recovery answers,
 //! and what an opening does.
 //!
 //! This rests on `Recovers` and `Opens`, and on the law that bytes have one meaning or one fault.
@@ -10,8 +10,8 @@ use run_model::{Fault, Phase};
 use std::alloc::Global;
 use std::process::Abort;
 
-/// Slots 0 and 1 of generations 0 and 1 with images of root alone in version 1, behind no event and
-/// behind event 1.
+/// Slots 0 and 1 of generations 0 and 1 with images of root alone in version 1, after no event and
+/// after event 1.
 const OPENED_ONCE: Puts = &[
     (0, b"\xa7\0\0\0\0\0\0\0\0\0\0\0\x17\x01"),
     (

@@ -53,13 +53,13 @@ fn a_store_that_is_cut_short_is_none(rt: HostRuntime) {
     }
 }
 
-/// A large store behind an opening and some steps, cut to a small one's size.
+/// A large store after an opening and some steps, cut to a small one's size.
 fn cut_to_small(rt: &impl Abort, alloc: Global, steps: &[Step], acked: u64) -> Vec<u8> {
     let disk = played(rt, alloc, formatted(rt, alloc, LARGE_LEN), steps, acked);
     cut(rt, alloc, &left(rt, alloc, &disk, Torn::Keep), SMALL_LEN)
 }
 
-/// What a large store saw behind its opening, the events that it acknowledged, and those that are
+/// What a large store saw after its opening, the events that it acknowledged, and those that are
 /// left of it. Slot 0 alone is left: the last image of an even generation, without a batch.
 type Left = (&'static str, &'static [Call], u64, u64);
 

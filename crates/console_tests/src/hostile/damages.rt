@@ -68,7 +68,7 @@ static ROWS: [Row; 5] = [
 /// How many events there are, how many scopes with root, and how far task 0 is.
 type Stored = (u64, usize, Option<Phase>);
 
-/// What is stored behind so many events of the night.
+/// What is stored after so many events of the night.
 fn stored_behind(events: u64) -> Stored {
     match events {
         0 | 1 => (events, 1, None),
@@ -79,7 +79,7 @@ fn stored_behind(events: u64) -> Stored {
     }
 }
 
-/// Says whether what is stored is behind so many events of the night.
+/// Says whether what is stored is the state after so many events of the night.
 fn is_behind(found: &Result<Stored, Fault>, events: u64) -> bool {
     match found {
         Ok(stored) => *stored == stored_behind(events),
@@ -87,7 +87,7 @@ fn is_behind(found: &Result<Stored, Fault>, events: u64) -> bool {
     }
 }
 
-/// How a night ends: why there is no book, or how the run ends and a line behind it.
+/// How a night ends: why there is no book, or how the run ends and a line after it.
 type End = (Option<Fault>, Result<(), RunFault>, Result<(), RunFault>);
 
 const NOT_OPENED: End = (Some(Fault::DiskFailed), Ok(()), Ok(()));
@@ -147,7 +147,7 @@ fn found(alloc: Global, disk: &mut MemoryDisk) -> Result<Stored, Fault> {
     }
 }
 
-/// How many events there are behind an opening of a disk, and how many are durable.
+/// How many events there are after an opening of a disk, and how many are durable.
 fn opened(alloc: Global, disk: MemoryDisk) -> Option<(u64, u64)> {
     match open(alloc, disk) {
         Ok(book) => Some((book.state().count(), book.durable())),
@@ -212,7 +212,7 @@ fn whole_night(rt: &impl Abort, alloc: Global) -> MemoryDisk {
 fn assert_hurt(rt: &impl Abort, alloc: Global, row: &Row, call: u64, before: &[u8]) {
     for hurt in HURTS {
         let left = hurt_night(rt, alloc, row, call, hurt);
-        // A format's eight calls and those up to the one that failed: none comes behind it.
+        // A format's eight calls and those up to the one that failed: none comes after it.
         let is_last = left.2.calls() == call.saturating_add(8);
         holds(rt, is_last, hurt.name(), call as usize);
         assert_unharmed(rt, alloc, &left, before, call);
@@ -242,7 +242,7 @@ fn counted(rt: &impl Abort, alloc: Global, bytes: Vec<u8>) -> Result<u64, Fault>
 }
 
 /// Says whether a format of zeros that fails may leave this: no store, an image of no bytes or
-/// another slot behind a gate that was torn open, or the new store.
+/// another slot after a gate that was torn open, or the new store.
 fn may_be_left(found: Result<u64, Fault>) -> bool {
     matches!(
         found,
@@ -250,7 +250,7 @@ fn may_be_left(found: Result<u64, Fault>) -> bool {
     )
 }
 
-/// Asserts that a disk can be formatted, behind a call that failed.
+/// Asserts that a disk can be formatted, after a call that failed.
 fn assert_formats(rt: &impl Abort, alloc: Global, disk: MemoryDisk, call: u64) {
     let (fault, disk) = format(disk);
     let found = counted(rt, alloc, left(rt, alloc, &disk, Torn::Keep));

@@ -31,12 +31,12 @@ pub fn disk_of(rt: &impl Abort, alloc: Global, bytes: Vec<u8>) -> MemoryDisk {
     done(rt, MemoryDisk::from_bytes(alloc, bytes), "memory")
 }
 
-/// What a crash behind all calls leaves of a disk, torn in this way.
+/// What a crash after all calls leaves of a disk, torn in this way.
 pub fn left(rt: &impl Abort, alloc: Global, disk: &MemoryDisk, torn: Torn) -> Vec<u8> {
     done(rt, disk.image(alloc, disk.calls(), torn), "memory")
 }
 
-/// What a crash behind so many calls leaves of a disk, torn in this way.
+/// What a crash after so many calls leaves of a disk, torn in this way.
 pub fn left_behind(
     rt: &impl Abort,
     alloc: Global,

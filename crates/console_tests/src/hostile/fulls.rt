@@ -1,6 +1,6 @@
 //! A session that is filled to its last byte.
 //!
-//! This rests on `reply` of `Book::command` (SessionFull behind all other refusals), on `Flushes`
+//! This rests on `reply` of `Book::command` (SessionFull after all other refusals), on `Flushes`
 //! and `Checkpoints`, and on `Opens`: the next session begins with an empty log.
 
 use crate::asserts::holds;
@@ -20,7 +20,7 @@ use test_fixtures::{Ask, Call, Said, are_same};
 /// Records of 7, 7 and 5 bytes.
 static FRONT: [Call; 3] = [Group(b"g", b"root"), Bare(b"h", b"root"), Wait(b"h")];
 
-/// Steps behind a full log.
+/// Steps after a full log.
 static BEHIND: [Call; 16] = [
     Advance(95_320),
     Derive(b"a", b"root", Ask::Cause),
@@ -64,7 +64,7 @@ static ANSWERS: [Said; 16] = [
     FULL,
 ];
 
-/// Behind those records 8 limits of 6 bytes and 95,319 advances of 11 fill a log of 1,048,576.
+/// After those records 8 limits of 6 bytes and 95,319 advances of 11 fill a log of 1,048,576.
 fn filling(rt: &impl Abort, alloc: Global) -> Vec<Step> {
     let mut steps = steps_of(rt, alloc, &FRONT);
     add_again(rt, &mut steps, Limit(b"g", Some(2)), 8);
@@ -83,7 +83,7 @@ fn assert_kept(rt: &impl Abort, alloc: Global, night: &Night, row: usize) {
     holds(rt, is_kept, "kept", row);
 }
 
-/// Asserts what is answered behind a full log, and that a flush of it is a checkpoint: a format, an
+/// Asserts what is answered after a full log, and that a flush of it is a checkpoint: a format, an
 /// opening and two checkpoints make 32 calls. Gives the disk.
 fn filled(rt: &impl Abort, alloc: Global, len: usize, row: usize) -> MemoryDisk {
     let steps = filling(rt, alloc);

@@ -1,4 +1,4 @@
-//! Random bytes behind a sound head: of a slot, an image, a batch or a record.
+//! Random bytes after a sound head: of a slot, an image, a batch or a record.
 //!
 //! What is promised of each stands in `trials`.
 
@@ -12,7 +12,7 @@ use run_model::{Fault, Step};
 use std::alloc::Global;
 use std::process::Abort;
 
-/// A store behind its first opening.
+/// A store after its first opening.
 const OPENED_ONCE: Puts = &[(0, FORMATTED), (524_288, OPENED)];
 
 /// Where slot 1's gate is.
@@ -86,7 +86,7 @@ fn likely_bytes(rt: &impl Abort, alloc: Global, dice: &mut Dice, len: usize) -> 
     bytes
 }
 
-/// The store with a head in place of what it had, and likely bytes behind that.
+/// The store with a head in place of what it had, and likely bytes after that.
 fn headed(rt: &impl Abort, alloc: Global, dice: &mut Dice, head: &Head) -> Vec<u8> {
     let mut bytes = laid(rt, alloc, SMALL_LEN, OPENED_ONCE);
     put(rt, &mut bytes, head.1, head.2);
@@ -180,7 +180,7 @@ fn records(rt: &impl Abort, alloc: Global, dice: &mut Dice) -> Vec<u8> {
     bytes
 }
 
-/// A store behind nine events: a scope `a`, a group `g` with its scope, and two ready tasks.
+/// A store after nine events: a scope `a`, a group `g` with its scope, and two ready tasks.
 const PEOPLED: Puts = &[
     (0, FORMATTED),
     (

@@ -50,7 +50,7 @@ pub const DAMAGE: u8 = 0xA7;
 #[derive(Drop)]
 pub struct HurtingDisk<D: RunDisk> {
     disk: D,
-    // how many calls are left up to the one that fails; none behind it
+    // how many calls are left up to the one that fails; none after it
     left: u64,
     hurt: Hurt,
     // the place of the write that failed, and how many bytes it had

@@ -64,7 +64,7 @@ pub struct Night {
     pub fault: Option<Fault>,
     /// A reply to each step.
     pub replies: Vec<Reply>,
-    /// All that the book showed behind the steps, if there was one.
+    /// All that the book showed after the steps, if there was one.
     pub seen: Option<Listing>,
     /// The disk as it was handed back.
     pub disk: MemoryDisk,
@@ -121,7 +121,7 @@ fn ends_with(replies: &[Reply], acked: u64) -> bool {
     }
 }
 
-/// The disk behind steps, the last of which acknowledges so many events: so each was accepted.
+/// The disk after steps, the last of which acknowledges so many events: so each was accepted.
 pub fn played(
     rt: &impl Abort,
     alloc: Global,

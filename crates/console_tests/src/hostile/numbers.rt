@@ -17,11 +17,11 @@ use std::process::Abort;
 use test_fixtures::Call::{Checkpoint, Derive, Flush, Start};
 use test_fixtures::{Ask, Call, Said};
 
-/// Slot 1 of the last generation, 2^63 - 1, with root alone behind 2^63 - 1 events.
+/// Slot 1 of the last generation, 2^63 - 1, with root alone after 2^63 - 1 events.
 const MOST: &[u8; 30] = b"\xa7\x7f\xff\xff\xff\xff\xff\xff\xff\0\0\0\x17\x02\0\0\0\0\0\0\0\0\
 \x7f\xff\xff\xff\xff\xff\xff\xff";
 
-/// Slot 0 of the generation before it, behind 2^62 events, and behind one less.
+/// Slot 0 of the generation before it, after 2^62 events, and after one less.
 const MANY: &[u8; 30] = b"\xa7\x7f\xff\xff\xff\xff\xff\xff\xfe\0\0\0\x17\x02\0\0\0\0\0\0\0\0\
 \x40\0\0\0\0\0\0\0";
 
@@ -90,7 +90,7 @@ static LAST_ANSWERS: [Said; 3] = [
     Said::Refused(Refusal::NothingReady),
 ];
 
-/// How many bytes a store has, and how many advances of 11 bytes don't fit behind a batch of 13 in
+/// How many bytes a store has, and how many advances of 11 bytes don't fit after a batch of 13 in
 /// its segment: 262,125 or 1,048,557 do.
 static LAST_OPENINGS: [(usize, u64); 2] = [(SMALL_LEN, 23_830), (LARGE_LEN, 95_324)];
 
@@ -111,7 +111,7 @@ fn assert_last_session(rt: &impl Abort, night: &Night, row: usize) {
     holds(rt, night.disk.calls() == 16, "calls", row);
 }
 
-/// Asserts that the one flush is kept, and that no opening comes behind it.
+/// Asserts that the one flush is kept, and that no opening comes after it.
 fn assert_spent(rt: &impl Abort, alloc: Global, bytes: &[u8], row: usize) {
     let found = counted(rt, alloc, bytes);
     holds(rt, found == Ok((1 << 62) + 1), "events", row);

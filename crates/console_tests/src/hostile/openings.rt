@@ -17,7 +17,7 @@ use test_fixtures::{Going, Listing, going_at, have_same_rows};
 /// An event count, and how far task 0 is.
 type Task = (u64, Option<Phase>);
 
-/// Says whether a stop behind so many calls of an opening leaves the restart: the last call syncs
+/// Says whether a stop after so many calls of an opening leaves the restart: the last call syncs
 /// the gate that the one before wrote.
 fn is_restarted(calls: u64, torn: Torn) -> bool {
     let opens = matches!(torn, Torn::Take | Torn::Fill(0xA7) | Torn::Front(1));
@@ -25,7 +25,7 @@ fn is_restarted(calls: u64, torn: Torn) -> bool {
 }
 
 /// What such a stop leaves, where task 0 runs before any opening: so many openings were done before
-/// behind nine events.
+/// after nine events.
 fn wanted(openings: u64, calls: u64, torn: Torn) -> Task {
     let openings = openings.saturating_add(u64::from(is_restarted(calls, torn)));
     let phase = if openings == 0 {
@@ -43,8 +43,8 @@ fn opened(rt: &impl Abort, alloc: Global, bytes: Vec<u8>) -> MemoryDisk {
     night.disk
 }
 
-/// Asserts what each stop of an opening leaves, which came behind so many others, the last of them
-/// stopped behind `before`.
+/// Asserts what each stop of an opening leaves, which came after so many others, the last of them
+/// stopped after `before`.
 fn assert_stops(
     rt: &impl Abort,
     alloc: Global,
@@ -64,7 +64,7 @@ fn assert_stops(
     }
 }
 
-/// Asserts what each stop of a second opening leaves behind each stop of a first one.
+/// Asserts what each stop of a second opening leaves after each stop of a first one.
 fn assert_second_stops(rt: &impl Abort, alloc: Global, first: &MemoryDisk) {
     for calls in 0..11 {
         for torn in TEARS {
@@ -75,7 +75,7 @@ fn assert_second_stops(rt: &impl Abort, alloc: Global, first: &MemoryDisk) {
     }
 }
 
-/// The disk of the first opening behind the twelve steps.
+/// The disk of the first opening after the twelve steps.
 fn first_opening(rt: &impl Abort, alloc: Global) -> MemoryDisk {
     let disk = stored(rt, alloc, SMALL_LEN, &TWELVE, 9);
     opened(rt, alloc, left(rt, alloc, &disk, Torn::Keep))
@@ -88,7 +88,7 @@ fn a_stopped_opening_is_stopped_again(rt: HostRuntime) {
     assert_second_stops(&rt, rt.alloc(), &first);
 }
 
-/// A disk behind so many openings.
+/// A disk after so many openings.
 fn opened_again(rt: &impl Abort, alloc: Global, disk: MemoryDisk, times: u64) -> MemoryDisk {
     let mut disk = disk;
     for n in 0..times {
@@ -102,7 +102,7 @@ fn opened_again(rt: &impl Abort, alloc: Global, disk: MemoryDisk, times: u64) ->
 /// Slot 0's gate, and generation 10,002: the twelve steps left 2, and each opening makes one more.
 const LAST_GENERATION: &[u8; 9] = b"\xa7\0\0\0\0\0\0\x27\x12";
 
-/// What is stored, behind that generation.
+/// What is stored, after that generation.
 fn stored_last(rt: &impl Abort, alloc: Global, disk: &MemoryDisk) -> Listing {
     let bytes = left(rt, alloc, disk, Torn::Keep);
     holds(rt, bytes.starts_with(LAST_GENERATION), "generation", 10_002);

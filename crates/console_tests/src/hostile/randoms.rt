@@ -23,7 +23,7 @@ fn live_places(rt: &impl Abort, alloc: Global, bytes: &[u8]) -> Vec<usize> {
     places
 }
 
-/// A place of a store of so many bytes: seven times in eight at most three behind one that isn't
+/// A place of a store of so many bytes: seven times in eight at most three after one that isn't
 /// zero.
 fn place(dice: &mut Dice, len: usize, live: &[usize]) -> usize {
     if dice.roll(8) == 0 {

@@ -15,7 +15,7 @@ use test_fixtures::{Ask, Call};
 /// Slot 0 of generation 0 as it is formatted: root alone, before any event.
 pub const FORMATTED: &[u8; 14] = b"\xa7\0\0\0\0\0\0\0\0\0\0\0\x17\x02";
 
-/// Slot 1 of generation 1 as it is opened once: root alone, behind event 1.
+/// Slot 1 of generation 1 as it is opened once: root alone, after event 1.
 pub const OPENED: &[u8; 30] = b"\xa7\0\0\0\0\0\0\0\x01\0\0\0\x17\x02\0\0\0\0\0\0\0\0\
 \0\0\0\0\0\0\0\x01";
 
@@ -59,7 +59,7 @@ const RUNNING: [Call; 6] = [
     Flush,
 ];
 
-/// Behind its restart: a retry, a success, a failure, and a bare group that was waited for.
+/// After its restart: a retry, a success, a failure, and a bare group that was waited for.
 const RETRIED: [Call; 11] = [
     Retry(0),
     Start,
@@ -74,7 +74,7 @@ const RETRIED: [Call; 11] = [
     Flush,
 ];
 
-/// What a store is called, how many bytes it has, and the steps behind each opening, with how many
+/// What a store is called, how many bytes it has, and the steps after each opening, with how many
 /// events the last of them acknowledges.
 pub type Real = (&'static str, usize, &'static [(&'static [Call], u64)]);
 
@@ -90,7 +90,7 @@ pub static REAL: [Real; 4] = [
     ),
 ];
 
-/// The disk of a new store behind one opening, and the steps of a table.
+/// The disk of a new store after one opening, and the steps of a table.
 pub fn stored(
     rt: &impl Abort,
     alloc: Global,

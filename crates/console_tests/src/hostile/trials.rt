@@ -30,7 +30,7 @@ pub static USES: [Call; 9] = [
     Flush,
 ];
 
-/// What each of them is answered behind a state that is opened: the opening is an event, and so is
+/// What each of them is answered after a state that is opened: the opening is an event, and so is
 /// each of them but the three that save.
 fn wanted(found: &Listing) -> [Said<'static>; 9] {
     let scope = row(found.scopes.len());
@@ -50,7 +50,7 @@ fn wanted(found: &Listing) -> [Said<'static>; 9] {
     ]
 }
 
-/// The number of a row behind so many.
+/// The number of a row after so many.
 fn row(count: usize) -> u16 {
     count.min(65_535) as u16
 }
@@ -64,7 +64,7 @@ fn calls_to(fault: Fault) -> Option<u64> {
     }
 }
 
-/// Says what an opening of bytes does that must be refused by this fault, behind so many calls.
+/// Says what an opening of bytes does that must be refused by this fault, after so many calls.
 fn refused(
     rt: &impl Abort,
     alloc: Global,

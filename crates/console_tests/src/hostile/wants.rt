@@ -46,7 +46,7 @@ fn counted(heap: &LocalHeap, disk: &mut MemoryDisk) -> Result<u64, Fault> {
     }
 }
 
-/// How many calls a disk has counted behind a recovery with each multiple of `step` bytes, up to
+/// How many calls a disk has counted after a recovery with each multiple of `step` bytes, up to
 /// the first that goes well: at most three each.
 fn recovered_at_last(rt: &impl Abort, alloc: Global, disk: &mut MemoryDisk, step: usize) -> usize {
     let mut bytes = 0;
@@ -76,7 +76,7 @@ fn assert_recovers(rt: &impl Abort, alloc: Global, size: usize, step: usize, lea
 
 #[test]
 fn each_growth_of_a_recovery_can_be_refused(rt: HostRuntime) {
-    // Both slots' buffers and the segment's are behind the state.
+    // Both slots' buffers and the segment's come after the state.
     assert_recovers(&rt, rt.alloc(), SMALL_LEN, 512, 1_310_720);
     assert_recovers(&rt, rt.alloc(), LARGE_LEN, 8_192, 5_242_880);
 }
@@ -223,7 +223,7 @@ const SECOND: Night = (
       acked 32\n",
 );
 
-/// Lines behind that night that take memory, and such as take none, each run by itself.
+/// Lines after that night that take memory, and such as take none, each run by itself.
 static LINES: [(&[u8], Option<RunFault>, &[u8]); 4] = [
     (b"tally", Some(RunFault::Memory), b""),
     (b"derive w root cause", None, b"scope 9\n"),
@@ -280,7 +280,7 @@ fn night(rt: &impl Abort, alloc: Global, size: usize) -> MemoryDisk {
     }
 }
 
-/// Asserts what both nights print, and what is stored behind them.
+/// Asserts what both nights print, and what is stored after them.
 fn assert_nights(rt: &impl Abort, alloc: Global, size: usize) {
     let disk = night(rt, alloc, size);
     let mut printed = Vec::new(alloc);

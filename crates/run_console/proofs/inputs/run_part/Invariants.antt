@@ -4,7 +4,7 @@ use Rattle.run_console.specs.Progress.{PartRan}
 use Rattle.run_console.proofs.Going.{Goes}
 use Rattle.run_console.proofs.inputs.run_part.Given as goal
 
--- The lines that end in a front of the part were run, and what is left stands behind it.
+-- The lines that end in a front of the part were run, and what is left stands after it.
 abbrev pub invariant-loop-end : goal.invariant-loop-end
 invariant-loop-end g l =
     (front : List ℕ)
