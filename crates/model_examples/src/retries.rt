@@ -57,7 +57,7 @@ pub fn only_an_interrupted_task_is_retried()
         ≡ submitted 2 phase.Ready }
 {}
 
-/// Each refusal of a retry comes before those that stand behind it here, all of which hold at once.
+/// Each refusal of a retry comes before those that stand after it here, all of which hold at once.
 pub fn a_retry_is_refused_in_this_order()
     ensures no_task { reply_of_step (two_tasks true Fresh (Some 2048) 2046 1048576) (retry 2048)
         ≡ refused refusal.NoSuchTask }

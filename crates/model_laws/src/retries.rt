@@ -16,7 +16,7 @@ pub fn a_retry_is_a_task_of_its_own()
         → IsTriedAnew p n row (step p (event.Retry n)) }
 {}
 
-/// A task is retried at most once, whatever comes behind the retry.
+/// A task is retried at most once, whatever comes after the retry.
 pub fn a_task_is_retried_once()
     ensures { (p q : State) (n : ℕ) (events : List Event) → allowed p (event.Retry n) ≡ true
         → run (step p (event.Retry n)) events ≡ Some q → allowed q (event.Retry n) ≡ false }

@@ -22,7 +22,7 @@ use Rattle.record_view.specs.RowReading.{group_row_at, task_at}
 
 -- ---- rows that are tested as they come
 
--- These rows, and so many more, each of which passes the test behind those before it.
+-- These rows, and so many more, each of which passes the test after those before it.
 abbrev pub more_at : {X : Type 0} → Reader X → (List X → X → Bool) → ℕ → List X → Reader (List X)
 more_at read test zero rows bytes = Some (rows, bytes)
 more_at read test (suc n) rows bytes = do
@@ -87,7 +87,7 @@ settled_at layout groups tasks =
     then Some (work_made layout groups tasks.0, tasks.1)
     else None
 
--- The groups and tasks that the bytes behind the scopes begin with.
+-- The groups and tasks that the bytes after the scopes begin with.
 unfoldable pub work_rows_at : Layout → ImageHead → Reader WorkState
 work_rows_at layout head bytes = do
   groups ← more_at group_row_at has_new_name head.groups [] bytes
@@ -99,13 +99,13 @@ abbrev pub has_work_room : Layout → ImageHead → Bool
 has_work_room layout head =
     nat_le head.groups MOST_GROUPS && nat_le head.tasks (most_tasks layout)
 
--- The work, in a store of this layout, that the bytes behind the scopes begin with.
+-- The work, in a store of this layout, that the bytes after the scopes begin with.
 unfoldable pub work_at : Layout → ImageHead → Reader WorkState
 work_at layout head bytes =
     if has_work_room layout head then work_rows_at layout head bytes else None
 
 -- The bytes begin with the rows of this work, which has this layout and keeps its rules, and the
--- rest is behind them.
+-- rest is after them.
 pub record AreWorkRows
     (layout : Layout) (head : ImageHead) (bytes : List ℕ) (w : WorkState) (rest : List ℕ)
     : Type 0 where

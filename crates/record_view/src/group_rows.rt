@@ -42,7 +42,7 @@ pub struct GroupRow<'a> {
     pub error: Option<&'a [u8]>,
 }
 
-/// The row of a group that the bytes begin with, and the bytes behind it; `None` exactly where they
+/// The row of a group that the bytes begin with, and the bytes after it; `None` exactly where they
 /// begin with no such row.
 pub fn read_group(bytes: &[u8]) -> Option<(GroupRow<'_>, &[u8])>
     ensures value { option_map (λ x. (group_of x.0, x.1.now)) result ≡ group_row_at bytes.now }
@@ -52,7 +52,7 @@ pub fn read_group(bytes: &[u8]) -> Option<(GroupRow<'_>, &[u8])>
     read_group_fields(bytes)
 }
 
-/// Puts the row of a group at a place, and gives the place behind it.
+/// Puts the row of a group at a place, and gives the place after it.
 pub fn put_group(out: &mut [u8], at: usize, row: &GroupRow) -> usize
     requires kept { IsTrue (is_kept_group (group_of row.now)) }
     requires room { at + length (group_bytes (group_of row.now)) ≤ length out.old }
@@ -108,7 +108,7 @@ fn read_group_fields(bytes: &[u8]) -> Option<(GroupRow<'_>, &[u8])>
     ))
 }
 
-/// A flag, and the bytes behind it.
+/// A flag, and the bytes after it.
 #[tactic(auto, unfolding(crate::specs::RowReading::flag_at, crate::specs::RowReading::flag_by))]
 fn read_flag(bytes: &[u8]) -> Option<(bool, &[u8])>
     ensures value { option_map (λ x. (x.0, x.1.now)) result ≡ flag_at bytes.now }

@@ -44,7 +44,7 @@ pub struct ImageHead {
     pub tasks: u16,
 }
 
-/// The head that the bytes begin with, and the bytes behind it; `None` exactly where
+/// The head that the bytes begin with, and the bytes after it; `None` exactly where
 /// they begin with no head whose rows are within the limits of this layout.
 pub fn read_head(bytes: &[u8], layout: Layout) -> Option<(ImageHead, &[u8])>
     ensures value { option_map (λ x. (x.0, x.1.now)) result ≡ head_at layout bytes.now }
@@ -54,7 +54,7 @@ pub fn read_head(bytes: &[u8], layout: Layout) -> Option<(ImageHead, &[u8])>
 }
 
 /// Puts the head of an image at a place, in version 2 whatever version it was read in, and gives
-/// the place behind it.
+/// the place after it.
 pub fn put_head(out: &mut [u8], at: usize, head: &ImageHead) -> usize
     requires room { at + 23 ≤ length out.old }
     ensures end { result ≡ at + 23 }
@@ -89,7 +89,7 @@ fn read_head_fields(bytes: &[u8], layout: Layout) -> Option<(ImageHead, &[u8])>
     Some((head, rest))
 }
 
-/// The version, and the bytes behind it.
+/// The version, and the bytes after it.
 #[tactic(auto, unfolding(crate::specs::RowReading::version_at))]
 fn read_version(bytes: &[u8]) -> Option<(ImageVersion, &[u8])>
     ensures { option_map (λ x. (x.0, x.1.now)) result ≡ version_at bytes.now }
@@ -102,7 +102,7 @@ fn read_version(bytes: &[u8]) -> Option<(ImageVersion, &[u8])>
     }
 }
 
-/// The count of events, and the bytes behind it.
+/// The count of events, and the bytes after it.
 #[tactic(auto, unfolding(crate::specs::RowReading::count_at))]
 fn read_count(bytes: &[u8]) -> Option<(u64, &[u8])>
     ensures { option_map (λ x. (x.0, x.1.now)) result ≡ count_at bytes.now }
@@ -114,7 +114,7 @@ fn read_count(bytes: &[u8]) -> Option<(u64, &[u8])>
     Some((count, rest))
 }
 
-/// A number of rows, which is below the bound, and the bytes behind it.
+/// A number of rows, which is below the bound, and the bytes after it.
 #[tactic(auto, unfolding(crate::specs::RowReading::fewer_at))]
 fn read_fewer(bytes: &[u8], bound: usize) -> Option<(u16, &[u8])>
     ensures { option_map (λ x. (x.0, x.1.now)) result ≡ fewer_at bound bytes.now }

@@ -59,7 +59,7 @@ pub struct TaskRow<'a> {
     pub retry_of: Option<u16>,
 }
 
-/// The row of a task, in this version, that the bytes begin with, and the bytes behind it; `None`
+/// The row of a task, in this version, that the bytes begin with, and the bytes after it; `None`
 /// exactly where they begin with no such row.
 pub fn read_task(bytes: &[u8], version: ImageVersion) -> Option<(TaskRow<'_>, &[u8])>
     ensures value { option_map (λ x. (task_of x.0, x.1.now)) result ≡ task_at version bytes.now }
@@ -69,7 +69,7 @@ pub fn read_task(bytes: &[u8], version: ImageVersion) -> Option<(TaskRow<'_>, &[
     read_task_fields(bytes, version)
 }
 
-/// Puts the row of a task, of version 2, at a place, and gives the place behind it.
+/// Puts the row of a task, of version 2, at a place, and gives the place after it.
 pub fn put_task(out: &mut [u8], at: usize, row: &TaskRow) -> usize
     requires kept { IsTrue (is_kept_task Two (task_of row.now)) }
     requires room { at + length (task_bytes Two (task_of row.now)) ≤ length out.old }
@@ -132,7 +132,7 @@ fn read_task_fields(bytes: &[u8], version: ImageVersion) -> Option<(TaskRow<'_>,
     Some((row, rest))
 }
 
-/// A stage, and the bytes behind it.
+/// A stage, and the bytes after it.
 #[tactic(auto, unfolding(crate::specs::RowReading::stage_at, crate::specs::RowReading::stage_by))]
 fn read_stage(bytes: &[u8]) -> Option<(StageView<'_>, &[u8])>
     ensures value { option_map (λ x. (stage_of x.0, x.1.now)) result ≡ stage_at bytes.now }
@@ -152,7 +152,7 @@ fn read_stage(bytes: &[u8]) -> Option<(StageView<'_>, &[u8])>
     }
 }
 
-/// A link, and the bytes behind it. In version 1 there is none.
+/// A link, and the bytes after it. In version 1 there is none.
 #[tactic(auto, unfolding(crate::specs::RowReading::link_at, crate::specs::RowReading::link_by))]
 fn read_link(bytes: &[u8], version: ImageVersion) -> Option<(Option<u16>, &[u8])>
     ensures value { option_map (λ x. (x.0, x.1.now)) result ≡ link_at version bytes.now }

@@ -4,7 +4,7 @@ use Rattle.run_disk.specs.Contents.{SameOutside, Holds, Follows}
 use Rattle.run_disk.specs.Disk.{DiskState, IsSame, IsSynced, last_moment}
 
 -- What each call does, on any disk: it is counted, and so is its failure; a crash inside it leaves
--- what a crash before it or behind it may leave; on a spent disk it fails and changes nothing.
+-- what a crash before it or after it may leave; on a spent disk it fails and changes nothing.
 pub record Calls {T E : Type 0} (old new : DiskState) (result : Result T E) : Type 0 where
   pub size : new.size ≡ old.size
   pub honest : old.honest → new.honest

@@ -38,7 +38,7 @@ FailedAt n old new =
     ⊎ ((new.clock + 1 ≡ old.clock + n) × (new.clock ≡ last_moment)
     × (new.failures ≡ old.failures))
 
--- No call is made behind the one that failed: up to some moment of the run none had failed, and
+-- No call is made after the one that failed: up to some moment of the run none had failed, and
 -- from there on one call was made, which failed.
 pub record FailedLast {D : Type 0} (state : D → DiskState) (old new : DiskState) : Type 0 where
   pub before : D
@@ -78,7 +78,7 @@ pub record LeavesOnly (P : List ℕ → Type 0) (old new : DiskState) : Type 0 w
   -- and so for moments before the run, where it is the later part of a longer one
   pub before : (t : ℕ) (x : List ℕ) → t ≤ old.clock → new.since t x → old.since t x ⊎ P x
 
--- Reads give the same behind the run, at no moment of it does a crash leave anything that one
+-- Reads give the same after the run, at no moment of it does a crash leave anything that one
 -- before it would not have left, and no more is unsure.
 pub record OnlyReads (old new : DiskState) : Type 0 where
   pub later : old.clock ≤ new.clock

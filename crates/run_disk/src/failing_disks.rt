@@ -1,5 +1,5 @@
 //! A [`FailingDisk`] is a disk over another that fails some of its calls by itself: a [`Fuse`]
-//! fails for good behind so many calls, a [`FailOnce`] fails a single one.
+//! fails for good after so many calls, a [`FailOnce`] fails a single one.
 
 ghost use Rattle.std.specs.Prelude.{◌≡◌, ◌≤◌, ◌+◌, ◌-◌, [], length, OnOk, slice_range, List, ℕ};
 ghost use Rattle.std.specs.Bool.{OnFalse, OnTrue};
@@ -18,7 +18,7 @@ pub struct ForGood;
 /// That a call fails once.
 pub struct Once;
 
-/// Passes its first calls on to the disk below, and fails each call behind them.
+/// Passes its first calls on to the disk below, and fails each call after them.
 pub type Fuse<D> = FailingDisk<D, ForGood>;
 
 /// Fails one call by itself, and passes all others on to the disk below.
@@ -31,7 +31,7 @@ pub struct FailingDisk<D: RunDisk, W> {
     disk: D,
     // the disk below as it was when this one was made
     made: Snapshot<D>,
-    // the first call that fails, and the first one behind them, counted from 0
+    // the first call that fails, and the first one after them, counted from 0
     first: u64,
     behind: u64,
     tally: Tally,

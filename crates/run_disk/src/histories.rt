@@ -30,7 +30,7 @@ impl<A: Allocator> Model for Written<A> {
 }
 
 impl<A: Allocator> Written<A> {
-    /// Puts over `image` what a crash behind the first `calls` calls leaves of this write.
+    /// Puts over `image` what a crash after the first `calls` calls leaves of this write.
     fn leave(&self, image: &mut [u8], syncs: &[u64], calls: u64, torn: Torn)
         requires { self.now.at + length self.now.bytes ≤ length image.old }
         ensures { Puts self.now.at (left_of torn syncs.now calls self.now) image.old image.new }
@@ -46,7 +46,7 @@ impl<A: Allocator> Written<A> {
     }
 }
 
-/// Says whether a sync was made behind this moment, among the first `calls` calls.
+/// Says whether a sync was made after this moment, among the first `calls` calls.
 fn is_followed(moment: u64, syncs: &[u64], calls: u64) -> bool
     ensures { result ≡ is_synced syncs.now calls moment }
 {
@@ -90,7 +90,7 @@ impl<A: Allocator> Model for History<A> {
     } };
 }
 
-/// Puts over `image` what a crash behind the first `calls` calls leaves of these writes.
+/// Puts over `image` what a crash after the first `calls` calls leaves of these writes.
 fn leave_all<A: Allocator>(
     writes: &[Written<A>],
     image: &mut [u8],
@@ -148,7 +148,7 @@ impl<A: Allocator> History<A> {
         Ok(())
     }
 
-    /// What a crash behind the first `calls` calls leaves, with each unsynced write torn this way.
+    /// What a crash after the first `calls` calls leaves, with each unsynced write torn this way.
     pub fn image(&self, alloc: A, calls: u64, torn: Torn) -> Result<Vec<u8, A>, AllocError>
         requires { All (λ w. w.at + length w.bytes ≤ length self.now.first) self.now.writes }
         ensures { IfOk result (λ image. IsTornImage torn self.now calls image.items) }

@@ -1,5 +1,5 @@
 //! A [`MemoryDisk`] keeps its bytes in memory, and each write and sync that it did, so that it can
-//! show what a crash behind any of its calls leaves.
+//! show what a crash after any of its calls leaves.
 
 ghost use Rattle.std.specs.Prelude.{◌≡◌, ◌≤◌, ◌+◌, length, slice_range, IfOk, IfErr, OnOk, OnErr};
 ghost use Rattle.std.specs.List.{All};
@@ -73,9 +73,9 @@ impl<A: Allocator + Copy> MemoryDisk<A> {
         self.tally.calls
     }
 
-    /// What a crash behind the first `after_calls` calls leaves, when it tears each write that no
+    /// What a crash after the first `after_calls` calls leaves, when it tears each write that no
     /// sync followed in this way. It is one of the contents that the disk then said a crash may
-    /// leave. It copies the disk once, and looks for a sync behind each write.
+    /// leave. It copies the disk once, and looks for a sync after each write.
     pub fn image(&self, alloc: A, after_calls: u64, torn: Torn) -> Result<Vec<u8, A>, Fault>
         requires { after_calls ≤ (⟦<MemoryDisk<A> as RunDisk>⟧.state self.now).clock }
         ensures bytes { IfOk result (λ image.

@@ -17,7 +17,7 @@ IsLast keys key n (Some c) =
     (c < n) × (slice_get keys c ≡ Some (Some key))
     × ((t : ℕ) → c < t → t < n → slice_get keys t ≡ Some (Some key) → ⊥)
 
--- The head of a key's chain is the last place of the key, behind each place stands the last one
+-- The head of a key's chain is the last place of the key, after each place stands the last one
 -- before it, and there is room for each place that can come, and for no more.
 pub record IsChained
     (places : Places) (heads nexts : List (Option ℕ)) (next_capacity : ℕ) : Type 0 where

@@ -69,7 +69,7 @@ tree_made layout head rows = record { layout = layout; clock = head.clock; scope
 abbrev pub has_tree_room : Layout → ImageHead → Bool
 has_tree_room layout head = is_moment head.clock && nat_lt head.scopes (most_scopes layout)
 
--- The tree, in a store of this layout, that the bytes behind a head begin with.
+-- The tree, in a store of this layout, that the bytes after a head begin with.
 unfoldable pub tree_at : Layout → ImageHead → Reader TreeState
 tree_at layout head bytes =
     if has_tree_room layout head

@@ -28,7 +28,7 @@ use record_view::{HitView, ImageHead, ScopeRow, put_scope, read_scope, scope_row
 use run_model::{Hit, Kind, Layout, MOST_SCOPES, Moment, Reason, Scope};
 use std::alloc::Allocator;
 
-/// Puts the rows at a place, one behind the other, and gives the place behind them.
+/// Puts the rows at a place, one after the other, and gives the place after them.
 pub fn put_rows(rows: &[Scope], out: &mut [u8], at: usize) -> usize
     requires rows { AreWritable rows.now }
     requires room { at + 192 * length rows.now ≤ length out.old }
@@ -44,7 +44,7 @@ pub fn put_rows(rows: &[Scope], out: &mut [u8], at: usize) -> usize
     end
 }
 
-/// Reads the rows of a tree of this layout behind root's, and gives its clock and the bytes behind
+/// Reads the rows of a tree of this layout after root's, and gives its clock and the bytes after
 /// its rows; `None` where the bytes begin with the rows of no such tree.
 pub fn read_behind_root<'a, A: Allocator>(
     layout: Layout,
@@ -80,7 +80,7 @@ pub fn read_behind_root<'a, A: Allocator>(
     Some((clock, rest))
 }
 
-/// Reads so many rows behind those that there are; `None` where the bytes don't begin with them, or
+/// Reads so many rows after those that there are; `None` where the bytes don't begin with them, or
 /// one of them can't follow.
 fn read_more<'a, A: Allocator>(
     scopes: &mut Vec<Scope, A>,

@@ -20,7 +20,7 @@ pub record AreFlags (holds : ℕ → Bool) (many : ℕ) (flags : List Bool) : Ty
   pub each : length flags ≡ many
   pub say : (n : ℕ) → n < many → is_flagged flags n ≡ holds n
 
--- These are the new numbers of the rows where the flagged ones are kept, and behind them how many
+-- These are the new numbers of the rows where the flagged ones are kept, and after them how many
 -- are kept.
 abbrev pub AreNewNumbers : List Bool → List ℕ → Type 0
 AreNewNumbers flags numbers = (n : ℕ) → n ≤ length flags

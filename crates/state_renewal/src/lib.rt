@@ -3,7 +3,7 @@
 //! Each function of [`examples`], [`images`] and [`renewals`] has an empty body, and its clauses
 //! are the law or the example. They speak of the definitions of `run_model` and of `Renewed` alone.
 //!
-//! The code that renews stands behind the laws: [`marks`] are flags of the rows that are kept, with
+//! The code that renews stands after the laws: [`marks`] are flags of the rows that are kept, with
 //! their new numbers; [`flags`] says which rows those are; and [`rows`] puts them, told anew, into
 //! an image.
 #![tactic(auto)]

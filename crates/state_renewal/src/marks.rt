@@ -15,7 +15,7 @@ use std::marker::Model;
 #[derive(Drop)]
 pub struct Marks<A: Allocator = Global> {
     flags: Vec<bool, A>,
-    /// The new number of each row, and behind them how many are kept.
+    /// The new number of each row, and after them how many are kept.
     numbers: Vec<u16, A>,
 }
 
@@ -50,7 +50,7 @@ impl<A: Allocator> Marks<A> {
         self.flags.as_slice()
     }
 
-    /// The new number of a row: how many before it are kept. Behind all rows it is how many are.
+    /// The new number of a row: how many before it are kept. After all rows it is how many are.
     pub fn number(&self, n: u16) -> u16
         requires known { n ≤ length self.now }
         ensures value { result ≡ new_number (is_flagged self.now) n }
@@ -76,7 +76,7 @@ pub fn flag_above(scopes: &[Scope], flags: &mut [bool])
     }
 }
 
-/// The new number of each row, by flags that say which are kept, and behind them how many are kept.
+/// The new number of each row, by flags that say which are kept, and after them how many are kept.
 /// `Memory` where the memory for them is refused.
 pub fn new_numbers<A: Allocator>(alloc: A, flags: &[bool]) -> Result<Vec<u16, A>, Fault>
     requires few { length flags.now < 2 ^ 16 }

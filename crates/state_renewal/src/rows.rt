@@ -32,7 +32,7 @@ use std::alloc::Allocator;
 use task_group::Groups;
 
 /// Puts those of these scopes that are flagged at a place, in order, each told by the new number of
-/// its parent, and gives the place behind them.
+/// its parent, and gives the place after them.
 pub fn put_scopes<A: Allocator>(
     rows: &[Scope],
     flags: &[bool],
@@ -65,7 +65,7 @@ pub fn put_scopes<A: Allocator>(
 }
 
 /// Puts those of the groups that are flagged at a place, in order, each told by the new number of
-/// its scope, and gives the place behind them.
+/// its scope, and gives the place after them.
 pub fn put_groups<A: Allocator, B: Allocator>(
     groups: &Groups<B>,
     flags: &[bool],
@@ -97,7 +97,7 @@ pub fn put_groups<A: Allocator, B: Allocator>(
 }
 
 /// Puts those of the tasks that are flagged at a place, in order, each told by the new numbers of
-/// its group and of the task that it is a retry of, and gives the place behind them.
+/// its group and of the task that it is a retry of, and gives the place after them.
 pub fn put_tasks<A: Allocator, B: Allocator>(
     groups: &Groups<B>,
     stay: &Marks<A>,

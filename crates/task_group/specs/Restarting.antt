@@ -1,4 +1,4 @@
--- How far the tasks are behind a restart.
+-- How far the tasks are after a restart.
 use Rattle.std.specs.Prelude.{◌≡◌, ℕ, true, ◌==◌, ◌&&◌, if◌then◌else◌, List, take, count_by, Some}
 use Rattle.std.specs.Prelude.{slice_get}
 use Rattle.run_model.specs.declared.tasks.Phase.TheVariants as phase

@@ -21,7 +21,7 @@ use record_view::copies::{limit_of, name_copy, optional_copy, text_copy};
 use record_view::{GroupRow, StageView, TaskRow, group_row, put_group, put_task, task_row};
 use run_model::{Group, MOST_GROUPS, Stage, Task};
 
-/// Puts the rows of groups at a place, one behind the other, and gives the place behind them.
+/// Puts the rows of groups at a place, one after the other, and gives the place after them.
 pub fn put_groups(rows: &[Group], out: &mut [u8], at: usize) -> usize
     requires room { at + 103 * length rows.now ≤ length out.old }
     ensures end { result ≡ at + length (flat_map group_bytes rows.now) }
@@ -36,7 +36,7 @@ pub fn put_groups(rows: &[Group], out: &mut [u8], at: usize) -> usize
     end
 }
 
-/// Puts the rows of tasks at a place, one behind the other, and gives the place behind them.
+/// Puts the rows of tasks at a place, one after the other, and gives the place after them.
 pub fn put_tasks(rows: &[Task], out: &mut [u8], at: usize) -> usize
     requires links { (n : ℕ) (row : TaskOf) → slice_get rows.now n ≡ Some row
         → IsTrue (is_kept_link Two row.retry_of) }

@@ -35,8 +35,8 @@ use run_model::{Fault, Group, Layout, MOST_GROUPS, Scope, Task};
 use std::alloc::Allocator;
 
 impl<A: Allocator> Groups<A> {
-    /// Writes the rows of the groups at a place, in order of number, and those of the tasks behind
-    /// them, in version 2, and gives the place behind all. A group's row has 103 bytes at most, a
+    /// Writes the rows of the groups at a place, in order of number, and those of the tasks after
+    /// them, in version 2, and gives the place after all. A group's row has 103 bytes at most, a
     /// task's 136. Takes no memory.
     pub fn write_rows(&self, out: &mut [u8], at: usize) -> usize
         requires room { at + 103 * length self.now.groups + 136 * length self.now.tasks
@@ -53,8 +53,8 @@ impl<A: Allocator> Groups<A> {
         put_tasks(&self.tasks, out, end)
     }
 
-    /// The groups and tasks that the bytes behind an image's scopes begin with, and the bytes
-    /// behind their rows: these, which are none yet, are filled with the rows. `BadImage` exactly
+    /// The groups and tasks that the bytes after an image's scopes begin with, and the bytes
+    /// after their rows: these, which are none yet, are filled with the rows. `BadImage` exactly
     /// where the bytes don't begin with so many rows as the head says, or these don't keep the
     /// rules of the work. Takes no memory.
     pub fn read_rows<'a>(
@@ -93,7 +93,7 @@ impl<A: Allocator> Groups<A> {
         fit_scopes(&self.groups, scopes) && have_groups(scopes, &self.groups)
     }
 
-    /// Reads so many groups behind those that there are. `None` where the bytes don't begin with
+    /// Reads so many groups after those that there are. `None` where the bytes don't begin with
     /// them, or one of them has the name of one before it.
     fn read_groups<'a>(&mut self, many: u16, bytes: &'a [u8]) -> Option<&'a [u8]>
         requires room { length self.old.groups + many ≤ MOST_GROUPS }
@@ -117,7 +117,7 @@ impl<A: Allocator> Groups<A> {
         Some(rest)
     }
 
-    /// Reads so many tasks behind those that there are. `None` where the bytes don't begin with
+    /// Reads so many tasks after those that there are. `None` where the bytes don't begin with
     /// them, or one of them can't come there.
     fn read_tasks<'a>(&mut self, head: &ImageHead, bytes: &'a [u8]) -> Option<&'a [u8]>
         requires room { length self.old.tasks + head.now.tasks ≤ most_tasks self.old.layout }
@@ -143,7 +143,7 @@ impl<A: Allocator> Groups<A> {
         Some(rest)
     }
 
-    /// Says whether a task can come behind those that there are.
+    /// Says whether a task can come after those that there are.
     fn can_come(&self, row: &Task) -> bool
         ensures { result ≡ can_come self.now.layout self.now.groups self.now.tasks row.now }
     {
