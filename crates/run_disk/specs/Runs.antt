@@ -14,8 +14,8 @@ pub record Passed (old new : DiskState) : Type 0 where
   pub later : old.clock ≤ new.clock
   pub failures_later : old.failures ≤ new.failures
 
--- What a run that answers for its calls does, on any disk: it is Ok only where no call failed, and
--- a fault only where a call failed or the disk is spent.
+-- What a run that answers for its calls does, on any disk: it is Ok only if no call failed, and
+-- a fault only if a call failed or the disk is spent.
 pub record Ran {T E : Type 0} (old new : DiskState) (result : Result T E) : Type 0 where
   pub size : new.size ≡ old.size
   pub honest : old.honest → new.honest
@@ -25,13 +25,13 @@ pub record Ran {T E : Type 0} (old new : DiskState) (result : Result T E) : Type
   pub fine : OnOk result (new.failures ≡ old.failures)
   pub cause : OnErr result ((old.failures < new.failures) ⊎ (new.clock ≡ last_moment))
 
--- The run makes n calls, and at a fault at most n.
+-- The run makes n calls, and if it faults at most n.
 pub record Took {T E : Type 0} (n : ℕ) (old new : DiskState) (result : Result T E) : Type 0 where
   pub exactly : OnOk result (new.clock ≡ old.clock + n)
   pub most : new.clock ≤ old.clock + n
 
--- As the disk's two counts tell it: the call of this number, counted from 1, is the last one, and
--- one call failed. It is counted, and so is its failure, unless the disk was spent before it.
+-- By the disk's two counts: the call of this number, counted from 1, is the last one, and one call
+-- failed. That call is counted, and so is its failure, unless the disk was spent before it.
 abbrev pub FailedAt : ℕ → DiskState → DiskState → Type 0
 FailedAt n old new =
     ((new.clock ≡ old.clock + n) × (new.failures ≡ old.failures + 1))
@@ -45,7 +45,7 @@ pub record FailedLast {D : Type 0} (state : D → DiskState) (old new : DiskStat
   pub fine : (state before).failures ≡ old.failures
   pub failed : FailedAt 1 (state before) new
 
--- What a run of n calls answers, on any disk: it makes them all, or those up to the first that
+-- The result of a run of n calls, on any disk: it makes them all, or those up to the first that
 -- fails, and its only fault is that one failed.
 pub record MakesCalls {D T : Type 0} (state : D → DiskState) (n : ℕ) (old new : DiskState)
     (result : Result T Fault) : Type 0 where
@@ -79,7 +79,7 @@ pub record LeavesOnly (P : List ℕ → Type 0) (old new : DiskState) : Type 0 w
   pub before : (t : ℕ) (x : List ℕ) → t ≤ old.clock → new.since t x → old.since t x ⊎ P x
 
 -- Reads give the same after the run, at no moment of it does a crash leave anything that one
--- before it would not have left, and no more is unsure.
+-- before it would not have left, and no more places are unsure.
 pub record OnlyReads (old new : DiskState) : Type 0 where
   pub later : old.clock ≤ new.clock
   pub now : new.now ≡ old.now
@@ -88,7 +88,7 @@ pub record OnlyReads (old new : DiskState) : Type 0 where
   pub before : (t : ℕ) (x : List ℕ) → t ≤ old.clock → new.since t x → old.since t x ⊎ old.images x
   pub unsure : (i : ℕ) → new.unsure i → old.unsure i
 
--- No place waits for a failed write that did not wait before.
+-- No place waits for a failed write unless it waited before.
 abbrev pub IsSurer : DiskState → DiskState → Type 0
 IsSurer old new = (i : ℕ) → new.unsure i → old.unsure i
 
@@ -101,7 +101,7 @@ pub record LeavesForGood {T E : Type 0} (step end : List ℕ → List ℕ → Ty
   pub synced : old.honest → OnOk result (IsSynced new)
   pub sure : old.honest → OnOk result (IsSurer old new)
 
--- Reads give these bytes from `at` on, and no failed write waits there: a sync makes them last.
+-- Reads give these bytes from `at` on, and no failed write waits there: a sync makes them durable.
 pub record Stands (at : ℕ) (bytes : List ℕ) (s : DiskState) : Type 0 where
   pub now : Holds at bytes s.now
   pub sure : (i : ℕ) → i < length bytes → s.unsure (at + i) → ⊥

@@ -13,7 +13,7 @@ use crate::tears::Torn;
 use std::alloc::{AllocError, Allocator};
 use std::marker::Model;
 
-/// A write that went well.
+/// A write that succeeded.
 #[derive(Drop)]
 struct Written<A: Allocator> {
     moment: u64,
@@ -46,7 +46,7 @@ impl<A: Allocator> Written<A> {
     }
 }
 
-/// Says whether a sync was made after this moment, among the first `calls` calls.
+/// Returns whether a sync was made after this moment, among the first `calls` calls.
 fn is_followed(moment: u64, syncs: &[u64], calls: u64) -> bool
     ensures { result ≡ is_synced syncs.now calls moment }
 {
@@ -70,7 +70,7 @@ fn tear(image: &mut [u8], at: usize, bytes: &[u8], torn: Torn)
     }
 }
 
-/// What a disk in memory keeps: its first bytes, and the writes and syncs that went well.
+/// What a disk in memory keeps: its first bytes, and the writes and syncs that succeeded.
 #[derive(Drop)]
 pub struct History<A: Allocator> {
     first: Vec<u8, A>,
@@ -109,7 +109,7 @@ fn leave_all<A: Allocator>(
 }
 
 impl<A: Allocator> History<A> {
-    /// Of a disk with these bytes, before its first call.
+    /// The history of a disk with these bytes, before its first call.
     pub fn new(alloc: A, first: Vec<u8, A>) -> History<A>
     where
         A: Copy,
