@@ -1,5 +1,5 @@
-//! Worked examples of the definitions: what a short night's steps are answered, and what the
-//! questions say after them.
+//! Worked examples of the definitions: the answers to a short night's steps, and what the questions
+//! return after them.
 //!
 //! Each function has an empty body, and its clauses are the example: they are computed from the
 //! definitions of `run_model` alone, without any of the code that a store runs.

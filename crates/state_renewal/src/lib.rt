@@ -1,4 +1,4 @@
-//! A renewed state: what of a state goes on where all that is finished goes, and its laws.
+//! A renewed state: what goes on of a state when all that is finished goes, and its laws.
 //!
 //! Each function of [`examples`], [`images`] and [`renewals`] has an empty body, and its clauses
 //! are the law or the example. They speak of the definitions of `run_model` and of `Renewed` alone.
