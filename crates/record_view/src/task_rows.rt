@@ -51,7 +51,7 @@ pub struct TaskRow<'a> {
     pub group: u16,
     /// The job that it does.
     pub job: &'a [u8],
-    /// The argument of the job.
+    /// The job's argument.
     pub argument: &'a [u8],
     /// How far it is.
     pub stage: StageView<'a>,

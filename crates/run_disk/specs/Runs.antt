@@ -67,7 +67,7 @@ pub record Leaves (step : List ℕ → List ℕ → Type 0) (old new : DiskState
   pub now : step old.now new.now
   pub images : Follows step old.images new.images
   pub each : Follows step old.images (new.since old.clock)
-  -- and so for moments before the run, where it is the later part of a longer one
+  -- and so for moments before the run, if it is the later part of a longer one
   pub before : (t : ℕ) (x : List ℕ) → t ≤ old.clock → new.since t x
       → old.since t x ⊎ ((y : List ℕ) × old.images y × step y x)
 
@@ -75,7 +75,7 @@ pub record Leaves (step : List ℕ → List ℕ → Type 0) (old new : DiskState
 pub record LeavesOnly (P : List ℕ → Type 0) (old new : DiskState) : Type 0 where
   pub later : old.clock ≤ new.clock
   pub each : (x : List ℕ) → new.since old.clock x → P x
-  -- and so for moments before the run, where it is the later part of a longer one
+  -- and so for moments before the run, if it is the later part of a longer one
   pub before : (t : ℕ) (x : List ℕ) → t ≤ old.clock → new.since t x → old.since t x ⊎ P x
 
 -- Reads give the same after the run, at no moment of it does a crash leave anything that one
@@ -93,7 +93,7 @@ abbrev pub IsSurer : DiskState → DiskState → Type 0
 IsSurer old new = (i : ℕ) → new.unsure i → old.unsure i
 
 -- What a run leaves of an honest disk: at every moment of it each content comes by `step`, and at
--- Ok by `end`, for good.
+-- Ok by `end`, durably.
 pub record LeavesForGood {T E : Type 0} (step end : List ℕ → List ℕ → Type 0)
     (old new : DiskState) (result : Result T E) : Type 0 where
   pub any_moment : old.honest → Leaves step old new

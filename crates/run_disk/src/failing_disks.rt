@@ -156,7 +156,7 @@ impl<D: RunDisk, W> RunDisk for FailingDisk<D, W> {
             → (x : List ℕ) → (state_of self.new).images x → (state_of self.old).images x }
     {
         if !self.passes_next() {
-            // the disk below stays as it is, also where there is nothing to write
+            // the disk below stays as it is, even if there is nothing to write
             return Err(self.tally.refuse());
         }
         let done = self.disk.write_at(at, bytes);
