@@ -1,5 +1,5 @@
-//! Values of what a view lends: names, texts, moments and limits of one's own. Each call needs the
-//! bytes, or the number, to be known to be in range.
+//! Values of what a view lends: names, texts, moments and limits of one's own. Each call requires
+//! that the bytes, or the number, are in range.
 
 ghost use Rattle.std.specs.Option.{option_copied};
 ghost use Rattle.std.specs.Prelude.{◌≡◌, IsTrue};

@@ -59,7 +59,7 @@ impl<D: RunDisk> FailingDisk<D, ForGood> {
 impl<D: RunDisk> FailingDisk<D, Once> {
     ghost use Rattle.run_disk.specs.FailingDisks.{below, calls_cut, clock_below, state_of};
 
-    /// Makes a disk over this one. The call of this number fails, counted from 1; no call is 0.
+    /// Makes a disk over this one that fails call `call`, counted from 1; no call has number 0.
     pub fn new(disk: D, call: u64) -> FailOnce<D>
         ensures call { calls_cut result ≡ record { first = call - 1; behind = call } }
         ensures below { below result ≡ disk }
