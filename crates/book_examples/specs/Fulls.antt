@@ -1,5 +1,5 @@
--- Sessions that have as many scopes, groups or tasks as there can be, or one fewer. Their names
--- aren't distinct, so no store keeps them, but the definitions answer them all.
+-- Sessions that have as many scopes, groups or tasks as fit, or one fewer. Their names aren't
+-- distinct, so no store keeps them, but the definitions answer them all.
 use Rattle.std.specs.Prelude.{ℕ, ◌-◌, true, List, [], ◌∷◌, ◌++◌, Some, None, codes, replicate}
 use Rattle.run_model.specs.declared.scopes.Kind.TheVariants as kind
 use Rattle.run_model.specs.declared.groups.Group.{Group}

@@ -35,7 +35,7 @@ new_store = opened Small
 abbrev pub IsAnswered : Night → Type 0
 IsAnswered night = replies new_store (steps_of night) ≡ map (λ line. line.1) night
 
--- ---- what is asked of the state that a night leaves
+-- ---- questions on the state that a night leaves
 
 abbrev pub state_of : Night → State
 state_of night = (session_after new_store (steps_of night)).state

@@ -17,7 +17,7 @@ use Rattle.book_examples.specs.Nights.{Night, steps_of, stopped_night, state_of}
 abbrev pub opened_again : Session → Session
 opened_again s = begun_at (step s.state Restart)
 
--- The session behind a night's steps, from this one.
+-- The session after a night's steps, from this one.
 abbrev pub after_night : Session → Night → Session
 after_night s night = session_after s (steps_of night)
 
@@ -39,7 +39,7 @@ retried_once =
 abbrev pub retried_store : Session
 retried_store = after_night one_interrupted retried_once
 
--- The retry is started behind the task before it.
+-- The retry is started after the task before it.
 abbrev pub retry_started : Night
 retry_started =
     (start, started_late 9 1 "copy" "b")

@@ -10,7 +10,7 @@ use Rattle.book_examples.specs.Nights.{new_store}
 use Rattle.book_examples.specs.Calls.{group, go, wait, start, finish, derive, cancel, advance}
 use Rattle.book_examples.specs.Calls.{flush, checkpoint, scope_made, done, refused, acked, faulty}
 
--- The session behind these steps, if its log had so many bytes.
+-- The session after these steps, if its log had so many bytes.
 abbrev pub with_log : ℕ → List Step → Session
 with_log log steps = record (session_after new_store steps) { log = log }
 

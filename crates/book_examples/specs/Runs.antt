@@ -1,4 +1,4 @@
--- Two events, and the states behind each.
+-- Two events, and the states after each.
 use Rattle.std.specs.Prelude.{List, [], ◌∷◌}
 use Rattle.run_model.specs.Event.{Event}
 use Rattle.run_model.specs.Event as event

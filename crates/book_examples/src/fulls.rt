@@ -11,7 +11,7 @@ ghost use Rattle.book_examples.specs.Calls.{try_go, wait};
 ghost use Rattle.book_examples.specs.Calls.{bare_made, group_made, refused, scope_made, submitted};
 ghost use Rattle.book_examples.specs.Fulls.{past_moments, session_in};
 
-/// The last scope, group and task that a small store has room for.
+/// The last scope, group and task that fit in a small store.
 pub fn the_last_ones_of_a_small_store_are_accepted()
     ensures scope { reply_of_step (session_in Small 1023 3 0) (derive "a" "root" Cause)
         ≡ scope_made 1023 }
@@ -26,9 +26,9 @@ pub fn the_last_ones_of_a_small_store_are_accepted()
         ≡ submitted 2047 phase.Ready }
 {}
 
-/// There is no room for one more scope, group or task of a small store. Want of room for the scope
-/// of a group comes before that for the group, a group that was waited for before want of room for
-/// a task, and that before the limit.
+/// One more scope, group or task doesn't fit in a small store. Want of room for the scope of a
+/// group comes before that for the group, a group that was waited for before want of room for a
+/// task, and that before the limit.
 pub fn one_more_in_a_small_store_is_refused()
     ensures scope { reply_of_step (session_in Small 1024 3 0) (derive "a" "root" Cause)
         ≡ refused refusal.TooManyScopes }
@@ -52,7 +52,7 @@ pub fn one_more_in_a_small_store_is_refused()
         ≡ refused refusal.AtLimit }
 {}
 
-/// What isn't there and what is taken is asked before there is room; room for a scope before a
+/// What isn't there and what is taken is checked before there is room; room for a scope before a
 /// timeout's moment.
 pub fn names_are_asked_before_room()
     ensures group { reply_of_step (session_in Small 1024 128 0) (group "g" "nobody")
@@ -79,7 +79,7 @@ pub fn names_are_asked_before_room()
         ≡ refused refusal.NoSuchGroup }
 {}
 
-/// A full log is asked last.
+/// A full log is checked last.
 pub fn a_full_log_is_asked_last()
     ensures start { reply_of_step (record (session_in Small 1 3 0) { log = 1048576 }) start
         ≡ refused refusal.NothingReady }
@@ -93,8 +93,8 @@ pub fn a_full_log_is_asked_last()
         (go "open" "copy" "a") ≡ refused refusal.SessionFull }
 {}
 
-/// A large store has room for 4,096 scopes, root among them, for 8,192 tasks, and for as many
-/// groups as a small one.
+/// In a large store fit 4,096 scopes, root among them, 8,192 tasks, and as many groups as in a
+/// small one.
 pub fn a_large_store_has_room_for_more()
     ensures last_scope { reply_of_step (session_in Large 4095 3 0) (derive "a" "root" Cause)
         ≡ scope_made 4095 }

@@ -1,4 +1,4 @@
-//! Examples of groups: limits, first errors, waits, and a stop in the middle.
+//! Examples of groups: limits, first errors, waits, and a crash in the middle.
 
 ghost use Rattle.std.specs.Option.{option_and_then};
 ghost use Rattle.std.specs.Prelude.{◌≡◌, [], ◌∷◌, true, false, Some, None, codes, slice_get};
@@ -53,7 +53,7 @@ pub fn a_bare_group_ends_no_scope()
     ensures count { (state_of bare_group).count ≡ 5 }
 {}
 
-/// What isn't there or is taken is refused, and a refused step is no event.
+/// If something isn't there or is taken, the step is refused, and a refused step is not an event.
 pub fn refused_steps_are_no_events()
     ensures answers { IsAnswered refused_calls }
     ensures count { (state_of refused_calls).count ≡ 3 }
@@ -97,7 +97,7 @@ pub fn a_running_task_is_interrupted()
     ensures again { reopened 2 stopped_night ≡ record (reopened 1 stopped_night) { count = 8 } }
 {}
 
-/// A scope that isn't there is asked before a name that is taken, and a task that isn't there
+/// A scope that isn't there is checked before a name that is taken, and a task that isn't there
 /// before whether it runs. One name can be a bare group's and a scope's.
 pub fn what_is_not_there_is_asked_first()
     ensures { IsAnswered two_reasons }

@@ -45,7 +45,7 @@ pub fn a_retry_is_retried_by_its_own_number()
         ≡ map (λ line. line.1) retried_again }
 {}
 
-/// A task that ended by itself is no interrupted one, and nor is one that runs.
+/// A task that ended by itself is not an interrupted one, nor is one that runs.
 pub fn only_an_interrupted_task_is_retried()
     ensures running { reply_of_step (two_tasks false Running None 0 0) (retry 0)
         ≡ refused refusal.NotInterrupted }
@@ -57,7 +57,7 @@ pub fn only_an_interrupted_task_is_retried()
         ≡ submitted 2 phase.Ready }
 {}
 
-/// Each refusal of a retry comes before those that stand behind it here, all of which hold at once.
+/// Each refusal of a retry comes before those that stand after it here, all of which hold at once.
 pub fn a_retry_is_refused_in_this_order()
     ensures no_task { reply_of_step (two_tasks true Fresh (Some 2048) 2046 1048576) (retry 2048)
         ≡ refused refusal.NoSuchTask }

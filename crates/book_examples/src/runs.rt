@@ -1,4 +1,4 @@
-//! Examples of runs: which events are allowed, and the fronts of a list of them.
+//! Examples of runs: which events are allowed, and the prefixes of a list of them.
 
 ghost use Rattle.std.specs.Prelude.{◌≡◌, Some, None};
 ghost use Rattle.run_model.specs.declared.layouts.Layout.TheVariants.{Small};
@@ -16,8 +16,8 @@ pub fn a_restart_is_always_allowed()
     ensures start { after new_store.state (event.Start 0) ≡ None }
 {}
 
-/// Where the first of two events is acknowledged, a stop leaves what one or both lead to; and no
-/// stop leaves what holds a third.
+/// If the first of two events is acknowledged, a crash leaves what one or both lead to; and no
+/// crash leaves what holds a third.
 pub fn fronts_hold_what_is_acknowledged()
     ensures one { IsFront new_store.state two_advances 1 at_seven }
     ensures both { IsFront new_store.state two_advances 1 at_eight }

@@ -129,7 +129,7 @@ pub fn deadlines_stop_at_a_detached_scope()
     ensures count { (state_of deadlines_round_a_detached_scope).count ≡ 7 }
 {}
 
-/// The first deadline that passes on a chain is the cause, also where an own one passes later.
+/// The first deadline that passes on a chain is the cause, even if an own one passes later.
 pub fn the_first_deadline_on_the_chain_is_the_cause()
     ensures answers { IsAnswered nested_deadlines }
     ensures cause { cause_after nested_deadlines 3 ≡ Some (codes "ten") }

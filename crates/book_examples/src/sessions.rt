@@ -24,7 +24,7 @@ pub fn a_start_keeps_room_for_the_finish()
         ≡ refused refusal.SessionFull ∷ [] }
 {}
 
-/// A finish is accepted where nothing else is, and its record of 6 bytes is in the log.
+/// A finish is accepted when nothing else is, and its record of 6 bytes is in the log.
 pub fn a_finish_always_has_room()
     ensures answers { replies (with_log 1048491 one_ready) start_and_finish
         ≡ started 4 0 "copy" "a" ∷ finished 5 ∷ [] }
@@ -41,7 +41,7 @@ pub fn a_repeated_wait_needs_no_room()
         ≡ waited ∷ refused refusal.SessionFull ∷ [] }
 {}
 
-/// An event is acknowledged where a save behind it was done.
+/// An event is acknowledged if a save after it was done.
 pub fn what_a_save_acknowledges()
     ensures answers { replies new_store three_saves ≡ all_saved }
     ensures all { acknowledged new_store three_saves all_saved

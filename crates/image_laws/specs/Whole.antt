@@ -14,7 +14,7 @@ use Rattle.record_view.specs.WorkRows.{work_at}
 abbrev pub whole : ImageHead → TreeState → WorkState → State
 whole head tree work = record { count = head.count; tree = tree; work = work }
 
--- The version and the state of a head, a tree and the work that fit together, with nothing behind.
+-- The version and state of a head, a tree and the work that fit together, with nothing after them.
 abbrev pub joined :
     ImageHead → TreeState → WorkState × List ℕ → Option (ImageVersion × State)
 joined head tree work =

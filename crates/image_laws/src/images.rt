@@ -1,7 +1,7 @@
 //! Laws of a state that is read from an image, part by part: that the parts together are the whole.
 //!
 //! Each function has an empty body, and its clause is the law. The parts are read by functions of
-//! `specs/`; here stands that these give a state exactly where the bytes are its image.
+//! `specs/`; here stands that these give a state exactly when the bytes are its image.
 
 ghost use Rattle.std.specs.Prelude.{◌≡◌, ◌↔◌, List, ℕ, Some, IsTrue};
 ghost use Rattle.run_model.specs.declared.layouts.Layout.{Layout};
@@ -23,7 +23,7 @@ pub fn the_rules_have_three_parts()
         AreWorkRules p.work → AreCrossRules p → IsConsistent p }
 {}
 
-/// Where the work keeps its rules, the test of both row lists tells whether the rules between the
+/// If the work keeps its rules, the test of both row lists returns whether the rules between the
 /// two hold.
 pub fn the_rules_between_are_tested()
     ensures { (p : State) → AreWorkRules p.work →

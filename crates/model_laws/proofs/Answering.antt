@@ -20,7 +20,7 @@ use Rattle.std.specs.Prelude.{not}
 use Rattle.std.specs.List.{list_all}
 use Rattle.model_laws.proofs.Passing.{new_decide, repeated_decide}
 
--- ---- the decision behind an answer
+-- ---- the decision that an answer comes from
 
 pub state_of_event : (s : Session) (o : Option Event)
     → (with_event s o).state ≡ state_after s.state o

@@ -15,24 +15,24 @@ use Rattle.run_model.specs.Rules.{IsWellFormed}
 abbrev pub AreEarlier : List Scope → ℕ → Type 0
 AreEarlier rows e = (s : ℕ) (hit : Hit) → own_hit rows s ≡ Some hit → hit.event < e
 
--- Each hit came with an event before this hit's, or is equal to it: so it is where a restart ends
+-- Each hit came with an event before this hit's, or is equal to it: that is so when a restart ends
 -- several groups.
 abbrev pub AreLevel : List Scope → Hit → Type 0
 AreLevel rows hit = (s : ℕ) (h : Hit) → own_hit rows s ≡ Some h
     → (h.event < hit.event) ⊎ (h ≡ hit)
 
--- Each scope that was done is done still, by the same hit: so for the same reason and with the same
+-- Each scope that was done is still done, by the same hit: so for the same reason and with the same
 -- cause.
 abbrev pub EndingsStay : List Scope → List Scope → Type 0
 EndingsStay old new = (s : ℕ) (hit : Hit) → ending old s ≡ Some hit → ending new s ≡ Some hit
 
--- A change of a tree that event e makes leaves the endings as they are, where each hit that was
--- there came before.
+-- A change of a tree that event e makes leaves the endings as they are, if each hit that was there
+-- came before.
 abbrev pub KeepsEndings : ℕ → (TreeState → TreeState) → TreeState → Type 0
 KeepsEndings e change t = AreOrdered t.scopes → AreEarlier t.scopes e
     → EndingsStay t.scopes (change t).scopes
 
--- A derive leaves the endings as they are, where the parent is there.
+-- A derive leaves the endings as they are, if the parent is there.
 abbrev pub DerivesKeepEndings : Type 0
 DerivesKeepEndings = (e : ℕ) (name : List ℕ) (parent : ℕ) (kind : Kind) (t : TreeState)
     → parent < length t.scopes → KeepsEndings e (after_derive e name parent kind) t

@@ -6,7 +6,7 @@ use Rattle.run_model.specs.State.{WorkState}
 use Rattle.run_model.specs.Tasks.{is_unfinished, is_admitted, is_ready}
 use Rattle.std.specs.List.{range_with_len}
 
--- A task is the least ready one where it is ready, and no ready task has a lesser number.
+-- A task is the least ready one if it is ready, and no ready task has a lesser number.
 pub record IsLeastReady (w : WorkState) (n : ℕ) : Type 0 where
   pub ready : is_ready w n ≡ true
   pub least : (m : ℕ) → is_ready w m ≡ true → n ≤ m

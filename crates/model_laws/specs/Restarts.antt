@@ -1,4 +1,4 @@
--- What a restart leaves of a state.
+-- The result of a restart on a state.
 use Rattle.std.specs.List.{list_any}
 use Rattle.std.specs.Option.{option_map, option_map_or}
 use Rattle.std.specs.Prelude.{◌≡◌, ℕ, ◌+◌, ◌==◌, Bool, false, not, ◌&&◌, if◌then◌else◌, List, map}
@@ -31,12 +31,12 @@ abbrev pub stage_restarted : Stage → Stage
 stage_restarted stage.Running = stage.Interrupted
 stage_restarted other = other
 
--- A group has the error that it had, else `interrupted` where a task of it was running.
+-- A group has the error that it had, otherwise `interrupted` if a task of it was running.
 abbrev pub error_restarted : Bool → Option (List ℕ) → Option (List ℕ)
 error_restarted running (Some text) = Some text
 error_restarted running None = if running then Some (codes "interrupted") else None
 
--- A scope has the hit that it had, else this one where it hosted a running task.
+-- A scope has the hit that it had, otherwise this one if it hosted a running task.
 abbrev pub hit_restarted : Bool → Hit → Option Hit → Option Hit
 hit_restarted hosting new (Some hit) = Some hit
 hit_restarted hosting new None = if hosting then Some new else None

@@ -1,4 +1,4 @@
--- What a scope's line, chain, first hit, deadline and values are, said by its parent's.
+-- The line, chain, first hit, deadline and values of a scope, given by its parent's.
 use Rattle.std.specs.Prelude.{◌≡◌, ℕ, true, false, if◌then◌else◌, List, [], ◌∷◌, Option, Some, None}
 use Rattle.std.specs.Prelude.{slice_get}
 use Rattle.run_model.specs.declared.scopes.Hit.{Hit}
@@ -8,7 +8,7 @@ use Rattle.run_model.specs.Scopes.{comes_before, first_of, first_hit, own_deadli
 use Rattle.run_model.specs.Scopes.{deadline_of, text_under, value_of, AreOrdered}
 use Rattle.model_laws.specs.Hits.{is_on}
 
--- A fact of each scope, where parents have lesser numbers.
+-- A fact of each scope, if parents have lesser numbers.
 abbrev pub OfEachScope : (List Scope → ℕ → Scope → Type 0) → Type 0
 OfEachScope Fact = (rows : List Scope) (s : ℕ) (row : Scope) → AreOrdered rows
     → slice_get rows s ≡ Some row → Fact rows s row
@@ -47,12 +47,12 @@ deadline_from rows row =
     if is_detached row.kind then None
     else earlier (own_deadline row.kind) (above (deadline_of rows) None row)
 
--- A scope's own text, else the one from above.
+-- A scope's own text, otherwise the one from above.
 abbrev pub nearest : Option (List ℕ) → Option (List ℕ) → Option (List ℕ)
 nearest None up = up
 nearest (Some own) up = Some own
 
--- The value of a key at a scope is its own, else its parent's, at a detached scope too.
+-- The value of a key at a scope is its own, otherwise its parent's, at a detached scope too.
 abbrev pub value_from : List Scope → Scope → List ℕ → Option (List ℕ)
 value_from rows row key =
     nearest (text_under key row.kind) (above (λ s. value_of rows s key) None row)

@@ -1,4 +1,4 @@
-//! What is answered is what the questions then say.
+//! The answer to a call is what the questions then return.
 
 ghost use Rattle.std.specs.Prelude.{◌≡◌, ℕ, List, Option, None, Some, IsSomeAnd};
 ghost use Rattle.run_model.specs.declared.answers.Answer.TheVariants as answer;
@@ -18,9 +18,9 @@ ghost use Rattle.run_model.specs.Rules.{HasRow};
 ghost use Rattle.model_laws.specs.Answers.{Answered, Replied, SeesGroup, SeesStart, SeesWait};
 ghost use Rattle.model_laws.specs.Answers.{seen_name, task_seen};
 
-/// What was made is found at the numbers that were answered, under the name that was given. A
-/// group's own scope has the group's name; a bare group has none, and lives in the scope that was
-/// given.
+/// What was made is found at the numbers of the answer, under the name that was given. A
+/// group's own scope has the group's name; a bare group has none, and lives in the scope that
+/// was given.
 pub fn what_is_made_is_seen()
     ensures scope { (s : Session) (name parent : List ℕ) (wish : Wish) (n : ℕ) (q : State)
         → Answered s (command.Derive name parent wish) (answer.Scope n) q
@@ -33,9 +33,9 @@ pub fn what_is_made_is_seen()
         → (own ≡ None) × SeesGroup q g name (scope_of s.state scope) }
 {}
 
-/// A submitted task is found at the number that was answered, in the phase that was answered; one
-/// that was tried is ready. A retry is one of the same group, job and argument, and says of which
-/// task it is.
+/// A submitted task is found at the number of the answer, in the phase of the answer; one that was
+/// tried is ready. A retry is one of the same group, job and argument, and names the task that it
+/// retries.
 pub fn what_is_submitted_is_seen()
     ensures go { (s : Session) (group job argument : List ℕ) (n : ℕ) (told : Phase) (q : State)
         → Answered s (command.Go group job argument) (answer.Task n told) q
@@ -49,14 +49,14 @@ pub fn what_is_submitted_is_seen()
         → task_look_of q m ≡ Some (task_seen row.group row.job row.argument told (Some n)) }
 {}
 
-/// A group that was waited for is seen so, with the error that was answered.
+/// A question shows a group that was waited for as such, with the error of the answer.
 pub fn what_is_waited_for_is_seen()
     ensures { (s : Session) (group : List ℕ) (error : Option (List ℕ)) (q : State)
         → Answered s (command.Wait group) (answer.Waited error) q
         → SeesWait q (group_of s.state group) error }
 {}
 
-/// A task that was started is seen running.
+/// A question shows a started task as running.
 pub fn what_is_started_is_seen()
     ensures { (s : Session) (started : Started) (q : State)
         → Replied s step.Start (reply.Started started) q → SeesStart q started }

@@ -13,8 +13,8 @@ ghost use Rattle.run_model.specs.Rules.{AreNumbered};
 ghost use Rattle.model_laws.specs.Decided.{AreNamed, IsCancelledByCommand, IsDecided, is_command};
 ghost use Rattle.model_laws.specs.Decided.{scope_kind};
 
-/// What a command, a start or a finish is decided as is allowed, in every state and at every
-/// length of the log.
+/// If a command, a start or a finish is decided as an event, that event is allowed, in every state
+/// and at every length of the log.
 pub fn what_is_decided_is_allowed()
     ensures commands { (p : State) (log : ℕ) (call : Command) (event : Event)
         → decide p log call ≡ Ok (Some event) → allowed p event ≡ true }
@@ -24,8 +24,8 @@ pub fn what_is_decided_is_allowed()
         → decide_finish p n outcome ≡ Ok (Some event) → allowed p event ≡ true }
 {}
 
-/// Conversely, where names are distinct and rows are within their limits, as in each state that a
-/// store can keep, an event that has a record is allowed exactly where some call is decided as it
+/// Conversely, if names are distinct and rows are within their limits, as in each state that a
+/// store can keep, an event that has a record is allowed exactly when some call is decided as it
 /// while the log is empty.
 pub fn what_is_allowed_is_decided()
     ensures { (p : State) (event : Event) → AreNumbered p → is_recorded event ≡ true

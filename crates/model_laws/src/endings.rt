@@ -16,8 +16,8 @@ pub fn endings_stay()
     ensures runs { EndingsStayThroughRuns }
 {}
 
-/// Where each scope that was done is done by the same hit, it is so for the same reason and with
-/// the same cause.
+/// If each scope that was done is done by the same hit, it is so for the same reason and with the
+/// same cause.
 pub fn reasons_and_causes_stay()
     ensures reasons { (old new : List Scope) → EndingsStay old new → (s : ℕ) (reason : Reason)
         → reason_of old s ≡ Some reason → reason_of new s ≡ Some reason }

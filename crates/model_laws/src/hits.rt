@@ -9,7 +9,7 @@ ghost use Rattle.run_model.specs.Rules.{IsConsistent};
 ghost use Rattle.model_laws.specs.Hits.{has_hit, IsAttached, EndsBelow, IsOnChains};
 ghost use Rattle.model_laws.specs.Hits.{EndsAllButCutOff, HitsReachDown};
 
-/// A scope is done exactly where a scope on its chain was hit.
+/// A scope is done exactly when a scope on its chain was hit.
 pub fn a_scope_is_done_by_a_hit_on_its_chain()
     ensures { (rows : List Scope) (s : ℕ) → is_done rows s ≡ has_hit (chain rows s) }
 {}

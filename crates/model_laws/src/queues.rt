@@ -9,8 +9,8 @@ ghost use Rattle.run_model.specs.Tasks.{first_ready, is_ready, limit_of};
 ghost use Rattle.run_model.specs.Replies.{decide_start};
 ghost use Rattle.model_laws.specs.Queues.{IsLeastReady, admitted_tasks, unfinished_tasks};
 
-/// A start is of the ready task with the least number. That task is found exactly where there is
-/// one, and none is found exactly where none is ready.
+/// A start is of the ready task with the least number. That task is found exactly when there is
+/// one, and none is found exactly when none is ready.
 pub fn the_least_ready_task_is_started()
     ensures started { (p : State) (log n : ℕ)
         → decide_start p log ≡ Ok (Some (Start n)) → IsLeastReady p.work n }
@@ -20,7 +20,7 @@ pub fn the_least_ready_task_is_started()
 {}
 
 /// The admitted tasks of a group are its first unfinished ones, by number: as many as its limit
-/// says, and all of them where it has none.
+/// says, and all of them if it has none.
 pub fn the_first_unfinished_tasks_are_admitted()
     ensures limited { (w : WorkState) (g most : ℕ)
         → limit_of w g ≡ Some most → admitted_tasks w g ≡ take most (unfinished_tasks w g) }

@@ -1,4 +1,4 @@
-//! Retries: a task is submitted anew at most once, and the new one says of which task it is.
+//! Retries: a task is submitted anew at most once, and the new one names the task that it retries.
 
 ghost use Rattle.std.specs.Prelude.{◌≡◌, ℕ, List, Some, true, false};
 ghost use Rattle.run_model.specs.declared.tasks.Task.{Task};
@@ -16,13 +16,13 @@ pub fn a_retry_is_a_task_of_its_own()
         → IsTriedAnew p n row (step p (event.Retry n)) }
 {}
 
-/// A task is retried at most once, whatever comes behind the retry.
+/// A task is retried at most once, whatever comes after the retry.
 pub fn a_task_is_retried_once()
     ensures { (p q : State) (n : ℕ) (events : List Event) → allowed p (event.Retry n) ≡ true
         → run (step p (event.Retry n)) events ≡ Some q → allowed q (event.Retry n) ≡ false }
 {}
 
-/// Of which task a task is a retry stays, through every event.
+/// The task that a task is a retry of stays the same, through every event.
 pub fn links_stay()
     ensures { (p q : State) (event : Event) (n : ℕ) (row : Task) → after p event ≡ Some q
         → HasRow p.work.tasks n row → KeepsLink q n row }

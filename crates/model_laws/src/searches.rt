@@ -1,4 +1,4 @@
-//! What a scope's own row and its parent's answers say of it: each search of ancestors is one step
+//! What a scope's own row and its parent's answers determine: each search of ancestors is one step
 //! from the parent, and the first hit is the least on the chain.
 
 ghost use Rattle.std.specs.Prelude.{◌≡◌, ℕ, List};

@@ -18,7 +18,7 @@ cond_some_by false o x e = absurd (none-some x e)
 module _
     {X : Type 0} {read : Reader X} {write : X → List ℕ} {kept : X → Bool}
     (row : Codec read write kept) (test : List X → X → Bool) where
-  -- Each of these rows passes behind those in front and before it.
+  -- Each of these rows passes after those in front and before it.
   abbrev pub ArePassed : List X → List X → Type 0
   ArePassed front more =
       (k : ℕ) (x : X) → slice_get more k ≡ Some x → test (front ++ take k more) x ≡ true

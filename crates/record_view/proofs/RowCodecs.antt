@@ -322,7 +322,7 @@ head_field layout = record {
 
 -- ---- several rows
 
--- So many rows, one behind the other.
+-- So many rows, one after the other.
 abbrev pub rows_at : {X : Type 0} → Reader X → ℕ → Reader (List X)
 rows_at row zero bytes = Some ([], bytes)
 rows_at row (suc n) bytes = do

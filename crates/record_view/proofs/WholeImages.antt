@@ -20,12 +20,12 @@ use Rattle.record_view.specs.RowReading.{head_at, scope_at, group_row_at, task_a
 use Rattle.record_view.proofs.RowFields.{scope_row}
 use Rattle.record_view.proofs.RowCodecs.{group_row, task_row, head_field, rows_again, rows_at}
 
--- A list that begins with root is root and what is behind it.
+-- A list that begins with root is root and what is after it.
 pub rooted_list : (rows : List Scope) → slice_get rows 0 ≡ Some root → root ∷ drop 1 rows ≡ rows
 rooted_list [] e = absurd (none-some root e)
 rooted_list (row ∷ rows) e = ap (λ r. r ∷ rows) (sym (same_Some row root e))
 
--- The state of a head and of the rows behind it.
+-- The state of a head and of the rows after it.
 abbrev state_made : Layout → ImageHead → List Scope → List Group → List Task → State
 state_made layout head scopes groups tasks = record {
   count = head.count;

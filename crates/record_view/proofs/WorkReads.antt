@@ -95,7 +95,7 @@ admitted_there layout groups tasks n row found =
 
 -- ---- links
 
--- Each task passes the test of links behind those before it.
+-- Each task passes the test of links after those before it.
 abbrev ArePassedLinks : List Task → Type 0
 ArePassedLinks tasks = (n : ℕ) (row : Task) → slice_get tasks n ≡ Some row
     → is_linked (take n tasks) row ≡ true

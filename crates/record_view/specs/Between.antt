@@ -9,7 +9,7 @@ use Rattle.run_model.specs.Scopes.{is_group_kind}
 use Rattle.record_view.specs.WorkRows.{each_passes}
 
 -- The scope belongs to the group: it has the kind that groups' scopes have, and the group's name,
--- and is hit where the group has an error or was waited for.
+-- and is hit if the group has an error or was waited for.
 abbrev pub belongs : Group → Scope → Bool
 belongs group scope =
     is_group_kind scope.kind && bytes_eq group.name scope.name

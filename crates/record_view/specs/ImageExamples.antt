@@ -13,7 +13,7 @@ one_cancelled =
     ∷ event.Cancel 1 (Some (codes "disk"))
     ∷ []
 
--- The head behind its version: clock 0, four events, two scopes, no group and no task.
+-- The head after its version: clock 0, four events, two scopes, no group and no task.
 abbrev pub head_part : List ℕ
 head_part =
     0 ∷ 0 ∷ 0 ∷ 0 ∷ 0 ∷ 0 ∷ 0 ∷ 0 ∷ 0 ∷ 0 ∷ 0 ∷ 0 ∷ 0 ∷ 0 ∷ 0 ∷ 4 ∷ 0 ∷ 2 ∷ 0 ∷ 0 ∷ 0 ∷ 0 ∷ []
@@ -28,7 +28,7 @@ a_part =
 abbrev pub b_part : List ℕ
 b_part = 1 ∷ 98 ∷ 0 ∷ 1 ∷ 1 ∷ 0 ∷ []
 
--- The image, behind the version.
+-- The image, after the version.
 abbrev pub one_cancelled_part : List ℕ
 one_cancelled_part = head_part ++ a_part ++ b_part
 

@@ -24,7 +24,7 @@ use Rattle.record_view.specs.declared.heads.ImageVersion.TheVariants.{One, Two}
 
 -- ---- several in a row
 
--- Four, five and six values, of which another is made.
+-- Four, five and six values, from which another is made.
 abbrev pub four :
     {A B C D X : Type 0} → Reader A → Reader B → Reader C → Reader D → (A → B → C → D → X)
     → Reader X

@@ -63,7 +63,7 @@ task_of view = record {
   retry_of = view.retry_of;
 }
 
--- The text of a hit: behind its byte, two numbers, the reason and a byte of length.
+-- The text of a hit: after its byte, two numbers, the reason and a byte of length.
 abbrev pub hit_texts : ℕ → Option HitView → List PlacedText
 hit_texts place None = []
 hit_texts place (Some hit) = (place + 19, hit.cause) ∷ []
@@ -80,7 +80,7 @@ abbrev pub group_texts : ℕ → GroupRow → List PlacedText
 group_texts place row =
     (place + 1, row.name) ∷ optional_text (place + 7 + length row.name.now) row.error
 
--- The text of a stage: behind its byte and a byte of length.
+-- The text of a stage: after its byte and a byte of length.
 abbrev pub stage_texts : ℕ → StageView → List PlacedText
 stage_texts place (stages.Failure text) = (place + 2, text) ∷ []
 stage_texts place _ = []

@@ -22,7 +22,7 @@ use Rattle.record_view.specs.RowReading.{group_row_at, task_at}
 
 -- ---- rows that are tested as they come
 
--- These rows, and so many more, each of which passes the test behind those before it.
+-- These rows, and so many more, each of which passes the test after those before it.
 abbrev pub more_at : {X : Type 0} → Reader X → (List X → X → Bool) → ℕ → List X → Reader (List X)
 more_at read test zero rows bytes = Some (rows, bytes)
 more_at read test (suc n) rows bytes = do
@@ -47,7 +47,7 @@ can_retry new old =
     is_interrupted old.stage && new.group == old.group && bytes_eq new.job old.job
     && bytes_eq new.argument old.argument
 
--- Where the new task is a retry of task m, that is a task before it which it can retry, and no task
+-- If the new task is a retry of task m, then m is a task before it which it can retry, and no task
 -- before it is a retry of m.
 abbrev pub is_linked : List Task → Task → Bool
 is_linked tasks row =
@@ -60,7 +60,7 @@ is_linked tasks row =
 abbrev pub work_made : Layout → List Group → List Task → WorkState
 work_made layout groups tasks = record { layout = layout; groups = groups; tasks = tasks }
 
--- The task's group is there, the task is admitted where it runs, and its link is right.
+-- The task's group is there, the task is admitted if it runs, and its link is right.
 abbrev pub can_come : Layout → List Group → List Task → Task → Bool
 can_come layout groups tasks row =
     nat_lt row.group (length groups)
@@ -73,13 +73,13 @@ abbrev pub both_or_neither : Bool → Bool → Bool
 both_or_neither true b = b
 both_or_neither false b = not b
 
--- A group that was waited for is idle, and a group has an error exactly where a task of it has.
+-- A group that was waited for is idle, and a group has an error exactly when a task of it has.
 abbrev pub is_settled : WorkState → ℕ → Group → Bool
 is_settled w g row =
     (not row.waited || unfinished_in g w.tasks == 0)
     && both_or_neither (is_some row.error) (has_task_error w g)
 
--- The work, where each group is settled.
+-- The work, if each group is settled.
 abbrev pub settled_at :
     Layout → List Group → List Task × List ℕ → Option (WorkState × List ℕ)
 settled_at layout groups tasks =
@@ -87,7 +87,7 @@ settled_at layout groups tasks =
     then Some (work_made layout groups tasks.0, tasks.1)
     else None
 
--- The groups and tasks that the bytes behind the scopes begin with.
+-- The groups and tasks that the bytes after the scopes begin with.
 unfoldable pub work_rows_at : Layout → ImageHead → Reader WorkState
 work_rows_at layout head bytes = do
   groups ← more_at group_row_at has_new_name head.groups [] bytes
@@ -99,13 +99,13 @@ abbrev pub has_work_room : Layout → ImageHead → Bool
 has_work_room layout head =
     nat_le head.groups MOST_GROUPS && nat_le head.tasks (most_tasks layout)
 
--- The work, in a store of this layout, that the bytes behind the scopes begin with.
+-- The work, in a store of this layout, that the bytes after the scopes begin with.
 unfoldable pub work_at : Layout → ImageHead → Reader WorkState
 work_at layout head bytes =
     if has_work_room layout head then work_rows_at layout head bytes else None
 
 -- The bytes begin with the rows of this work, which has this layout and keeps its rules, and the
--- rest is behind them.
+-- rest is after them.
 pub record AreWorkRows
     (layout : Layout) (head : ImageHead) (bytes : List ℕ) (w : WorkState) (rest : List ℕ)
     : Type 0 where

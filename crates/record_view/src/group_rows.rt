@@ -28,13 +28,13 @@ use run_model::Group;
 /// none of them.
 #[derive(Clone, Copy, PartialEq, Eq)]
 pub struct GroupRow<'a> {
-    /// What it is called.
+    /// The name of the group.
     pub name: &'a [u8],
     /// The scope that its tasks live in.
     pub scope: u16,
     /// Whether it lives in a scope that isn't its own.
     pub bare: bool,
-    /// How many of its tasks may be active.
+    /// The limit of its active tasks.
     pub limit: Option<u8>,
     /// Whether it was waited for.
     pub waited: bool,
@@ -42,8 +42,8 @@ pub struct GroupRow<'a> {
     pub error: Option<&'a [u8]>,
 }
 
-/// The row of a group that the bytes begin with, and the bytes behind it; `None` exactly where they
-/// begin with no such row.
+/// Returns the row of a group that the bytes begin with, and the bytes after it; `None` exactly
+/// when they begin with no such row.
 pub fn read_group(bytes: &[u8]) -> Option<(GroupRow<'_>, &[u8])>
     ensures value { option_map (λ x. (group_of x.0, x.1.now)) result ≡ group_row_at bytes.now }
     ensures texts { IfSome result (λ x. StandIn bytes.entry (group_texts 0 x.0)) }
@@ -52,7 +52,7 @@ pub fn read_group(bytes: &[u8]) -> Option<(GroupRow<'_>, &[u8])>
     read_group_fields(bytes)
 }
 
-/// Puts the row of a group at a place, and gives the place behind it.
+/// Puts the row of a group at a place, and returns the place after it.
 pub fn put_group(out: &mut [u8], at: usize, row: &GroupRow) -> usize
     requires kept { IsTrue (is_kept_group (group_of row.now)) }
     requires room { at + length (group_bytes (group_of row.now)) ≤ length out.old }
@@ -67,7 +67,7 @@ pub fn put_group(out: &mut [u8], at: usize, row: &GroupRow) -> usize
     put_optional(out, end, row.error)
 }
 
-/// The view of a row that is held. Its fields are in range.
+/// Returns the view of a row that is held. Its fields are in range.
 pub fn group_row(row: &Group) -> GroupRow<'_>
     ensures value { group_of result ≡ row.now }
     ensures kept { IsTrue (is_kept_group row.now) }
@@ -108,7 +108,7 @@ fn read_group_fields(bytes: &[u8]) -> Option<(GroupRow<'_>, &[u8])>
     ))
 }
 
-/// A flag, and the bytes behind it.
+/// Returns a flag, and the bytes after it.
 #[tactic(auto, unfolding(crate::specs::RowReading::flag_at, crate::specs::RowReading::flag_by))]
 fn read_flag(bytes: &[u8]) -> Option<(bool, &[u8])>
     ensures value { option_map (λ x. (x.0, x.1.now)) result ≡ flag_at bytes.now }

@@ -4,7 +4,7 @@
 //! |---|---|
 //! | 1 | version, 1 or 2 |
 //! | 8 | clock, a moment |
-//! | 8 | how many events there were, below 2^63 |
+//! | 8 | the count of events, below 2^63 |
 //! | 2, 2, 2 | how many rows of scopes (root has none), groups and tasks follow |
 
 ghost use Rattle.std.specs.Prelude.{◌≡◌, ◌≤◌, ◌+◌, length, IfSome, IsTrue};
@@ -32,20 +32,20 @@ pub enum ImageVersion {
 pub struct ImageHead {
     /// How the rows are spelled.
     pub version: ImageVersion,
-    /// What the clock shows, in whole seconds.
+    /// The clock, in whole seconds.
     pub clock: u64,
-    /// How many events there were.
+    /// The number of events so far.
     pub count: u64,
-    /// How many scopes there are beside root.
+    /// The number of scopes beside root.
     pub scopes: u16,
-    /// How many groups there are.
+    /// The number of groups.
     pub groups: u16,
-    /// How many tasks there are.
+    /// The number of tasks.
     pub tasks: u16,
 }
 
-/// The head that the bytes begin with, and the bytes behind it; `None` exactly where
-/// they begin with no head whose rows are within the limits of this layout.
+/// Returns the head that the bytes begin with, and the bytes after it; `None` exactly when they
+/// begin with no head whose rows are within the limits of this layout.
 pub fn read_head(bytes: &[u8], layout: Layout) -> Option<(ImageHead, &[u8])>
     ensures value { option_map (λ x. (x.0, x.1.now)) result ≡ head_at layout bytes.now }
     ensures kept { IfSome result (λ x. IsTrue (is_kept_head layout x.0)) }
@@ -53,8 +53,8 @@ pub fn read_head(bytes: &[u8], layout: Layout) -> Option<(ImageHead, &[u8])>
     read_head_fields(bytes, layout)
 }
 
-/// Puts the head of an image at a place, in version 2 whatever version it was read in, and gives
-/// the place behind it.
+/// Puts the head of an image at a place, in version 2 whatever version it was read in, and returns
+/// the place after it.
 pub fn put_head(out: &mut [u8], at: usize, head: &ImageHead) -> usize
     requires room { at + 23 ≤ length out.old }
     ensures end { result ≡ at + 23 }
@@ -89,7 +89,7 @@ fn read_head_fields(bytes: &[u8], layout: Layout) -> Option<(ImageHead, &[u8])>
     Some((head, rest))
 }
 
-/// The version, and the bytes behind it.
+/// Returns the version, and the bytes after it.
 #[tactic(auto, unfolding(crate::specs::RowReading::version_at))]
 fn read_version(bytes: &[u8]) -> Option<(ImageVersion, &[u8])>
     ensures { option_map (λ x. (x.0, x.1.now)) result ≡ version_at bytes.now }
@@ -102,7 +102,7 @@ fn read_version(bytes: &[u8]) -> Option<(ImageVersion, &[u8])>
     }
 }
 
-/// The count of events, and the bytes behind it.
+/// Returns the count of events, and the bytes after it.
 #[tactic(auto, unfolding(crate::specs::RowReading::count_at))]
 fn read_count(bytes: &[u8]) -> Option<(u64, &[u8])>
     ensures { option_map (λ x. (x.0, x.1.now)) result ≡ count_at bytes.now }
@@ -114,7 +114,7 @@ fn read_count(bytes: &[u8]) -> Option<(u64, &[u8])>
     Some((count, rest))
 }
 
-/// A number of rows, which is below the bound, and the bytes behind it.
+/// Returns a number of rows, which is below the bound, and the bytes after it.
 #[tactic(auto, unfolding(crate::specs::RowReading::fewer_at))]
 fn read_fewer(bytes: &[u8], bound: usize) -> Option<(u16, &[u8])>
     ensures { option_map (λ x. (x.0, x.1.now)) result ≡ fewer_at bound bytes.now }

@@ -6,7 +6,7 @@
 //! | 2 to 33 | job, a name |
 //! | 2 to 33 | argument, a name |
 //! | 1 or more | stage: 0 fresh, 1 running, 2 success, 3 failure and its text, 4 interrupted |
-//! | 2 | in version 2 the task that it is a retry of, or 65,535 where it is none |
+//! | 2 | in version 2 the task that it is a retry of, or 65,535 if there is none |
 
 ghost use Rattle.std.specs.Prelude.{◌≡◌, ◌≤◌, ◌+◌, length, IfSome, IsTrue};
 ghost use Rattle.std.specs.Option.{option_map};
@@ -25,7 +25,7 @@ use crate::scope_rows::row_number;
 use crate::texts::{put_text, read_name, read_text};
 use run_model::{Stage, Task};
 
-/// The link of a task that is no retry.
+/// The link of a task that isn't a retry.
 const NO_LINK: u16 = 65_535;
 
 /// How far a task is.
@@ -49,9 +49,9 @@ pub enum StageView<'a> {
 pub struct TaskRow<'a> {
     /// The number of its group.
     pub group: u16,
-    /// Which job it does.
+    /// The job that it does.
     pub job: &'a [u8],
-    /// What the job is told.
+    /// The job's argument.
     pub argument: &'a [u8],
     /// How far it is.
     pub stage: StageView<'a>,
@@ -59,8 +59,8 @@ pub struct TaskRow<'a> {
     pub retry_of: Option<u16>,
 }
 
-/// The row of a task, in this version, that the bytes begin with, and the bytes behind it; `None`
-/// exactly where they begin with no such row.
+/// Returns the row of a task, in this version, that the bytes begin with, and the bytes after it;
+/// `None` exactly when they begin with no such row.
 pub fn read_task(bytes: &[u8], version: ImageVersion) -> Option<(TaskRow<'_>, &[u8])>
     ensures value { option_map (λ x. (task_of x.0, x.1.now)) result ≡ task_at version bytes.now }
     ensures texts { IfSome result (λ x. StandIn bytes.entry (task_texts 0 x.0)) }
@@ -69,7 +69,7 @@ pub fn read_task(bytes: &[u8], version: ImageVersion) -> Option<(TaskRow<'_>, &[
     read_task_fields(bytes, version)
 }
 
-/// Puts the row of a task, of version 2, at a place, and gives the place behind it.
+/// Puts the row of a task, of version 2, at a place, and returns the place after it.
 pub fn put_task(out: &mut [u8], at: usize, row: &TaskRow) -> usize
     requires kept { IsTrue (is_kept_task Two (task_of row.now)) }
     requires room { at + length (task_bytes Two (task_of row.now)) ≤ length out.old }
@@ -83,7 +83,7 @@ pub fn put_task(out: &mut [u8], at: usize, row: &TaskRow) -> usize
     put_link(out, end, row.retry_of)
 }
 
-/// The view of a row that is held, whose link is below 65,535. Its fields are in range.
+/// Returns the view of a row that is held, whose link is below 65,535. Its fields are in range.
 pub fn task_row(row: &Task) -> TaskRow<'_>
     requires { IsTrue (is_kept_link Two row.now.retry_of) }
     ensures value { task_of result ≡ row.now }
@@ -132,7 +132,7 @@ fn read_task_fields(bytes: &[u8], version: ImageVersion) -> Option<(TaskRow<'_>,
     Some((row, rest))
 }
 
-/// A stage, and the bytes behind it.
+/// Returns a stage, and the bytes after it.
 #[tactic(auto, unfolding(crate::specs::RowReading::stage_at, crate::specs::RowReading::stage_by))]
 fn read_stage(bytes: &[u8]) -> Option<(StageView<'_>, &[u8])>
     ensures value { option_map (λ x. (stage_of x.0, x.1.now)) result ≡ stage_at bytes.now }
@@ -152,7 +152,7 @@ fn read_stage(bytes: &[u8]) -> Option<(StageView<'_>, &[u8])>
     }
 }
 
-/// A link, and the bytes behind it. In version 1 there is none.
+/// Returns a link, and the bytes after it. In version 1 there is none.
 #[tactic(auto, unfolding(crate::specs::RowReading::link_at, crate::specs::RowReading::link_by))]
 fn read_link(bytes: &[u8], version: ImageVersion) -> Option<(Option<u16>, &[u8])>
     ensures value { option_map (λ x. (x.0, x.1.now)) result ≡ link_at version bytes.now }

@@ -17,7 +17,7 @@ pub fn the_rows_of_the_work_are_read()
         work_at layout head bytes ≡ Some (w, rest) → AreWorkRows layout head bytes w rest }
 {}
 
-/// Behind one head, no bytes begin with the rows of two works, nor have two rests behind them.
+/// After one head, no bytes begin with the rows of two works, nor have two rests after them.
 pub fn bytes_begin_with_one_work()
     ensures { (layout : Layout) (head : ImageHead) (bytes : List ℕ) (w v : WorkState)
         (rest other : List ℕ) → AreWorkRows layout head bytes w rest →

@@ -1,4 +1,4 @@
--- What a crash behind some calls leaves is not changed by later calls.
+-- What a crash after some calls leaves is not changed by later calls.
 use Rattle.std.proofs.Common.{◌≤◌, ◌↔◌, ℕ, List, sym, ◌∙◌}
 use Rattle.run_disk.specs.Writes.{Write, History, and_write, and_sync}
 use Rattle.run_disk.specs.History.{IsImage}

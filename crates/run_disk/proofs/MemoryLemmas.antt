@@ -163,7 +163,7 @@ module _ (h : History) (bytes : List ℕ) (clock failures : ℕ)
     write_made : All (λ w. w.moment < clock + 1) (h.writes ++ write ∷ [])
     write_made = All-push (λ w. w.moment < clock + 1) h.writes write made_next (omega arith)
 
-    -- a place's byte behind it
+    -- a place's byte after it
     behind_write : (i : ℕ) → byte_after Take (and_write h write) (clock + 1) i
         ≡ unwrap_or (byte_put at other i) (byte_whole h i)
     behind_write i = byte_after-whole (and_write h write) (clock + 1) i write_made
@@ -189,7 +189,7 @@ module _ (h : History) (bytes : List ℕ) (clock failures : ℕ)
       size_fits = omega (arith, put.outside.size, kept.size_fits);
     }
 
-    -- an image behind it comes from one before it, which has what reads gave in its range
+    -- an image after it comes from one before it, which has what reads gave in its range
     abbrev back : List ℕ → List ℕ
     back x = put_mid at (length other) x (take (length other) (drop at bytes))
 
@@ -334,7 +334,7 @@ module _ (h : History) (bytes : List ℕ) (clock failures : ℕ)
     size_fits = kept.size_fits;
   }
 
-  -- behind it a crash leaves what reads give
+  -- after it a crash leaves what reads give
   synced_byte : (x : List ℕ) → IsImage (and_sync h clock) (clock + 1) x → (i : ℕ) → i < length x
       → get_or x i 0 ≡ get_or bytes i 0
   synced_byte x is i below =

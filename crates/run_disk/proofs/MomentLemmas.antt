@@ -1,4 +1,4 @@
--- What a later call changes of what a crash behind an earlier one leaves: nothing.
+-- What a later call changes of what a crash after an earlier one leaves: nothing.
 use Rattle.std.proofs.Common.{◌≡◌, ◌<◌, ◌≤◌, ◌+◌, ℕ, Bool, true, false, not, ◌&&◌, ◌||◌, List, []}
 use Rattle.std.proofs.Common.{◌∷◌, None, ◌++◌, get_or, slice_index_or, refl, sym, ◌∙◌, ap, inl}
 use Rattle.std.proofs.Common.{inr, arith, nat_le, nat_lt, unwrap_or}
@@ -139,7 +139,7 @@ is_unsynced-later_sync h sync k i later =
     list_any-same (tears (h.syncs ++ sync ∷ []) k i) (tears h.syncs k i) h.writes
     (λ j d below. simp (is_synced-later h.syncs sync k (slice_index_or h.writes j d).moment later))
 
--- Behind a sync no write is unsynced.
+-- After a sync no write is unsynced.
 pub is_unsynced-synced : (h : History) (k i : ℕ) → All (λ w. w.moment < k) h.writes
     → is_unsynced (and_sync h k) (k + 1) i ≡ false
 is_unsynced-synced h k i made =

@@ -17,7 +17,7 @@ put_mid-before at n xs ys i below within =
     get_or_append_left (take at xs) (ys ++ drop n (drop at xs)) 0 i inside
     ∙ get_or-take at xs i 0 below
 
--- the part behind the front
+-- the part after the front
 get_or-from : (at n : ℕ) (xs ys : List ℕ) (j : ℕ) → at ≤ length xs
     → get_or (put_mid at n xs ys) (at + j) 0 ≡ get_or (ys ++ drop n (drop at xs)) j 0
 get_or-from at n xs ys j within =
@@ -69,7 +69,7 @@ pub byte_put-inside : (at : ℕ) (bytes : List ℕ) (i : ℕ) → at ≤ i → i
 byte_put-inside at bytes i from to =
     simp (le-leb at i from) (slice_get-get_or bytes (i - at) 0 (omega arith))
 
--- the places behind a put
+-- the places after a put
 pub puts_byte : (at : ℕ) (bytes old new : List ℕ) → Puts at bytes old new → (i : ℕ)
     → get_or new i 0 ≡ unwrap_or (byte_put at bytes i) (get_or old i 0)
 puts_byte at bytes old new put i = elim (cases_lt i at) [

@@ -20,7 +20,7 @@ torn_bytes-short Take bytes = omega arith
 torn_bytes-short (Fill value) bytes = omega (arith, length-replicate (length bytes) value)
 torn_bytes-short (Front n) bytes = omega (arith, length-take n bytes)
 
--- a place that a write doesn't cover lies before its range or behind it
+-- a place that a write doesn't cover lies before its range or after it
 uncovered : (i : ℕ) (w : Write) → covers i w ≡ false
     → (i < w.at) ⊎ (w.at + length w.bytes ≤ i)
 uncovered i w fails = elim (cases_lt i w.at) [

@@ -1,7 +1,7 @@
 -- The contents of a disk, by their places, and sets of contents.
 use Rattle.std.specs.Prelude.{◌≡◌, ◌<◌, ◌≤◌, ◌+◌, ℕ, List, length, get_or}
 
--- The new contents are the old ones but for the n places from `at` on.
+-- The new contents are the old ones except for the n places from `at` on.
 pub record SameOutside (at n : ℕ) (old new : List ℕ) : Type 0 where
   pub size : length new ≡ length old
   pub before : (i : ℕ) → i < at → get_or new i 0 ≡ get_or old i 0

@@ -3,7 +3,7 @@ use Rattle.std.specs.Prelude.{◌≡◌, ◌<◌, ◌≤◌, ◌-◌, ◌^◌, �
 
 -- What contracts see of a disk.
 pub record DiskState : Type 1 where
-  -- how many bytes it has
+  -- the number of its bytes
   pub size : ℕ
   -- the bytes that reads give
   pub now : List ℕ
@@ -11,11 +11,11 @@ pub record DiskState : Type 1 where
   pub images : List ℕ → Type 0
   -- the contents that a crash may have left at some moment from that one on, inside calls too
   pub since : ℕ → List ℕ → Type 0
-  -- the moment: how many reads, writes and syncs were made
+  -- the moment: the number of reads, writes and syncs that were made
   pub clock : ℕ
-  -- how many of these failed
+  -- the number of these that failed
   pub failures : ℕ
-  -- that it behaves as the clauses on its bytes say
+  -- whether it behaves as the clauses on its bytes say
   pub honest : Type 0
   -- the places of failed writes that were not written again
   pub unsure : ℕ → Type 0
@@ -42,7 +42,7 @@ pub record IsDisk (s : DiskState) : Type 0 where
   pub earlier :
       (t u : ℕ) (x : List ℕ) → t ≤ u → u ≤ s.clock → s.since u x → s.since t x
 
--- It is synced: whatever a crash now leaves, each place has what reads give there, but for the
+-- It is synced: whatever a crash now leaves, each place holds what reads give there, except for the
 -- places of failed writes that were not written again.
 pub record IsSynced (s : DiskState) : Type 0 where
   pub only :
@@ -62,7 +62,7 @@ pub record Begins (bytes : List ℕ) (s : DiskState) : Type 0 where
   pub clock : s.clock ≡ 0
   pub failures : s.failures ≡ 0
 
--- Reads and the two counts are the same; a crash leaves nothing more, and no more is unsure.
+-- Reads and the two counts are the same; a crash leaves nothing more, no more places are unsure.
 pub record IsSame (old new : DiskState) : Type 0 where
   pub now : new.now ≡ old.now
   pub images : (x : List ℕ) → new.images x → old.images x

@@ -5,7 +5,7 @@ use Rattle.run_disk.specs.declared.failing_disks.FailingDisk.{FailingDisk}
 use Rattle.run_disk.specs.Disk.{DiskState}
 use Rattle.run_disk.specs.Over.{Gap, Passes, moment_of, over}
 
--- The calls that it fails by itself.
+-- The calls that this disk fails by itself.
 abbrev pub calls_cut : {D W : Type 0} {g : Ghosts D} → FailingDisk D W g → Gap
 calls_cut d = record { first = d.first; behind = d.behind }
 
@@ -13,7 +13,7 @@ calls_cut d = record { first = d.first; behind = d.behind }
 abbrev pub clock_below : {D W : Type 0} {g : Ghosts D} → FailingDisk D W g → ℕ
 clock_below {g = g} d = (g.state d.made.value).clock
 
--- Its state, in which its calls and their failures are its own.
+-- The state of this disk, in which its calls and their failures are its own.
 abbrev pub state_of : {D W : Type 0} {g : Ghosts D} → FailingDisk D W g → DiskState
 state_of {g = g} d =
     over (calls_cut d) (clock_below d) (g.state d.disk) d.tally.calls d.tally.failures
@@ -22,15 +22,15 @@ state_of {g = g} d =
 abbrev pub below : {D W : Type 0} {g : Ghosts D} → FailingDisk D W g → D
 below d = d.disk
 
--- The moment of the disk below that a moment of its own is.
+-- The moment of the disk below that stands for this moment of this disk.
 abbrev pub moment_below : {D W : Type 0} {g : Ghosts D} → FailingDisk D W g → ℕ → ℕ
 moment_below d t = moment_of (calls_cut d) (clock_below d) t
 
--- It passes the next call on.
+-- This disk passes the next call on.
 abbrev pub PassesNext : {D W : Type 0} {g : Ghosts D} → FailingDisk D W g → Type 0
 PassesNext d = Passes (calls_cut d) d.tally.calls
 
--- It fails the same calls, and its moments are the same ones of the disk below.
+-- This disk fails the same calls, and its moments are the same ones of the disk below.
 pub record IsSetAs {D W : Type 0} {g : Ghosts D} (old new : FailingDisk D W g) : Type 0 where
   pub calls : calls_cut new ≡ calls_cut old
   pub clock_below : clock_below new ≡ clock_below old

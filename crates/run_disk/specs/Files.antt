@@ -15,7 +15,7 @@ file_state size calls failures = record {
   unsure = λ i. Unit {0};
 }
 
--- What it keeps: its counts fit.
+-- The invariant of a disk over a file: its counts fit.
 pub record IsFileDisk (size calls failures : ℕ) : Type 0 where
   pub size_fits : size < 2 ^ 64
   pub calls_fit : calls < 2 ^ 64

@@ -10,20 +10,20 @@ use Rattle.run_disk.specs.Writes.{Write, History}
 use Rattle.run_disk.specs.declared.tears.Torn.{Torn}
 use Rattle.run_disk.specs.declared.tears.Torn.TheVariants.{Keep, Take, Fill, Front}
 
--- A sync was made behind this moment, among the first k calls.
+-- A sync was made after this moment, among the first k calls.
 abbrev pub is_synced : List ℕ → ℕ → ℕ → Bool
 is_synced syncs k moment = list_any (λ sync. nat_lt moment sync && nat_lt sync k) syncs
 
 -- Of the bytes of a write that is torn this way, these are left: none, all, as many of one value,
--- or the first ones.
+-- or a prefix of them.
 abbrev pub torn_bytes : Torn → List ℕ → List ℕ
 torn_bytes Keep bytes = []
 torn_bytes Take bytes = bytes
 torn_bytes (Fill value) bytes = replicate (length bytes) value
 torn_bytes (Front n) bytes = take n bytes
 
--- Behind the first k calls this is left of a write: nothing where it comes later, all where a sync
--- followed it, and else what the tearing leaves.
+-- After the first k calls this is left of a write: nothing if it comes later, all if a sync
+-- followed it, and otherwise what the tearing leaves.
 abbrev pub left_of : Torn → List ℕ → ℕ → Write → List ℕ
 left_of torn syncs k w =
     if nat_lt w.moment k
@@ -39,12 +39,12 @@ abbrev pub newest : (Write → List ℕ) → List Write → ℕ → Option ℕ
 newest left [] i = None
 newest left (w ∷ ws) i = option_or (newest left ws i) (byte_put w.at (left w) i)
 
--- The byte of a place behind the first k calls, with each unsynced write torn this way.
+-- The byte of a place after the first k calls, with each unsynced write torn this way.
 abbrev pub byte_after : Torn → History → ℕ → ℕ → ℕ
 byte_after torn h k i =
     unwrap_or (newest (left_of torn h.syncs k) h.writes i) (get_or h.first i 0)
 
--- These are the bytes behind the first k calls, with each unsynced write torn this way.
+-- These are the bytes after the first k calls, with each unsynced write torn this way.
 pub record IsTornImage (torn : Torn) (h : History) (k : ℕ) (x : List ℕ) : Type 0 where
   pub size : length x ≡ length h.first
   pub bytes : (i : ℕ) → i < length x → get_or x i 0 ≡ byte_after torn h k i
@@ -58,8 +58,8 @@ abbrev pub is_unsynced : History → ℕ → ℕ → Bool
 is_unsynced h k i =
     list_any (λ w. nat_lt w.moment k && (not (is_synced h.syncs k w.moment) && covers i w)) h.writes
 
--- A crash behind the first k calls may leave these bytes: anything where an unsynced write covers
--- the place, and else what reads gave.
+-- A crash after the first k calls may leave these bytes: anything in the places that an unsynced
+-- write covers, and what reads gave in all others.
 pub record IsImage (h : History) (k : ℕ) (x : List ℕ) : Type 0 where
   pub size : length x ≡ length h.first
   pub bytes : (i : ℕ) → i < length x → is_unsynced h k i ≡ false

@@ -20,8 +20,8 @@ memory_state h bytes clock failures = record {
   unsure = λ i. ⊥;
 }
 
--- What a disk in memory keeps: reads give what all its writes left; each write lies in the disk,
--- and each write and sync was made before this moment.
+-- The invariant of a disk in memory: reads give what all its writes left; each write lies in the
+-- disk, and each write and sync was made before this moment.
 pub record IsKept (h : History) (bytes : List ℕ) (clock failures : ℕ) : Type 0 where
   pub now : IsTornImage Take h clock bytes
   pub inside : All (λ w. w.at + length w.bytes ≤ length h.first) h.writes

@@ -4,10 +4,10 @@ use Rattle.run_disk.specs.Disk.{DiskState}
 use Rattle.run_disk.specs.Writes.{History}
 use Rattle.run_disk.specs.Memory.{memory_state}
 
--- Its state.
+-- The state of this disk.
 abbrev pub state_of : {A : Type 0} → MemoryDisk A → DiskState
 state_of d = memory_state d.history d.bytes.items d.tally.calls d.tally.failures
 
--- What it kept of its calls.
+-- What this disk kept of its calls.
 abbrev pub history_of : {A : Type 0} → MemoryDisk A → History
 history_of d = d.history

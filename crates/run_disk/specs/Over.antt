@@ -4,20 +4,20 @@ use Rattle.std.proofs.Common.{arith, subst, sym}
 use Rattle.run_disk.specs.Disk.{DiskState, IsDisk, last_moment}
 use Rattle.run_disk.specs.Calls.{Calls}
 
--- One call of such a disk. Where it passes the call on, the disk below makes it and its result is
--- the answer; else the call fails, and the disk below stays as it was.
+-- One call of such a disk. If it passes the call on, the disk below makes it and its result is the
+-- answer; otherwise the call fails, and the disk below stays as it was.
 pub record Relays {D T E : Type 0}
     (state : D → DiskState) (passes : Type 0) (old new : D) (result : Result T E) : Type 0 where
   pub passed_on : passes → Calls (state old) (state new) result
   pub cut_off : (passes → ⊥) → IsErr result × (new ≡ old)
 
--- What a crash at some moment from t on may have left of the one disk, one from the moment that
--- answers to t may have left of the other, and the other way round.
+-- Whatever a crash at some moment from t on may have left of the one disk, a crash from the moment
+-- that stands for t on may have left of the other, and the other way round.
 abbrev pub LeftSame : (ℕ → ℕ) → DiskState → DiskState → Type 0
 LeftSame moment one other = (t : ℕ) (x : List ℕ) → one.since t x ↔ other.since (moment t) x
 
 -- Both disks have the same size, reads give the same bytes of them, a crash now may leave the same,
--- and one is honest exactly where the other is.
+-- and one is honest exactly when the other is.
 pub record ShowsSame (one other : DiskState) : Type 0 where
   pub size : one.size ≡ other.size
   pub now : one.now ≡ other.now
@@ -34,20 +34,20 @@ pub record Gap : Type 0 where
   pub first : ℕ
   pub behind : ℕ
 
--- It passes this call on: it isn't spent then, and the call is none that it fails.
+-- The disk passes this call on: it isn't spent then, and the call is not one that it fails.
 abbrev pub Passes : Gap → ℕ → Type 0
 Passes gap n = (n < last_moment) × ((n < gap.first) ⊎ (gap.behind ≤ n))
 
--- Of its first n calls it passes on so many.
+-- Of its first n calls the disk passes on this many.
 abbrev pub passed : Gap → ℕ → ℕ
 passed gap n = min gap.first n + (n - gap.behind)
 
--- The moment of the disk below that its own moment n is, where the disk below had the clock `first`
--- when this one was made over it.
+-- The moment of the disk below that stands for moment n of this disk, if the disk below had the
+-- clock `first` when this one was made over it.
 abbrev pub moment_of : Gap → ℕ → ℕ → ℕ
 moment_of gap first n = min last_moment (first + passed gap n)
 
--- Its state over a disk in the state `below`.
+-- The state of such a disk over a disk in the state `below`.
 abbrev pub over : Gap → ℕ → DiskState → ℕ → ℕ → DiskState
 over gap first below calls failed = record {
   size = below.size;
@@ -60,7 +60,7 @@ over gap first below calls failed = record {
   unsure = below.unsure;
 }
 
--- What such a disk keeps: the disk below made the calls that were passed on, and no others.
+-- The invariant of such a disk: the disk below made the calls that were passed on, and no others.
 pub record IsOver (gap : Gap) (first : ℕ) (below : DiskState) (calls failed : ℕ) : Type 0 where
   pub in_order : gap.first ≤ gap.behind
   pub made_below : below.clock ≡ moment_of gap first calls

@@ -14,8 +14,8 @@ pub record Passed (old new : DiskState) : Type 0 where
   pub later : old.clock ≤ new.clock
   pub failures_later : old.failures ≤ new.failures
 
--- What a run that answers for its calls does, on any disk: it is Ok only where no call failed, and
--- a fault only where a call failed or the disk is spent.
+-- What a run that answers for its calls does, on any disk: it is Ok only if no call failed, and
+-- a fault only if a call failed or the disk is spent.
 pub record Ran {T E : Type 0} (old new : DiskState) (result : Result T E) : Type 0 where
   pub size : new.size ≡ old.size
   pub honest : old.honest → new.honest
@@ -25,27 +25,27 @@ pub record Ran {T E : Type 0} (old new : DiskState) (result : Result T E) : Type
   pub fine : OnOk result (new.failures ≡ old.failures)
   pub cause : OnErr result ((old.failures < new.failures) ⊎ (new.clock ≡ last_moment))
 
--- The run makes n calls, and at a fault at most n.
+-- The run makes n calls, and if it faults at most n.
 pub record Took {T E : Type 0} (n : ℕ) (old new : DiskState) (result : Result T E) : Type 0 where
   pub exactly : OnOk result (new.clock ≡ old.clock + n)
   pub most : new.clock ≤ old.clock + n
 
--- As the disk's two counts tell it: the call of this number, counted from 1, is the last one, and
--- one call failed. It is counted, and so is its failure, unless the disk was spent before it.
+-- By the disk's two counts: the call of this number, counted from 1, is the last one, and one call
+-- failed. That call is counted, and so is its failure, unless the disk was spent before it.
 abbrev pub FailedAt : ℕ → DiskState → DiskState → Type 0
 FailedAt n old new =
     ((new.clock ≡ old.clock + n) × (new.failures ≡ old.failures + 1))
     ⊎ ((new.clock + 1 ≡ old.clock + n) × (new.clock ≡ last_moment)
     × (new.failures ≡ old.failures))
 
--- No call is made behind the one that failed: up to some moment of the run none had failed, and
+-- No call is made after the one that failed: up to some moment of the run none had failed, and
 -- from there on one call was made, which failed.
 pub record FailedLast {D : Type 0} (state : D → DiskState) (old new : DiskState) : Type 0 where
   pub before : D
   pub fine : (state before).failures ≡ old.failures
   pub failed : FailedAt 1 (state before) new
 
--- What a run of n calls answers, on any disk: it makes them all, or those up to the first that
+-- The result of a run of n calls, on any disk: it makes them all, or those up to the first that
 -- fails, and its only fault is that one failed.
 pub record MakesCalls {D T : Type 0} (state : D → DiskState) (n : ℕ) (old new : DiskState)
     (result : Result T Fault) : Type 0 where
@@ -67,7 +67,7 @@ pub record Leaves (step : List ℕ → List ℕ → Type 0) (old new : DiskState
   pub now : step old.now new.now
   pub images : Follows step old.images new.images
   pub each : Follows step old.images (new.since old.clock)
-  -- and so for moments before the run, where it is the later part of a longer one
+  -- and so for moments before the run, if it is the later part of a longer one
   pub before : (t : ℕ) (x : List ℕ) → t ≤ old.clock → new.since t x
       → old.since t x ⊎ ((y : List ℕ) × old.images y × step y x)
 
@@ -75,11 +75,11 @@ pub record Leaves (step : List ℕ → List ℕ → Type 0) (old new : DiskState
 pub record LeavesOnly (P : List ℕ → Type 0) (old new : DiskState) : Type 0 where
   pub later : old.clock ≤ new.clock
   pub each : (x : List ℕ) → new.since old.clock x → P x
-  -- and so for moments before the run, where it is the later part of a longer one
+  -- and so for moments before the run, if it is the later part of a longer one
   pub before : (t : ℕ) (x : List ℕ) → t ≤ old.clock → new.since t x → old.since t x ⊎ P x
 
--- Reads give the same behind the run, at no moment of it does a crash leave anything that one
--- before it would not have left, and no more is unsure.
+-- Reads give the same after the run, at no moment of it does a crash leave anything that one
+-- before it would not have left, and no more places are unsure.
 pub record OnlyReads (old new : DiskState) : Type 0 where
   pub later : old.clock ≤ new.clock
   pub now : new.now ≡ old.now
@@ -88,12 +88,12 @@ pub record OnlyReads (old new : DiskState) : Type 0 where
   pub before : (t : ℕ) (x : List ℕ) → t ≤ old.clock → new.since t x → old.since t x ⊎ old.images x
   pub unsure : (i : ℕ) → new.unsure i → old.unsure i
 
--- No place waits for a failed write that did not wait before.
+-- No place waits for a failed write unless it waited before.
 abbrev pub IsSurer : DiskState → DiskState → Type 0
 IsSurer old new = (i : ℕ) → new.unsure i → old.unsure i
 
 -- What a run leaves of an honest disk: at every moment of it each content comes by `step`, and at
--- Ok by `end`, for good.
+-- Ok by `end`, durably.
 pub record LeavesForGood {T E : Type 0} (step end : List ℕ → List ℕ → Type 0)
     (old new : DiskState) (result : Result T E) : Type 0 where
   pub any_moment : old.honest → Leaves step old new
@@ -101,7 +101,7 @@ pub record LeavesForGood {T E : Type 0} (step end : List ℕ → List ℕ → Ty
   pub synced : old.honest → OnOk result (IsSynced new)
   pub sure : old.honest → OnOk result (IsSurer old new)
 
--- Reads give these bytes from `at` on, and no failed write waits there: a sync makes them last.
+-- Reads give these bytes from `at` on, and no failed write waits there: a sync makes them durable.
 pub record Stands (at : ℕ) (bytes : List ℕ) (s : DiskState) : Type 0 where
   pub now : Holds at bytes s.now
   pub sure : (i : ℕ) → i < length bytes → s.unsure (at + i) → ⊥

@@ -1,5 +1,5 @@
-//! A [`RunDisk`] is a row of bytes that is read, written and synced; a [`DiskFailed`] says that it
-//! did not do a call.
+//! A [`RunDisk`] is a row of bytes that is read, written and synced; a [`DiskFailed`] reports that
+//! it did not do a call.
 //!
 //! Between two syncs a written range may hold any bytes after a crash, and the places outside keep
 //! theirs. After a sync a crash leaves what reads give.
@@ -12,7 +12,7 @@ use run_model::Fault;
 use std::error::Error;
 use std::fmt;
 
-/// A call of the device failed. It is shown as the fault is that it is: `fault 2 DiskFailed`.
+/// A call of the device failed. It is printed as the fault that it is: `fault 2 DiskFailed`.
 #[derive(Clone, Copy, Debug, PartialEq, Eq)]
 pub struct DiskFailed;
 
@@ -42,14 +42,14 @@ impl Error for DiskFailed {}
 /// A disk of a fixed size. Each read, write and sync is counted, and so is each that fails; at
 /// 2^64 - 1 of them the disk is spent, and each further call fails and changes nothing.
 pub trait RunDisk {
-    /// What contracts see of it.
+    /// What contracts see of the disk.
     ghost state: { Self → DiskState };
 
-    /// How many bytes it has. This call is not counted.
+    /// Returns the number of the disk's bytes. This call is not counted.
     fn size(&self) -> u64
         ensures { result ≡ (state self.now).size };
 
-    /// Reads as many bytes as `out` takes, from the place `at` on. At an error `out` may hold
+    /// Reads as many bytes as `out` takes, from the place `at` on. After an error `out` may hold
     /// anything.
     fn read_at(&mut self, at: u64, out: &mut [u8]) -> Result<(), DiskFailed>
         requires { at + length out.old ≤ (state self.old).size }
@@ -59,19 +59,19 @@ pub trait RunDisk {
             → OnOk result (out.new ≡ slice_range (state self.old).now at (at + length out.old)) };
 
     /// Writes these bytes from the place `at` on. Until a sync a crash may leave anything there.
-    /// After an error what is there is unknown until it is written again.
+    /// After an error the bytes there are unknown until they are written again.
     fn write_at(&mut self, at: u64, bytes: &[u8]) -> Result<(), DiskFailed>
         requires { at + length bytes.now ≤ (state self.old).size }
         ensures call { Calls (state self.old) (state self.new) result }
         ensures writes { (state self.old).honest
             → Writes at bytes.now (state self.old) (state self.new) result };
 
-    /// Makes what was written last: after it a crash leaves what reads give, but for ranges of
+    /// Makes what was written durable: after it a crash leaves what reads give, except in ranges of
     /// failed writes that were not written again.
     fn sync(&mut self) -> Result<(), DiskFailed>
         ensures call { Calls (state self.old) (state self.new) result }
         ensures syncs { (state self.old).honest → Syncs (state self.old) (state self.new) result };
 
-    /// What is true of it at every moment.
+    /// What is true of the disk at every moment.
     ghost is_disk: { (d : Self) → IsDisk (state d) };
 }

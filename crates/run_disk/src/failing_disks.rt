@@ -1,5 +1,5 @@
 //! A [`FailingDisk`] is a disk over another that fails some of its calls by itself: a [`Fuse`]
-//! fails for good behind so many calls, a [`FailOnce`] fails a single one.
+//! fails for good after so many calls, a [`FailOnce`] fails a single one.
 
 ghost use Rattle.std.specs.Prelude.{◌≡◌, ◌≤◌, ◌+◌, ◌-◌, [], length, OnOk, slice_range, List, ℕ};
 ghost use Rattle.std.specs.Bool.{OnFalse, OnTrue};
@@ -12,26 +12,26 @@ use crate::tallies::Tally;
 use std::marker::PhantomData;
 use std::snapshot::Snapshot;
 
-/// That calls fail for good.
+/// The calls fail for good.
 pub struct ForGood;
 
-/// That a call fails once.
+/// One call fails.
 pub struct Once;
 
-/// Passes its first calls on to the disk below, and fails each call behind them.
+/// Passes its first calls on to the disk below, and fails each call after them.
 pub type Fuse<D> = FailingDisk<D, ForGood>;
 
 /// Fails one call by itself, and passes all others on to the disk below.
 pub type FailOnce<D> = FailingDisk<D, Once>;
 
-/// Passes its calls on to the disk below, but for those of one range: each of them fails, and
+/// Passes its calls on to the disk below, except for those of one range: each of them fails, and
 /// doesn't reach the disk below. `W` says which calls these are.
 #[derive(Drop)]
 pub struct FailingDisk<D: RunDisk, W> {
     disk: D,
     // the disk below as it was when this one was made
     made: Snapshot<D>,
-    // the first call that fails, and the first one behind them, counted from 0
+    // the first call that fails, and the first one after them, counted from 0
     first: u64,
     behind: u64,
     tally: Tally,
@@ -43,7 +43,7 @@ pub struct FailingDisk<D: RunDisk, W> {
 impl<D: RunDisk> FailingDisk<D, ForGood> {
     ghost use Rattle.run_disk.specs.FailingDisks.{below, calls_cut, clock_below, state_of};
 
-    /// A fuse over this disk, which passes so many calls on.
+    /// Makes a fuse over this disk, which passes so many calls on.
     pub fn new(disk: D, limit: u64) -> Fuse<D>
         ensures limit { calls_cut result ≡ record { first = limit; behind = last_moment } }
         ensures below { below result ≡ disk }
@@ -59,7 +59,7 @@ impl<D: RunDisk> FailingDisk<D, ForGood> {
 impl<D: RunDisk> FailingDisk<D, Once> {
     ghost use Rattle.run_disk.specs.FailingDisks.{below, calls_cut, clock_below, state_of};
 
-    /// Over this disk; the call of this number fails, counted from 1. Number 0 is no call's.
+    /// Makes a disk over this one that fails call `call`, counted from 1; no call has number 0.
     pub fn new(disk: D, call: u64) -> FailOnce<D>
         ensures call { calls_cut result ≡ record { first = call - 1; behind = call } }
         ensures below { below result ≡ disk }
@@ -76,7 +76,7 @@ impl<D: RunDisk, W> FailingDisk<D, W> {
     ghost use Rattle.run_disk.specs.FailingDisks.{below, calls_cut, clock_below, moment_below};
     ghost use Rattle.run_disk.specs.FailingDisks.{PassesNext, state_of};
 
-    /// Over this disk. The calls from `first` on fail that come before call `behind`.
+    /// Makes a disk over this one. The calls from `first` up to the one before `behind` fail.
     fn over(disk: D, first: u64, behind: u64) -> FailingDisk<D, W>
         requires { first ≤ behind }
         ensures cut { calls_cut result ≡ record { first = first; behind = behind } }
@@ -96,7 +96,7 @@ impl<D: RunDisk, W> FailingDisk<D, W> {
         }
     }
 
-    /// The disk below.
+    /// Returns the disk below.
     pub fn into_inner(self) -> D
         ensures below { result ≡ below self }
         ensures same { ShowsSame (state_of self) (D.state result) }
@@ -105,7 +105,7 @@ impl<D: RunDisk, W> FailingDisk<D, W> {
         self.disk
     }
 
-    /// Says whether it passes the next call on.
+    /// Returns whether the disk passes the next call on.
     fn passes_next(&self) -> bool
         ensures passes { OnTrue result (PassesNext self.now) }
         ensures fails { OnFalse result (PassesNext self.now → ⊥) }
@@ -156,7 +156,7 @@ impl<D: RunDisk, W> RunDisk for FailingDisk<D, W> {
             → (x : List ℕ) → (state_of self.new).images x → (state_of self.old).images x }
     {
         if !self.passes_next() {
-            // the disk below stays as it is, also where there is nothing to write
+            // the disk below stays as it is, even if there is nothing to write
             return Err(self.tally.refuse());
         }
         let done = self.disk.write_at(at, bytes);

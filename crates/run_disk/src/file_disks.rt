@@ -1,12 +1,12 @@
 //! A [`FileDisk`] is a disk over a file.
 //!
-//! Of what a file holds nothing is known here, so such a disk isn't called honest: of it only its
+//! Nothing is known here of what a file holds, so such a disk isn't called honest: only its
 //! size, its counts and its safety are claimed. A program that relies on it takes as its premise
 //! that nobody else writes the file and that the file behaves as a disk does.
 //!
-//! A file of Linux behaves so only until a sync of it fails. Then the system takes what it could
+//! A Linux file behaves so only until a sync of it fails. Then the system takes what it could
 //! not write for written: reads still give it, a later sync succeeds and doesn't write it, and a
-//! power failure takes it. So nothing is done with such a file any more but to copy it.
+//! power failure takes it. So such a file must only be copied from then on.
 
 ghost use Rattle.std.specs.Prelude.{◌≡◌, IfOk, is_ok};
 ghost use Rattle.run_disk.specs.Files.{IsFileDisk, file_state, is_file_disk};
@@ -24,18 +24,18 @@ pub struct FileDisk {
     file: File,
     size: u64,
     tally: Tally,
-    // what the system said of the first call that failed
+    // what the system reported of the first call that failed
     error: Option<io::Error>,
     ghost kept: { IsFileDisk size tally.calls tally.failures },
 }
 
 impl FileDisk {
-    /// A disk over this file, which has to be open for what the disk is to do: where it is open for
-    /// reading alone, each write fails. The file is synced first, which is no counted call: so what
-    /// another program left in the system's memory is on the device before any of it is read.
+    /// A disk over this file, which must be open for what the disk is to do: if it is open for
+    /// reading alone, each write fails. The file is synced first, in a call that isn't counted: so
+    /// what another program left in the system's memory is on the device before any of it is read.
     ///
-    /// It isn't where an earlier sync of the file failed, in whichever program. Then a copy of the
-    /// file is to be opened in its place: what is written to a new file is on the device once a
+    /// It isn't if an earlier sync of the file failed, in whichever program. Then a copy of the
+    /// file must be opened in its place: what is written to a new file is on the device once a
     /// sync of it succeeds.
     pub fn new(file: File) -> Result<FileDisk, DiskFailed>
         ensures calls { IfOk result (λ d. (⟦<FileDisk as RunDisk>⟧.state d).clock ≡ 0) }
@@ -47,7 +47,7 @@ impl FileDisk {
         }
     }
 
-    /// So does [`FileDisk::new`]; the error is the system's.
+    /// Does the same as [`FileDisk::new`]; the error is the system's.
     pub fn settled(file: File) -> io::Result<FileDisk>
         ensures calls { IfOk result (λ d. (⟦<FileDisk as RunDisk>⟧.state d).clock ≡ 0) }
         ensures failures { IfOk result (λ d. (⟦<FileDisk as RunDisk>⟧.state d).failures ≡ 0) }
@@ -56,7 +56,7 @@ impl FileDisk {
         FileDisk::unsettled(file)
     }
 
-    /// A disk over a file that is only read. It is synced first where its file system syncs such a
+    /// A disk over a file that is only read. It is synced first if its file system syncs such a
     /// file: on one that is mounted for reading alone, what reads give may be what a power failure
     /// would have lost.
     pub fn to_read(file: File) -> io::Result<FileDisk>
@@ -69,7 +69,7 @@ impl FileDisk {
         }
     }
 
-    /// A disk over this file as it is.
+    /// Makes a disk over this file as it is.
     fn unsettled(file: File) -> io::Result<FileDisk>
         ensures calls { IfOk result (λ d. (⟦<FileDisk as RunDisk>⟧.state d).clock ≡ 0) }
         ensures failures { IfOk result (λ d. (⟦<FileDisk as RunDisk>⟧.state d).failures ≡ 0) }
@@ -83,7 +83,7 @@ impl FileDisk {
         })
     }
 
-    /// What the system said of the first call that failed, if one did.
+    /// Returns what the system reported of the first call that failed, if one did.
     pub fn error(&self) -> Option<&io::Error> {
         self.error.as_ref()
     }
@@ -123,7 +123,7 @@ impl RunDisk for FileDisk {
     }
 }
 
-/// What a call of the file comes to: whatever its error, the device failed. The first is kept.
+/// The result of a call of the file: whatever its error, the device failed. The first is kept.
 fn or_failed(done: io::Result<()>, first: &mut Option<io::Error>) -> Result<(), DiskFailed>
     ensures { is_ok result ≡ is_ok done }
 {
@@ -138,8 +138,8 @@ fn or_failed(done: io::Result<()>, first: &mut Option<io::Error>) -> Result<(), 
     }
 }
 
-/// Says whether a sync that failed so was refused for the file system: it keeps nothing back of a
-/// file that may only be read, or has no sync.
+/// Returns whether the file system refused a sync that failed so: it keeps nothing back of a file
+/// that may only be read, or has no sync.
 fn is_unsynced(kind: io::ErrorKind) -> bool {
     matches!(
         kind,

@@ -13,7 +13,7 @@ use crate::tears::Torn;
 use std::alloc::{AllocError, Allocator};
 use std::marker::Model;
 
-/// A write that went well.
+/// A write that succeeded.
 #[derive(Drop)]
 struct Written<A: Allocator> {
     moment: u64,
@@ -30,7 +30,7 @@ impl<A: Allocator> Model for Written<A> {
 }
 
 impl<A: Allocator> Written<A> {
-    /// Puts over `image` what a crash behind the first `calls` calls leaves of this write.
+    /// Puts over `image` what a crash after the first `calls` calls leaves of this write.
     fn leave(&self, image: &mut [u8], syncs: &[u64], calls: u64, torn: Torn)
         requires { self.now.at + length self.now.bytes ≤ length image.old }
         ensures { Puts self.now.at (left_of torn syncs.now calls self.now) image.old image.new }
@@ -46,7 +46,7 @@ impl<A: Allocator> Written<A> {
     }
 }
 
-/// Says whether a sync was made behind this moment, among the first `calls` calls.
+/// Returns whether a sync was made after this moment, among the first `calls` calls.
 fn is_followed(moment: u64, syncs: &[u64], calls: u64) -> bool
     ensures { result ≡ is_synced syncs.now calls moment }
 {
@@ -70,7 +70,7 @@ fn tear(image: &mut [u8], at: usize, bytes: &[u8], torn: Torn)
     }
 }
 
-/// What a disk in memory keeps: its first bytes, and the writes and syncs that went well.
+/// What a disk in memory keeps: its first bytes, and the writes and syncs that succeeded.
 #[derive(Drop)]
 pub struct History<A: Allocator> {
     first: Vec<u8, A>,
@@ -90,7 +90,7 @@ impl<A: Allocator> Model for History<A> {
     } };
 }
 
-/// Puts over `image` what a crash behind the first `calls` calls leaves of these writes.
+/// Puts over `image` what a crash after the first `calls` calls leaves of these writes.
 fn leave_all<A: Allocator>(
     writes: &[Written<A>],
     image: &mut [u8],
@@ -109,7 +109,7 @@ fn leave_all<A: Allocator>(
 }
 
 impl<A: Allocator> History<A> {
-    /// Of a disk with these bytes, before its first call.
+    /// The history of a disk with these bytes, before its first call.
     pub fn new(alloc: A, first: Vec<u8, A>) -> History<A>
     where
         A: Copy,
@@ -148,7 +148,7 @@ impl<A: Allocator> History<A> {
         Ok(())
     }
 
-    /// What a crash behind the first `calls` calls leaves, with each unsynced write torn this way.
+    /// What a crash after the first `calls` calls leaves, with each unsynced write torn this way.
     pub fn image(&self, alloc: A, calls: u64, torn: Torn) -> Result<Vec<u8, A>, AllocError>
         requires { All (λ w. w.at + length w.bytes ≤ length self.now.first) self.now.writes }
         ensures { IfOk result (λ image. IsTornImage torn self.now calls image.items) }

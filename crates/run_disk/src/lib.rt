@@ -1,7 +1,7 @@
 //! Disks of a fixed size, with four calls: size, read, write and sync.
 //!
-//! The ghost side of [`RunDisk`] says what reads give, what a crash may leave now, and what a crash
-//! since an earlier moment may have left.
+//! The ghost side of [`RunDisk`] states what reads give, what a crash may leave now, and what a
+//! crash since an earlier moment may have left.
 #![tactic(auto)]
 
 mod disks;

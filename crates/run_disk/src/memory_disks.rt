@@ -1,5 +1,5 @@
 //! A [`MemoryDisk`] keeps its bytes in memory, and each write and sync that it did, so that it can
-//! show what a crash behind any of its calls leaves.
+//! show what a crash after any of its calls leaves.
 
 ghost use Rattle.std.specs.Prelude.{◌≡◌, ◌≤◌, ◌+◌, length, slice_range, IfOk, IfErr, OnOk, OnErr};
 ghost use Rattle.std.specs.List.{All};
@@ -18,7 +18,7 @@ use crate::tears::Torn;
 use run_model::Fault;
 use std::alloc::{Allocator, Global};
 
-/// A disk in memory. It is honest. A write or a sync for which memory is refused fails: it is
+/// A disk in memory. It is honest. A write or a sync fails if memory for it is refused: it is
 /// counted, and leaves the bytes and what a crash may leave as they were.
 #[derive(Drop)]
 pub struct MemoryDisk<A: Allocator = Global> {
@@ -31,7 +31,7 @@ pub struct MemoryDisk<A: Allocator = Global> {
 impl<A: Allocator + Copy> MemoryDisk<A> {
     ghost use Rattle.run_disk.specs.MemoryDisks.{history_of};
 
-    /// A disk at rest with so many zero bytes.
+    /// Makes a disk at rest with so many zero bytes.
     pub fn new(alloc: A, size: usize) -> Result<MemoryDisk<A>, Fault>
         ensures begins { IfOk result (λ disk.
             let state = ⟦<MemoryDisk<A> as RunDisk>⟧.state disk in Begins state.now state) }
@@ -49,7 +49,7 @@ impl<A: Allocator + Copy> MemoryDisk<A> {
         MemoryDisk::from_bytes(alloc, bytes)
     }
 
-    /// A disk at rest with these bytes.
+    /// Makes a disk at rest with these bytes.
     pub fn from_bytes(alloc: A, bytes: Vec<u8, A>) -> Result<MemoryDisk<A>, Fault>
         ensures begins { IfOk result (λ disk.
             Begins bytes.items (⟦<MemoryDisk<A> as RunDisk>⟧.state disk)) }
@@ -66,16 +66,16 @@ impl<A: Allocator + Copy> MemoryDisk<A> {
         })
     }
 
-    /// How many reads, writes and syncs were made, the failed ones included.
+    /// Returns the number of reads, writes and syncs that were made, the failed ones included.
     pub fn calls(&self) -> u64
         ensures { result ≡ (⟦<MemoryDisk<A> as RunDisk>⟧.state self.now).clock }
     {
         self.tally.calls
     }
 
-    /// What a crash behind the first `after_calls` calls leaves, when it tears each write that no
-    /// sync followed in this way. It is one of the contents that the disk then said a crash may
-    /// leave. It copies the disk once, and looks for a sync behind each write.
+    /// What a crash after the first `after_calls` calls leaves, if it tears each write that no sync
+    /// followed in this way. It is one of the contents that the disk then said a crash may leave.
+    /// It copies the disk once, and looks for a sync after each write.
     pub fn image(&self, alloc: A, after_calls: u64, torn: Torn) -> Result<Vec<u8, A>, Fault>
         requires { after_calls ≤ (⟦<MemoryDisk<A> as RunDisk>⟧.state self.now).clock }
         ensures bytes { IfOk result (λ image.

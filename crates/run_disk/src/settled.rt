@@ -1,4 +1,4 @@
-//! A disk that is settled: nothing that was written to it before is left to a crash.
+//! A settled disk: a crash can lose nothing that was written to it before.
 
 ghost use Rattle.std.specs.Prelude.{ℕ, OnOk};
 ghost use Rattle.run_disk.specs.Disk.{IsAtRest};
@@ -9,9 +9,9 @@ use crate::disks::{DiskFailed, RunDisk};
 /// Syncs a disk before it is opened: one call, which changes no byte. At `Ok` an honest disk on
 /// which no failed write waits is at rest, whatever wrote to it before.
 ///
-/// What a killed program wrote is there to be read, and a power failure may still lose it. So
-/// whoever opens a disk that isn't known to be at rest settles it first: one that another program
-/// wrote, say. A file whose sync failed is no honest disk any more: see [`crate::FileDisk`].
+/// What a killed program wrote can be read, and a power failure may still lose it. So whoever opens
+/// a disk that isn't known to be at rest settles it first: for example one that another program
+/// wrote. A file whose sync failed is no longer an honest disk: see [`crate::FileDisk`].
 #[tactic(auto, using(crate::proofs::RunLemmas::settled))]
 pub fn settle<D: RunDisk>(disk: &mut D) -> Result<(), DiskFailed>
     ensures ran { Ran (D.state disk.old) (D.state disk.new) result }

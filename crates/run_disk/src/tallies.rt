@@ -6,7 +6,7 @@ ghost use Rattle.run_disk.specs.Disk.{last_moment};
 
 use crate::disks::DiskFailed;
 
-/// How many calls were made, and how many of them failed.
+/// The number of calls that were made, and the number of them that failed.
 #[derive(Drop)]
 pub struct Tally {
     pub calls: u64,
@@ -14,7 +14,7 @@ pub struct Tally {
 }
 
 impl Tally {
-    /// Before the first call.
+    /// The tally before the first call.
     pub fn new() -> Tally
         ensures { result ≡ record { calls = 0; failures = 0 } }
     {
@@ -24,7 +24,7 @@ impl Tally {
         }
     }
 
-    /// Says whether no call more can be counted.
+    /// Returns whether no further call can be counted.
     pub fn is_spent(&self) -> bool
         ensures spent { OnTrue result (self.now.calls ≡ last_moment) }
         ensures early { OnFalse result (self.now.calls < last_moment) }
@@ -32,7 +32,7 @@ impl Tally {
         self.calls == u64::MAX
     }
 
-    /// Counts a call that went well.
+    /// Counts a call that succeeded.
     pub fn pass(&mut self)
         requires { self.old.calls < last_moment }
         ensures { self.new ≡ record self.old { calls = self.old.calls + 1 } }
@@ -54,7 +54,7 @@ impl Tally {
         DiskFailed
     }
 
-    /// Counts a call that failed, unless no call more can be counted.
+    /// Counts a call that failed, unless no further call can be counted.
     pub fn refuse(&mut self) -> DiskFailed
         requires fit { self.old.failures ≤ self.old.calls }
         ensures counts { self.old.calls < last_moment → self.new ≡ record {
@@ -69,7 +69,7 @@ impl Tally {
         self.fail()
     }
 
-    /// Counts a call that had this result, which it passes on.
+    /// Counts a call that had this result, which it returns.
     pub fn count(&mut self, done: Result<(), DiskFailed>) -> Result<(), DiskFailed>
         requires early { self.old.calls < last_moment }
         requires fit { self.old.failures ≤ self.old.calls }

@@ -3,12 +3,12 @@
 /// What a crash leaves of each write that no sync followed.
 #[derive(Clone, Copy, Debug, PartialEq, Eq)]
 pub enum Torn {
-    /// None of it.
+    /// None of its bytes.
     Keep,
-    /// All of it.
+    /// All of its bytes.
     Take,
     /// This value in each of its bytes.
     Fill(u8),
-    /// So many of its first bytes, or all where it has no more.
+    /// A prefix of so many bytes, or all if it has no more.
     Front(usize),
 }

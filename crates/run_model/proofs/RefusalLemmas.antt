@@ -30,7 +30,7 @@ pub is_first : (b rest : Bool) → (not (not b) && rest) ≡ true → b ≡ true
 is_first true rest none = refl
 is_first false rest none = none
 
--- Where no test holds, the answer is what stands behind them.
+-- Where no test holds, the answer is what stands after them.
 pub unless_none : {X : Type 0} (tests : List (Bool × Refusal)) (answer : Result X Refusal)
     → list_all (λ t. not t.0) tests ≡ true → unless tests answer ≡ answer
 unless_none [] answer none = refl

@@ -49,7 +49,7 @@ pub record AreTreeRules (count : ℕ) (t : TreeState) : Type 0 where
 
 -- The rules of the work: groups and tasks are within the limits, names of groups are distinct, the
 -- group of each task exists, running tasks are admitted, a group that was waited for is idle, a
--- group has an error exactly where a task of it has, and retries are linked.
+-- group has an error exactly when a task of it has, and retries are linked.
 pub record AreWorkRules (w : WorkState) : Type 0 where
   pub few_groups : length w.groups ≤ MOST_GROUPS
   pub few_tasks : length w.tasks ≤ most_tasks w.layout
@@ -64,7 +64,7 @@ pub record AreWorkRules (w : WorkState) : Type 0 where
 -- ---- between the two
 
 -- The rules between scopes and groups: the scope of each group exists, group scopes and groups that
--- aren't bare belong together, and the scope of such a group is hit where the group has an error or
+-- aren't bare belong together, and the scope of such a group is hit if the group has an error or
 -- was waited for.
 pub record AreCrossRules (p : State) : Type 0 where
   pub known : (g : ℕ) (row : Group) → HasRow p.work.groups g row → row.scope < length p.tree.scopes

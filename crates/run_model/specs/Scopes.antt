@@ -1,4 +1,4 @@
--- What the rows say of a scope: whether it is done and why, its deadline, its values.
+-- The facts of a scope in the rows: whether it is done and why, its deadline, its values.
 use Rattle.std.specs.Prelude.{◌≡◌, ◌<◌, ℕ, zero, suc, Bool, true, false, if◌then◌else◌, List, []}
 use Rattle.std.specs.Prelude.{◌∷◌, Option, Some, None, slice_get, is_some, min}
 use Rattle.std.specs.List.{filter_map}
@@ -69,7 +69,7 @@ comes_before a b =
     is_lt (ordering_then (nat_cmp a.1.event b.1.event)
     (ordering_then (nat_cmp a.1.moment b.1.moment) (nat_cmp a.0 b.0)))
 
--- The first of two hits, where there may be one alone.
+-- The first of two hits, one of which may be missing.
 abbrev pub first_of : Option (ℕ × Hit) → ℕ × Hit → ℕ × Hit
 first_of None a = a
 first_of (Some b) a = if comes_before a b then a else b
@@ -87,7 +87,7 @@ first_hit rows s = least_hit (filter_map hit_at (chain rows s))
 abbrev pub ending : List Scope → ℕ → Option Hit
 ending rows s = option_map (λ a. a.1) (first_hit rows s)
 
--- A scope is done where a scope on its chain was hit.
+-- A scope is done if a scope on its chain was hit.
 abbrev pub is_done : List Scope → ℕ → Bool
 is_done rows s = is_some (ending rows s)
 
@@ -106,12 +106,12 @@ abbrev pub own_deadline : Kind → Option ℕ
 own_deadline (kind.Deadline moment cause) = Some moment
 own_deadline _ = None
 
--- The lesser of two moments, where there may be one alone.
+-- The lesser of two moments, one of which may be missing.
 abbrev pub lesser : ℕ → Option ℕ → Option ℕ
 lesser a None = Some a
 lesser a (Some b) = Some (min a b)
 
--- The least of these moments; none of none.
+-- The least of these moments; none if there are none.
 abbrev pub least_moment : List ℕ → Option ℕ
 least_moment [] = None
 least_moment (a ∷ rest) = lesser a (least_moment rest)

@@ -8,10 +8,10 @@ use crate::refusals::Refusal;
 use std::error::Error;
 use std::fmt;
 
-/// What went wrong with a store, a device or the memory. It is shown as `fault 2 DiskFailed`.
+/// What went wrong with a store, a device or the memory. It is printed as `fault 2 DiskFailed`.
 #[derive(Clone, Copy, Debug, PartialEq, Eq)]
 pub enum Fault {
-    /// The memory that was asked for was refused.
+    /// The memory that was needed was refused.
     Memory,
     /// A call of the device failed.
     DiskFailed,
@@ -25,7 +25,7 @@ pub enum Fault {
     BadImage,
     /// An open batch is malformed.
     BadBatch,
-    /// A batch holds bytes that are no record.
+    /// A batch holds bytes that are not a record.
     BadRecord,
     /// A record's event is not allowed at its place.
     BadEvent,
@@ -83,7 +83,7 @@ impl fmt::Display for Fault {
 
 impl Error for Fault {}
 
-/// Why a flush or a checkpoint was not done. It is shown as the refusal or the fault is.
+/// Why a flush or a checkpoint was not done. It is printed as the refusal or the fault is.
 #[derive(Clone, Copy, Debug, PartialEq, Eq)]
 pub enum Trouble {
     /// The book refuses it.

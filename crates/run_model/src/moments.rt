@@ -27,7 +27,7 @@ impl Model for Moment {
 }
 
 impl Moment {
-    /// The moment of so many seconds, and `None` exactly past the greatest one.
+    /// Returns the moment of so many seconds, and `None` exactly past the greatest one.
     pub fn new(seconds: u64) -> Option<Moment>
         ensures { SomeIff result (seconds ≤ GREATEST_MOMENT) seconds }
     {
@@ -38,7 +38,7 @@ impl Moment {
         }
     }
 
-    /// Its seconds.
+    /// Returns its seconds.
     pub fn get(self) -> u64
         ensures value { result ≡ self }
         ensures range { result ≤ GREATEST_MOMENT }

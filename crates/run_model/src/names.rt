@@ -14,7 +14,7 @@ use std::alloc::AllocError;
 use std::marker::Model;
 use std::{fmt, str};
 
-/// A name: 1 to 32 bytes of `a` to `z`, `0` to `9`, `-` and `_`. It is shown as they are.
+/// A name: 1 to 32 bytes of `a` to `z`, `0` to `9`, `-` and `_`. It is printed as they are.
 #[derive(Debug, Drop)]
 pub struct Name {
     bytes: ArrayVec<u8, NAME_LEN>,
@@ -29,14 +29,14 @@ impl Model for Name {
 }
 
 impl Name {
-    /// Says whether these bytes are a name.
+    /// Returns whether these bytes are a name.
     pub fn accepts(bytes: &[u8]) -> bool
         ensures { result ≡ is_name bytes.now }
     {
         1 <= bytes.len() && bytes.len() <= NAME_LEN && are_name_bytes(bytes)
     }
 
-    /// The name of these bytes, and `None` exactly where they are no name.
+    /// Returns the name of these bytes, and `None` exactly when they are not a name.
     pub fn read(bytes: &[u8]) -> Option<Name>
         ensures { SomeIff result (IsName bytes.now) bytes.now }
     {
@@ -50,7 +50,7 @@ impl Name {
         }
     }
 
-    /// The name's bytes.
+    /// Returns the name's bytes.
     pub fn as_bytes(&self) -> &[u8]
         ensures value { result.now ≡ self.now }
         ensures name { IsName self.now }
@@ -58,7 +58,7 @@ impl Name {
         self.bytes.as_slice()
     }
 
-    /// The same name once more.
+    /// Returns the same name once more.
     pub fn copy(&self) -> Name
         ensures { result ≡ self.now }
     {

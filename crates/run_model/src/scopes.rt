@@ -12,7 +12,7 @@ use crate::moments::Moment;
 use crate::names::Name;
 use crate::texts::Text;
 
-/// Why a scope is done: what Go's `Err` says.
+/// Why a scope is done, as Go's `Err` returns it.
 #[derive(Clone, Copy, Debug, PartialEq, Eq)]
 pub enum Reason {
     /// It was cancelled, or a scope above it was.
@@ -53,7 +53,7 @@ pub enum Kind {
 }
 
 impl Kind {
-    /// The same kind once more.
+    /// Returns the same kind once more.
     pub fn copy(&self) -> Kind
         ensures { result ≡ self.now }
     {
@@ -74,16 +74,16 @@ impl Kind {
 pub struct Hit {
     /// The number of the event that it came with.
     pub event: u64,
-    /// The deadline that passed, else the clock.
+    /// The deadline that passed, otherwise the clock.
     pub moment: Moment,
     /// Why.
     pub reason: Reason,
-    /// The cause that was given, else the reason's text.
+    /// The cause that was given, otherwise the reason's text.
     pub cause: Text,
 }
 
 impl Hit {
-    /// The same hit once more.
+    /// Returns the same hit once more.
     pub fn copy(&self) -> Hit
         ensures { result ≡ self.now }
     {
@@ -110,7 +110,7 @@ pub struct Scope {
 }
 
 impl Scope {
-    /// The row of a scope that nothing has ended.
+    /// Returns the row of a scope that nothing has ended.
     pub fn new(name: Name, parent: u16, kind: Kind) -> Scope
         ensures { result ≡ new_scope name parent kind }
     {

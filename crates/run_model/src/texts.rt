@@ -14,7 +14,7 @@ use std::alloc::AllocError;
 use std::marker::Model;
 use std::{fmt, str};
 
-/// A text: 1 to 64 bytes of printable ASCII, 0x20 to 0x7E. It is shown as they are.
+/// A text: 1 to 64 bytes of printable ASCII, 0x20 to 0x7E. It is printed as they are.
 #[derive(Debug, Drop)]
 pub struct Text {
     bytes: ArrayVec<u8, TEXT_LEN>,
@@ -29,14 +29,14 @@ impl Model for Text {
 }
 
 impl Text {
-    /// Says whether these bytes are a text.
+    /// Returns whether these bytes are a text.
     pub fn accepts(bytes: &[u8]) -> bool
         ensures { result ≡ is_text bytes.now }
     {
         1 <= bytes.len() && bytes.len() <= TEXT_LEN && are_text_bytes(bytes)
     }
 
-    /// The text of these bytes, and `None` exactly where they are no text.
+    /// Returns the text of these bytes, and `None` exactly when they are not a text.
     pub fn read(bytes: &[u8]) -> Option<Text>
         ensures { SomeIff result (IsText bytes.now) bytes.now }
     {
@@ -50,7 +50,7 @@ impl Text {
         }
     }
 
-    /// The text's bytes.
+    /// Returns the text's bytes.
     pub fn as_bytes(&self) -> &[u8]
         ensures value { result.now ≡ self.now }
         ensures text { IsText self.now }
@@ -58,7 +58,7 @@ impl Text {
         self.bytes.as_slice()
     }
 
-    /// The same text once more.
+    /// Returns the same text once more.
     pub fn copy(&self) -> Text
         ensures { result ≡ self.now }
     {

@@ -13,7 +13,7 @@ use Rattle.run_model.proofs.RowLemmas.{slice_get-push_left, slice_get-push_last,
 use Rattle.scope_tree.specs.declared.chains.TheConstants.{CHAINS}
 use Rattle.scope_tree.specs.Chains.{Places, IsLast, IsChained, head_of, hung}
 
--- A place more behind place n changes nothing below it.
+-- A place more after place n changes nothing below it.
 last_below : (keys : List (Option ℕ)) (x : Option ℕ) (key n : ℕ) (o : Option ℕ) → n ≤ length keys
     → IsLast keys key n o → IsLast (keys ++ x ∷ []) key n o
 last_below keys x key n None within is =

@@ -1,4 +1,4 @@
--- One advance: deadlines that pass, the soonest first, each behind the hits before it.
+-- One advance: deadlines that pass, the soonest first, each after the hits before it.
 use Rattle.std.proofs.Common.{◌≡◌, ◌≢◌, ◌⊎◌, ◌+◌, ◌*◌, ◌<◌, ◌≤◌, ℕ, zero, suc, true, false, List}
 use Rattle.std.proofs.Common.{[]}
 use Rattle.std.proofs.Common.{◌∷◌, length, map, Option, Some, None, slice_get, unwrap_or}
@@ -76,7 +76,7 @@ strictly x t m n less t_small n_small other = elim (cases_lt x m) [
   )
 ]
 
--- The hit of the soonest deadline that waits comes behind all others.
+-- The hit of the soonest deadline that waits comes after all others.
 latest_of : (rows : List Scope) (due : List ℕ) (event n : ℕ) (hit : Hit)
     → length rows ≤ MOST_SCOPES → ComeBefore rows due event → Among n due
     → key rows n ≡ hit.moment * MOST_SCOPES + n → n < length rows → hit.event ≡ event

@@ -179,7 +179,7 @@ pub cond_some_by : {X : Type 0} (b : Bool) (o : Option X) (x : X) → cond b o N
 cond_some_by true o x e = (refl, e)
 cond_some_by false o x e = absurd (none-some x e)
 
--- The rows behind those that there were keep the rules, and are what the bytes begin with.
+-- The rows after those that there were keep the rules, and are what the bytes begin with.
 pub record AreMore
     (count clock n : ℕ) (rows : List Scope) (bytes : List ℕ) (x : List Scope × List ℕ)
     : Type 0 where

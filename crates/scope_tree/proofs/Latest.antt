@@ -1,4 +1,4 @@
--- A hit that comes behind all others ends no scope that was done.
+-- A hit that comes after all others ends no scope that was done.
 use Rattle.std.proofs.Common.{◌≡◌, ◌≢◌, ◌⊎◌, ◌<◌, ℕ, zero, suc, Bool, true, false, cond, List, []}
 use Rattle.std.proofs.Common.{◌∷◌, length}
 use Rattle.std.proofs.Common.{Option, Some, None, slice_get, inl, inr, refl, sym, ap, subst}
@@ -18,7 +18,7 @@ use Rattle.model_laws.proofs.Lines.{first_hit_up}
 use Rattle.model_laws.proofs.Least.{first_hit_least}
 use Rattle.scope_tree.proofs.Keeping.{ordered_hit}
 
--- Each own hit comes before this one at scope n, and this one behind it.
+-- Each own hit comes before this one at scope n, and this one after it.
 abbrev pub IsLatest : List Scope → ℕ → Hit → Type 0
 IsLatest rows n hit = (t : ℕ) (h : Hit) → own_hit rows t ≡ Some h
     → (comes_before (t, h) (n, hit) ≡ true) × (comes_before (n, hit) (t, h) ≡ false)

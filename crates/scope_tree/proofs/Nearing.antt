@@ -193,7 +193,7 @@ reached_follow e now old new reaches follows ordered ordered' size were = record
   right = reaches_again old new reaches ordered ordered' (follows_again e now old new follows) were;
 }
 
--- Nor do rows behind root take anything from root's.
+-- Nor do rows after root take anything from root's.
 pub root_again : (old rows : List Scope) → old ≡ root ∷ [] → slice_get rows 0 ≡ Some root
     → AreAgain old rows
 root_again old rows first found zero row at = record {

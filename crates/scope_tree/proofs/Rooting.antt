@@ -44,7 +44,7 @@ none_wait rows due none empty =
 
 -- ---- root
 
--- The rows where root was pushed behind none.
+-- The rows where root was pushed after none.
 pub root_pushed : (old new : List Scope) (row : Scope) (name : List ℕ) → new ≡ old ++ row ∷ []
     → old ≡ [] → row ≡ new_scope name 0 kind.Root → name ≡ root.name → new ≡ root ∷ []
 root_pushed old new row name pushed none is called = rw (pushed, none, is, called) refl

@@ -214,7 +214,7 @@ abbrev pub left : Option ℕ → ℕ
 left None = 0
 left (Some c) = c + 1
 
--- At a child, or behind the last.
+-- At a child, or after the last.
 pub record Walk (links : List (Option ℕ)) (marks marks' : List (Option ℕ)) (work work' : List ℕ)
     (s at : ℕ) (child : Option ℕ) : Type 0 where
   pub k : ℕ

@@ -52,7 +52,7 @@ writable_behind clock rows rooted hits s row found = record {
   can = λ hit has. (hits (suc s) row hit (behind_first rows s row found) has).can;
 }
 
--- The rows behind root that are lent can be written.
+-- The rows after root that are lent can be written.
 pub lent_writable : (clock : ℕ) (rows lent : List Scope) → AreRooted rows → ArePastHits clock rows
     → lent ≡ rows → AreWritable (take (length lent - 1) (drop 1 lent))
 lent_writable clock rows lent rooted hits same =

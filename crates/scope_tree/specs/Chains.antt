@@ -4,8 +4,8 @@ use Rattle.std.specs.Prelude.{slice_get, slice_index_or, slice_set}
 use Rattle.run_model.specs.declared.bounds.TheConstants.{MOST_SCOPES}
 use Rattle.scope_tree.specs.declared.chains.TheConstants.{CHAINS}
 
--- The keys of places that came one after another, and how many there is room for. A place can have
--- no key.
+-- The keys of places that came one after another, and the number of places that fit. A place can
+-- have no key.
 pub record Places : Type 0 where
   pub room : ℕ
   pub keys : List (Option ℕ)
@@ -17,8 +17,8 @@ IsLast keys key n (Some c) =
     (c < n) × (slice_get keys c ≡ Some (Some key))
     × ((t : ℕ) → c < t → t < n → slice_get keys t ≡ Some (Some key) → ⊥)
 
--- The head of a key's chain is the last place of the key, behind each place stands the last one
--- before it, and there is room for each place that can come, and for no more.
+-- The head of a key's chain is the last place of the key, after each place stands the last one
+-- before it, and each place that can come fits, and no more.
 pub record IsChained
     (places : Places) (heads nexts : List (Option ℕ)) (next_capacity : ℕ) : Type 0 where
   pub same : length nexts ≡ length places.keys

@@ -13,7 +13,7 @@ use Rattle.run_model.specs.Allowed.{refusals, tested}
 use Rattle.run_model.specs.Records.{is_recorded_kind}
 use Rattle.run_model.specs.Scopes.{is_group_kind}
 
--- A test answers the first refusal of the event in each state with this tree.
+-- A test returns the first refusal of the event in each state with this tree.
 abbrev pub Answers : TreeState → Event → Result (Unit {0}) Refusal → Type 0
 Answers t event answer = (count : ℕ) (work : WorkState)
     → answer ≡ tested (refusals (record { count = count; tree = t; work = work }) event)

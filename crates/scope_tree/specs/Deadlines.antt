@@ -42,17 +42,17 @@ IsParent p j = (2 * p < j) × (j ≤ 2 * p + 2)
 abbrev pub IsHeap : (ℕ → ℕ) → ℕ → Type 0
 IsHeap k len = (p j : ℕ) → IsParent p j → j < len → k p ≤ k j
 
--- So it is, but perhaps above place i.
+-- No place has a lesser key than the one above it, except perhaps place i.
 pub record UpTo (k : ℕ → ℕ) (len i : ℕ) : Type 0 where
   pub rest : (p j : ℕ) → IsParent p j → j < len → j ≢ i → k p ≤ k j
   pub over : (p j : ℕ) → IsParent p i → IsParent i j → j < len → k p ≤ k j
 
--- So it is, but perhaps below place i.
+-- No place has a lesser key than the one above it, except perhaps those below place i.
 pub record DownFrom (k : ℕ → ℕ) (len i : ℕ) : Type 0 where
   pub rest : (p j : ℕ) → IsParent p j → j < len → p ≢ i → k p ≤ k j
   pub over : (p j : ℕ) → IsParent p i → IsParent i j → j < len → k p ≤ k j
 
--- Place c is the one below place i that has the lesser key, or i where nothing is below it.
+-- Place c is the one below place i that has the lesser key, or i if nothing is below it.
 pub record IsLesser (k : ℕ → ℕ) (len i c : ℕ) : Type 0 where
   pub child : (c ≡ i) ⊎ (IsParent i c × (c < len))
   pub least : (j : ℕ) → IsParent i j → j < len → (IsParent i c) × (k c ≤ k j)
@@ -81,14 +81,14 @@ pub record TakesFirst (rows : List Scope) (old : List ℕ) (n : ℕ) (new : List
   pub back : (m : ℕ) → Among m new → Among m old
   pub least : (m : ℕ) → Among m old → key rows n ≤ key rows m
 
--- The soonest deadline is taken off with its hit, where it has come; else none has come.
+-- If the soonest deadline has come, it is taken off with its hit; otherwise none has come.
 abbrev pub TakesPassed : ℕ → ℕ → List Scope → List ℕ → Option (ℕ × Hit) → List ℕ → Type 0
 TakesPassed e clock rows old None new =
     (new ≡ old) × ((n : ℕ) → Among n old → due_at e clock rows n ≡ None)
 TakesPassed e clock rows old (Some a) new =
     TakesFirst rows old a.0 new × (due_at e clock rows a.0 ≡ Some a.1)
 
--- Scope n is put in, where it has a deadline and no hit.
+-- Scope n is put in, if it has a deadline and no hit.
 pub record Noted (rows : List Scope) (old : List ℕ) (n : ℕ) (new : List ℕ) : Type 0 where
   pub heap : IsDueHeap rows new
   pub size : length new ≤ length old + 1

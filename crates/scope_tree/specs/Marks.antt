@@ -8,7 +8,7 @@ use Rattle.run_model.specs.Rows.{at_row}
 use Rattle.run_model.specs.TreeChanges.{with_hit}
 use Rattle.run_model.specs.Scopes.{own_hit, first_hit, ending, is_detached}
 
--- The mark of scope s; none also where there is no such scope.
+-- The mark of scope s; none also if there is no such scope.
 abbrev pub mark_of : List (Option ℕ) → ℕ → Option ℕ
 mark_of marks s = slice_index_or marks s None
 
@@ -23,7 +23,7 @@ pub record AreMarked (rows : List Scope) (marks : List (Option ℕ)) : Type 0 wh
   pub same : length marks ≡ length rows
   pub right : (s : ℕ) → s < length rows → IsMark rows s (mark_of marks s)
 
--- The number of the scope whose hit came first on the chain; none where there is no hit.
+-- The number of the scope whose hit came first on the chain; none if there is no hit.
 abbrev pub first_mark : List Scope → ℕ → Option ℕ
 first_mark rows s = option_map (λ a. a.0) (first_hit rows s)
 
@@ -35,14 +35,14 @@ AreMarkedBelow rows marks s = (t : ℕ) → t < s → mark_of marks t ≡ first_
 abbrev pub marked_hit : List Scope → Option ℕ → Option (ℕ × Hit)
 marked_hit rows mark = option_and_then (λ n. option_map (λ hit. (n, hit)) (own_hit rows n)) mark
 
--- The mark of a new scope of number n, where its parent's is given: what ended its parent ended
--- it, else its own hit.
+-- The mark of a new scope of number n, given its parent's: what ended its parent ended it,
+-- otherwise its own hit.
 abbrev pub mark_from : Option ℕ → Option Hit → ℕ → Option ℕ
 mark_from (Some m) own n = Some m
 mark_from None None n = None
 mark_from None (Some hit) n = Some n
 
--- So it is where the scope isn't detached; a detached one has no mark.
+-- That is the mark if the scope isn't detached; a detached one has no mark.
 abbrev pub new_mark : Scope → ℕ → Option ℕ → Option ℕ
 new_mark row n up = if is_detached row.kind then None else mark_from up row.hit n
 

@@ -1,4 +1,4 @@
--- What a tree answers of a scope beside the searches of ancestors.
+-- The answers of a tree on a scope, beside the searches of ancestors.
 use Rattle.std.specs.Prelude.{ℕ, List, Option, slice_get}
 use Rattle.std.specs.Option.{option_map}
 use Rattle.run_model.specs.declared.scopes.Kind.{Kind}
@@ -8,6 +8,6 @@ use Rattle.run_model.specs.State.{TreeState}
 abbrev pub name_of : TreeState → ℕ → Option (List ℕ)
 name_of t s = option_map (λ row. row.name) (slice_get t.scopes s)
 
--- What scope s is.
+-- The kind of scope s.
 abbrev pub kind_at : TreeState → ℕ → Option Kind
 kind_at t s = option_map (λ row. row.kind) (slice_get t.scopes s)

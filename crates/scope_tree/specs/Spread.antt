@@ -33,7 +33,7 @@ pub record Spreading (links old new : List (Option ℕ)) (at : ℕ) (work : List
   pub down : (t p : ℕ) → Child links t p → Since old new at p
       → (is_some (mark_of new t) ≡ true) ⊎ In p work ⊎ ((p ≡ s) × (t < k))
 
--- How many scopes have no mark.
+-- The number of scopes that have no mark.
 abbrev pub unmarked : List (Option ℕ) → ℕ
 unmarked marks = count_by is_none marks
 

@@ -22,7 +22,7 @@ use Rattle.record_view.specs.RowReading.{scope_at}
 
 -- ---- what can be written
 
--- A row that isn't root's, and that has a hit only where its kind can be hit.
+-- A row that isn't root's, and that has a hit only if its kind can be hit.
 pub record IsWritable (row : Scope) : Type 0 where
   pub below_root : is_root row.kind ≡ false
   pub can : (hit : Hit) → row.hit ≡ Some hit → can_be_hit row.kind ≡ true
@@ -38,7 +38,7 @@ abbrev pub reason_fits : Reason → Option ℕ → ℕ → Bool
 reason_fits Canceled deadline moment = true
 reason_fits DeadlineExceeded deadline moment = option_map_or (λ d. d == moment) deadline false
 
--- A hit fits a row of this kind, in a state of this count and clock. There is none only where no
+-- A hit fits a row of this kind, in a state of this count and clock. There is none only if no
 -- deadline has come.
 abbrev pub hit_fits : ℕ → ℕ → Kind → Option Hit → Bool
 hit_fits count clock kind None =
@@ -69,7 +69,7 @@ tree_made layout head rows = record { layout = layout; clock = head.clock; scope
 abbrev pub has_tree_room : Layout → ImageHead → Bool
 has_tree_room layout head = is_moment head.clock && nat_lt head.scopes (most_scopes layout)
 
--- The tree, in a store of this layout, that the bytes behind a head begin with.
+-- The tree, in a store of this layout, that the bytes after a head begin with.
 unfoldable pub tree_at : Layout → ImageHead → Reader TreeState
 tree_at layout head bytes =
     if has_tree_room layout head

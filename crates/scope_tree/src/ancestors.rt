@@ -10,7 +10,7 @@ use crate::kinds::{is_root, text_under};
 use crate::reaches::Reach;
 use run_model::Scope;
 
-/// The nearest value of a key, from scope `s` upwards.
+/// Returns the nearest value of a key, from scope `s` upwards.
 pub fn nearest_value<'a>(
     scopes: &'a [Scope],
     reaches: &[Reach],

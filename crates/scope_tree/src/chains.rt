@@ -10,7 +10,7 @@ ghost use Rattle.scope_tree.specs.Chains.{IsLast, head_of, hung};
 use std::alloc::{AllocError, Allocator};
 use std::marker::Model;
 
-/// How many chains there are: the keys are the numbers below it.
+/// The number of chains: the keys are the numbers below it.
 pub const CHAINS: usize = 4_096;
 
 /// The keys of places that came one after another.
@@ -37,7 +37,7 @@ impl<A: Allocator> Model for Chains<A> {
 }
 
 impl<A: Allocator + Copy> Chains<A> {
-    /// No place yet, and room for so many.
+    /// Makes chains without a place, with room for so many.
     pub fn with_room(alloc: A, room: usize) -> Result<Chains<A>, AllocError>
         requires { room ≤ MOST_SCOPES }
         ensures { IfOk result (λ chains. chains ≡ record { room = room; keys = [] }) }
@@ -50,7 +50,7 @@ impl<A: Allocator + Copy> Chains<A> {
 }
 
 impl<A: Allocator> Chains<A> {
-    /// One place more, with this key or none. Takes no memory.
+    /// Adds one more place, with this key or none. Takes no memory.
     pub fn push(&mut self, key: Option<u16>)
         requires room { length self.old.keys < self.old.room }
         requires key { IfSome key (λ k. k < CHAINS) }
@@ -62,7 +62,7 @@ impl<A: Allocator> Chains<A> {
         self.nexts.push_reserved(next);
     }
 
-    /// The last place of this key.
+    /// Returns the last place of this key.
     pub fn last(&self, key: u16) -> Option<u16>
         requires { key < CHAINS }
         ensures { IsLast self.now.keys key (length self.now.keys) result }
@@ -70,7 +70,7 @@ impl<A: Allocator> Chains<A> {
         self.heads[key as usize]
     }
 
-    /// The last place before place `n` that has its key.
+    /// Returns the last place before place `n` that has its key.
     pub fn before(&self, n: u16) -> Option<u16>
         requires { n < length self.now.keys }
         ensures { (key : ℕ) → slice_get self.now.keys n ≡ Some (Some key)
@@ -80,7 +80,7 @@ impl<A: Allocator> Chains<A> {
     }
 }
 
-/// The heads of chains without a place, and room for no more.
+/// Makes the heads of chains without a place, with room for no more.
 fn no_heads<A: Allocator>(alloc: A) -> Result<Vec<Option<u16>, A>, AllocError>
     ensures none { IfOk result (λ heads. heads.items ≡ replicate CHAINS None) }
     ensures room { IfOk result (λ heads. vec_capacity heads ≡ CHAINS) }
@@ -92,7 +92,7 @@ fn no_heads<A: Allocator>(alloc: A) -> Result<Vec<Option<u16>, A>, AllocError>
     Ok(heads)
 }
 
-/// Puts place `n` in front of its key's chain, and gives what stood there.
+/// Puts place `n` in front of its key's chain, and returns what stood there.
 fn hang(heads: &mut [Option<u16>], key: Option<u16>, n: u16) -> Option<u16>
     requires { IfSome key (λ k. k < length heads.old) }
     ensures head { result ≡ head_of heads.old key }

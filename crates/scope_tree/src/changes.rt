@@ -23,8 +23,8 @@ use arrayvec::ArrayVec;
 use run_model::{Hit, MOST_SCOPES, Moment, Scope};
 use std::alloc::Allocator;
 
-/// One row more, with its name, which no row has, its link, and its deadline, if that waits. Takes
-/// no memory.
+/// Adds one more row, with its name, which no row has, its link, and its deadline, if that waits.
+/// Takes no memory.
 pub fn push_row<A: Allocator>(
     scopes: &mut Vec<Scope, A>,
     names: &mut Chains<A>,

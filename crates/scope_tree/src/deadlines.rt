@@ -29,8 +29,8 @@ pub fn note(scopes: &[Scope], due: &mut ArrayVec<u16, MOST_SCOPES>, n: u16)
     }
 }
 
-/// Takes off the soonest deadline, if it is at or before the clock, and gives its scope and the hit
-/// that it gets by this event.
+/// Takes off the soonest deadline, if it is at or before the clock, and returns its scope and the
+/// hit that it gets by this event.
 pub fn pop_passed(
     scopes: &[Scope],
     due: &mut ArrayVec<u16, MOST_SCOPES>,
@@ -49,14 +49,14 @@ pub fn pop_passed(
     Some((first, hit))
 }
 
-/// Says whether a row has a deadline and was not hit.
+/// Returns whether a row has a deadline and was not hit.
 fn waits(row: &Scope) -> bool
     ensures { result ≡ is_some (own_deadline row.now.kind) && is_none row.now.hit }
 {
     own_deadline(&row.kind).is_some() && row.hit.is_none()
 }
 
-/// The hit of the soonest deadline, if it has come.
+/// Returns the hit of the soonest deadline, if it has come.
 fn first_hit(scopes: &[Scope], due: &[u16], event: u64, clock: Moment) -> Option<Hit>
     requires known { AreKnown scopes.now due.now }
     requires some { 0 < length due.now }
@@ -130,7 +130,7 @@ fn sift_down(scopes: &[Scope], due: &mut [u16])
     }
 }
 
-/// The place below `i` that has the lesser key, or `i` where nothing is below it.
+/// Returns the place below `i` that has the lesser key, or `i` if nothing is below it.
 fn lesser_child(scopes: &[Scope], due: &[u16], i: usize) -> usize
     requires known { AreKnown scopes.now due.now }
     requires inside { i < length due.now }
@@ -157,7 +157,7 @@ fn key(scopes: &[Scope], n: u16) -> u64
     seconds(&scopes[n as usize].kind) * MOST_SCOPES as u64 + u64::from(n)
 }
 
-/// The deadline of a scope of this kind, in seconds; 0 where it has none.
+/// Returns the deadline of a scope of this kind, in seconds; 0 if it has none.
 fn seconds(kind: &Kind) -> u64
     ensures value { result ≡ unwrap_or (own_deadline kind.now) 0 }
     ensures range { result ≤ GREATEST_MOMENT }

@@ -11,8 +11,8 @@ ghost use Rattle.run_model.specs.declared.scopes.Reason.TheVariants.{Canceled, D
 use record_view::copies::text_copy;
 use run_model::{Hit, Kind, Moment, Reason, Scope, Text};
 
-/// Says whether the hit of scope `s` comes before that of scope `t`: by event, then by moment, then
-/// by number.
+/// Returns whether the hit of scope `s` comes before that of scope `t`: by event, then by moment,
+/// then by number.
 pub fn is_before(s: u16, a: &Hit, t: u16, b: &Hit) -> bool
     ensures { result ≡ comes_before (s, a.now) (t, b.now) }
 {
@@ -23,7 +23,7 @@ pub fn is_before(s: u16, a: &Hit, t: u16, b: &Hit) -> bool
         .is_lt()
 }
 
-/// The hit of a cancellation.
+/// Returns the hit of a cancellation.
 pub fn cancelled(event: u64, clock: Moment, cause: Option<Text>) -> Hit
     ensures { result ≡ new_hit event clock Canceled cause }
 {
@@ -35,7 +35,7 @@ pub fn cancelled(event: u64, clock: Moment, cause: Option<Text>) -> Hit
     }
 }
 
-/// The hit that a deadline at or before the clock gets; other kinds get none.
+/// Returns the hit that a deadline at or before the clock gets; other kinds get none.
 pub fn hit_due(event: u64, clock: Moment, kind: &Kind) -> Option<Hit>
     ensures { result ≡ hit_due event clock kind.now }
 {
@@ -68,7 +68,7 @@ pub fn end_row(scopes: &mut [Scope], s: u16, hit: Hit)
     end(&mut scopes[s as usize], hit);
 }
 
-/// The cause that was given, else the reason's text.
+/// Returns the cause that was given, otherwise the reason's text.
 fn cause_or_reason(cause: Option<Text>, reason: Reason) -> Text
     ensures { result ≡ unwrap_or cause (reason_text reason) }
 {
@@ -78,7 +78,7 @@ fn cause_or_reason(cause: Option<Text>, reason: Reason) -> Text
     }
 }
 
-/// The hit of a deadline that passed.
+/// Returns the hit of a deadline that passed.
 fn expired(event: u64, deadline: Moment, cause: Option<Text>) -> Hit
     ensures { result ≡ new_hit event deadline DeadlineExceeded cause }
 {

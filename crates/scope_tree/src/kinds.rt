@@ -12,7 +12,7 @@ use record_view::KindView;
 use record_view::copies::{moment_of, name_copy, optional_copy, text_copy};
 use run_model::{Kind, Moment};
 
-/// The kind that a view shows.
+/// Returns the kind that a view shows.
 pub fn kind_copy(kind: KindView) -> Kind
     requires { IsTrue (is_derived_kind (kind_of kind)) }
     ensures { result ≡ kind_of kind.entry }
@@ -29,35 +29,35 @@ pub fn kind_copy(kind: KindView) -> Kind
     }
 }
 
-/// Says whether a scope of this kind has nothing above it.
+/// Returns whether a scope of this kind has nothing above it.
 pub fn is_root(kind: &Kind) -> bool
     ensures { result ≡ is_root kind.now }
 {
     matches!(kind, Kind::Root)
 }
 
-/// Says whether a scope of this kind is not done when its parent is.
+/// Returns whether a scope of this kind is not done when its parent is.
 pub fn is_detached(kind: &Kind) -> bool
     ensures { result ≡ is_detached kind.now }
 {
     matches!(kind, Kind::Detached)
 }
 
-/// Says whether a scope of this kind can be cancelled by command.
+/// Returns whether a scope of this kind can be cancelled by command.
 pub fn is_cancellable(kind: &Kind) -> bool
     ensures { result ≡ is_cancellable kind.now }
 {
     matches!(kind, Kind::Cancel | Kind::Cause | Kind::Deadline(_, _))
 }
 
-/// Says whether a cause is given that a scope of this kind doesn't record.
+/// Returns whether a cause is given that a scope of this kind doesn't record.
 pub fn refuses_cause(kind: &Kind, cause: Option<&[u8]>) -> bool
     ensures { result ≡ (is_some (option_copied cause.entry) && not (takes_cause kind.now)) }
 {
     cause.is_some() && !matches!(kind, Kind::Cause)
 }
 
-/// The deadline that a scope of this kind has by itself.
+/// Returns the deadline that a scope of this kind has by itself.
 pub fn own_deadline(kind: &Kind) -> Option<Moment>
     ensures { result ≡ own_deadline kind.now }
 {
@@ -67,7 +67,7 @@ pub fn own_deadline(kind: &Kind) -> Option<Moment>
     }
 }
 
-/// The text that a scope of this kind holds under this key.
+/// Returns the text that a scope of this kind holds under this key.
 pub fn text_under<'a>(key: &[u8], kind: &'a Kind) -> Option<&'a [u8]>
     ensures value { option_copied result ≡ text_under key.now kind.now }
     ensures text { IfSome result (λ text. IsText text.now) }

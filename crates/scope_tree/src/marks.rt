@@ -23,7 +23,7 @@ use arrayvec::ArrayVec;
 use run_model::{Hit, MOST_SCOPES, Scope};
 use std::alloc::Allocator;
 
-/// The hit that ended scope `s`.
+/// Returns the hit that ended scope `s`.
 pub fn ending_hit<'a>(scopes: &'a [Scope], marks: &[Option<u16>], s: u16) -> Option<&'a Hit>
     requires marked { AreMarked scopes.now marks.now }
     requires known { s < length scopes.now }
@@ -49,7 +49,7 @@ pub fn mark_rest<A: Allocator>(scopes: &[Scope], marks: &mut Vec<Option<u16>, A>
     }
 }
 
-/// The mark of a new scope of number `n`, whose parent's mark is `up`.
+/// Returns the mark of a new scope of number `n`, whose parent's mark is `up`.
 pub fn new_mark(row: &Scope, n: u16, up: Option<u16>) -> Option<u16>
     ensures { result ≡ new_mark row.now n up }
 {
@@ -78,7 +78,7 @@ pub fn mark_below<A: Allocator>(links: &Chains<A>, marks: &mut [Option<u16>], at
     }
 }
 
-/// The mark of scope `s`, from those of the scopes of lesser numbers.
+/// Returns the mark of scope `s`, from those of the scopes of lesser numbers.
 fn first_mark(scopes: &[Scope], marks: &[Option<u16>], s: u16) -> Option<u16>
     requires ordered { AreOrdered scopes.now }
     requires known { s < length scopes.now }
@@ -101,7 +101,7 @@ fn first_mark(scopes: &[Scope], marks: &[Option<u16>], s: u16) -> Option<u16>
     }
 }
 
-/// The mark of a row's parent; root has none above it.
+/// Returns the mark of a row's parent; root has none above it.
 fn mark_above(row: &Scope, marks: &[Option<u16>]) -> Option<u16>
     requires { is_root row.now.kind ≡ false → row.now.parent < length marks.now }
     ensures { result ≡ above (mark_of marks.now) None row.now }
@@ -113,7 +113,7 @@ fn mark_above(row: &Scope, marks: &[Option<u16>]) -> Option<u16>
     }
 }
 
-/// Says whether a scope's own hit comes before the one that a mark names.
+/// Returns whether a scope's own hit comes before the one that a mark names.
 fn comes_first(scopes: &[Scope], s: u16, own: &Hit, mark: Option<u16>) -> bool
     requires { IfSome mark (λ n. n < length scopes.now) }
     ensures { result ≡ option_map_or (comes_before (s, own.now)) (marked_hit scopes.now mark) true }

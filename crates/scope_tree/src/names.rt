@@ -17,7 +17,7 @@ const FACTOR: u32 = 2_654_435_761;
 /// How far a mixed name reaches.
 const SPAN: u64 = 4_294_967_296;
 
-/// The chain of a name.
+/// Returns the chain of a name.
 pub fn home(name: &[u8]) -> u16
     ensures home { result ≡ home name.now }
     ensures chain { result < CHAINS }
@@ -29,7 +29,7 @@ pub fn home(name: &[u8]) -> u16
     (sum as u64 / (SPAN / CHAINS as u64)) as u16
 }
 
-/// The number of the scope of this name.
+/// Returns the number of the scope of this name.
 pub fn place_of<A: Allocator>(scopes: &[Scope], names: &Chains<A>, name: &[u8]) -> Option<u16>
     requires { AreNamed (names_of scopes.now) names.now.keys }
     ensures { result ≡ position (λ row. bytes_eq name.now row.name) scopes.now }

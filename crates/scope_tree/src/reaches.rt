@@ -11,7 +11,7 @@ use crate::kinds::{is_detached, is_root, own_deadline};
 use run_model::{Kind, MOST_SCOPES, Moment, Scope};
 use std::alloc::Allocator;
 
-/// A scope's deadline, and the nearest scope at or above it that holds a value, else root.
+/// A scope's deadline, and the nearest scope at or above it that holds a value, otherwise root.
 #[derive(Clone, Copy)]
 pub struct Reach {
     pub least: Option<Moment>,
@@ -34,7 +34,7 @@ pub fn reach_rest<A: Allocator>(scopes: &[Scope], reaches: &mut Vec<Reach, A>)
     }
 }
 
-/// The reach of scope `s`, from those of the scopes of lesser numbers.
+/// Returns the reach of scope `s`, from those of the scopes of lesser numbers.
 fn new_reach(scopes: &[Scope], reaches: &[Reach], s: u16) -> Reach
     requires ordered { AreOrdered scopes.now }
     requires known { s < length scopes.now }
@@ -63,14 +63,14 @@ fn new_reach(scopes: &[Scope], reaches: &[Reach], s: u16) -> Reach
     }
 }
 
-/// Says whether a search for a value has to look at a scope of this kind, or ends there.
+/// Returns whether a search for a value has to look at a scope of this kind, or ends there.
 fn is_holder(kind: &Kind) -> bool
     ensures { result ≡ is_holder kind.now }
 {
     matches!(kind, Kind::Root | Kind::Value(_, _))
 }
 
-/// The earlier of two deadlines, where there may be one alone or none.
+/// Returns the earlier of two deadlines, of which one or both may be missing.
 fn sooner(a: Option<Moment>, b: Option<Moment>) -> Option<Moment>
     ensures { result ≡ earlier a b }
 {

@@ -28,7 +28,7 @@ use record_view::{HitView, ImageHead, ScopeRow, put_scope, read_scope, scope_row
 use run_model::{Hit, Kind, Layout, MOST_SCOPES, Moment, Reason, Scope};
 use std::alloc::Allocator;
 
-/// Puts the rows at a place, one behind the other, and gives the place behind them.
+/// Puts the rows at a place, one after the other, and returns the place after them.
 pub fn put_rows(rows: &[Scope], out: &mut [u8], at: usize) -> usize
     requires rows { AreWritable rows.now }
     requires room { at + 192 * length rows.now ≤ length out.old }
@@ -44,8 +44,8 @@ pub fn put_rows(rows: &[Scope], out: &mut [u8], at: usize) -> usize
     end
 }
 
-/// Reads the rows of a tree of this layout behind root's, and gives its clock and the bytes behind
-/// its rows; `None` where the bytes begin with the rows of no such tree.
+/// Reads the rows of a tree of this layout after root's, and returns its clock and the bytes after
+/// its rows; `None` if the bytes begin with the rows of no such tree.
 pub fn read_behind_root<'a, A: Allocator>(
     layout: Layout,
     scopes: &mut Vec<Scope, A>,
@@ -80,8 +80,8 @@ pub fn read_behind_root<'a, A: Allocator>(
     Some((clock, rest))
 }
 
-/// Reads so many rows behind those that there are; `None` where the bytes don't begin with them, or
-/// one of them can't follow.
+/// Reads so many rows after those that there are; `None` if the bytes don't begin with them, or one
+/// of them can't follow.
 fn read_more<'a, A: Allocator>(
     scopes: &mut Vec<Scope, A>,
     names: &mut Chains<A>,
@@ -117,7 +117,7 @@ fn read_more<'a, A: Allocator>(
     Some(rest)
 }
 
-/// Says whether a row can follow these rows, in a state of this head.
+/// Returns whether a row can follow these rows, in a state of this head.
 fn can_follow<A: Allocator>(
     scopes: &[Scope],
     names: &Chains<A>,
@@ -178,7 +178,7 @@ fn can_be_hit(kind: &Kind) -> bool
     )
 }
 
-/// The row that a view shows.
+/// Returns the row that a view shows.
 #[tactic(auto, using(crate::proofs::KeptRows::kept_derived))]
 fn row_copy(row: &ScopeRow) -> Scope
     requires { IsTrue (is_kept_scope (scope_of row.now)) }

@@ -38,7 +38,7 @@ all_from : {X : Type 0} (P : X → Type 0) (rows : List X)
 all_from P [] each = tt
 all_from P (row ∷ rows) each = (each zero row refl, all_from P rows (λ n. each (suc n)))
 
--- Behind the first row, numbers are one less.
+-- After the first row, numbers are one less.
 behind_get : {X : Type 0} (rows : List X) (n : ℕ)
     → slice_get (drop 1 rows) n ≡ slice_get rows (suc n)
 behind_get [] n = refl

@@ -12,14 +12,14 @@ use Rattle.state_renewal.specs.Renewed.{kept, new_number, one_more_if}
 use Rattle.state_renewal.proofs.Numbers.{are_told, length-kept, number_up}
 use Rattle.task_group.proofs.PutLoops.{PutSoFar, put_first, put_next, put_done, row_room}
 
--- The number behind a row that is kept is one more.
+-- The number after a row that is kept is one more.
 pub number_kept : (keeps : ℕ → Bool) (n : ℕ) → keeps n ≡ true
     → new_number keeps (n + 1) ≡ new_number keeps n + 1
 number_kept keeps n is =
     ap (new_number keeps) (add-one n) ∙ ap (λ b. one_more_if b (new_number keeps n)) is
     ∙ sym (add-one (new_number keeps n))
 
--- The number behind a row that goes is the same.
+-- The number after a row that goes is the same.
 pub number_gone : (keeps : ℕ → Bool) (n : ℕ) → keeps n ≡ false
     → new_number keeps (n + 1) ≡ new_number keeps n
 number_gone keeps n is =
@@ -27,7 +27,7 @@ number_gone keeps n is =
 
 module _ {X : Type 0} (write : X → List ℕ) (ok : X → Bool) (size : ℕ) (flags : List Bool)
     (tell : X → X) (rows : List X) where
-  -- Of the first n rows those that are kept were put, each told anew, and `e` is the place behind.
+  -- Of the first n rows those that are kept were put, each told anew; `e` is the place after them.
   pub record LeftSoFar (n at e : ℕ) (old new : List ℕ) : Type 0 where
     pub put : PutSoFar write ok size (rows_left flags tell rows)
         (new_number (is_flagged flags) n) at e old new

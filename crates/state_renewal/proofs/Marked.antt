@@ -95,7 +95,7 @@ module _ (p : State) (scopes groups tasks : List Bool) (are : AreMarks p scopes 
         }) (kept f p.work.tasks))
         (one_test (is_flagged tasks) (keeps_task p) are.kept_tasks)
 
--- As many rows are left as the new number says that stands behind all.
+-- As many rows are left as the new number says that stands after all of them.
 pub count_left : {X : Type 0} (flags : List Bool) (tell : X → X) (rows : List X)
     → length flags ≡ length rows
     → new_number (is_flagged flags) (length flags) ≡ length (rows_left flags tell rows)
@@ -103,7 +103,7 @@ count_left flags tell rows each =
     ap (new_number (is_flagged flags)) each ∙ sym (length-kept (is_flagged flags) rows)
     ∙ sym (length-map (kept (is_flagged flags) rows) tell)
 
--- Behind the first row, which is kept, the rest is left.
+-- After the first row, which is kept, the rest is left.
 pub left_behind : {X : Type 0} (flags : List Bool) (tell : X → X) (rows : List X)
     → is_flagged flags 0 ≡ true
     → rows_left (drop 1 flags) tell (drop 1 rows) ≡ drop 1 (rows_left flags tell rows)

@@ -25,7 +25,7 @@ number_at_most keeps zero = omega arith
 number_at_most keeps (suc n) =
     more_at_least (keeps n) n (new_number keeps n) (number_at_most keeps n)
 
--- A row further behind has no lesser new number.
+-- A later row has no lesser new number.
 pub number_up : (keeps : ℕ → Bool) (n m : ℕ) → n ≤ m → new_number keeps n ≤ new_number keeps m
 number_up keeps n zero less =
     let none : n ≡ zero = omega (arith, less) in
@@ -43,7 +43,7 @@ number_up keeps n (suc m) less =
         omega (arith, lesser, more)
     by_order (inr (inr above)) up = absurd (omega (arith, less, above))
 
--- A row that is kept has a lesser new number than each row behind it.
+-- A row that is kept has a lesser new number than each row after it.
 pub number_less : (keeps : ℕ → Bool) (n m : ℕ) → keeps n ≡ true → n < m
     → new_number keeps n < new_number keeps m
 number_less keeps n zero is less = absurd (omega (arith, less))
@@ -88,7 +88,7 @@ same_number keeps a b is_a is_b = by_cases (cases_eq a b)
         (λ e. other (number_same keeps a b is_a is_b e))
         ∙ sym (ne_eqb a b other)
 
--- A row stays before another, or behind it.
+-- A row stays before another, or after it.
 pub less_same : (goes : ℕ → Bool) (n many : ℕ) → goes n ≡ true
     → nat_lt (new_number goes n) (new_number goes many) ≡ nat_lt n many
 less_same goes n many is = by_order (cases_lt n many)
@@ -111,7 +111,7 @@ more_swapped true false n = refl
 more_swapped false true n = refl
 more_swapped false false n = refl
 
--- A row behind the first has the number that it has without the first, or one more.
+-- A row after the first has the number that it has without the first, or one more.
 pub number_behind : (keeps : ℕ → Bool) (n : ℕ)
     → new_number keeps (suc n) ≡ one_more_if (keeps zero) (new_number (λ k. keeps (suc k)) n)
 number_behind keeps zero = refl
@@ -178,7 +178,7 @@ length_in_front : {X : Type 0} (b : Bool) (row : X) (rows : List X)
 length_in_front true row rows = refl
 length_in_front false row rows = refl
 
--- As many rows are kept as the number says that a row behind all would have.
+-- As many rows are kept as the number says that a row after all of them would have.
 pub length-kept : {X : Type 0} (keeps : ℕ → Bool) (rows : List X)
     → length (kept keeps rows) ≡ new_number keeps (length rows)
 length-kept keeps [] = refl

@@ -10,7 +10,7 @@ use Rattle.run_model.specs.Tasks.{is_unfinished, phase_of, unfinished_in}
 use Rattle.state_renewal.specs.Renewed.{new_number, keeps_scope, keeps_group, keeps_task}
 use Rattle.state_renewal.specs.Renewed.{scope_told, group_told, task_told, renewed}
 
--- Scope m of the new rows is answered as scope s of the old ones is.
+-- A question on scope m of the new rows has the same answer as one on scope s of the old ones.
 pub record AnswersAlike (old : List Scope) (s : ℕ) (new : List Scope) (m : ℕ) : Type 0 where
   pub done : is_done new m ≡ is_done old s
   pub reason : reason_of new m ≡ reason_of old s
@@ -18,7 +18,7 @@ pub record AnswersAlike (old : List Scope) (s : ℕ) (new : List Scope) (m : ℕ
   pub deadline : deadline_of new m ≡ deadline_of old s
   pub values : (key : List ℕ) → value_of new m key ≡ value_of old s key
 
--- A scope that is kept has its row under its new number, and is answered as before.
+-- A scope that is kept has its row under its new number, and the same answers as before.
 pub record ScopeStays (p : State) (s : ℕ) (row : Scope) : Type 0 where
   pub found : HasRow (renewed p).tree.scopes (new_number (keeps_scope p) s) (scope_told p row)
   pub answers : AnswersAlike p.tree.scopes s (renewed p).tree.scopes (new_number (keeps_scope p) s)

@@ -20,13 +20,13 @@ pub record AreFlags (holds : ℕ → Bool) (many : ℕ) (flags : List Bool) : Ty
   pub each : length flags ≡ many
   pub say : (n : ℕ) → n < many → is_flagged flags n ≡ holds n
 
--- These are the new numbers of the rows where the flagged ones are kept, and behind them how many
--- are kept.
+-- These are the new numbers of the rows if the flagged ones are kept, and after them how many are
+-- kept.
 abbrev pub AreNewNumbers : List Bool → List ℕ → Type 0
 AreNewNumbers flags numbers = (n : ℕ) → n ≤ length flags
     → slice_get numbers n ≡ Some (new_number (is_flagged flags) n)
 
--- The rows of the state are flagged exactly where they are kept.
+-- The rows of the state are flagged exactly when they are kept.
 pub record AreMarks (p : State) (scopes groups tasks : List Bool) : Type 0 where
   pub each_scope : length scopes ≡ length p.tree.scopes
   pub each_group : length groups ≡ length p.work.groups

@@ -26,7 +26,7 @@ is_needed p s = not (is_done p.tree.scopes s) || hosts_unwaited p.work s
 abbrev pub scope_numbers : TreeState → List ℕ
 scope_numbers t = range_with_len 0 (length t.scopes)
 
--- A scope is kept where it is needed, or is above one that is.
+-- A scope is kept if it is needed, or is above one that is.
 abbrev pub keeps_scope : State → ℕ → Bool
 keeps_scope p s =
     list_any (λ t. is_needed p t && is_on s (line p.tree.scopes t)) (scope_numbers p.tree)
@@ -44,17 +44,17 @@ keeps_task p n =
 
 -- ---- new numbers
 
--- One more, where this holds.
+-- One more, if this holds.
 abbrev pub one_more_if : Bool → ℕ → ℕ
 one_more_if true n = suc n
 one_more_if false n = n
 
--- The new number of a row is how many rows before it are kept.
+-- The new number of a row is the number of rows before it that are kept.
 abbrev pub new_number : (ℕ → Bool) → ℕ → ℕ
 new_number keeps zero = zero
 new_number keeps (suc n) = one_more_if (keeps n) (new_number keeps n)
 
--- The row in front, where it is kept.
+-- The row in front, if it is kept.
 abbrev pub in_front_if : {X : Type 0} → Bool → X → List X → List X
 in_front_if true row rows = row ∷ rows
 in_front_if false row rows = rows
@@ -144,8 +144,8 @@ renewed_in layout p = record (renewed p) {
   work = record (renewed p).work { layout = layout };
 }
 
--- A store of this layout has room for the scopes and the tasks of the state. Every layout has for
--- the groups.
+-- The scopes and the tasks of the state fit in a store of this layout. The groups fit in every
+-- layout.
 abbrev pub fits_in : Layout → State → Bool
 fits_in layout p =
     nat_le (length p.tree.scopes) (most_scopes layout)

@@ -41,7 +41,7 @@ event_anew part (event.Finish n outcome) = event.Finish (new_number part.tasks n
 event_anew part (event.Wait g) = event.Wait (new_number part.groups g)
 event_anew part event.Restart = event.Restart
 
--- The names that the event gives are free, and there is room for the rows that it makes.
+-- The names that the event gives are free, and the rows that it makes fit.
 abbrev pub has_place : State → Event → Bool
 has_place p (event.Derive name parent kind) =
     is_none (scope_named p.tree name) && has_room (most_scopes p.tree.layout) p.tree.scopes

@@ -13,7 +13,7 @@ pub fn a_finished_night_goes_whole()
     ensures { renewed finished_night ≡ state (root ∷ []) [] [] }
 {}
 
-/// A live scope stays with all that is above it, also where that is done; a done scope goes.
+/// A live scope stays with all that is above it, even if that is done; a done scope goes.
 pub fn what_is_above_a_live_scope_stays()
     ensures { renewed detached_part ≡ detached_part_left }
 {}

@@ -18,8 +18,8 @@ use scope_tree::Tree;
 use std::alloc::Allocator;
 use task_group::Groups;
 
-/// A flag for each scope, which says whether it is kept: whether it is needed, or above one that
-/// is. `Memory` where the memory for them is refused.
+/// Returns a flag for each scope, which says whether it is kept: whether it is needed, or above one
+/// that is. `Memory` if the memory for them is refused.
 pub fn flag_scopes<A: Allocator, B: Allocator>(
     alloc: A,
     tree: &Tree<B>,
@@ -38,8 +38,8 @@ pub fn flag_scopes<A: Allocator, B: Allocator>(
     Ok(flags)
 }
 
-/// A flag for each scope, which says whether it isn't done. `Memory` where the memory for them is
-/// refused.
+/// Returns a flag for each scope, which says whether it isn't done. `Memory` if the memory for them
+/// is refused.
 pub fn flag_live<A: Allocator, B: Allocator>(
     alloc: A,
     tree: &Tree<B>,
@@ -57,7 +57,7 @@ pub fn flag_live<A: Allocator, B: Allocator>(
     Ok(flags)
 }
 
-/// Flags each scope in which a group lives that wasn't waited for, too. Takes no memory.
+/// Also flags each scope in which a group lives that wasn't waited for. Takes no memory.
 pub fn flag_hosts<A: Allocator>(groups: &Groups<A>, flags: &mut [bool])
     requires known { (g : ℕ) (row : GroupOf) → HasRow groups.now.groups g row
         → row.scope < length flags.old }
@@ -73,7 +73,7 @@ pub fn flag_hosts<A: Allocator>(groups: &Groups<A>, flags: &mut [bool])
     }
 }
 
-/// A flag for each group, which says whether it stays where these scopes do. `Memory` where the
+/// Returns a flag for each group, which says whether it stays if these scopes do. `Memory` if the
 /// memory for them is refused.
 pub fn flag_groups<A: Allocator, B: Allocator>(
     alloc: A,
@@ -95,8 +95,8 @@ pub fn flag_groups<A: Allocator, B: Allocator>(
     Ok(flags)
 }
 
-/// A flag for each task, which says whether its group stays. `Memory` where the memory for them is
-/// refused.
+/// Returns a flag for each task, which says whether its group stays. `Memory` if the memory for
+/// them is refused.
 pub fn flag_tasks<A: Allocator, B: Allocator>(
     alloc: A,
     groups: &Groups<B>,

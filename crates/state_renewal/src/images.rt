@@ -10,7 +10,7 @@ ghost use Rattle.record_view.specs.Image.{image};
 ghost use Rattle.record_view.specs.Keeping.{IsImage};
 ghost use Rattle.state_renewal.specs.Renewed.{fits_in, renewed, renewed_in};
 
-/// A renewed state meets the rules in each layout that has room for it, and its image is the same.
+/// A renewed state meets the rules in each layout in which it fits, and its image is the same.
 pub fn a_renewed_state_goes_into_each_layout_with_room()
     ensures rules { (layout : Layout) (p : State) → IsConsistent p
         → fits_in layout (renewed p) ≡ true → IsConsistent (renewed_in layout p) }

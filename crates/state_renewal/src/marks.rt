@@ -15,7 +15,7 @@ use std::marker::Model;
 #[derive(Drop)]
 pub struct Marks<A: Allocator = Global> {
     flags: Vec<bool, A>,
-    /// The new number of each row, and behind them how many are kept.
+    /// The new number of each row, and after them how many are kept.
     numbers: Vec<u16, A>,
 }
 
@@ -31,7 +31,7 @@ impl<A: Allocator> Model for Marks<A> {
 }
 
 impl<A: Allocator + Copy> Marks<A> {
-    /// The marks by these flags. `Memory` where the memory for the numbers is refused.
+    /// Returns the marks by these flags. `Memory` if the memory for the numbers is refused.
     pub fn new(alloc: A, flags: Vec<bool, A>) -> Result<Marks<A>, Fault>
         requires few { length flags.items < 2 ^ 16 }
         ensures flags { IfOk result (λ marks. marks ≡ flags.items) }
@@ -43,14 +43,14 @@ impl<A: Allocator + Copy> Marks<A> {
 }
 
 impl<A: Allocator> Marks<A> {
-    /// The flags, one for each row.
+    /// Returns the flags, one for each row.
     pub fn flags(&self) -> &[bool]
         ensures { result.now ≡ self.now }
     {
         self.flags.as_slice()
     }
 
-    /// The new number of a row: how many before it are kept. Behind all rows it is how many are.
+    /// Returns a row's new number: how many before it are kept. After all rows it is how many are.
     pub fn number(&self, n: u16) -> u16
         requires known { n ≤ length self.now }
         ensures value { result ≡ new_number (is_flagged self.now) n }
@@ -59,8 +59,8 @@ impl<A: Allocator> Marks<A> {
     }
 }
 
-/// Flags each scope that is above a flagged one, too. There is a flag for each scope; where those
-/// that are needed are flagged, all that are kept are then. Takes no memory.
+/// Also flags each scope that is above a flagged one. There is a flag for each scope; if those that
+/// are needed are flagged, all that are kept are then. Takes no memory.
 pub fn flag_above(scopes: &[Scope], flags: &mut [bool])
     requires ordered { AreOrdered scopes.now }
     requires each { length flags.old ≡ length scopes.now }
@@ -76,8 +76,8 @@ pub fn flag_above(scopes: &[Scope], flags: &mut [bool])
     }
 }
 
-/// The new number of each row, by flags that say which are kept, and behind them how many are kept.
-/// `Memory` where the memory for them is refused.
+/// Returns the new number of each row, by flags that say which are kept, and after them how many
+/// are kept. `Memory` if the memory for them is refused.
 pub fn new_numbers<A: Allocator>(alloc: A, flags: &[bool]) -> Result<Vec<u16, A>, Fault>
     requires few { length flags.now < 2 ^ 16 }
     ensures numbers { IfOk result (λ numbers. (n : ℕ) → n ≤ length flags.now

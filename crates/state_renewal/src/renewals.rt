@@ -1,4 +1,4 @@
-//! What a renewal keeps: the rules, all that isn't finished, and what is answered of what stays.
+//! What a renewal keeps: the rules, all that isn't finished, and the answers on what stays.
 
 ghost use Rattle.std.specs.Option.{option_map};
 ghost use Rattle.std.specs.Prelude.{◌≡◌, ℕ, true};
@@ -27,7 +27,7 @@ pub fn nothing_unfinished_goes()
 {}
 
 /// What is kept is as it was: of a scope whether it is done, its reason, its cause, its deadline
-/// and every value, also those from scopes above it; of a group its row and how many tasks of it
+/// and every value, even those from scopes above it; of a group its row and how many tasks of it
 /// aren't finished; of a task its row and how far it is.
 pub fn what_is_kept_is_as_it_was()
     ensures scopes { (p : State) (s : ℕ) (row : Scope) → IsConsistent p → HasRow p.tree.scopes s row
@@ -39,7 +39,7 @@ pub fn what_is_kept_is_as_it_was()
 {}
 
 /// An event that names only what is kept is allowed of the renewed state, told by the new numbers,
-/// where it was allowed; and where it wasn't, only for want of a free name or of room.
+/// if it was allowed; and if it wasn't, only for want of a free name or of room.
 pub fn what_is_allowed_stays()
     ensures allowed { (p : State) (event : Event) → IsConsistent p
         → names_part (kept_part p) event ≡ true → allowed p event ≡ true
@@ -57,8 +57,8 @@ pub fn names_and_room_are_free_again()
     ensures room { (p : State) → IsRoomKept p }
 {}
 
-/// The task that is started next is the one that was, under its new number; there is none where
-/// there was none.
+/// The task that is started next is the one that was, under its new number; there is none if there
+/// was none.
 pub fn the_next_task_is_the_one_that_was()
     ensures { (p : State) → IsConsistent p → first_ready (renewed p).work
         ≡ option_map (new_number (keeps_task p)) (first_ready p.work) }

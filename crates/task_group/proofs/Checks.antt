@@ -52,7 +52,7 @@ finish_told w n runs known is = rw (lt-ltb n (length w.tasks) known, ← is) (by
     by true = refl
     by false = refl
 
--- What stands behind tests is asked where none of them holds.
+-- What stands after tests is asked where none of them holds.
 pub tested_then : (first rest : List (Bool × Refusal)) (answer : Result (Unit {0}) Refusal)
     → answer ≡ tested first → and_then answer (λ _. tested rest) ≡ tested (first ++ rest)
 tested_then first rest answer is = ap (λ a. and_then a (λ _. tested rest)) is ∙ by first

@@ -1,4 +1,4 @@
--- The rows of tasks of which the first so many are those behind a restart.
+-- The rows of tasks of which the first so many are those after a restart.
 use Rattle.std.proofs.Common.{◌≡◌, ◌<◌, ◌≤◌, ◌+◌, ◌∷◌, [], ◌&&◌, ◌||◌, ℕ, zero, suc, cond, Bool}
 use Rattle.std.proofs.Common.{true, false, List, length, take, Some, slice_get, refl, sym, ap}
 use Rattle.std.proofs.Common.{◌∙◌, arith}
@@ -35,7 +35,7 @@ ran_row row e = ran_by (is_running row.stage) _ row e
 pub stayed_row : (row : Task) → is_running row.stage ≡ false → interrupted_row row ≡ row
 stayed_row row e = stayed_by (is_running row.stage) _ row e
 
--- Behind a restart the unfinished tasks are those that were not started.
+-- After a restart the unfinished tasks are those that were not started.
 pub unfinished_behind : (g : ℕ) (row : Task)
     → ((interrupted_row row).group == g && is_unfinished (interrupted_row row).stage)
     ≡ (row.group == g && is_fresh row.stage)
@@ -64,7 +64,7 @@ unfinished_behind g row = by row.stage refl
 
 -- ---- the rows
 
--- The first so many rows are those behind a restart.
+-- The first so many rows are those after a restart.
 abbrev pub interrupted_to : ℕ → List Task → List Task
 interrupted_to zero rows = rows
 interrupted_to (suc n) [] = []

@@ -1,4 +1,4 @@
--- Rows that were put so far, one behind the other, each of at most so many bytes.
+-- Rows that were put so far, one after the other, each of at most so many bytes.
 use Rattle.std.proofs.Common.{◌≡◌, ◌<◌, ◌≤◌, ℕ, zero, suc, ◌+◌, ◌*◌, List, [], ◌∷◌, ◌++◌, length}
 use Rattle.std.proofs.Common.{take, drop, Bool}
 use Rattle.std.proofs.Common.{get_or, refl, sym, ap, ◌∙◌, subst, arith, length-append, add-one}
@@ -26,7 +26,7 @@ module _ {X : Type 0} (write : X → List ℕ) (kept : X → Bool) (size : ℕ) 
   abbrev pub AreAllKept : List X → Type 0
   AreAllKept rows = AllByRecursion (λ row. IsTrue (kept row)) rows
 
-  -- The first k rows were put, and `e` is the place behind them.
+  -- The first k rows were put, and `e` is the place after them.
   pub record PutSoFar (rows : List X) (k at e : ℕ) (old new : List ℕ) : Type 0 where
     pub place : e ≡ at + length (flat_map write (take k rows))
     pub written : new ≡ put_at old at (flat_map write (take k rows))
@@ -127,7 +127,7 @@ module _ {X : Type 0} (write : X → List ℕ) (kept : X → Bool) (size : ℕ) 
         omega (arith, place, most),
       )
 
--- Rows of two kinds, the second behind the first.
+-- Rows of two kinds, the second after the first.
 pub put_both : {X Y : Type 0} (write : X → List ℕ) (behind : Y → List ℕ) (xs lent : List X)
     (ys lent_too : List Y) (old mid new : List ℕ) (at e : ℕ) → lent ≡ xs → lent_too ≡ ys
     → mid ≡ put_at old at (flat_map write lent) → e ≡ at + length (flat_map write lent)

@@ -1,4 +1,4 @@
--- Groups and tasks that are read one behind the other are the work whose rows the bytes begin with.
+-- Groups and tasks that are read one after the other are the work whose rows the bytes begin with.
 use Rattle.std.proofs.Common.{◌≡◌, ℕ, true, false, List, [], Option, Some, None, refl, sym, ap, ◌∙◌}
 use Rattle.run_model.specs.declared.groups.Group.{Group}
 use Rattle.run_model.specs.declared.layouts.Layout.{Layout}
@@ -11,7 +11,7 @@ use Rattle.record_view.specs.WorkRows.{has_work_room, is_settled, more_at, work_
 use Rattle.record_view.specs.WorkRows.{work_rows_at}
 use Rattle.record_view.proofs.WorkReads.{no_work_stands, work_takes}
 
--- A task can come behind the rows so far, of which the groups stay.
+-- A task can come after the rows so far, of which the groups stay.
 pub come_as : (start now : WorkState) (row : Task) → now.layout ≡ start.layout
     → now.groups ≡ start.groups
     → can_come start.layout start.groups now.tasks row
@@ -70,7 +70,7 @@ module _ (start : WorkState) (head : ImageHead) (bytes : List ℕ)
       no_work_stands start.layout head bytes
       (rw (few, from_none ∙ has.read, from_no_task w rest has ∙ none) refl)
 
-  -- The rows of tasks were read behind those of groups.
+  -- The rows of tasks were read after those of groups.
   pub record HasTasks (w v : WorkState) (rest behind : List ℕ) : Type 0 where
     pub read : tasks_read w rest ≡ Some (v.tasks, behind)
     pub layout : v.layout ≡ w.layout

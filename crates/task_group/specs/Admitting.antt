@@ -1,4 +1,4 @@
--- Which task is admitted where another one ends.
+-- Which task is admitted when another one ends.
 use Rattle.std.specs.Prelude.{◌≡◌, ◌≢◌, ◌<◌, ℕ, if◌then◌else◌, Some}
 use Rattle.run_model.specs.declared.tasks.Phase.TheVariants as phase
 use Rattle.run_model.specs.declared.tasks.Phase.{Phase}
@@ -20,6 +20,6 @@ pub record AdmitsOldest (old : WorkState) (n : ℕ) (new : WorkState) : Type 0 w
   pub others : (m : ℕ) → m ≢ n → (IsOldestHeld old (group_of_task old n) m → ⊥)
       → phase_of new m ≡ phase_of old m
 
--- How far a new task of the group is: ready where the limit admits one more, else held.
+-- How far a new task of the group is: ready if the limit admits one more, otherwise held.
 abbrev pub phase_new : WorkState → ℕ → Phase
 phase_new w g = if admits (limit_of w g) (unfinished_in g w.tasks) then phase.Ready else phase.Held

@@ -9,7 +9,7 @@ use Rattle.run_model.specs.Tasks.{admits, is_fresh, limit_of, unfinished_in}
 abbrev pub fits_limit : WorkState → ℕ → Task → Bool
 fits_limit w n task = admits (limit_of w task.group) (unfinished_in task.group (take n w.tasks))
 
--- A task of this group is held: it was not started, and doesn't fit.
+-- A task of this group is held: it was not started, and doesn't fit its group's limit.
 abbrev pub is_held : WorkState → ℕ → ℕ → Bool
 is_held w g n =
     option_map_or

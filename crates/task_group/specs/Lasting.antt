@@ -5,7 +5,7 @@ use Rattle.run_model.specs.declared.tasks.Task.{Task}
 use Rattle.run_model.specs.State.{WorkState}
 use Rattle.run_model.specs.Tasks.{is_unfinished}
 
--- The first error of a group; none also where there is no such group.
+-- The first error of a group; none also if there is no such group.
 abbrev pub first_error : WorkState → ℕ → Option (List ℕ)
 first_error w g = option_and_then (λ group. group.error) (slice_get w.groups g)
 

@@ -15,7 +15,7 @@ abbrev pub submitted : ℕ → List ℕ → List ℕ → Option ℕ → WorkStat
 submitted g job argument tried w =
     record w { tasks = w.tasks ++ new_task g job argument tried ∷ [] }
 
--- A task has a place behind these rows: its group is there, and the task that it is a retry of, and
+-- A task has a place after these rows: its group is there, and the task that it is a retry of, and
 -- there is room for it.
 pub record HasPlace (w : WorkState) (row : Task) : Type 0 where
   pub known : row.group < length w.groups

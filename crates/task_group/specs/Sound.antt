@@ -1,4 +1,4 @@
--- What holds of groups between two calls.
+-- The invariant of the groups between two calls.
 use Rattle.std.specs.Prelude.{◌≡◌, ℕ, Bool, List, length, Option}
 use Rattle.run_model.specs.declared.bounds.TheConstants.{MOST_GROUPS}
 use Rattle.run_model.specs.declared.groups.Group.{Group}
@@ -22,7 +22,7 @@ pub record AreQueued (w : WorkState) (flags : List Bool) : Type 0 where
   pub right : (n : ℕ) → is_up flags n ≡ is_ready w n
 
 -- The counters, the lists of held tasks, the queue, the number of running tasks and the flags of
--- the retried ones say what the rows say.
+-- the retried ones agree with the rows.
 pub record AreKept (w : WorkState) (seats : List Seats) (next : List (Option ℕ))
     (ready : List Bool)
     (count : ℕ) (flags : List Bool) : Type 0 where

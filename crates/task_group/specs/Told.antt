@@ -1,4 +1,4 @@
--- Which scopes a change tells its caller to cancel.
+-- Which scopes a change asks its caller to cancel.
 use Rattle.std.specs.Prelude.{ℕ, ◌==◌, Bool, false, not, ◌&&◌, if◌then◌else◌, List, take, filter}
 use Rattle.std.specs.Prelude.{filter_map, Option, Some, None, is_none, slice_get, length}
 use Rattle.std.specs.List.{list_any, range_with_len}
@@ -18,8 +18,8 @@ abbrev pub tells : Option (List ℕ) → Option Group → Bool
 tells None group = false
 tells (Some text) group = is_first_error group
 
--- The scope that the end of a task tells: that of its group, where this is the group's first error
--- and the group isn't bare.
+-- The scope that the end of a task asks to cancel: that of its group, if this is the group's first
+-- error and the group isn't bare.
 abbrev pub told_by_end : ℕ → Option (List ℕ) → WorkState → Option ℕ
 told_by_end n error w =
     if tells error (slice_get w.groups (group_of_task w n)) then own_scope w (group_of_task w n)
@@ -35,8 +35,8 @@ ends_its_group w n =
     has_stage is_running w n && not (runs_before w (group_of_task w n) n)
     && is_first_error (slice_get w.groups (group_of_task w n))
 
--- A restart tells the scopes of the groups that have a running task, no error, and aren't bare,
--- each once, in the order of their least running tasks.
+-- A restart asks to cancel the scopes of the groups that have a running task, no error, and aren't
+-- bare, each once, in the order of their least running tasks.
 abbrev pub told_by_restart : WorkState → List ℕ
 told_by_restart w =
     filter_map (λ n. own_scope w (group_of_task w n))

@@ -4,11 +4,11 @@ use Rattle.std.specs.Prelude.{◌≡◌, ◌<◌, ◌≤◌, ℕ, zero, suc, ◌
 use Rattle.std.specs.Prelude.{slice_index_or, slice_set, Option, Some, None, true, if◌then◌else◌}
 use Rattle.run_model.specs.declared.bounds.TheConstants.{MOST_TASKS}
 
--- The flag of a node; down where there is no such node.
+-- The flag of a node; down if there is no such node.
 abbrev pub is_up : List Bool → ℕ → Bool
 is_up nodes k = slice_index_or nodes k false
 
--- A node's flag is up where one of those below it is.
+-- A node's flag is up if one of those below it is.
 abbrev pub IsRight : List Bool → ℕ → Type 0
 IsRight nodes k = is_up nodes k ≡ (is_up nodes (k + k) || is_up nodes (k + k + 1))
 
@@ -25,11 +25,11 @@ pub record IsTree (leaves : ℕ) (nodes : List Bool) : Type 0 where
   pub even : first_leaf levels 1 ≡ leaves
   pub right : (k : ℕ) → 1 ≤ k → k < leaves → IsRight nodes k
 
--- The left one of the nodes below node k where its flag is up, else the right one.
+-- The left one of the nodes below node k if its flag is up, otherwise the right one.
 abbrev pub way_down : List Bool → ℕ → ℕ
 way_down nodes k = if is_up nodes (k + k) then k + k else k + k + 1
 
--- This number's flag is up, where there is one.
+-- This number's flag is up, if there is one.
 abbrev pub with_flag : Option ℕ → List Bool → List Bool
 with_flag None flags = flags
 with_flag (Some n) flags = slice_set flags n true

@@ -8,7 +8,7 @@ ghost use Rattle.record_view.specs.WorkRows.{each_passes};
 
 use run_model::{Group, Kind, Scope};
 
-/// Says whether the scope of each group exists, and belongs to it unless the group is bare.
+/// Returns whether the scope of each group exists, and belongs to it unless the group is bare.
 pub fn fit_scopes(groups: &[Group], scopes: &[Scope]) -> bool
     ensures { result ≡ each_passes (λ g group. fits_scope scopes.now group) 0 groups.now }
 {
@@ -20,7 +20,7 @@ pub fn fit_scopes(groups: &[Group], scopes: &[Scope]) -> bool
     true
 }
 
-/// Says whether each scope of the kind that groups have is that of a group that isn't bare.
+/// Returns whether each scope of the kind that groups have is that of a group that isn't bare.
 pub fn have_groups(scopes: &[Scope], groups: &[Group]) -> bool
     ensures { result ≡ each_passes (has_group groups.now) 0 scopes.now }
 {
@@ -55,7 +55,7 @@ fn has_group(groups: &[Group], s: usize, scope: &Scope) -> bool
     !is_groups(&scope.kind) || is_lived_in(groups, s)
 }
 
-/// Says whether scope `s` is that of a group that isn't bare.
+/// Returns whether scope `s` is that of a group that isn't bare.
 fn is_lived_in(groups: &[Group], s: usize) -> bool
     ensures { result ≡ list_any (lives_in s) groups.now }
 {

@@ -21,7 +21,7 @@ use record_view::copies::{limit_of, name_copy, optional_copy, text_copy};
 use record_view::{GroupRow, StageView, TaskRow, group_row, put_group, put_task, task_row};
 use run_model::{Group, MOST_GROUPS, Stage, Task};
 
-/// Puts the rows of groups at a place, one behind the other, and gives the place behind them.
+/// Puts the rows of groups at a place, one after the other, and returns the place after them.
 pub fn put_groups(rows: &[Group], out: &mut [u8], at: usize) -> usize
     requires room { at + 103 * length rows.now ≤ length out.old }
     ensures end { result ≡ at + length (flat_map group_bytes rows.now) }
@@ -36,7 +36,7 @@ pub fn put_groups(rows: &[Group], out: &mut [u8], at: usize) -> usize
     end
 }
 
-/// Puts the rows of tasks at a place, one behind the other, and gives the place behind them.
+/// Puts the rows of tasks at a place, one after the other, and returns the place after them.
 pub fn put_tasks(rows: &[Task], out: &mut [u8], at: usize) -> usize
     requires links { (n : ℕ) (row : TaskOf) → slice_get rows.now n ≡ Some row
         → IsTrue (is_kept_link Two row.retry_of) }
@@ -53,7 +53,7 @@ pub fn put_tasks(rows: &[Task], out: &mut [u8], at: usize) -> usize
     end
 }
 
-/// The group that a view shows.
+/// Returns the group that a view shows.
 pub fn group_copy(row: &GroupRow) -> Group
     requires { IsTrue (is_kept_group (group_of row.now)) }
     ensures { result ≡ group_of row.now }
@@ -68,7 +68,7 @@ pub fn group_copy(row: &GroupRow) -> Group
     }
 }
 
-/// The task that a view shows.
+/// Returns the task that a view shows.
 pub fn task_copy(row: &TaskRow) -> Task
     requires job { IsName row.now.job.now }
     requires argument { IsName row.now.argument.now }
@@ -91,7 +91,7 @@ pub fn is_fresh(stage: &Stage) -> bool
     matches!(stage, Stage::Fresh)
 }
 
-/// Says whether the new task can be a retry of the old one.
+/// Returns whether the new task can be a retry of the old one.
 pub fn can_retry(new: &Task, old: &Task) -> bool
     ensures { result ≡ can_retry new.now old.now }
 {
@@ -101,7 +101,7 @@ pub fn can_retry(new: &Task, old: &Task) -> bool
         && new.argument == old.argument
 }
 
-/// For each group that there can be, whether one of these tasks is an error of it.
+/// Returns for each group that there can be whether one of these tasks is an error of it.
 pub fn lost_groups(tasks: &[Task]) -> [bool; MOST_GROUPS]
     requires { (n : ℕ) (task : TaskOf) → slice_get tasks.now n ≡ Some task
         → task.group < MOST_GROUPS }

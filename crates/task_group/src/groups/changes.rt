@@ -1,4 +1,4 @@
-//! What changes groups and tasks. Each change has as its condition what its test asks for.
+//! What changes groups and tasks. Each change has as its precondition what its test checks.
 
 ghost use Rattle.std.specs.Prelude.{◌≡◌, ◌<◌, ◌≤◌, ◌+◌, ◌++◌, false, fold, length, is_some, IsTrue};
 ghost use Rattle.std.specs.Prelude.{◌==◌, ◌&&◌, ◌∷◌, [], true, Some, not, is_none};
@@ -37,9 +37,9 @@ use run_model::{Group, Limit, MOST_GROUPS, Name, Stage, Task};
 use std::alloc::Allocator;
 
 impl<A: Allocator> Groups<A> {
-    /// Makes a group of this name, without a limit, and gives its number. Its tasks live in this
-    /// scope, which is the group's own unless it is bare. [`Groups::check_make`] says whether it
-    /// may be.
+    /// Makes a group of this name, without a limit, and returns its number. Its tasks live in this
+    /// scope, which is the group's own unless it is bare. [`Groups::check_make`] tests whether it
+    /// is allowed.
     pub fn make(&mut self, name: &[u8], scope: u16, bare: bool) -> u16
         requires name { IsName name.now }
         requires accepted { IsTrue (is_none (group_named self.old name.now)
@@ -65,7 +65,7 @@ impl<A: Allocator> Groups<A> {
     }
 
     /// Changes the limit of a group, none of whose tasks is unfinished. [`Groups::check_limit`]
-    /// says whether it may be.
+    /// tests whether it is allowed.
     pub fn set_limit(&mut self, group: u16, limit: Limit)
         requires accepted { IsTrue
             (is_open self.old group && (unfinished_in group self.old.tasks == 0)) }
@@ -75,8 +75,8 @@ impl<A: Allocator> Groups<A> {
         set_row_limit(&mut self.groups, group as usize, limit);
     }
 
-    /// Submits a task, and gives its number: it is ready where the limit admits one more, else
-    /// held. [`Groups::check_go`] says whether it may be.
+    /// Submits a task, and returns its number: it is ready if the limit admits one more, otherwise
+    /// held. [`Groups::check_go`] tests whether it is allowed.
     pub fn go(&mut self, group: u16, job: &[u8], argument: &[u8]) -> u16
         requires names { IsName job.now × IsName argument.now }
         requires accepted { IsTrue
@@ -89,8 +89,8 @@ impl<A: Allocator> Groups<A> {
         self.submit(group, name_copy(job), name_copy(argument), None)
     }
 
-    /// Submits a task that is ready at once, and gives its number. [`Groups::check_try`] says
-    /// whether it may be.
+    /// Submits a task that is ready at once, and returns its number. [`Groups::check_try`] tests
+    /// whether it is allowed.
     pub fn try_go(&mut self, group: u16, job: &[u8], argument: &[u8]) -> u16
         requires names { IsName job.now × IsName argument.now }
         requires accepted { IsTrue
@@ -104,8 +104,8 @@ impl<A: Allocator> Groups<A> {
         self.go(group, job, argument)
     }
 
-    /// Submits an interrupted task anew, with the same job and argument in the same group, and
-    /// gives the new task's number. [`Groups::check_retry`] says whether it may be.
+    /// Submits an interrupted task anew, with the same job and argument in the same group. Returns
+    /// the new task's number. [`Groups::check_retry`] tests whether it is allowed.
     pub fn retry(&mut self, task: u16) -> u16
         requires accepted { IsTrue (has_stage is_interrupted self.old task
             && not (is_retried self.old task) && is_open self.old (group_of_task self.old task)
@@ -123,8 +123,8 @@ impl<A: Allocator> Groups<A> {
         self.submit(group, job, argument, Some(task))
     }
 
-    /// Starts the ready task with the least number, and gives that. [`Groups::next_ready`] says
-    /// whether there is one: where it answers `None`, the caller refuses the start as
+    /// Starts the ready task with the least number, and returns that. [`Groups::next_ready`]
+    /// tests whether there is one: if it returns `None`, the caller refuses the start as
     /// `NothingReady`.
     pub fn start(&mut self) -> u16
         requires { IsTrue (is_some (first_ready self.old)) }
@@ -141,10 +141,10 @@ impl<A: Allocator> Groups<A> {
         n
     }
 
-    /// Ends a running task with this error, or without one as a success; the oldest held task of
-    /// its group, where there is one, is ready then. Tells the scope that is to be cancelled with
-    /// the error as its cause: the group's own, where the error is the first of a group that isn't
-    /// bare. [`Groups::check_finish`] says whether it may be.
+    /// Ends a running task with this error, or without one as a success; if its group has a held
+    /// task, the oldest one is ready then. Returns the scope that must be cancelled with the error
+    /// as its cause: the group's own, if the error is the first of a group that isn't bare.
+    /// [`Groups::check_finish`] tests whether it is allowed.
     pub fn finish(&mut self, task: u16, error: Option<&[u8]>) -> Option<u16>
         requires error { IfSome error (λ e. IsText e.now) }
         requires running { IsTrue (has_stage is_running self.old task) }
@@ -158,9 +158,9 @@ impl<A: Allocator> Groups<A> {
         self.end(task, stage_with(error), error)
     }
 
-    /// Waits for a group whose tasks have all finished. Tells the scope that is to be cancelled,
+    /// Waits for a group whose tasks have all finished. Returns the scope that must be cancelled,
     /// without a cause: the group's own, unless it is bare. A group is waited for once.
-    /// [`Groups::check_wait`] says whether it may be.
+    /// [`Groups::check_wait`] tests whether it is allowed.
     pub fn wait(&mut self, group: u16) -> Option<u16>
         requires accepted { IsTrue
             (is_open self.old group && (unfinished_in group self.old.tasks == 0)) }
@@ -174,7 +174,7 @@ impl<A: Allocator> Groups<A> {
         told
     }
 
-    /// Interrupts each running task, by ascending number, and gives the scopes that are to be
+    /// Interrupts each running task, by ascending number, and returns the scopes that must be
     /// cancelled with the cause [`interruption`]: those of the groups, not bare, that got their
     /// first error, each once and in the order in which they did. No task runs then, and the held
     /// ones that the limits admit are ready. Takes no memory.
@@ -210,7 +210,7 @@ impl<A: Allocator> Groups<A> {
         n
     }
 
-    /// Appends a task that was not started: it is ready where the limit admits one more, else held.
+    /// Appends a task that was not started: ready if the limit admits one more, otherwise held.
     pub(crate) fn take_fresh(&mut self, row: Task)
         requires fresh { is_fresh row.stage ≡ true }
         requires place { HasPlace self.old row }
@@ -262,7 +262,7 @@ impl<A: Allocator> Groups<A> {
     }
 }
 
-/// Notes a scope that is told, where there is one.
+/// Notes a scope that must be cancelled, if there is one.
 fn note(told: &mut ArrayVec<u16, MOST_GROUPS>, scope: Option<u16>)
     requires { length told.old.items + length (option_to_list scope) ≤ MOST_GROUPS }
     ensures { told.new.items ≡ told.old.items ++ option_to_list scope }

@@ -1,5 +1,5 @@
-//! Tests: each says why a change is refused, the first reason that holds in the order in which they
-//! are asked, and `Ok` exactly where none does. None takes memory.
+//! Tests: each returns why a change is refused, the first reason that holds in the order in which
+//! they are checked, and `Ok` exactly when none does. None takes memory.
 
 ghost use Rattle.std.specs.Prelude.{◌≡◌, ◌<◌, ◌∷◌, ℕ, List, Option, [], length, not, true, is_none};
 ghost use Rattle.std.specs.Prelude.{IfOk};
@@ -21,7 +21,7 @@ use run_model::{MOST_GROUPS, Refusal};
 use std::alloc::Allocator;
 
 impl<A: Allocator> Groups<A> {
-    /// Says why a group of this name can't be made: `NameTaken`, `TooManyGroups`, the first that
+    /// Returns why a group of this name can't be made: `NameTaken`, `TooManyGroups`, the first that
     /// holds.
     pub fn check_make(&self, name: &[u8]) -> Result<(), Refusal>
         ensures { (count : ℕ) (tree : TreeState) (s : ℕ) → has_row tree.scopes s ≡ true
@@ -54,7 +54,7 @@ impl<A: Allocator> Groups<A> {
         Ok(())
     }
 
-    /// Says why the limit of a group can't be set: `NoSuchGroup`, `Waited`, `LimitWhileActive`,
+    /// Returns why the limit of a group can't be set: `NoSuchGroup`, `Waited`, `LimitWhileActive`,
     /// the first that holds.
     pub fn check_limit(&self, group: u16) -> Result<(), Refusal>
         ensures { (limit : Option ℕ) → Answers self.now (SetLimit group limit) result }
@@ -66,8 +66,8 @@ impl<A: Allocator> Groups<A> {
         Ok(())
     }
 
-    /// Says why a task can't be submitted to a group: `NoSuchGroup`, `Waited`, `TooManyTasks`, the
-    /// first that holds.
+    /// Returns why a task can't be submitted to a group: `NoSuchGroup`, `Waited`, `TooManyTasks`,
+    /// the first that holds.
     pub fn check_go(&self, group: u16) -> Result<(), Refusal>
         ensures { (job argument : List ℕ) → Answers self.now (Go group job argument) result }
     {
@@ -75,7 +75,7 @@ impl<A: Allocator> Groups<A> {
         self.check_task_room()
     }
 
-    /// Says why a task that is to be ready at once can't be submitted: as [`Groups::check_go`],
+    /// Returns why a task that is to be ready at once can't be submitted: as [`Groups::check_go`],
     /// then `AtLimit`.
     pub fn check_try(&self, group: u16) -> Result<(), Refusal>
         ensures { (job argument : List ℕ) → Answers self.now (TryGo group job argument) result }
@@ -87,8 +87,8 @@ impl<A: Allocator> Groups<A> {
         Ok(())
     }
 
-    /// Says why a task can't be submitted anew: `NoSuchTask`, `NotInterrupted`, `AlreadyRetried`,
-    /// `Waited`, `TooManyTasks`, the first that holds.
+    /// Returns why a task can't be submitted anew: `NoSuchTask`, `NotInterrupted`,
+    /// `AlreadyRetried`, `Waited`, `TooManyTasks`, the first that holds.
     pub fn check_retry(&self, task: u16) -> Result<(), Refusal>
         ensures { Answers self.now (Retry task) result }
     {
@@ -104,8 +104,8 @@ impl<A: Allocator> Groups<A> {
         self.check_go(self.group_of(task))
     }
 
-    /// Says why a group can't be waited for: `NoSuchGroup`, `Unfinished`, `Waited`, the first that
-    /// holds. A caller that answers a second wait as the first asks [`Groups::was_waited`] before.
+    /// Returns why a group can't be waited for: `NoSuchGroup`, `Unfinished`, `Waited`, the first
+    /// that holds. To answer a second wait as the first, call [`Groups::was_waited`] before.
     pub fn check_wait(&self, group: u16) -> Result<(), Refusal>
         ensures { Answers self.now (Wait group) result }
     {
@@ -122,7 +122,7 @@ impl<A: Allocator> Groups<A> {
         Ok(())
     }
 
-    /// Says why a task can't be finished: `NoSuchTask`, `NotRunning`, the first that holds.
+    /// Returns why a task can't be finished: `NoSuchTask`, `NotRunning`, the first that holds.
     pub fn check_finish(&self, task: u16) -> Result<(), Refusal>
         ensures { (outcome : Outcome) → Answers self.now (Finish task outcome) result }
     {
@@ -164,7 +164,7 @@ impl<A: Allocator> Groups<A> {
         Ok(())
     }
 
-    /// Says whether a task was retried.
+    /// Returns whether a task was retried.
     fn is_retried(&self, task: u16) -> bool
         requires { task < length self.now.tasks }
         ensures { result ≡ is_retried self.now task }
@@ -172,7 +172,7 @@ impl<A: Allocator> Groups<A> {
         self.retried[task as usize]
     }
 
-    /// The number of the group of a task.
+    /// Returns the number of the group of a task.
     fn group_of(&self, task: u16) -> u16
         requires { task < length self.now.tasks }
         ensures group { result ≡ group_of_task self.now task }

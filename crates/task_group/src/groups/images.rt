@@ -35,8 +35,8 @@ use run_model::{Fault, Group, Layout, MOST_GROUPS, Scope, Task};
 use std::alloc::Allocator;
 
 impl<A: Allocator> Groups<A> {
-    /// Writes the rows of the groups at a place, in order of number, and those of the tasks behind
-    /// them, in version 2, and gives the place behind all. A group's row has 103 bytes at most, a
+    /// Writes the rows of the groups at a place, in order of number, and those of the tasks after
+    /// them, in version 2. Returns the place after them all. A group's row has 103 bytes at most, a
     /// task's 136. Takes no memory.
     pub fn write_rows(&self, out: &mut [u8], at: usize) -> usize
         requires room { at + 103 * length self.now.groups + 136 * length self.now.tasks
@@ -53,10 +53,10 @@ impl<A: Allocator> Groups<A> {
         put_tasks(&self.tasks, out, end)
     }
 
-    /// The groups and tasks that the bytes behind an image's scopes begin with, and the bytes
-    /// behind their rows: these, which are none yet, are filled with the rows. `BadImage` exactly
-    /// where the bytes don't begin with so many rows as the head says, or these don't keep the
-    /// rules of the work. Takes no memory.
+    /// Returns the groups and tasks that the bytes after an image's scopes begin with, and the
+    /// bytes after their rows: these, which are none yet, are filled with the rows. `BadImage`
+    /// exactly when the bytes don't begin with so many rows as the head says, or these don't keep
+    /// the rules of the work. Takes no memory.
     pub fn read_rows<'a>(
         mut self,
         head: &ImageHead,
@@ -84,8 +84,8 @@ impl<A: Allocator> Groups<A> {
         Ok((self, rest))
     }
 
-    /// Says whether these scopes and the groups fit together: the scope of each group exists; that
-    /// of a group that isn't bare has the kind of a group's, and its name, and is hit where the
+    /// Returns whether these scopes and the groups fit together: the scope of each group exists;
+    /// that of a group that isn't bare has the kind of a group's, and its name, and is hit if the
     /// group has an error or was waited for; and each scope of that kind has such a group.
     pub fn fits(&self, scopes: &[Scope]) -> bool
         ensures { result ≡ fits_between scopes.now self.now.groups }
@@ -93,8 +93,8 @@ impl<A: Allocator> Groups<A> {
         fit_scopes(&self.groups, scopes) && have_groups(scopes, &self.groups)
     }
 
-    /// Reads so many groups behind those that there are. `None` where the bytes don't begin with
-    /// them, or one of them has the name of one before it.
+    /// Reads so many groups after those that there are. `None` if the bytes don't begin with them,
+    /// or one of them has the name of one before it.
     fn read_groups<'a>(&mut self, many: u16, bytes: &'a [u8]) -> Option<&'a [u8]>
         requires room { length self.old.groups + many ≤ MOST_GROUPS }
         ensures read { IfSome result (λ rest.
@@ -117,8 +117,8 @@ impl<A: Allocator> Groups<A> {
         Some(rest)
     }
 
-    /// Reads so many tasks behind those that there are. `None` where the bytes don't begin with
-    /// them, or one of them can't come there.
+    /// Reads so many tasks after those that there are. `None` if the bytes don't begin with them,
+    /// or one of them can't come there.
     fn read_tasks<'a>(&mut self, head: &ImageHead, bytes: &'a [u8]) -> Option<&'a [u8]>
         requires room { length self.old.tasks + head.now.tasks ≤ most_tasks self.old.layout }
         ensures read { IfSome result (λ rest.
@@ -143,7 +143,7 @@ impl<A: Allocator> Groups<A> {
         Some(rest)
     }
 
-    /// Says whether a task can come behind those that there are.
+    /// Returns whether a task can come after those that there are.
     fn can_come(&self, row: &Task) -> bool
         ensures { result ≡ can_come self.now.layout self.now.groups self.now.tasks row.now }
     {
@@ -156,8 +156,8 @@ impl<A: Allocator> Groups<A> {
         self.is_linked(row)
     }
 
-    /// Says whether a task is a retry of none, or of one that it can be a retry of and that none is
-    /// a retry of yet.
+    /// Returns whether a task is a retry of none, or of one that it can be a retry of and that none
+    /// is a retry of yet.
     fn is_linked(&self, row: &Task) -> bool
         ensures { result ≡ is_linked self.now.tasks row.now }
     {
@@ -222,7 +222,7 @@ impl<A: Allocator> Groups<A> {
         push_task(&mut self.tasks, row);
     }
 
-    /// Says whether each group that was waited for is idle, and each has an error exactly where a
+    /// Returns whether each group that was waited for is idle, and each has an error exactly when a
     /// task of it has.
     fn are_settled(&self) -> bool
         ensures { result ≡ each_passes (is_settled self.now) 0 self.now.groups }
@@ -236,7 +236,7 @@ impl<A: Allocator> Groups<A> {
         true
     }
 
-    /// Says the same of one group, where it is known whether a task of it has an error.
+    /// Returns the same of one group, given whether a task of it has an error.
     fn is_settled(&self, g: usize, lost: bool) -> bool
         requires known { g < length self.now.groups }
         requires lost { lost ≡ has_task_error self.now g }
@@ -251,7 +251,7 @@ impl<A: Allocator> Groups<A> {
     }
 }
 
-/// Says whether a store of this layout has room for so many groups and tasks as the head says.
+/// Returns whether so many groups and tasks as the head says fit in a store of this layout.
 fn has_room(layout: Layout, head: &ImageHead) -> bool
     ensures { result ≡ has_work_room layout head.now }
 {

@@ -1,5 +1,5 @@
-//! Questions on groups and tasks. Each goes by a number, which the caller knows to be there or
-//! which is answered `None`.
+//! Questions on groups and tasks. Each takes a number, which the caller knows to be there or which
+//! is answered `None`.
 
 ghost use Rattle.std.specs.Prelude.{◌≡◌, ◌<◌, ◌≤◌, ℕ, length, position, slice_get};
 ghost use Rattle.std.specs.Option.{option_copied};
@@ -18,14 +18,14 @@ use run_model::{Group, GroupLook, Layout, MOST_GROUPS, Phase, Task, is_spelled};
 use std::alloc::Allocator;
 
 impl<A: Allocator> Groups<A> {
-    /// The layout of the store, which says how many tasks there can be.
+    /// Returns the layout of the store, which says how many tasks there can be.
     pub fn layout(&self) -> Layout
         ensures { result ≡ self.now.layout }
     {
         self.layout
     }
 
-    /// How many groups there are.
+    /// Returns the number of groups.
     pub fn group_count(&self) -> usize
         ensures len { result ≡ length self.now.groups }
         ensures few { result ≤ MOST_GROUPS }
@@ -33,7 +33,7 @@ impl<A: Allocator> Groups<A> {
         self.groups.len()
     }
 
-    /// The number of the group of this name. `None` exactly where no group has it.
+    /// Returns the number of the group of this name. `None` exactly when no group has it.
     pub fn find(&self, name: &[u8]) -> Option<u16>
         ensures { result ≡ group_named self.now name.now }
     {
@@ -41,8 +41,8 @@ impl<A: Allocator> Groups<A> {
         Some(n as u16)
     }
 
-    /// The row of a group, lent until the groups change. `None` exactly where there is no such
-    /// group.
+    /// Returns the row of a group, lent until the groups change. `None` exactly when there is no
+    /// such group.
     pub fn group_row(&self, group: u16) -> Option<&Group>
         ensures { option_copied result ≡ slice_get self.now.groups group }
     {
@@ -50,8 +50,8 @@ impl<A: Allocator> Groups<A> {
         self.groups.get(g)
     }
 
-    /// What is seen of a group: how many of its tasks are unfinished, its limit, whether it was
-    /// waited for, and its first error. `None` where there is no such group.
+    /// Returns what is seen of a group: the number of its unfinished tasks, its limit, whether it
+    /// was waited for, and its first error. `None` if there is no such group.
     pub fn result(&self, group: u16) -> Option<GroupLook>
         ensures { (count : ℕ) (tree : TreeState) → result
             ≡ group_look_of (record { count = count; tree = tree; work = self.now }) group }
@@ -60,7 +60,7 @@ impl<A: Allocator> Groups<A> {
         Some(group_look(row, self.unfinished(group)))
     }
 
-    /// Says whether there is a group of this number that was waited for.
+    /// Returns whether there is a group of this number that was waited for.
     pub fn was_waited(&self, group: u16) -> bool
         ensures { result ≡ has_waited self.now group }
     {
@@ -70,7 +70,7 @@ impl<A: Allocator> Groups<A> {
         }
     }
 
-    /// How many tasks of a group are not finished.
+    /// Returns how many tasks of a group are not finished.
     pub fn unfinished(&self, group: u16) -> u16
         requires { group < length self.now.groups }
         ensures { result ≡ unfinished_in group self.now.tasks }
@@ -78,7 +78,7 @@ impl<A: Allocator> Groups<A> {
         self.seats[group as usize].unfinished
     }
 
-    /// Says whether a task that came in now would be ready.
+    /// Returns whether a task that came in now would be ready.
     pub fn has_seat(&self, group: u16) -> bool
         requires { group < length self.now.groups }
         ensures { result ≡ admits (limit_of self.now group) (unfinished_in group self.now.tasks) }
@@ -87,7 +87,7 @@ impl<A: Allocator> Groups<A> {
         admits(self.groups[g].limit, self.seats[g].unfinished as usize)
     }
 
-    /// How many tasks there are.
+    /// Returns the number of tasks.
     pub fn task_count(&self) -> usize
         ensures len { result ≡ length self.now.tasks }
         ensures few { result ≤ most_tasks self.now.layout }
@@ -95,8 +95,8 @@ impl<A: Allocator> Groups<A> {
         self.tasks.len()
     }
 
-    /// The row of a task, lent until the groups change. `None` exactly where there is no such
-    /// task.
+    /// Returns the row of a task, lent until the groups change. `None` exactly when there is no
+    /// such task.
     pub fn task_row(&self, task: u16) -> Option<&Task>
         ensures { option_copied result ≡ slice_get self.now.tasks task }
     {
@@ -104,7 +104,7 @@ impl<A: Allocator> Groups<A> {
         self.tasks.get(n)
     }
 
-    /// How far a task is. `None` where there is no such task.
+    /// Returns how far a task is. `None` if there is no such task.
     pub fn phase(&self, task: u16) -> Option<Phase>
         ensures { result ≡ phase_of self.now task }
     {
@@ -113,7 +113,7 @@ impl<A: Allocator> Groups<A> {
         Some(stage_phase(&row.stage, is_from(first, task)))
     }
 
-    /// Says whether there is a task of this number that is running.
+    /// Returns whether there is a task of this number that is running.
     pub fn is_running(&self, task: u16) -> bool
         ensures { result ≡ has_stage is_running self.now task }
     {
@@ -123,7 +123,7 @@ impl<A: Allocator> Groups<A> {
         }
     }
 
-    /// How many tasks are running.
+    /// Returns the number of running tasks.
     pub fn running(&self) -> usize
         ensures count { result ≡ running_count self.now.tasks }
         ensures few { result ≤ most_tasks self.now.layout }
@@ -131,8 +131,8 @@ impl<A: Allocator> Groups<A> {
         self.running
     }
 
-    /// The ready task with the least number, which is the one that [`Groups::start`] starts. `None`
-    /// exactly where no task is ready; a start is refused as `NothingReady` then.
+    /// Returns the ready task with the least number, which [`Groups::start`] starts. `None` exactly
+    /// when no task is ready; a start is refused as `NothingReady` then.
     pub fn next_ready(&self) -> Option<u16>
         ensures { result ≡ first_ready self.now }
     {
@@ -140,7 +140,7 @@ impl<A: Allocator> Groups<A> {
     }
 }
 
-/// The place of the row of this name.
+/// Returns the place of the row of this name.
 fn place_of(groups: &[Group], name: &[u8]) -> Option<usize>
     ensures { result ≡ position (λ row. bytes_eq name.now row.name) groups.now }
 {
