@@ -69,7 +69,7 @@ stopped_at_the_flush = three_replies ++ faulty DiskFailed ∷ none_behind 8
 abbrev pub refused_all : List Reply
 refused_all = none_behind 12
 
--- The session behind the first three steps, and behind all.
+-- The session after the first three steps, and after all.
 abbrev pub after_three : Session
 after_three = session_after new_store first_three
 

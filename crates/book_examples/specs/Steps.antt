@@ -32,7 +32,7 @@ short_state_of d = file_state 1572863 d.calls d.failures
 
 -- ---- books
 
--- The book of a new store behind its opening, which made ten calls: one event, and it is
+-- The book of a new store after its opening, which made ten calls: one event, and it is
 -- acknowledged.
 abbrev pub new_book : BookView Counts
 new_book = record {
@@ -49,18 +49,18 @@ new_book = record {
   origin = record { calls = 0; failures = 0 };
 }
 
--- The book behind three commands.
+-- The book after three commands.
 abbrev pub behind_three : BookView Counts
 behind_three = record new_book { session = record after_three { history = first_events } }
 
--- And behind a flush of theirs, by six calls.
+-- And after a flush of theirs, by six calls.
 abbrev pub flushed : BookView Counts
 flushed = record behind_three {
   durable = 4;
   journal = record new_book.journal { disk = record { calls = 16; failures = 0 }; tail = 31 };
 }
 
--- Or behind one whose first call failed.
+-- Or after one whose first call failed.
 abbrev pub failed : BookView Counts
 failed = record behind_three {
   journal = record new_book.journal { disk = record { calls = 11; failures = 1 }; broken = true };
@@ -73,7 +73,7 @@ flushed_twice = record behind_three {
   journal = record new_book.journal { disk = record { calls = 22; failures = 0 }; tail = 36 };
 }
 
--- The book behind three commands, where no generation is left, and behind a flush of theirs.
+-- The book after three commands, where no generation is left, and after a flush of theirs.
 abbrev pub last_book : BookView Counts
 last_book =
     record behind_three { journal = record new_book.journal { generation = 2 ^ 63 - 1 } }
@@ -94,7 +94,7 @@ first_call = first_three ++ flush ∷ []
 abbrev pub first_replies : List Reply
 first_replies = three_replies ++ acked 4 ∷ []
 
--- A scope and a checkpoint behind them, and the replies where the device fails in the flush.
+-- A scope and a checkpoint after them, and the replies where the device fails in the flush.
 abbrev pub failing_call : List Step
 failing_call = first_three ++ flush ∷ derive "c" "root" Cancel ∷ checkpoint ∷ []
 

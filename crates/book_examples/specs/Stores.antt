@@ -32,7 +32,7 @@ abbrev pub two_events : List Event
 two_events =
     event.Derive (codes "c") 0 kind.Cancel ∷ event.Derive (codes "d") 0 kind.Cancel ∷ []
 
--- The state behind the first three, and behind all five.
+-- The state after the first three, and after all five.
 abbrev pub at_four : State
 at_four = after_three.state
 

@@ -40,6 +40,6 @@ five =
     derive "a" "root" Cause ∷ derive "b" "a" Cancel ∷ cancel "a" "disk"
     ∷ derive "c" "root" Cancel ∷ derive "d" "root" Cancel ∷ []
 
--- The state behind the first so many of them.
+-- The state after the first so many of them.
 abbrev pub behind_first : ℕ → State
 behind_first n = (session_after new_store (take n five)).state

@@ -15,7 +15,7 @@ pub fn a_night_is_played()
     ensures acked { last_acked all_played ≡ Some 9 }
 {}
 
-/// The device fails in the first flush: it is answered so, and each step behind it is refused as
+/// The device fails in the first flush: it is answered so, and each step after it is refused as
 /// Broken. The three events before it were accepted, and none is acknowledged.
 pub fn a_failing_device_ends_a_night()
     ensures played { Plays (sound new_store) played stopped_at_the_flush (stuck after_three) }
@@ -29,7 +29,7 @@ pub fn a_broken_book_plays_nothing()
     ensures { Plays (stuck new_store) played refused_all (stuck new_store) }
 {}
 
-/// A checkpoint that finds no number left says so and breaks nothing: the flush behind it is done.
+/// A checkpoint that finds no number left says so and breaks nothing: the flush after it is done.
 pub fn spent_numbers_break_nothing()
     ensures played { Plays (sound new_store) two_saves numbers_spent (sound after_three) }
     ensures acknowledged { acknowledged new_store two_saves numbers_spent ≡ first_events }

@@ -27,7 +27,7 @@ ghost use Rattle.book_examples.specs.Steps.{short_state_of, state_of};
 ghost use Rattle.book_examples.specs.Stores.{two_events};
 
 /// Three commands are accepted, and a flush of them is done by six calls: it tells the count 4. A
-/// flush behind it has nothing to save: it tells the same, by no call. No other count is told.
+/// flush after it has nothing to save: it tells the same, by no call. No other count is told.
 pub fn a_flush_is_done()
     ensures answered { Steps state_of new_book first_call first_replies flushed }
     ensures again { AnswersStep state_of flushed flush (acked 4) flushed }
@@ -44,7 +44,7 @@ pub fn a_command_is_answered_as_its_session_says()
 {}
 
 /// Where no generation is left, a checkpoint says that the numbers are spent, and changes nothing;
-/// a flush behind it, whose records fit, is done. No checkpoint is done there.
+/// a flush after it, whose records fit, is done. No checkpoint is done there.
 pub fn the_last_generation_has_no_checkpoint()
     ensures answered { Steps state_of last_book (checkpoint ∷ flush ∷ [])
         (faulty NumbersSpent ∷ acked 4 ∷ []) last_flushed }
@@ -59,7 +59,7 @@ pub fn a_front_lacks_no_acknowledged_event()
         → IsFront new_store.state (first_events ++ two_events) 3 q → ⊥ }
 {}
 
-/// Its first call fails: it is answered so, the book is broken, and each step behind it is refused
+/// Its first call fails: it is answered so, the book is broken, and each step after it is refused
 /// and leaves the book as it is. It isn't answered so where nothing was called.
 pub fn a_flush_fails()
     ensures flush { AnswersStep state_of behind_three flush (faulty DiskFailed) failed }

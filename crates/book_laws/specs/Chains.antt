@@ -28,7 +28,7 @@ disk_in (Err stopped) = stopped.1
 
 -- In words of a user: the steps over a store of state p, once it was opened, were answered one
 -- after another, as a book may answer them that isn't broken at their end. All events that they
--- led to, in order and none left out, make one state; and the store was opened again behind a
+-- led to, in order and none left out, make one state; and the store was opened again after a
 -- restart of that, which interrupts what was running, and besides changes only the count, and what
 -- an interruption does to its group and that group's scope.
 pub record HasLasted (p : State) (steps : List Step) (before replies : List Reply) (b : Session)
@@ -52,7 +52,7 @@ pub record StoresReopened (start : State) (events : List Event) (bytes : List �
   pub stores : Stores bytes (restarted last)
 
 -- The bytes store state p; or a state that a restart of it and perhaps some first of the events led
--- to; or what a second restart leaves behind all of them.
+-- to; or what a second restart leaves after all of them.
 abbrev pub HoldsOne : State → List Event → List ℕ → Type 0
 HoldsOne p events bytes =
     Stores bytes p

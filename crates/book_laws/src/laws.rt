@@ -23,7 +23,7 @@ use std::alloc::Allocator;
 /// A store of state p is opened, steps are played over it, what they led to is flushed, and it is
 /// opened again from the book's disk.
 ///
-/// Where it is done, the book begins behind a restart of the state that all accepted events led to:
+/// Where it is done, the book begins after a restart of the state that all accepted events led to:
 /// none is lost, whatever the steps were. And whenever the disk is stopped since the start, inside
 /// a call too, it holds state p, or what a restart of p and perhaps some first of these events led
 /// to, or, once it has them all, what the second restart left.

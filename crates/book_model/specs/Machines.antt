@@ -16,7 +16,7 @@ use Rattle.book_model.specs.Nights.{opened_from}
 use Rattle.book_model.specs.Plays.{IsReply, Playing, behind, sound}
 use Rattle.book_model.specs.Stores.{restarted}
 
--- It runs: it answers as the session does that began behind its opening, or is broken; and so many
+-- It runs: it answers as the session does that began after its opening, or is broken; and so many
 -- events of the session's history, the first ones, are acknowledged.
 pub record Running : Type 0 where
   pub book : Playing

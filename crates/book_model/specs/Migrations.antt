@@ -130,7 +130,7 @@ AnswersMigration from to old given result read =
     MatchResult result (λ new. HasMigrated (from old) (from read) (to given) (to new))
     (λ e. MigratesNot from to old given e.0 read e.1)
 
--- The new disk behind a migration, which is handed back at a fault too.
+-- The new disk after a migration, which is handed back at a fault too.
 abbrev pub new_disk : {E : Type 0} → Result E (MigrateFault × E) → E
 new_disk (Ok new) = new
 new_disk (Err e) = e.1

@@ -38,7 +38,7 @@ pub fn a_machine_answers_from_its_history()
         → TakesAll (opened_at p) steps answers m → m.acked ≤ length m.book.session.history }
 {}
 
-/// Many nights lose nothing that was acknowledged. The state behind the last night is that of the
+/// Many nights lose nothing that was acknowledged. The state after the last night is that of the
 /// first store, run over, night by night, a restart, every event that this night's replies
 /// acknowledged, and perhaps some more of those that it accepted, in order and none left out. So
 /// the machine, and so a book over disks, each of which holds what a stop of the one before left.

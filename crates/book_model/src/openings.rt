@@ -36,7 +36,7 @@ pub fn a_recovery_answers_what_is_stored<D: RunDisk>()
         → Recovers D.state old result new → OnlyReads (D.state old) (D.state new) }
 {}
 
-/// Memory and the device aside, an opening of an honest disk answers a book behind a restart of
+/// Memory and the device aside, an opening of an honest disk answers a book after a restart of
 /// the state that its bytes store, or the one fault that tells why they can't be opened.
 pub fn an_opening_answers_what_is_stored<D: RunDisk>()
     ensures state { (given : D) (result : Result (BookView D) (Fault × D)) (p : State)
@@ -53,7 +53,7 @@ pub fn an_opening_answers_what_is_stored<D: RunDisk>()
 
 /// What steps left of a store, as it is kept at any moment, is read again, memory and the device
 /// aside: a recovery of an honest disk with these bytes answers the state that the first events
-/// led to; and an opening answers a book behind the restart of it, unless its numbers are used up.
+/// led to; and an opening answers a book after the restart of it, unless its numbers are used up.
 pub fn a_kept_night_is_read_again<D: RunDisk>()
     ensures recovered { (start : State) (events acks : List Event) (old new : D)
         (result : Result State Fault) (kept : HasKept start events acks (D.state old).now)

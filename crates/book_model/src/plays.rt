@@ -22,14 +22,14 @@ pub fn each_step_has_its_reply()
         → Plays b steps answers end → Plays b steps answers other → end ≡ other }
 {}
 
-/// A list of steps may be split into any parts, one call behind the other.
+/// A list of steps may be split into any parts, one call after the other.
 pub fn steps_may_be_split()
     ensures { (b middle end : Playing) (steps more : List Step) (answers others : List Reply)
         → Plays b steps answers middle → Plays middle more others end
         → Plays b (steps ++ more) (answers ++ others) end }
 {}
 
-/// A broken book refuses each step as Broken and stays as it is; and each step behind one whose
+/// A broken book refuses each step as Broken and stays as it is; and each step after one whose
 /// device failed is refused so.
 pub fn a_broken_book_refuses_each_step()
     ensures broken { (s : Session) (end : Playing) (steps : List Step) (answers : List Reply)
@@ -42,7 +42,7 @@ pub fn a_broken_book_refuses_each_step()
 {}
 
 /// Where no reply is a fault, a book that isn't broken answers as its session does, and isn't
-/// broken behind the steps; and it may answer so.
+/// broken after the steps; and it may answer so.
 pub fn without_faults_a_book_answers_as_its_session()
     ensures only { (s : Session) (end : Playing) (steps : List Step) (answers : List Reply)
         → Plays (sound s) steps answers end → list_any is_fault answers ≡ false

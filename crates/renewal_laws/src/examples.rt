@@ -1,4 +1,4 @@
-//! Examples of what goes on behind a renewal, computed row by row.
+//! Examples of what goes on after a renewal, computed row by row.
 
 ghost use Rattle.std.specs.Option.{option_map};
 ghost use Rattle.std.specs.Prelude.{◌≡◌, IsSomeAnd, Ok, Some, codes, false, map, true};

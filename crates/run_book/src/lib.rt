@@ -2,7 +2,7 @@
 //!
 //! A [`Book`] is opened over a disk that holds a store. It takes commands, starts and finishes as
 //! a session does, by memory alone; a flush or a checkpoint makes those so far durable. Whatever a
-//! crash leaves of an honest disk, at any moment, is a store of the state behind some first of the
+//! crash leaves of an honest disk, at any moment, is a store of the state after some first of the
 //! accepted events, every acknowledged one among them.
 #![tactic(auto)]
 

@@ -130,7 +130,7 @@ fn write_fitting<E: RunDisk, A: Allocator>(
     Journal::format(new, &mut body[..HEAD + count])
 }
 
-/// Writes the image of the renewed state behind the place of the journal's head, and gives its
+/// Writes the image of the renewed state after the place of the journal's head, and gives its
 /// length.
 fn fill_renewed<A: Allocator>(
     state: &State<A>,

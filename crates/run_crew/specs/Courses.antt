@@ -39,7 +39,7 @@ pub data Call : Type 0 where
 
 -- ---- what was called between two moments
 
--- These calls, one behind the other, lead from a state to another by what a call may do.
+-- These calls, one after the other, lead from a state to another by what a call may do.
 abbrev pub Path : {A : Type 0} → (A → Call → A → Type 0) → A → List Call → A → Type 0
 Path step from [] to = from ≡ to
 Path step from (call ∷ calls) to = (mid : _) × step from call mid × Path step mid calls to
@@ -79,7 +79,7 @@ EndsAt info job number calls how =
     × (how ≡ outcome.Failure error))
 
 -- The turns of a task by this job, and how it ends by them: at a turn that the gate doesn't let
--- pass or that is the job's last one, and else behind the greatest number of them.
+-- pass or that is the job's last one, and else after the greatest number of them.
 abbrev pub AreTurns : TaskInfo → ℕ → List Call → Outcome → Type 0
 AreTurns info job calls how =
     (AreRounds info job most_turns calls × (how ≡ outcome.Failure (codes "turn limit")))
@@ -102,7 +102,7 @@ IsRun jobs info calls how =
     × (calls ≡ declined info.job job ++ Handles job info.job true ∷ turns))
 
 -- A start, the word that it is among so many durable events, the run of its task, and what comes
--- behind.
+-- after.
 abbrev pub task_calls : Started → ℕ → List Call → List Call → List Call
 task_calls started durable run calls =
     Start (Ok started) ∷ Save started.event (Ok durable) ∷ (run ++ calls)
@@ -150,7 +150,7 @@ TakesTask jobs false notes after calls = (after ≡ notes) × EndsShift jobs not
 
 -- ---- the shift
 
--- A whole course for each of these notes, one behind the other.
+-- A whole course for each of these notes, one after the other.
 abbrev pub AreCourses : ℕ → List Note → List Call → Type 0
 AreCourses jobs [] calls = calls ≡ []
 AreCourses jobs (note ∷ notes) calls =

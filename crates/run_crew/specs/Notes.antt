@@ -15,7 +15,7 @@ use Rattle.run_crew.specs.declared.notes.Note.{Note}
 abbrev pub noted : List (List Note) → ℕ
 noted lists = sum_by (λ notes. length notes) lists
 
--- The notes of all workers, one list behind the other.
+-- The notes of all workers, one list after the other.
 abbrev pub all_notes : List (List Note) → List Note
 all_notes lists = flat_map (λ notes. notes) lists
 
@@ -49,7 +49,7 @@ abbrev pub note_since : ℕ → ℕ → Event → List Note
 note_since since number event = if nat_lt since number then note_of number event else []
 
 -- The notes of the finishes among these events that have a greater number than `since`. The number
--- of the first event is the one behind `count`.
+-- of the first event is the one after `count`.
 abbrev pub finishes_since : ℕ → ℕ → List Event → List Note
 finishes_since since count [] = []
 finishes_since since count (event ∷ events) =

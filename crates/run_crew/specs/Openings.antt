@@ -10,7 +10,7 @@ use Rattle.book_model.specs.Books.{BookView}
 use Rattle.book_model.specs.Stores.{StoresFront}
 
 -- What a book held at one moment, and the states of its disk then and as it was given to its
--- opening; and whether commands may come behind it, beside starts and finishes.
+-- opening; and whether commands may come after it, beside starts and finishes.
 pub record Opened : Type 1 where
   pub session : Session
   pub durable : ℕ

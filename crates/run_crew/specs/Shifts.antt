@@ -1,4 +1,4 @@
--- What a worker leaves behind one task. No public contract cites it.
+-- What a worker leaves after one task. No public contract cites it.
 use Rattle.std.specs.Prelude.{ℕ, ◌+◌, ◌≡◌, ◌⊎◌, Bool, true, false}
 use Rattle.run_crew.specs.Seats.{SeatView, one_finish, one_start}
 

@@ -6,7 +6,7 @@ use std::sync::{Condvar, MutexGuard, Wait};
 
 /// How many threads are on their way to the lock or have it, how many sleep, and how many flushes
 /// there were, modulo 2^64. A thread comes before it takes the lock. All else it says while it has
-/// the lock, so that none goes to sleep behind the last word that would wake it.
+/// the lock, so that none goes to sleep after the last word that would wake it.
 #[derive(Drop)]
 pub struct Arrivals {
     awake: AtomicU64,

@@ -73,7 +73,7 @@ fn first_stray(made: &Finishes<'_>, lists: &[WorkerNotes]) -> Option<Strayed>
     None
 }
 
-/// The place of the first stray one of these notes, behind the lists before them.
+/// The place of the first stray one of these notes, after the lists before them.
 fn first_stray_in(made: &Finishes<'_>, before: &[WorkerNotes], notes: &[Note]) -> Option<usize>
     ensures { FirstStrayIn made.now (all_notes before.now) notes.now result }
 {
@@ -85,7 +85,7 @@ fn first_stray_in(made: &Finishes<'_>, before: &[WorkerNotes], notes: &[Note]) -
     None
 }
 
-/// Says whether a note behind these is of no finish that was made, or repeats one of them.
+/// Says whether a note after these is of no finish that was made, or repeats one of them.
 fn is_stray(made: &Finishes<'_>, before: &[WorkerNotes], earlier: &[Note], note: &Note) -> bool
     ensures { result ≡ is_stray made.now (all_notes before.now ++ earlier.now) note.now }
 {

@@ -14,7 +14,7 @@ use std::sync::ledger::Ledger;
 /// What a worker asks and tells, one call after another. What a call may do is each floor's own to
 /// say; so a worker's contract is of all floors, and says which calls it makes, in which order.
 pub trait Floor<S: Ledger, F: Ledger> {
-    /// What a call may do: the floor before it, the call with its answer, and the floor behind it.
+    /// What a call may do: the floor before it, the call with its answer, and the floor after it.
     ghost step: { Self → Call → Self → Type 0 };
 
     /// How many jobs there are.

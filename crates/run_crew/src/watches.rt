@@ -13,7 +13,7 @@ use std::sync::{Mutex, Wait};
 
 /// What the flusher asks, one call after another.
 pub trait Watch {
-    /// What a call may do: the watch before it, the call with its answer, and the watch behind it.
+    /// What a call may do: the watch before it, the call with its answer, and the watch after it.
     ghost step: { Self → Call → Self → Type 0 };
 
     /// Waits until the bell has rung for a later event than was heard before, and says which;
@@ -42,7 +42,7 @@ pub fn save_rings<W: Watch, R: Wait>(rt: &R, watch: &mut W)
     unreachable!()
 }
 
-/// The watch of a crew: the bell, and the one lock, which is let go behind each call.
+/// The watch of a crew: the bell, and the one lock, which is let go after each call.
 #[derive(Drop)]
 pub struct Lookout<'a, T, R> {
     pub rt: &'a R,

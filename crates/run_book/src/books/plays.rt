@@ -14,7 +14,7 @@ use std::alloc::Allocator;
 
 impl<D: RunDisk, A: Allocator> Book<D, A> {
     /// Takes the steps in order, and puts one reply for each at the end of the list, which has
-    /// room for them, and takes no more. Behind a failure of the device each step is refused as
+    /// room for them, and takes no more. After a failure of the device each step is refused as
     /// `Broken`.
     pub fn play<B: Allocator>(&mut self, steps: &[Step], replies: &mut Vec<Reply, B>)
         requires room { vec_len replies.old + length steps.now ≤ vec_capacity replies.old }
