@@ -38,13 +38,13 @@ has notes note = list_any (λ other. is_same note other) notes
 
 -- ---- finishes
 
--- The note of the event of this number, where it is a finish.
+-- The note of the event of this number, if it is a finish.
 abbrev pub note_of : ℕ → Event → List Note
 note_of number (event.Finish task outcome) =
     record { event = number; task = task; outcome = outcome } ∷ []
 note_of number _ = []
 
--- The same, where the number is greater than `since`.
+-- The same, if the number is greater than `since`.
 abbrev pub note_since : ℕ → ℕ → Event → List Note
 note_since since number event = if nat_lt since number then note_of number event else []
 

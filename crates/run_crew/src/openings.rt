@@ -14,7 +14,7 @@ pub trait Opening {
 
 /// An opening after which commands may come, beside starts and finishes.
 pub trait Obeys: Opening {
-    /// They may come.
+    /// Commands may come.
     ghost commands_come: { obeys Self.opening ≡ true };
 }
 
