@@ -52,15 +52,15 @@ pub fn the_last_generation_has_no_checkpoint()
         → AnswersStep state_of last_book checkpoint (acked n) new → ⊥ }
 {}
 
-/// A state that lacks one of the acknowledged events is no front: three are acknowledged, and with
-/// the opening a front of them has four events at least.
+/// A state that lacks one of the acknowledged events is not a front: three are acknowledged, and
+/// with the opening a front of them has four events at least.
 pub fn a_front_lacks_no_acknowledged_event()
     ensures { (q : State) → q.count ≡ 3
         → IsFront new_store.state (first_events ++ two_events) 3 q → ⊥ }
 {}
 
 /// The first call of a flush fails: the flush returns this fault, the book is broken, and each step
-/// after it is refused and leaves the book as it is. No flush returns it if no call was made.
+/// after it is refused and leaves the book as it is. The flush doesn't return it without a call.
 pub fn a_flush_fails()
     ensures flush { AnswersStep state_of behind_three flush (faulty DiskFailed) failed }
     ensures behind { AnswersStep state_of failed start (refused Broken) failed }

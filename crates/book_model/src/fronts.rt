@@ -1,4 +1,4 @@
-//! Fronts, which are states that a prefix of a list of events leads to: a crash may leave these.
+//! Fronts: the states that prefixes of a list of events lead to, which a crash may leave.
 
 ghost use Rattle.std.specs.Prelude.{◌≡◌, ◌≤◌, ◌+◌, ◌++◌, ℕ, List, [], length, Some};
 ghost use Rattle.run_model.specs.declared.answers.Reply.{Reply};
@@ -11,9 +11,9 @@ ghost use Rattle.book_model.specs.Nights.{HasKeptNight, StoresPart, opened_from}
 ghost use Rattle.book_model.specs.Plays.{Playing, Plays, sound};
 ghost use Rattle.book_model.specs.Stores.{Stores, StoresFront};
 
-/// A store of a front of some events is one of a front of them and more events too, and so if fewer
-/// are acknowledged; the state that all events lead to is a front of them; and the front of no
-/// events is the start.
+/// A store that holds a front of some events still does when more events follow and when fewer are
+/// acknowledged. The state that all events lead to is a front of them, and the front of no events
+/// is the start.
 pub fn a_front_stays_a_front()
     ensures more { (start : State) (events more : List Event) (n m : ℕ) (bytes : List ℕ) → m ≤ n
         → StoresFront start events n bytes → StoresFront start (events ++ more) m bytes }

@@ -130,7 +130,7 @@ impl<A: Allocator> State<A> {
         }
     }
 
-    /// Puts the renewed scopes after root at a place, and gives the place after them.
+    /// Puts the renewed scopes after root at a place, and returns the place after them.
     fn put_renewed_scopes<B: Allocator>(
         &self,
         renewal: &Renewal<B>,
@@ -154,7 +154,7 @@ impl<A: Allocator> State<A> {
         put_scopes(&rows[1..], &flags[1..], &renewal.scopes, out, at)
     }
 
-    /// Puts the renewed groups at a place, and gives the place after them.
+    /// Puts the renewed groups at a place, and returns the place after them.
     fn put_renewed_groups<B: Allocator>(
         &self,
         renewal: &Renewal<B>,
@@ -180,7 +180,7 @@ impl<A: Allocator> State<A> {
         )
     }
 
-    /// Puts the renewed tasks at a place, and gives the place after them.
+    /// Puts the renewed tasks at a place, and returns the place after them.
     fn put_renewed_tasks<B: Allocator>(
         &self,
         renewal: &Renewal<B>,
