@@ -60,7 +60,7 @@ TakesAll m [] (r ∷ answers) end = ⊥
 TakesAll m (x ∷ steps) [] end = ⊥
 
 -- A crash in the midst of these steps, whose replies nobody was told, leaves the state that a
--- prefix of the events leads to, each acknowledged one in it.
+-- prefix of the events leads to, with each acknowledged one in it.
 pub record StopsAt (m : Running) (more : List Step) (q : State) : Type 0 where
   pub untold : List Reply
   pub last : Running
