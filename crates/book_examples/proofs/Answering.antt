@@ -259,7 +259,7 @@ no_failure (Err why) told flushes =
 pub failure_caused : AnswersStep state_of behind_three flush (faulty DiskFailed) behind_three → ⊥
 failure_caused tells = no_failure tells.result tells.told tells.saves
 
--- The book behind the first n commands.
+-- The book after the first n commands.
 abbrev book_at : ℕ → BookView Counts
 book_at n = record new_book { session = session_after new_store (take n first_three) }
 

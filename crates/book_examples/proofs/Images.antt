@@ -1,4 +1,4 @@
--- The images of the examples, and the places in the batches behind them.
+-- The images of the examples, and the places in the batches after them.
 use Rattle.std.proofs.Common.{ℕ, List, [], ◌∷◌}
 use Rattle.std.proofs.Common.{refl}
 use Rattle.run_model.specs.declared.layouts.Layout.TheVariants.{Small}

@@ -20,7 +20,7 @@ use Rattle.book_examples.specs.Stores.{two_events}
 use Rattle.book_examples.specs.TwoNights.{answered, behind_first, first_night, second_night}
 use Rattle.book_examples.specs.TwoNights.{store}
 
--- The machine behind the answered steps of the first night.
+-- The machine after the answered steps of the first night.
 abbrev after_answered : Running
 after_answered = record {
   book = sound (record {
@@ -96,7 +96,7 @@ stops_first = record {
   front = record { many = 4; enough = omega arith; within = omega arith; reached = refl };
 }
 
--- The machine behind the answered steps of the second night.
+-- The machine after the answered steps of the second night.
 abbrev after_flush : Running
 after_flush = took (opened_at (behind_first 4)) flush (acked 6)
 

@@ -42,7 +42,7 @@ the_others =
 abbrev pub played : List Step
 played = first_three ++ flush ∷ the_others
 
--- Their replies where no device call fails. The opening was event 1.
+-- Their replies when no device call fails. The opening was event 1.
 abbrev pub all_played : List Reply
 all_played =
     three_replies
@@ -61,15 +61,15 @@ all_played =
 abbrev pub none_behind : ℕ → List Reply
 none_behind n = replicate n (refused Broken)
 
--- Their replies where the device fails in the first flush.
+-- Their replies when the device fails in the first flush.
 abbrev pub stopped_at_the_flush : List Reply
 stopped_at_the_flush = three_replies ++ faulty DiskFailed ∷ none_behind 8
 
--- Their replies where the book is broken.
+-- Their replies when the book is broken.
 abbrev pub refused_all : List Reply
 refused_all = none_behind 12
 
--- The session behind the first three steps, and behind all.
+-- The session after the first three steps, and after all.
 abbrev pub after_three : Session
 after_three = session_after new_store first_three
 
@@ -80,6 +80,6 @@ after_all = session_after new_store played
 abbrev pub two_saves : List Step
 two_saves = first_three ++ checkpoint ∷ flush ∷ []
 
--- Their replies where no generation is left.
+-- Their replies when no generation is left.
 abbrev pub numbers_spent : List Reply
 numbers_spent = three_replies ++ faulty NumbersSpent ∷ acked 4 ∷ []

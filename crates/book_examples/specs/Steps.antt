@@ -1,5 +1,5 @@
--- A book of a new store, over a disk of which nothing is known but its size and its counts; and
--- what steps make of it.
+-- A book of a new store, over a disk of which nothing is known but its size and its counts; and the
+-- results of steps on it.
 use Rattle.std.specs.Prelude.{ℕ, ◌-◌, ◌^◌, List, [], ◌∷◌, ◌++◌, true, false}
 use Rattle.run_model.specs.declared.answers.Reply.{Reply}
 use Rattle.run_model.specs.declared.commands.Step.{Step}
@@ -22,17 +22,17 @@ pub record Counts : Type 0 where
   pub calls : ℕ
   pub failures : ℕ
 
--- A disk of a small store's size with these counts. Nothing is told of its bytes.
+-- A disk of a small store's size with these counts. Nothing is known of its bytes.
 abbrev pub state_of : Counts → DiskState
 state_of d = file_state 1572864 d.calls d.failures
 
--- A disk that lacks one byte of it.
+-- A disk that lacks one byte of that size.
 abbrev pub short_state_of : Counts → DiskState
 short_state_of d = file_state 1572863 d.calls d.failures
 
 -- ---- books
 
--- The book of a new store behind its opening, which made ten calls: one event, and it is
+-- The book of a new store after its opening, which made ten calls: one event, and it is
 -- acknowledged.
 abbrev pub new_book : BookView Counts
 new_book = record {
@@ -49,31 +49,31 @@ new_book = record {
   origin = record { calls = 0; failures = 0 };
 }
 
--- The book behind three commands.
+-- The book after three commands.
 abbrev pub behind_three : BookView Counts
 behind_three = record new_book { session = record after_three { history = first_events } }
 
--- And behind a flush of theirs, by six calls.
+-- The same after a flush of them, by six calls.
 abbrev pub flushed : BookView Counts
 flushed = record behind_three {
   durable = 4;
   journal = record new_book.journal { disk = record { calls = 16; failures = 0 }; tail = 31 };
 }
 
--- Or behind one whose first call failed.
+-- The same after a flush whose first call failed.
 abbrev pub failed : BookView Counts
 failed = record behind_three {
   journal = record new_book.journal { disk = record { calls = 11; failures = 1 }; broken = true };
 }
 
--- The same by two batches, of one record and of two: twelve calls, and five bytes more.
+-- The same after two batches, of one record and of two: twelve calls, and five bytes more.
 abbrev pub flushed_twice : BookView Counts
 flushed_twice = record behind_three {
   durable = 4;
   journal = record new_book.journal { disk = record { calls = 22; failures = 0 }; tail = 36 };
 }
 
--- The book behind three commands, where no generation is left, and behind a flush of theirs.
+-- The book after three commands, when no generation is left, and after a flush of them.
 abbrev pub last_book : BookView Counts
 last_book =
     record behind_three { journal = record new_book.journal { generation = 2 ^ 63 - 1 } }
@@ -87,14 +87,14 @@ last_flushed = record flushed { journal = record flushed.journal { generation = 
 abbrev pub first_command : Step
 first_command = derive "a" "root" Cause
 
--- Three commands and a flush, and their replies where it is done.
+-- Three commands and a flush, and their replies when it is done.
 abbrev pub first_call : List Step
 first_call = first_three ++ flush ∷ []
 
 abbrev pub first_replies : List Reply
 first_replies = three_replies ++ acked 4 ∷ []
 
--- A scope and a checkpoint behind them, and the replies where the device fails in the flush.
+-- A scope and a checkpoint after them, and the replies when the device fails in the flush.
 abbrev pub failing_call : List Step
 failing_call = first_three ++ flush ∷ derive "c" "root" Cancel ∷ checkpoint ∷ []
 

@@ -32,7 +32,7 @@ abbrev pub two_events : List Event
 two_events =
     event.Derive (codes "c") 0 kind.Cancel ∷ event.Derive (codes "d") 0 kind.Cancel ∷ []
 
--- The state behind the first three, and behind all five.
+-- The state after the first three, and after all five.
 abbrev pub at_four : State
 at_four = after_three.state
 
@@ -41,7 +41,7 @@ at_six =
     step (step at_four (event.Derive (codes "c") 0 kind.Cancel))
     (event.Derive (codes "d") 0 kind.Cancel)
 
--- The first record, and the front of the second; and what is left of them.
+-- The first record, and a prefix of the second; and what is left of them.
 abbrev pub cut_record : List ℕ
 cut_record = 1 ∷ 0 ∷ 5 ∷ 1 ∷ 97 ∷ 0 ∷ 0 ∷ 2 ∷ 1 ∷ 0 ∷ 5 ∷ []
 

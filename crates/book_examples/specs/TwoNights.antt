@@ -1,4 +1,4 @@
--- Two nights of the machine over a new small store, each ended by a stop.
+-- Two nights of the machine over a new small store, each ended by a crash.
 use Rattle.std.specs.Prelude.{◌∷◌, [], ℕ, List, take}
 use Rattle.run_model.specs.declared.answers.Reply.{Reply}
 use Rattle.run_model.specs.declared.commands.Step.{Step}
@@ -24,12 +24,12 @@ answered =
     ∷ (derive "c" "root" Cancel, scope_made 3)
     ∷ []
 
--- The first night: it is stopped in the midst of a fifth.
+-- The first night: a crash comes in the midst of a fifth command.
 abbrev pub first_night : Night
 first_night = Spent answered (derive "d" "root" Cancel ∷ [])
 
--- The second one, over a store with the first four: a flush has nothing to save, and tells the
--- count with this opening; a command is answered, and then it is stopped.
+-- The second night, over a store with the first four: a flush has nothing to save, and returns the
+-- count with this opening; a command is answered, and then a crash comes.
 abbrev pub second_night : Night
 second_night =
     Spent ((flush, acked 6) ∷ (derive "e" "root" Cancel, scope_made 4) ∷ []) []
@@ -40,6 +40,6 @@ five =
     derive "a" "root" Cause ∷ derive "b" "a" Cancel ∷ cancel "a" "disk"
     ∷ derive "c" "root" Cancel ∷ derive "d" "root" Cancel ∷ []
 
--- The state behind the first so many of them.
+-- The state after the first so many of them.
 abbrev pub behind_first : ℕ → State
 behind_first n = (session_after new_store (take n five)).state

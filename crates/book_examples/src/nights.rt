@@ -1,4 +1,4 @@
-//! Two nights of the machine that a book is, each ended by a stop.
+//! Two nights of the machine that a book is, each ended by a crash.
 
 ghost use Rattle.std.specs.Prelude.{◌≡◌, ◌⊎◌, ◌∷◌, []};
 ghost use Rattle.std.specs.List.{flat_map};
@@ -8,16 +8,16 @@ ghost use Rattle.book_model.specs.ManyNights.{moves_of};
 ghost use Rattle.book_model.specs.Stores.{restarted};
 ghost use Rattle.book_examples.specs.TwoNights.{behind_first, first_night, second_night, store};
 
-/// Three events were acknowledged before the first stop, a fourth was accepted, and a fifth was
-/// asked for. What is stored then is the state behind the first three, four or five: nothing that
+/// Three events were acknowledged before the first crash, a fourth was accepted, and a fifth was
+/// asked for. What is stored then is the state after the first three, four or five: nothing that
 /// was acknowledged is lost, nothing else is there, and in no other order.
 pub fn a_stop_leaves_one_of_three_states()
     ensures { (q : State) → GoesOn (Stored store) (moves_of first_night) (Stored q)
         → (q ≡ behind_first 3) ⊎ (q ≡ behind_first 4) ⊎ (q ≡ behind_first 5) }
 {}
 
-/// The first night may leave the first four, though none said so; the second begins behind a
-/// restart of them, and may lose the one command that it accepted.
+/// The first night may leave the first four, though no reply acknowledged the fourth; the second
+/// begins after a restart of them, and may lose the one command that it accepted.
 pub fn two_nights_lead_to_a_restart_of_four()
     ensures { GoesOn (Stored store) (flat_map moves_of (first_night ∷ second_night ∷ []))
         (Stored (restarted (behind_first 4))) }

@@ -8,15 +8,15 @@ ghost use Rattle.book_examples.specs.Plays.{after_all, after_three, all_played, 
 ghost use Rattle.book_examples.specs.Plays.{numbers_spent, played, refused_all};
 ghost use Rattle.book_examples.specs.Plays.{stopped_at_the_flush, two_saves};
 
-/// Twelve steps of a new store are answered one by one; each flush and the checkpoint tell the
-/// count, and the last one tells that all events are acknowledged.
+/// Twelve steps of a new store are answered one by one; each flush and the checkpoint return the
+/// count, and the last one acknowledges all events.
 pub fn a_night_is_played()
     ensures played { Plays (sound new_store) played all_played (sound after_all) }
     ensures acked { last_acked all_played ≡ Some 9 }
 {}
 
-/// The device fails in the first flush: it is answered so, and each step behind it is refused as
-/// Broken. The three events before it were accepted, and none is acknowledged.
+/// The device fails in the first flush: the flush returns this fault, and each step after it is
+/// refused as Broken. The three events before it were accepted, and none is acknowledged.
 pub fn a_failing_device_ends_a_night()
     ensures played { Plays (sound new_store) played stopped_at_the_flush (stuck after_three) }
     ensures accepted { accepted new_store (taken played stopped_at_the_flush) ≡ first_events }
@@ -29,7 +29,8 @@ pub fn a_broken_book_plays_nothing()
     ensures { Plays (stuck new_store) played refused_all (stuck new_store) }
 {}
 
-/// A checkpoint that finds no number left says so and breaks nothing: the flush behind it is done.
+/// A checkpoint that finds no number left reports it and breaks nothing: the flush after it is
+/// done.
 pub fn spent_numbers_break_nothing()
     ensures played { Plays (sound new_store) two_saves numbers_spent (sound after_three) }
     ensures acknowledged { acknowledged new_store two_saves numbers_spent ≡ first_events }

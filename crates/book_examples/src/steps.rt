@@ -1,4 +1,4 @@
-//! Steps over a book of a new store: a flush that is done, one that fails, and a stop between two
+//! Steps over a book of a new store: a flush that is done, one that fails, and a crash between two
 //! calls.
 
 ghost use Rattle.std.specs.Prelude.{◌≡◌, ◌<◌, ◌≤◌, ◌+◌, ◌++◌, [], ◌∷◌, Err, ℕ, List};
@@ -26,8 +26,8 @@ ghost use Rattle.book_examples.specs.Steps.{last_flushed, new_book, second_call,
 ghost use Rattle.book_examples.specs.Steps.{short_state_of, state_of};
 ghost use Rattle.book_examples.specs.Stores.{two_events};
 
-/// Three commands are accepted, and a flush of them is done by six calls: it tells the count 4. A
-/// flush behind it has nothing to save: it tells the same, by no call. No other count is told.
+/// Three commands are accepted, and a flush of them is done by six calls: it returns the count 4. A
+/// flush after it has nothing to save: it returns the same, by no call. No other count is returned.
 pub fn a_flush_is_done()
     ensures answered { Steps state_of new_book first_call first_replies flushed }
     ensures again { AnswersStep state_of flushed flush (acked 4) flushed }
@@ -36,15 +36,15 @@ pub fn a_flush_is_done()
     ensures batched { AnswersStep state_of behind_three flush (acked 4) flushed_twice → ⊥ }
 {}
 
-/// The first of the three is answered by scope 1, and by no other; and the book has its event then.
+/// The first of the three is answered by scope 1, and by no other; and then the book has its event.
 pub fn a_command_is_answered_as_its_session_says()
     ensures told { (new : BookView Counts) → AnswersStep state_of new_book first_command
         (scope_made 2) new → ⊥ }
     ensures taken { AnswersStep state_of new_book first_command (scope_made 1) new_book → ⊥ }
 {}
 
-/// Where no generation is left, a checkpoint says that the numbers are spent, and changes nothing;
-/// a flush behind it, whose records fit, is done. No checkpoint is done there.
+/// If no generation is left, a checkpoint reports that the numbers are spent, and changes nothing;
+/// a flush after it, whose records fit, is done. No checkpoint is done there.
 pub fn the_last_generation_has_no_checkpoint()
     ensures answered { Steps state_of last_book (checkpoint ∷ flush ∷ [])
         (faulty NumbersSpent ∷ acked 4 ∷ []) last_flushed }
@@ -52,15 +52,15 @@ pub fn the_last_generation_has_no_checkpoint()
         → AnswersStep state_of last_book checkpoint (acked n) new → ⊥ }
 {}
 
-/// A state that lacks one of the acknowledged events is no front: three are acknowledged, and with
-/// the opening a front of them has four events at least.
+/// A state that lacks one of the acknowledged events is not a front: three are acknowledged, and
+/// with the opening a front of them has four events at least.
 pub fn a_front_lacks_no_acknowledged_event()
     ensures { (q : State) → q.count ≡ 3
         → IsFront new_store.state (first_events ++ two_events) 3 q → ⊥ }
 {}
 
-/// Its first call fails: it is answered so, the book is broken, and each step behind it is refused
-/// and leaves the book as it is. It isn't answered so where nothing was called.
+/// The first call of a flush fails: the flush returns this fault, the book is broken, and each step
+/// after it is refused and leaves the book as it is. The flush doesn't return it without a call.
 pub fn a_flush_fails()
     ensures flush { AnswersStep state_of behind_three flush (faulty DiskFailed) failed }
     ensures behind { AnswersStep state_of failed start (refused Broken) failed }
@@ -69,7 +69,7 @@ pub fn a_flush_fails()
     ensures caused { AnswersStep state_of behind_three flush (faulty DiskFailed) behind_three → ⊥ }
 {}
 
-/// A stop between two calls, or within the second: three events were acknowledged by the first
+/// A crash between two calls, or within the second: three events were acknowledged by the first
 /// call, two more are accepted in the second, and whatever is left has four events, five or six.
 pub fn a_stop_comes_between_two_calls()
     ensures acknowledged { acknowledged new_store first_call first_replies ≡ first_events }
@@ -90,8 +90,9 @@ pub fn a_disk_of_another_size_is_no_store()
     ensures none { StoresNone [] WrongSize }
 {}
 
-/// Where the size is right, memory is refused before the first call; a first read that fails is
-/// counted. Before a read nothing is told of the bytes, and no failure of a disk that isn't spent.
+/// If the size is right, memory is refused before the first call; a first read that fails is
+/// counted. Before a read no fault of the bytes is reported, and no failure of a disk that isn't
+/// spent.
 pub fn a_recovery_is_told_by_its_reads()
     ensures memory { (d : Counts) → Recovers state_of d (Err Memory) d }
     ensures failed { (calls failures : ℕ) → Recovers state_of

@@ -35,7 +35,7 @@ pub fn damaged_stores_mean_nothing()
     ensures parent { MeansNone Small (empty_image 2 1) (with_parent 5 ∷ []) BadEvent }
 {}
 
-/// A retry stands behind an image of version 2, and behind none of version 1.
+/// A retry stands after an image of version 2, and after none of version 1.
 pub fn a_retry_stands_behind_version_2()
     ensures two { MeansIn Two Small (interrupted_image Two) (retry_record ∷ [])
         (step one_interrupted.state (Retry 0)) }

@@ -43,7 +43,7 @@ use Rattle.book_laws.specs.Chains.{HoldsOneOrNothing, IsPlayed, StopsFor}
 
 -- ---- steps
 
--- A book that isn't broken behind the steps took each of them.
+-- A book that isn't broken after the steps took each of them.
 taken_all : (k : Bool) (s : Session) (end : Playing) (steps : List Step) (answers : List Reply)
     → Plays (record { session = s; broken = k }) steps answers end → end.broken ≡ false
     → taken steps answers ≡ steps
@@ -67,7 +67,7 @@ or_none : (a : Bool) → a ≡ true → a || false ≡ true
 or_none true is = refl
 or_none false is = is
 
--- A book that is broken behind the steps was so before, or met a failure of the device.
+-- A book that is broken after the steps was so before, or met a failure of the device.
 broken_by : (k : Bool) (s : Session) (end : Playing) (steps : List Step) (answers : List Reply)
     → Plays (record { session = s; broken = k }) steps answers end → end.broken ≡ true
     → k || list_any is_device_failure answers ≡ true

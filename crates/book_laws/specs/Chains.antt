@@ -28,9 +28,9 @@ disk_in (Err stopped) = stopped.1
 
 -- In words of a user: the steps over a store of state p, once it was opened, were answered one
 -- after another, as a book may answer them that isn't broken at their end. All events that they
--- led to, in order and none left out, make one state; and the store was opened again behind a
--- restart of that, which interrupts what was running, and besides changes only the count, and what
--- an interruption does to its group and that group's scope.
+-- led to, in order and none left out, make one state. The store was opened again after a restart
+-- of that state. The restart interrupts what was running, and besides changes only the count, and
+-- what an interruption does to its group and that group's scope.
 pub record HasLasted (p : State) (steps : List Step) (before replies : List Reply) (b : Session)
     : Type 0 where
   pub answers : List Reply
@@ -51,15 +51,15 @@ pub record StoresReopened (start : State) (events : List Event) (bytes : List �
   pub reached : run start events ≡ Some last
   pub stores : Stores bytes (restarted last)
 
--- The bytes store state p; or a state that a restart of it and perhaps some first of the events led
--- to; or what a second restart leaves behind all of them.
+-- The bytes store state p; or a state that a restart of it and a prefix of the events, perhaps
+-- empty, led to; or what a second restart leaves after all of them.
 abbrev pub HoldsOne : State → List Event → List ℕ → Type 0
 HoldsOne p events bytes =
     Stores bytes p
     ⊎ HasKept (restarted p) events [] bytes
     ⊎ StoresReopened (restarted p) events bytes
 
--- Whenever the disk is stopped between two moments, it holds one of these, by the events that the
+-- Whenever a crash comes between two moments, the disk holds one of these, by the events that the
 -- steps led to whose replies are at the end of the list.
 pub record HasStayed (p : State) (steps : List Step) (before replies : List Reply)
     (old new : DiskState) : Type 0 where
@@ -71,7 +71,8 @@ pub record HasStayed (p : State) (steps : List Step) (before replies : List Repl
 abbrev pub HoldsOneOrNothing : State → List Event → List ℕ → Type 0
 HoldsOneOrNothing p events bytes = StoresNothingOr p bytes ⊎ HoldsOne p events bytes
 
--- The same of a disk that is formatted first: until that is done it stores nothing, or root alone.
+-- The same of a disk that is formatted first: until the format is done the disk stores nothing, or
+-- root alone.
 pub record HasStayedNew (p : State) (steps : List Step) (before replies : List Reply)
     (old new : DiskState) : Type 0 where
   pub answers : List Reply
@@ -86,7 +87,8 @@ abbrev pub DeviceFails : DiskState → DiskState → Type 0
 DeviceFails old new = (old.failures < new.failures) ⊎ (new.clock ≡ last_moment)
 
 -- Why such a row of calls stops: memory was refused; the store's numbers are used up; or a device
--- call failed in it: that fault is told, or, where a step before met it, that the book is broken.
+-- call failed in it: it reports that fault, or, if a step before met the fault, that the book is
+-- broken.
 abbrev pub StopsFor : DiskState → DiskState → Trouble → Type 0
 StopsFor old new why =
     (why ≡ Faulty Memory)
@@ -96,7 +98,7 @@ StopsFor old new why =
 -- ---- on the way
 
 -- A store of state p was opened over this disk, and the steps were played over the book. No public
--- contract cites it.
+-- contract cites this.
 pub record IsPlayed {D : Type 0} (state : D → DiskState) (given : D) (p : State)
     (steps : List Step) (before : List Reply) (b : BookView D) (replies : List Reply)
     : Type 0 where

@@ -23,13 +23,13 @@ use std::alloc::Allocator;
 /// A store of state p is opened, steps are played over it, what they led to is flushed, and it is
 /// opened again from the book's disk.
 ///
-/// Where it is done, the book begins behind a restart of the state that all accepted events led to:
-/// none is lost, whatever the steps were. And whenever the disk is stopped since the start, inside
-/// a call too, it holds state p, or what a restart of p and perhaps some first of these events led
-/// to, or, once it has them all, what the second restart left.
+/// If all this is done, the book begins after a restart of the state that all accepted events led
+/// to: none is lost, whatever the steps were. And whenever a crash comes since the start, inside a
+/// call too, the disk holds state p, or what a restart of p and a prefix of these events, perhaps
+/// empty, led to, or, once it has them all, what the second restart left.
 ///
-/// It stops for want of memory, where the store's numbers are used up, or where a device call
-/// failed: as that fault, or as `Broken` where a step met it.
+/// The row stops if memory is refused, if the store's numbers are used up, or if a device call
+/// failed: it returns that fault, or `Broken` if a step met it.
 pub fn use_store<D: RunDisk, A: Allocator + Copy, B: Allocator>(
     alloc: A,
     disk: D,
@@ -60,8 +60,8 @@ pub fn use_store<D: RunDisk, A: Allocator + Copy, B: Allocator>(
     }
 }
 
-/// The same over a disk that is formatted first. Where it held zeros, it stores nothing or root
-/// alone until the format is done. It stops for the same reasons, where the disk has a store's
+/// The same over a disk that is formatted first. If the disk held zeros, it stores nothing or root
+/// alone until the format is done. The row stops for the same reasons, if the disk has a store's
 /// size.
 pub fn use_new_store<D: RunDisk, A: Allocator + Copy, B: Allocator>(
     alloc: A,
@@ -89,7 +89,7 @@ pub fn use_new_store<D: RunDisk, A: Allocator + Copy, B: Allocator>(
     }
 }
 
-/// So a new store of either layout in memory: the premises of these laws are met.
+/// The same of a new store of either layout in memory: the premises of these laws are met.
 pub fn use_new_store_in_memory<A: Allocator + Copy, B: Allocator>(
     alloc: A,
     layout: Layout,

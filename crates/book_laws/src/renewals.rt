@@ -15,10 +15,11 @@ ghost use Rattle.book_laws.specs.Renewing.{AreStores};
 
 use run_disk::RunDisk;
 
-/// Memory and the devices aside, a renewal of an honest disk answers what its bytes store. Where
-/// they store a state of fewer than 2^62 events, it answers a new disk of which every crash leaves
-/// what is left of that state, if the new one is honest and has room for it, and `New(WrongSize)`
-/// if it has none. Where they store no state, it answers the one fault that tells why.
+/// Memory and the devices aside, a renewal of an honest disk answers what its bytes store. If they
+/// store a state of fewer than 2^62 events, the renewal answers a new disk of which every crash
+/// leaves what is left of that state, if the new disk is honest and this fits in it, and
+/// `New(WrongSize)` if it doesn't fit. If they store no state, the renewal answers the one fault
+/// that reports why.
 pub fn a_renewal_answers_what_is_stored<D: RunDisk, E: RunDisk>()
     ensures state { (old read : D) (given : E) (result : Result E (WhyNot × E)) (p : State)
         → (D.state old).honest → (sized : AreStores (D.state old) (E.state given))
@@ -54,7 +55,7 @@ pub fn a_renewal_leaves_the_old_store_as_it_was<D: RunDisk, E: RunDisk>()
         → x ≡ (D.state old).now }
 {}
 
-/// That a device failed is told only where a call of that disk failed or it is spent.
+/// A renewal reports that a device failed only if a call of that disk failed or it is spent.
 pub fn a_renewal_tells_which_disk_failed<D: RunDisk, E: RunDisk>()
     ensures old { (old read : D) (given : E) (result : Result E (WhyNot × E))
         → Renews D.state E.state old given result read

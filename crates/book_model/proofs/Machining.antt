@@ -28,13 +28,13 @@ use Rattle.book_model.proofs.Storing.{stores_one}
 
 -- ---- a step
 
--- What is acknowledged behind an Acked is the count of the session; no broken book tells it.
+-- What is acknowledged after an Acked is the count of the session; no broken book tells it.
 pub acked_count : (b : Bool) (s : Session) (x : Step) (r : Reply) (n : ℕ)
     → IsReplyWhere b s x r → acked_of r ≡ Some n → n ≡ s.state.count
 acked_count true s x r n told some = absurd (some_none (acked_of r) n some (ap acked_of told))
 acked_count false s x r n told some = (sound_acked s x r n told some).0
 
--- As many events are acknowledged behind a step as the machine says.
+-- As many events are acknowledged after a step as the machine says.
 acked_after : {D : Type 0} (old new : BookView D) (x : Step) (r : Reply) (n : ℕ) → IsReached old
     → IsReply (playing old) x r → new.session.start ≡ old.session.start
     → new.durable ≡ unwrap_or (acked_of r) old.durable → n ≡ acked old

@@ -67,7 +67,7 @@ module _ {D : Type 0} (state : D → DiskState) where
   rests_sound old step.Checkpoint r new sound tells is =
       rests_save old new tells.result tells.saves.saves sound is
 
-  -- A step behind which the book isn't broken.
+  -- A step after which the book isn't broken.
   rests_step : (old : BookView D) (x : Step) (r : Reply) (new : BookView D)
       → new.journal.broken ≡ false → AnswersStep state old x r new → IsResting state old
       → IsResting state new

@@ -1,4 +1,4 @@
--- Many nights of the machine: which state they lead to, by what their replies told.
+-- Many nights of the machine: which state they lead to, by what their replies acknowledged.
 use Rattle.std.specs.Prelude.{◌≡◌, ◌⊎◌, ◌++◌, ◌∷◌, [], ℕ, List, map, Some}
 use Rattle.run_model.specs.declared.answers.Reply.{Reply}
 use Rattle.run_model.specs.declared.commands.Step.{Step}
@@ -13,7 +13,7 @@ use Rattle.book_model.specs.Plays.{taken}
 use Rattle.book_model.specs.Stores.{Stores, restarted}
 
 -- What is seen of a night: an opening in vain; or the steps that were answered, each with its
--- reply, and those that it was stopped in the midst of.
+-- reply, and those in the midst of which a crash came.
 pub data Night : Type 0 where
   InVain : Night
   Spent : List (Step × Reply) → List Step → Night

@@ -1,10 +1,10 @@
 -- What a migration answers, and what it leaves of its two disks: a small store is read, and a large
 -- one is made of the state that it stores.
 --
--- Its faults come in this order, and the first whose cause holds is told: Old(WrongSize), where the
--- old disk has not a small store's size; New(WrongSize), where the new one has not a large store's;
--- Memory; those of a recovery of the old disk, from DiskFailed on, as Old; Old(NumbersSpent), where
--- 2^62 events or more were found; New(DiskFailed).
+-- Its faults come in this order, and it reports the first whose cause holds: Old(WrongSize), if the
+-- old disk doesn't have a small store's size; New(WrongSize), if the new one doesn't have a large
+-- store's; Memory; those of a recovery of the old disk, from DiskFailed on, as Old;
+-- Old(NumbersSpent), if 2^62 events or more were found; New(DiskFailed).
 use Rattle.std.specs.Prelude.{◌≡◌, ◌⊎◌, ◌<◌, ◌≤◌, ◌+◌, ◌^◌, ℕ, List, Result, Ok, Err, MatchResult}
 use Rattle.std.specs.Prelude.{IfOk}
 use Rattle.run_model.specs.declared.faults.Fault.TheVariants.{DiskFailed, Memory, NumbersSpent}
@@ -46,14 +46,14 @@ pub record HasReadStore (p : State) (old read : DiskState) : Type 0 where
   pub recovered : HasRecovered p old read
   pub few : p.count < 2 ^ 62
 
--- It was read, but it stores a state of 2^62 events or more.
+-- The store was read, but it stores a state of 2^62 events or more.
 pub record HasReadTooMany (old read : DiskState) : Type 0 where
   pub state : State
   pub recovered : HasRecovered state old read
   pub many : 2 ^ 62 ≤ state.count
 
--- Why a disk of the store's size gives no state to copy, by the fault that tells it, and what is
--- left of it. Where memory is refused, no call was made.
+-- Why a disk of the store's size gives no state to copy, by the fault that reports it, and what is
+-- left of the disk. If memory is refused, no call was made.
 abbrev pub ReadsNot : {D : Type 0} → (D → DiskState) → D → MigrateFault → D → Type 0
 ReadsNot from old why.Memory read = read ≡ old
 ReadsNot from old (why.Old WrongSize) read = ⊥
@@ -64,7 +64,7 @@ ReadsNot from old (why.New fault) read = ⊥
 
 -- ---- the new disk, which is written
 
--- Where the new disk held zeros, and whatever a crash had left of it too, a crash at any moment
+-- If the new disk held zeros, as did whatever a crash could have left of it, a crash at any moment
 -- since leaves a disk that stores nothing, or the widened state.
 abbrev pub StopsMigration : State → DiskState → DiskState → Type 0
 StopsMigration p given new =
@@ -72,7 +72,7 @@ StopsMigration p given new =
     → LeavesOnly (StoresNothingOr (widened p)) given new
 
 -- The large store was made, by eight calls of which none failed: every crash now leaves a fresh
--- store of the widened state, in generation 0; and the disk is at rest where it was.
+-- store of the widened state, in generation 0; and the disk is at rest if it was so before.
 pub record HasWritten (p : State) (given new : DiskState) : Type 0 where
   pub made : Made 8 given new
   pub passed : Passed given new
@@ -81,7 +81,7 @@ pub record HasWritten (p : State) (given new : DiskState) : Type 0 where
   pub rest : given.honest → IsAtRest given → IsAtRest new
   pub stops : StopsMigration p given new
 
--- A call failed, or the disk is spent: it may be no store.
+-- A call failed, or the disk is spent: the disk may hold no store.
 pub record HasFailedWrite (p : State) (given new : DiskState) : Type 0 where
   pub most : new.clock ≤ given.clock + 8
   pub cause : (given.failures < new.failures) ⊎ (new.clock ≡ last_moment)
@@ -97,7 +97,7 @@ pub record HasMigrated (old read given new : DiskState) : Type 0 where
   pub found : HasReadStore state old read
   pub written : HasWritten state given new
 
--- The small store was read, but a call of the new disk failed, or it is spent.
+-- The small store was read, but a call of the new disk failed, or the new disk is spent.
 pub record HasStopped (old read given new : DiskState) : Type 0 where
   pub sized : AreSized old given
   pub state : State
@@ -108,7 +108,7 @@ pub record HasStopped (old read given new : DiskState) : Type 0 where
 abbrev pub AreUncalled : {D E : Type 0} → D → E → D → E → Type 0
 AreUncalled old given read new = (read ≡ old) × (new ≡ given)
 
--- Why no large store was made, by the fault that tells it, and what is left of the two disks. The
+-- Why no large store was made, by the fault that reports it, and what is left of the two disks. The
 -- new one is as it was given, unless a call of it failed.
 abbrev pub MigratesNot : {D E : Type 0} → (D → DiskState) → (E → DiskState) → D → E
     → MigrateFault → D → E → Type 0
@@ -123,21 +123,21 @@ MigratesNot from to old given (why.New fault) read new = ⊥
 MigratesNot from to old given fault read new =
     AreSized (from old) (to given) × ReadsNot from old fault read × (new ≡ given)
 
--- What a migration answers: the new disk, and at a fault the fault too.
+-- The answer of a migration: the new disk, and at a fault the fault too.
 abbrev pub AnswersMigration : {D E : Type 0} → (D → DiskState) → (E → DiskState) → D → E
     → Result E (MigrateFault × E) → D → Type 0
 AnswersMigration from to old given result read =
     MatchResult result (λ new. HasMigrated (from old) (from read) (to given) (to new))
     (λ e. MigratesNot from to old given e.0 read e.1)
 
--- The new disk behind a migration, which is handed back at a fault too.
+-- The new disk after a migration, which is handed back at a fault too.
 abbrev pub new_disk : {E : Type 0} → Result E (MigrateFault × E) → E
 new_disk (Ok new) = new
 new_disk (Err e) = e.1
 
--- What a migration answers and leaves. The old disk is read alone. Where it is honest and stores a
--- state: at Ok every crash of an honest new disk leaves that state, widened; and where the new disk
--- held zeros, a crash at any moment since the start leaves nothing or that.
+-- What a migration answers and leaves. The old disk is only read. If it is honest and stores a
+-- state, then at Ok every crash of an honest new disk leaves that state, widened; and if the new
+-- disk held zeros, a crash at any moment since the start leaves nothing, or that.
 pub record Migrates {D E : Type 0} (from : D → DiskState) (to : E → DiskState) (old : D)
     (given : E) (result : Result E (MigrateFault × E)) (read : D) : Type 0 where
   pub answer : AnswersMigration from to old given result read

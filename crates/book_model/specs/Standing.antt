@@ -25,8 +25,8 @@ pub record Finds {D : Type 0} (state : D → DiskState) (left : List ℕ → Typ
   pub rest : IsAtRest (state next)
   pub content : left (state next).now
 
--- An opening answers, but a crash at some moment since it began comes first, or none is wanted any
--- more: the next opening finds what that left.
+-- An opening answers, but a crash at some moment since it began comes first, or no book is wanted
+-- any more: the next opening finds what that left.
 pub record CutsOpening {D : Type 0} (state : D → DiskState) (given next : D) : Type 0 where
   pub result : Result (BookView D) (Fault × D)
   pub opens : Opens state given result
@@ -80,7 +80,8 @@ StandsAs state (Closed d) (Stored p) = LiesWith state d p
 StandsAs state (Opened h) (Runs m) = HoldsAs state h m
 StandsAs state _ _ = ⊥
 
--- The machine makes these moves too, reply for reply, and the book stands where it does then.
+-- The machine makes these moves too, reply for reply, and the book then stands where the machine
+-- does.
 pub record GoesAs {D : Type 0} (state : D → DiskState) (m : Machine) (moves : List Move)
     (new : Standing D) : Type 0 where
   pub end : Machine

@@ -1,4 +1,4 @@
-//! A book over a disk: how it goes on over any calls, and what a stop leaves of it.
+//! A book over a disk: how it carries on over any calls, and what a crash leaves of it.
 
 ghost use Rattle.std.specs.Prelude.{◌≡◌, ◌⊎◌, ◌≤◌, ◌++◌, [], ◌∷◌, ℕ, List, drop, length, Some};
 ghost use Rattle.run_model.specs.declared.answers.Reply.{Reply};
@@ -26,8 +26,8 @@ ghost use Rattle.book_model.specs.Stores.{Stores, StoresFront, StoresOpened, res
 
 use run_disk::RunDisk;
 
-/// A book whose images hold what is acknowledged carries on where nothing is called, and where
-/// events are added without a device call; and two runs of calls in a row are one.
+/// A book whose images hold what is acknowledged carries on if nothing is called, and if events
+/// are added without a device call; and two runs of calls in a row are one.
 pub fn a_book_carries_on<D: RunDisk>()
     ensures none { (h : BookView D) → IsDurable D.state h → CarriesOn D.state h h }
     ensures more { (h : BookView D) (s : Session) (events : List Event)
@@ -37,9 +37,9 @@ pub fn a_book_carries_on<D: RunDisk>()
         → CarriesOn D.state a c }
 {}
 
-/// Over any calls, a crash at any moment since the first one left a state that some first events
-/// of the history lead to, with each event that was acknowledged before; and a crash now leaves
-/// each that is acknowledged now.
+/// Over any calls, a crash at any moment since the first one left a state that a prefix of the
+/// history leads to, with each event that was acknowledged before; and a crash now leaves each that
+/// is acknowledged now.
 pub fn a_stop_loses_nothing_acknowledged<D: RunDisk>()
     ensures any_moment { (old new : BookView D) (x : List ℕ) → CarriesOn D.state old new
         → IsSafe D.state old
@@ -50,7 +50,7 @@ pub fn a_stop_loses_nothing_acknowledged<D: RunDisk>()
         → StoresFront old.session.start new.session.history (acked new) x }
 {}
 
-/// Where all events are acknowledged, whatever a crash leaves stores the book's state.
+/// If all events are acknowledged, whatever a crash leaves stores the book's state.
 pub fn a_saved_book_stores_its_state<D: RunDisk>()
     ensures { (h : BookView D) (x : List ℕ) → IsDurable D.state h → IsSafe D.state h
         → h.durable ≡ h.session.state.count → IsReached h → (D.state h.journal.disk).images x
@@ -64,9 +64,9 @@ pub fn reading_leaves_what_is_stored<D: RunDisk>()
         → LeavesOnly (λ x. Stores x p) (D.state old) (D.state new) }
 {}
 
-/// What a save leaves at every moment, where its disk is honest and has a store's size: the pair
-/// from before or the new one, and so a front with every event that was acknowledged before. The
-/// new pair has one batch more, of the records that were not acknowledged, or is a fresh image.
+/// What a save leaves at every moment, if its disk is honest and has a store's size: the pair from
+/// before or the new one, and so a prefix with every event that was acknowledged before. The new
+/// pair has one batch more, of the records that were not acknowledged, or is a fresh image.
 pub fn a_save_leaves_fronts<D: RunDisk>()
     ensures flush { (h : BookView D) (new : D) (p : State) (pending : List ℕ)
         (settled : IsSettled D.state h) → acked h ≤ length h.session.history
@@ -88,8 +88,8 @@ pub fn a_save_leaves_fronts<D: RunDisk>()
         (D.state h.journal.disk) (D.state new) }
 {}
 
-/// What the checkpoint of an opening leaves at every moment, where its disk is honest and has a
-/// store's size: the state that was stored, or what a restart leaves of it.
+/// What the checkpoint of an opening leaves at every moment, if its disk is honest and has a
+/// store's size: the state that was stored, or what a restart leaves of that state.
 pub fn an_opening_leaves_the_state_or_its_restart<D: RunDisk>()
     ensures { (layout : Layout) (old new : D) (p : State) (image fresh : List ℕ)
         (batches : List (List ℕ)) → Means layout image batches p
@@ -100,8 +100,8 @@ pub fn an_opening_leaves_the_state_or_its_restart<D: RunDisk>()
 {}
 
 /// A whole opening of an honest disk at rest, its reads and then its checkpoint: at every moment
-/// since its start a crash leaves the state that was stored, or what a restart leaves of it. What
-/// a journal keeps, each crash leaves: so at Ok of the checkpoint only the latter.
+/// since its start a crash leaves the state that was stored, or what a restart leaves of it. Each
+/// crash leaves what a journal keeps: so at Ok of the checkpoint only the latter.
 pub fn an_opening_loses_nothing_from_its_first_read_on<D: RunDisk>()
     ensures any_moment { (layout : Layout) (given read new : D) (p : State)
         (image fresh : List ℕ) (batches : List (List ℕ)) → (D.state given).honest
@@ -117,7 +117,7 @@ pub fn an_opening_loses_nothing_from_its_first_read_on<D: RunDisk>()
         → Keeps D.state journal image batches → (D.state journal.disk).images x → Stores x p }
 {}
 
-/// The layout stays over any calls, where it is always that of the disk's size.
+/// The layout stays over any calls, if it is always that of the disk's size.
 pub fn a_book_keeps_its_layout<D: RunDisk>()
     ensures { (old new : BookView D)
         → (D.state old.journal.disk).size ≡ store_len old.journal.layout
@@ -127,12 +127,13 @@ pub fn a_book_keeps_its_layout<D: RunDisk>()
 
 /// In words of a user: a disk that is honest and at rest, with a store of state p, was opened;
 /// steps were played, in one call or in many, and their replies were told; then more steps were
-/// played. Whenever the disk is stopped since then, within a call too, it holds one state: every
+/// played. Whenever a crash comes since then, within a call too, the disk holds one state: every
 /// event that those replies acknowledged led to it, and perhaps some more of the accepted ones, in
-/// order. If it is stopped now, every event that is acknowledged now led to it. And a restart of
+/// order. If a crash comes now, every event that is acknowledged now led to it. And a restart of
 /// that state interrupts what was running, and besides changes only the count, and what an
-/// interruption does to its group and that group's scope. Whenever it is stopped since the opening
-/// began, it holds state p, or what a restart of p and perhaps some of the accepted events led to.
+/// interruption does to its group and that group's scope. Whenever a crash comes since the opening
+/// began, the disk holds state p, or what a restart of p and perhaps some of the accepted events
+/// led to.
 pub fn a_night_is_kept<D: RunDisk>()
     ensures any_moment { (given : D) (p : State) (old middle new : BookView D)
         (steps more : List Step) (answers others : List Reply) (x : List ℕ)

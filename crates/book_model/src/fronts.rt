@@ -1,4 +1,4 @@
-//! Fronts: which states a stop may leave of a list of events.
+//! Fronts: the states that prefixes of a list of events lead to, which a crash may leave.
 
 ghost use Rattle.std.specs.Prelude.{◌≡◌, ◌≤◌, ◌+◌, ◌++◌, ℕ, List, [], length, Some};
 ghost use Rattle.run_model.specs.declared.answers.Reply.{Reply};
@@ -11,8 +11,9 @@ ghost use Rattle.book_model.specs.Nights.{HasKeptNight, StoresPart, opened_from}
 ghost use Rattle.book_model.specs.Plays.{Playing, Plays, sound};
 ghost use Rattle.book_model.specs.Stores.{Stores, StoresFront};
 
-/// What a store fronts, it fronts where more events follow and where fewer are acknowledged; what
-/// it stores is a front of no events; and a front of none is the start.
+/// A store that holds a front of some events still does when more events follow and when fewer are
+/// acknowledged. The state that all events lead to is a front of them, and the front of no events
+/// is the start.
 pub fn a_front_stays_a_front()
     ensures more { (start : State) (events more : List Event) (n m : ℕ) (bytes : List ℕ) → m ≤ n
         → StoresFront start events n bytes → StoresFront start (events ++ more) m bytes }
@@ -23,8 +24,8 @@ pub fn a_front_stays_a_front()
         → Stores bytes start }
 {}
 
-/// The state of a front has at least the acknowledged events, counted from the start, and at most
-/// all; it meets the rules where the start does.
+/// A front has at least the acknowledged events, counted from the start, and at most all. It meets
+/// the rules if the start does.
 pub fn a_front_counts_its_events()
     ensures least { (start q : State) (events : List Event) (n : ℕ) → IsFront start events n q
         → start.count + n ≤ q.count }
@@ -34,7 +35,7 @@ pub fn a_front_counts_its_events()
         → IsFront start events n q → IsConsistent q }
 {}
 
-/// Where steps were played over a store of state p, once it was opened, and a stop left a front of
+/// If steps were played over a store of state p, once it was opened, and a crash left a front of
 /// the accepted events that has at least as many as are acknowledged, the night is kept.
 pub fn a_stop_leaves_a_kept_night()
     ensures { (before bytes : List ℕ) (p : State) (end : Playing) (steps : List Step)

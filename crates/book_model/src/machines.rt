@@ -17,9 +17,9 @@ ghost use Rattle.book_model.specs.Standing.{Closed, DoesAll, GoesAs, LiesWith, S
 
 use run_disk::RunDisk;
 
-/// A book over a disk is the machine: whatever calls of it, stops and openings come one after
+/// A book over a disk is the machine: whatever calls of it, crashes and openings come one after
 /// another, each opening on an honest disk at rest with what a crash may have left, the machine
-/// makes the same moves, reply for reply. So does one that goes on from where a machine stands.
+/// makes the same moves, reply for reply. So does a book that goes on from where a machine stands.
 pub fn a_book_is_a_machine<D: RunDisk>()
     ensures store { (given : D) (p : State) (moves : List Move) (new : Standing D)
         → LiesWith D.state given p → DoesAll D.state (Closed given) moves new
@@ -29,7 +29,7 @@ pub fn a_book_is_a_machine<D: RunDisk>()
 {}
 
 /// The machine answers from its history: the state of its session is the one that all events since
-/// its opening led to, and of these no more are acknowledged than there are.
+/// its opening led to, and no more of these are acknowledged than there are.
 pub fn a_machine_answers_from_its_history()
     ensures state { (p : State) (m : Running) (steps : List Step) (answers : List Reply)
         → TakesAll (opened_at p) steps answers m
@@ -38,10 +38,11 @@ pub fn a_machine_answers_from_its_history()
         → TakesAll (opened_at p) steps answers m → m.acked ≤ length m.book.session.history }
 {}
 
-/// Many nights lose nothing that was acknowledged. The state behind the last night is that of the
-/// first store, run over, night by night, a restart, every event that this night's replies
-/// acknowledged, and perhaps some more of those that it accepted, in order and none left out. So
-/// the machine, and so a book over disks, each of which holds what a stop of the one before left.
+/// Many nights lose nothing that was acknowledged. The state after the last night is that of the
+/// first store, changed, night by night, by a restart, every event that this night's replies
+/// acknowledged, and perhaps some more of those that it accepted, in order and none left out. This
+/// holds of the machine, and of a book over disks, each of which holds what a crash of the one
+/// before left.
 pub fn many_nights_lose_nothing_acknowledged<D: RunDisk>()
     ensures machine { (p q : State) (nights : List Night)
         → GoesOn (Stored p) (flat_map moves_of nights) (Stored q) → LeadOver p nights q }

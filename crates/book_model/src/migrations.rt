@@ -20,11 +20,11 @@ use run_model::Fault;
 /// Why a small store was not made a large one.
 #[derive(Clone, Copy, Debug, PartialEq, Eq)]
 pub enum MigrateFault {
-    /// The memory that was asked for was refused.
+    /// The memory that was needed was refused.
     Memory,
-    /// The old disk has not a small store's size, or what it stores can't be read.
+    /// The old disk doesn't have a small store's size, or what it stores can't be read.
     Old(Fault),
-    /// The new disk has not a large store's size, or a call of it failed.
+    /// The new disk doesn't have a large store's size, or a call of it failed.
     New(Fault),
 }
 
@@ -37,7 +37,7 @@ pub fn a_small_state_is_a_state_of_the_large_layout()
 {}
 
 /// Memory and the devices aside, a migration of an honest disk answers what its bytes store: a new
-/// disk where they store a state of fewer than 2^62 events, or the one fault that tells why they
+/// disk if they store a state of fewer than 2^62 events, or the one fault that reports why they
 /// store none.
 pub fn a_migration_answers_what_is_stored<D: RunDisk, E: RunDisk>()
     ensures state { (old read : D) (given : E) (result : Result E (WhyNot × E)) (p : State)
@@ -65,7 +65,7 @@ pub fn a_migration_leaves_the_old_store_as_it_was<D: RunDisk, E: RunDisk>()
         → x ≡ (D.state old).now }
 {}
 
-/// That a device failed is told only where a call of that disk failed or it is spent.
+/// A migration reports that a device failed only if a call of that disk failed or it is spent.
 pub fn a_migration_tells_which_disk_failed<D: RunDisk, E: RunDisk>()
     ensures old { (old read : D) (given : E) (result : Result E (WhyNot × E))
         → Migrates D.state E.state old given result read

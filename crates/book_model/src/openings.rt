@@ -22,7 +22,7 @@ ghost use Rattle.book_model.specs.Stores.{StoresFresh, StoresNothingOr, restarte
 use run_disk::RunDisk;
 
 /// Memory and the device aside, a recovery of an honest disk answers what its bytes store: the
-/// state, or the one fault that tells why they store none. It writes nothing.
+/// state, or the one fault that reports why they store none. It writes nothing.
 pub fn a_recovery_answers_what_is_stored<D: RunDisk>()
     ensures state { (old new : D) (result : Result State Fault) (p : State)
         → (D.state old).honest → Recovers D.state old result new → Stores (D.state old).now p
@@ -36,8 +36,8 @@ pub fn a_recovery_answers_what_is_stored<D: RunDisk>()
         → Recovers D.state old result new → OnlyReads (D.state old) (D.state new) }
 {}
 
-/// Memory and the device aside, an opening of an honest disk answers a book behind a restart of
-/// the state that its bytes store, or the one fault that tells why they can't be opened.
+/// Memory and the device aside, an opening of an honest disk answers a book after a restart of
+/// the state that its bytes store, or the one fault that reports why they can't be opened.
 pub fn an_opening_answers_what_is_stored<D: RunDisk>()
     ensures state { (given : D) (result : Result (BookView D) (Fault × D)) (p : State)
         → (D.state given).honest → Opens D.state given result → Stores (D.state given).now p
@@ -52,8 +52,9 @@ pub fn an_opening_answers_what_is_stored<D: RunDisk>()
 {}
 
 /// What steps left of a store, as it is kept at any moment, is read again, memory and the device
-/// aside: a recovery of an honest disk with these bytes answers the state that the first events
-/// led to; and an opening answers a book behind the restart of it, unless its numbers are used up.
+/// aside. A recovery of an honest disk with these bytes answers the state that a prefix of the
+/// events led to; and an opening answers a book after the restart of that state, unless the store's
+/// numbers are used up.
 pub fn a_kept_night_is_read_again<D: RunDisk>()
     ensures recovered { (start : State) (events acks : List Event) (old new : D)
         (result : Result State Fault) (kept : HasKept start events acks (D.state old).now)
@@ -68,15 +69,15 @@ pub fn a_kept_night_is_read_again<D: RunDisk>()
 {}
 
 /// An opening that answers no book has only read; or the bytes store a state that could be opened,
-/// and a call failed, or the disk is spent, not before three calls were made.
+/// and a call failed, or the disk is spent, after three calls at the earliest.
 pub fn an_opening_writes_in_its_checkpoint_alone<D: RunDisk>()
     ensures { (given new : D) (why : Fault) → (D.state given).honest
         → OpensNot D.state given why new → OnlyReads (D.state given) (D.state new)
         ⊎ HasFailedCheckpoint D.state given new }
 {}
 
-/// A format that was stopped over zeros leaves no state but that of the store that it makes: in
-/// bytes whose only pair, if any, has no batch and the empty image or that of root alone. So they
+/// A crash in a format over zeros leaves no state but that of the store that the format makes: the
+/// only pair in the bytes, if any, has no batch and the empty image or that of root alone. So they
 /// store that state, or nothing. And a fresh store of a state stores it.
 pub fn a_stopped_format_leaves_no_other_state()
     ensures only { (layout : Layout) (x : List ℕ) (p : State) → length x ≡ store_len layout
@@ -87,7 +88,7 @@ pub fn a_stopped_format_leaves_no_other_state()
         → StoresFresh layout generation p x → Stores x p }
 {}
 
-/// That the device failed is told only where a device call failed or the disk is spent.
+/// A fault reports that the device failed only if a device call failed or the disk is spent.
 pub fn a_fault_of_the_device_has_its_cause<D: RunDisk>()
     ensures recovers { (old new : D) (result : Result State Fault)
         → Recovers D.state old result new → result ≡ Err DiskFailed

@@ -1,4 +1,4 @@
-//! What a list of steps is answered, by a book that a device may fail.
+//! The answers to a list of steps, by a book whose device may fail.
 
 ghost use Rattle.std.specs.Prelude.{◌≡◌, ◌+◌, ◌++◌, [], ◌∷◌, ℕ, List, true, false, length, map};
 ghost use Rattle.std.specs.Prelude.{Some, None};
@@ -14,7 +14,7 @@ ghost use Rattle.book_model.specs.Plays.{Playing, Plays, sound, stuck, taken};
 ghost use Rattle.book_model.specs.Plays.{is_device_failure, is_fault, last_acked};
 ghost use Rattle.book_model.specs.Plays.{replies_beside_saves, without_saves};
 
-/// Each step has one reply, and the steps and their replies leave one book.
+/// Each step has one reply, and the steps and their replies determine the book that is left.
 pub fn each_step_has_its_reply()
     ensures count { (b end : Playing) (steps : List Step) (answers : List Reply)
         → Plays b steps answers end → length answers ≡ length steps }
@@ -22,14 +22,14 @@ pub fn each_step_has_its_reply()
         → Plays b steps answers end → Plays b steps answers other → end ≡ other }
 {}
 
-/// A list of steps may be split into any parts, one call behind the other.
+/// A list of steps may be split into any parts, one call after the other.
 pub fn steps_may_be_split()
     ensures { (b middle end : Playing) (steps more : List Step) (answers others : List Reply)
         → Plays b steps answers middle → Plays middle more others end
         → Plays b (steps ++ more) (answers ++ others) end }
 {}
 
-/// A broken book refuses each step as Broken and stays as it is; and each step behind one whose
+/// A broken book refuses each step as Broken and stays as it is; and each step after one whose
 /// device failed is refused so.
 pub fn a_broken_book_refuses_each_step()
     ensures broken { (s : Session) (end : Playing) (steps : List Step) (answers : List Reply)
@@ -41,8 +41,8 @@ pub fn a_broken_book_refuses_each_step()
         → answers ≡ map (λ _. reply.Refused Broken) steps }
 {}
 
-/// Where no reply is a fault, a book that isn't broken answers as its session does, and isn't
-/// broken behind the steps; and it may answer so.
+/// If no reply is a fault, a book that isn't broken answers as its session does, and isn't
+/// broken after the steps; and it may answer so.
 pub fn without_faults_a_book_answers_as_its_session()
     ensures only { (s : Session) (end : Playing) (steps : List Step) (answers : List Reply)
         → Plays (sound s) steps answers end → list_any is_fault answers ≡ false
@@ -52,7 +52,7 @@ pub fn without_faults_a_book_answers_as_its_session()
 {}
 
 /// Two lists that differ in saves alone give the other steps the same replies, and leave the same
-/// session, where no fault comes.
+/// session, if no fault comes.
 pub fn saves_change_no_other_reply()
     ensures { (s : Session) (end other : Playing) (steps more : List Step)
         (answers others : List Reply) → without_saves steps ≡ without_saves more
@@ -72,8 +72,8 @@ pub fn accepted_events_make_what_is_left()
         → Plays b steps answers end → end.session ≡ session_after b.session (taken steps answers) }
 {}
 
-/// The acknowledged events are the first of the accepted ones. The last save that was done told
-/// their number, counted from the state before; where none was done, there are none.
+/// The acknowledged events are a prefix of the accepted ones. The last save that was done returned
+/// their number, counted from the state before; if none was done, there are none.
 pub fn acknowledged_events_are_the_first_accepted()
     ensures first { (b end : Playing) (steps : List Step) (answers : List Reply)
         → Plays b steps answers end

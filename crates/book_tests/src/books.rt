@@ -51,7 +51,7 @@ fn assert_rows_left(rt: &impl Abort, alloc: Global, state: &State) {
     assert_tasks(rt, &listing, &[(b"copy", b"a", Going::Success, None)]);
 }
 
-/// The disk of a new book behind those steps. Their records have 8, 8, 10, 7, 12, 5, 6 and 5
+/// The disk of a new book after those steps. Their records have 8, 8, 10, 7, 12, 5, 6 and 5
 /// bytes.
 fn answered(rt: &impl Abort, alloc: Global, layout: Layout) -> MemoryDisk {
     let mut book = fresh(rt, alloc, layout);
@@ -73,7 +73,7 @@ fn opened_again(rt: &impl Abort, alloc: Global, layout: Layout, disk: MemoryDisk
     book.into_disk()
 }
 
-/// Asserts the device calls. Two flushes of six calls and a checkpoint of seven stand behind a
+/// Asserts the device calls. Two flushes of six calls and a checkpoint of seven stand after a
 /// format and an opening; the flush without an event makes none.
 fn assert_calls(rt: &impl Abort, alloc: Global, layout: Layout) {
     let disk = answered(rt, alloc, layout);

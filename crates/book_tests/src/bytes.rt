@@ -1,5 +1,5 @@
-//! The bytes of a small store: as it is formatted, as it is opened once, behind two flushes, and
-//! behind a checkpoint.
+//! The bytes of a small store: as it is formatted, as it is opened once, after two flushes, and
+//! after a checkpoint.
 //!
 //! This rests on `Formats`, `Opens`, `Flushes` and `Checkpoints` (what is stored, by how many
 //! calls); the bytes are those of docs/formats.
@@ -18,7 +18,7 @@ use test_fixtures::{Call, Said};
 pub const FORMATTED: &[u8; 36] = b"\xa7\0\0\0\0\0\0\0\0\0\0\0\x17\x02\0\0\0\0\0\0\0\0\
 \0\0\0\0\0\0\0\0\0\0\0\0\0\0";
 
-/// A slot of generation 1 with root alone, behind event 1.
+/// A slot of generation 1 with root alone, after event 1.
 pub const OPENED: &[u8; 36] = b"\xa7\0\0\0\0\0\0\0\x01\0\0\0\x17\x02\0\0\0\0\0\0\0\0\
 \0\0\0\0\0\0\0\x01\0\0\0\0\0\0";
 

@@ -36,7 +36,7 @@ pub fn take<D: RunDisk, A: Allocator>(book: &mut Book<D, A>, step: &Step) -> Rep
     }
 }
 
-/// The steps of tables, one behind the other.
+/// The steps of tables, one after the other.
 pub fn steps_of(rt: &impl Abort, alloc: Global, lists: &[&[(Call, Said<'static>)]]) -> Vec<Step> {
     let mut steps = Vec::new(alloc);
     for rows in lists.iter() {

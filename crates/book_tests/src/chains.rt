@@ -24,7 +24,7 @@ static FIRST: [(Call, Said<'static>); 5] = [
     (Start, Said::Started(5, 0, b"copy", b"a", false)),
 ];
 
-/// The second task, behind two more openings: the first was interrupted, so its group's scope is
+/// The second task, after two more openings: the first was interrupted, so its group's scope is
 /// done.
 static SECOND: [(Call, Said<'static>); 2] = [
     (Start, Said::Started(8, 1, b"copy", b"b", true)),
@@ -70,7 +70,7 @@ const FAILED: Option<Trouble> = Some(Trouble::Faulty(Fault::DiskFailed));
 const BROKEN: Option<Trouble> = Some(Trouble::Refused(Refusal::Broken));
 
 /// A call that fails, and why the row stops there: in the first opening, in the flush among the
-/// steps, in the one behind them, in the second opening; or that it doesn't.
+/// steps, in the one after them, in the second opening; or that it doesn't.
 static STOPPED: [(u64, Option<Trouble>); 9] = [
     (1, FAILED),
     (10, FAILED),

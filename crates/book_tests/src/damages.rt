@@ -1,7 +1,7 @@
 //! Damaged stores, each with the fault that tells it, or with what it stores still.
 //!
 //! This rests on `Recovers` and `Opens`: of all faults whose cause holds the first one is told,
-//! behind so many reads, and nothing is written. That its memory is given back no clause says.
+//! after so many reads, and nothing is written. That its memory is given back no clause says.
 
 use crate::asserts::{done, holds};
 use crate::disks::{AMPLE, counted, counted_on, disk_of, heap, put, small_disk, told_by_opening};
@@ -21,7 +21,7 @@ const NEWER: &[u8; 13] = b"\xa7\0\0\0\0\0\0\0\x01\0\0\0\x17";
 /// Bytes, each from a place on.
 type Puts = &'static [(usize, &'static [u8])];
 
-/// A small store of root alone behind its first opening, with a batch of events 2 to 4 and with
+/// A small store of root alone after its first opening, with a batch of events 2 to 4 and with
 /// images of this version; but for some bytes.
 fn damaged(rt: &impl Abort, alloc: Global, version: u8, damages: Puts) -> Vec<u8> {
     let rows = [
@@ -181,7 +181,7 @@ static IN_TWO_PLACES: [Damage; 5] = [
     ),
 ];
 
-/// Asserts what each damage is told as, behind images of this version.
+/// Asserts what each damage is told as, after images of this version.
 fn assert_told(rt: &impl Abort, alloc: Global, version: u8, rows: &[Damage]) {
     for row in rows.iter() {
         let found = counted(rt, alloc, damaged(rt, alloc, version, row.1));
@@ -200,7 +200,7 @@ fn the_first_damage_is_told(rt: HostRuntime) {
 }
 
 /// Damages, each with the fault that an opening tells and the reads that it made. The read of the
-/// segment comes behind the choice of a slot.
+/// segment comes after the choice of a slot.
 static REFUSED: [(Puts, Fault, u64); 4] = [
     (&[(524_296, b"\x02")], Fault::BadSlot, 2),
     (&[(524_301, b"\x09")], Fault::BadImage, 3),
@@ -208,7 +208,7 @@ static REFUSED: [(Puts, Fault, u64); 4] = [
     (&[(1_310_731, b"\x05")], Fault::BadEvent, 3),
 ];
 
-/// Asserts that a damaged store isn't opened, by this fault behind so many calls.
+/// Asserts that a damaged store isn't opened, by this fault after so many calls.
 fn assert_unopened(rt: &impl Abort, alloc: Global, damages: Puts, fault: Fault, calls: u64) {
     let disk = disk_of(rt, alloc, damaged(rt, alloc, 2, damages));
     let told = told_by_opening(alloc, disk);

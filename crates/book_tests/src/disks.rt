@@ -96,7 +96,7 @@ pub fn played_on<D: RunDisk + Drop>(
     disk
 }
 
-/// The disk of a book that was just opened over a new store, behind lists of steps, each with its
+/// The disk of a book that was just opened over a new store, after lists of steps, each with its
 /// answer.
 pub fn played(
     rt: &impl Abort,
@@ -107,7 +107,7 @@ pub fn played(
     played_on(rt, alloc, formatted(rt, alloc, layout), lists)
 }
 
-/// What a disk with these bytes holds behind an opening and lists of steps, each with its answer,
+/// What a disk with these bytes holds after an opening and lists of steps, each with its answer,
 /// and how many calls it counts.
 pub fn played_over(
     rt: &impl Abort,
@@ -219,7 +219,7 @@ pub fn counted(rt: &impl Abort, alloc: Global, bytes: Vec<u8>) -> Result<u64, Fa
     counted_on(alloc, &mut disk)
 }
 
-/// What a stop behind so many calls leaves of a disk, torn in this way.
+/// What a stop after so many calls leaves of a disk, torn in this way.
 pub fn torn_image(
     rt: &impl Abort,
     alloc: Global,

@@ -93,7 +93,7 @@ fn step_of(call: u64) -> Option<usize> {
     step
 }
 
-/// What step `n` of the night is answered where the step at a place fails: all behind it are
+/// What step `n` of the night is answered where the step at a place fails: all after it are
 /// refused.
 fn wanted(n: usize, failing: usize) -> Said<'static> {
     if n == failing {
@@ -143,7 +143,7 @@ fn assert_kept(rt: &impl Abort, alloc: Global, disk: &MemoryDisk, call: u64) {
 fn assert_fails(rt: &impl Abort, alloc: Global, back: &Back<MemoryDisk>, call: u64) {
     assert_broken(rt, &back.2, call);
     let fault = (call <= 10).then_some(Fault::DiskFailed);
-    // A format's eight calls, and those before the one that failed: no call comes behind it.
+    // A format's eight calls, and those before the one that failed: no call comes after it.
     let wanted = (fault, call.saturating_add(7));
     holds(rt, (back.1, back.0.calls()) == wanted, "failing call", call);
     assert_kept(rt, alloc, &back.0, call);
@@ -222,7 +222,7 @@ fn a_broken_book_answers_questions_alone(rt: HostRuntime) {
     assert_asked(&rt, rt.alloc(), &ASKED, 20, wanted);
 }
 
-/// Why a disk isn't formatted whose calls fail behind so many, and the calls that it made.
+/// Why a disk isn't formatted whose calls fail after so many, and the calls that it made.
 fn unformatted(rt: &impl Abort, alloc: Global, calls: u64) -> (Option<Fault>, u64) {
     let disk = Fuse::new(disk_of_zeros(rt, alloc), calls);
     match Book::format(disk) {
@@ -244,7 +244,7 @@ fn a_format_that_fails_hands_the_disk_back(rt: HostRuntime) {
     }
 }
 
-/// How many events are recovered of a new store, one of whose calls fails, and again behind it.
+/// How many events are recovered of a new store, one of whose calls fails, and again after it.
 fn recovered_twice(
     rt: &impl Abort,
     alloc: Global,
@@ -264,7 +264,7 @@ fn a_recovery_that_fails_tells_so(rt: HostRuntime) {
     }
 }
 
-/// Behind a second flush that failed event 4 is durable, and events 5 and 6 are lost.
+/// After a second flush that failed event 4 is durable, and events 5 and 6 are lost.
 static BEHIND: [(Call, Said<'static>); 3] = [
     (Flush, Said::Acked(5)),
     (Derive(b"c", b"root", Ask::Cause), Said::Scope(3)),

@@ -1,5 +1,5 @@
 //! A kill, an opening and a cut of the power: a book that is killed leaves writes that no sync
-//! followed, the next opening reads them, and a cut behind any call of that opening tears them.
+//! followed, the next opening reads them, and a cut after any call of that opening tears them.
 //!
 //! A disk that is settled first keeps what was acknowledged. This rests on `settle` (the disk is at
 //! rest then), on `Opens`, whose premise that is, and on `IsTornImage` of the disk in memory. One
@@ -16,11 +16,11 @@ use std::alloc::Global;
 use std::process::Abort;
 use test_fixtures::{Listing, are_same};
 
-/// A book is killed behind so many calls of the night, the next opening is cut behind so many of
+/// A book is killed after so many calls of the night, the next opening is cut after so many of
 /// its own ten, and that tears each write which no sync followed.
 type Cut = (u64, u64, Torn);
 
-/// The disk of a book that is killed behind so many calls of the night: those of an opening, three
+/// The disk of a book that is killed after so many calls of the night: those of an opening, three
 /// flushes and a checkpoint.
 fn killed(rt: &impl Abort, alloc: Global, steps: &[Step], kill: u64) -> MemoryDisk {
     play_over_fuse(rt, alloc, steps, kill.saturating_add(1)).0
@@ -42,7 +42,7 @@ fn cut_image(rt: &impl Abort, alloc: Global, disk: &MemoryDisk, cut: Cut) -> Vec
     torn_image(rt, alloc, disk, before.saturating_add(cut.1), cut.2)
 }
 
-/// What is stored before an opening, and behind it.
+/// What is stored before an opening, and after it.
 #[derive(Drop)]
 struct Stored {
     before: Listing,
@@ -59,7 +59,7 @@ impl Stored {
     }
 }
 
-/// What a disk at rest stores that was killed behind so many calls, and what an opening makes of
+/// What a disk at rest stores that was killed after so many calls, and what an opening makes of
 /// it: nothing acknowledged is lost of either.
 fn both_of(rt: &impl Abort, alloc: Global, disk: &MemoryDisk, kill: u64) -> Stored {
     let before = recovered(rt, alloc, now(rt, alloc, disk));

@@ -1,6 +1,6 @@
 //! A migration: a small store becomes a large one. One that is done, and one that is stopped.
 //!
-//! This rests on `Migrates`, the contract of `migrate`: the old disk is only read, and behind
+//! This rests on `Migrates`, the contract of `migrate`: the old disk is only read, and after
 //! each call the new one stores nothing, or the old store's state in the large layout.
 
 mod faults;
@@ -63,7 +63,7 @@ fn its_running_task_is_still_running(rt: HostRuntime) {
     assert_group(&rt, &found, b"g", (1, 2, Some(1), false, None));
 }
 
-/// Asserts that the night goes on behind a restart: task 0 was interrupted, and task 1 is ready.
+/// Asserts that the night goes on after a restart: task 0 was interrupted, and task 1 is ready.
 fn assert_restarted(rt: &impl Abort, found: &Listing) {
     let interrupted = Seen::Canceled(b"interrupted");
     let phases = (Going::Interrupted, Going::Ready);
@@ -82,8 +82,8 @@ fn its_running_task_is_interrupted_where_it_is_opened(rt: HostRuntime) {
     assert_restarted(&rt, &found);
 }
 
-/// Behind how many calls a stop comes, how it tears what was not synced, and what is told of the
-/// new disk then: how many events it stores, or why it is no store. Behind calls 3, 6 and 8 all is
+/// After how many calls a stop comes, how it tears what was not synced, and what is told of the
+/// new disk then: how many events it stores, or why it is no store. After calls 3, 6 and 8 all is
 /// synced.
 static STOPS: [(u64, Torn, Result<u64, Fault>); 27] = [
     (0, Torn::Take, Err(Fault::NotAStore)),

@@ -1,4 +1,4 @@
-//! A night of twelve steps over a new store, and what a stop behind each of its device calls
+//! A night of twelve steps over a new store, and what a stop after each of its device calls
 //! leaves, torn in each way.
 //!
 //! This rests on `Opens`, `Flushes` and `Checkpoints` (what a crash at any moment of the call
@@ -31,7 +31,7 @@ pub static NIGHT: [(Call, Said<'static>); 12] = [
     (Flush, Said::Acked(9)),
 ];
 
-/// The last call behind which a stop leaves so many events: where a torn gate stays closed, and
+/// The last call after which a stop leaves so many events: where a torn gate stays closed, and
 /// where it is open.
 static LEFT: [(u64, u64, u64); 11] = [
     (8, 0, 0),
@@ -47,7 +47,7 @@ static LEFT: [(u64, u64, u64); 11] = [
     (35, 9, 9),
 ];
 
-/// How many events a stop behind so many calls of the night leaves.
+/// How many events a stop after so many calls of the night leaves.
 pub fn left(calls: u64, torn: Torn) -> u64 {
     let mut count = 9;
     for row in LEFT.iter().rev() {

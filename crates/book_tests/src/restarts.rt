@@ -1,6 +1,6 @@
 //! Tasks that run at a stop: an opening interrupts them, and keeps what was acknowledged.
 //!
-//! This rests on `Opens`: a book begins behind the restart of what is stored.
+//! This rests on `Opens`: a book begins after the restart of what is stored.
 
 use crate::asserts::holds;
 use crate::disks::{now, played, played_over, recovered};
@@ -78,13 +78,13 @@ fn are_tasks(found: &Listing, wanted: &Tasks) -> bool {
         && going_at(found, 1) == Some(wanted.2)
 }
 
-/// What a disk holds behind a stop, opened again.
+/// What a disk holds after a stop, opened again.
 fn opened_again(rt: &impl Abort, alloc: Global, disk: &MemoryDisk) -> Vec<u8> {
     let (bytes, _) = played_over(rt, alloc, now(rt, alloc, disk), &[]);
     bytes
 }
 
-/// Asserts what an opening makes of a store behind these steps and a stop.
+/// Asserts what an opening makes of a store after these steps and a stop.
 fn assert_stopped(rt: &impl Abort, alloc: Global, row: &Stopped) {
     let disk = played(rt, alloc, Layout::Small, row.1);
     let found = recovered(rt, alloc, opened_again(rt, alloc, &disk));

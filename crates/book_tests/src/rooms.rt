@@ -26,7 +26,7 @@ fn bytes_of_state(rt: &impl Abort, alloc: Global, layout: Layout) -> usize {
     heap.used()
 }
 
-/// A layout, and what an opening takes behind the state: the log, the room of an image, both slots'
+/// A layout, and what an opening takes after the state: the log, the room of an image, both slots'
 /// buffers and the segment's. A heap gives whole units of 16 bytes.
 static BEHIND_STATE: [(Layout, [usize; 5]); 2] = [
     (
@@ -150,7 +150,7 @@ static FIRST: [(Call, Said<'static>); 4] = [
     (Flush, Said::Acked(4)),
 ];
 
-/// Behind a restart, a step of each kind and each command, each with its answer.
+/// After a restart, a step of each kind and each command, each with its answer.
 static SECOND: [(Call, Said<'static>); 22] = [
     (Retry(0), Said::Ready(1)),
     (Derive(b"a", b"root", Ask::Cause), Said::Scope(2)),
@@ -198,7 +198,7 @@ fn asked<D: RunDisk, A: Allocator>(rt: &impl Abort, book: &Book<D, A>) -> ([bool
     (found, counts)
 }
 
-/// Asserts that each of those steps, and questions behind them, leave a heap's bytes in use as
+/// Asserts that each of those steps, and questions after them, leave a heap's bytes in use as
 /// they were, though there are more.
 fn assert_kept(rt: &impl Abort, alloc: Global, layout: Layout) {
     let heap = heap(rt, alloc, AMPLE);

@@ -113,7 +113,7 @@ fn a_segment_is_filled_to_its_last_byte(rt: HostRuntime) {
     assert_bytes(&rt, &now(&rt, rt.alloc(), &disk), &FILLED);
 }
 
-/// Behind a full segment a flush of nothing, a checkpoint, and a flush of six bytes into the other
+/// After a full segment a flush of nothing, a checkpoint, and a flush of six bytes into the other
 /// segment.
 static BEHIND: [(Call, Said<'static>); 6] = [
     (Flush, Said::Acked(23_833)),
@@ -163,7 +163,7 @@ static FRONT: [(Call, Said<'static>); 13] = [
     (Limit(b"g", Some(2)), Said::Done),
 ];
 
-/// Behind 95,308 advances of 11 bytes and two tasks of 12 the log has 1,048,491. A start has 5, and
+/// After 95,308 advances of 11 bytes and two tasks of 12 the log has 1,048,491. A start has 5, and
 /// 80 are kept then. What is durable takes room of the log still.
 static FULL: [(Call, Said<'static>); 9] = [
     (Go(b"g", b"copy", b"a"), Said::Ready(0)),
@@ -195,7 +195,7 @@ fn a_start_that_just_fits_is_accepted(rt: HostRuntime) {
     played_on(&rt, rt.alloc(), disk, &[&NEXT]);
 }
 
-/// Behind 7 bytes, 5 limits of 6 and 95,313 advances of 11 a task of 12 makes 1,048,492.
+/// After 7 bytes, 5 limits of 6 and 95,313 advances of 11 a task of 12 makes 1,048,492.
 static OVERFULL: [(Call, Said<'static>); 4] = [
     (Go(b"g", b"copy", b"a"), Said::Ready(0)),
     (Flush, Said::Acked(95_321)),

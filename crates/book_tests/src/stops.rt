@@ -1,4 +1,4 @@
-//! Stops: what a crash leaves behind each call of a flush, a checkpoint, an opening and a format,
+//! Stops: what a crash leaves after each call of a flush, a checkpoint, an opening and a format,
 //! with each kind of tearing.
 //!
 //! This rests on `Flushes`, `Checkpoints`, `Opens` and `Formats`, which say what a crash at any
@@ -18,7 +18,7 @@ use std::process::Abort;
 use test_fixtures::Call::{Checkpoint, Derive, Flush};
 use test_fixtures::{Ask, Call, Said, Seen};
 
-/// A number of events, and the scopes behind them.
+/// A number of events, and the scopes after them.
 type Stored = (u64, &'static [(&'static [u8], Seen<'static>)]);
 
 static FOUR: Stored = (
@@ -49,7 +49,7 @@ static IN_A_CHECKPOINT: [&[(Call, Said<'static>)]; 3] = [
 /// Events 5 and 6 stay pending.
 static PENDING: [&[(Call, Said<'static>)]; 2] = [&FIRST, &SECOND];
 
-/// Asserts what a stop behind so many calls leaves, torn in this way.
+/// Asserts what a stop after so many calls leaves, torn in this way.
 fn assert_left(
     rt: &impl Abort,
     alloc: Global,
@@ -76,7 +76,7 @@ fn assert_stops(rt: &impl Abort, alloc: Global, disk: &MemoryDisk, last: u64, af
     }
 }
 
-/// Asserts what stops of a flush of events 5 and 6, or of a checkpoint, leave behind 24 calls.
+/// Asserts what stops of a flush of events 5 and 6, or of a checkpoint, leave after 24 calls.
 fn assert_saves(
     rt: &impl Abort,
     alloc: Global,
@@ -113,7 +113,7 @@ fn a_stop_of_an_opening_leaves_the_store_or_its_restart(rt: HostRuntime) {
     assert_stops(&rt, rt.alloc(), &disk, 34, (5, FOUR.1));
 }
 
-/// Asserts that a store goes on behind a stop which left so many events, and scopes up to one.
+/// Asserts that a store goes on after a stop which left so many events, and scopes up to one.
 fn assert_goes_on(rt: &impl Abort, alloc: Global, bytes: Vec<u8>, count: u64, next: u16) {
     let rows = [
         (Flush, Said::Acked(count)),
@@ -123,7 +123,7 @@ fn assert_goes_on(rt: &impl Abort, alloc: Global, bytes: Vec<u8>, count: u64, ne
     played_on(rt, alloc, disk_of(rt, alloc, bytes), &[&rows]);
 }
 
-/// The call behind which it stops, the events behind the next opening, and the next scope.
+/// The call after which it stops, the events after the next opening, and the next scope.
 static GO_ON: [(u64, Torn, u64, u16); 4] = [
     (26, Torn::Front(9), 5, 3),
     (28, Torn::Take, 5, 3),
@@ -131,7 +131,7 @@ static GO_ON: [(u64, Torn, u64, u16); 4] = [
     (29, Torn::Take, 7, 5),
 ];
 
-/// Asserts that a store goes on behind each of those stops.
+/// Asserts that a store goes on after each of those stops.
 fn assert_all_go_on(rt: &impl Abort, alloc: Global, disk: &MemoryDisk) {
     for row in GO_ON.iter() {
         let left = torn_image(rt, alloc, disk, row.0, row.1);
@@ -145,7 +145,7 @@ fn a_store_goes_on_behind_a_stop(rt: HostRuntime) {
     assert_all_go_on(&rt, rt.alloc(), &disk);
 }
 
-/// What is told behind a stop of a format over zeros: a store without events, or why it is none.
+/// What is told after a stop of a format over zeros: a store without events, or why it is none.
 fn told(calls: u64, torn: Torn) -> Result<u64, Fault> {
     match (calls, torn) {
         (8, _) => Ok(0),
@@ -157,7 +157,7 @@ fn told(calls: u64, torn: Torn) -> Result<u64, Fault> {
     }
 }
 
-/// Asserts what stops of a format leave behind so many calls, torn in each way.
+/// Asserts what stops of a format leave after so many calls, torn in each way.
 fn assert_told(rt: &impl Abort, alloc: Global, disk: &MemoryDisk, calls: u64) {
     for torn in TEARS.iter() {
         let found = counted(rt, alloc, torn_image(rt, alloc, disk, calls, *torn));

@@ -114,7 +114,7 @@ fn taken_over(rt: &impl Abort, alloc: Global) -> MemoryDisk {
     played_on(rt, alloc, disk, &[&rows])
 }
 
-/// The calls behind which it stops, and the events that are left.
+/// The calls after which it stops, and the events that are left.
 static LEFT: [(u64, Torn, u64); 5] = [
     (6, Torn::Take, 6),
     (9, Torn::Keep, 6),
@@ -147,7 +147,7 @@ fn an_opening_takes_a_store_of_version_1_over(rt: HostRuntime) {
     assert_left(&rt, rt.alloc(), &disk);
 }
 
-/// What a stop behind so many calls leaves of a disk.
+/// What a stop after so many calls leaves of a disk.
 fn stopped(rt: &impl Abort, alloc: Global, disk: &MemoryDisk, calls: u64) -> Listing {
     recovered(rt, alloc, torn_image(rt, alloc, disk, calls, Torn::Keep))
 }
@@ -170,7 +170,7 @@ fn assert_three(rt: &impl Abort, found: &Listing, count: u64) {
     assert_scopes(rt, found, &scopes);
 }
 
-/// A store of version 1 with a record behind its image.
+/// A store of version 1 with a record after its image.
 static BEHIND: [(usize, &'static [u8]); 2] = [(0, CANCELED), (1_048_576, DERIVED)];
 
 #[test]
@@ -181,7 +181,7 @@ fn records_behind_version_1_are_applied(rt: HostRuntime) {
     assert_three(&rt, &stopped(&rt, rt.alloc(), &disk, 10), 6);
 }
 
-/// A retry behind an image of version 1.
+/// A retry after an image of version 1.
 static RETRIED_BEFORE: [(usize, &'static [u8]); 2] = [(0, RESTARTED_BEFORE), (1_048_576, RETRY)];
 
 #[test]

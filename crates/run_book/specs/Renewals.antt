@@ -1,10 +1,10 @@
 -- What a renewal answers, and what it leaves of its two disks: a store is read, and another one is
--- made of what is left of its state where that is renewed.
+-- made of what is left of its state when that is renewed.
 --
--- Its faults come in this order, and the first whose cause holds is told: Old(WrongSize), where the
--- old disk has no store's size; New(WrongSize), where the new one has none; Memory; those of a
--- recovery of the old disk, from DiskFailed on, as Old; Old(NumbersSpent), where 2^62 events or
--- more were found; Memory, for the marks of what is kept; New(WrongSize), where a store of the new
+-- Its faults come in this order, and it reports the first whose cause holds: Old(WrongSize), if the
+-- old disk has no store's size; New(WrongSize), if the new one has none; Memory; those of a
+-- recovery of the old disk, from DiskFailed on, as Old; Old(NumbersSpent), if 2^62 events or
+-- more were found; Memory, for the marks of what is kept; New(WrongSize), if a store of the new
 -- disk's size has no room for what is kept; New(DiskFailed).
 use Rattle.std.specs.Prelude.{◌≡◌, ◌⊎◌, ◌<◌, ◌≤◌, ◌+◌, ℕ, false, List, None, Result, IfOk}
 use Rattle.std.specs.Prelude.{MatchResult}
@@ -25,7 +25,7 @@ use Rattle.book_model.specs.Stores.{Stores, StoresFresh, StoresNothingOr}
 
 -- ---- the new disk, which is written
 
--- Where the new disk held zeros, and whatever a crash had left of it too, a crash at any moment
+-- If the new disk held zeros, as did whatever a crash could have left of it, a crash at any moment
 -- since leaves a disk that stores nothing, or the renewed state in the layout of its size.
 abbrev pub StopsRenewal : State → DiskState → DiskState → Type 0
 StopsRenewal p given new =
@@ -34,7 +34,7 @@ StopsRenewal p given new =
     → LeavesOnly (StoresNothingOr (renewed_in layout p)) given new
 
 -- The new store was made, by eight calls of which none failed: every crash now leaves a fresh store
--- of the renewed state, in generation 0; and the disk is at rest where it was.
+-- of the renewed state, in generation 0; and the disk is at rest if it was so before.
 pub record HasWrittenRenewed (layout : Layout) (p : State) (given new : DiskState) : Type 0 where
   pub made : Made 8 given new
   pub passed : Passed given new
@@ -44,20 +44,20 @@ pub record HasWrittenRenewed (layout : Layout) (p : State) (given new : DiskStat
   pub rest : given.honest → IsAtRest given → IsAtRest new
   pub stops : StopsRenewal p given new
 
--- A call failed, or the disk is spent: it may be no store.
+-- A call failed, or the disk is spent: the disk may hold no store.
 pub record HasFailedRenewed (p : State) (given new : DiskState) : Type 0 where
   pub most : new.clock ≤ given.clock + 8
   pub cause : (given.failures < new.failures) ⊎ (new.clock ≡ last_moment)
   pub passed : Passed given new
   pub stops : StopsRenewal p given new
 
--- A store of the new disk's size has no room for what is kept of the state.
+-- What is kept of the state doesn't fit in a store of the new disk's size.
 pub record HasNoRoom (p : State) (given : DiskState) : Type 0 where
   pub layout : Layout
   pub size : given.size ≡ store_len layout
   pub full : fits_in layout (renewed p) ≡ false
 
--- Why no store was made of a state, by the fault that tells it, and what is left of the new disk.
+-- Why no store was made of a state, by the fault that reports it, and what is left of the new disk.
 abbrev pub WritesNot : {E : Type 0} → (E → DiskState) → State → E → MigrateFault → E → Type 0
 WritesNot to p given why.Memory new = new ≡ given
 WritesNot to p given (why.New WrongSize) new = HasNoRoom p (to given) × (new ≡ given)
@@ -87,9 +87,9 @@ pub record AreBothStores (old given : DiskState) : Type 0 where
   pub first : HasStoreSize old
   pub second : HasStoreSize given
 
--- Why no store was made, by the fault that tells it, and what is left of the two disks: the old one
--- has no store's size, or else the new one hasn't, and neither was called; or both have, and the
--- old one wasn't read; or it was, and none was made of its state.
+-- Why no store was made, by the fault that reports it, and what is left of the two disks: the old
+-- one doesn't have a store's size, or else the new one doesn't, and neither was called; or both do,
+-- and no state to copy was read from the old one; or one was, and no store was made of it.
 abbrev pub RenewsNot : {D E : Type 0} → (D → DiskState) → (E → DiskState) → D → E → MigrateFault
     → D → E → Type 0
 RenewsNot from to old given fault read new =
@@ -101,16 +101,16 @@ RenewsNot from to old given fault read new =
     ⊎ (AreBothStores (from old) (to given)
     × HasNotRenewed to (from old) (from read) given fault new)
 
--- What a renewal answers: the new disk, and at a fault the fault too.
+-- The answer of a renewal: the new disk, and at a fault the fault too.
 abbrev pub AnswersRenewal : {D E : Type 0} → (D → DiskState) → (E → DiskState) → D → E
     → Result E (MigrateFault × E) → D → Type 0
 AnswersRenewal from to old given result read =
     MatchResult result (λ new. HasRenewed (from old) (from read) (to given) (to new))
     (λ e. RenewsNot from to old given e.0 read e.1)
 
--- What a renewal answers and leaves. The old disk is read alone. Where it is honest and stores a
--- state: at Ok every crash of an honest new disk leaves that state, renewed; and where the new disk
--- held zeros, a crash at any moment since the start leaves nothing or that.
+-- What a renewal answers and leaves. The old disk is only read. If it is honest and stores a state,
+-- then at Ok every crash of an honest new disk leaves that state, renewed; and if the new disk held
+-- zeros, a crash at any moment since the start leaves nothing, or that.
 pub record Renews {D E : Type 0} (from : D → DiskState) (to : E → DiskState) (old : D)
     (given : E) (result : Result E (MigrateFault × E)) (read : D) : Type 0 where
   pub answer : AnswersRenewal from to old given result read

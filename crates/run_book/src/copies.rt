@@ -1,5 +1,5 @@
-//! What a migration and a renewal begin with, which both make a store of another: room, and the
-//! state that the old disk stores.
+//! What a migration and a renewal begin with, which both make a store from another one: room, and
+//! the state that the old disk stores.
 
 ghost use Rattle.std.specs.Prelude.{◌≡◌, ◌+◌, length, IfOk, IfErr};
 ghost use Rattle.run_model.specs.Layouts.{store_len};
@@ -45,7 +45,7 @@ pub fn make_rooms<A: Allocator + Copy>(
     Ok(Rooms { state, body })
 }
 
-/// The state that a store holds, which is made in a new one of its layout.
+/// The state that a store holds, made in a new state of the store's layout.
 pub fn read_stored<D: RunDisk, A: Allocator + Copy>(
     alloc: A,
     old: &mut D,
@@ -69,7 +69,7 @@ pub fn read_stored<D: RunDisk, A: Allocator + Copy>(
     Ok(state)
 }
 
-/// What a copy tells of a fault of the old disk's recovery.
+/// The fault that a copy reports for one of the old disk's recovery.
 fn of_old(fault: Fault) -> MigrateFault
     ensures { result ≡ of_old fault }
 {

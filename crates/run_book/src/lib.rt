@@ -1,8 +1,8 @@
-//! The durable book: the state of a runner over a disk, and the records that make it last.
+//! The durable book: the state of a runner over a disk, and the records that make it durable.
 //!
 //! A [`Book`] is opened over a disk that holds a store. It takes commands, starts and finishes as
 //! a session does, by memory alone; a flush or a checkpoint makes those so far durable. Whatever a
-//! crash leaves of an honest disk, at any moment, is a store of the state behind some first of the
+//! crash leaves of an honest disk, at any moment, is a store of the state after a prefix of the
 //! accepted events, every acknowledged one among them.
 #![tactic(auto)]
 

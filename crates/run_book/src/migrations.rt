@@ -1,5 +1,5 @@
 //! A migration: a small store becomes a large one. [`migrate`] reads the one, and makes the other
-//! of the state that it stores.
+//! from the state that it stores.
 
 ghost use Rattle.std.specs.Prelude.{◌≡◌, ◌<◌, ◌+◌, ◌^◌, length, IfOk, IfErr, OnOk, OnErr};
 ghost use Rattle.run_model.specs.declared.faults.Fault.TheVariants.{DiskFailed};
@@ -21,18 +21,18 @@ use run_model::{Fault, Layout};
 use run_state::State;
 use std::alloc::Allocator;
 
-/// Makes a large store of a small one: of a disk of a large store's size, which is given back, with
-/// the state that the old disk stores, its number of events and its running tasks included. No
+/// Makes a large store from a small one. The new disk has a large store's size, and is given back
+/// with the state that the old disk stores, its number of events and its running tasks included. No
 /// restart is applied. The old disk is read by three calls, and nothing is written to it; the new
 /// one takes the eight calls of a format. All memory is taken before the first of them.
 ///
-/// Its faults, of which the first that holds is told: `Old(WrongSize)` where the old disk has not
-/// the size of a small store; `New(WrongSize)` where the new one has not that of a large store;
+/// It reports the first of these faults that holds: `Old(WrongSize)` if the old disk doesn't have
+/// the size of a small store; `New(WrongSize)` if the new one doesn't have that of a large store;
 /// `Memory`; the other faults of [`Book::recover`](crate::Book::recover), as `Old`;
-/// `Old(NumbersSpent)` where there were 2^62 events or more; and `New(DiskFailed)` where a call of
-/// the new disk failed: then it may be no store. It is handed back at each fault, and was not
-/// called before the last. Where it held zeros, a migration that stops leaves nothing stored in it,
-/// or the new store.
+/// `Old(NumbersSpent)` if there were 2^62 events or more; and `New(DiskFailed)` if a call of
+/// the new disk failed: then the new disk may hold no store. The new disk is handed back at each
+/// fault, and was called at the last one alone. If it held zeros, a migration that stops leaves
+/// nothing stored in it, or the new store.
 pub fn migrate<D: RunDisk, E: RunDisk, A: Allocator + Copy>(
     alloc: A,
     old: &mut D,
@@ -53,7 +53,7 @@ pub fn migrate<D: RunDisk, E: RunDisk, A: Allocator + Copy>(
     }
 }
 
-/// Makes a large store of a small one, on disks of their sizes.
+/// Makes a large store from a small one, on disks of their sizes.
 fn migrate_sized<D: RunDisk, E: RunDisk, A: Allocator + Copy>(
     alloc: A,
     old: &mut D,
@@ -72,7 +72,7 @@ fn migrate_sized<D: RunDisk, E: RunDisk, A: Allocator + Copy>(
     written
 }
 
-/// Makes a large store of a small state. The buffer takes the journal's head and an image.
+/// Makes a large store of a small state. The buffer has room for the journal's head and an image.
 fn write_large<E: RunDisk, A: Allocator>(
     new: &mut E,
     state: &State<A>,

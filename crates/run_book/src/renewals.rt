@@ -1,5 +1,5 @@
-//! A renewal: a store is made of what isn't finished in another. [`renew`] reads the one, and makes
-//! the other.
+//! A renewal: a store is made of what isn't finished in another. [`renew`] reads the old one, and
+//! makes the new one.
 
 ghost use Rattle.std.specs.Prelude.{◌≡◌, ◌≤◌, ◌<◌, ◌+◌, ◌^◌, drop, length, take, true, IfOk, IfErr};
 ghost use Rattle.std.specs.Prelude.{OnOk, OnErr};
@@ -23,19 +23,19 @@ use run_model::{Fault, Layout};
 use run_state::{Renewal, State};
 use std::alloc::Allocator;
 
-/// Makes a store of what isn't finished in another one, and of what that stands on: of a disk of a
-/// store's size, which is given back, with what a renewal leaves of the state that the old disk
-/// stores, its number of events and its running tasks included. Either may be small or large, where
-/// the new one has room for what is left. No restart is applied. The old disk is read by three
-/// calls, and nothing is written to it; the new one takes the eight calls of a format.
+/// Makes a store of what isn't finished in another one, and of what that stands on. The new disk
+/// has a store's size, and is given back with what a renewal leaves of the state that the old disk
+/// stores, its number of events and its running tasks included. Either may be small or large, if
+/// what is left fits in the new one. No restart is applied. The old disk is read by three calls,
+/// and nothing is written to it; the new one takes the eight calls of a format.
 ///
-/// Its faults, of which the first that holds is told: `Old(WrongSize)` where the old disk has no
-/// store's size; `New(WrongSize)` where the new one has none; `Memory`; the other faults of
-/// [`Book::recover`](crate::Book::recover), as `Old`; `Old(NumbersSpent)` where there were 2^62
-/// events or more; `Memory` once more; `New(WrongSize)` where the new store has no room for what is
-/// left; and `New(DiskFailed)` where a call of the new disk failed: then it may be no store. It is
-/// handed back at each fault, and was not called before the last. Where it held zeros, a renewal
-/// that stops leaves nothing stored in it, or the new store.
+/// It reports the first of these faults that holds: `Old(WrongSize)` if the old disk doesn't have a
+/// store's size; `New(WrongSize)` if the new one doesn't; `Memory`; the other faults of
+/// [`Book::recover`](crate::Book::recover), as `Old`; `Old(NumbersSpent)` if there were 2^62
+/// events or more; `Memory` once more; `New(WrongSize)` if what is left doesn't fit in the new
+/// store; and `New(DiskFailed)` if a call of the new disk failed: then the new disk may hold no
+/// store. The new disk is handed back at each fault, and was called at the last one alone. If it
+/// held zeros, a renewal that stops leaves nothing stored in it, or the new store.
 pub fn renew<D: RunDisk, E: RunDisk, A: Allocator + Copy>(
     alloc: A,
     old: &mut D,
@@ -78,7 +78,8 @@ fn renew_sized<D: RunDisk, E: RunDisk, A: Allocator + Copy>(
     written
 }
 
-/// Makes a store of what is left of a state. The buffer takes the journal's head and an image.
+/// Makes a store of what is left of a state. The buffer has room for the journal's head and an
+/// image.
 fn write_left<E: RunDisk, A: Allocator + Copy>(
     alloc: A,
     new: &mut E,
@@ -108,7 +109,7 @@ fn write_left<E: RunDisk, A: Allocator + Copy>(
     }
 }
 
-/// Makes a store of what is left of a state, for which it has room.
+/// Makes a store of what is left of a state, which fits in it.
 fn write_fitting<E: RunDisk, A: Allocator>(
     new: &mut E,
     state: &State<A>,
@@ -130,7 +131,7 @@ fn write_fitting<E: RunDisk, A: Allocator>(
     Journal::format(new, &mut body[..HEAD + count])
 }
 
-/// Writes the image of the renewed state behind the place of the journal's head, and gives its
+/// Writes the image of the renewed state after the place of the journal's head, and returns its
 /// length.
 fn fill_renewed<A: Allocator>(
     state: &State<A>,

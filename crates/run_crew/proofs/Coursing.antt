@@ -152,7 +152,7 @@ run_by_none step jobs info job how a b is as_none before =
 
 -- ---- the task
 
--- What was begun, a run and the calls behind it.
+-- What was begun, a run and the calls after it.
 run_and :
     {A : Type 0} (step : A → Call → A → Type 0) (started : Started) (durable : ℕ)
     (begun run calls : List Call) (a b c d : A)
@@ -253,7 +253,7 @@ finished step jobs had answered started how answer event notes after a b c d e f
 
 -- ---- the shift
 
--- A whole course more, behind the others.
+-- A whole course more, after the others.
 courses-snoc :
     (jobs : ℕ) (notes : List Note) (calls course : List Call) (note : Note)
     → AreCourses jobs notes calls → IsCourse jobs course note

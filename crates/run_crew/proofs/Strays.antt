@@ -42,7 +42,7 @@ pub stray-inside :
     (made earlier notes : List Note) (i : ℕ) → IsStrayIn made earlier notes i → i < length notes
 stray-inside made earlier notes i s = slice_get_within notes i s.0 s.1
 
--- Behind the last list there is none.
+-- After the last list there is none.
 pub stray-list :
     (made : List Note) (lists : List (List Note)) (w i : ℕ) → length lists ≤ w
     → IsStray made lists w i → ⊥

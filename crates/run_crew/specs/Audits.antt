@@ -1,4 +1,4 @@
--- What an audit says of the notes of a night.
+-- What an audit reports of the notes of a night.
 use Rattle.std.specs.Prelude.{◌≡◌, ◌⊎◌, ◌<◌, ◌+◌, ◌++◌, ◌||◌, ℕ, Bool, true, false, not, List, []}
 use Rattle.std.specs.Prelude.{length, take, slice_get, slice_index_or, Option, Some, MatchOption}
 use Rattle.std.specs.List.{list_all, list_any}
@@ -18,11 +18,11 @@ use Rattle.run_crew.specs.Notes.{all_notes, finishes_since, has}
 abbrev pub made_at : {D : Type 0} → DeskView D → List Note
 made_at d = finishes_since d.since d.book.session.start.count d.book.session.history
 
--- A note is stray where it is of no finish that was made, or repeats an earlier one.
+-- A note is stray if it is of no finish that was made, or repeats an earlier one.
 abbrev pub is_stray : List Note → List Note → Note → Bool
 is_stray made earlier note = not (has made note) || has earlier note
 
--- The note at this place is stray, behind the earlier ones and those before it in its list.
+-- The note at this place is stray, after the earlier ones and those before it in its list.
 abbrev pub IsStrayIn : List Note → List Note → List Note → ℕ → Type 0
 IsStrayIn made earlier notes i =
     (note : Note) × (slice_get notes i ≡ Some note)
@@ -77,7 +77,7 @@ pub record IsComplete {D : Type 0} (d : DeskView D) (lists : List (List Note)) :
   pub noted : are_noted (made_at d) lists ≡ true
   pub none_left : NoneLeft d.book.session.state.work
 
--- No note is stray, but a finish is not noted: it is told as the first place behind the lists.
+-- No note is stray, but a finish is not noted: it is reported as the first place after the lists.
 pub record LacksNote {D : Type 0} (d : DeskView D) (lists : List (List Note)) (place : Strayed)
     : Type 0 where
   pub no_stray : NoStray (made_at d) lists
@@ -85,7 +85,7 @@ pub record LacksNote {D : Type 0} (d : DeskView D) (lists : List (List Note)) (p
   pub worker : place.worker ≡ length lists
   pub note : place.note ≡ 0
 
--- The notes are the finishes, but a task is left: the least is told behind that place.
+-- The notes are the finishes, but a task is left: the least is reported after that place.
 pub record LeavesTask {D : Type 0} (d : DeskView D) (lists : List (List Note)) (place : Strayed)
     : Type 0 where
   pub no_stray : NoStray (made_at d) lists
@@ -102,7 +102,7 @@ HasStrayed d lists place =
 
 -- ---- its steps
 
--- The place of the first stray one of these notes, if any is, behind the earlier ones.
+-- The place of the first stray one of these notes, if any is stray, after the earlier notes.
 abbrev pub FirstStrayIn : List Note → List Note → List Note → Option ℕ → Type 0
 FirstStrayIn made earlier notes place =
     MatchOption place ((i : ℕ) → IsStrayIn made earlier notes i → ⊥)

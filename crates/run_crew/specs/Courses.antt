@@ -1,5 +1,5 @@
--- The course of a task: what a worker calls, in order, and what each call is answered; and what the
--- flusher calls beside it.
+-- The course of a task: the calls of a worker, in order, with the answer to each; and the calls
+-- that the flusher makes beside it.
 use Rattle.std.specs.Prelude.{ℕ, zero, suc, ◌<◌, ◌≤◌, ◌≡◌, ◌⊎◌, Bool, true, false, codes}
 use Rattle.std.specs.Prelude.{List, [], ◌∷◌, ◌++◌, length, Result, Ok, Err, Option, None, Some, ⊤}
 use Rattle.run_model.specs.declared.answers.Started.{Started}
@@ -13,11 +13,11 @@ use Rattle.run_crew.specs.declared.jobs.Turn.{Turn}
 use Rattle.run_crew.specs.declared.jobs.Turn.TheVariants as turn
 use Rattle.run_crew.specs.declared.notes.Note.{Note}
 
--- What a worker and the flusher call, and what they are answered.
+-- The calls of a worker and of the flusher, with their answers.
 pub data Call : Type 0 where
   -- under the lock, a task is started
   Start : Result Started Refusal → Call
-  -- it is waited until all events up to this one are durable, and told how many are
+  -- a wait until all events up to this one are durable, which returns how many are
   Save : ℕ → Result ℕ Trouble → Call
   -- the job of this place is asked whether it handles this name
   Handles : ℕ → List ℕ → Bool → Call
@@ -33,13 +33,13 @@ pub data Call : Type 0 where
   Tell : ℕ → Call
   -- the bell is rung for this event
   Ring : ℕ → Call
-  -- it is waited until the bell has rung for a later event than this, and told which; nothing where
-  -- it is closed
+  -- a wait until the bell has rung for a later event than this, which returns that event, or
+  -- nothing if the bell is closed
   Wait : ℕ → Option ℕ → Call
 
 -- ---- what was called between two moments
 
--- These calls, one behind the other, lead from a state to another by what a call may do.
+-- These calls, one after the other, lead from one state to another by what a call may do.
 abbrev pub Path : {A : Type 0} → (A → Call → A → Type 0) → A → List Call → A → Type 0
 Path step from [] to = from ≡ to
 Path step from (call ∷ calls) to = (mid : _) × step from call mid × Path step mid calls to
@@ -69,7 +69,7 @@ AreRounds info job (suc number) calls =
     × (calls ≡ before ++ round info job number done turn.More)
 
 -- How the turns of a task end at this number, and how the task ends by it: the gate doesn't let the
--- turn pass, or it is the job's last one.
+-- turn pass, or the turn is the job's last one.
 abbrev pub EndsAt : TaskInfo → ℕ → ℕ → List Call → Outcome → Type 0
 EndsAt info job number calls how =
     ((calls ≡ Gate info.task number false ∷ []) × (how ≡ outcome.Failure (codes "gate")))
@@ -79,7 +79,7 @@ EndsAt info job number calls how =
     × (how ≡ outcome.Failure error))
 
 -- The turns of a task by this job, and how it ends by them: at a turn that the gate doesn't let
--- pass or that is the job's last one, and else behind the greatest number of them.
+-- pass or that is the job's last one, and else after the greatest number of them.
 abbrev pub AreTurns : TaskInfo → ℕ → List Call → Outcome → Type 0
 AreTurns info job calls how =
     (AreRounds info job most_turns calls × (how ≡ outcome.Failure (codes "turn limit")))
@@ -101,13 +101,14 @@ IsRun jobs info calls how =
     ⊎ ((job : ℕ) × (turns : List Call) × (job < jobs) × AreTurns info job turns how
     × (calls ≡ declined info.job job ++ Handles job info.job true ∷ turns))
 
--- A start, the word that it is among so many durable events, the run of its task, and what comes
--- behind.
+-- A start, the answer that it is among so many durable events, the run of its task, and what comes
+-- after.
 abbrev pub task_calls : Started → ℕ → List Call → List Call → List Call
 task_calls started durable run calls =
     Start (Ok started) ∷ Save started.event (Ok durable) ∷ (run ++ calls)
 
--- The start of a task, and the word that it is durable; none where one of the two isn't so.
+-- The start of a task, and the answer that it is durable; none if the start is refused or doesn't
+-- become durable.
 abbrev pub IsBegun : Option Started → List Call → Type 0
 IsBegun (Some started) calls =
     (durable : ℕ) × (started.event ≤ durable)
@@ -134,8 +135,8 @@ IsCutShort jobs calls =
     × (calls ≡ task_calls started durable run
     (Finish started.info.task how (Err why) ∷ [])))
 
--- What a worker with these notes calls last: nothing where they are full, and else a course that is
--- cut short.
+-- What a worker with these notes calls last: nothing if the notes are full, or else a course that
+-- is cut short.
 abbrev pub EndsShift : ℕ → List Note → List Call → Type 0
 EndsShift jobs notes calls =
     ((length notes ≡ MOST_TASKS) × (calls ≡ []))
@@ -150,7 +151,7 @@ TakesTask jobs false notes after calls = (after ≡ notes) × EndsShift jobs not
 
 -- ---- the shift
 
--- A whole course for each of these notes, one behind the other.
+-- A whole course for each of these notes, one after the other.
 abbrev pub AreCourses : ℕ → List Note → List Call → Type 0
 AreCourses jobs [] calls = calls ≡ []
 AreCourses jobs (note ∷ notes) calls =
@@ -166,7 +167,7 @@ IsShift jobs notes calls =
 -- ---- the flusher
 
 -- So many rounds of the flusher, the last of which heard of this event: each waits until the bell
--- has rung for a later event than the round before heard of, and then until that is durable.
+-- has rung for a later event than the round before heard of, and then for that to be durable.
 abbrev pub AreSaves : ℕ → ℕ → List Call → Type 0
 AreSaves zero heard calls = (heard ≡ 0) × (calls ≡ [])
 AreSaves (suc rounds) heard calls =
@@ -181,7 +182,7 @@ IsWatch calls =
 
 -- ---- what the others answered
 
--- What a wait for durable events is told: that a value of the lock holds so many, or that a flush
+-- The answer to a wait for durable events: that a value of the lock holds so many, or that a flush
 -- of one was refused.
 abbrev pub IsTold
     : {T : Type 0} → (T → ℕ → Type 0) → (T → Result ℕ Trouble → T → Type 0) → Result ℕ Trouble

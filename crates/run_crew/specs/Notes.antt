@@ -15,7 +15,7 @@ use Rattle.run_crew.specs.declared.notes.Note.{Note}
 abbrev pub noted : List (List Note) → ℕ
 noted lists = sum_by (λ notes. length notes) lists
 
--- The notes of all workers, one list behind the other.
+-- The notes of all workers, one list after the other.
 abbrev pub all_notes : List (List Note) → List Note
 all_notes lists = flat_map (λ notes. notes) lists
 
@@ -38,18 +38,18 @@ has notes note = list_any (λ other. is_same note other) notes
 
 -- ---- finishes
 
--- The note of the event of this number, where it is a finish.
+-- The note of the event of this number, if it is a finish.
 abbrev pub note_of : ℕ → Event → List Note
 note_of number (event.Finish task outcome) =
     record { event = number; task = task; outcome = outcome } ∷ []
 note_of number _ = []
 
--- The same, where the number is greater than `since`.
+-- The same, if the number is greater than `since`.
 abbrev pub note_since : ℕ → ℕ → Event → List Note
 note_since since number event = if nat_lt since number then note_of number event else []
 
 -- The notes of the finishes among these events that have a greater number than `since`. The number
--- of the first event is the one behind `count`.
+-- of the first event is the one after `count`.
 abbrev pub finishes_since : ℕ → ℕ → List Event → List Note
 finishes_since since count [] = []
 finishes_since since count (event ∷ events) =

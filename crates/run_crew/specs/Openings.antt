@@ -1,4 +1,4 @@
--- What a book was when a desk was made over it, and how it goes on from there.
+-- What a book was when a desk was made over it, and how it carries on from there.
 use Rattle.std.specs.Prelude.{◌≡◌, ◌≤◌, ◌-◌, ◌++◌, ℕ, Bool, true, false, List, ⊤}
 use Rattle.std.specs.List.{list_all}
 use Rattle.run_model.specs.Event.{Event}
@@ -10,7 +10,7 @@ use Rattle.book_model.specs.Books.{BookView}
 use Rattle.book_model.specs.Stores.{StoresFront}
 
 -- What a book held at one moment, and the states of its disk then and as it was given to its
--- opening; and whether commands may come behind it, beside starts and finishes.
+-- opening; and whether commands may come after it, beside starts and finishes.
 pub record Opened : Type 1 where
   pub session : Session
   pub durable : ℕ
@@ -23,7 +23,7 @@ pub data Known : Type 1 where
   Unsaid : Known
   From : Opened → Known
 
--- What a book is now, and that starts and finishes alone may come.
+-- What a book is now, when starts and finishes alone may come.
 abbrev pub opened_of : {D : Type 0} → (D → DiskState) → BookView D → Opened
 opened_of state h = record {
   session = h.session;
@@ -44,10 +44,11 @@ is_work (event.Start task) = true
 is_work (event.Finish task outcome) = true
 is_work _ = false
 
--- A book goes on from what it was at that moment: its opening stays, events are only added, starts
--- and finishes alone unless commands may come, and no event that was acknowledged is lost. Where
--- the disk is honest and the book was opened on a disk at rest, a crash at any moment from that one
--- on leaves a state that some first events lead to, each among them that was acknowledged then.
+-- A book carries on from what it was at that moment: its opening stays, events are only added,
+-- starts and finishes alone unless commands may come, and no event that was acknowledged is lost.
+-- If the disk is honest and the book was opened on a disk at rest, a crash at any moment from that
+-- one on leaves a state that a prefix of the events leads to, with each event in it that was
+-- acknowledged then.
 pub record CarriesFrom {D : Type 0} (from : Opened) (state : D → DiskState) (h : BookView D)
     : Type 0 where
   pub start : h.session.start ≡ from.session.start
@@ -62,7 +63,7 @@ pub record CarriesFrom {D : Type 0} (from : Opened) (state : D → DiskState) (h
       (StoresFront from.session.start h.session.history (from.durable - from.session.start.count))
       from.disk (state h.journal.disk)
 
--- A book goes on from what is known of it.
+-- A book carries on from what is known of it.
 abbrev pub Carries : {D : Type 0} → Known → (D → DiskState) → BookView D → Type 0
 Carries Unsaid state h = ⊤
 Carries (From from) state h = CarriesFrom from state h

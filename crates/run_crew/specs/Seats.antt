@@ -29,7 +29,7 @@ joined seat other = record {
   finishes = seat.finishes + other.finishes;
 }
 
--- Behind a night of so many workers that noted so many finishes the seat has its parts again. It
+-- After a night of so many workers that noted so many finishes the seat has its parts again. It
 -- has counted those finishes, and as many starts, or one more for each worker at most.
 pub record CountsNight (workers noted : ℕ) (seat after : SeatView) : Type 0 where
   pub start_parts : after.start_parts ≡ seat.start_parts

@@ -4,9 +4,9 @@
 use std::sync::atomic::{AtomicU64, Ordering};
 use std::sync::{Condvar, MutexGuard, Wait};
 
-/// How many threads are on their way to the lock or have it, how many sleep, and how many flushes
-/// there were, modulo 2^64. A thread comes before it takes the lock. All else it says while it has
-/// the lock, so that none goes to sleep behind the last word that would wake it.
+/// How many threads are on their way to the lock or hold it, how many sleep, and how many flushes
+/// there were, modulo 2^64. A thread comes before it takes the lock. It makes all other calls while
+/// it holds the lock, so that none goes to sleep after the last call that would wake it.
 #[derive(Drop)]
 pub struct Arrivals {
     awake: AtomicU64,
@@ -16,7 +16,7 @@ pub struct Arrivals {
 }
 
 impl Arrivals {
-    /// Nobody comes yet.
+    /// No thread comes yet.
     pub fn new() -> Arrivals {
         Arrivals {
             awake: AtomicU64::new(0),
@@ -31,20 +31,20 @@ impl Arrivals {
         self.awake.fetch_add(1, Ordering::SeqCst);
     }
 
-    /// It goes. Where it was the last one, a thread that sleeps is woken, to flush.
+    /// A thread goes. If it was the last one, a thread that sleeps is woken, to flush.
     pub fn go(&self) {
         if self.awake.fetch_sub(1, Ordering::SeqCst) == 1 {
             self.moved.notify_one();
         }
     }
 
-    /// Says whether no other thread is on its way.
+    /// Reports whether no other thread is on its way.
     pub fn is_last(&self) -> bool {
         self.awake.load(Ordering::SeqCst) == 1
     }
 
-    /// Lets the lock go and sleeps until a flush was made, or nobody is on the way any more. It may
-    /// wake for no reason, too.
+    /// Releases the lock and sleeps until a flush was made, or no thread is on the way any more. It
+    /// may wake for no reason, too.
     pub fn sleep<'a, T, R: Wait>(&self, rt: &R, guard: MutexGuard<'a, T>) -> MutexGuard<'a, T> {
         let flushes = self.flushes.load(Ordering::SeqCst);
         self.asleep.fetch_add(1, Ordering::SeqCst);

@@ -19,8 +19,8 @@ use std::sync::ledger::Ledger;
 
 /// Where an audit failed first: a worker, and a place among its notes, both from 0 on.
 ///
-/// Where a finish is in no list, it is the number of lists, and 0. Where only a task is left, ready
-/// or running, it is the number of lists, and that of the least such task plus 1.
+/// If a finish is in no list, these are the number of lists, and 0. If only a task is left, ready
+/// or running, they are the number of lists, and the number of the least such task plus 1.
 #[derive(Clone, Copy, Debug, PartialEq, Eq)]
 pub struct Strayed {
     /// The number of the worker.
@@ -29,10 +29,10 @@ pub struct Strayed {
     pub note: usize,
 }
 
-/// Says whether the notes of the workers are the finishes since the desk was made, each once, with
-/// its number, task and outcome, and no task is ready or running. If not, it names the first note,
-/// by worker and then by place, that is of none of them or repeats an earlier one; else that a
-/// finish is in no list; else the task that is left. Takes no memory.
+/// Reports whether the notes of the workers are the finishes since the desk was made, each once,
+/// with its number, task and outcome, and no task is ready or running. If not, it names the first
+/// note, by worker and then by place, that is of no such finish or repeats an earlier note; else
+/// that a finish is in no list; else the task that is left. Takes no memory.
 pub fn audit<D: RunDisk, S: Ledger, F: Ledger, O: Opening>(
     desk: &Desk<D, S, F, O>,
     lists: &[WorkerNotes],
@@ -73,7 +73,7 @@ fn first_stray(made: &Finishes<'_>, lists: &[WorkerNotes]) -> Option<Strayed>
     None
 }
 
-/// The place of the first stray one of these notes, behind the lists before them.
+/// The place of the first stray one of these notes, after the lists before them.
 fn first_stray_in(made: &Finishes<'_>, before: &[WorkerNotes], notes: &[Note]) -> Option<usize>
     ensures { FirstStrayIn made.now (all_notes before.now) notes.now result }
 {
@@ -85,7 +85,7 @@ fn first_stray_in(made: &Finishes<'_>, before: &[WorkerNotes], notes: &[Note]) -
     None
 }
 
-/// Says whether a note behind these is of no finish that was made, or repeats one of them.
+/// Reports whether a note after these is of no finish that was made, or repeats one of them.
 fn is_stray(made: &Finishes<'_>, before: &[WorkerNotes], earlier: &[Note], note: &Note) -> bool
     ensures { result ≡ is_stray made.now (all_notes before.now ++ earlier.now) note.now }
 {
@@ -101,7 +101,7 @@ fn is_any_of(one: bool, two: bool, three: bool) -> bool
     one || two || three
 }
 
-/// Says whether these workers together noted this.
+/// Reports whether these workers together noted this.
 fn have_noted(lists: &[WorkerNotes], note: &Note) -> bool
     ensures { result ≡ has (all_notes lists.now) note.now }
 {
@@ -121,7 +121,7 @@ fn first_left(state: &State) -> Option<u16>
     None
 }
 
-/// Says whether a task is ready or running.
+/// Reports whether a task is ready or running.
 fn is_left(state: &State, task: u16) -> bool
     ensures { result ≡ is_left state.now.work task }
 {

@@ -19,7 +19,7 @@ pub struct Bell {
 }
 
 impl Bell {
-    /// A bell that didn't ring yet.
+    /// A bell that has not rung yet.
     pub fn new() -> Bell {
         let marks = Marks {
             event: 0,
@@ -45,8 +45,8 @@ impl Bell {
         self.moved.notify_all();
     }
 
-    /// Waits until the bell has rung for a later event than was heard before, and says which;
-    /// `None` where it is closed. Nothing is cleared, so a ring is heard whenever it comes.
+    /// Waits until the bell has rung for a later event than was heard before, and returns which;
+    /// `None` if the bell is closed. Nothing is cleared, so a ring is heard whenever it comes.
     pub fn wait<R: Wait>(&self, rt: &R, heard: u64) -> Option<u64>
         ensures later { IfSome result (λ event. heard < event) }
     {

@@ -19,7 +19,7 @@ use std::sync::ledger::Ledger;
 /// How many turns a task has.
 const MOST_TURNS: u32 = 1_000;
 
-/// Takes tasks until one isn't finished and noted, as where none is ready.
+/// Takes tasks until one isn't finished and noted, such as when none is ready.
 pub fn take_tasks<S: Ledger, F: Ledger, W: Floor<S, F>, R: Wait>(
     rt: &R,
     floor: &mut W,
@@ -42,8 +42,8 @@ pub fn take_tasks<S: Ledger, F: Ledger, W: Floor<S, F>, R: Wait>(
     unreachable!()
 }
 
-/// Starts a task, makes its turns, finishes it and notes it. Says whether it came so far: not where
-/// the notes are full, and not where the start, its flush or the finish wasn't done.
+/// Starts a task, makes its turns, finishes it and notes it. Reports whether it came so far: not if
+/// the notes are full, and not if the start, its flush or the finish wasn't done.
 pub fn take_task<S: Ledger, F: Ledger, W: Floor<S, F>>(
     floor: &mut W,
     seat: &mut Seat<S, F>,
@@ -77,7 +77,7 @@ pub fn take_task<S: Ledger, F: Ledger, W: Floor<S, F>>(
 }
 
 /// Starts the ready task with the least number, and makes the start durable before the first turn.
-/// `None` where one of the two wasn't done.
+/// `None` if one of the two wasn't done.
 fn start<S: Ledger, F: Ledger, W: Floor<S, F>>(
     floor: &mut W,
     seat: &mut Seat<S, F>,

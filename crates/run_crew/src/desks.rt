@@ -29,8 +29,9 @@ use std::sync::ledger::{Blank, Book as Total, Ledger};
 /// finishes in its history. It is the value of the one lock that all workers share, so each of its
 /// calls is one step of the book.
 ///
-/// The opening says what is known of the book when the desk was made, and from there it carries on:
-/// so says [`Desk::book`], whatever threads had the lock. A desk that names none is of any book.
+/// The opening stands for what is known of the book when the desk was made. From there the book
+/// carries on, whatever threads held the lock: [`Desk::book`] ensures it. A desk that names no
+/// opening is of any book.
 #[derive(Drop)]
 pub struct Desk<D: RunDisk, S: Ledger, F: Ledger, O: Opening = AnyBook> {
     book: Book<D>,
@@ -55,8 +56,8 @@ impl<D: RunDisk, S: Ledger, F: Ledger, O: Opening> Model for Desk<D, S, F, O> {
 }
 
 impl<D: RunDisk, S: Ledger, F: Ledger, O: Opening> Desk<D, S, F, O> {
-    /// A desk over a book, and the seat with every part of both shares. It has counted what the
-    /// book's history has already.
+    /// A desk over a book, and the seat with every part of both shares. The seat has counted what
+    /// the book's history already has.
     pub fn new(book: Book<D>, starts: Blank, finishes: Blank) -> (Desk<D, S, F, O>, Seat<S, F>)
         requires starts { (starts.name ≡ S.name) × (starts.parts ≡ S.parts) × (0 < S.parts) }
         requires finishes { (finishes.name ≡ F.name) × (finishes.parts ≡ F.parts)
@@ -85,7 +86,7 @@ impl<D: RunDisk, S: Ledger, F: Ledger, O: Opening> Desk<D, S, F, O> {
         (desk, Seat::new(start_share, finish_share))
     }
 
-    /// Starts the ready task with the least number, as [`Book::start`] does. Where it is accepted,
+    /// Starts the ready task with the least number, as [`Book::start`] does. If it is accepted,
     /// the seat has counted one start more. A clause more than six, since two values change: the
     /// book, of which four clauses speak, and the seat.
     pub fn start_as(&mut self, seat: &mut Seat<S, F>) -> Result<Started, Refusal>
@@ -107,7 +108,7 @@ impl<D: RunDisk, S: Ledger, F: Ledger, O: Opening> Desk<D, S, F, O> {
         Ok(started)
     }
 
-    /// Ends a running task with this outcome, as [`Book::finish`] does. Where it is accepted, the
+    /// Ends a running task with this outcome, as [`Book::finish`] does. If it is accepted, the
     /// seat has counted one finish more. A clause more than six, as of [`Desk::start_as`].
     pub fn finish_as(
         &mut self,
@@ -159,8 +160,8 @@ impl<D: RunDisk, S: Ledger, F: Ledger, O: Opening> Desk<D, S, F, O> {
         self.book.checkpoint()
     }
 
-    /// How many starts and finishes the book's history has. A seat with every part has counted as
-    /// many.
+    /// How many starts and finishes the book's history has. A seat with every part has counted the
+    /// same numbers.
     pub fn settle(&mut self, seat: &mut Seat<S, F>) -> (u64, u64)
         requires parts { (seat.old.start_parts ≡ S.parts) × (seat.old.finish_parts ≡ F.parts) }
         ensures same { (self.new ≡ self.old) × (seat.new ≡ seat.old) }
@@ -175,8 +176,8 @@ impl<D: RunDisk, S: Ledger, F: Ledger, O: Opening> Desk<D, S, F, O> {
     }
 
     /// The book, for reading. Whenever the lock is free, its state is what its history leads to,
-    /// whatever a crash leaves has the acknowledged events, and
-    /// it carries on from what is known of the opening.
+    /// whatever a crash leaves has the acknowledged events, and it carries on from what is known of
+    /// the opening.
     pub fn book(&self) -> &Book<D>
         ensures book { result.now ≡ self.now.book }
         ensures replays { Replays self.now.book.session }
@@ -195,7 +196,7 @@ impl<D: RunDisk, S: Ledger, F: Ledger, O: Opening> Desk<D, S, F, O> {
         self.since
     }
 
-    /// Says whether there is a task of this number and the scope that it lives in is done.
+    /// Reports whether there is a task of this number and the scope that it lives in is done.
     pub fn is_done(&self, task: u16) -> bool
         ensures { result ≡ is_done_for self.now.book.session.state task }
     {

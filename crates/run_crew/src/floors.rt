@@ -11,10 +11,10 @@ use crate::seats::Seat;
 use run_model::{Name, Outcome, Refusal, Started, TaskInfo, Trouble};
 use std::sync::ledger::Ledger;
 
-/// What a worker asks and tells, one call after another. What a call may do is each floor's own to
-/// say; so a worker's contract is of all floors, and says which calls it makes, in which order.
+/// What a worker asks and tells, one call after another. Each floor defines what a call may do; so
+/// a worker's contract is of all floors, and states which calls the worker makes, in which order.
 pub trait Floor<S: Ledger, F: Ledger> {
-    /// What a call may do: the floor before it, the call with its answer, and the floor behind it.
+    /// What a call may do: the floor before it, the call with its answer, and the floor after it.
     ghost step: { Self → Call → Self → Type 0 };
 
     /// How many jobs there are.
@@ -32,7 +32,8 @@ pub trait Floor<S: Ledger, F: Ledger> {
         ensures seat { MatchResult result (λ _. seat.new ≡ one_start seat.old)
             (λ _. seat.new ≡ seat.old) };
 
-    /// Waits until all events up to this one are durable, whoever flushes, and says how many are.
+    /// Waits until all events up to this one are durable, whoever flushes, and returns how many
+    /// are.
     fn save(&mut self, event: u64) -> Result<u64, Trouble>
         ensures step { step self.old (call.Save event result) self.new }
         ensures reached { IfOk result (λ durable. event ≤ durable) }

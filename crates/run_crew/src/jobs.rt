@@ -17,28 +17,28 @@ pub enum Turn {
 
 /// What a worker runs for a task. Each worker has jobs of its own, and asks them in their order.
 pub trait Job: Drop {
-    /// Says whether it does the jobs of this name.
+    /// Reports whether this job handles tasks of this job name.
     fn handles(&self, job: &Name) -> bool;
 
-    /// Makes a turn of a task: the first is turn 0. It is told whether the scope that the task
-    /// lives in is done, and may end then or go on. No lock is held meanwhile.
+    /// Makes a turn of a task: the first is turn 0. `done` is whether the scope that the task lives
+    /// in is done; the job may then end the task or go on. No lock is held meanwhile.
     fn turn(&mut self, info: &TaskInfo, turn: u32, done: bool) -> Turn;
 }
 
 /// What the workers share beside the desk. No lock is held while it is called.
 pub trait Gate {
-    /// What it may answer of a turn of a task.
+    /// What the gate may answer for a turn of a task.
     ghost lets: { Self → ℕ → ℕ → Bool → Type 0 } = { λ _ _ _ _. ⊤ };
 
-    /// That it was told that a task was finished.
+    /// That the gate was told that a task was finished.
     ghost told: { Self → ℕ → Type 0 } = { λ _ _. ⊤ };
 
-    /// Says whether a worker may make this turn of a task. Where it may not, the task ends as the
+    /// Reports whether a worker may make this turn of a task. If it may not, the task ends as the
     /// failure `gate`.
     fn before(&self, task: u16, turn: u32) -> bool
         ensures { lets self.now task turn result };
 
-    /// Is told that a task was finished.
+    /// Tells the gate that a task was finished.
     fn finished(&self, task: u16)
         ensures { told self.now task };
 }

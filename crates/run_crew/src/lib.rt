@@ -1,8 +1,8 @@
 //! The crew: worker threads that work off the ready tasks of one book, under one lock.
 //!
 //! A [`Desk`] is the value of the lock: the book, and the totals of its starts and finishes. Each
-//! worker counts by a [`Seat`] of its own, runs its [`Job`]s with the lock let go, and notes what
-//! it finished; a thread more makes the finishes durable. [`run_night`] starts and joins them all,
+//! worker counts by a [`Seat`] of its own, runs its [`Job`]s without the lock, and notes what it
+//! finished; one more thread makes the finishes durable. [`run_night`] starts and joins them all,
 //! and [`audit`] compares the notes with the book's history.
 #![tactic(auto)]
 

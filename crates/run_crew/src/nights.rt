@@ -25,17 +25,17 @@ use std::thread;
 use std::thread::Threads;
 
 /// Works off the ready tasks of the book under the lock, by one thread for each list of jobs, and
-/// then flushes. Gives the notes of the workers, in the order of the lists, and what the last flush
-/// answered.
+/// then flushes. Returns the notes of the workers, in the order of the lists, and the answer of the
+/// last flush.
 ///
 /// Each worker starts the ready task with the least number and makes the start durable, makes the
 /// turns by the first of its jobs that handles the task, finishes it and notes it, until it finds
 /// no task ready, its start or its finish is refused, its flush isn't done, or its notes are full.
-/// A thread more makes each finish durable. A flush is of all that is under way, so starts share
+/// One more thread makes each finish durable. A flush is of all that is under way, so starts share
 /// it. No lock is held while a job or the gate runs.
 ///
-/// `Memory` where a growth or the start of a thread was refused. Every thread that was started has
-/// been joined then, too; the seat may lack some parts.
+/// `Memory` if a growth or the start of a thread was refused. Then, too, every thread that was
+/// started has been joined; the seat may lack some parts.
 pub fn run_night<
     D: RunDisk + Send,
     S: Ledger + Send + Sync,

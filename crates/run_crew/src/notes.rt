@@ -41,7 +41,7 @@ impl Model for WorkerNotes {
 }
 
 impl WorkerNotes {
-    /// No notes, and room for 8,192. `Memory` where it is refused.
+    /// No notes, and room for 8,192. `Memory` if that room is refused.
     pub fn with_room(alloc: Global) -> Result<WorkerNotes, Fault>
         ensures empty { IfOk result (λ notes. notes ≡ []) }
         ensures fault { IfErr result (λ fault. fault ≡ Memory) }
@@ -60,7 +60,7 @@ impl WorkerNotes {
         self.notes.push_reserved(note);
     }
 
-    /// Says whether there is no room for another note.
+    /// Reports whether there is no room for another note.
     pub fn is_full(&self) -> bool
         ensures full { result ≡ (length self.now == MOST_TASKS) }
         ensures most { length self.now ≤ MOST_TASKS }
@@ -76,14 +76,14 @@ impl WorkerNotes {
     }
 }
 
-/// Says whether a note stands among these.
+/// Reports whether a note stands among these.
 pub fn has_note(notes: &[Note], note: &Note) -> bool
     ensures { result ≡ has notes.now note.now }
 {
     notes.iter().any(|other| is_same_note(note, other))
 }
 
-/// Says whether one of these workers noted this.
+/// Reports whether one of these workers has this note.
 pub fn have_note(lists: &[WorkerNotes], note: &Note) -> bool
     ensures { result ≡ list_any (λ notes. has notes note.now) lists.now }
 {

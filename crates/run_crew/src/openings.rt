@@ -12,9 +12,9 @@ pub trait Opening {
     ghost opening: { Known };
 }
 
-/// An opening behind which commands may come, beside starts and finishes.
+/// An opening after which commands may come, beside starts and finishes.
 pub trait Obeys: Opening {
-    /// They may come.
+    /// Commands may come.
     ghost commands_come: { obeys Self.opening ≡ true };
 }
 

@@ -1,4 +1,5 @@
-//! What threads see of the value of the lock: what moves their seats, and no more of the book.
+//! What threads see of the value of the lock: the steps that move their seats, and no more of the
+//! book.
 
 ghost use Rattle.std.specs.Prelude.{◌≡◌, ◌<◌, ℕ, Bool, Result, MatchResult};
 ghost use Rattle.run_model.specs.declared.answers.Started.{Started};
@@ -18,7 +19,7 @@ use run_disk::RunDisk;
 use run_model::{Outcome, Refusal, Started, Trouble};
 use std::sync::ledger::Ledger;
 
-/// Steps that move no seat, and what a turn is told.
+/// The steps that move no seat, and what a turn is told.
 pub trait Place {
     /// That so many events are durable.
     ghost holds: { Self → ℕ → Type 0 };
@@ -26,7 +27,7 @@ pub trait Place {
     /// What a flush may answer and leave.
     ghost flushes: { Self → Result ℕ Trouble → Self → Type 0 };
 
-    /// What it may tell of the scope of a task.
+    /// What it may answer of the scope of a task.
     ghost tells: { Self → ℕ → Bool → Type 0 };
 
     /// How many events are durable.
@@ -37,7 +38,7 @@ pub trait Place {
     fn flush(&mut self) -> Result<u64, Trouble>
         ensures { flushes self.old result self.new };
 
-    /// Says whether the scope that a task lives in is done.
+    /// Reports whether the scope that a task lives in is done.
     fn is_done(&self, task: u16) -> bool
         ensures { tells self.now task result };
 }

@@ -8,9 +8,9 @@ use crate::places::Place;
 use run_model::Trouble;
 use std::sync::{Mutex, Wait};
 
-/// Makes all events up to this one durable, and says how many are then. Who is the last one on the
+/// Makes all events up to this one durable, and returns how many then are. The last thread on the
 /// way to the lock flushes; the others sleep meanwhile, so that one flush is of what all of them
-/// did. It wants a thread that has come, and behind it the thread has gone.
+/// did. This needs a thread that has come, and after it the thread has gone.
 pub fn save<T: Place, R: Wait>(
     rt: &R,
     shared: &Mutex<T>,

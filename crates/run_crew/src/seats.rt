@@ -55,7 +55,7 @@ impl<S: Ledger, F: Ledger> Seat<S, F> {
         Seat { starts, finishes }
     }
 
-    /// Takes another seat in.
+    /// Joins another seat into this one.
     pub(crate) fn join(&mut self, other: Seat<S, F>)
         ensures { self.new ≡ joined self.old other }
     {

@@ -13,21 +13,22 @@ use std::sync::{Mutex, Wait};
 
 /// What the flusher asks, one call after another.
 pub trait Watch {
-    /// What a call may do: the watch before it, the call with its answer, and the watch behind it.
+    /// What a call may do: the watch before it, the call with its answer, and the watch after it.
     ghost step: { Self → Call → Self → Type 0 };
 
-    /// Waits until the bell has rung for a later event than was heard before, and says which;
-    /// `None` where the bell is closed.
+    /// Waits until the bell has rung for a later event than was heard before, and returns which;
+    /// `None` if the bell is closed.
     fn wait(&mut self, heard: u64) -> Option<u64>
         ensures step { step self.old (call.Wait heard result) self.new }
         ensures later { IfSome result (λ event. heard < event) };
 
-    /// Waits until all events up to this one are durable, whoever flushes, and says how many are.
+    /// Waits until all events up to this one are durable, whoever flushes, and returns how many
+    /// are.
     fn save(&mut self, event: u64) -> Result<u64, Trouble>
         ensures step { step self.old (call.Save event result) self.new };
 }
 
-/// Makes durable whatever the bell rings for, until it is closed. A refusal is no end.
+/// Makes durable whatever the bell rings for, until it is closed. A refusal doesn't end it.
 pub fn save_rings<W: Watch, R: Wait>(rt: &R, watch: &mut W)
     ensures calls { Went W.step IsWatch watch.old watch.new }
 {
@@ -42,7 +43,7 @@ pub fn save_rings<W: Watch, R: Wait>(rt: &R, watch: &mut W)
     unreachable!()
 }
 
-/// The watch of a crew: the bell, and the one lock, which is let go behind each call.
+/// The watch of a crew: the bell, and the one lock, which is released after each call.
 #[derive(Drop)]
 pub struct Lookout<'a, T, R> {
     pub rt: &'a R,

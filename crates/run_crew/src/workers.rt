@@ -54,7 +54,7 @@ impl<S: Ledger, F: Ledger> Station<S, F> {
         Station { jobs, seat, notes }
     }
 
-    /// Takes tasks until one isn't finished and noted, as where none is ready.
+    /// Takes tasks until one isn't finished and noted, such as when none is ready.
     pub fn work<T: CountedPlace<S, F>, G: Gate, R: Wait>(
         self,
         rt: &R,

@@ -15,7 +15,7 @@ use run_model::{Name, Outcome, Refusal, Started, TaskInfo, Trouble};
 use std::sync::ledger::Ledger;
 use std::sync::{Mutex, Wait};
 
-/// Each call is one of the value of the lock, which is let go behind it, of the gate, of a job or
+/// Each call is one of the value of the lock, which is released after it, of the gate, of a job or
 /// of the bell.
 #[derive(Drop)]
 pub struct Workplace<'a, T, G, R> {

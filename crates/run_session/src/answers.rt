@@ -1,4 +1,4 @@
-//! What an accepted command is answered, read off the state before it and the state after it.
+//! The answer to an accepted command, read from the state before it and the state after it.
 
 ghost use Rattle.std.specs.Option.{option_and_then};
 ghost use Rattle.std.specs.Prelude.{◌≡◌, slice_get, unwrap_or};
@@ -32,7 +32,7 @@ pub fn count_rows<A: Allocator>(state: &State<A>) -> Sizes
     }
 }
 
-/// What a command is answered that led to this state from one that had so many rows.
+/// The answer to a command that led to this state from one that had so many rows.
 pub fn answer<A: Allocator>(state: &State<A>, before: &Sizes, call: &Command) -> Answer
     ensures { (p : model.State) → HasSizes p before.now → WaitsAlike p state.now call.now
         → result ≡ answer_of p state.now call.now }

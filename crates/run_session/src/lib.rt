@@ -2,7 +2,7 @@
 //!
 //! A [`Session`] takes commands, starts and finishes. Each is refused and changes nothing, or is
 //! accepted: then its record is appended to the log, and the state is changed by its event. So the
-//! log tells how the state came about. It takes memory once, when it begins.
+//! log holds how the state came about. A session takes memory once, when it begins.
 #![tactic(auto)]
 
 mod answers;

@@ -31,7 +31,7 @@ use Rattle.state_renewal.proofs.Marked.{scopes_left, tasks_left}
 use Rattle.state_renewal.proofs.RulesKept.{rules_kept}
 use Rattle.run_state.proofs.Imaging.{ranged}
 
--- ---- rows behind root
+-- ---- rows after root
 
 behind : {X : Type 0} (rows : List X) (s : ℕ) (row : X) → slice_get (drop 1 rows) s ≡ Some row
     → slice_get rows (suc s) ≡ Some row
@@ -102,7 +102,7 @@ renewed_image layout p rules fits clock few scopes groups tasks =
 
 -- ---- the rows that are put
 
--- A list that is lent behind its first row.
+-- A list that is lent from its second row on.
 pub behind_lent : {X : Type 0} (rows lent : List X) → lent ≡ rows
     → take (length lent - 1) (drop 1 lent) ≡ drop 1 rows
 behind_lent rows lent same =

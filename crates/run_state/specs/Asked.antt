@@ -1,4 +1,4 @@
--- What a call asks for, before the session's log is asked for room.
+-- What a call asks for, before the room in the session's log is checked.
 use Rattle.std.specs.Prelude.{◌≡◌, ℕ, true, Option, Some, None, Result, Ok, IsTrue}
 use Rattle.std.specs.Option.{option_and_then, ok_or, IfSome}
 use Rattle.run_model.specs.declared.answers.Started.{Started}
@@ -24,7 +24,7 @@ pub record IsWished (clock : ℕ) (wish : Wish) (kind : Kind) : Type 0 where
   pub same : kind ≡ kind_made clock wish
   pub recorded : IsTrue (is_recorded_kind kind)
 
--- An event is accepted if the log, which has so many bytes, has room for it.
+-- An event is accepted if it fits in the log, which has so many bytes.
 abbrev pub room_for : State → ℕ → Option Event → Result (Option Event) Refusal
 room_for p log None = Ok None
 room_for p log (Some event) = if_room p log event
@@ -37,7 +37,7 @@ IsAllowed p made = IfSome made (λ event. allowed p event ≡ true)
 abbrev pub IsRecorded : Option Event → Type 0
 IsRecorded made = IfSome made (λ event. IsTrue (is_recorded event))
 
--- What a start would be answered, the log's room aside: the ready task with the least number, the
--- number of the event, and whether the task's scope is done.
+-- The answer to a start, the log's room aside: the ready task with the least number, the number of
+-- the event, and whether the task's scope is done.
 abbrev pub start_asked : State → Result Started Refusal
 start_asked p = ok_or (option_and_then (started_of p) (first_ready p.work)) NothingReady

@@ -1,4 +1,4 @@
--- What is shown of a state, and of a scope in it.
+-- What a state shows of itself, and of a scope in it.
 use Rattle.std.specs.Borrow.{Bor}
 use Rattle.std.specs.Option.{option_map}
 use Rattle.std.specs.Prelude.{ℕ, List, Option}
@@ -10,10 +10,11 @@ use Rattle.run_state.specs.declared.questions.LookView.{LookView}
 abbrev pub shown : ℕ → TreeState → WorkState → State
 shown count tree work = record { count = count; tree = tree; work = work }
 
--- Why a scope is done, and with which cause, where the cause is lent.
+-- Why a scope is done, and with which cause, from a view that lends the cause.
 abbrev pub ending_of : Reason × Bor (List ℕ) → Reason × List ℕ
 ending_of ending = (ending.0, ending.1.now)
 
--- What a view shows of a scope: why it is done and with which cause, and its deadline.
+-- What a view shows of a scope: why it is done and with which cause, if it is; and its deadline, if
+-- it has one.
 abbrev pub shown_by : LookView → Option (Reason × List ℕ) × Option ℕ
 shown_by view = (option_map ending_of view.done, view.deadline)

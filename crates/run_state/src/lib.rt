@@ -2,9 +2,9 @@
 //! many events there were.
 //!
 //! A [`State`] is changed by events alone, each as a record shows it, so a command that is accepted
-//! now and a record that is read back go the same way. It says which event a call asks for, or why
-//! the call is refused; it answers questions; and it knows nothing of a log. It takes memory once,
-//! when it is made.
+//! now and a record that is read back go the same way. It returns the event that a call asks for,
+//! or the refusal of the call; it answers questions; and it knows nothing of a log. It takes memory
+//! once, when it is made.
 #![tactic(auto)]
 
 mod asking;

@@ -1,4 +1,4 @@
-//! A [`Renewal`] of a state says which of its scopes, groups and tasks go on, and under which new
+//! A [`Renewal`] of a state holds which of its scopes, groups and tasks go on, and under which new
 //! numbers; the state writes the image of them.
 
 ghost use Rattle.std.specs.List.{flat_map, AllByRecursion};
@@ -35,7 +35,7 @@ pub struct Renewal<A: Allocator = Global> {
 }
 
 impl<A: Allocator> State<A> {
-    /// What of the state goes on when it is renewed. `Memory` where the memory for that is refused.
+    /// What of the state goes on when it is renewed. `Memory` if the memory for that is refused.
     pub fn renewal<B: Allocator + Copy>(&self, alloc: B) -> Result<Renewal<B>, Fault>
         ensures marks { IfOk result (λ r. AreMarks self.now r.scopes r.groups r.tasks) }
         ensures fault { IfErr result (λ fault. fault ≡ Memory) }
@@ -78,7 +78,7 @@ impl<A: Allocator> State<A> {
         renewal.tasks.number(self.task_count() as u16)
     }
 
-    /// Says whether a store of this layout has room for the renewed state.
+    /// Reports whether the renewed state fits in a store of this layout.
     pub fn fits_renewed<B: Allocator>(&self, renewal: &Renewal<B>, layout: Layout) -> bool
         requires marks { AreMarks self.now renewal.now.scopes renewal.now.groups renewal.now.tasks }
         ensures { result ≡ fits_in layout (renewed self.now) }
@@ -88,7 +88,7 @@ impl<A: Allocator> State<A> {
     }
 
     /// Writes the image of the renewed state at the front of the buffer, for a store of a layout
-    /// that has room for it, and gives its length. Takes no memory.
+    /// in which it fits, and returns its length. Takes no memory.
     ///
     /// What goes on and the layout come from the caller, and so two clauses more than those of
     /// [`State::write_image`].
@@ -130,7 +130,7 @@ impl<A: Allocator> State<A> {
         }
     }
 
-    /// Puts the renewed scopes behind root at a place, and gives the place behind them.
+    /// Puts the renewed scopes after root at a place, and returns the place after them.
     fn put_renewed_scopes<B: Allocator>(
         &self,
         renewal: &Renewal<B>,
@@ -154,7 +154,7 @@ impl<A: Allocator> State<A> {
         put_scopes(&rows[1..], &flags[1..], &renewal.scopes, out, at)
     }
 
-    /// Puts the renewed groups at a place, and gives the place behind them.
+    /// Puts the renewed groups at a place, and returns the place after them.
     fn put_renewed_groups<B: Allocator>(
         &self,
         renewal: &Renewal<B>,
@@ -180,7 +180,7 @@ impl<A: Allocator> State<A> {
         )
     }
 
-    /// Puts the renewed tasks at a place, and gives the place behind them.
+    /// Puts the renewed tasks at a place, and returns the place after them.
     fn put_renewed_tasks<B: Allocator>(
         &self,
         renewal: &Renewal<B>,

@@ -12,8 +12,8 @@ ghost use Rattle.run_state.specs.Asked.{IsWished};
 use record_view::KindView;
 use run_model::{GREATEST_MOMENT, Moment, Refusal, Text, Wish};
 
-/// The kind that a wish makes now: a timeout is the deadline that it gives, or one that is past the
-/// greatest moment like it.
+/// The kind that a wish makes now. A timeout makes the deadline that it gives, or, if that is past
+/// the greatest moment, one that is past it too.
 pub fn wished_kind<'a>(clock: Moment, wish: &'a Wish) -> KindView<'a>
     ensures past { is_past_moments (kind_of result) ≡ is_past_moments (kind_made clock wish.now) }
     ensures kind { is_past_moments (kind_of result) ≡ false
@@ -31,7 +31,7 @@ pub fn wished_kind<'a>(clock: Moment, wish: &'a Wish) -> KindView<'a>
     }
 }
 
-/// Says why a scope of this kind can't be derived: `MomentOutOfRange`.
+/// Returns why a scope of this kind can't be derived: `MomentOutOfRange`.
 pub fn check_kind(kind: &KindView) -> Result<(), Refusal>
     ensures { result
         ≡ tested ((is_past_moments (kind_of kind.now), refusal.MomentOutOfRange) ∷ []) }

@@ -1,5 +1,5 @@
 //! The session and its state: tables of calls with what each is answered, full sessions, sessions
-//! that begin behind a restart, and want of memory.
+//! that begin after a restart, and want of memory.
 
 mod bounds;
 mod calls;

@@ -17,7 +17,7 @@ use Rattle.state_renewal.specs.Told.{event_anew, names_part}
 use Rattle.state_renewal.proofs.RowsAnew.{anew_get}
 use Rattle.state_renewal.specs.Answered.{calls_part, command_anew, has_group_on, has_scope_on}
 
--- The number of the row that has this name, or one behind all.
+-- The number of the row that has this name, or the one after the last.
 abbrev number_of : {X : Type 0} → (X → List ℕ) → List X → List ℕ → ℕ
 number_of name rows wanted =
     unwrap_or (position (λ r. bytes_eq wanted (name r)) rows) (length rows)

@@ -9,12 +9,11 @@ use Rattle.run_model.specs.State.{State}
 use Rattle.run_model.specs.Tasks.{first_ready}
 use Rattle.state_renewal.specs.Renewed.{new_number, Part}
 
--- What is seen of a group, told by its scope's new number.
+-- What is seen of a group, by its scope's new number.
 abbrev pub group_look_anew : Part → GroupLook → GroupLook
 group_look_anew part look = record look { scope = new_number part.scopes look.scope }
 
--- What is seen of a task, told by the new numbers of its group and of the task that it is a retry
--- of.
+-- What is seen of a task, by the new numbers of its group and of the task that it is a retry of.
 abbrev pub task_look_anew : Part → TaskLook → TaskLook
 task_look_anew part look = record look {
   group = new_number part.groups look.group;
@@ -23,8 +22,8 @@ task_look_anew part look = record look {
 
 -- State q answers as state p does of all that goes on, each asked by its new number: of a scope
 -- its name, whether it is done, why and with which cause, its deadline, and the value of every
--- key; of a group and of a task what is seen of it, told by the new numbers; and which task is
--- started next.
+-- key; of a group and of a task what is seen of it, by the new numbers; and which task is started
+-- next.
 pub record GoOnAlike (part : Part) (p q : State) : Type 0 where
   pub scopes : (s : ℕ) → part.scopes s ≡ true
       → look_of q (new_number part.scopes s) ≡ look_of p s

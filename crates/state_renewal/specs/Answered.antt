@@ -1,4 +1,4 @@
--- Commands that name what goes on, and what they are answered, told by the new numbers.
+-- Commands that name what goes on, and the answers to them, by the new numbers.
 use Rattle.std.specs.Prelude.{ℕ, Bool, true, false, List, Result, Ok, Err}
 use Rattle.std.specs.Option.{option_map, option_map_or}
 use Rattle.run_model.specs.declared.answers.Answer.{Answer}
@@ -31,12 +31,12 @@ calls_part part p (command.TryGo group job argument) = has_group_on part p group
 calls_part part p (command.Retry n) = part.tasks n
 calls_part part p (command.Wait group) = has_group_on part p group
 
--- The same command. A task alone is named by its number, and so by its new one.
+-- The same command. Only a task is named by its number, and so here by its new one.
 abbrev pub command_anew : Part → Command → Command
 command_anew part (command.Retry n) = command.Retry (new_number part.tasks n)
 command_anew part call = call
 
--- The same answer, told by the new numbers.
+-- The same answer, by the new numbers.
 abbrev pub answer_anew : Part → Answer → Answer
 answer_anew part (answer.Scope s) = answer.Scope (new_number part.scopes s)
 answer_anew part (answer.Group g own) =
@@ -45,13 +45,13 @@ answer_anew part answer.Done = answer.Done
 answer_anew part (answer.Task n phase) = answer.Task (new_number part.tasks n) phase
 answer_anew part (answer.Waited error) = answer.Waited error
 
--- The same start, told by the task's new number.
+-- The same start, by the task's new number.
 abbrev pub started_anew : Part → Started → Started
 started_anew part started = record started {
   info = record started.info { task = new_number part.tasks started.info.task };
 }
 
--- The same reply: what is answered is told anew, and a refusal stays.
+-- The same reply: the answer has the new numbers, and a refusal stays.
 abbrev pub reply_anew : {X : Type 0} → (X → X) → Result X Refusal → Result X Refusal
 reply_anew tell (Ok x) = Ok (tell x)
 reply_anew tell (Err refusal) = Err refusal

@@ -11,9 +11,9 @@ use Rattle.run_model.specs.Rows.{root}
 use Rattle.run_model.specs.State.{State}
 use Rattle.state_renewal.specs.Examples.{ended, task, unwaited}
 
--- ---- a day behind a renewal, in which group 1 goes on, and task 4
+-- ---- a day after a renewal, in which group 1 goes on, and task 4
 
--- Task 4 runs, and is cut off by a restart; it is submitted anew, and another task behind it. A
+-- Task 4 runs, and a restart interrupts it; it is submitted anew, and another task after it. A
 -- deadline is set, and passes.
 abbrev pub day : List Event
 day =
@@ -58,9 +58,9 @@ day_left = record {
   };
 }
 
--- ---- a night from the beginning, and a day behind it
+-- ---- a night from the beginning, and a day after it
 
--- Group 0 is waited for with its one task; of group 1 a task is cut off, and submitted anew.
+-- Group 0 is waited for with its one task; a task of group 1 is interrupted, and submitted anew.
 abbrev pub first_night : List Event
 first_night =
     event.Group (codes "h") 0 ∷ event.Group (codes "g") 0

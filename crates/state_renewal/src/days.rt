@@ -1,4 +1,4 @@
-//! Examples of what goes on behind a renewal, computed row by row.
+//! Examples of what goes on after a renewal, computed row by row.
 
 ghost use Rattle.std.specs.Option.{option_map};
 ghost use Rattle.std.specs.Prelude.{◌≡◌, IsSomeAnd, Ok, Some, codes, false, map, true};
@@ -17,8 +17,8 @@ ghost use Rattle.state_renewal.specs.Days.{day, day_anew, day_left, first_night,
 ghost use Rattle.state_renewal.specs.GoingOn.{GoesOn, all_name_part, going_on};
 ghost use Rattle.state_renewal.specs.Told.{event_anew, names_part};
 
-/// A day's events name what goes on, and are told by the new numbers. They lead the renewed store
-/// to what goes on of the old one; what is made on that day has the next numbers.
+/// A day's events name what goes on, by the new numbers. They lead the renewed store to what goes
+/// on of the old one; what is made on that day has the next numbers.
 pub fn a_day_behind_a_renewal()
     ensures names { all_name_part (going_on retried) day ≡ true }
     ensures events { map (event_anew (going_on retried)) day ≡ day_anew }
@@ -35,7 +35,7 @@ pub fn a_command_at_the_end_of_that_day()
         ≡ Ok (answer.Task 5 phase.Held) }
 {}
 
-/// A night and a day that meet what the laws ask for. Of the day's events two name what is made on
+/// A night and a day that meet what the laws need. Of the day's events two name what is made on
 /// that day.
 pub fn a_night_and_a_day_meet_the_premises()
     ensures { IsSomeAnd (run (formatted Small) first_night) (λ p. IsSomeAnd (run p second_day)

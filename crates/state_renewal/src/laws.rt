@@ -1,9 +1,9 @@
 //! The laws: a store that was renewed, and the one that it was made of, are led and answer alike
 //! from then on.
 //!
-//! `p` is the state that was renewed, and `q` any later one, to which events lead that name what
-//! goes on alone: what the renewal keeps, and what is made later. What goes on of `q` is the state
-//! of the renewed store, which the same events have led there, told by the new numbers.
+//! `p` is the state that was renewed, and `q` any later one, to which events lead that name only
+//! what goes on: what the renewal keeps, and what is made later. What goes on of `q` is the state
+//! of the renewed store, which the same events, by the new numbers, have led there.
 
 ghost use Rattle.std.specs.Prelude.{◌≡◌, ◌&&◌, ℕ, List, Some, false, map, true};
 ghost use Rattle.run_model.specs.declared.commands.Command.{Command};
@@ -25,7 +25,7 @@ ghost use Rattle.state_renewal.specs.Answered.{started_anew};
 ghost use Rattle.state_renewal.specs.GoingOn.{GoesOn, going_on};
 
 /// The renewed state is what goes on of the old one. And whatever the old one is then led to, the
-/// same events are allowed of the renewed one, and lead it to what goes on of that.
+/// renewed one allows the same events, and they lead it to what goes on of that.
 pub fn both_are_led_alike()
     ensures begins { (p : State) → IsConsistent p → state_anew (going_on p) p ≡ renewed p }
     ensures run { (p q : State) (events : List Event) → GoesOn p events q
@@ -41,7 +41,7 @@ pub fn both_answer_questions_alike()
 {}
 
 /// A command that names what goes on is answered alike at each length of the log, or refused for
-/// the same reason, where the names that it gives are free in the old store, and there is room. A
+/// the same reason, if the names that it gives are free in the old store, and there is room. A
 /// start is answered alike, and so is a finish of a task that goes on.
 pub fn both_answer_calls_alike()
     ensures commands { (p q : State) (events : List Event) (log : ℕ) (call : Command)
@@ -58,8 +58,8 @@ pub fn both_answer_calls_alike()
         ≡ reply_finish q n outcome }
 {}
 
-/// An event that names what goes on is allowed of the old store exactly where it is allowed of the
-/// renewed one, and the old one has its names free and room for it: so the renewed one allows more
+/// The old store allows an event that names what goes on exactly when the renewed one allows it,
+/// the event's names are free in the old one, and it fits there: so the renewed one allows more
 /// only for names and for room that are free again.
 pub fn only_names_and_room_are_free_again()
     ensures { (p q : State) (events : List Event) (e : Event) → GoesOn p events q
@@ -80,7 +80,7 @@ pub fn what_does_not_go_on_is_finished()
         → is_unfinished row.stage ≡ false }
 {}
 
-/// What a renewal leaves of a store doesn't depend on renewals before: it leaves the same of the
+/// What a renewal leaves of a store doesn't depend on earlier renewals: it leaves the same of the
 /// store that was renewed and of the one that wasn't.
 pub fn earlier_renewals_leave_no_trace()
     ensures { (p q : State) (events : List Event) → GoesOn p events q

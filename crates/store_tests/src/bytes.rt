@@ -52,7 +52,7 @@ pub fn blank(rt: &impl Abort, alloc: Global, size: usize) -> MemoryDisk {
     done(rt, MemoryDisk::new(alloc, size), "memory")
 }
 
-/// What a crash behind so many calls leaves, torn in this way.
+/// What a crash after so many calls leaves, torn in this way.
 pub fn left(rt: &impl Abort, alloc: Global, disk: &MemoryDisk, calls: u64, torn: Torn) -> Vec<u8> {
     assert!(rt; calls <= disk.calls());
     done(rt, disk.image(alloc, calls, torn), "memory")

@@ -101,7 +101,7 @@ pub fn play<D: RunDisk>(rt: &impl Abort, disk: &mut D, what: &str, calls: &[Call
 /// After how many calls a crash comes, how it tears, and what it leaves.
 type Row = (u64, Torn, &'static [u8]);
 
-/// Calls of a disk, how many it has counted behind them, and what crashes leave then.
+/// Calls of a disk, how many it has counted after them, and what crashes leave then.
 type Stage = (&'static [Call], u64, &'static [Row]);
 
 /// A write of three bytes at 10, and its sync.
@@ -136,7 +136,7 @@ static ONE_WRITE: [Stage; 2] = [
     ),
 ];
 
-/// Behind a synced write of four bytes at 0: a write of four at 2, and one of a byte at 4.
+/// After a synced write of four bytes at 0: a write of four at 2, and one of a byte at 4.
 static NEWEST: [Stage; 2] = [
     (
         &[
@@ -228,8 +228,8 @@ fn torn_byte(torn: Torn, written: u8) -> u8 {
     }
 }
 
-/// Asserts what the first byte of each turn is behind so many calls, torn in this way. The call of
-/// a turn's first write, and the two behind it, come behind four for each turn before.
+/// Asserts what the first byte of each turn is after so many calls, torn in this way. The call of
+/// a turn's first write, and the two after it, come after four for each turn before.
 fn assert_firsts(rt: &impl Abort, alloc: Global, disk: &MemoryDisk, calls: u64, torn: Torn) {
     let bytes = left(rt, alloc, disk, calls, torn);
     let mut before = 0u64;
@@ -339,7 +339,7 @@ static FUSED: [Call; 5] = [
 /// What is left by two calls.
 static BEHIND_FUSE: [Call; 1] = [Call::Read(0, &[1, 0, 0, 0])];
 
-/// The disk below a fuse that two calls pass, behind these.
+/// The disk below a fuse that two calls pass, after these.
 fn below_fuse(rt: &impl Abort, alloc: Global, calls: &[Call]) -> MemoryDisk {
     let mut fuse = Fuse::new(blank(rt, alloc, 4), 2);
     play(rt, &mut fuse, "call of a fuse", calls);
@@ -369,7 +369,7 @@ static FAILED_ONCE: [Call; 3] = [
 /// What is left by three calls.
 static BEHIND_FAILURE: [Call; 1] = [Call::Read(0, &[1, 0, 3, 0])];
 
-/// The disk below one whose call of this number fails, behind these.
+/// The disk below one whose call of this number fails, after these.
 fn below_fail_once(rt: &impl Abort, alloc: Global, failing: u64, calls: &[Call]) -> MemoryDisk {
     let mut once = FailOnce::new(blank(rt, alloc, 4), failing);
     play(rt, &mut once, "call, where one fails", calls);
@@ -389,7 +389,7 @@ static NO_BYTES: [Call; 3] = [
     Call::Write(0, &[], false),
 ];
 
-/// What crashes leave behind the two writes that are made: none of them was synced.
+/// What crashes leave after the two writes that are made: none of them was synced.
 static UNSYNCED: [Row; 4] = [
     (2, Torn::Keep, &[0, 0, 0, 0]),
     (2, Torn::Take, &[1, 0, 0, 0]),
@@ -397,7 +397,7 @@ static UNSYNCED: [Row; 4] = [
     (2, Torn::Front(0), &[0, 0, 0, 0]),
 ];
 
-/// Asserts that the two writes came to a disk, and what crashes leave of it behind them.
+/// Asserts that the two writes came to a disk, and what crashes leave of it after them.
 fn assert_unsynced(rt: &impl Abort, alloc: Global, disk: &MemoryDisk) {
     holds(rt, disk.calls() == 2, "calls", 2);
     assert_left(rt, alloc, disk, &UNSYNCED);

@@ -7,7 +7,7 @@ use std::fs;
 use std::fs::File;
 
 /// A file: its path and its bytes, whether it is written, the calls of a disk over it, the length
-/// that it is given behind them, the calls then, and those once it is opened again.
+/// that it is given after them, the calls then, and those once it is opened again.
 type Story = (
     &'static str,
     &'static [u8],

@@ -50,7 +50,7 @@ const AGAIN: [u8; 23] = *b"\x01\0\0\0\0\0\0\0\0\0\0\0\0\0\0\0\x07\0\0\0\0\0\0";
 /// `derive e root cancel`, of 13 bytes with its gate and its length.
 const THIRD: [u8; 8] = *b"\x01\x00\x05\x01e\x00\x00\x01";
 
-/// The next program: two calls, and behind how many calls of its disk each is acknowledged. There
+/// The next program: two calls, and after how many calls of its disk each is acknowledged. There
 /// are three reads before, seven calls in a checkpoint and six in a flush.
 type Next = (&'static [Call], [u64; 2]);
 

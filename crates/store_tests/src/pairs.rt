@@ -177,7 +177,7 @@ pub fn adopted<D: RunDisk>(rt: &impl Abort, alloc: Global, mut disk: D) -> Journ
 /// Calls of a journal, and what each is answered.
 pub type Calls = &'static [(Call, Result<(), Fault>)];
 
-/// The disk of a store behind these calls.
+/// The disk of a store after these calls.
 pub fn behind<D: RunDisk>(rt: &impl Abort, alloc: Global, disk: D, calls: Calls) -> D {
     let mut journal = adopted(rt, alloc, disk);
     call_all(rt, alloc, &mut journal, calls);
@@ -223,7 +223,7 @@ pub const FLUSH_TWICE: Calls = &[
     (Call::Flush(&SECOND), Ok(())),
 ];
 
-/// The disk of a small store, formatted over zeros, behind these calls.
+/// The disk of a small store, formatted over zeros, after these calls.
 pub fn small_behind(rt: &impl Abort, alloc: Global, calls: Calls) -> MemoryDisk {
     behind(rt, alloc, formatted(rt, alloc, Layout::Small, 0), calls)
 }

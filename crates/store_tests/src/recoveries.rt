@@ -23,7 +23,7 @@ type Damage = (
     u64,
 );
 
-/// The segment is read behind the choice of a slot.
+/// The segment is read after the choice of a slot.
 static DAMAGE: [Damage; 10] = [
     (
         "slot 1's generation 2",

@@ -1,4 +1,4 @@
-//! Stops of a flush, a checkpoint and a format, behind each call and torn in each way.
+//! Stops of a flush, a checkpoint and a format, after each call and torn in each way.
 
 use crate::asserts::holds;
 use crate::bytes::{disk_of, left};
@@ -23,7 +23,7 @@ static TEARS: [(Torn, bool); 6] = [
     (Torn::Front(1), true),
 ];
 
-/// Calls, how many of the disk there are behind them, from which one on it is stopped, and what it
+/// Calls, how many of the disk there are after them, from which one on it is stopped, and what it
 /// holds before the last one of them and after it.
 type Stop = (
     Calls,
@@ -47,7 +47,7 @@ static STOPS: [Stop; 3] = [
     (CHECKPOINT, 31, 24, &ONE_BATCH, &CHECKPOINTED),
 ];
 
-/// Asserts that a stop behind so many calls, torn in this way, leaves this pair.
+/// Asserts that a stop after so many calls, torn in this way, leaves this pair.
 fn assert_left(
     rt: &impl Abort,
     alloc: Global,
@@ -60,7 +60,7 @@ fn assert_left(
     holds(rt, right, "behind call", calls as usize);
 }
 
-/// A stop behind each call from this one on, torn in each way, leaves the pair from before, or once
+/// A stop after each call from this one on, torn in each way, leaves the pair from before, or once
 /// the last write may have opened its gate the pair from after.
 fn walk(
     rt: &impl Abort,
@@ -89,7 +89,7 @@ fn a_stop_leaves_the_old_pair_or_the_new(rt: HostRuntime) {
     }
 }
 
-/// Stops of the first checkpoint: a torn body, and a whole one, behind a gate that is closed.
+/// Stops of the first checkpoint: a torn body, and a whole one, after a gate that is closed.
 static AGAIN: [(u64, Torn); 2] = [(14, Torn::Front(9)), (16, Torn::Take)];
 
 #[test]
@@ -111,7 +111,7 @@ fn is_asked_for(stored: &Stored, calls: u64) -> bool {
     stored.batches().next().is_none() && (is_zeros || image == FORMATTED.as_slice())
 }
 
-/// Says whether a crash behind so many of a format's 8 calls leaves no pair that was not asked for.
+/// Says whether a crash after so many of a format's 8 calls leaves no pair that was not asked for.
 fn leaves_no_other(alloc: Global, disk: &mut MemoryDisk, calls: u64) -> bool {
     match recovered(alloc, disk) {
         Err(Fault::NotAStore | Fault::BadSlot) => calls < 8,

@@ -91,7 +91,7 @@ fn what_stops_a_recovery_is_told_of_the_old_disk(rt: HostRuntime) {
     assert_told(&rt, rt.alloc(), &UNREAD);
 }
 
-/// Slot 1's number of events, behind which there are five more: 2^62 - 1 in all, and 2^62.
+/// Slot 1's number of events, after which there are five more: 2^62 - 1 in all, and 2^62.
 static MANY: [(At, Told); 2] = [
     (
         (

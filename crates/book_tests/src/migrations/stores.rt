@@ -1,7 +1,7 @@
 //! The bytes of a small store that has seen a short night, and those of the large one that it
 //! becomes; disks of these bytes, and what a migration makes of two disks.
 //!
-//! The night: `group g root`, `limit g 1`, `go g copy a`, `go g copy b`, `start`, behind one
+//! The night: `group g root`, `limit g 1`, `go g copy a`, `go g copy b`, `start`, after one
 //! opening, and a flush. So task 0 is running, task 1 is held, and there were six events.
 
 use crate::asserts::done;

@@ -14,7 +14,7 @@ use std::alloc::Allocator;
 
 impl<D: RunDisk, A: Allocator> Book<D, A> {
     /// Takes the steps in order, and puts one reply for each at the end of the list, which has
-    /// room for them, and takes no more. Behind a failure of the device each step is refused as
+    /// room for them and doesn't grow. After a failure of the device each step is refused as
     /// `Broken`.
     pub fn play<B: Allocator>(&mut self, steps: &[Step], replies: &mut Vec<Reply, B>)
         requires room { vec_len replies.old + length steps.now ≤ vec_capacity replies.old }
@@ -31,7 +31,7 @@ impl<D: RunDisk, A: Allocator> Book<D, A> {
         }
     }
 
-    /// Takes one step, as the call of its name does, and answers as that call. A broken book
+    /// Takes one step, as the call of its name does, and answers as that call does. A broken book
     /// refuses it as `Broken`.
     pub fn step(&mut self, step: &Step) -> Reply
         ensures answers { AnswersStep D.state self.old step.now result self.new }

@@ -22,7 +22,7 @@ fn head(version: ImageVersion, groups: u16, tasks: u16) -> ImageHead {
     }
 }
 
-/// What is read as groups and tasks, and what is behind them.
+/// What is read as groups and tasks, and what comes after them.
 fn read<'a>(
     rt: &impl Abort,
     alloc: Global,
@@ -36,7 +36,7 @@ fn read<'a>(
     }
 }
 
-/// How many groups and tasks are read, and how many bytes are behind them.
+/// How many groups and tasks are read, and how many bytes come after them.
 type Counts = Result<(usize, usize, usize), Fault>;
 
 fn counts(
@@ -67,7 +67,7 @@ fn is_written(rt: &impl Abort, alloc: Global, groups: &Groups, bytes: &[u8]) -> 
     end == bytes.len() && out.starts_with(bytes) && out.get(end).unwrap_or(&0xEE) == &0xEE
 }
 
-/// The groups of these rows in version 2, behind which nothing is left.
+/// The groups of these rows in version 2, after which nothing is left.
 fn restored(
     rt: &impl Abort,
     alloc: Global,
@@ -174,7 +174,7 @@ const BAD_GROUPS: &[Rows] = &[
     ),
 ];
 
-/// Tasks that break a rule, behind a bare group without limit.
+/// Tasks that break a rule, after a bare group without limit.
 const BAD_TASKS: &[Rows] = &[
     ("a row too few", (1, 1), b"\x01g\x00\x00\x01\xff\x00\x00"),
     (
@@ -308,7 +308,7 @@ static TABLES: [(ImageVersion, bool, &[Rows]); 6] = [
     (ImageVersion::One, false, LINKED),
 ];
 
-/// Asserts that all groups and tasks of each row are read, with nothing behind them, or that each
+/// Asserts that all groups and tasks of each row are read, with nothing after them, or that each
 /// row is refused.
 fn assert_rows(rt: &impl Abort, alloc: Global, version: ImageVersion, kept: bool, table: &[Rows]) {
     for (row, (what, (groups, tasks), bytes)) in table.iter().enumerate() {
@@ -327,7 +327,7 @@ fn rows_that_keep_the_rules_alone_are_read(rt: HostRuntime) {
     }
 }
 
-/// Appends pieces, one behind the other.
+/// Appends pieces, one after the other.
 fn push_all(rt: &impl Abort, rows: &mut Vec<u8>, pieces: &[&[u8]]) {
     for piece in pieces.iter() {
         done(rt, rows.extend_from_slice(piece), "memory");
@@ -357,7 +357,7 @@ const FAILURE: &[&[u8]] = &[
     TEXT,
 ];
 
-/// What stands behind the name in a row of a bare group with an error.
+/// What stands after the name in a row of a bare group with an error.
 const ERROR: &[&[u8]] = &[b"\x00\x00\x01\xff\x00\x40", TEXT];
 
 /// The rows of 128 bare groups with an error, of 103 bytes each, and of so many tasks of them in
@@ -423,7 +423,7 @@ fn rows_of_tasks(rt: &impl Abort, alloc: Global, tasks: u16) -> Vec<u8> {
     rows
 }
 
-/// What stands behind the name in a row of a bare group.
+/// What stands after the name in a row of a bare group.
 const BARE: &[&[u8]] = &[b"\x00\x00\x01\xff\x00\x00"];
 
 /// The rows of 128 bare groups, and of one more.

@@ -112,7 +112,7 @@ fn groups_admit_refuse_and_fail(rt: HostRuntime) {
     play_all(&rt, rt.alloc(), Layout::Small, &ERRORS);
 }
 
-/// Behind a restart.
+/// After a restart.
 static RESTARTS: [Story; 5] = [
     // The first running task is of group b, the second of group a. Group c is bare, and group d has
     // an error.

@@ -64,7 +64,7 @@ static REFUSED_GROUPS: [Step; 7] = [
         (Group(b"b0001", b"root"), Refusal::NameTaken),
         (Group(b"both", b"root"), Refusal::NameTaken),
     ]),
-    // No room for a scope: it is told behind the parent and either name.
+    // No room for a scope: it is told after the parent and either name.
     Fills(Fill::Scopes(2, 1_023)),
     Refuses(&[
         (Group(b"new", b"no"), Refusal::NoSuchScope),

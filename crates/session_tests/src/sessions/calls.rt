@@ -16,7 +16,7 @@ pub fn reply<A: Allocator>(rt: &impl Abort, session: &mut Session<A>, call: Call
     }
 }
 
-/// The first call of a table that is answered otherwise. None behind it is made.
+/// The first call of a table that is answered otherwise. None after it is made.
 pub fn first_unlike<A: Allocator>(
     rt: &impl Abort,
     session: &mut Session<A>,

@@ -90,7 +90,7 @@ pub fn has_value<A: Allocator>(
     found.as_ref().map(|text| text.as_bytes()) == value
 }
 
-/// The first event that the history gives in place of one of these, or behind them.
+/// The first event that the history gives in place of one of these, or after them.
 pub fn first_event_unlike<A: Allocator>(
     session: &Session<A>,
     expected: &[EventView<'static>],

@@ -1,4 +1,4 @@
-//! Sessions that begin behind a restart: what was running is interrupted, and can be retried once.
+//! Sessions that begin after a restart: what was running is interrupted, and can be retried once.
 
 use crate::asserts::{done, holds};
 use crate::sessions::steps::Step::{Count, Records, Refuses, Running, Says, Scopes, Task, Tasks};
@@ -33,7 +33,7 @@ fn start(state: &mut State) -> Result<u16, Refusal> {
     Ok(task)
 }
 
-/// A session that begins behind a restart of a state.
+/// A session that begins after a restart of a state.
 fn restarted(rt: &impl Abort, alloc: Global, mut state: State) -> Session {
     assert!(rt; state.count() < 1_000);
     state.restart();
@@ -41,7 +41,7 @@ fn restarted(rt: &impl Abort, alloc: Global, mut state: State) -> Session {
     done(rt, Session::begin(alloc, state), "session")
 }
 
-/// A session that begins behind a restart of a state, which these commands and so many starts led
+/// A session that begins after a restart of a state, which these commands and so many starts led
 /// to. The tasks start in the order of their numbers.
 fn begun(rt: &impl Abort, alloc: Global, layout: Layout, calls: &[Call], starts: u16) -> Session {
     let mut state = done(rt, State::new(alloc, layout), "state");

@@ -1,4 +1,4 @@
-//! Tests as tables of steps: calls with what they are answered, and what a session shows behind
+//! Tests as tables of steps: calls with what they are answered, and what a session shows after
 //! them.
 
 use crate::asserts::done;

@@ -1,4 +1,4 @@
-//! The worked examples: steps, and what the scopes answer behind them.
+//! The worked examples: steps, and what the scopes answer after them.
 
 use crate::runners::Runner;
 use crate::trees::steps::Answer::{Canceled, Exceeded, Live, Value};
@@ -8,7 +8,7 @@ use run_model::{Layout, Refusal};
 use std::alloc::Global;
 use std::process::Abort;
 
-/// What is shown, steps, steps that are refused behind them, and the answers in the end.
+/// What is shown, steps, steps that are refused after them, and the answers in the end.
 type Example = (
     &'static str,
     &'static [Step],

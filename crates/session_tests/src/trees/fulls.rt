@@ -210,7 +210,7 @@ fn bytes_of_a_tree(rt: &impl Abort, alloc: Global, layout: Layout) -> usize {
     ample.used()
 }
 
-/// Steps of each kind, and what scope 3 answers behind them.
+/// Steps of each kind, and what scope 3 answers after them.
 static STEPS: [Step; 7] = [
     Derive(b"group", 0, Ask::Group),
     Derive(b"value", 1, Ask::Value(b"k", b"x")),

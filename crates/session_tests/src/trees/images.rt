@@ -14,7 +14,7 @@ const IMAGE: &[u8; 57] = b"\x02\x00\x00\x00\x00\x00\x00\x00\x00\x00\x00\x00\x00\
     \x00\x02\x00\x00\x00\x00\x01a\x00\x00\x02\x01\x00\x00\x00\x00\x00\x00\x00\x04\x00\x00\x00\x00\
     \x00\x00\x00\x00\x01\x04disk\x01b\x00\x01\x01\x00";
 
-/// The head of an image with so many scopes, at clock 200 and behind ten events.
+/// The head of an image with so many scopes, at clock 200 and after ten events.
 fn head(scopes: u16) -> ImageHead {
     ImageHead {
         version: ImageVersion::Two,
@@ -26,7 +26,7 @@ fn head(scopes: u16) -> ImageHead {
     }
 }
 
-/// What is read as so many scopes' rows, and what is behind them.
+/// What is read as so many scopes' rows, and what comes after them.
 fn read<'a>(
     rt: &impl Abort,
     alloc: Global,
@@ -40,7 +40,7 @@ fn read<'a>(
     }
 }
 
-/// A tree of these rows, behind which nothing is left.
+/// A tree of these rows, after which nothing is left.
 fn restored(rt: &impl Abort, alloc: Global, layout: Layout, head: &ImageHead, rows: &[u8]) -> Tree {
     let (tree, rest) = done(rt, read(rt, alloc, layout, head, rows), "tree");
     holds_in(
@@ -53,7 +53,7 @@ fn restored(rt: &impl Abort, alloc: Global, layout: Layout, head: &ImageHead, ro
     tree
 }
 
-/// Writes the rows of a tree behind so many bytes, and gives the end.
+/// Writes the rows of a tree after so many bytes, and gives the end.
 fn write(rt: &impl Abort, tree: &Tree, out: &mut [u8], at: usize) -> usize {
     let room = out.len().saturating_sub(at);
     assert!(rt; at <= out.len() && 192 * tree.len().saturating_sub(1) <= room);
@@ -96,8 +96,8 @@ fn image_of_57_bytes(rt: HostRuntime) {
     }
 }
 
-/// How many scopes are read where the head tells so many, at clock 200 and behind ten events, and
-/// how many bytes are behind them.
+/// How many scopes are read where the head tells so many, at clock 200 and after ten events, and
+/// how many bytes come after them.
 fn counts(
     rt: &impl Abort,
     alloc: Global,
@@ -248,7 +248,7 @@ fn rows_that_break_a_rule_are_refused(rt: HostRuntime) {
     }
 }
 
-/// What stands behind the name in a row with every field of the greatest length: a deadline scope
+/// What stands after the name in a row with every field of the greatest length: a deadline scope
 /// that was exceeded, without its two causes.
 const PARENT_AND_KIND: &[u8] = b"\x00\x00\x03\x00\x00\x00\x00\x00\x00\x00\x00\x40";
 
@@ -261,7 +261,7 @@ const TEXT: &[u8] = &[b'x'; 64];
 
 const REST: &[u8] = &[b'x'; 28];
 
-/// Appends pieces, one behind the other.
+/// Appends pieces, one after the other.
 fn push_all(rows: &mut Vec<u8>, pieces: &[&[u8]]) -> Result<(), AllocError> {
     for piece in pieces.iter() {
         rows.extend_from_slice(piece)?;

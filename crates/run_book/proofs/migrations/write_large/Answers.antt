@@ -6,8 +6,8 @@ use Rattle.record_view.specs.Keeping.{IsImage}
 use Rattle.run_book.proofs.Migrating.{large_failed, large_written}
 use Rattle.run_book.proofs.migrations.write_large.Goals as goal
 
--- `format` is handed the image behind the journal's head. It was written as an image of the state's
--- layout, which is the small one.
+-- `format` is handed the image that stands after the journal's head. It was written as an image of
+-- the state's layout, which is the small one.
 pub returns-in-Ok-clause-written : goal.returns-in-Ok-clause-written
 returns-in-Ok-clause-written g c =
     let state = g.E.RunDisk.state in

@@ -11,7 +11,7 @@ format-requires-clause-whole g c = (
       c.fill_renewed-count.ensures.most (c.fill_renewed-count.ensures.size ∙ c.requires.room),
 )
 
--- `format` is handed the image behind the journal's head.
+-- `format` is handed the image that stands after the journal's head.
 pub returns-clause-written : goal.returns-clause-written
 returns-clause-written g c =
     let state = g.E.RunDisk.state in
