@@ -4,8 +4,8 @@
 //! and walked in a row with others, each exactly by the grammar. What is kept of a view is copied
 //! by [`copies`]. No call takes memory. The grammar of records stands in `Spelling.antt` of
 //! `run_model/specs/`, by the cases of the event, and that of rows in `specs/Image.antt`, both
-//! apart from the code. The laws of the first are the contracts of [`laws`], those of the rows of an
-//! image's work of [`works`].
+//! apart from the code. The laws of the first are the contracts of [`laws`]; those of the rows of
+//! the work in an image are the contracts of [`works`].
 #![tactic(auto)]
 
 mod bodies;

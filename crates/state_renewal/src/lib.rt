@@ -1,11 +1,10 @@
 //! A renewed state: what goes on of a state when all that is finished goes, and its laws.
 //!
-//! Each function of [`examples`], [`images`], [`renewals`], [`laws`] and [`days`] has an empty body,
-//! and its clauses are the law or the example. They speak of the definitions of `run_model` and of
-//! this crate alone. [`laws`] say that the store that was renewed and the one that wasn't go on
-//! alike.
+//! Each function of [`examples`], [`images`], [`renewals`], [`laws`] and [`days`] has an empty
+//! body, and its clauses are the law or the example. They speak of the definitions of `run_model`
+//! and of this crate alone. By [`laws`] the renewed store and the one that wasn't go on alike.
 //!
-//! The code that renews stands after the laws: [`marks`] are flags of the rows that are kept, with
+//! The code that renews stands beside the laws: [`marks`] are flags of the rows that are kept, with
 //! their new numbers; [`flags`] says which rows those are; and [`rows`] puts them, told anew, into
 //! an image.
 #![tactic(auto)]
