@@ -11,19 +11,14 @@
 #![tactic(auto)]
 
 mod clock;
-mod complaints;
-mod contents;
-mod disks;
-mod marks;
-mod system;
 
 use crate::clock::SystemClock;
-use crate::system::{Complaints, SystemFiles};
 use night_program::{CopyJob, FailJob, SpinJob, night};
 use night_words::own_words;
 use run_crew::Job;
 use std::process::ExitCode;
 use std::thread::Builder;
+use system_files::{Complaints, SystemFiles};
 
 /// The most workers that the words can ask for.
 const MOST_WORKERS: usize = 8;

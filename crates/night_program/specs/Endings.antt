@@ -18,7 +18,7 @@ use Rattle.night_program.specs.declared.failures.Failure.{Failure}
 use Rattle.night_program.specs.declared.failures.FileFailure.{FileFailure}
 use Rattle.night_program.specs.declared.known.UnknownJob.{UnknownJob}
 use Rattle.night_program.specs.Failures.{name_text}
-use Rattle.night_program.specs.Reasons.{reason_text}
+use Rattle.store_files.specs.Reasons.{reason_text}
 
 -- The exit status where a fault ended the program: want of memory is told from all else.
 abbrev pub fault_status : RunFault → ℕ

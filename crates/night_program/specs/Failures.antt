@@ -14,9 +14,9 @@ use Rattle.night_program.specs.declared.failures.Failure.{Failure}
 use Rattle.night_program.specs.declared.failures.FileFailure.{FileFailure}
 use Rattle.night_program.specs.declared.failures.FileName.{FileName}
 use Rattle.night_program.specs.declared.failures.FileName.TheVariants.{Beside, Own}
-use Rattle.night_program.specs.declared.reasons.Reason.{Reason}
-use Rattle.night_program.specs.declared.reasons.Reason.TheVariants.{InUse, NoMemory}
-use Rattle.night_program.specs.Files.{beside}
+use Rattle.store_files.specs.declared.reasons.Reason.{Reason}
+use Rattle.store_files.specs.declared.reasons.Reason.TheVariants.{InUse, NoMemory}
+use Rattle.store_files.specs.Files.{beside}
 
 -- The name of a file that is told: one that the words have, or that of the file beside it.
 abbrev pub name_text : FileName → List ℕ

@@ -2,13 +2,11 @@ pub mod Crews
 pub mod Demos
 pub mod Endings
 pub mod Failures
-pub mod Files
 pub mod Jobs
 pub mod Known
 pub mod Lasting
 pub mod Looks
 pub mod Programs
-pub mod Reasons
 pub mod Replacements
 pub mod Stores
 pub mod Timed

@@ -14,7 +14,7 @@ use Rattle.night_words.specs.declared.asked.View.{View}
 use Rattle.night_program.specs.declared.endings.Done.{Done}
 use Rattle.night_program.specs.declared.failures.Failure.{Failure}
 use Rattle.night_program.specs.Failures.{AnswersOver, FailsBy, HasNoFile, Names}
-use Rattle.night_program.specs.Files.{FilesView, IsReadTwice}
+use Rattle.store_files.specs.Files.{FilesView, IsReadTwice}
 use Rattle.night_program.specs.Stores.{InspectEnds}
 
 -- A disk in memory begins with the bytes that two readings in a row gave; an honest disk held them.

@@ -24,7 +24,7 @@ use Rattle.night_program.specs.Demos.{DemoEnds, StrictDemoEnds}
 use Rattle.night_program.specs.Endings.{EndsBy, Refuses}
 use Rattle.night_program.specs.Failures.{AnswersAlone, AnswersOver, AnswersStrict, HasNoFile}
 use Rattle.night_program.specs.Failures.{HasNoSize, Names, NamesOne}
-use Rattle.night_program.specs.Files.{FilesView, Holds, HoldsAlone, IsNotMade, IsSettled, Makes}
+use Rattle.store_files.specs.Files.{FilesView, Holds, HoldsAlone, IsNotMade, IsSettled, Makes}
 use Rattle.night_program.specs.Looks.{LookEnds}
 use Rattle.night_program.specs.Replacements.{DoesRenewInPlace}
 use Rattle.night_program.specs.Stores.{FormatEnds, InspectEnds, MigrateEnds, Prints, RenewEnds}

@@ -11,8 +11,8 @@ use Rattle.night_program.specs.declared.failures.Failure.{Failure}
 use Rattle.night_program.specs.declared.renewals.Kept.{Kept}
 use Rattle.night_program.specs.Failures.{AnswersAlone, AnswersOver, FailsBy, HasNoFile, HasNoSize}
 use Rattle.night_program.specs.Failures.{IsUnput, Names, NamesOne}
-use Rattle.night_program.specs.Files.{FilesView, Holds, HoldsAlone, IsKept, IsNotMade, IsReplaced}
-use Rattle.night_program.specs.Files.{IsSettled, Makes, beside}
+use Rattle.store_files.specs.Files.{FilesView, Holds, HoldsAlone, IsKept, IsNotMade, IsReplaced}
+use Rattle.store_files.specs.Files.{IsSettled, Makes, beside}
 use Rattle.night_program.specs.Stores.{Prints, Remakes, sizes_line}
 
 module _ {F D : Type 0} (state : D → DiskState) (seen : FilesView F D) where

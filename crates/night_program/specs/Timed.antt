@@ -8,7 +8,7 @@ use Rattle.timed_input.specs.Timed.{timed_known}
 use Rattle.night_program.specs.declared.endings.Done.{Done}
 use Rattle.night_program.specs.declared.failures.Failure.{Failure}
 use Rattle.night_program.specs.Failures.{AnswersOver, AnswersStrict, HasNoFile, Names}
-use Rattle.night_program.specs.Files.{FilesView, HoldsAlone, IsSettled}
+use Rattle.store_files.specs.Files.{FilesView, HoldsAlone, IsSettled}
 use Rattle.night_program.specs.Stores.{EndsOver, Runs, RunsStrict}
 
 -- The input was run so (Ran), with the time before its lines: the moments that the clock told, from

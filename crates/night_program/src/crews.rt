@@ -7,7 +7,6 @@ ghost use Rattle.night_program.specs.Programs.{DoesCrew};
 
 use crate::endings::Done;
 use crate::failures::{Failure, done_alone, failed_over, no_file};
-use crate::files::{Files, Opened, Why};
 use crate::known::{UnknownJob, unknown_in};
 use console_lines::RunFault;
 use run_console::{Book, crew_over, stopped};
@@ -18,6 +17,7 @@ use std::alloc::Global;
 use std::io::Write;
 use std::sync::Wait;
 use std::thread::Threads;
+use store_files::{Files, Opened, Why};
 
 /// Opens the store in the file of this name, and works off its ready tasks with so many workers,
 /// who take the first of these lists of jobs. `Memory` where there are fewer lists. Where the jobs

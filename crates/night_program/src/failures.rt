@@ -6,14 +6,10 @@ ghost use Rattle.night_program.specs.Failures.{IsNoFile, IsUnput, Names, NamesOn
 ghost use Rattle.night_program.specs.Failures.{fault_of, name_text};
 
 use crate::endings::Done;
-use crate::files::Why;
-use crate::reasons::Reason;
 use console_lines::{RunFault, StrayLine};
 use run_model::{Fault, Trouble};
 use std::fmt;
-
-/// What stands behind a store's name in that of the file beside it.
-pub const BESIDE: &str = ".renewing";
+use store_files::{BESIDE, Reason, Why};
 
 /// The fault that ended what the words asked for, and the call of a file behind it, if one failed.
 #[derive(Drop)]

@@ -2,13 +2,11 @@
 
 ghost use Rattle.std.specs.Prelude.{◌≡◌, IfErr, IfOk, IfSome};
 ghost use Rattle.run_disk.specs.Runs.{OnlyReads};
-ghost use Rattle.night_program.specs.Files.{IsReadTwice};
+ghost use Rattle.store_files.specs.Files.{IsReadTwice};
 ghost use Rattle.night_program.specs.Looks.{IsCopy, IsUnread, LookEnds};
 
 use crate::endings::Done;
 use crate::failures::{Failure, done_over, failed_over, no_file};
-use crate::files::{Files, Opened};
-use crate::reasons::Reason;
 use crate::stores::inspect;
 use night_words::View;
 use run_console::stopped;
@@ -16,6 +14,7 @@ use run_disk::{MemoryDisk, RunDisk};
 use run_model::{Fault, Layout};
 use std::alloc::Global;
 use std::io::Write;
+use store_files::{Files, Opened, Reason};
 
 /// So many readings are made at most.
 const MOST_READINGS: usize = 100;

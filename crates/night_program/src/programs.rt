@@ -3,7 +3,7 @@
 ghost use Rattle.std.specs.Prelude.{◌≡◌, ℕ, false, map, vec_len, IfErr, IfOk, OnErr};
 ghost use Rattle.std.specs.String.{string_bytes};
 ghost use Rattle.night_program.specs.Programs.{Does, DoesFormat, DoesInspect, DoesMigrate};
-ghost use Rattle.night_program.specs.Files.{IsNotMade, Makes};
+ghost use Rattle.store_files.specs.Files.{IsNotMade, Makes};
 ghost use Rattle.night_program.specs.Programs.{DoesRenew, DoesScript, IsLeft, IsRefused, RunsWords};
 ghost use Rattle.night_program.specs.Programs.{asks_crew};
 
@@ -14,10 +14,8 @@ use crate::failures::{
     Failure, FileName, done_alone, done_over, done_over_two, failed_over, no_file, strict_alone,
     strict_over,
 };
-use crate::files::{Files, Made, Opened};
 use crate::looks::look;
 use crate::migrations::migrate;
-use crate::reasons::Reason;
 use crate::renewals::renew;
 use crate::replacements::renew_in_place;
 use crate::stores::{format, inspect, script, script_strict};
@@ -32,6 +30,7 @@ use std::alloc::Global;
 use std::io::{Read, Write};
 use std::sync::Wait;
 use std::thread::Threads;
+use store_files::{Files, Made, Opened, Reason};
 use timed_input::MachineTime;
 
 /// Does what the words ask for, the program's own name first. They come as the system gave them, or

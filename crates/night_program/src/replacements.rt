@@ -3,17 +3,14 @@
 
 ghost use Rattle.std.specs.Prelude.{◌≡◌, IfOk, OnErr, OnOk};
 ghost use Rattle.std.specs.String.{string_bytes};
-ghost use Rattle.night_program.specs.Files.{IsReplaced, IsSettled, beside};
+ghost use Rattle.store_files.specs.Files.{IsReplaced, IsSettled, beside};
 ghost use Rattle.night_program.specs.Replacements.{DoesRenewInPlace, EndsInPlace, IsNotPut};
 ghost use Rattle.night_program.specs.Replacements.{LacksBeside, MakesBeside};
 
 use crate::endings::Done;
 use crate::failures::{
-    BESIDE, Failure, FileName, done_alone, done_over, done_over_two, failed_over, no_file, not_had,
-    not_put,
+    Failure, FileName, done_alone, done_over, done_over_two, failed_over, no_file, not_had, not_put,
 };
-use crate::files::{Files, Made, Opened};
-use crate::reasons::Reason;
 use crate::renewals::{print_sizes, remake};
 use console_lines::RunFault;
 use run_console::stopped;
@@ -21,6 +18,7 @@ use run_disk::RunDisk;
 use run_model::{Fault, Layout};
 use std::alloc::{AllocError, Global};
 use std::io::Write;
+use store_files::{BESIDE, Files, Made, Opened, Reason};
 
 /// Has the store in the file of this name for this program alone, makes a store of the same size
 /// beside it, of what isn't finished in it, puts that in its place, and prints how much is left.

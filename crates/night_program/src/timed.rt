@@ -8,12 +8,12 @@ ghost use Rattle.night_program.specs.Timed.{DoesTimed, RunsTimed, StrictTimedEnd
 
 use crate::endings::Done;
 use crate::failures::{Failure, done_over, no_file, strict_over};
-use crate::files::{Files, Opened};
 use console_lines::{RunFault, StrayLine};
 use run_console::{Book, run, run_strict, stopped};
 use run_disk::RunDisk;
 use std::alloc::Global;
 use std::io::{Read, Write};
+use store_files::{Files, Opened};
 use timed_input::{MachineTime, TimedInput};
 
 /// Opens the store in the file of this name, and runs the input over it with the time before its

@@ -2,12 +2,12 @@
 
 ghost use Rattle.std.specs.Prelude.{◌≡◌, ℕ, List, ⊤, IfOk};
 ghost use Rattle.run_journal.specs.Pairs.{AreZeros};
-ghost use Rattle.night_program.specs.Files.{FilesView, IsSettled};
+ghost use Rattle.store_files.specs.Files.{FilesView, IsSettled};
 
 use arrayvec::ArrayString;
-use night_program::{Files, Made, Opened, Reason, Why};
 use run_disk::{DiskFailed, Fuse, MemoryDisk, RunDisk, Torn};
 use std::alloc::Global;
+use store_files::{Files, Made, Opened, Reason, Why};
 
 /// One file in memory. An opening gives a copy of it, and a file that is made anew isn't kept,
 /// unless it is put in its place.

@@ -1,5 +1,5 @@
 use Rattle.run_disk.specs.Runs.{OnlyReads}
-use Rattle.night_program.specs.Files.{IsRead}
+use Rattle.store_files.specs.Files.{IsRead}
 use Rattle.night_program.proofs.looks.steady_bytes.Given as goal
 
 -- The bytes of the last reading; and readings change nothing of an honest disk.

@@ -4,10 +4,13 @@ ghost use Rattle.std.specs.Prelude.{◌≡◌, ◌⊎◌, ◌+◌, ℕ, List, le
 ghost use Rattle.std.specs.Prelude.{IfOk, OnErr, OnOk};
 ghost use Rattle.run_disk.specs.Calls.{Calls, Reads};
 ghost use Rattle.run_journal.specs.Pairs.{AreZeros};
-ghost use Rattle.night_program.specs.Files.{FilesView, IsKept, IsReplaced, IsSettled};
+ghost use Rattle.store_files.specs.Files.{FilesView, IsKept, IsReplaced, IsSettled};
 
 use crate::reasons::Reason;
 use run_disk::{DiskFailed, RunDisk};
+
+/// What stands after a store's name in that of the file beside it.
+pub const BESIDE: &str = ".renewing";
 
 /// Tells why calls of a file failed, also once its disk is gone.
 pub trait Why {

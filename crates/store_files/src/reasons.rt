@@ -1,7 +1,7 @@
 //! A [`Reason`] is why a file isn't had, or why a call of it failed.
 
 ghost use Rattle.std.specs.Prelude.{Some};
-ghost use Rattle.night_program.specs.Reasons.{reason_text};
+ghost use Rattle.store_files.specs.Reasons.{reason_text};
 
 use arrayvec::ArrayString;
 use std::fmt::Write;

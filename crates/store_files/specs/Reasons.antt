@@ -1,9 +1,9 @@
 -- Why a file isn't had, or why a call of it failed, as it is printed.
 use Rattle.std.specs.Prelude.{ℕ, List, codes}
-use Rattle.night_program.specs.declared.reasons.Reason.{Reason}
-use Rattle.night_program.specs.declared.reasons.Reason.TheVariants.{EndedEarly, InUse, NoMemory}
-use Rattle.night_program.specs.declared.reasons.Reason.TheVariants.{NotAFile, OtherName, Said}
-use Rattle.night_program.specs.declared.reasons.Reason.TheVariants.{Unsynced}
+use Rattle.store_files.specs.declared.reasons.Reason.{Reason}
+use Rattle.store_files.specs.declared.reasons.Reason.TheVariants.{EndedEarly, InUse, NoMemory}
+use Rattle.store_files.specs.declared.reasons.Reason.TheVariants.{NotAFile, OtherName, Said}
+use Rattle.store_files.specs.declared.reasons.Reason.TheVariants.{Unsynced}
 
 -- What is printed of a reason: of the system's its own text.
 abbrev pub reason_text : Reason → List ℕ

@@ -1,8 +1,8 @@
 //! A [`Complaint`] is what the system said of the first call of a file that failed.
 
-use night_program::{Reason, Why};
 use std::io;
 use std::sync::atomic::{AtomicI64, Ordering};
+use store_files::{Reason, Why};
 
 /// No call failed.
 const NOTHING: i64 = 0;

@@ -1,7 +1,7 @@
 -- Nothing is known of the system's files.
 use Rattle.std.specs.Prelude.{OnErr, OnOk, Result, Ok, Err}
 use Rattle.std.proofs.Common.{inl}
-use Rattle.night.proofs.system.SystemFilesFiles.replace.Goals as goal
+use Rattle.system_files.proofs.system.SystemFilesFiles.replace.Goals as goal
 
 on_ok : {T E P : Type 0} (r : Result T E) → P → OnOk r P
 on_ok (Ok done) p = p

@@ -1,13 +1,12 @@
 //! The system's files, as those that hold stores.
 
 ghost use Rattle.std.specs.Prelude.{◌≡◌, ⊤, IfOk};
-ghost use Rattle.night_program.specs.Files.{FilesView};
+ghost use Rattle.store_files.specs.Files.{FilesView};
 
 use crate::complaints::Complaint;
 use crate::contents::{copy, fill};
 use crate::disks::{Inode, SystemDisk};
 use crate::marks::Mark;
-use night_program::{BESIDE, Files, Made, Opened, Reason};
 use run_disk::{DiskFailed, FileDisk, RunDisk};
 use std::alloc::{AllocError, Global};
 use std::fs::{File, Metadata, OpenOptions, TryLockError};
@@ -15,6 +14,7 @@ use std::os::unix::fs::{MetadataExt, OpenOptionsExt, fchown};
 use std::path::{Path, PathBuf};
 use std::time::{Clock, Duration};
 use std::{fs, io, thread};
+use store_files::{BESIDE, Files, Made, Opened, Reason};
 
 /// The file that takes everything, and is empty.
 const NULL: &str = "/dev/null";

@@ -1,0 +1,13 @@
+//! The system's files as those that hold stores: locks, syncs, marks of failed syncs, and the file
+//! beside a store that is put in its place.
+#![tactic(auto)]
+
+mod complaints;
+mod contents;
+mod disks;
+mod marks;
+mod system;
+
+pub use complaints::Complaint;
+pub use disks::SystemDisk;
+pub use system::{Complaints, SystemFiles};
