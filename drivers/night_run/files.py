@@ -43,9 +43,24 @@ class Files:
         self.out, self.log = f"{self.path}.out", f"{self.path}.log"
         self.pids, self.lock = f"{self.path}.pids", f"{self.path}.lock"
         self.cancel, self.ended = f"{self.path}.cancel", f"{self.path}.ended"
+        self.seen: tuple[int, int] | None = None
 
     def exists(self) -> bool:
         return os.path.exists(self.path)
+
+    def keep_in_sight(self) -> None:
+        """From now on the store is the file that has its name at this moment."""
+        found = os.stat(self.path)
+        self.seen = found.st_dev, found.st_ino
+
+    def missing(self) -> str:
+        """Why the store isn't in its place any more; empty while it is."""
+        try:
+            found = os.stat(self.path)
+        except OSError as error:
+            return error.strerror
+        return "" if self.seen in (None, (found.st_dev, found.st_ino)) \
+            else "another file has its name"
 
     def output(self, group: str, key: str, tried: int) -> str:
         return f"{self.out}/{group}.{key}.{tried}"
