@@ -234,7 +234,7 @@ def cancel(files: Files, group: str, *words: str) -> int:
 
 def cancelled(files: Files, group: str, why: str) -> str:
     """How the scope of a group is, once it is cancelled."""
-    if files.take(patience=0):
+    if files.take_for_cancel():
         return cancel_alone(files, group, why)
     request = cancels.ask(files, base_of(group), why)
     end = time.monotonic() + CANCEL_SECONDS
@@ -245,7 +245,7 @@ def cancelled(files: Files, group: str, why: str) -> str:
                 raise Mistake(f"{files.shown} has no group {group}")
             if answer:
                 return answer
-            if files.take(patience=0):
+            if files.take_for_cancel():
                 # (its driver has ended)
                 return cancel_alone(files, group, why)
             time.sleep(0.05)
