@@ -156,7 +156,7 @@ class Night:
     def wait_for_moment(self, driver: subprocess.Popen[str]) -> None:
         """Waits until some commands more have told something, or a time."""
         most = 2 if self.plan.is_brief else 2 * len(self.plan.commands)
-        size = self.room.told_size() + 75 * self.dice.randint(1, most)
+        size = self.room.told_size() + 90 * self.dice.randint(1, most)
         if self.dice.random() < 0.35 and not self.plan.is_brief:
             end, size = time.monotonic() + self.dice.uniform(0, 1.5), 1 << 60
         else:
