@@ -76,9 +76,11 @@ class Run:
 
 @dataclass(frozen=True)
 class Cancel:
-    """A cancel from a second process; `written` is when its request was seen beside the store."""
+    """A cancel from a second process, of these groups; `written` is when its request was seen
+    beside the store."""
 
     group: str
+    groups: tuple[str, ...]
     asked: float
     done: float
     status: int
@@ -218,9 +220,9 @@ def cancels_obeyed(seen: Seen) -> Iterator[str]:
             continue
         end = next((run.began for run in seen.runs if run.is_first_of and run.began > it.done),
                    float("inf"))
-        first = it.done + seen.slack(it.asked, it.done)
-        late = [one for one in seen.all_tries() if first < started(seen, one) < end
-                and it.group in ("night", seen.plan.commands[one.key].group)]
+        # (a start is acked before the cancel or never, so this holds however slow the machine is)
+        late = [one for one in seen.all_tries() if it.done < started(seen, one) < end
+                and seen.plan.commands[one.key].group in it.groups]
         if late:
             yield (f"3: {len(late)} commands of {it.group} began after its cancel, {late[-1].key}"
                    f" {late[-1].began - it.done:.2f} s later")

@@ -194,7 +194,9 @@ class Room:
                                         beside=lambda: self.watch(written))
         done = time.monotonic()
         self.note(f"cancel {group}: status {status} {output.strip()} {told.strip()}")
-        self.seen.cancels.append(Cancel(group, asked, done, status, had and had_driver(),
+        # (a group that comes into the file later isn't canceled with the night)
+        groups = tuple(self.plan.groups) if group == "night" else (group,)
+        self.seen.cancels.append(Cancel(group, groups, asked, done, status, had and had_driver(),
                                         *written))
 
     def watch(self, written: list[float]) -> None:
