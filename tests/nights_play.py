@@ -296,7 +296,8 @@ class Night:
 
     def is_here(self, pid: int) -> bool:
         try:
-            return os.readlink(f"/proc/{pid}/cwd") == self.room.path
+            # (a command's shell is in its folder until it has become the command)
+            return f"{os.readlink(f'/proc/{pid}/cwd')}/".startswith(f"{self.room.path}/")
         except OSError:
             return False
 
