@@ -451,17 +451,18 @@ class Night:
         self.compare(status, output)
 
     def goes_on_later(self) -> None:
-        """A clock that was once ahead doesn't make a later deadline pass."""
-        it = Command("later", f"z{len(self.plan.commands)}")
+        """A clock that was once ahead doesn't make a later deadline pass. (The group is a new one:
+        that of the last night may have been made while the clock was behind.)"""
+        it = Command(f"later-{len(self.plan.commands)}", f"z{len(self.plan.commands)}")
         self.plan.commands[it.key] = it
-        self.plan.groups.setdefault("later", Group("later"))
-        text = self.room.text("JOBS")
-        is_new = "later: within" not in text
-        self.room.write("JOBS", text + ("later: within 1h\n" if is_new else "")
-                        + f"{it.group} {it.key} {it.shell(self.tools.job, self.room.path)}\n")
+        self.plan.groups[it.group] = Group(it.group, within=3600)
+        self.room.write("JOBS", f"{self.room.text('JOBS')}{it.group}: within 1h\n"
+                        f"{it.group} {it.key} {it.shell(self.tools.job, self.room.path)}\n")
         began = time.monotonic()
         status, output = self.room.end(self.room.start(), began, "")
         self.compare(status, output)
+        phase = self.phases().get(it.key)
+        self.room.holds(phase == "ok", f"3: {it.key} is {phase}, an hour before its deadline")
 
 
 def phase_of(told: str) -> str:
