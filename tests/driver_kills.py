@@ -294,12 +294,14 @@ def left_behind(tries: Shared) -> None:
 
 
 def faults(tries: Shared) -> None:
-    room = Room(tries, [job("g", "a", 8), job("g", "b", 0)])
+    room = Room(tries, ["g a echo g.a >> begun; until [ -e go ]; do sleep 0.1; done",
+                        job("g", "b", 0)])
     run = room.start("s", "JOBS", "-j", "1")
     room.until(lambda: room.lines("begun"))
     tries.is_same("a second driver", room.path,
                   (room.run(errors="errors2"), room.text("errors2")),
                   ((3, ""), "night-run: s: in use by another night-run\n"))
+    room.write("go", "")
     room.ended(run)
     found = room.run("s", "--cancel", "g", "too", "late"), room.run("s", "--cancel", "h")
     tries.is_same("a cancel without a driver", room.path, found, (
