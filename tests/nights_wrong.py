@@ -13,7 +13,10 @@ from dataclasses import dataclass, replace
 from nights_play import play
 from nights_room import HERE, Tools, copied, workers
 
-# So many nights are played over a wrong driver before it passes, and so many drivers at a time.
+# So many nights are played over a wrong driver before it passes, and so many drivers at a time. A
+# single night may miss what a kill or a deadline has to hit. On a machine with five processes for
+# each processor 15 of 17 were found by their first night, one by the second, one by the thirteenth:
+# it is late, and what must come in time may come later there.
 NIGHTS, BESIDE = 24, 4
 
 # A text of a file, and what stands there instead.
