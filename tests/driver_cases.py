@@ -302,6 +302,20 @@ def clock_ahead(tries: Shared) -> None:
     tries.is_same(f"{kind}: nothing that ended runs again", room.path, room.begun(), {"g.a": 1})
 
 
+def cancel_beside(tries: Shared) -> None:
+    """A cancel that takes its time keeps no night from beginning."""
+    kind = "a slow cancel"
+    room = Room(tries, [job("g", "a"), job("h", "b")])
+    tries.is_same(f"{kind}: a night before", room.path, room.run()[0], 0)
+    room.set([job("g", "a"), job("h", "b"), job("h", "c")])
+    room.write("slow", "")
+    slow = room.program("between", SLOW.format(night=tries.program).replace("sleep 2", "sleep 5"))
+    asking = room.start("s", "--cancel", "g", "why", night=slow, errors="errors2")
+    room.until(lambda: f" {asking.pid} " in room.text("s.lock"))
+    tries.is_same(f"{kind}: the night", room.path, room.last(), (0, "3 commands: 3 ok; 1 run now"))
+    tries.is_same(f"{kind}: it is done", room.path, room.ended(asking, errors="errors2")[0], 0)
+
+
 def other_jobs(tries: Shared) -> None:
     """A wrong file of commands spoils nothing."""
     kind = "a wrong file of commands"
@@ -475,6 +489,6 @@ def order(tries: Shared) -> None:
 
 
 CASES = [short_commands, short_deadline, short_cancel, full_store, night_dies, lists, bad_cancels,
-         held_cancels, late_cancels, two_tries, backgrounds, stopped_ok, no_room, clock_ahead,
-         other_jobs, many_groups, texts, no_traces, hung_night, missing_store, edits,
+         held_cancels, late_cancels, cancel_beside, two_tries, backgrounds, stopped_ok, no_room,
+         clock_ahead, other_jobs, many_groups, texts, no_traces, hung_night, missing_store, edits,
          second_evening, order]

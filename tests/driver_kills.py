@@ -294,12 +294,14 @@ def left_behind(tries: Shared) -> None:
 
 
 def faults(tries: Shared) -> None:
-    room = Room(tries, [job("g", "a", 8), job("g", "b", 0)])
+    room = Room(tries, ["g a echo g.a >> begun; until [ -e go ]; do sleep 0.1; done",
+                        job("g", "b", 0)])
     run = room.start("s", "JOBS", "-j", "1")
     room.until(lambda: room.lines("begun"))
     tries.is_same("a second driver", room.path,
                   (room.run(errors="errors2"), room.text("errors2")),
                   ((3, ""), "night-run: s: in use by another night-run\n"))
+    room.write("go", "")
     room.ended(run)
     found = room.run("s", "--cancel", "g", "too", "late"), room.run("s", "--cancel", "h")
     tries.is_same("a cancel without a driver", room.path, found, (
@@ -343,6 +345,29 @@ def damaged(tries: Shared) -> None:
         status, _ = room.run()
         tries.holds(f"{kind}: no night begins", text, status == 3 and "s.ended" in room.errors,
                     (status, room.errors))
+    room = Room(tries, [job("g", "a"), job("g", "b", 30), job("h", "c"), "h: after g"])
+    run = room.start()
+    room.until(lambda: len(room.lines("s.log")) == 2 and len(room.lines("begun")) == 2)
+    hit(run, "all")
+    room.ended(run)
+    room.settle()
+    room.write("s.ended", "events 1\nh c ok\n")
+    before = room.begun()
+    for make, why in ((os.mkdir, "it is no regular file"), (os.mkfifo, "it is no regular file"),
+                      (cut_off, "line 2 is not GROUP KEY END")):
+        remove_any(f"{room.path}/s.ended")
+        make(f"{room.path}/s.ended")
+        found = room.run(seconds=40)
+        tries.is_same(f"{kind}: what is known is said", make.__name__, found, (3, (
+            "g b: interrupted\nh c: not known: s.ended can't be read\n"
+            "3 commands: 1 ok, 1 left, 1 not known; 0 run now\n")))
+        tries.holds(f"{kind}: it is named, and why", make.__name__,
+                    room.errors.startswith(f"night-run: s.ended: {why}; "), room.errors)
+        tries.is_same(f"{kind}: nothing is begun", make.__name__, room.begun(), before)
+    room.write("s.ended", "events 1\nh c ok\n")
+    room.set(["g a true", "g b true", "h c true"])
+    tries.is_same(f"{kind}: a whole one again", room.path, room.last(),
+                  (0, "3 commands: 3 ok; 1 run now"))
     room.write("s.ended", "events 99999\n")
     tries.is_same(f"{kind}: that of another store", room.path, (room.run(), room.errors),
                   ((3, ""), "night-run: s.ended is of another store: put it aside\n"))
@@ -359,6 +384,59 @@ def damaged(tries: Shared) -> None:
         os.mkfifo(f"{room.path}/{name}")
         tries.is_same("a pipe beside a store", name, (room.run(seconds=40)[0], room.has("begun")),
                       (3, False))
+
+
+def cut_off(path: str) -> None:
+    with open(path, "w", encoding="ascii") as file:
+        file.write("events 1\nh c\n")
+
+
+def remove_any(path: str) -> None:
+    if os.path.isdir(path):
+        os.rmdir(path)
+    else:
+        os.remove(path)
+
+
+def taken_away(tries: Shared) -> None:
+    """The store's folder goes in the midst of a night: it is said which and why, nothing more is
+    begun or made there, what runs is let to its end, and all that is known is said."""
+    chain = ["g k0: after b", *(f"g k{it}: after k{it - 1}" for it in range(1, 9)),
+             *(job("g", f"k{it}") for it in range(9))]
+    for what in ("removed", "moved", "moved, and back"):
+        kind = f"the store's folder is {what}"
+        room = Room(tries, [job("g", "a", end="; exit 3"), job("g", "b", 4), *chain])
+        os.mkdir(f"{room.path}/n")
+        run = room.start("n/s", "JOBS")
+        room.until(lambda: len(room.lines("n/s.log")) == 2 and len(room.lines("begun")) == 2)
+        os.rename(f"{room.path}/n", f"{room.path}/m")
+        if what == "removed":
+            shutil.rmtree(f"{room.path}/m")
+        told = room.until(lambda: "n/s" in room.text("errors"), 10)
+        tries.holds(f"{kind}: it is said at once", room.path, told and "g.b" not in
+                    room.lines("done"), room.text("errors"))
+        if what == "moved, and back":
+            os.rename(f"{room.path}/m", f"{room.path}/n")
+            status, output = room.ended(run)
+            tries.is_same(f"{kind}: it goes on", room.path, (status, output.splitlines()[-1]),
+                          (1, "11 commands: 10 ok, 1 failed; 11 run now"))
+            continue
+        status, output = room.ended(run)
+        shown = [it for it in output.splitlines() if not it.startswith(" ")]
+        tries.is_same(f"{kind}: what is known", room.path, (status, shown), (3, [
+            "g a: exit 3", *(f"g k{it}: waiting" for it in range(9)),
+            "11 commands: 1 ok, 1 failed, 9 left; 2 run now"]))
+        tries.holds(f"{kind}: it is named, and why", room.path, room.errors.splitlines()[-1] == (
+            "night-run: n/s: No such file or directory: it was taken away in the midst of the"
+            " night"), room.errors)
+        tries.is_same(f"{kind}: nothing more is begun", room.path, room.begun(),
+                      {"g.a": 1, "g.b": 1})
+        tries.is_same(f"{kind}: nothing is made there", room.path, room.has("n"), False)
+        if what == "moved":
+            os.rename(f"{room.path}/m", f"{room.path}/n")
+            tries.is_same(f"{kind}: it has lost nothing", room.path, room.last("n/s", "JOBS"),
+                          (1, "11 commands: 10 ok, 1 failed; 9 run now"))
+            tries.is_same(f"{kind}: each began once", room.path, set(room.begun().values()), {1})
 
 
 def all_canceled(tries: Shared) -> None:
@@ -574,4 +652,4 @@ def parts(tries: Shared, seed: int) -> list[Part]:
         renewals(tries, random.Random(seed), 2 if tries.is_short else 20)
 
     return [random_renewals, random_kills, full_in_the_midst, resumed, left_behind, cuts,
-            night_is_killed, full_session, faults, damaged, all_canceled, old_night]
+            night_is_killed, full_session, faults, damaged, taken_away, all_canceled, old_night]

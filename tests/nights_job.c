@@ -8,7 +8,8 @@
    h one that ignores SIGTERM, d one in a session of its own; - is none. A line is
    `WHAT GROUP KEY PID MICROSECONDS ..` by the monotonic clock:
 
-       B .. PROCESS-GROUP TRIES NIGHT_TRY FOLDER WORD    it begins (its tries so far, with this one)
+       B .. PROCESS-GROUP TRIES NIGHT_TRY FOLDER WORD OUTPUT
+                     it begins (its tries so far, with this one; the name of its standard output)
        E .. STATUS                                       it ends so
        T ..                                              SIGTERM came
        G .. FLAG                                         a process that it leaves begins
@@ -134,10 +135,14 @@ static void leave(char flag) {
 }
 
 static void tell_begin(int many, const char *folder) {
-  char rest[300];
+  char rest[400], output[400] = "";
   const char *number = getenv("NIGHT_TRY"), *word = getenv("WORD");
-  snprintf(rest, sizeof rest, " %d %d %s %s %s", (int)getpgrp(), many,
-           number && *number ? number : "-", *folder ? folder : "/", word && *word ? word : "-");
+  if (readlink("/proc/self/fd/1", output, sizeof output - 1) < 0) _exit(90);
+  /* (of one that was removed the system says so after its name) */
+  output[strcspn(output, " ")] = 0;
+  snprintf(rest, sizeof rest, " %d %d %s %s %s %s", (int)getpgrp(), many,
+           number && *number ? number : "-", *folder ? folder : "/", word && *word ? word : "-",
+           strrchr(output, '/') ? strrchr(output, '/') + 1 : "-");
   tell("B", rest);
 }
 

@@ -36,6 +36,7 @@ class Try:
     number: str
     folder: str
     word: str
+    output: str
     ended: float | None = None
     status: int | None = None
     terms: list[float] = field(default_factory=list)
@@ -75,9 +76,11 @@ class Run:
 
 @dataclass(frozen=True)
 class Cancel:
-    """A cancel from a second process; `written` is when its request was seen beside the store."""
+    """A cancel from a second process, of these groups; `written` is when its request was seen
+    beside the store."""
 
     group: str
+    groups: tuple[str, ...]
     asked: float
     done: float
     status: int
@@ -128,7 +131,7 @@ def read_told(seen: Seen, path: str) -> None:
         at, name = int(moment) / 1e6, (key, int(pid))
         if what == "B":
             by_pid[name] = Try(key, int(pid), int(rest[0]), at, int(rest[1]), rest[2], rest[3],
-                               rest[4])
+                               rest[4], rest[5])
             seen.tries[key].append(by_pid[name])
         elif what == "E":
             by_pid[name].ended, by_pid[name].status = at, int(rest[0])
@@ -164,7 +167,7 @@ def complaints(seen: Seen) -> list[str]:
     """What is not as it must be: the number of the invariant, and what was seen."""
     found = [*starts_acked(seen), *seen.beside]
     for check in (places, cancels_obeyed, deadlines_kept, timeouts_kept, ended_once, stopped_not_ok,
-                  run_twice, ordered, stopped_on_failure, tries_numbered, in_places):
+                  run_twice, ordered, stopped_on_failure, outputs_own, in_places):
         found += check(seen)
     return found
 
@@ -217,9 +220,9 @@ def cancels_obeyed(seen: Seen) -> Iterator[str]:
             continue
         end = next((run.began for run in seen.runs if run.is_first_of and run.began > it.done),
                    float("inf"))
-        first = it.done + seen.slack(it.asked, it.done)
-        late = [one for one in seen.all_tries() if first < started(seen, one) < end
-                and it.group in ("night", seen.plan.commands[one.key].group)]
+        # (a start is acked before the cancel or never, so this holds however slow the machine is)
+        late = [one for one in seen.all_tries() if it.done < started(seen, one) < end
+                and seen.plan.commands[one.key].group in it.groups]
         if late:
             yield (f"3: {len(late)} commands of {it.group} began after its cancel, {late[-1].key}"
                    f" {late[-1].began - it.done:.2f} s later")
@@ -363,14 +366,18 @@ def has_failed(seen: Seen, key: str, since: float, until: float) -> bool:
     return len(ends) > seen.plan.retries_of(key) and all(it.startswith("exit") for it in ends)
 
 
-def tries_numbered(seen: Seen) -> Iterator[str]:
-    """A try has a number of its own, unless its group has a new round, so that it has its own
-    output."""
+def outputs_own(seen: Seen) -> Iterator[str]:
+    """Each try has an output of its own, whose name ends with its number. (Numbers begin anew with
+    a round of the group, which is in that name: another night, a group that was done, a store that
+    was renewed or made anew.)"""
     for key, tries in seen.tries.items():
-        for one, other in zip(tries, tries[1:]):
-            is_same = epoch_of(seen, one.began) == epoch_of(seen, other.began)
-            if one.number != "-" and is_same and int(one.number) >= int(other.number):
-                yield f"5: {key} has two tries of number {other.number}"
+        had: set[str] = set()
+        for it in tries:
+            if it.output in had:
+                yield f"5: {key} has two tries with the output {it.output}"
+            if it.number != "-" and it.output.rpartition(f".{key}.")[2] != it.number:
+                yield f"5: {key}: the output of try {it.number} is {it.output}"
+            had.add(it.output)
 
 
 def in_places(seen: Seen) -> Iterator[str]:

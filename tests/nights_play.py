@@ -156,7 +156,7 @@ class Night:
     def wait_for_moment(self, driver: subprocess.Popen[str]) -> None:
         """Waits until some commands more have told something, or a time."""
         most = 2 if self.plan.is_brief else 2 * len(self.plan.commands)
-        size = self.room.told_size() + 75 * self.dice.randint(1, most)
+        size = self.room.told_size() + 90 * self.dice.randint(1, most)
         if self.dice.random() < 0.35 and not self.plan.is_brief:
             end, size = time.monotonic() + self.dice.uniform(0, 1.5), 1 << 60
         else:
@@ -296,7 +296,8 @@ class Night:
 
     def is_here(self, pid: int) -> bool:
         try:
-            return os.readlink(f"/proc/{pid}/cwd") == self.room.path
+            # (a command's shell is in its folder until it has become the command)
+            return f"{os.readlink(f'/proc/{pid}/cwd')}/".startswith(f"{self.room.path}/")
         except OSError:
             return False
 
@@ -450,17 +451,18 @@ class Night:
         self.compare(status, output)
 
     def goes_on_later(self) -> None:
-        """A clock that was once ahead doesn't make a later deadline pass."""
-        it = Command("later", f"z{len(self.plan.commands)}")
+        """A clock that was once ahead doesn't make a later deadline pass. (The group is a new one:
+        that of the last night may have been made while the clock was behind.)"""
+        it = Command(f"later-{len(self.plan.commands)}", f"z{len(self.plan.commands)}")
         self.plan.commands[it.key] = it
-        self.plan.groups.setdefault("later", Group("later"))
-        text = self.room.text("JOBS")
-        is_new = "later: within" not in text
-        self.room.write("JOBS", text + ("later: within 1h\n" if is_new else "")
-                        + f"{it.group} {it.key} {it.shell(self.tools.job, self.room.path)}\n")
+        self.plan.groups[it.group] = Group(it.group, within=3600)
+        self.room.write("JOBS", f"{self.room.text('JOBS')}{it.group}: within 1h\n"
+                        f"{it.group} {it.key} {it.shell(self.tools.job, self.room.path)}\n")
         began = time.monotonic()
         status, output = self.room.end(self.room.start(), began, "")
         self.compare(status, output)
+        phase = self.phases().get(it.key)
+        self.room.holds(phase == "ok", f"3: {it.key} is {phase}, an hour before its deadline")
 
 
 def phase_of(told: str) -> str:

@@ -1,7 +1,9 @@
 """A folder with a file of commands, a store and drivers over it, and what is done to them."""
 
+import compileall
 import fcntl
 import hashlib
+import multiprocessing
 import os
 import random
 import shutil
@@ -10,6 +12,7 @@ import subprocess
 import tempfile
 import time
 from collections.abc import Callable
+from concurrent.futures import ProcessPoolExecutor
 from dataclasses import dataclass
 
 from nights_oracle import Cancel, Run, Seen, Stop, read_acked, read_told
@@ -30,7 +33,6 @@ class Tools:
     folder: str
     driver: str
     knows: bool
-    pace: Pace
 
     @property
     def night(self) -> str:
@@ -52,11 +54,35 @@ def make_tools(folder: str, program: str, driver: str) -> Tools:
                                capture_output=True, text=True)
         if built.returncode:
             raise SystemExit(f"nights: cc can't build nights_{source}.c:\n{built.stderr}")
+    driver = copied(driver, f"{folder}/drivers")
     told = subprocess.run([driver, "--help"], capture_output=True, text=True,
                           env={**os.environ, "NIGHT": f"{folder}/night"})
-    pace = Pace()
-    pace.start()
-    return Tools(folder, driver, "--again" in told.stdout, pace)
+    return Tools(folder, driver, "--again" in told.stdout)
+
+
+def copied(driver: str, folder: str, *changes: tuple[str, str, str]) -> str:
+    """A copy of a driver, in which texts of its files are changed. Its modules are compiled: else
+    each start does that, which takes half of its time."""
+    shutil.copytree(os.path.dirname(driver), folder,
+                    ignore=shutil.ignore_patterns("__pycache__"))
+    for name, old, new in changes:
+        with open(f"{folder}/{name}", encoding="utf-8") as file:
+            text = file.read()
+        if text.count(old) != 1:
+            raise ValueError(f"`{old}` stands {text.count(old)} times in {name}")
+        with open(f"{folder}/{name}", "w", encoding="utf-8") as file:
+            file.write(text.replace(old, new))
+    compileall.compile_dir(folder, quiet=1)
+    return f"{folder}/{os.path.basename(driver)}"
+
+
+# How slow the machine is, as each process that plays nights sees it.
+PACE = Pace()
+
+
+def workers(count: int) -> ProcessPoolExecutor:
+    """Processes that play nights."""
+    return ProcessPoolExecutor(count, multiprocessing.get_context("fork"), PACE.start)
 
 
 class Room:
@@ -72,7 +98,7 @@ class Room:
         self.write("JOBS", plan.text(dice, tools.job, self.path))
         self.write("slow", str(plan.slow))
         self.environment = {**os.environ, "NIGHT": tools.night}
-        self.seen = Seen(plan, slack=tools.pace.slack)
+        self.seen = Seen(plan, slack=PACE.slack)
         self.bad: list[str] = []
         self.notes: list[str] = []
         self.bound(plan.most)
@@ -160,7 +186,7 @@ class Room:
                 return driver.communicate(timeout=2)[0]
             except subprocess.TimeoutExpired:
                 now = time.monotonic()
-                if now - began > seconds * (0.5 + self.tools.pace.slack(began, now)):
+                if now - began > seconds * (0.5 + PACE.slack(began, now)):
                     raise
 
     def show_hanging(self, driver: subprocess.Popen[str]) -> None:
@@ -194,7 +220,9 @@ class Room:
                                         beside=lambda: self.watch(written))
         done = time.monotonic()
         self.note(f"cancel {group}: status {status} {output.strip()} {told.strip()}")
-        self.seen.cancels.append(Cancel(group, asked, done, status, had and had_driver(),
+        # (a group that comes into the file later isn't canceled with the night)
+        groups = tuple(self.plan.groups) if group == "night" else (group,)
+        self.seen.cancels.append(Cancel(group, groups, asked, done, status, had and had_driver(),
                                         *written))
 
     def watch(self, written: list[float]) -> None:

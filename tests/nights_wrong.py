@@ -8,21 +8,19 @@ are to find that it doesn't hold. An `old:` stands exactly once in its file.
 import os
 import shutil
 import time
-from concurrent.futures import ThreadPoolExecutor
 from dataclasses import dataclass, replace
 
 from nights_play import play
-from nights_room import HERE, Tools
+from nights_room import HERE, Tools, copied, workers
 
-# So many nights are played over a wrong driver before it passes, and so many drivers at a time.
+# So many nights are played over a wrong driver before it passes, and so many drivers at a time. A
+# single night may miss what a kill or a deadline has to hit. On a machine with five processes for
+# each processor 15 of 17 were found by their first night, one by the second, one by the thirteenth:
+# it is late, and what must come in time may come later there.
 NIGHTS, BESIDE = 24, 4
 
-
-@dataclass(frozen=True)
-class Change:
-    file: str
-    old: str
-    new: str
+# A text of a file, and what stands there instead.
+Change = tuple[str, str, str]
 
 
 @dataclass(frozen=True)
@@ -43,32 +41,17 @@ def read_wrong(path: str) -> Wrong:
             if what in said:
                 said[what] = text
             elif what == "new":
-                changes.append(Change(said["file"], said["old"], text))
+                changes.append((said["file"], said["old"], text))
     name = os.path.basename(path).removesuffix(".edit")
     return Wrong(name, said["breaks"], tuple(said["nights"].split()), tuple(changes))
-
-
-def made(wrong: Wrong, tools: Tools) -> str:
-    """The wrong driver, in a copy of the drivers' folder."""
-    folder = f"{tools.folder}/{wrong.name}"
-    shutil.copytree(os.path.dirname(tools.driver), folder,
-                    ignore=shutil.ignore_patterns("__pycache__"))
-    for it in wrong.changes:
-        path = f"{folder}/{it.file}"
-        with open(path, encoding="utf-8") as file:
-            text = file.read()
-        if text.count(it.old) != 1:
-            raise ValueError(f"`{it.old}` stands {text.count(it.old)} times in {it.file}")
-        with open(path, "w", encoding="utf-8") as file:
-            file.write(text.replace(it.old, it.new))
-    return f"{folder}/{os.path.basename(tools.driver)}"
 
 
 def try_one(wrong: Wrong, tools: Tools) -> bool:
     """Plays nights over a wrong driver until one fails. Whether it was found."""
     began, others = time.monotonic(), list[str]()
     try:
-        wrongly = replace(tools, driver=made(wrong, tools))
+        driver = copied(tools.driver, f"{tools.folder}/{wrong.name}", *wrong.changes)
+        wrongly = replace(tools, driver=driver)
     except (OSError, ValueError) as error:
         print(f"FAILED the wrong driver {wrong.name}: {error}", flush=True)
         return False
@@ -77,7 +60,7 @@ def try_one(wrong: Wrong, tools: Tools) -> bool:
         shutil.rmtree(it.folder, ignore_errors=True)
         why = next((bad for bad in it.bad if bad.startswith(f"{wrong.breaks}: ")), None)
         if why:
-            print(f"found: {wrong.name}: {why.splitlines()[0][:150]};"
+            print(f"found: {wrong.name}, by night {at + 1}: {why.splitlines()[0][:150]};"
                   f" {time.monotonic() - began:.0f} s", flush=True)
             return True
         others += it.bad[:1]
@@ -90,7 +73,7 @@ def try_wrong_drivers(tools: Tools, name: str) -> int:
     folder = f"{HERE}/wrong_drivers"
     every = [read_wrong(f"{folder}/{it}") for it in sorted(os.listdir(folder))
              if it.endswith(".edit") and name in ("every", it.removesuffix(".edit"))]
-    with ThreadPoolExecutor(BESIDE) as pool:
-        found = list(pool.map(lambda it: try_one(it, tools), every))
+    with workers(BESIDE) as pool:
+        found = list(pool.map(try_one, every, [tools] * len(every)))
     print(f"ran: wrong drivers: {len(every)}, {found.count(False)} passed")
     return found.count(False) if every else 1

@@ -1,8 +1,8 @@
 """A store and what lies beside it, under its real path.
 
     STORE            the store
-    STORE.lock       locked by the one driver that may run; which process that is, and how many
-                     bytes the store has
+    STORE.lock       locked by the one driver that may run, or by a cancel; which process that is,
+                     whether it is a cancel, and how many bytes the store has
     STORE.pids       the processes of its commands; locked by the driver, and by each command until
                      it has written its line there (`leftovers`)
     STORE.out/       the output of each task, GROUP.KEY.TRY
@@ -28,10 +28,12 @@ from .telling import note
 
 # Those of a small and of a large store.
 SIZES = 1_572_864, 6_291_456
-# So many seconds another driver's lock is waited for: a cancel has it for a moment.
-PATIENCE = 3.0
+# So many seconds the lock is waited for: while another driver has it, and while a cancel does, as
+# that ends by itself.
+PATIENCE, OF_CANCELS = 3.0, 60.0
 SIZE = re.compile(r"^size ([0-9]+)$", re.M)
 HOLDER = re.compile(r"^process (\S+) ([0-9]+) ([0-9]+)$", re.M)
+A_CANCEL = "a cancel"
 
 
 class Files:
@@ -43,9 +45,24 @@ class Files:
         self.out, self.log = f"{self.path}.out", f"{self.path}.log"
         self.pids, self.lock = f"{self.path}.pids", f"{self.path}.lock"
         self.cancel, self.ended = f"{self.path}.cancel", f"{self.path}.ended"
+        self.seen: tuple[int, int] | None = None
 
     def exists(self) -> bool:
         return os.path.exists(self.path)
+
+    def keep_in_sight(self) -> None:
+        """From now on the store is the file that has its name at this moment."""
+        found = os.stat(self.path)
+        self.seen = found.st_dev, found.st_ino
+
+    def missing(self) -> str:
+        """Why the store isn't in its place any more; empty while it is."""
+        try:
+            found = os.stat(self.path)
+        except OSError as error:
+            return error.strerror
+        return "" if self.seen in (None, (found.st_dev, found.st_ino)) \
+            else "another file has its name"
 
     def output(self, group: str, key: str, tried: int) -> str:
         return f"{self.out}/{group}.{key}.{tried}"
@@ -104,27 +121,41 @@ class Files:
 
     def holder(self) -> Process | None:
         """The driver that runs, as far as its line and the system tell."""
-        found = HOLDER.search(self.said())
+        said = self.said()
+        found = None if A_CANCEL in said.splitlines() else HOLDER.search(said)
         holder = Process(found[1], int(found[2]), int(found[3])) if found else None
         return holder if holder and lives(holder) else None
 
-    def take(self, patience: float = PATIENCE) -> bool:
+    def take(self) -> bool:
         """Takes the store for this driver; False where another one has it."""
         self.own = open_regular(self.lock, os.O_RDWR | os.O_CREAT)
-        end = time.monotonic() + patience
+        began = time.monotonic()
+        driver_since = began  # since when no cancel is seen to have it
         while not try_lock(self.own):
-            if time.monotonic() >= end:
+            now = time.monotonic()
+            if A_CANCEL in self.said().splitlines():
+                driver_since = now
+            if now >= driver_since + PATIENCE or now >= began + OF_CANCELS:
                 os.close(self.own)
                 return False
             time.sleep(0.02)
         self.sign()
         return True
 
-    def sign(self) -> None:
+    def take_for_cancel(self) -> bool:
+        """Takes the store for a cancel, if it is free at this moment."""
+        self.own = open_regular(self.lock, os.O_RDWR | os.O_CREAT)
+        if not try_lock(self.own):
+            os.close(self.own)
+            return False
+        self.sign(f"{A_CANCEL}\n")
+        return True
+
+    def sign(self, as_what: str = "") -> None:
         """Writes who has the lock, and the store's size."""
         it = this_process()
         size = os.stat(self.path).st_size if self.exists() else self.size()
-        text = f"process {it.boot} {it.pid} {it.start}\nsize {size}\n"
+        text = f"process {it.boot} {it.pid} {it.start}\nsize {size}\n{as_what}"
         try:
             os.pwrite(self.own, text.encode(), 0)
             os.ftruncate(self.own, len(text))

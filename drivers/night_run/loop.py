@@ -16,12 +16,13 @@
     and passed over, or the night doesn't begin.
  9. `--list`, `--report` and `--dry-run` write nothing, lock nothing, and tell what is so at one
     moment.
-10. What a night did is said at its end: ran now, ended before, not begun and why. The status is 0
-    only where every command of the file is ok.
+10. What a night did is said at its end, an end by a fault too: ran now, ended before, not begun
+    and why. The status is 0 only where every command of the file is ok.
+11. While the store isn't in its place nothing more is begun, and nothing is made there anew.
 
-1, 2, 3 and 6 are kept by `Driver.round`, 4 by `leftovers` and by `Driver.left`, 5 by
+1, 2, 3, 6 and 11 are kept by `Driver.round`, 4 by `leftovers` and by `Driver.left`, 5 by
 `Command.end` and `facts`, 7 by `Command.poll`, 8 by `cancels`, `log` and `past`, 9 by `views`, 10
-by `summary`.
+by `summary` and `Driver.known`.
 """
 
 from __future__ import annotations
@@ -49,7 +50,7 @@ from .night import (ALREADY_DONE, CLOCK_NOT_FORWARD, FULL, MOST_BUSY, NOTHING_RE
 from .opening import (Maker, StoreFull, advance, ready_state, set_limits, withdraw,
                       withdrawn)
 from .past import Past
-from .plan import may_begin, standings
+from .plan import Standing, may_begin, standings
 from .renewal import renew
 from .settings import OF_ALL
 from .state import ENDED, JOB, State
@@ -115,6 +116,8 @@ class Driver:
         self.is_stale = True
         self.asked_to_end = self.lost = self.busy = 0
         self.is_full = self.cannot_renew = self.is_open = False
+        self.missing = ""  # why the store isn't in its place
+        self.has_looked = False  # whether `facts` are those of the store
         self.is_fruitless = self.is_woken = self.has_mark = False
         self.later: float | None = None
         self.try_again = 0.0
@@ -132,6 +135,9 @@ class Driver:
                     self.open_session()
                     self.work()
                     self.close()
+                    self.look_for_store()
+                    if self.missing:
+                        raise Fault(self.missing)
                     return
                 except SessionFull:
                     with contextlib.suppress(NightEnded):
@@ -146,8 +152,9 @@ class Driver:
 
     def after(self, ended: NightEnded) -> None:
         """Decides whether another run of `night` is begun."""
-        if self.asked_to_end > 1:
-            raise Fault(str(ended))
+        self.look_for_store()
+        if self.asked_to_end > 1 or self.missing:
+            raise Fault(self.missing or str(ended))
         self.files.forget_pages()
         if ended.is_in_use() and not self.is_open and self.busy < MOST_BUSY:
             self.busy += 1
@@ -169,6 +176,7 @@ class Driver:
         self.session = Session(self.files.path, self.wake, self.meanwhile)
         sign_night(self.pids, self.session.it.pid)
         state = ready_state(self.session, self.files, before)
+        self.files.keep_in_sight()
         self.is_open, self.busy, self.opened = True, 0, time.monotonic()
         self.clock, now = state.clock, int(time.time())
         advance(self.session, now)
@@ -218,7 +226,7 @@ class Driver:
                               self.forgiven)
         self.facts.busy = {it.name for it in self.left} | set(self.commands)
         self.has_mark = bool(self.book.top and f"{self.book.top.name}--ended" in state.by_name)
-        self.is_stale = True
+        self.is_stale = self.has_looked = True
         self.ask_why()
 
     def ask_why(self) -> None:
@@ -300,7 +308,7 @@ class Driver:
         self.look_at_room()
 
     def look_at_room(self) -> None:
-        if self.is_full and not self.cannot_renew:
+        if self.is_full and not self.cannot_renew and not self.missing:
             raise StoreFull
 
     # --- a round
@@ -319,6 +327,7 @@ class Driver:
         batch = Batch()
         self.drain()
         self.is_woken = False
+        self.look_for_store()
         self.look_for_leftovers()
         self.add_ends(batch)
         asked = self.add_cancels(batch)
@@ -332,6 +341,18 @@ class Driver:
             self.begin(it)
         self.stop_those_due()
         self.look_at_room()
+
+    def look_for_store(self) -> None:
+        """Sees whether the store is in its place; what is open of it takes ends meanwhile."""
+        why = self.files.missing()
+        if why and not self.missing:
+            tell(f"{self.files.shown}: {why}: it was taken away in the midst of the night; nothing"
+                 " more is begun until it is back")
+        elif self.missing and not why:
+            note(f"{self.files.shown}: it is back")
+            self.is_stale = True
+        self.missing = f"{self.files.shown}: {why}: it was taken away in the midst of the night" \
+            if why else ""
 
     def add_ends(self, batch: Batch) -> None:
         """The ends of commands. They are logged, and their places free, once all is acked."""
@@ -427,7 +448,7 @@ class Driver:
             self.sort_out()
         self.later = None
         places = self.most - len(self.facts.busy)
-        if self.asked_to_end or places <= 0 or self.is_full:
+        if self.asked_to_end or places <= 0 or self.is_full or self.missing:
             return []
         # (another try waits until the end of the one before is durable)
         left = (it for it in map(self.names.__getitem__, self.open) if it not in self.commands)
@@ -523,7 +544,7 @@ class Driver:
         retry = time.monotonic() >= self.try_again
         for command in list(self.commands.values()):
             if not command.has_begun:
-                if self.asked_to_end or command.name[0] in self.facts.done:
+                if self.asked_to_end or self.missing or command.name[0] in self.facts.done:
                     self.drop(command)
                 elif retry:
                     self.begin(command)
@@ -579,7 +600,7 @@ class Driver:
         """Whether something may be begun now or later."""
         if self.is_stale or self.is_woken:
             return True
-        if self.is_full:
+        if self.is_full or self.missing:
             return False
         left = (self.names[it] for it in self.open)
         found = may_begin(self.jobs, self.facts, left, 1, time.time())
@@ -594,14 +615,19 @@ class Driver:
         self.left = self.left if is_asked else []
         while True:
             for it in [it for it in self.commands.values() if it.poll(self.grace)]:
-                del self.commands[it.name]
-                tell(f"{it.name[0]} {it.name[1]}: interrupted")
+                self.facts.ends.pop(it.name, None)  # (whose end isn't acked)
+                self.forget(it)
             self.commands = {name: it for name, it in self.commands.items() if it.has_begun}
             self.left = [it for it in self.left if it.is_there()]
             if not self.commands and not self.left:
                 return
             self.press()
             time.sleep(LINGER)
+
+    def known(self) -> dict[Name, Standing]:
+        """How each command stands by what the driver knows, once it has ended by a fault."""
+        self.facts.busy.clear()
+        return standings(self.jobs, self.facts)
 
     # --- signals and the terminal
 

@@ -69,8 +69,8 @@ def program() -> str:
 
 
 def ran(*words: str, seconds: float = WHOLE_SECONDS) -> str:
-    """What `night` prints for these words. While the store is in use it is tried again, and so is an
-    inspection that a signal ended."""
+    """What `night` prints for these words. While the store is in use it is tried again, and so is
+    an inspection that a signal ended."""
     for busy in range(MOST_BUSY):
         try:
             done = subprocess.run([program(), *words], stdin=subprocess.DEVNULL, text=True,

@@ -46,18 +46,27 @@ class Past:
             yield base_of(it), round_of(it)
 
 
+class Unreadable(Fault):
+    """The file can't be read, or isn't one of its own: nothing says then what had ended, and all
+    would run again."""
+
+    def __init__(self, path: str, why: str) -> None:
+        super().__init__(f"{path}: {why}; nothing is begun: bring back a whole copy of it, or put"
+                         " it aside, and what it alone knows of runs again")
+        self.path = path
+
+
 def read_past(path: str, shown: str) -> Past:
-    """What the file of this path says. A line that is none of its own is a fault: nothing says
-    then what had ended, and all would run again."""
+    """What the file of this path says; Unreadable where a line is none of its own."""
     try:
         lines = read_regular(path).decode("ascii", "replace").split("\n")
     except FileNotFoundError:
         return Past()
     except OSError as error:
-        raise Fault(f"{shown}.ended: {error.strerror}") from None
+        raise Unreadable(f"{shown}.ended", error.strerror) from None
     head = HEAD.fullmatch(lines[0])
     if not head or lines[-1] or int(head[4] or len(lines) - 2) != len(lines) - 2:
-        raise Fault(f"{shown}.ended: it doesn't begin with `events N ..`, or is cut off")
+        raise Unreadable(f"{shown}.ended", "it doesn't begin with `events N ..`, or is cut off")
     past = Past(int(head[1]), int(head[2] or 1), int(head[3] or 1))
     for number, line in enumerate(lines[1:-1], 2):
         if found := LINE.fullmatch(line):
@@ -67,7 +76,7 @@ def read_past(path: str, shown: str) -> Past:
         elif found:
             past.had.append(found[1])
         else:
-            raise Fault(f"{shown}.ended: line {number} is not GROUP KEY END")
+            raise Unreadable(f"{shown}.ended", f"line {number} is not GROUP KEY END")
     return past
 
 

@@ -12,6 +12,8 @@ from .jobs import Job, Jobs
 # How a command stands. The last two are for now.
 OK, FAILED, CANCELLED, NEVER = "ok", "failed", "canceled", "not begun"
 INTERRUPTED, RUNNING, WAITING = "interrupted", "running", "waiting"
+# Where what says it can't be read; in a summary alone.
+NOT_KNOWN = "not known"
 # Those that nothing of this night changes any more.
 FINAL = (OK, FAILED, CANCELLED, NEVER)
 

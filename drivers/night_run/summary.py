@@ -12,21 +12,21 @@ from .commands import SHELL
 from .files import Files
 from .jobs import Jobs
 from .log import Line, Tried, text_of_line
-from .plan import CANCELLED, FAILED, NEVER, OK
+from .plan import CANCELLED, FAILED, NEVER, NOT_KNOWN, OK
 from .telling import tell
 
 # The counts of the last line, in order.
-KINDS = ("ok", "failed", "canceled", "not begun", "left")
+KINDS = ("ok", "failed", "canceled", "not begun", "left", "not known")
 
 
 def kind_of(phase: str) -> str:
-    return phase if phase in (OK, FAILED, CANCELLED, NEVER) else "left"
+    return phase if phase in (OK, FAILED, CANCELLED, NEVER, NOT_KNOWN) else "left"
 
 
 def said(row: rows.Row) -> str:
     """How a command stands, in a line."""
-    if row.phase == NEVER:
-        return f"{NEVER}: {row.end}"
+    if row.phase in (NEVER, NOT_KNOWN):
+        return f"{row.phase}: {row.end}"
     return row.end or row.phase
 
 

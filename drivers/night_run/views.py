@@ -5,7 +5,7 @@ from __future__ import annotations
 import os
 import time
 from collections.abc import Mapping
-from dataclasses import dataclass
+from dataclasses import dataclass, replace
 
 from . import Name, base_of, rows
 from .facts import Book, Facts, book_of, facts_of, numbered
@@ -15,7 +15,7 @@ from .leftovers import running_now
 from .log import Line, Tried, read_log
 from .opening import check, inspected
 from .past import Past, read_past
-from .plan import Standing, standings
+from .plan import NOT_KNOWN, Standing, standings
 from .processes import this_process
 from .settings import OF_ALL
 from .state import State
@@ -80,6 +80,28 @@ def report(files: Files, jobs: Jobs, view: View) -> rows.Report:
     moments = [it.began for one in made for it in one.tries if it.began is not None]
     return rows.Report(files.shown, view.book.night, time.time(), min(moments, default=None),
                        groups(jobs, view), made)
+
+
+def remembered(files: Files, jobs: Jobs, night: int, known: Mapping[Name, Standing],
+               outputs: Mapping[Name, str]) -> rows.Report:
+    """A night as its driver knows it, with no look at the store."""
+    made = []
+    for name, it in known.items():
+        output = outputs.get(name, "")
+        shown = files.shown_output(output) if os.path.exists(output) else ""
+        made.append(rows.Row(*name, jobs.all[name].command, it.phase, it.why, (), shown,
+                             tail(output)))
+    return rows.Report(files.shown, night, time.time(), None, (), tuple(made))
+
+
+def without_past(files: Files, jobs: Jobs, why: str) -> rows.Report:
+    """A night as the store alone has it: of what it says nothing of, nothing is known."""
+    view = look(files, jobs, Past())
+    said = {*view.facts.ends, *view.facts.interrupted, *view.facts.busy}
+    made = report(files, jobs, view)
+    return replace(made, rows=tuple(
+        it if (it.group, it.key) in said else replace(it, phase=NOT_KNOWN, end=why)
+        for it in made.rows))
 
 
 def row(files: Files, view: View, command: str, name: Name,

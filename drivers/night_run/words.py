@@ -7,6 +7,7 @@ done; 1 where a command isn't; 2 where the words or the file have to be changed;
 from __future__ import annotations
 
 import argparse
+import contextlib
 import dataclasses
 import errno
 import json
@@ -24,7 +25,7 @@ from .log import Log
 from .loop import Driver
 from .night import ALREADY_DONE, RENEWAL_SECONDS, NightEnded, Session, program, ran
 from .opening import advance, check, inspected, now_of
-from .past import Past, read_past
+from .past import Past, Unreadable, read_past
 from .plan import CANCELLED, FAILED, may_begin, standings
 from .renewal import make, make_anew, renew
 from .settings import OF_ALL
@@ -33,7 +34,7 @@ from .summary import (alarm, changed, failed_count, failures, is_well, list_line
                       names_not_there, nothing_to_do, total)
 from .telling import note, tell
 from .version import version
-from .views import View, look, report
+from .views import View, look, remembered, report, without_past
 
 HELP = """Runs the shell commands of the file JOBS as tasks of STORE, which it makes where there is
 none. Run again after a stop, of whatever kind, it does what is left of the night; once all has
@@ -233,7 +234,7 @@ def cancel(files: Files, group: str, *words: str) -> int:
 
 def cancelled(files: Files, group: str, why: str) -> str:
     """How the scope of a group is, once it is cancelled."""
-    if files.take(patience=0):
+    if files.take_for_cancel():
         return cancel_alone(files, group, why)
     request = cancels.ask(files, base_of(group), why)
     end = time.monotonic() + CANCEL_SECONDS
@@ -244,7 +245,7 @@ def cancelled(files: Files, group: str, why: str) -> str:
                 raise Mistake(f"{files.shown} has no group {group}")
             if answer:
                 return answer
-            if files.take(patience=0):
+            if files.take_for_cancel():
                 # (its driver has ended)
                 return cancel_alone(files, group, why)
             time.sleep(0.05)
@@ -285,6 +286,7 @@ class Run:
 
     def __init__(self, files: Files, jobs: Jobs, words: argparse.Namespace) -> None:
         self.files, self.jobs, self.words = files, jobs, words
+        self.driver: Driver | None = None
 
     def run(self) -> int:
         if self.words.quiet:
@@ -299,17 +301,37 @@ class Run:
             return self.run_alone()
         except (Fault, NightEnded, OSError) as fault:
             telling.let_go()
+            made = self.known()
+            ran = len(self.driver.ran) if self.driver else 0
+            lines = [*failures(made), total(made, ran)] if made else []
             if self.words.on_failure:
-                text = f"night-run: {fault}\n"
-                alarm(self.words.on_failure, self.files, self.failed_so_far(), text)
+                text = "".join(f"{it}\n" for it in (f"night-run: {fault}", *lines))
+                count = failed_count(made) if made else 0
+                alarm(self.words.on_failure, self.files, max(1, count), text)
+            with contextlib.suppress(NotPrinted):
+                printed(lines)
             raise
 
-    def failed_so_far(self) -> int:
-        """How many commands are known not to be ok, one at least."""
+    def known(self) -> rows.Report | None:
+        """The night after a fault: as the driver knows it, or as the store has it; else None."""
+        driver = self.driver
+        if driver and driver.has_looked:
+            return remembered(self.files, self.jobs, driver.night, driver.known(),
+                              {name: it.output for name, it in driver.ran.items()})
         try:
-            return max(1, failed_count(report(self.files, self.jobs, look(self.files, self.jobs))))
+            return report(self.files, self.jobs, look(self.files, self.jobs)) \
+                if self.files.exists() else None
+        except Unreadable as fault:
+            return self.known_without(fault)
         except (Fault, NightEnded, OSError):
-            return 1
+            return None
+
+    def known_without(self, fault: Unreadable) -> rows.Report | None:
+        """What the store alone says, where the ends that a renewal gave back can't be read."""
+        try:
+            return without_past(self.files, self.jobs, f"{fault.path} can't be read")
+        except (Fault, NightEnded, OSError):
+            return None
 
     def run_alone(self) -> int:
         pids = open_pids(self.files)
@@ -328,6 +350,7 @@ class Run:
         self.log = Log(self.files.log, self.files.shown)
         driver = Driver(self.files, self.jobs, self.log, self.past, pids, left, self.words.most,
                         self.words.grace)
+        self.driver = driver
         if not self.prepare(driver, state):
             return self.idle()
         driver.run()
