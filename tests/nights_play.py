@@ -380,7 +380,10 @@ class Night:
         end = end_between(seen, key, since, now)
         holds = self.room.holds
         holds(phase in ENDED, f"10: {key} is {phase} at the end")
-        holds(phase != "ok" or bool(last and last.is_whole() and end == "ok"),
+        # (an end that a stop kept from being acked may be durable all the same)
+        is_ok = last and last.is_whole() and (end == "ok" or end is None and last.status == 0
+                                              and any(last.began < it.at for it in seen.stops))
+        holds(phase != "ok" or bool(is_ok),
               f"10: {key} is ok, and its last try was {last}, its end {end}")
         holds(end != "ok" or phase == "ok", f"10: {key} had ended ok, and is {phase}")
         if phase == "failed" and last and end and end.startswith("exit "):
