@@ -208,8 +208,9 @@ def places(seen: Seen) -> Iterator[str]:
 def cancels_obeyed(seen: Seen) -> Iterator[str]:
     for it in seen.cancels:
         if it.written is not None:
+            # (that it was written may be seen late, after it was obeyed)
             obeyed = next((at for at, group in seen.canceled
-                           if group == it.group and at > it.written), it.done)
+                           if group == it.group and at > it.asked), it.done)
             begun = starts_in(seen, it.written, obeyed)
             is_slow = obeyed - it.written > PROMPT + seen.slack(it.written, obeyed)
             # (a driver that ends meanwhile has let it wait, too)
