@@ -189,6 +189,19 @@ def next_ones(tries: Shared) -> None:
         tries.is_same("what may be begun", what, [" ".join(it) for it in found], wanted)
 
 
+def retries_wait(tries: Shared) -> None:
+    """A retry waits by the clock, but not for the hours that the clock was set back."""
+    plan = driver_module(tries, "plan")
+    jobs = jobs_of(tries, "g: retries 1 wait 2s\ng a true")
+    facts = driver_module(tries, "facts").Facts()
+    facts.ended(("g", "a"), "exit 3", 1000.0)
+    for now, wanted in ((1000.0, 1002.0), (1001.5, 1002.0), (1002.0, None), (999.0, None),
+                        (-2600.0, None)):
+        found = plan.may_begin(jobs, facts, [("g", "a")], 1, now)
+        tries.is_same("a retry and the clock", now, (len(found.names), found.later),
+                      (0 if wanted else 1, wanted))
+
+
 def mistakes(tries: Shared) -> None:
     """Each mistake is told with file, line and reason."""
     wrong = driver_module(tries, "jobs").Mistake
@@ -219,4 +232,4 @@ def cycles_are_long(tries: Shared) -> None:
     tries.is_same("a long chain", count, found["g", f"k{count - 1}"].phase, "not begun")
 
 
-TABLES = [stand, next_ones, mistakes, moments, cycles_are_long]
+TABLES = [stand, next_ones, retries_wait, mistakes, moments, cycles_are_long]

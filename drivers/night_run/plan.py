@@ -131,8 +131,10 @@ def may_begin(jobs: Jobs, facts: Facts, left: Iterable[Name], places: int, now: 
                 met[it] = is_met(jobs, facts, it)
         if not all(met[it] for it in job.after):
             continue
-        due = facts.failed_at[name] + job.wait if name in facts.ends and job.wait else 0
-        if due > now:
+        failed = facts.failed_at[name] if name in facts.ends and job.wait else 0.0
+        due = failed + job.wait
+        # (a clock that was set back since then tells nothing: it doesn't wait for hours)
+        if failed <= now < due:
             later = due if later is None else min(later, due)
             continue
         names.append(name)
