@@ -95,6 +95,16 @@ sys.stdout.buffer.write(it.stdout.read())
 """
 
 
+# Stands for `night`: the first two formats are killed, with a part of a file made.
+KILLED_FORMAT = """#!/bin/sh
+if [ "$1" = format ]; then
+    echo format >> formats
+    if [ "$(wc -l < formats)" -lt 3 ]; then echo part > "$3"; kill -9 $$; fi
+fi
+exec {night} "$@"
+"""
+
+
 def between(tries: Shared, jobs: list[str], what: str, at: int = 3) -> Room:
     return Room(tries, jobs, BETWEEN.format(night=tries.program, what=what, at=at))
 
@@ -643,6 +653,15 @@ def full_in_the_midst(tries: Shared) -> None:
                   (0, 641))
 
 
+def format_is_killed(tries: Shared) -> None:
+    """A signal ends the format of a new store, twice: it is made all the same."""
+    kind = "a format is killed"
+    room = Room(tries, [job("g", "a")], KILLED_FORMAT.format(night=tries.program))
+    tries.is_same(kind, room.path, room.run(), (0, "1 commands: 1 ok; 1 run now\n"))
+    tries.is_same(f"{kind}: so often", room.path, room.lines("formats"), ["format"] * 3)
+    tries.is_same(f"{kind}: what it left", room.path, room.has("s.making"), False)
+
+
 def parts(tries: Shared, seed: int) -> list[Part]:
     """The parts of these tries, those that take longest first."""
     def random_kills(tries: Shared) -> None:
@@ -652,4 +671,4 @@ def parts(tries: Shared, seed: int) -> list[Part]:
         renewals(tries, random.Random(seed), 2 if tries.is_short else 20)
 
     return [random_renewals, random_kills, full_in_the_midst, resumed, left_behind, cuts,
-            night_is_killed, full_session, faults, damaged, taken_away, all_canceled, old_night]
+            night_is_killed, format_is_killed, full_session, faults, damaged, taken_away, all_canceled, old_night]

@@ -32,6 +32,8 @@ WHOLE_SECONDS = 120.0
 RENEWAL_SECONDS = 300.0
 # So often in a row the store may be in use, a tenth of a second each.
 MOST_BUSY = 100
+# So often a format may be ended by a signal before that is a fault.
+MOST_KILLED = 5
 REFUSED = re.compile(r"refused ([0-9]+) ")
 
 

@@ -18,7 +18,7 @@ from .facts import Book, book_of, facts_of, numbered
 from .files import Files, sync_folder
 from .jobs import Jobs
 from .log import Log, line_of
-from .night import RENEWAL_SECONDS, NightEnded, Session, ran
+from .night import MOST_KILLED, RENEWAL_SECONDS, NightEnded, Session, ran
 from .opening import advance, give_back, inspected, now_of, ready_state
 from .past import Past, write_past
 from .plan import standings
@@ -99,11 +99,22 @@ def rounds_had(book: Book) -> list[str]:
 def make(files: Files) -> None:
     """Makes the store under another name first, so that one that has its name is whole."""
     making = f"{files.path}.making"
-    if os.path.exists(making):
-        os.remove(making)
-    ran("format", "--new", making)
+    format_new(making)
     os.rename(making, files.path)
     sync_folder(files.path)
+
+
+def format_new(path: str) -> None:
+    """Makes a store of a new file; once more where a signal ended that."""
+    for left in reversed(range(MOST_KILLED)):
+        if os.path.exists(path):
+            os.remove(path)
+        try:
+            ran("format", "--new", path)
+            return
+        except NightEnded as ended:
+            if ended.status >= 0 or not left:
+                raise
 
 
 def make_anew(files: Files, log: Log, past: Past, jobs: Jobs, state: State, ahead: int) -> Past:
