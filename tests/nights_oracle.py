@@ -107,6 +107,7 @@ class Seen:
     left: list[Left] = field(default_factory=list)
     beside: list[str] = field(default_factory=list)
     stops: list[Stop] = field(default_factory=list)
+    hits: list[float] = field(default_factory=list)  # after which only a `night` was killed
     runs: list[Run] = field(default_factory=list)
     cancels: list[Cancel] = field(default_factory=list)
     canceled: list[tuple[float, str]] = field(default_factory=list)
@@ -185,8 +186,11 @@ def starts_acked(seen: Seen) -> Iterator[str]:
 # --- 2: a place is free only when its command's end is acked
 
 def places(seen: Seen) -> Iterator[str]:
-    """In each stretch between two stops the commands that began and whose end isn't acked."""
+    """In each stretch between two stops the commands that began and whose end isn't acked. Where
+    only a `night` was killed, an end from before that may be durable, and nobody was told."""
     events: list[tuple[float, int, str]] = [(it.at, 0, "") for it in seen.stops]
+    events += [(at, 1, it.key) for at in seen.hits for it in seen.all_tries()
+               if it.ended is not None and it.ended < at]
     events += [(started(seen, it), 2, it.key) for it in seen.all_tries()]
     events += [(it.at, 1, it.key) for acks in seen.acked.values() for it in acks if it.end]
     live: set[str] = set()

@@ -186,7 +186,9 @@ class Night:
         return False
 
     def stop(self, how: str) -> None:
-        if how != "night":
+        if how == "night":
+            self.room.seen.hits.append(time.monotonic())
+        else:
             self.room.seen.stops.append(Stop(time.monotonic(), how, self.plan.most))
 
     def ask_to_end(self, driver: subprocess.Popen[str], what: str) -> bool:

@@ -237,8 +237,9 @@ class Room:
 
     def look(self) -> Seen:
         """All that is known by now."""
-        seen = Seen(self.plan, stops=list(self.seen.stops), runs=list(self.seen.runs),
-                    cancels=list(self.seen.cancels), slack=self.seen.slack)
+        seen = Seen(self.plan, stops=list(self.seen.stops), hits=list(self.seen.hits),
+                    runs=list(self.seen.runs), cancels=list(self.seen.cancels),
+                    slack=self.seen.slack)
         read_told(seen, f"{self.path}/told")
         read_acked(seen, f"{self.path}/acked")
         return seen
