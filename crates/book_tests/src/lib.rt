@@ -31,6 +31,8 @@ mod migrations;
 #[cfg(test)]
 mod nights;
 #[cfg(test)]
+mod renewals;
+#[cfg(test)]
 mod restarts;
 #[cfg(test)]
 mod rooms;

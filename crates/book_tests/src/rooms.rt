@@ -19,7 +19,7 @@ use test_fixtures::Call::{
 use test_fixtures::{Ask, Call, Said, said_by};
 
 /// How many bytes a state has in memory.
-fn bytes_of_state(rt: &impl Abort, alloc: Global, layout: Layout) -> usize {
+pub fn bytes_of_state(rt: &impl Abort, alloc: Global, layout: Layout) -> usize {
     let heap = heap(rt, alloc, AMPLE);
     let mut disk = formatted(rt, alloc, layout);
     let _state = done(rt, Book::recover(&heap, &mut disk), "store");
@@ -199,7 +199,7 @@ fn asked<D: RunDisk, A: Allocator>(rt: &impl Abort, book: &Book<D, A>) -> ([bool
 }
 
 /// Asserts that each of those steps, and questions after them, leave a heap's bytes in use as
-/// they were, though there are more.
+/// they were, though there are more; and that none is in use once the book is given up.
 fn assert_kept(rt: &impl Abort, alloc: Global, layout: Layout) {
     let heap = heap(rt, alloc, AMPLE);
     let mut book = book_of(rt, &heap, played(rt, alloc, layout, &[&FIRST]));
@@ -212,6 +212,8 @@ fn assert_kept(rt: &impl Abort, alloc: Global, layout: Layout) {
     let found = [true, false, true, true, true, true, true];
     holds(rt, asked(rt, &book) == (found, [5, 3, 4, 1]), "answers", 0);
     holds(rt, heap.used() == used, "bytes behind questions", 0);
+    let disk = book.into_disk();
+    holds(rt, heap.used() == 0, "bytes behind calls", disk.calls());
 }
 
 #[test]

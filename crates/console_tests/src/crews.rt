@@ -44,24 +44,25 @@ impl Job for Plain {
     }
 }
 
-/// Lets each turn pass.
-#[derive(Drop)]
-struct Open;
+/// Lets each turn pass, or none.
+#[derive(Clone, Copy)]
+struct Fixed(bool);
 
-impl Gate for Open {
+impl Gate for Fixed {
     fn before(&self, _task: u16, _turn: u32) -> bool {
-        true
+        self.0
     }
 
     fn finished(&self, _task: u16) {}
 }
 
-/// What a night of so many workers over a disk answers.
-fn worked<D: RunDisk + Drop + Send, W: Write, R: Threads + Wait + Sync>(
+/// What a night of so many workers over a disk answers, at this gate.
+fn worked_at<D: RunDisk + Drop + Send, W: Write, R: Threads + Wait + Sync>(
     rt: &R,
     alloc: Global,
     disk: D,
     workers: usize,
+    gate: &Fixed,
     output: &mut W,
 ) -> Result<Result<bool, RunFault>, AllocError> {
     let mut jobs: Vec<Vec<Box<dyn Job + Send>>> = Vec::new(alloc);
@@ -70,7 +71,18 @@ fn worked<D: RunDisk + Drop + Send, W: Write, R: Threads + Wait + Sync>(
         list.push(Box::new(alloc, Plain)?)?;
         jobs.push(list)?;
     }
-    Ok(crew(rt, alloc, disk, jobs, &Open, output))
+    Ok(crew(rt, alloc, disk, jobs, gate, output))
+}
+
+/// What it answers at an open gate.
+fn worked<D: RunDisk + Drop + Send, W: Write, R: Threads + Wait + Sync>(
+    rt: &R,
+    alloc: Global,
+    disk: D,
+    workers: usize,
+    output: &mut W,
+) -> Result<Result<bool, RunFault>, AllocError> {
+    worked_at(rt, alloc, disk, workers, &Fixed(true), output)
 }
 
 /// The bytes of a small store over which these lines were run.
@@ -80,22 +92,24 @@ fn stored(rt: &impl Abort, alloc: Global, lines: &'static [u8]) -> Vec<u8> {
     left(rt, alloc, &disk, disk.calls(), Torn::Take)
 }
 
-/// Lines of a night, how many workers come then, what they print and what is answered; and lines
-/// after them, with their replies.
+/// Lines of a night, how many workers come then and whether the gate is open to them, what they
+/// print and what is answered; and lines after them, with their replies.
 struct Row {
     lines: &'static [u8],
     workers: usize,
+    open: bool,
     printed: &'static [u8],
     answer: Result<bool, RunFault>,
     asked: &'static [u8],
     replied: &'static [u8],
 }
 
-static ROWS: [Row; 5] = [
+static ROWS: [Row; 6] = [
     // The first error cancels the group's scope.
     Row {
         lines: b"group g root\nlimit g 1\ngo g fail x\ngo g spin 3\n",
         workers: 1,
+        open: true,
         printed: b"audit ok; starts 2; finishes 2\nacked 10\n",
         answer: Ok(true),
         asked: b"task 0\ntask 1\nresult g\n",
@@ -107,6 +121,7 @@ static ROWS: [Row; 5] = [
     Row {
         lines: b"bare g root\ngo g spin 3\ngo g spin 3\ngo g spin 3\n",
         workers: 8,
+        open: true,
         printed: b"audit ok; starts 3; finishes 3\nacked 12\n",
         answer: Ok(true),
         asked: b"task 0\ntask 1\ntask 2\n",
@@ -115,6 +130,7 @@ static ROWS: [Row; 5] = [
     Row {
         lines: b"",
         workers: 2,
+        open: true,
         printed: b"audit ok; starts 0; finishes 0\nacked 2\n",
         answer: Ok(true),
         asked: b"",
@@ -124,6 +140,7 @@ static ROWS: [Row; 5] = [
     Row {
         lines: b"bare g root\nlimit g 0\ngo g spin 3\n",
         workers: 1,
+        open: true,
         printed: b"audit ok; starts 0; finishes 0\nacked 5\n",
         answer: Ok(true),
         asked: b"task 0\n",
@@ -132,10 +149,23 @@ static ROWS: [Row; 5] = [
     Row {
         lines: b"bare g root\ngo g spin 3\n",
         workers: 0,
+        open: true,
         printed: b"audit strayed; worker 0; note 1\nacked 4\n",
         answer: Ok(false),
         asked: b"task 0\n",
         replied: b"task 0 ready\nacked 5\n",
+    },
+    // A gate that is shut ends each task before its first turn.
+    Row {
+        lines: b"bare g root\ngo g spin 3\n",
+        workers: 1,
+        open: false,
+        printed: b"audit ok; starts 1; finishes 1\nacked 6\n",
+        answer: Ok(true),
+        asked: b"task 0\nresult g\n",
+        replied: b"task 0 error gate\n\
+                   unfinished 0; limit none; waited no; error gate\n\
+                   acked 7\n",
     },
 ];
 
@@ -156,7 +186,8 @@ fn is_worked<R: fs::Files<File = File> + Threads + Wait + Sync + Abort>(
     fs::write(rt, path, bytes.as_slice()).ok()?;
     let mut output = Vec::new(alloc);
     let disk = file_disk(rt, path)?;
-    let answer = worked(rt, alloc, disk, row.workers, &mut output).ok()?;
+    let gate = Fixed(row.open);
+    let answer = worked_at(rt, alloc, disk, row.workers, &gate, &mut output).ok()?;
     let (replied, _) = night_on(rt, alloc, file_disk(rt, path)?, row.asked);
     let is_told = output.as_slice() == row.printed && answer == row.answer;
     Some(is_told && replied.as_slice() == row.replied)
