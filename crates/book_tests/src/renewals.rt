@@ -102,7 +102,7 @@ fn assert_marks(rt: &impl Abort, alloc: Global, state: &State, bytes: usize) {
     holds(rt, heap.used() == bytes, "bytes of marks", bytes as u64);
 }
 
-// Each row has a flag of one byte and a new number of two, and behind each kind's numbers stands how
+// Each row has a flag of one byte and a new number of two, and after each kind's numbers stands how
 // many there are: 16, 16 and 2,064 bytes, and 16, 16 and 4,112.
 #[test]
 fn marks_take_so_much_memory(rt: HostRuntime) {
