@@ -65,7 +65,8 @@ NEXT: list[tuple[str, str, dict[str, str], int, list[str]]] = [
 ]
 
 ALL = ("settings are limit N, until MOMENT, within TIME, after X.., retries N [wait TIME],"
-       " timeout TIME, in FOLDER, env NAME=VALUE, stop on failure, background keep")
+       " timeout TIME, in FOLDER, env NAME=VALUE, stop on failure, background keep, via WORDS..,"
+       " ask WORDS.., stop WORDS..")
 # Lines of a file of commands that are mistakes, with the line's number and why.
 MISTAKES = [
     ("g a true\ng a false", 2, "the key a of g stands with two commands, first in line 1"),
@@ -111,9 +112,10 @@ MISTAKES = [
     ("g: env A", 1, "'A' is not as NAME=VALUE"),
     ("g: env NIGHT_KEY=x", 1, "the variable NIGHT_KEY is the driver's own"),
     ("g: env 'A=b", 1, "a quotation: No closing quotation"),
-    ("g: stop on success", 1, "the setting is stop on failure"),
+    ("g: stop on success", 1, "the setting is stop on failure, or stop WORDS.."),
     ("g: background", 1, "keep is missing; " + ALL),
-    ("g one: limit 2", 1, "limit, until, within and stop on failure are settings of a group"),
+    ("g one: limit 2", 1, "limit, until, within, stop on failure, via, ask and stop are settings of"
+     " a group"),
     ("g: after", 1, f"what it comes after is missing; {ALL}"),
     ("g one: after two", 1, "after 'two': no such key of g, and no such group"),
     ("g one: after h/two", 1, "after 'h/two': no such key of g, and no such group"),

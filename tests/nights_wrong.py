@@ -2,7 +2,8 @@
 
 `wrong_drivers/NAME.edit` has lines `file:`, `old:` and `new:`, as a must-fail edit has, `breaks:`
 with the number of an invariant, or the setting, and `nights:` with the shapes of the nights that
-are to find that it doesn't hold. An `old:` stands exactly once in its file.
+are to find that it doesn't hold; one that breaks `far` is for tests/far to find. An `old:` stands
+exactly once in its file.
 """
 
 import os
@@ -73,6 +74,7 @@ def try_wrong_drivers(tools: Tools, name: str) -> int:
     folder = f"{HERE}/wrong_drivers"
     every = [read_wrong(f"{folder}/{it}") for it in sorted(os.listdir(folder))
              if it.endswith(".edit") and name in ("every", it.removesuffix(".edit"))]
+    every = [it for it in every if it.shapes]  # (those without are for tests/far)
     with workers(BESIDE) as pool:
         found = list(pool.map(try_one, every, [tools] * len(every)))
     print(f"ran: wrong drivers: {len(every)}, {found.count(False)} passed")

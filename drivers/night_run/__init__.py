@@ -5,6 +5,7 @@
     plan       what may be begun now (pure)        loop        the rules, and the loop
     night      the program `night`                 opening     a session, made ready for the loop
     commands   processes: begun, stopped, reaped   leftovers   those of a driver that was killed
+    far        commands that run elsewhere
     cancels    what another terminal asks for      renewal     of a store that is nearly full
     files      what lies beside the store          past, log   two of these files
     views      rows for a list and a report        summary     what is printed at the end

@@ -15,14 +15,15 @@ import signal
 import time
 from collections.abc import Mapping
 
+from .far import BEGUN, PATIENCE, Elsewhere, Far, Named
 from .jobs import Job
 from .processes import boot, group_exists, group_lives, signal_group
 
 SHELL = "/bin/sh"
-# Writes `WORDS.. PID START` into the file 9, and becomes the command.
-BEGINNING = ('[ -z "$3" ] || cd -- "$3" || exit 127; read -r s </proc/self/stat;'
-             ' set -f -- "$1" "$2" $s; echo "$1 $$ ${24:-0}" >&9 || exit 127; exec 9>&-;'
-             ' exec /bin/sh -c "$2"')
+# Goes to the folder $2, writes `$1 PID START` into the file 9, and becomes the words after these.
+BEGINNING = ('[ -z "$2" ] || cd -- "$2" || exit 127; read -r s </proc/self/stat; set -f;'
+             ' began() { echo "$1 $$ ${23:-0}" >&9; }; began "$1" $s || exit 127; exec 9>&-;'
+             ' shift 2; exec "$@"')
 # What the system lacks for a while: a command that can't be begun by it is begun later.
 LATER = (errno.EAGAIN, errno.ENOMEM, errno.EMFILE, errno.ENFILE, errno.ENOSPC, errno.EDQUOT)
 # Behind SIGKILL so many seconds are given to a process group that doesn't go.
@@ -46,18 +47,33 @@ class Running:
         self.stopped: float | None = None
         self.why = ""  # why it was stopped, an error's text; empty where it was cut off
         self.is_killed = False
+        self.elsewhere: Elsewhere | None = None  # of one that runs by its group's words
+
+    @property
+    def is_here(self) -> bool:
+        """Whether its process group is surely its own."""
+        return True
 
     def stop(self, why: str) -> None:
-        """Asks it to end, once; after a grace `press` kills it. Without a why it is cut off."""
+        """Asks it to end, once, here and elsewhere; after a grace `press` kills what is here.
+        Without a why it is cut off."""
         if self.stopped is None:
+            if self.elsewhere:
+                self.elsewhere.stop()
             self.stopped, self.why = time.monotonic(), why
-            signal_group(self.pid, signal.SIGTERM)
+            if self.is_here:
+                signal_group(self.pid, signal.SIGTERM)
 
     def press(self, grace: float) -> None:
-        if self.stopped is not None and not self.is_killed \
+        if self.stopped is not None and not self.is_killed and self.is_here \
                 and time.monotonic() >= self.stopped + grace:
             self.is_killed = True
             signal_group(self.pid, signal.SIGKILL)
+
+    def is_late(self, grace: float) -> bool:
+        """Whether one that was stopped is asked for no more, wherever it may run."""
+        return self.stopped is not None and time.monotonic() >= self.stopped + 2 * grace + (
+            PATIENCE if self.why else 0.0)
 
 
 class Command(Running):
@@ -67,6 +83,7 @@ class Command(Running):
         super().__init__(job.name, 0)
         self.job, self.group, self.tried, self.number = job, group, tried, number
         self.output = output
+        self.is_adopted = False  # one of an earlier driver, whose end elsewhere is known
         self.began = self.since = 0.0
         self.took: float | None = None
         self.status: int | None = None
@@ -76,24 +93,34 @@ class Command(Running):
 
     @property
     def has_begun(self) -> bool:
-        return bool(self.pid or self.failure)
+        return bool(self.pid or self.failure or self.is_adopted)
 
-    def begin(self, pids: int, store: str, inherited: Mapping[str, str]) -> None:
+    def environment(self, store: str, inherited: Mapping[str, str]) -> dict[str, str]:
+        return {**inherited, **dict(self.job.env), "NIGHT_STORE": store,
+                "NIGHT_GROUP": self.job.group, "NIGHT_KEY": self.job.key,
+                "NIGHT_TRY": str(self.tried)}
+
+    def begin(self, pids: int, far: Far, inherited: Mapping[str, str]) -> None:
         """Begins it; NotNow where the system has no room for it."""
         self.began, self.since = time.time(), time.monotonic()
-        folder = self.job.folder or ""
-        given = {**inherited, **dict(self.job.env), "NIGHT_STORE": store,
-                 "NIGHT_GROUP": self.job.group, "NIGHT_KEY": self.job.key,
-                 "NIGHT_TRY": str(self.tried)}
+        folder, way = self.job.folder or "", self.job.way
+        given = self.environment(far.files.path, inherited)
         line = f"{self.group} {self.job.key} {self.tried} {boot()}"
+        words = [SHELL, "-c", self.job.command]
         try:
+            if way.via:
+                it = Named(self.group, self.job.key, self.tried)
+                words = [*far.filled(way.via, it), self.job.command]
+                self.elsewhere = Elsewhere(far, way, it, folder, given)
+                if way.ask:
+                    far.note(it, BEGUN)
             if folder and not os.path.isdir(folder):
                 raise OSError(errno.ENOENT, os.strerror(errno.ENOENT))
             with contextlib.ExitStack() as files:
                 out = opened_output(self.output)
                 files.callback(os.close, out)
                 self.pid = os.posix_spawn(
-                    SHELL, [SHELL, "-c", BEGINNING, SHELL, line, self.job.command, folder], given,
+                    SHELL, [SHELL, "-c", BEGINNING, SHELL, line, folder, *words], given,
                     setsid=True, setsigdef=[signal.SIGPIPE, signal.SIGXFSZ],
                     file_actions=[(os.POSIX_SPAWN_OPEN, 0, os.devnull, os.O_RDONLY, 0),
                                   (os.POSIX_SPAWN_DUP2, out, 1), (os.POSIX_SPAWN_DUP2, out, 2),
@@ -105,14 +132,37 @@ class Command(Running):
         except ValueError as error:
             self.failure = str(error)
 
+    def adopt(self, it: Elsewhere, output: str) -> None:
+        """Makes it a try of an earlier driver that has ended elsewhere."""
+        self.elsewhere, self.output = it, output
+        self.is_adopted = self.is_gone = True
+        self.status = -signal.SIGKILL
+
     def poll(self, grace: float) -> bool:
-        """Whether it has ended, and its process group, too."""
+        """Whether it has ended, and its process group, too; and elsewhere, if it runs there."""
         if not self.is_gone and self.has_begun:
             if self.status is None:
                 self.reap()
             if self.status is not None:
                 self.is_gone = self.may_leave or not self.pid or self.is_left_alone(grace)
-        return self.is_gone
+        return self.is_gone and self.is_over_elsewhere(grace)
+
+    def is_over_elsewhere(self, grace: float) -> bool:
+        """Whether it has ended where it runs. What its client's status 0 says is so; else it is
+        asked for. One that was stopped is left there after a while."""
+        it = self.elsewhere
+        if it is None or self.failure or self.status == 0 and self.stopped is None:
+            return True
+        return it.is_over() or self.is_late(grace)
+
+    @property
+    def is_here(self) -> bool:
+        return self.status is None
+
+    @property
+    def is_asked_for(self) -> bool:
+        """Whether nothing of it is left here, and it may run elsewhere."""
+        return self.is_gone and self.elsewhere is not None
 
     @property
     def may_leave(self) -> bool:
@@ -162,11 +212,14 @@ class Command(Running):
             return text_of(self.why) if self.why else None
         if self.status == 0:
             return "ok"
+        if self.elsewhere and self.elsewhere.end():
+            return text_of(self.elsewhere.end())
         status = self.status or 0
         return f"exit {status}" if status > 0 else f"signal {-status}"
 
     def is_overdue(self) -> bool:
-        return self.job.timeout is not None and self.has_begun and self.status is None \
+        return self.job.timeout is not None and self.has_begun \
+            and (self.status is None or self.is_asked_for) \
             and time.monotonic() >= self.since + self.job.timeout
 
 

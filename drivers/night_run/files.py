@@ -9,6 +9,7 @@
     STORE.log        what ran when, how long, and how it ended (`log`)
     STORE.cancel     which groups somebody wants to have cancelled (`cancels`)
     STORE.ended      how commands ended whose groups a renewal has given back (`past`)
+    STORE.far        which commands may run elsewhere (`far`)
     STORE.failed     `night` has seen a sync of the store fail; its next opening mends it
 """
 

@@ -19,7 +19,7 @@ from collections.abc import Iterable
 from dataclasses import dataclass
 
 from . import Mistake, Name
-from .settings import FORMS, OF_ALL, Settings, Wrong, read_settings, short
+from .settings import FORMS, OF_ALL, Settings, Way, Wrong, read_settings, short
 from .telling import note
 
 NAME = re.compile(r"[a-z0-9_-]{1,32}")
@@ -42,6 +42,7 @@ class Job:
     folder: str | None
     env: tuple[tuple[str, str], ...]
     keeps: bool  # processes that it leaves may live on
+    way: Way  # where it runs
 
     @property
     def name(self) -> Name:
@@ -65,6 +66,9 @@ class Jobs:
             raise Mistake(f"{path}: {error.strerror}") from error
         if not self.texts:
             raise Mistake(f"{path}: it has no command")
+        for group, its in self.groups.items():
+            if its.way != Way() and not its.way.via:
+                raise self.mistake(its.line, f"{group} has `ask` or `stop`, and no `via`")
         self.with_commands = {group for group, _ in self.texts}
         self.all: dict[Name, Job] = {it: self.job(it) for it in self.texts}
         self.members: dict[str, list[Name]] = collections.defaultdict(list)
@@ -159,7 +163,7 @@ class Jobs:
             *name, self.texts[name], tuple(self.need(name[0], it, line) for it in after),
             by.retries or 0, by.wait, timed.timeout, timed.timeout_said,
             own.folder if own.folder is not None else group.folder,
-            tuple({**group.env, **own.env}.items()), own.keeps or group.keeps)
+            tuple({**group.env, **own.env}.items()), own.keeps or group.keeps, group.way)
 
     def need(self, group: str, word: str, line: int) -> Name | str:
         """What a word behind `after` names: a key of the same group, GROUP/KEY, or a group."""

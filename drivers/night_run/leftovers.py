@@ -21,7 +21,7 @@ from . import Fault, base_of
 from .commands import Running
 from .files import Files, try_lock
 from .jobs import Job, Jobs
-from .processes import Process, age, boot, group_exists, lives, members, stat_of
+from .processes import Process, age, boot, group_exists, lives, members, signal_group, stat_of
 from .regular import open_regular, read_regular
 from .settings import OF_ALL
 from .telling import note
@@ -33,20 +33,38 @@ PATIENCE = 10.0
 
 
 class Leftover(Running):
-    """A command of an earlier driver, or what it left of its process group."""
+    """A command of an earlier driver, or what it left of its process group; or one that may run
+    elsewhere, of which no process is left here."""
 
-    def __init__(self, group: str, key: str, process: Process, job: Job | None) -> None:
-        super().__init__((base_of(group), key), process.pid)
+    def __init__(self, group: str, key: str, process: Process | None, job: Job | None) -> None:
+        super().__init__((base_of(group), key), process.pid if process else 0)
         self.process = process
         self.keeps = job is not None and job.keeps
         self.timeout = job.timeout if job else None
         self.is_orphaned = False
+        self.counts = False  # whether its end elsewhere is that of its command
+
+    @property
+    def is_here(self) -> bool:
+        return self.process is not None and self.is_left_here()
 
     def is_overdue(self) -> bool:
-        return self.timeout is not None and age(self.process) >= self.timeout
+        return self.timeout is not None and self.process is not None \
+            and age(self.process) >= self.timeout
+
+    def clear_here(self) -> None:
+        """Kills what is left of its process group, once its leader has gone."""
+        if self.is_here:
+            signal_group(self.pid, signal.SIGKILL)
 
     def is_there(self) -> bool:
-        """Whether it still runs. What a command leaves goes with it, unless it may live on."""
+        """Whether it still runs, here or elsewhere."""
+        return self.is_left_here() or self.elsewhere is not None and not self.elsewhere.is_over()
+
+    def is_left_here(self) -> bool:
+        """Whether it runs here. What a command leaves goes with it, unless it may live on."""
+        if self.process is None:
+            return False
         if lives(self.process):
             return True
         if self.keeps or self.process.boot != boot() or not group_exists(self.pid):

@@ -5,8 +5,9 @@
     interrupted. So at most `-j` commands, and at most `limit` of a group, live or are unrecorded.
  3. Each round takes a bounded time, whatever the commands do: it records ends, moves the clock,
     obeys cancels, deadlines and timeouts, and begins at most as many as there are free places.
- 4. No two tries of a key live at a time: who lives stands in STORE.pids, and not in what a command
-    may close.
+ 4. No two tries of a key live at a time: who lives stands in STORE.pids, what may run elsewhere in
+    STORE.far, and neither in what a command may close. What its group's `ask` doesn't know to be
+    over is taken to run.
  5. An end that was acked is never run again in its night. A try that was stopped, by a cancel, a
     deadline, a timeout or a signal of ours, is never ok, whatever its status.
  6. After a kill of anything at most the commands run again whose end wasn't acked: `-j` of them,
@@ -20,7 +21,7 @@
     and why. The status is 0 only where every command of the file is ok.
 11. While the store isn't in its place nothing more is begun, and nothing is made there anew.
 
-1, 2, 3, 6 and 11 are kept by `Driver.round`, 4 by `leftovers` and by `Driver.left`, 5 by
+1, 2, 3, 6 and 11 are kept by `Driver.round`, 4 by `leftovers`, `far` and `Driver.left`, 5 by
 `Command.end` and `facts`, 7 by `Command.poll`, 8 by `cancels`, `log` and `past`, 9 by `views`, 10
 by `summary` and `Driver.known`.
 """
@@ -41,6 +42,7 @@ from . import Fault, Name, base_of
 from .cancels import NO_GROUP, Desk, Request
 from .commands import Command, NotNow, Running, text_of
 from .facts import CANCELED, PASSED, Book, Facts, book_of, facts_of, numbered
+from .far import Elsewhere, Far, Named, outstanding
 from .files import Files
 from .jobs import Jobs
 from .leftovers import Leftover, sign_night
@@ -100,7 +102,7 @@ class Driver:
                  left: list[Leftover], most: int, grace: float) -> None:
         self.files, self.jobs, self.log, self.past, self.pids = files, jobs, log, past, pids
         self.left, self.most, self.grace = left, most, grace
-        self.desk = Desk(files)
+        self.desk, self.far = Desk(files), Far(files)
         self.night = 1
         self.begins_night = False
         self.forgiven: dict[Name, int] = {}  # of each command failures that don't count
@@ -224,10 +226,38 @@ class Driver:
                 self.recorded(command)
         self.facts = facts_of(state, self.past, self.log.lines, self.book, time.time(),
                               self.forgiven)
+        if not self.has_looked:
+            self.look_elsewhere(state)
         self.facts.busy = {it.name for it in self.left} | set(self.commands)
         self.has_mark = bool(self.book.top and f"{self.book.top.name}--ended" in state.by_name)
         self.is_stale = self.has_looked = True
         self.ask_why()
+
+    def look_elsewhere(self, state: State) -> None:
+        """Takes up what earlier drivers began elsewhere: it is asked for before another try of it
+        begins, and how it ended is taken for its end, if it was begun in this night."""
+        ours = {it.name for it in state.groups if state.night_of(it.scope) == self.book.night}
+        if self.past.night == self.book.night:
+            ours |= self.had
+        its: dict[Name, tuple[Named, bool]] = outstanding(self.far, state, self.past)
+        for name, (it, counts) in its.items():
+            job = self.jobs.all.get(name)
+            if job is None or not job.way.ask:
+                note(f"{' '.join(name)} may still run elsewhere; there is no `ask` for it any more")
+                continue
+            left = next((one for one in self.left if one.name == name), None)
+            if left is None:
+                left = Leftover(it.group, it.key, None, job)
+                self.left.append(left)
+                note(f"{' '.join(name)} may still run elsewhere: {it}")
+            command = Command(job, it.group, it.number, -1, "")
+            left.elsewhere = Elsewhere(self.far, job.way, it, job.folder or "",
+                                       command.environment(self.files.path, self.inherited))
+            left.counts = counts and it.group in ours and not self.begins_night
+            if not counts:
+                left.stop("it was stopped before")
+        if not its:
+            self.far.clear()
 
     def ask_why(self) -> None:
         """Asks why scopes are done whose deadline passed as the clock was moved."""
@@ -328,8 +358,8 @@ class Driver:
         self.drain()
         self.is_woken = False
         self.look_for_store()
-        self.look_for_leftovers()
         self.add_ends(batch)
+        self.look_for_leftovers(batch)
         asked = self.add_cancels(batch)
         self.add_clock(batch, bool(batch.lines))
         begun = self.add_begins(batch)
@@ -367,8 +397,23 @@ class Driver:
             what = "ok" if end == "ok" else f"error {end}"
             batch.add(f"finish {command.number} {what}", partial(self.recorded, command))
             self.facts.busy.discard(command.name)
+            self.leave(command)
             self.facts.ended(command.name, end, now)
             self.reopen(command.name, end)
+
+    def leave(self, command: Command) -> None:
+        """Keeps in sight one that was stopped and may run elsewhere: no other try of it begins."""
+        it = command.elsewhere
+        if it is None or command.stopped is None:
+            return
+        if it.is_over():
+            it.over()
+            return
+        note(f"{' '.join(command.name)} was stopped, and may still run elsewhere: {it.it}")
+        left = Leftover(it.it.group, it.it.key, None, command.job)
+        left.elsewhere, left.stopped, left.why = it, command.stopped, command.why
+        self.left.append(left)
+        self.facts.busy.add(command.name)
 
     def recorded(self, command: Command, _: str = "ok") -> None:
         """The end of a command is durable."""
@@ -379,8 +424,8 @@ class Driver:
         end = command.end() or "interrupted"
         self.is_woken |= end != "ok"
         tried = command.group, command.job.key, command.tried
-        self.log.add(iter([(tried, line_of(command.began, command.took, end,
-                                           command.job.command))]))
+        began = None if command.is_adopted else command.began
+        self.log.add(iter([(tried, line_of(began, command.took, end, command.job.command))]))
 
     def reopen(self, name: Name, end: str) -> None:
         """A command that failed may be tried again; one that failed for good may decide about
@@ -399,6 +444,7 @@ class Driver:
         """A command that was cut off: the next opening interrupts its task."""
         del self.commands[command.name]
         self.facts.busy.discard(command.name)
+        self.leave(command)
         self.facts.interrupted.add(command.name)
         tell(f"{command.name[0]} {command.name[1]}: interrupted")
 
@@ -532,7 +578,7 @@ class Driver:
         if command.number < 0 or command.has_begun:
             return
         try:
-            command.begin(self.pids, self.files.path, self.inherited)
+            command.begin(self.pids, self.far, self.inherited)
         except NotNow as why:
             self.try_again = time.monotonic() + IDLE
             note_once(f"{why}: commands are begun later")
@@ -559,12 +605,15 @@ class Driver:
     def press(self) -> None:
         """Asks commands to end whose time is over, and kills those that don't."""
         for command in self.commands.values():
-            if command.has_begun and not command.poll(self.grace) and command.status is None:
+            if command.has_begun and not command.poll(self.grace) and (
+                    command.status is None or command.is_asked_for):
                 if command.is_overdue():
                     command.stop(f"timeout {command.job.timeout_said}")
                 self.press_one(command)
         for left in self.left:
-            if left.is_orphaned or left.is_overdue():
+            if left.is_orphaned and left.elsewhere:
+                left.clear_here()
+            elif left.is_orphaned or left.is_overdue():
                 left.stop("")
             self.press_one(left)
 
@@ -580,21 +629,37 @@ class Driver:
             it.stop("")
         it.press(self.grace)
 
-    def look_for_leftovers(self) -> None:
-        """Forgets commands of an earlier driver that have ended; they are begun anew."""
+    def look_for_leftovers(self, batch: Batch) -> None:
+        """Forgets commands of an earlier driver that have ended; they are begun anew, unless it is
+        known how they ended elsewhere."""
         gone = [it for it in self.left if not it.is_there()]
         for it in gone:
             self.left.remove(it)
             if not any(that.name == it.name for that in self.left):
                 self.facts.busy.discard(it.name)
             self.is_stale = True
+            if it.elsewhere and it.stopped is not None:
+                it.elsewhere.over()
+            elif it.elsewhere and it.counts and it.elsewhere.end():
+                self.adopt(it.elsewhere, batch)
+
+    def adopt(self, it: Elsewhere, batch: Batch) -> None:
+        """Takes the end of a try that an earlier driver began elsewhere."""
+        job = self.jobs.all[it.it.name]
+        command = Command(job, it.it.group, it.it.number, -1, "")
+        command.adopt(it, self.files.output(it.it.group, it.it.key, it.it.number))
+        self.commands[job.name] = command
+        self.facts.busy.add(job.name)
+        self.add_start(batch, command)
+        self.is_woken = True
 
     def is_over(self) -> bool:
         if self.commands:
             return False
+        left = [it for it in self.left if not it.is_late(self.grace)]
         if self.asked_to_end:
-            return self.asked_to_end < 2 or not self.left
-        return not self.left and not self.may_go_on()
+            return self.asked_to_end < 2 or not left
+        return not left and not self.may_go_on()
 
     def may_go_on(self) -> bool:
         """Whether something may be begun now or later."""
@@ -618,7 +683,7 @@ class Driver:
                 self.facts.ends.pop(it.name, None)  # (whose end isn't acked)
                 self.forget(it)
             self.commands = {name: it for name, it in self.commands.items() if it.has_begun}
-            self.left = [it for it in self.left if it.is_there()]
+            self.left = [it for it in self.left if it.is_there() and not it.is_late(self.grace)]
             if not self.commands and not self.left:
                 return
             self.press()

@@ -10,6 +10,9 @@
     env NAME=VALUE          a variable of its environment
     stop on failure         (a group) behind a failure nothing more of it is begun
     background keep         processes that a command leaves in its process group may live on
+    via WORDS..             (a group) what each command is handed to; it takes the rest of its line
+    ask WORDS..             (a group) what asks how a try of it ended; likewise
+    stop WORDS..            (a group) what asks for the end of a try; likewise
 """
 
 from __future__ import annotations
@@ -18,7 +21,7 @@ import datetime
 import re
 import shlex
 from collections.abc import Callable
-from dataclasses import dataclass, field
+from dataclasses import dataclass, field, replace
 
 TIME = re.compile(r"(?=[0-9])(?:([0-9]{1,6})h)?(?:([0-9]{1,6})m)?(?:([0-9]{1,6})s)?")
 MOMENT = re.compile(r"[0-9]+:[0-9]+(:[0-9]+)?|[0-9]+-[0-9]+-[0-9]+T\S+")
@@ -28,9 +31,10 @@ FORMS = {"limit": re.compile("[0-9]+"), "within": TIME, "until": MOMENT, "timeou
          "retries": re.compile(r"[0-9]+( wait \S+)?"), "stop": re.compile("on failure"),
          "background": re.compile("keep")}
 WORDS = ("limit", "until", "within", "after", "retries", "timeout", "in", "env", "stop",
-         "background")
+         "background", "via", "ask")
 ALL = ("settings are limit N, until MOMENT, within TIME, after X.., retries N [wait TIME],"
-       " timeout TIME, in FOLDER, env NAME=VALUE, stop on failure, background keep")
+       " timeout TIME, in FOLDER, env NAME=VALUE, stop on failure, background keep, via WORDS..,"
+       " ask WORDS.., stop WORDS..")
 OF_ALL = "night"
 LAST_MOMENT = 253_000_000_000
 MOST_RETRIES = 999
@@ -62,6 +66,15 @@ class Deadline:
         return f"{self.word} {self.said}"
 
 
+@dataclass(frozen=True)
+class Way:
+    """The words by which a group's commands run elsewhere; without `via` they run here."""
+
+    via: tuple[str, ...] = ()
+    ask: tuple[str, ...] = ()
+    stop: tuple[str, ...] = ()
+
+
 @dataclass
 class Settings:
     """What lines `GROUP: ..` or `GROUP KEY: ..` say; `line` is the first of them."""
@@ -79,6 +92,7 @@ class Settings:
     env: dict[str, str] = field(default_factory=dict)
     stops: bool = False
     keeps: bool = False
+    way: Way = Way()
 
 
 def seconds_of(time: str) -> int:
@@ -123,7 +137,8 @@ class Reader:
         read: dict[str, Callable[[], None]] = {
             "limit": self.read_limit, "after": self.read_after, "retries": self.read_retries,
             "timeout": self.read_timeout, "in": self.read_in, "env": self.read_env,
-            "stop": self.read_stop, "background": self.read_background}
+            "stop": self.read_stop, "background": self.read_background,
+            "via": lambda: self.read_way("via"), "ask": lambda: self.read_way("ask")}
         while self.words:
             word = self.words.pop(0)
             if word in ("until", "within"):
@@ -192,9 +207,19 @@ class Reader:
         self.its.env[name] = value
 
     def read_stop(self) -> None:
+        if self.words and self.words[0] != "on":
+            self.read_way("stop")
+            return
         if [self.value("on"), self.value("failure")] != ["on", "failure"]:
-            raise Wrong("the setting is stop on failure")
+            raise Wrong("the setting is stop on failure, or stop WORDS..")
         self.its.stops = True
+
+    def read_way(self, what: str) -> None:
+        """The rest of the line."""
+        words = (self.value(what), *self.words)
+        self.words.clear()
+        self.once(what, bool(getattr(self.its.way, what)))
+        self.its.way = replace(self.its.way, **{what: words})
 
     def read_background(self) -> None:
         if self.value("keep") != "keep":
@@ -211,8 +236,10 @@ def read_settings(settings: Settings, whose: str, rest: str, is_one: bool, line:
     if not words:
         raise Wrong(ALL)
     Reader(settings, whose, words, line).read()
-    if is_one and (settings.limit or settings.deadline or settings.stops):
-        raise Wrong("limit, until, within and stop on failure are settings of a group")
+    if is_one and (settings.limit or settings.deadline or settings.stops
+                   or settings.way != Way()):
+        raise Wrong("limit, until, within, stop on failure, via, ask and stop are settings of a"
+                    " group")
     if whose == OF_ALL:
         check_of_all(settings)
 

@@ -59,6 +59,9 @@ Settings, several in a line or in several lines:
   env NAME=VALUE            a variable of its environment
   stop on failure           (a group) after a failure nothing more of it is begun
   background keep           processes that a command leaves may live on; else they end with it
+  via WORDS..               (a group) each command is handed to these words, as one argument more,
+                            and so runs elsewhere; this takes the rest of its line
+  ask WORDS.., stop WORDS.. (a group) how to ask how a try ended there, and for its end
 
 Each command has NIGHT_STORE, NIGHT_GROUP, NIGHT_KEY and NIGHT_TRY in its environment, an empty
 standard input, and its output in STORE.out/GROUP.KEY.TRY. STORE.log says what ran when, how long,

@@ -1,0 +1,241 @@
+"""Commands that run elsewhere, by three settings of their group: `via` hands a command over, `ask`
+asks how a try of it ended, `stop` asks for its end. The driver knows no more of a way than these.
+
+In their words `{store}`, `{group}`, `{key}` and `{try}` are replaced by what names the try: the
+store's path with - for what is no letter, digit, dot, - or _, and the three parts of its output's
+name. So no two tries of a store have one name.
+
+The first line that `ask` prints, with status 0, is one of
+
+    running                       it is there, or waits there
+    ok, exit N, signal N          it ended so
+    error TEXT                    likewise, and has failed
+    none                          nothing of that name began
+
+and whatever else it does means that nothing is known: it is asked again.
+
+STORE.far has a line for each try that is asked for, `GROUP KEY TRY begun` before it begins,
+`.. stopped` before it is stopped, so that its end doesn't count, and `.. over` once one that was
+stopped has ended. The first two are durable before what they say is done.
+"""
+
+from __future__ import annotations
+
+import contextlib
+import os
+import re
+import signal
+import subprocess
+import tempfile
+import time
+from collections.abc import Iterable, Mapping
+from dataclasses import dataclass
+from typing import IO
+
+from . import Fault, Name, base_of, round_of
+from .files import Files, sync_folder
+from .past import Past
+from .regular import open_regular
+from .settings import Way
+from .state import ENDED, State
+from .telling import note_once
+
+BEGUN, STOPPED, OVER = "begun", "stopped", "over"
+LINE = re.compile(r"([a-z0-9_-]{1,32}) ([a-z0-9_-]{1,32}) ([0-9]{1,6}) (begun|stopped|over)")
+ANSWER = re.compile(r"running|none|ok|exit [1-9][0-9]{0,2}|signal [1-9][0-9]?|error ([ -~]{1,64})")
+RUNNING, NONE = "running", "none"
+# So many seconds lie between two questions, more each time, and so many one may take.
+FIRST, LAST, MOST = 1.0, 30.0, 60.0
+# So many seconds after its client was killed one that was stopped is asked for; then it is left.
+PATIENCE = 60.0
+
+
+@dataclass(frozen=True)
+class Named:
+    """A try by the three parts of its output's name."""
+
+    group: str
+    key: str
+    number: int
+
+    @property
+    def name(self) -> Name:
+        return base_of(self.group), self.key
+
+    def __str__(self) -> str:
+        return f"{self.group} {self.key} {self.number}"
+
+
+class Far:
+    """The file STORE.far, and the words that are run beside the loop."""
+
+    def __init__(self, files: Files) -> None:
+        self.files, self.shown = files, f"{files.shown}.far"
+        self.store = re.sub(r"[^A-Za-z0-9._-]", "-", files.path.lstrip("/"))
+        self.path, self.file = f"{files.path}.far", -1
+
+    def filled(self, words: Iterable[str], it: Named) -> list[str]:
+        """The words of a try."""
+        given = {"{store}": self.store, "{group}": it.group, "{key}": it.key,
+                 "{try}": str(it.number)}
+        return [re.sub(r"\{(?:store|group|key|try)\}", lambda found: given[found[0]], word)
+                for word in words]
+
+    def read(self) -> dict[Name, tuple[Named, str]]:
+        """The last line of each command. One that was cut off says nothing: what it is about had
+        not begun."""
+        found: dict[Name, tuple[Named, str]] = {}
+        try:
+            with open(open_regular(self.path, os.O_RDONLY), "rb") as file:
+                *lines, _ = file.read().decode("ascii", "replace").split("\n")
+        except FileNotFoundError:
+            return found
+        except OSError as error:
+            raise Fault(f"{self.shown}: {error.strerror}") from None
+        for number, line in enumerate(lines, 1):
+            it = LINE.fullmatch(line)
+            if not it:
+                raise Fault(f"{self.shown}: line {number} is not GROUP KEY TRY and how it is: it"
+                            " says what may run elsewhere; mend it, or put it aside once nothing"
+                            " does")
+            named = Named(it[1], it[2], int(it[3]))
+            found[named.name] = named, it[4]
+        return found
+
+    def clear(self) -> None:
+        """Empties it: nothing is left that is asked for."""
+        with contextlib.suppress(FileNotFoundError):
+            os.truncate(self.path, 0)
+
+    def note(self, it: Named, how: str) -> None:
+        """Adds a line, durably; OSError where that can't be."""
+        if self.file < 0:
+            self.file = open_regular(self.path, os.O_RDWR | os.O_APPEND | os.O_CREAT)
+            size = os.fstat(self.file).st_size
+            end = os.pread(self.file, 100, max(0, size - 100)).rpartition(b"\n")[2]
+            os.ftruncate(self.file, size - len(end))
+            sync_folder(self.path)
+        os.write(self.file, f"{it} {how}\n".encode())
+        os.fsync(self.file)
+
+
+class Call:
+    """A run of words beside the loop; it is ended once it takes too long."""
+
+    def __init__(self, words: list[str], folder: str, environment: Mapping[str, str]) -> None:
+        self.began = time.monotonic()
+        self.output: IO[bytes] | None = None
+        self.it: subprocess.Popen[bytes] | None = None
+        try:
+            self.output = tempfile.TemporaryFile()
+            self.it = subprocess.Popen(words, stdin=subprocess.DEVNULL, stdout=self.output,
+                                       stderr=subprocess.DEVNULL, cwd=folder or None,
+                                       env=environment, start_new_session=True)
+        except (OSError, ValueError) as error:
+            note_once(f"{words[0]}: {error}")
+
+    def has_ended(self) -> bool:
+        if self.it is None:
+            return True
+        if self.it.poll() is None and time.monotonic() < self.began + MOST:
+            return False
+        with contextlib.suppress(ProcessLookupError, PermissionError):
+            if self.it.poll() is None:
+                os.killpg(self.it.pid, signal.SIGKILL)
+                self.it.wait()
+        return True
+
+    def answer(self) -> str:
+        """What it printed first, if that is an answer."""
+        line = ""
+        if self.output:
+            self.output.seek(0)
+            line = self.output.readline(200).decode("ascii", "replace").rstrip("\n")
+            self.output.close()
+        if self.it is None or self.it.returncode or not ANSWER.fullmatch(line):
+            return ""
+        return line
+
+
+class Elsewhere:
+    """A try that runs elsewhere: it is asked for, again and again, and can be stopped."""
+
+    def __init__(self, far: Far, way: Way, it: Named, folder: str,
+                 environment: Mapping[str, str]) -> None:
+        self.far, self.way, self.it = far, way, it
+        self.folder, self.environment = folder, environment
+        self.calls: list[Call] = []  # of `stop`
+        self.call: Call | None = None
+        self.next, self.pause = 0.0, FIRST
+        self.is_stopped = False
+        self.answer = ""  # how it ended, or `none`
+
+    def is_over(self) -> bool:
+        """Whether it is known to have ended, or never to have begun."""
+        self.calls = [it for it in self.calls if not it.has_ended()]
+        if self.answer or not self.way.ask:
+            return True
+        if self.call is None and time.monotonic() >= self.next:
+            words = self.far.filled(self.way.ask, self.it)
+            self.call = Call(words, self.folder, self.environment)
+        if self.call is not None and self.call.has_ended():
+            found, self.call = self.call.answer(), None
+            self.next, self.pause = time.monotonic() + self.pause, min(LAST, 2 * self.pause)
+            if not found:
+                note_once(f"{self.it}: what `ask` says is no answer; it is asked again")
+            elif found == RUNNING and self.is_stopped:
+                self.call_stop()
+            self.answer = "" if found == RUNNING else found
+        return bool(self.answer)
+
+    def end(self) -> str:
+        """How it ended, as a store has it; empty where it never began."""
+        return "" if self.answer == NONE else self.answer.removeprefix("error ")
+
+    def stop(self) -> None:
+        """Asks for its end, and notes before that its end doesn't count."""
+        self.is_stopped = True
+        if self.way.ask:
+            try:
+                self.far.note(self.it, STOPPED)
+            except OSError as error:
+                note_once(f"{self.far.shown}: {error.strerror}")
+        self.call_stop()
+        self.next, self.pause = time.monotonic() + FIRST, FIRST
+
+    def call_stop(self) -> None:
+        if self.way.stop:
+            words = self.far.filled(self.way.stop, self.it)
+            self.calls.append(Call(words, self.folder, self.environment))
+
+    def over(self) -> None:
+        """Notes that one which was stopped has ended."""
+        if self.way.ask:
+            with contextlib.suppress(OSError):
+                self.far.note(self.it, OVER)
+
+
+def outstanding(far: Far, state: State, past: Past) -> dict[Name, tuple[Named, bool]]:
+    """The tries that may still run elsewhere, each with whether its end counts: those that have
+    begun and whose end isn't recorded, and those that were stopped and aren't known to be over."""
+    found = {}
+    for name, (it, how) in far.read().items():
+        if how == STOPPED or how == BEGUN and not is_recorded(it, state, past):
+            found[name] = it, how == BEGUN
+    return found
+
+
+def is_recorded(it: Named, state: State, past: Past) -> bool:
+    """Whether a try has an end: another try that is later has one, or itself, under whatever
+    number. (A command that outlived its `night` has the number of a later task.)"""
+    least, counts = round_of(it.group), -1
+    for task in state.tasks:
+        if task.name == it.name and round_of(task.group) >= least:
+            counts += task.group == it.group
+            is_later = task.group != it.group or counts >= it.number
+            if is_later and task.phase in ENDED and not task.is_withdrawn:
+                return True
+    # (of a group that it still has the store says all)
+    there = {group.name for group in state.groups}
+    return any((base_of(group), key) == it.name and round_of(group) >= least
+               and group not in there for group, key, _ in past.ends)

@@ -1,0 +1,232 @@
+"""Stand-ins for three engines that run commands elsewhere. Each does what the engine does when its
+client is killed, or can't be heard; where they run, nobody who kills this machine's processes comes.
+
+    scope   `systemd-run --scope` and `systemctl`: what has begun in a scope belongs to it, and
+            ends with a stop of it; the command takes its client's place
+    ssh     a client, and a server whose session ends some time after the connection has gone; it
+            ends no command
+    slurm   `sbatch --wait`, `squeue`, `scancel` and the record of ended jobs, with names of which
+            one job runs at a time; a job runs on whatever becomes of its client
+
+All of them are this file, whose first word is the program. An engine's folder is ENGINE. There
+`down` makes the programs of slurm fail, and `lag` has how many seconds ssh's server needs to see
+that a connection has gone.
+"""
+
+from __future__ import annotations
+
+import contextlib
+import json
+import os
+import select
+import signal
+import socket
+import subprocess
+import sys
+import time
+
+# How often a stand-in looks.
+TICK = 0.02
+
+
+def here(name: str) -> str:
+    return os.path.join(os.environ["ENGINE"], name)
+
+
+def text(path: str) -> str:
+    try:
+        with open(path, encoding="utf-8") as file:
+            return file.read()
+    except FileNotFoundError:
+        return ""
+
+
+def write(path: str, what: str) -> None:
+    """All of it at once, or nothing."""
+    made = f"{path}.{os.getpid()}"
+    with open(made, "w", encoding="utf-8") as file:
+        file.write(what)
+    os.rename(made, path)
+
+
+def word_after(words: list[str], option: str) -> str:
+    return words[words.index(option) + 1]
+
+
+# --- scope
+
+def in_scope(name: str) -> list[int]:
+    """The processes of a scope."""
+    found = []
+    for it in filter(str.isdigit, os.listdir("/proc")):
+        with contextlib.suppress(OSError), open(f"/proc/{it}/environ", "rb") as file:
+            if f"SCOPE={name}".encode() in file.read().split(b"\0"):
+                found.append(int(it))
+    return found
+
+
+def systemd_run(words: list[str]) -> None:
+    name = word_after(words, "--unit")
+    if in_scope(name):
+        sys.exit(f"Unit {name} was already loaded or has a fragment file.")
+    command = words[words.index("--unit") + 2:]
+    os.execvpe(command[0], command, {**os.environ, "SCOPE": name})
+
+
+def systemctl(words: list[str]) -> None:
+    name = words[-1].removesuffix(".scope")
+    if "is-active" in words:
+        print("active" if in_scope(name) else "inactive")
+        sys.exit(0 if in_scope(name) else 3)
+    for which, seconds in ((signal.SIGTERM, 0.5), (signal.SIGKILL, 0.5)):
+        for it in in_scope(name):
+            with contextlib.suppress(ProcessLookupError):
+                os.kill(it, which)
+        end = time.monotonic() + seconds
+        while in_scope(name) and time.monotonic() < end:
+            time.sleep(TICK)
+
+
+# --- ssh
+
+def ssh(words: list[str]) -> None:
+    """Joins the words after the host with spaces, as ssh does, and ends as the command does."""
+    while words[0] == "-o":
+        words = words[2:]
+    with socket.socket(socket.AF_UNIX) as line:
+        line.connect(here("sshd"))
+        line.sendall(" ".join(words[1:]).encode() + b"\0")
+        got = b""
+        while part := line.recv(65536):
+            got += part
+        output, is_whole, status = got.rpartition(b"\0")
+        sys.stdout.buffer.write(output if is_whole else got)
+        sys.exit(int(status) if is_whole else 255)
+
+
+def sshd() -> None:
+    """Begins a session for each connection."""
+    with socket.socket(socket.AF_UNIX) as door:
+        door.bind(here("sshd.new"))
+        door.listen(50)
+        os.rename(here("sshd.new"), here("sshd"))
+        signal.signal(signal.SIGCHLD, signal.SIG_IGN)
+        while True:
+            line, _ = door.accept()
+            if not os.fork():
+                signal.signal(signal.SIGCHLD, signal.SIG_DFL)
+                session(line)
+                os._exit(0)
+            line.close()
+
+
+def session(line: socket.socket) -> None:
+    """Runs the guard over a connection, and ends some time after that has gone."""
+    asked = b""
+    while not asked.endswith(b"\0"):
+        asked += line.recv(65536)
+    it = subprocess.Popen(["sh", here("guard")], stdin=subprocess.DEVNULL, cwd=here(""),
+                          stdout=subprocess.PIPE, stderr=subprocess.STDOUT, env={
+                              **os.environ, "HOME": here(""),
+                              "SSH_ORIGINAL_COMMAND": asked[:-1].decode()})
+    assert it.stdout
+    poll = select.poll()
+    poll.register(line, select.POLLIN)
+    poll.register(it.stdout, select.POLLIN)
+    while True:
+        for file, _ in poll.poll():
+            if file == line.fileno():
+                time.sleep(float(text(here("lag")) or 0))
+                return
+            part = os.read(file, 65536)
+            if not part:
+                line.sendall(b"\0%d" % (it.wait() & 255))
+                return
+            line.sendall(part)
+
+
+# --- slurm
+
+def sbatch(words: list[str]) -> None:
+    """Submits a job, and waits for its end."""
+    if text(here("down")):
+        sys.exit("sbatch: error: Unable to contact slurm controller (connect failure)")
+    job = here(f"jobs/{time.time_ns()}")
+    write(f"{job}.job", json.dumps([word_after(words, "-J"), words[-1], os.getcwd()]))
+    print("Submitted batch job", os.path.basename(job), flush=True)
+    while not (end := text(f"{job}.end")):
+        time.sleep(TICK)
+    sys.exit(int(end))
+
+
+def jobs(kind: str) -> list[str]:
+    """The jobs for which there is a file of this kind, in order."""
+    return sorted(here(f"jobs/{it.removesuffix(kind)}") for it in os.listdir(here("jobs"))
+                  if it.endswith(kind))
+
+
+def squeue(words: list[str]) -> None:
+    if text(here("down")):
+        sys.exit("slurm_load_jobs error: Unable to contact slurm controller (connect failure)")
+    ended = set(jobs(".end"))
+    for it in jobs(".job"):
+        if it not in ended and json.loads(text(f"{it}.job"))[0] == word_after(words, "-n"):
+            print("RUNNING")
+
+
+def scancel(words: list[str]) -> None:
+    if text(here("down")):
+        sys.exit("scancel: error: Unable to contact slurm controller (connect failure)")
+    ended = set(jobs(".end"))
+    for it in jobs(".job"):
+        if it not in ended and json.loads(text(f"{it}.job"))[0] == word_after(words, "-n"):
+            write(f"{it}.cancel", "1")
+
+
+def slurmctld() -> None:
+    """Runs jobs, one of a name at a time."""
+    running: dict[str, tuple[str, subprocess.Popen[bytes]]] = {}
+    while True:
+        time.sleep(TICK)
+        for job, (name, it) in list(running.items()):
+            if text(f"{job}.cancel"):
+                with contextlib.suppress(ProcessLookupError):
+                    os.killpg(it.pid, signal.SIGTERM)
+            if it.poll() is not None:
+                del running[job]
+                record(job, name, it.returncode)
+        ended, names = set(jobs(".end")), {name for name, _ in running.values()}
+        for job in jobs(".job"):
+            name, command, folder = json.loads(text(f"{job}.job"))
+            if job in ended or job in running or name in names:
+                continue
+            if text(f"{job}.cancel"):
+                record(job, name, -signal.SIGTERM)
+                continue
+            names.add(name)
+            running[job] = name, subprocess.Popen(["sh", "-c", command], cwd=folder,
+                                                  stdin=subprocess.DEVNULL, start_new_session=True,
+                                                  stdout=subprocess.DEVNULL,
+                                                  stderr=subprocess.DEVNULL)
+
+
+def record(job: str, name: str, status: int) -> None:
+    """The record of an ended job, as jobcomp/filetxt writes it, and then its end."""
+    was_canceled = bool(text(f"{job}.cancel"))
+    state = "CANCELLED" if was_canceled else "COMPLETED" if not status else "FAILED"
+    code = f"{max(status, 0)}:{max(-status, 0)}"
+    with open(here("jobs.txt"), "a", encoding="utf-8") as file:
+        file.write(f"JobId={os.path.basename(job)} UserId=root(0) Name={name} JobState={state}"
+                   f" Partition=all DerivedExitCode=0:0 ExitCode={code} \n")
+    write(f"{job}.end", str(status if status >= 0 else 1))
+
+
+PROGRAMS = {"systemd-run": systemd_run, "systemctl": systemctl, "ssh": ssh, "sbatch": sbatch,
+            "squeue": squeue, "scancel": scancel}
+SERVERS = {"sshd": sshd, "slurmctld": slurmctld}
+
+if __name__ == "__main__":
+    if sys.argv[1] in SERVERS:
+        SERVERS[sys.argv[1]]()
+    else:
+        PROGRAMS[sys.argv[1]](sys.argv[2:])
