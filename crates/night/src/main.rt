@@ -4,9 +4,9 @@
 //! clock and streams. `night --help` says which words there are, `docs/formats/console.md` what a
 //! line asks for and what it is answered.
 //!
-//! The exit status is 0, or 1 where a strict run met a line that was bad or refused, 2 for words
-//! that ask for nothing, 3 where input, output or the store failed, the input is too long, an audit
-//! strayed or a crew doesn't know a job, 4 for want of memory. What went wrong is printed on
+//! The exit status is 0, or 1 if a strict run met a line that was bad or refused, 2 for words that
+//! ask for nothing, 3 if input, output or the store failed, the input is too long, an audit strayed
+//! or a crew doesn't know a job, 4 for want of memory. What went wrong is printed on
 //! standard error, and what strayed on standard output.
 #![tactic(auto)]
 

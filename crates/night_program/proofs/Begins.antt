@@ -35,7 +35,7 @@ module _ {D : Type 0} (state : D → DiskState) (first given : D) where
       (made.stores honest (state given).now (is_disk.now_is_image then))
       ∙ ap formatted small
 
-  -- So the book begins behind its restart.
+  -- So the book begins after its restart.
   begins : (b : BookView D)
       → IsDisk (state given)
       → (state first).honest

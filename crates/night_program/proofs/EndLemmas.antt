@@ -68,7 +68,7 @@ pub if_ok : {T E : Type 0} (r : Result T E) (P : Type 0) → OnOk r P → is_ok 
 if_ok (Ok done) P says holds = says
 if_ok (Err why) P says holds = cc
 
--- A line that was made of three parts, one behind the other.
+-- A line that was made of three parts, one after the other.
 pub three_parts : (none one two three line : List ℕ) (a b c given : List ℕ)
     → none ≡ [] → one ≡ none ++ a → two ≡ one ++ given → three ≡ two ++ c → line ≡ three
     → given ≡ b → line ≡ a ++ (b ++ c)

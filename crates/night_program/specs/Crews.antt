@@ -15,7 +15,7 @@ use Rattle.night_program.specs.declared.known.UnknownJob.{UnknownJob}
 use Rattle.night_program.specs.Failures.{FailsBy, Names}
 use Rattle.night_program.specs.Known.{unknown_in}
 
--- What the program answers behind a night: all is well, the audit strayed, or the same fault ended
+-- What the program answers after a night: all is well, the audit strayed, or the same fault ended
 -- it.
 abbrev pub AnswersCrew :
     (Option FileFailure → Type 0) → Result Bool RunFault → Result Done Failure → Type 0

@@ -67,7 +67,7 @@ file_line file =
     codes "night: "
     ++ (name_text file.name ++ (codes ": " ++ (reason_text file.reason ++ codes "\n")))
 
--- What standard error is told of a failure: the line of its fault, and behind it that of the call
+-- What standard error is told of a failure: the line of its fault, and after it that of the call
 -- of a file which failed.
 abbrev pub failure_lines : Failure → List ℕ
 failure_lines failure = fault_line failure.fault ++ option_map_or file_line failure.file []

@@ -4,11 +4,11 @@ use Rattle.std.specs.Prelude.{Option, Some, None, codes, nat_le, nat_lt, if◌th
 use Rattle.run_crew.specs.declared.jobs.Turn.{Turn}
 use Rattle.run_crew.specs.declared.jobs.Turn.TheVariants as turn
 
--- This byte is a digit, and may stand behind this number: one of 4 digits ends.
+-- This byte is a digit, and may stand after this number: one of 4 digits ends.
 abbrev pub goes_on : ℕ → ℕ → Bool
 goes_on number byte = nat_le number 999 && (nat_le 48 byte && nat_le byte 57)
 
--- The number that these digits write behind this one.
+-- The number that these digits write after this one.
 abbrev pub number_from : ℕ → List ℕ → Option ℕ
 number_from number [] = Some number
 number_from number (byte ∷ bytes) =

@@ -20,9 +20,9 @@ use std::thread::Threads;
 use store_files::{Files, Opened, Why};
 
 /// Opens the store in the file of this name, and works off its ready tasks with so many workers,
-/// who take the first of these lists of jobs. `Memory` where there are fewer lists. Where the jobs
-/// are to be known, the store is read first, and nothing is begun where a task that isn't ended has
-/// another one.
+/// who take the first of these lists of jobs. `Memory` if there are fewer lists. If the jobs are to
+/// be known, the store is read first, and nothing is begun when a task that isn't ended has another
+/// one.
 pub fn crew_file<'a, F: Files, O: Write, R: Threads + Wait + Sync>(
     rt: &R,
     alloc: Global,
@@ -64,7 +64,7 @@ pub fn crew_file<'a, F: Files, O: Write, R: Threads + Wait + Sync>(
 }
 
 /// The tasks of the store on a disk that aren't ended and whose jobs aren't known, if there are
-/// any. The disk is read alone.
+/// any. The disk is only read.
 fn unknown_on<D: RunDisk>(alloc: Global, disk: &mut D) -> Result<Option<UnknownJob>, Fault>
     ensures { FindsUnknown D.state disk.old result disk.new }
 {

@@ -17,8 +17,8 @@ use std::io::{Read, Write};
 /// How many bytes a small store has.
 const SMALL_STORE: usize = 1_572_864;
 
-/// Runs the lines of the input over a book in memory, which was just formatted and opened. Where
-/// there is no memory for the book, nothing is read and nothing written.
+/// Runs the lines of the input over a book in memory, which was just formatted and opened. If there
+/// is no memory for the book, nothing is read and nothing written.
 pub fn demo<R: Read, W: Write>(alloc: Global, input: &mut R, output: &mut W) -> Result<(), RunFault>
     ensures all { OnOk result (IsRun (R.remaining input.old) (R.remaining input.new)
         (W.contents output.old) (W.contents output.new)) }
@@ -33,7 +33,7 @@ pub fn demo<R: Read, W: Write>(alloc: Global, input: &mut R, output: &mut W) -> 
     run(alloc, input, output, &mut book)
 }
 
-/// So does [`demo`], up to the first line that strays, and answers which it is.
+/// So does [`demo`], up to the first line that strays, and returns which it is.
 pub fn demo_strict<R: Read, W: Write>(
     alloc: Global,
     input: &mut R,

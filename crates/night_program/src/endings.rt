@@ -1,4 +1,4 @@
-//! How the program ends: its exit status, and what standard error is told.
+//! How the program ends: its exit status, and what it prints on standard error.
 
 ghost use Rattle.std.specs.Prelude.{◌≡◌};
 ghost use Rattle.night_program.specs.Endings.{EndsBy, Refuses, Tells, TellsDone, done_status};
@@ -14,20 +14,20 @@ use std::io::Write;
 /// How the program ended.
 #[derive(Clone, Copy, Debug, PartialEq, Eq)]
 pub struct Ended {
-    /// The exit status: 0 where it did what its words ask for, 1 where a strict run met a line that
-    /// was bad or refused, 2 for words that ask for nothing, 3 where the store, the input or the
-    /// output failed, an audit strayed or a crew doesn't know a job, 4 for want of memory.
+    /// The exit status: 0 if it did what its words ask for, 1 if a strict run met a line that was
+    /// bad or refused, 2 for words that ask for nothing, 3 if the store, the input or the output
+    /// failed, an audit strayed or a crew doesn't know a job, 4 for want of memory.
     pub status: u8,
-    /// Whether all that there was to tell was written on standard error.
+    /// Whether all that there was to print was written on standard error.
     pub told: bool,
 }
 
-/// What came of what the words asked for, where no fault ended it.
+/// What came of what the words asked for, if no fault ended it.
 #[derive(Drop)]
 pub enum Done {
     /// All of it was done.
     Well,
-    /// A crew's night was done, and its audit strayed, which the audit's own line tells.
+    /// A crew's night was done, and its audit strayed, which the audit's own line says.
     Strayed,
     /// A strict run ended at this line.
     Stray(StrayLine),
@@ -35,10 +35,10 @@ pub enum Done {
     Unknown(UnknownJob),
 }
 
-/// Ends what the words asked for. A fault is told in one line, as in `night: fault 3 NotAStore`,
-/// and where a call of a file failed in another, as in `night: jobs.store: No such file or
+/// Ends what the words asked for. A fault is printed in one line, as in `night: fault 3 NotAStore`,
+/// and a call of a file that failed in another, as in `night: jobs.store: No such file or
 /// directory`; so is a line at which a strict run ended, as in `night: line 7: bad line`. What
-/// strays in an audit is told by its own line.
+/// strays in an audit is printed by its own line.
 pub fn end<E: Write>(answer: &Result<Done, Failure<'_>>, errors: &mut E) -> Ended
     ensures { EndsBy answer.now result (E.contents errors.old) (E.contents errors.new) }
 {
@@ -54,7 +54,7 @@ pub fn end<E: Write>(answer: &Result<Done, Failure<'_>>, errors: &mut E) -> Ende
     }
 }
 
-/// Ends a program whose words ask for nothing, and tells why.
+/// Ends a program whose words ask for nothing, and prints why.
 pub fn refuse<E: Write>(fault: WordsFault, errors: &mut E) -> Ended
     ensures { Refuses fault result (E.contents errors.old) (E.contents errors.new) }
 {
@@ -64,7 +64,7 @@ pub fn refuse<E: Write>(fault: WordsFault, errors: &mut E) -> Ended
     }
 }
 
-/// The exit status where no fault ended the program.
+/// The exit status if no fault ended the program.
 fn status_of(done: &Done) -> u8
     ensures { result ≡ done_status done.now }
 {
@@ -95,7 +95,7 @@ fn refusal_status(fault: &WordsFault) -> u8
     }
 }
 
-/// Writes what there is to tell where no fault ended the program, and says whether all of it was
+/// Writes what there is to print if no fault ended the program, and returns whether all of it was
 /// written.
 fn tell_done<E: Write>(done: &Done, errors: &mut E) -> bool
     ensures { TellsDone done.now result (E.contents errors.old) (E.contents errors.new) }
@@ -117,7 +117,7 @@ fn tell_unknown<E: Write>(unknown: &UnknownJob, errors: &mut E) -> bool
     writeln!(errors, "night: unknown job {job}; tasks {tasks}").is_ok()
 }
 
-/// Writes the line of a fault, and that of a call of a file behind it, and says whether all was
+/// Writes the line of a fault, and that of a call of a file after it, and returns whether all was
 /// written.
 fn tell<E: Write>(failure: &Failure<'_>, errors: &mut E) -> bool
     ensures { Tells result (failure_lines failure.now)

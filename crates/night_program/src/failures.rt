@@ -11,7 +11,7 @@ use run_model::{Fault, Trouble};
 use std::fmt;
 use store_files::{BESIDE, Reason, Why};
 
-/// The fault that ended what the words asked for, and the call of a file behind it, if one failed.
+/// The fault that ended what the words asked for, and the call of a file that failed, if one did.
 #[derive(Drop)]
 pub struct Failure<'a> {
     pub fault: RunFault,
@@ -25,7 +25,7 @@ pub struct FileFailure<'a> {
     pub reason: Reason,
 }
 
-/// The name of a file that is told.
+/// The name of a file, as it is printed.
 #[derive(Clone, Copy)]
 pub enum FileName<'a> {
     /// One that the words have.
@@ -48,7 +48,7 @@ impl fmt::Display for FileName<'_> {
     }
 }
 
-/// What a file that isn't had is to the program.
+/// What a file that can't be opened or made is to the program.
 pub fn no_file<'a>(name: &'a str, reason: Reason) -> Failure<'a>
     ensures { IsNoFile name.now result }
 {
@@ -65,7 +65,7 @@ pub fn not_had<'a>(name: FileName<'a>, reason: Reason) -> Failure<'a>
     }
 }
 
-/// The fault of a file that isn't had: the device failed, or memory is wanting.
+/// The fault of a file that can't be opened or made: the device failed, or memory is wanting.
 fn fault_of(reason: &Reason) -> RunFault
     ensures { result ≡ fault_of reason.now }
 {
@@ -80,7 +80,7 @@ fn fault_of(reason: &Reason) -> RunFault
     }
 }
 
-/// What is told where a store isn't put in place. `InUse` is said of the file beside it, which is
+/// What is printed when a store isn't put in place. `InUse` is said of the file beside it, which is
 /// another program's by then, and all else of its own.
 pub fn not_put<'a>(store: &'a str, reason: Reason) -> Failure<'a>
     ensures { IsUnput store.now result }
@@ -93,7 +93,7 @@ pub fn not_put<'a>(store: &'a str, reason: Reason) -> Failure<'a>
     }
 }
 
-/// The file that is to blame where a store isn't put in place.
+/// The file that is to blame when a store isn't put in place.
 fn blamed<'a>(store: &'a str, reason: &Reason) -> FileName<'a>
     ensures { name_text result ≡ blamed store.now reason.now }
 {
@@ -168,7 +168,7 @@ pub fn strict_alone<'a>(done: Result<Option<StrayLine>, RunFault>) -> Result<Don
     }
 }
 
-/// What came of what was done over two files, each with its name; the first that tells why a call
+/// What came of what was done over two files, each with its name; the first that says why a call
 /// failed is named.
 pub fn done_over_two<'a, Y: Why>(
     done: Result<(), RunFault>,

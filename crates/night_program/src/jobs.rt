@@ -12,7 +12,7 @@ use run_model::{Name, TaskInfo, Text};
 const MOST_DIGITS: usize = 4;
 
 /// Does `spin`: as many turns as its argument says, and one that ends. The argument is 1 to 4
-/// digits, else the task fails as `bad argument`. It fails as `canceled` where it is told that its
+/// digits, else the task fails as `bad argument`. It fails as `canceled` when it is told that its
 /// scope is done.
 #[derive(Drop)]
 pub struct SpinJob;
@@ -100,7 +100,7 @@ fn number_in(bytes: &[u8]) -> Option<u32>
     Some(number)
 }
 
-/// Says whether a digit may stand behind this number: a number of 4 digits ends.
+/// Returns whether a digit may stand after this number: a number of 4 digits ends.
 fn goes_on(number: u32, byte: u8) -> bool
     ensures { result ≡ goes_on number byte }
 {

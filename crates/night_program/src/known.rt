@@ -18,8 +18,8 @@ pub struct UnknownJob {
     pub tasks: u16,
 }
 
-/// What is told of the tasks of a state that aren't ended and whose jobs aren't known, if there are
-/// any.
+/// What is printed of the tasks of a state that aren't ended and whose jobs aren't known, if there
+/// are any.
 pub fn unknown_in<B: Allocator>(state: &State<B>) -> Option<UnknownJob>
     ensures { result ≡ unknown_in state.now.work.tasks }
 {
@@ -30,7 +30,7 @@ pub fn unknown_in<B: Allocator>(state: &State<B>) -> Option<UnknownJob>
     found
 }
 
-/// What is told with one task more.
+/// What is printed with one task more.
 fn with_task(found: Option<UnknownJob>, look: &TaskLook) -> Option<UnknownJob>
     requires few { IfSome found (λ unknown. unknown.tasks < 65535) }
     ensures more { (tasks : List Task) (task : Task) → found ≡ unknown_in tasks
@@ -53,7 +53,7 @@ fn with_task(found: Option<UnknownJob>, look: &TaskLook) -> Option<UnknownJob>
     }
 }
 
-/// Says whether the program's crews know this job.
+/// Returns whether the program's crews know this job.
 pub fn is_known(job: &Name) -> bool
     ensures { result ≡ is_known job.now }
 {
@@ -61,7 +61,7 @@ pub fn is_known(job: &Name) -> bool
     job == b"spin".as_slice() || job == b"fail".as_slice() || job == b"copy".as_slice()
 }
 
-/// Says whether a task in this phase is yet to end.
+/// Returns whether a task in this phase is yet to end.
 fn is_unended(phase: &Phase) -> bool
     ensures { result ≡ is_unended phase.now }
 {

@@ -15,12 +15,12 @@ ghost use Rattle.night_program.specs.Stores.{InspectEnds, view_text};
 
 use run_disk::RunDisk;
 
-/// What one run of the program leaves of a store, the next one finds, where an opening finds what a
-/// crash of the disk that was last there may have left: behind a format the state of root alone;
-/// behind a script that was cut at any moment the state that was there, or what a restart of it and
-/// some first ones of the accepted events lead to; where it was cut from some place of its row on,
-/// all that was acknowledged there; behind a crew the same, of starts and finishes. And an
-/// inspection that is done prints what its view shows of the state that it finds.
+/// What one run of the program leaves of a store, the next one finds, if an opening finds what a
+/// crash of the disk that was last there may have left: after a format the state of root alone;
+/// after a script that was cut at any moment the state that was there, or what a restart of it and
+/// a prefix of the accepted events lead to; if it was cut from some place of its row on, all that
+/// was acknowledged there; after a crew the same, of starts and finishes. And an inspection that is
+/// done prints what its view shows of the state that it finds.
 pub fn a_store_lasts_from_run_to_run<D: RunDisk>()
     ensures format { (given left next : D) → (made : HasFormatted (D.state given) (D.state left))
         → (D.state given).honest → FindsLeft D.state left left next

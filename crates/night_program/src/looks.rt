@@ -20,7 +20,7 @@ use store_files::{Files, Opened, Reason};
 const MOST_READINGS: usize = 100;
 
 /// Prints what the view shows of a store that another program may be writing. It is read until two
-/// readings in a row agree in each byte, with a pause between them; where no two do, it is in use.
+/// readings in a row agree in each byte, with a pause between them; if no two do, it is in use.
 pub fn look<'a, F: Files, W: Write>(
     alloc: Global,
     files: &F,

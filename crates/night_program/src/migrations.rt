@@ -17,8 +17,8 @@ use std::alloc::Global;
 use std::io::Write;
 
 /// Makes a large store of `new`, a disk of its size, with the state that the small store on `old`
-/// holds, and prints `migrated; events N`: so many events are read in the new store then. The old
-/// disk is read alone. The new one is handed back.
+/// holds, and prints `migrated; events N`: so many events are read in the new store after that. The
+/// old disk is only read. The new one is handed back.
 pub fn migrate<D: RunDisk, E: RunDisk, W: Write>(
     alloc: Global,
     old: &mut D,
@@ -75,7 +75,7 @@ pub(crate) fn push<const N: usize>(line: &mut ArrayVec<u8, N>, bytes: &[u8])
     }
 }
 
-/// What a fault of a migration is to the program. It doesn't tell which store failed.
+/// What a fault of a migration is to the program. It doesn't say which store failed.
 pub(crate) fn unmigrated(fault: MigrateFault) -> RunFault
     ensures { result ≡ unmigrated fault }
 {

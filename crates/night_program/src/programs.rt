@@ -37,20 +37,20 @@ use timed_input::MachineTime;
 /// as why it gave none.
 ///
 /// `demo` runs the input over a book in memory; `format STORE` makes a large store of the file, and
-/// with `--new` only where there is none; `script STORE` runs the input over the store, and with
+/// with `--new` only if there is none; `script STORE` runs the input over the store, and with
 /// `--now` moves its clock to the clock's time before the input's lines; `inspect
-/// STORE` prints what it holds, also where another program has it open, and writes nothing to it,
+/// STORE` prints what it holds, also if another program has it open, and writes nothing to it,
 /// and with `--tasks` the lines of its tasks alone;
 /// `crew STORE` works off its ready tasks by threads, one for each of the first of these lists of
-/// jobs, and with `--known` only where it knows the jobs of all tasks that aren't ended; `migrate
+/// jobs, and with `--known` only if it knows the jobs of all tasks that aren't ended; `migrate
 /// OLD NEW` opens OLD for reading alone, and only then makes of NEW a large store with the state of
 /// OLD's small one; `renew OLD NEW` likewise makes of NEW a store of OLD's size with what isn't
-/// finished in OLD, and `renew --in-place STORE` makes one beside STORE, which it has for itself,
-/// and puts it in its place. Help and the version go to the output. Why words ask for nothing, and
-/// a fault that ended the rest, go to `errors`: any call of a file that fails is told as `fault 2
-/// DiskFailed`, and behind it which file it was, and why. A file that was made for a store which
-/// then isn't made is taken away again. A crew with fewer lists than it has workers is want of
-/// memory.
+/// finished in OLD, and `renew --in-place STORE` makes one beside STORE, on which it holds the
+/// lock, and puts it in its place. Help and the version go to the output. Why words ask for
+/// nothing, and a fault that ended the rest, go to `errors`: any call of a file that fails is
+/// printed as `fault 2 DiskFailed`, and after it which file it was, and why. A file that was made
+/// for a store which then isn't made is taken away again. A crew with fewer lists than it has
+/// workers is want of memory.
 pub fn night<F: Files, C: MachineTime, I: Read, O: Write, E: Write, R: Threads + Wait + Sync>(
     rt: &R,
     alloc: Global,
@@ -112,7 +112,7 @@ fn answer<'a, F: Files, C: MachineTime, I: Read, O: Write, R: Threads + Wait + S
     }
 }
 
-/// Does what was asked for, where that is no crew's night.
+/// Does what was asked for, if that isn't a crew's night.
 fn answer_alone<'a, F: Files, C: MachineTime, I: Read, O: Write>(
     alloc: Global,
     asked: &Asked<'a>,
@@ -191,8 +191,8 @@ fn make<F: Files>(
     }
 }
 
-/// Takes the file of this name away again where it is new and what it was made for failed; else it
-/// is the disk that this left.
+/// Takes the file of this name away again if it is new and what it was made for failed; else it is
+/// the disk that this left.
 fn leave<F: Files>(
     files: &mut F,
     name: &str,
@@ -238,8 +238,8 @@ fn script_file<'a, F: Files, I: Read, O: Write>(
     }
 }
 
-/// Prints what the view shows of the store in the file of this name, also where another program has
-/// it open.
+/// Prints what the view shows of the store in the file of this name, also if another program has it
+/// open.
 fn inspect_file<'a, F: Files, O: Write>(
     alloc: Global,
     store: &'a str,

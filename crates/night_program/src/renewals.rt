@@ -37,8 +37,8 @@ pub struct Kept {
 
 /// Makes of `new`, a disk of a store's size, a store of what isn't finished in the store on `old`,
 /// and prints `renewed; events N; scopes A of B; groups C of D; tasks E of F`: N, A, C and E are
-/// read in the new store then, B, D and F in the old one before. The old disk is read alone. The
-/// new one is handed back.
+/// read in the new store after that, B, D and F in the old one before. The old disk is only read.
+/// The new one is handed back.
 pub fn renew<D: RunDisk, E: RunDisk, W: Write>(
     alloc: Global,
     old: &mut D,
@@ -53,8 +53,8 @@ pub fn renew<D: RunDisk, E: RunDisk, W: Write>(
 }
 
 /// Makes of `new`, a disk of a store's size, a store of what isn't finished in the store on `old`,
-/// and reads how much that is: in the old store before, and in the new one then. The old disk is
-/// read alone. The new one is handed back.
+/// and reads how much that is: in the old store before, and in the new one after. The old disk is
+/// only read. The new one is handed back.
 pub fn remake<D: RunDisk, E: RunDisk>(
     alloc: Global,
     old: &mut D,
@@ -76,7 +76,7 @@ pub fn remake<D: RunDisk, E: RunDisk>(
     }
 }
 
-/// Prints the line of a renewal, where there is one.
+/// Prints the line of a renewal, if there is one.
 fn print_kept<W: Write>(done: Result<Kept, RunFault>, output: &mut W) -> Result<(), RunFault>
     ensures { PrintsKept done result (W.contents output.old) (W.contents output.new) }
 {
@@ -131,7 +131,7 @@ fn push_sizes<const N: usize>(line: &mut ArrayVec<u8, N>, before: Sizes, left: S
     push(line, b"\n");
 }
 
-/// So many rows of so many, behind their word.
+/// So many rows of so many, after their word.
 fn push_left<const N: usize>(line: &mut ArrayVec<u8, N>, word: &[u8], left: u64, were: u64)
     requires { array_vec_len line.old + (length word.now + 44) ≤ N }
     ensures { Gathers line.old.items line.new.items (of_text word.now left were)

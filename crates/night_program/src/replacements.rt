@@ -20,9 +20,9 @@ use std::alloc::{AllocError, Global};
 use std::io::Write;
 use store_files::{BESIDE, Files, Made, Opened, Reason};
 
-/// Has the store in the file of this name for this program alone, makes a store of the same size
+/// Opens the store in the file of this name for this program alone, makes a store of the same size
 /// beside it, of what isn't finished in it, puts that in its place, and prints how much is left.
-/// Up to there the store is read alone; where it can't be done, the new one is taken away again.
+/// Until then the store is only read; if it can't be done, the new one is taken away again.
 pub fn renew_in_place<'a, F: Files, O: Write>(
     alloc: Global,
     store: &'a str,
@@ -84,8 +84,8 @@ fn make_beside<F: Files>(
 }
 
 /// Makes of the new file, which has this name, a store of what isn't finished in the one that is
-/// open, and puts it in its place; then prints how much is left. Where either can't be done, the
-/// new file is taken away again.
+/// open, and puts it in its place; then prints how much is left. If either can't be done, the new
+/// file is taken away again.
 fn put_renewed<'a, F: Files, O: Write>(
     alloc: Global,
     store: &'a str,

@@ -28,8 +28,8 @@ pub fn format<D: RunDisk, W: Write>(disk: D, output: &mut W) -> (Result<(), RunF
     }
 }
 
-/// Opens the store on a disk, and runs the lines of the input over it. Where the store isn't
-/// opened, nothing is read or written. The disk is handed back, as the book held it.
+/// Opens the store on a disk, and runs the lines of the input over it. If the store isn't opened,
+/// nothing is read or written. The disk is handed back, as the book held it.
 pub fn script<D: RunDisk, R: Read, W: Write>(
     alloc: Global,
     disk: D,
@@ -49,7 +49,7 @@ pub fn script<D: RunDisk, R: Read, W: Write>(
     }
 }
 
-/// So does [`script`], up to the first line that strays, and answers which it is.
+/// So does [`script`], up to the first line that strays, and returns which it is.
 pub fn script_strict<D: RunDisk, R: Read, W: Write>(
     alloc: Global,
     disk: D,
@@ -69,7 +69,7 @@ pub fn script_strict<D: RunDisk, R: Read, W: Write>(
     }
 }
 
-/// Prints what the view shows of the state that the store on a disk holds. The disk is read alone.
+/// Prints what the view shows of the state that the store on a disk holds. The disk is only read.
 pub fn inspect<D: RunDisk, W: Write>(
     alloc: Global,
     disk: &mut D,

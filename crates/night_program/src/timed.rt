@@ -47,8 +47,8 @@ pub fn timed_file<'a, F: Files, C: MachineTime, I: Read, O: Write>(
 }
 
 /// Opens the store on a disk, and runs the lines of the input over it with the time before them.
-/// Where the store isn't opened, nothing is read or written. The disk is handed back, as the book
-/// held it.
+/// If the store isn't opened, nothing is read or written. The disk is handed back, as the book held
+/// it.
 fn timed<D: RunDisk, C: MachineTime, R: Read, W: Write>(
     alloc: Global,
     disk: D,
@@ -69,7 +69,7 @@ fn timed<D: RunDisk, C: MachineTime, R: Read, W: Write>(
     }
 }
 
-/// So does [`timed`], up to the first line that strays, and answers which it is.
+/// So does [`timed`], up to the first line that strays, and returns which it is.
 fn timed_strict<D: RunDisk, C: MachineTime, R: Read, W: Write>(
     alloc: Global,
     disk: D,
@@ -109,7 +109,7 @@ fn run_timed<D: RunDisk, C: MachineTime, R: Read, W: Write>(
     run(alloc, &mut lines, output, book)
 }
 
-/// So does [`run_timed`], up to the first line that strays, and answers which it is.
+/// So does [`run_timed`], up to the first line that strays, and returns which it is.
 fn run_timed_strict<D: RunDisk, C: MachineTime, R: Read, W: Write>(
     alloc: Global,
     clock: &mut C,
