@@ -15,8 +15,8 @@ _night() {
         script) flags="--strict --now --help" ;;
         crew) flags="--workers --known --help" ;;
         inspect) flags="--tasks --phase --group --json --tree --help" ;;
-        migrate) flags="--help" ;;
-        renew) flags="--in-place --help" ;;
+        migrate) flags="--new --help" ;;
+        renew) flags="--new --in-place --help" ;;
         help) mapfile -t COMPREPLY < <(compgen -W "$words" -- "$current") && return ;;
         *) return ;;
     esac

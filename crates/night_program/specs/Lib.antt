@@ -8,5 +8,6 @@ pub mod Lasting
 pub mod Looks
 pub mod Programs
 pub mod Replacements
+pub mod Sources
 pub mod Stores
 pub mod Timed

@@ -2,6 +2,7 @@
 use Rattle.std.specs.Prelude.{◌≡◌, ◌⊎◌, ◌<◌, ℕ, Bool, true, false, List, Option, Some, None, ⊤}
 use Rattle.std.specs.Prelude.{Result, Ok, Err, IfErr, IfOk}
 use Rattle.std.specs.String.{string_bytes}
+use Rattle.run_model.specs.declared.faults.Fault.{Fault}
 use Rattle.run_model.specs.declared.layouts.Layout.{Layout}
 use Rattle.run_model.specs.declared.layouts.Layout.TheVariants.{Large}
 use Rattle.run_model.specs.Layouts.{layout_of}
@@ -10,6 +11,7 @@ use Rattle.console_lines.specs.declared.faults.RunFault.{RunFault}
 use Rattle.console_lines.specs.declared.faults.RunFault.TheVariants.{Memory}
 use Rattle.console_lines.specs.declared.strays.StrayLine.{StrayLine}
 use Rattle.run_console.specs.Crews.{CrewEnds}
+use Rattle.run_console.specs.Troubles.{stopped}
 use Rattle.night_words.specs.Commands.{AsksFor, IsAnswer, IsCausedBy, faults_of}
 use Rattle.night_words.specs.declared.asked.Asked.{Asked}
 use Rattle.night_words.specs.declared.asked.Asked.TheVariants.{Demo, Format, Script, Inspect, Help}
@@ -23,13 +25,14 @@ use Rattle.night_program.specs.Crews.{AnswersCrew, IsLooked, StopsAt}
 use Rattle.night_program.specs.Demos.{DemoEnds, StrictDemoEnds}
 use Rattle.night_program.specs.Endings.{EndsBy, Refuses}
 use Rattle.night_program.specs.Failures.{AnswersAlone, AnswersOver, AnswersStrict, HasNoFile}
-use Rattle.night_program.specs.Failures.{HasNoSize, Names, NamesOne}
-use Rattle.store_files.specs.Files.{FilesView, Holds, HoldsAlone, IsNotMade, IsSettled, Makes}
+use Rattle.night_program.specs.Failures.{FailsBy, Names, NamesOne}
 use Rattle.night_program.specs.Looks.{LookEnds}
 use Rattle.night_program.specs.Replacements.{DoesRenewInPlace}
+use Rattle.night_program.specs.Sources.{Serves, ServesNot, migrated_layout}
 use Rattle.night_program.specs.Stores.{FormatEnds, InspectEnds, MigrateEnds, Prints, RenewEnds}
 use Rattle.night_program.specs.Stores.{ScriptEnds, StrictEnds}
 use Rattle.night_program.specs.Timed.{DoesTimed}
+use Rattle.store_files.specs.Files.{FilesView, Holds, HoldsAlone, IsNotMade, IsSettled, Makes}
 
 -- whether a crew's night was asked for
 abbrev pub asks_crew : Asked → Bool
@@ -126,16 +129,42 @@ module _ {F D : Type 0} (state : D → DiskState) (seen : FilesView F D) where
 
   -- ---- a store of another one
 
-  -- The file of the old name was opened for reading alone, then that of the new one made anew, of
-  -- the layout that goes with the old store, and a store made of it so (Ends). The old file is the
-  -- disk that was read.
+  -- The file of the old name was opened for reading alone, and no store is made of what is in it:
+  -- it was given back as it was read, and no other file was touched.
+  pub record Spares (of : D → Option Layout) (old : List ℕ) (answer : Result Done Failure)
+      (f0 f1 : F) : Type 0 where
+    pub source : D
+    pub read : D
+    pub why : Fault
+    pub held : HoldsAlone seen seen.shows old source read f0 f1
+    pub settled : IsSettled (state source)
+    pub none : ServesNot state (of source) source why read
+    pub answers : FailsBy (Names old) (stopped why) answer
+
+  -- The store in the file of the old name was read whole, and that of the new one couldn't be made
+  -- anew. The old file is the disk that was read.
+  pub record MakesNone (of : D → Option Layout) (only_new : Bool) (old new : List ℕ)
+      (answer : Result Done Failure) (f0 f1 : F) : Type 0 where
+    pub source : D
+    pub layout : Layout
+    pub read : D
+    pub settled : IsSettled (state source)
+    pub fits : of source ≡ Some layout
+    pub serves : Serves (state source) (state read)
+    pub held : Holds seen seen.shows old (IsNotMade seen new only_new) source read f0 f1
+    pub answers : HasNoFile new answer
+
+  -- The store in the file of the old name was read whole. Then the file of the new one was made
+  -- anew, of the layout that goes with the old store, and a store made of it so (Ends). The old
+  -- file is the disk that was read.
   pub record MakesOf (of : D → Option Layout)
       (Ends : (source given : D) → Result ⊤ RunFault → (read left : D)
       → (w0 w1 : Option (List ℕ)) → Type 0)
-      (old new : List ℕ) (answer : Result Done Failure) (f0 f1 : F) (w0 w1 : Option (List ℕ))
-      : Type 0 where
+      (only_new : Bool) (old new : List ℕ) (answer : Result Done Failure) (f0 f1 : F)
+      (w0 w1 : Option (List ℕ)) : Type 0 where
     pub source : D
     pub layout : Layout
+    pub looked : D
     pub is_new : Bool
     pub given : D
     pub read : D
@@ -143,41 +172,40 @@ module _ {F D : Type 0} (state : D → DiskState) (seen : FilesView F D) where
     pub done : Result ⊤ RunFault
     pub settled : IsSettled (state source)
     pub fits : of source ≡ Some layout
-    pub ends : Ends source given done read left w0 w1
+    pub serves : Serves (state source) (state looked)
+    pub ends : Ends looked given done read left w0 w1
     pub answers : AnswersOver (NamesOne old new) done answer
     pub held : Holds seen seen.shows old (λ opened after. (made : F)
-        × Makes state seen new layout false is_new given opened made
+        × Makes state seen new layout only_new is_new given opened made
         × IsLeft seen is_new done new left made after) source read f0 f1
 
-  -- The file of the old name was opened for reading alone, and that of the new one couldn't be made
-  -- anew. The old file is the disk that was opened.
-  abbrev pub MakesNone : (old new : List ℕ) → Result Done Failure → (f0 f1 : F) → Type 0
-  MakesNone old new answer f0 f1 =
-      HasNoFile new answer × (source : D)
-      × Holds seen seen.shows old (IsNotMade seen new false) source source f0 f1
-
-  -- ---- migrate
+  -- A store was made of another one so (Ends), of the layout that goes with it. Or nothing was
+  -- printed: the old file couldn't be opened, or no store is made of what is in it, or the new file
+  -- couldn't be made anew.
+  abbrev pub DoesMake : (of : D → Option Layout)
+      → (Ends : (source given : D) → Result ⊤ RunFault → (read left : D)
+      → (w0 w1 : Option (List ℕ)) → Type 0)
+      → (only_new : Bool) → (old new : List ℕ) → Result Done Failure → (f0 f1 : F)
+      → (w0 w1 : Option (List ℕ)) → Type 0
+  DoesMake of Ends only_new old new answer f0 f1 w0 w1 =
+      (HasNoFile old answer × (f1 ≡ f0) × (w1 ≡ w0))
+      ⊎ ((Spares of old answer f0 f1 × (w1 ≡ w0))
+      ⊎ ((MakesNone of only_new old new answer f0 f1 × (w1 ≡ w0))
+      ⊎ MakesOf of Ends only_new old new answer f0 f1 w0 w1))
 
   -- The small store in the file of the old name was migrated to a large one.
-  abbrev pub DoesMigrate : (old new : List ℕ) → Result Done Failure → (f0 f1 : F)
-      → (w0 w1 : Option (List ℕ)) → Type 0
-  DoesMigrate old new answer f0 f1 w0 w1 =
-      (HasNoFile old answer × (f1 ≡ f0) × (w1 ≡ w0))
-      ⊎ ((MakesNone old new answer f0 f1 × (w1 ≡ w0))
-      ⊎ MakesOf (λ source. Some Large) (MigrateEnds state state) old new answer f0 f1 w0 w1)
-
-  -- ---- renew
+  abbrev pub DoesMigrate : (only_new : Bool) → (old new : List ℕ) → Result Done Failure
+      → (f0 f1 : F) → (w0 w1 : Option (List ℕ)) → Type 0
+  DoesMigrate only_new old new answer f0 f1 w0 w1 =
+      DoesMake (λ source. migrated_layout (state source).size) (MigrateEnds state state)
+      only_new old new answer f0 f1 w0 w1
 
   -- The store in the file of the old name was renewed: the new one is of its layout.
-  abbrev pub DoesRenew : (old new : List ℕ) → Result Done Failure → (f0 f1 : F)
-      → (w0 w1 : Option (List ℕ)) → Type 0
-  DoesRenew old new answer f0 f1 w0 w1 =
-      (HasNoFile old answer × (f1 ≡ f0) × (w1 ≡ w0))
-      ⊎ ((HasNoSize state (λ source. HoldsAlone seen seen.shows old source source f0 f1) old answer
-      × (w1 ≡ w0))
-      ⊎ ((MakesNone old new answer f0 f1 × (w1 ≡ w0))
-      ⊎ MakesOf (λ source. layout_of (state source).size) (RenewEnds state state)
-      old new answer f0 f1 w0 w1))
+  abbrev pub DoesRenew : (only_new : Bool) → (old new : List ℕ) → Result Done Failure
+      → (f0 f1 : F) → (w0 w1 : Option (List ℕ)) → Type 0
+  DoesRenew only_new old new answer f0 f1 w0 w1 =
+      DoesMake (λ source. layout_of (state source).size) (RenewEnds state state)
+      only_new old new answer f0 f1 w0 w1
 
   -- ---- crew
 
@@ -251,10 +279,10 @@ module _ {F D : Type 0} (state : D → DiskState) (seen : FilesView F D) where
       DoesInspect view store.now answer f0 f1 w0 w1 × (r1 ≡ r0)
   Does (Crew store workers known) lists moments answer f0 f1 r0 r1 w0 w1 =
       DoesCrew store.now workers lists known answer f0 f1 w0 w1 × (r1 ≡ r0)
-  Does (Migrate old new) lists moments answer f0 f1 r0 r1 w0 w1 =
-      DoesMigrate old.now new.now answer f0 f1 w0 w1 × (r1 ≡ r0)
-  Does (Renew old new) lists moments answer f0 f1 r0 r1 w0 w1 =
-      DoesRenew old.now new.now answer f0 f1 w0 w1 × (r1 ≡ r0)
+  Does (Migrate old new is_new) lists moments answer f0 f1 r0 r1 w0 w1 =
+      DoesMigrate is_new old.now new.now answer f0 f1 w0 w1 × (r1 ≡ r0)
+  Does (Renew old new is_new) lists moments answer f0 f1 r0 r1 w0 w1 =
+      DoesRenew is_new old.now new.now answer f0 f1 w0 w1 × (r1 ≡ r0)
   Does (RenewInPlace store) lists moments answer f0 f1 r0 r1 w0 w1 =
       DoesRenewInPlace state seen store.now answer f0 f1 w0 w1 × (r1 ≡ r0)
   Does (Help text) lists moments answer f0 f1 r0 r1 w0 w1 =

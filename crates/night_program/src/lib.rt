@@ -18,6 +18,7 @@ mod migrations;
 mod programs;
 mod renewals;
 mod replacements;
+mod sources;
 mod stores;
 mod timed;
 

@@ -18,6 +18,7 @@ use crate::looks::look;
 use crate::migrations::migrate;
 use crate::renewals::renew;
 use crate::replacements::renew_in_place;
+use crate::sources::{migrated_layout, read_source};
 use crate::stores::{format, inspect, script, script_strict};
 use crate::timed::timed_file;
 use console_lines::RunFault;
@@ -25,7 +26,7 @@ use night_words::{Asked, View, WordsFault, read_words};
 use run_console::{stopped, write_whole};
 use run_crew::Job;
 use run_disk::RunDisk;
-use run_model::{Fault, Layout};
+use run_model::Layout;
 use std::alloc::Global;
 use std::io::{Read, Write};
 use std::sync::Wait;
@@ -38,19 +39,18 @@ use timed_input::MachineTime;
 ///
 /// `demo` runs the input over a book in memory; `format STORE` makes a large store of the file, and
 /// with `--new` only if there is none; `script STORE` runs the input over the store, and with
-/// `--now` moves its clock to the clock's time before the input's lines; `inspect
-/// STORE` prints what it holds, also if another program has it open, and writes nothing to it,
-/// and with `--tasks` the lines of its tasks alone;
-/// `crew STORE` works off its ready tasks by threads, one for each of the first of these lists of
-/// jobs, and with `--known` only if it knows the jobs of all tasks that aren't ended; `migrate
-/// OLD NEW` opens OLD for reading alone, and only then makes of NEW a large store with the state of
-/// OLD's small one; `renew OLD NEW` likewise makes of NEW a store of OLD's size with what isn't
-/// finished in OLD, and `renew --in-place STORE` makes one beside STORE, on which it holds the
-/// lock, and puts it in its place. Help and the version go to the output. Why words ask for
-/// nothing, and a fault that ended the rest, go to `errors`: any call of a file that fails is
-/// printed as `fault 2 DiskFailed`, and after it which file it was, and why. A file that was made
-/// for a store which then isn't made is taken away again. A crew with fewer lists than it has
-/// workers is want of memory.
+/// `--now` moves its clock to the clock's time before the input's lines; `inspect STORE` prints
+/// what it holds, also if another program has it open, and writes nothing to it, and with `--tasks`
+/// the lines of its tasks alone; `crew STORE` works off its ready tasks by threads, one for each of
+/// the first of these lists of jobs, and with `--known` only if it knows the jobs of all tasks that
+/// aren't ended; `migrate OLD NEW` opens OLD for reading alone, reads it whole, and only then makes
+/// of NEW a large store with the state of OLD's small one, with `--new` only if there is no NEW;
+/// `renew OLD NEW` likewise makes of NEW a store of OLD's size with what isn't finished in OLD, and
+/// `renew --in-place STORE` makes one beside STORE, on which it holds the lock, and puts it in its
+/// place. Help and the version go to the output. Why words ask for nothing, and a fault that ended
+/// the rest, go to `errors`: any call of a file that fails is printed as `fault 2 DiskFailed`, and
+/// after it which file it was, and why. A file that was made for a store which then isn't made is
+/// taken away again. A crew with fewer lists than it has workers is want of memory.
 pub fn night<F: Files, C: MachineTime, I: Read, O: Write, E: Write, R: Threads + Wait + Sync>(
     rt: &R,
     alloc: Global,
@@ -143,8 +143,10 @@ fn answer_alone<'a, F: Files, C: MachineTime, I: Read, O: Write>(
         } => timed_file(alloc, store, *strict, files, clock, input, output),
         Asked::Inspect { store, view } => inspect_file(alloc, store, *view, files, output),
         Asked::Crew { .. } => unreachable!(),
-        Asked::Migrate(old, new) => migrate_file(alloc, old, new, files, output),
-        Asked::Renew(old, new) => renew_file(alloc, old, new, files, output),
+        Asked::Migrate { old, new, is_new } => {
+            migrate_file(alloc, old, new, *is_new, files, output)
+        }
+        Asked::Renew { old, new, is_new } => renew_file(alloc, old, new, *is_new, files, output),
         Asked::RenewInPlace(store) => renew_in_place(alloc, store, files, output),
         Asked::Help(text) => done_alone(write_whole(output, text.as_bytes())),
     }
@@ -283,17 +285,19 @@ fn look_file<'a, F: Files, O: Write>(
     }
 }
 
-/// Opens the small store in the file of the old name for reading alone, creates that of the new
-/// name or empties it, and makes a large store of it with the state of the old one.
+/// Opens the small store in the file of the old name for reading alone, and reads it whole. Then it
+/// creates the file of the new name, or empties one that needn't be new, and makes a large store of
+/// it with the state of the old one.
 fn migrate_file<'a, F: Files, O: Write>(
     alloc: Global,
     old: &'a str,
     new: &'a str,
+    only_new: bool,
     files: &mut F,
     output: &mut O,
 ) -> Result<Done, Failure<'a>>
-    ensures { DoesMigrate F.Disk.state F.seen old.now new.now result files.old files.new
-        (O.contents output.old) (O.contents output.new) }
+    ensures { DoesMigrate F.Disk.state F.seen only_new old.now new.now result
+        files.old files.new (O.contents output.old) (O.contents output.new) }
 {
     let opened = match files.open_to_read(old) {
         Ok(opened) => opened,
@@ -303,7 +307,15 @@ fn migrate_file<'a, F: Files, O: Write>(
         disk: mut source,
         why: why_old,
     } = opened;
-    match make(new, Layout::Large, false, files) {
+    let to = migrated_layout(source.size());
+    let large = match read_source(alloc, &mut source, to) {
+        Ok(layout) => layout,
+        Err(fault) => {
+            files.close(old, source);
+            return Err(failed_over(stopped(fault), old, &why_old));
+        }
+    };
+    match make(new, large, only_new, files) {
         Ok(Made { disk, why, is_new }) => {
             let (done, left) = migrate(alloc, &mut source, disk, output);
             leave(files, new, is_new, left, &done);
@@ -317,17 +329,19 @@ fn migrate_file<'a, F: Files, O: Write>(
     }
 }
 
-/// Opens the store in the file of the old name for reading alone, creates that of the new name or
-/// empties it, and makes of it a store of the same size with what isn't finished in the old one.
+/// Opens the store in the file of the old name for reading alone, and reads it whole. Then it
+/// creates the file of the new name, or empties one that needn't be new, and makes of it a store of
+/// the same size with what isn't finished in the old one.
 fn renew_file<'a, F: Files, O: Write>(
     alloc: Global,
     old: &'a str,
     new: &'a str,
+    only_new: bool,
     files: &mut F,
     output: &mut O,
 ) -> Result<Done, Failure<'a>>
-    ensures { DoesRenew F.Disk.state F.seen old.now new.now result files.old files.new
-        (O.contents output.old) (O.contents output.new) }
+    ensures { DoesRenew F.Disk.state F.seen only_new old.now new.now result
+        files.old files.new (O.contents output.old) (O.contents output.new) }
 {
     let Opened {
         disk: mut stored,
@@ -336,11 +350,15 @@ fn renew_file<'a, F: Files, O: Write>(
         Ok(opened) => opened,
         Err(reason) => return Err(no_file(old, reason)),
     };
-    let Some(layout) = Layout::of(stored.size()) else {
-        files.close(old, stored);
-        return Err(failed_over(stopped(Fault::WrongSize), old, &why_old));
+    let same = Layout::of(stored.size());
+    let layout = match read_source(alloc, &mut stored, same) {
+        Ok(layout) => layout,
+        Err(fault) => {
+            files.close(old, stored);
+            return Err(failed_over(stopped(fault), old, &why_old));
+        }
     };
-    match make(new, layout, false, files) {
+    match make(new, layout, only_new, files) {
         Ok(Made { disk, why, is_new }) => {
             let (done, left) = renew(alloc, &mut stored, disk, output);
             leave(files, new, is_new, left, &done);

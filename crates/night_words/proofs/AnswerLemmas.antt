@@ -42,8 +42,8 @@ shown_is_answer kind kinds (Ok (Format store is_new)) found shown = absurd shown
 shown_is_answer kind kinds (Ok (Script store strict timed)) found shown = absurd shown
 shown_is_answer kind kinds (Ok (Inspect store view)) found shown = absurd shown
 shown_is_answer kind kinds (Ok (Crew store workers known)) found shown = absurd shown
-shown_is_answer kind kinds (Ok (Migrate old new)) found shown = absurd shown
-shown_is_answer kind kinds (Ok (Renew old new)) found shown = absurd shown
+shown_is_answer kind kinds (Ok (Migrate old new is_new)) found shown = absurd shown
+shown_is_answer kind kinds (Ok (Renew old new is_new)) found shown = absurd shown
 shown_is_answer kind kinds (Ok (RenewInPlace store)) found shown = absurd shown
 shown_is_answer kind kinds (Ok (Help text)) (inl e) shown = absurd (no_help kind e shown)
 shown_is_answer kind kinds (Ok (Help text)) (inr among) shown = (kind, among, shown)
@@ -74,8 +74,8 @@ error_asks_nothing kind words (Ok (Format store is_new)) shown = absurd shown
 error_asks_nothing kind words (Ok (Script store strict timed)) shown = absurd shown
 error_asks_nothing kind words (Ok (Inspect store view)) shown = absurd shown
 error_asks_nothing kind words (Ok (Crew store workers known)) shown = absurd shown
-error_asks_nothing kind words (Ok (Migrate old new)) shown = absurd shown
-error_asks_nothing kind words (Ok (Renew old new)) shown = absurd shown
+error_asks_nothing kind words (Ok (Migrate old new is_new)) shown = absurd shown
+error_asks_nothing kind words (Ok (Renew old new is_new)) shown = absurd shown
 error_asks_nothing kind words (Ok (RenewInPlace store)) shown = absurd shown
 error_asks_nothing kind words (Ok (Help text)) shown = tt
 error_asks_nothing kind words (Err fault) shown = tt
@@ -118,7 +118,7 @@ module _ (a : App) (words : List Text) (m : ArgMatches) (is_night : a ≡ night)
 
   -- and what is asked for of it, the words ask for
   pub command_is_asked : (r : Result Asked WordsFault)
-      → Asks (named_by m) (new_by m) (subcommand_rows_of m) r
+      → Asks (subcommand_rows_of m) r
       → IfOk r (λ asked. AsksFor asked words)
   command_is_asked (Ok asked) asks =
       taken_asks words (subcommand_rows_of m) asked names_alike matches_taken asks
@@ -126,7 +126,7 @@ module _ (a : App) (words : List Text) (m : ArgMatches) (is_night : a ≡ night)
 
   -- or they are a mistake of their own
   pub command_is_cause : (r : Result Asked WordsFault)
-      → Asks (named_by m) (new_by m) (subcommand_rows_of m) r
+      → Asks (subcommand_rows_of m) r
       → IfErr r (λ why. IsCausedBy why words)
   command_is_cause (Ok asked) asks = tt
   command_is_cause (Err why) asks =
@@ -134,15 +134,15 @@ module _ (a : App) (words : List Text) (m : ArgMatches) (is_night : a ≡ night)
 
   -- which is an answer
   pub command_is_answer : (r : Result Asked WordsFault)
-      → Asks (named_by m) (new_by m) (subcommand_rows_of m) r
+      → Asks (subcommand_rows_of m) r
       → IsAnswer (faults_of words) r
   command_is_answer (Ok (Demo strict)) asks = finds_nothing
   command_is_answer (Ok (Format store is_new)) asks = finds_nothing
   command_is_answer (Ok (Script store strict timed)) asks = finds_nothing
   command_is_answer (Ok (Inspect store view)) asks = finds_nothing
   command_is_answer (Ok (Crew store workers known)) asks = finds_nothing
-  command_is_answer (Ok (Migrate old new)) asks = finds_nothing
-  command_is_answer (Ok (Renew old new)) asks = finds_nothing
+  command_is_answer (Ok (Migrate old new is_new)) asks = finds_nothing
+  command_is_answer (Ok (Renew old new is_new)) asks = finds_nothing
   command_is_answer (Ok (RenewInPlace store)) asks = finds_nothing
   command_is_answer (Ok (Help text)) asks = absurd asks
   command_is_answer (Err SameStores) asks = finds_nothing

@@ -2,7 +2,7 @@
 use Rattle.std.proofs.Common.{◌≡◌, ◌∙◌, Bool, List, Option, Some, None, [], ap, ap₂}
 use Rattle.std.proofs.Common.{false, inl}
 use Rattle.std.proofs.Common.{inr, refl, subst, sym, true}
-use Rattle.std.specs.Prelude.{Box, codes, is_some, option_and_then, option_map, unwrap_or}
+use Rattle.std.specs.Prelude.{Box, codes, option_and_then, option_map, unwrap_or}
 use Rattle.std.specs.Prelude.{Result, Ok, Err}
 use Rattle.std.specs.Borrow.{Bor}
 use Rattle.std.specs.Box.{box_value}
@@ -18,8 +18,8 @@ use Rattle.clap.specs.declared.parser.matches.ArgMatches.TheViews.{out-ArgMatche
 use Rattle.clap.specs.declared.parser.matches.SubCommand.{SubCommand}
 use Rattle.night_words.specs.Commands.{Asks, IsCrew, IsForTwo, IsInspect, IsNamed, IsRenewal}
 use Rattle.night_words.specs.Commands.{IsView, Named, NamesDemo, NamesFormat, NamesInspect}
-use Rattle.night_words.specs.Commands.{NamesRenewal, NamesScript, NamesTwo, command_in, has_flag}
-use Rattle.night_words.specs.Commands.{is_true, named_by, named_in, new_by, word_in}
+use Rattle.night_words.specs.Commands.{NamesMigration, NamesRenewal, NamesScript, command_in}
+use Rattle.night_words.specs.Commands.{has_flag, is_true, named_by, named_in, new_by, word_in}
 use Rattle.night_words.specs.Commands.{workers_of}
 use Rattle.night_words.specs.declared.asked.Asked.{Asked}
 use Rattle.night_words.specs.declared.asked.Asked.TheVariants.{Demo, Format, Script, Inspect, Help}
@@ -169,7 +169,7 @@ pub crew_here : (m : ArgMatches) (command : Bor Text) (inner : Bor ArgMatches)
     → command.now ≡ crew → count ≡ first_value (found_of inner.now) (codes "STORE")
     → store ≡ unwrap_or count [] → workers ≡ first_value (found_of inner.now) (codes "workers")
     → known ≡ is_true (first_value (found_of inner.now) (codes "known"))
-    → IsCrew store workers known r → Asks (named_by m) (new_by m) (subcommand_rows_of m) r
+    → IsCrew store workers known r → Asks (subcommand_rows_of m) r
 crew_here m command inner store count workers known r name rows is read whole given knows made =
     go r made
   where
@@ -187,7 +187,7 @@ crew_here m command inner store count workers known r name rows is read whole gi
     knowing = flag_here (codes "known") m command inner known rows knows
 
     go : (r : Result Asked WordsFault) → IsCrew store workers known r
-        → Asks (named_by m) (new_by m) (subcommand_rows_of m) r
+        → Asks (subcommand_rows_of m) r
     go (Ok (Demo strict)) made = absurd made
     go (Ok (Format s n)) made = absurd made
     go (Ok (Script s strict timed)) made = absurd made
@@ -198,8 +198,8 @@ crew_here m command inner store count workers known r name rows is read whole gi
       ap (λ o. workers_of o) working ∙ made.1,
       knowing ∙ sym made.2,
     )
-    go (Ok (Migrate o n)) made = absurd made
-    go (Ok (Renew o n)) made = absurd made
+    go (Ok (Migrate o n b)) made = absurd made
+    go (Ok (Renew o n b)) made = absurd made
     go (Ok (RenewInPlace o)) made = absurd made
     go (Ok (Help text)) made = absurd made
     go (Err (Mistake text)) made = absurd made
@@ -218,7 +218,7 @@ pub inspect_here : (m : ArgMatches) (command : Bor Text) (inner : Bor ArgMatches
     → Some (rows_of (found_of inner.now)) ≡ option_map (λ p. p.1) (subcommand_rows_of m)
     → command.now ≡ inspect → Some store ≡ first_value (found_of inner.now) (codes "STORE")
     → IsInspect store (first_value (found_of inner.now)) r
-    → Asks (named_by m) (new_by m) (subcommand_rows_of m) r
+    → Asks (subcommand_rows_of m) r
 inspect_here m command inner store r name rows is stored made = go r made
   where
     which : command_in (subcommand_rows_of m) ≡ Some inspect
@@ -237,15 +237,15 @@ inspect_here m command inner store r name rows is stored made = go r made
     )
 
     go : (r : Result Asked WordsFault) → IsInspect store (first_value (found_of inner.now)) r
-        → Asks (named_by m) (new_by m) (subcommand_rows_of m) r
+        → Asks (subcommand_rows_of m) r
     go (Ok (Demo strict)) made = absurd made
     go (Ok (Format s n)) made = absurd made
     go (Ok (Script s strict timed)) made = absurd made
     go (Ok (Inspect s view)) made = subst (λ t. NamesInspect t (Ok view) (subcommand_rows_of m))
         (sym made.0) (seen (Ok view) made.1)
     go (Ok (Crew s n k)) made = absurd made
-    go (Ok (Migrate o n)) made = absurd made
-    go (Ok (Renew o n)) made = absurd made
+    go (Ok (Migrate o n b)) made = absurd made
+    go (Ok (Renew o n b)) made = absurd made
     go (Ok (RenewInPlace s)) made = absurd made
     go (Ok (Help text)) made = absurd made
     go (Err (Mistake text)) made = absurd made
@@ -259,45 +259,54 @@ inspect_here m command inner store r name rows is stored made = go r made
 
 -- and where it is `renew`
 pub renewal_here : (m : ArgMatches) (command : Bor Text) (inner : Bor ArgMatches)
-    (store : Text) (new : Option Text) (in_place : Bool) (r : Result Asked WordsFault)
+    (store : Text) (new : Option Text) (is_new in_place : Bool) (r : Result Asked WordsFault)
     → Some command.now ≡ subcommand_name_of m
     → Some (rows_of (found_of inner.now)) ≡ option_map (λ p. p.1) (subcommand_rows_of m)
     → command.now ≡ renew → Some store ≡ first_value (found_of inner.now) (codes "STORE")
     → new ≡ first_value (found_of inner.now) (codes "NEW")
+    → is_new ≡ is_true (first_value (found_of inner.now) (codes "new"))
     → in_place ≡ is_true (first_value (found_of inner.now) (codes "in-place"))
-    → IsRenewal store new in_place r → Asks (named_by m) (new_by m) (subcommand_rows_of m) r
-renewal_here m command inner store new in_place r name rows is stored read flagged made = go r made
+    → IsRenewal store new is_new in_place r → Asks (subcommand_rows_of m) r
+renewal_here m command inner store new is_new in_place r name rows is stored read any there made =
+    go r made
   where
     -- the words of this renewal were found
-    finds : (s : Text) (n : Option Text) (b : Bool) → s ≡ store → new ≡ n → in_place ≡ b
-        → NamesRenewal s n b (subcommand_rows_of m)
-    finds s n b old fresh set = (
+    finds : (s : Text) (n : Option Text) (b p : Bool) → s ≡ store → new ≡ n → is_new ≡ b
+        → in_place ≡ p → NamesRenewal s n b p (subcommand_rows_of m)
+    finds s n b p old fresh alone set = (
       command_here m command renew name is,
       word_here (codes "STORE") m command inner rows ∙ sym stored ∙ ap Some (sym old),
       word_here (codes "NEW") m command inner rows ∙ sym read ∙ fresh,
-      flag_here (codes "in-place") m command inner in_place rows flagged ∙ set,
+      flag_here (codes "new") m command inner is_new rows any ∙ alone,
+      flag_here (codes "in-place") m command inner in_place rows there ∙ set,
     )
 
-    go : (r : Result Asked WordsFault) → IsRenewal store new in_place r
-        → Asks (named_by m) (new_by m) (subcommand_rows_of m) r
+    go : (r : Result Asked WordsFault) → IsRenewal store new is_new in_place r
+        → Asks (subcommand_rows_of m) r
     go (Ok (Demo strict)) made = absurd made
     go (Ok (Format s n)) made = absurd made
     go (Ok (Script s strict timed)) made = absurd made
     go (Ok (Inspect s view)) made = absurd made
     go (Ok (Crew s n k)) made = absurd made
-    go (Ok (Migrate o n)) made = absurd made
-    go (Ok (Renew o n)) made = (
-      finds o.now (Some n.now) false made.0 made.1 made.2,
-      λ same. made.3 (sym made.0 ∙ same),
+    go (Ok (Migrate o n b)) made = absurd made
+    go (Ok (Renew o n b)) made = (
+      finds o.now (Some n.now) b false made.0 made.1 (sym made.2) made.3,
+      λ same. made.4 (sym made.0 ∙ same),
     )
-    go (Ok (RenewInPlace o)) made = finds o.now None true made.0 made.1 made.2
+    go (Ok (RenewInPlace o)) made = finds o.now None false true made.0 made.1 made.2 made.3
     go (Ok (Help text)) made = absurd made
     go (Err (Mistake text)) made = absurd made
-    go (Err SameStores) made = (store, inr (finds store (Some store) false refl made.0 made.1))
+    go (Err SameStores) made = (
+      store,
+      (is_new, inr (finds store (Some store) is_new false refl made.0 refl made.1)),
+    )
     go (Err Workers) made = absurd made
     go (Err Views) made = absurd made
     go (Err Phase) made = absurd made
-    go (Err Place) made = (store, (new, finds store new (is_some new) refl refl made))
+    go (Err Place) made = (
+      store,
+      (new, (is_new, (in_place, made, finds store new is_new in_place refl refl refl refl))),
+    )
     go (Err NotText) made = absurd made
     go (Err Memory) made = absurd made
 
@@ -376,36 +385,44 @@ new_is_there new given some none =
     let bad : Some given ≡ None = sym some ∙ none in
     cc
 
--- a migration is what is named
-pub two_asked : (named : Named) (new : Option Text) (name store given : Text)
-    (entered : Option (Text × List Row)) (r : Result Asked WordsFault)
-    → name ≡ migrate → named ≡ Some (name, Some store) → new ≡ Some given
-    → IsForTwo false store given r → Asks named new entered r
-two_asked named new name store given entered r at is fresh made = go r made
+-- and where it is `migrate`
+pub migration_here : (m : ArgMatches) (command : Bor Text) (inner : Bor ArgMatches)
+    (store given : Text) (is_new : Bool) (r : Result Asked WordsFault)
+    → Some command.now ≡ subcommand_name_of m
+    → Some (rows_of (found_of inner.now)) ≡ option_map (λ p. p.1) (subcommand_rows_of m)
+    → command.now ≡ migrate → Some store ≡ first_value (found_of inner.now) (codes "STORE")
+    → Some given ≡ first_value (found_of inner.now) (codes "NEW")
+    → is_new ≡ is_true (first_value (found_of inner.now) (codes "new"))
+    → IsForTwo false is_new store given r → Asks (subcommand_rows_of m) r
+migration_here m command inner store given is_new r name rows is stored read any made = go r made
   where
-    names : (old new_one : Text) → old ≡ store → new_one ≡ given
-        → NamesTwo migrate old new_one named new
-    names old new_one from to = (
-      is ∙ ap₂ (λ c t. Some (c, Some t)) at (sym from),
-      fresh ∙ ap Some (sym to),
+    -- the words of this migration were found
+    finds : (s n : Text) (b : Bool) → s ≡ store → n ≡ given → b ≡ is_new
+        → NamesMigration s n b (subcommand_rows_of m)
+    finds s n b old fresh alone = (
+      command_here m command migrate name is,
+      word_here (codes "STORE") m command inner rows ∙ sym stored ∙ ap Some (sym old),
+      word_here (codes "NEW") m command inner rows ∙ sym read ∙ ap Some (sym fresh),
+      flag_here (codes "new") m command inner is_new rows any ∙ sym alone,
     )
 
-    go : (r : Result Asked WordsFault) → IsForTwo false store given r → Asks named new entered r
+    go : (r : Result Asked WordsFault) → IsForTwo false is_new store given r
+        → Asks (subcommand_rows_of m) r
     go (Ok (Demo strict)) made = absurd made
     go (Ok (Format s b)) made = absurd made
     go (Ok (Script s b t)) made = absurd made
     go (Ok (Inspect s view)) made = absurd made
     go (Ok (Crew s n b)) made = absurd made
     go (Ok (Help text)) made = absurd made
-    go (Ok (Migrate o n)) made = (
-      names o.now n.now made.1 made.2,
-      λ same. made.3 (sym made.1 ∙ (same ∙ made.2)),
+    go (Ok (Migrate o n b)) made = (
+      finds o.now n.now b made.2 made.3 made.1,
+      λ same. made.4 (sym made.2 ∙ (same ∙ made.3)),
     )
-    go (Ok (Renew o n)) made =
+    go (Ok (Renew o n b)) made =
         let bad : false ≡ true = made.0 in
         cc
     go (Ok (RenewInPlace o)) made = absurd made
-    go (Err SameStores) made = (store, inl (names store store refl made))
+    go (Err SameStores) made = (store, (is_new, inl (finds store store is_new refl made refl)))
     go (Err Workers) made = absurd made
     go (Err Views) made = absurd made
     go (Err Phase) made = absurd made

@@ -42,7 +42,10 @@ formed migrates = record {
   once = refl;
   forms = (
     is_place (codes "STORE") 1 true refl,
-    (is_place (codes "NEW") 2 true refl, (is_help refl, tt)),
+    (
+      is_place (codes "NEW") 2 true refl,
+      (is_flag (codes "new") refl, (is_help refl, tt)),
+    ),
   );
 }
 formed renews = record {
@@ -51,23 +54,35 @@ formed renews = record {
     is_place (codes "STORE") 1 true refl,
     (
       is_place (codes "NEW") 2 false refl,
-      (is_flag (codes "in-place") refl, (is_help refl, tt)),
+      (
+        is_flag (codes "new") refl,
+        (is_flag (codes "in-place") refl, (is_help refl, tt)),
+      ),
     ),
   );
 }
 
 -- no flag of the command is there, by the words that were found
 abbrev pub IsUnset : Pair → (word : Text → Option Text) → Type 0
-IsUnset migrates word = Unit {0}
-IsUnset renews word = is_true (word (codes "in-place")) ≡ false
+IsUnset migrates word = is_true (word (codes "new")) ≡ false
+IsUnset renews word = (is_true (word (codes "new")) ≡ false)
+    × (is_true (word (codes "in-place")) ≡ false)
 
 quiet : (c : Pair) (rows : List Row) → IsUnset c (λ id. first_of id rows)
     → IsQuiet (shape_of c) rows
-quiet migrates rows unset =
-    (λ named shown. cc, (λ named shown. cc, (λ named shown. cc, tt)))
-quiet renews rows unset = (
+quiet migrates rows unset = (
   λ named shown. cc,
   (λ named shown. cc, (λ named shown. apart _ unset shown, (λ named shown. cc, tt))),
+)
+quiet renews rows unset = (
+  λ named shown. cc,
+  (
+    λ named shown. cc,
+    (
+      λ named shown. apart _ unset.0 shown,
+      (λ named shown. apart _ unset.1 shown, (λ named shown. cc, tt)),
+    ),
+  ),
 )
 
 -- ---- where the walk stands
@@ -329,11 +344,12 @@ behind_both c rest none = ends c rest (walk (shape_of c).rules [] nothing_held r
     (end_passes (shape_of c) rest none)
     (end_settles (shape_of c) rest none)
 
--- after `migrate` the words name two, whatever they are
+-- after `migrate` two are read, and without a flag the words name them
 pub record BehindBoth (rest : List Text) : Type 0 where
   pub store : Text
   pub given : Text
-  pub words : NamesBoth store given rest
+  pub words : IsUnset migrates (λ id. first_of id (read_by migrates
+      (walk (shape_of migrates).rules [] nothing_held rest))) → NamesBoth store given rest
   pub read : first_of (codes "STORE") (read_by migrates
       (walk (shape_of migrates).rules [] nothing_held rest)) ≡ Some store
   pub new : first_of (codes "NEW") (read_by migrates
@@ -347,7 +363,7 @@ behind_migrate rest none =
     record {
       store = b.store;
       given = new.0;
-      words = b.both new.0 new.1 tt;
+      words = b.both new.0 new.1;
       read = b.read;
       new = new.1;
     }

@@ -3,7 +3,7 @@ use Rattle.std.proofs.Common.{◌≡◌, ◌∙◌, ◌∷◌, ◌++◌, ◌⊎�
 use Rattle.std.proofs.Common.{append-nil, append_assoc, cond, false, inl, inr, refl, subst}
 use Rattle.std.proofs.Common.{sym}
 use Rattle.std.proofs.Common.{true}
-use Rattle.std.specs.Prelude.{◌||◌, codes, fold, is_some, option_map}
+use Rattle.std.specs.Prelude.{◌||◌, codes, fold, option_map}
 use Rattle.std.specs.Prelude.{Ok, Err}
 use Rattle.std.specs.Option.{option_map_or}
 use Rattle.std.specs.Str.{bytes_eq}
@@ -19,9 +19,9 @@ use Rattle.clap.specs.Walk.{walked_from}
 use Rattle.clap.proofs.OnLiterals.{clap_on_literals}
 use Rattle.night_words.specs.Commands.{night, Asks, AsksAlone, AsksFor, AsksForDemo, AsksForTwo}
 use Rattle.night_words.specs.Commands.{AsksOver, IsCausedBy, IsNamed, Named, NamesCrew, NamesDemo}
-use Rattle.night_words.specs.Commands.{NamesFormat, NamesInspect, NamesRenewal, NamesScript}
-use Rattle.night_words.specs.Commands.{NamesTwo, command_in, faults_of, has_flag, is_true}
-use Rattle.night_words.specs.Commands.{named_in, new_in, word_in}
+use Rattle.night_words.specs.Commands.{NamesFormat, NamesInspect, NamesMigration, NamesRenewal}
+use Rattle.night_words.specs.Commands.{NamesScript, NamesTwo, command_in, faults_of, has_flag}
+use Rattle.night_words.specs.Commands.{is_true, named_in, new_in, word_in}
 use Rattle.night_words.specs.declared.asked.Asked.{Asked}
 use Rattle.night_words.specs.declared.asked.Asked.TheVariants.{Demo, Format, Script, Inspect, Help}
 use Rattle.night_words.specs.declared.asked.Asked.TheVariants.{Crew, Migrate, Renew, RenewInPlace}
@@ -183,10 +183,12 @@ pub data IsTaken (words : List Text) (named : Named) (new : Option Text) : Type 
       → IsTaken words named new
   takes_store : (c : Command) (store : Text) → named ≡ Some (word_of c, Some store)
       → (IsUnset c (found_by words) → AsksOver (word_of c) store words) → IsTaken words named new
-  takes_migrate : (store given : Text) → AsksForTwo migrate store given words
+  takes_migrate : (store given : Text)
+      → (is_true (found_by words (codes "new")) ≡ false → AsksForTwo migrate store given words)
       → NamesTwo migrate store given named new → IsTaken words named new
   takes_renew : (store : Text) → named ≡ Some (renew, Some store)
-      → ((given : Text) → new ≡ Some given → is_true (found_by words (codes "in-place")) ≡ false
+      → ((given : Text) → new ≡ Some given → is_true (found_by words (codes "new")) ≡ false
+      → is_true (found_by words (codes "in-place")) ≡ false
       → AsksForTwo renew store given words) → IsTaken words named new
   takes_crew : (first : Option Text) → named ≡ Some (crew, first) → IsTaken words named new
 
@@ -300,7 +302,9 @@ unfolding walked
 migrate_taken name rest none =
     let met = keeps_words migrate [] rest (walked above.rules names start migrate) refl in
     let b = behind_migrate rest (below_passes migrate rest met none) in
-    takes_migrate b.store b.given (asks_both name migrate b.store b.given rest b.words) (
+    takes_migrate b.store b.given
+    (λ unset. asks_both name migrate b.store b.given rest
+    (b.words (ap is_true (sym (found_at (codes "new") name migrate rest met)) ∙ unset))) (
       named_at name migrate rest met ∙ ap (λ s. Some (migrate, s)) b.read,
       new_at name migrate rest met ∙ b.new,
     )
@@ -312,9 +316,11 @@ renew_taken name rest none =
     let met = keeps_words renew [] rest (walked above.rules names start renew) refl in
     let b = behind_both renews rest (below_passes renew rest met none) in
     takes_renew b.store (named_at name renew rest met ∙ ap (λ s. Some (renew, s)) b.read)
-    (λ given new unset. asks_both name renew b.store given rest
-    (b.both given (sym (new_at name renew rest met) ∙ new)
-    (ap is_true (sym (found_at (codes "in-place") name renew rest met)) ∙ unset)))
+    (λ given new any there. asks_both name renew b.store given rest
+    (b.both given (sym (new_at name renew rest met) ∙ new) (
+      ap is_true (sym (found_at (codes "new") name renew rest met)) ∙ any,
+      ap is_true (sym (found_at (codes "in-place") name renew rest met)) ∙ there,
+    )))
 
 -- after `crew` the parser may have read a store
 crew_taken : (name : Text) (rest : List Text) → Taken (name ∷ crew ∷ rest)
@@ -387,23 +393,6 @@ taken_is_named words named new (takes_migrate store given a n) =
     inr (inr (store, inr (inr (inr (inr (given, n))))))
 taken_is_named words named new (takes_crew first e) = inr (inl (first, e))
 
--- two commands that differ
-pub clash : (c d : Text) (x y : Option Text) (named : Named) → bytes_eq c d ≡ false
-    → named ≡ Some (c, x) → named ≡ Some (d, y) → ⊥
-clash c d x y named differ one other =
-    let name : Named → Text = λ n. option_map_or (λ (p : Text × Option Text). p.0) n [] in
-    let same : c ≡ d = ap name (sym one ∙ other) in
-    let bad : true ≡ false = sym ((bytes_eq-Decides c d).1 same) ∙ differ in
-    cc
-
--- two stores of one command are one
-store_is : (c s t : Text) (named : Named) → named ≡ Some (c, Some s) → named ≡ Some (c, Some t)
-    → s ≡ t
-store_is c s t named one other =
-    let store : Named → Text = λ n. option_map_or
-    (λ (p : Text × Option Text). option_map_or (λ (u : Text). u) p.1 []) n [] in
-    ap store (sym one ∙ other)
-
 -- two texts that are named are one
 text_is : (s t : Text) (new : Option Text) → new ≡ Some s → new ≡ Some t → s ≡ t
 text_is s t new one other =
@@ -415,24 +404,6 @@ is_store : (c : Command) (P : Text → Type 0) → P format → P script → P i
 is_store formats P one two three = one
 is_store scripts P one two three = two
 is_store inspects P one two three = three
-
--- two stores that are named after `migrate` are those that the words ask for
-asks_two : (words : List Text) (named : Named) (new : Option Text) (old given : Text)
-    → IsTaken words named new → NamesTwo migrate old given named new
-    → AsksForTwo migrate old given words
-asks_two words named new old given (takes_demo first e a) is =
-    absurd (clash demo migrate _ _ named refl e is.0)
-asks_two words named new old given (takes_store c s e a) is =
-    absurd (clash (word_of c) migrate _ _ named
-    (is_store c (λ w. bytes_eq w migrate ≡ false) refl refl refl) e is.0)
-asks_two words named new old given (takes_crew first e) is =
-    absurd (clash crew migrate _ _ named refl e is.0)
-asks_two words named new old given (takes_renew s e a) is =
-    absurd (clash renew migrate _ _ named refl e is.0)
-asks_two words named new old given (takes_migrate s t a n) is =
-    subst (λ (u : Text). AsksForTwo migrate u given words)
-    (store_is migrate s old named n.0 is.0)
-    (subst (λ (u : Text). AsksForTwo migrate s u words) (text_is t given new n.1 is.1) a)
 
 -- the command that the parser entered is the one that is named
 not_named : (e : Option (Text × List Row)) (c d : Text) (first : Option Text)
@@ -455,10 +426,32 @@ store_read (Some e) c s store named read =
     option_map_or (λ (p : Text × Option Text). p.1) n None in
     ap text (sym (ap inner named) ∙ read)
 
+-- two stores that are named after `migrate`, to any file, are those that the words ask for
+asks_migration : (words : List Text) (entered : Option (Text × List Row)) (old given : Text)
+    → entered ≡ subcommand_of night words → IsTaken words (named_in entered) (new_in entered)
+    → NamesMigration old given false entered → AsksForTwo migrate old given words
+asks_migration words entered old given same t is = go t
+  where
+    other : (c : Text) (first : Option Text) → bytes_eq c migrate ≡ false
+        → named_in entered ≡ Some (c, first) → ⊥
+    other c first differ named = not_named entered c migrate first differ named is.0
+
+    go : IsTaken words (named_in entered) (new_in entered) → AsksForTwo migrate old given words
+    go (takes_demo first e a) = absurd (other demo _ refl e)
+    go (takes_store c s e a) = absurd (other (word_of c) _
+        (is_store c (λ w. bytes_eq w migrate ≡ false) refl refl refl) e)
+    go (takes_crew first e) = absurd (other crew _ refl e)
+    go (takes_renew s e a) = absurd (other renew _ refl e)
+    go (takes_migrate s g a n) = subst (λ (u : Text). AsksForTwo migrate u given words)
+        (store_read entered migrate s old n.0 is.1)
+        (subst (λ (u : Text). AsksForTwo migrate s u words)
+        (text_is g given (new_in entered) n.1 is.2)
+        (a (subst (λ e. has_flag (codes "new") e ≡ false) same is.3)))
+
 -- two stores after `renew`, not in place, likewise
 asks_renewal : (words : List Text) (entered : Option (Text × List Row)) (old given : Text)
     → entered ≡ subcommand_of night words → IsTaken words (named_in entered) (new_in entered)
-    → NamesRenewal old (Some given) false entered → AsksForTwo renew old given words
+    → NamesRenewal old (Some given) false false entered → AsksForTwo renew old given words
 asks_renewal words entered old given same t is = go t
   where
     other : (c : Text) (first : Option Text) → bytes_eq c renew ≡ false
@@ -473,12 +466,13 @@ asks_renewal words entered old given same t is = go t
     go (takes_migrate s g a n) = absurd (other migrate _ refl n.0)
     go (takes_renew s e a) = subst (λ (u : Text). AsksForTwo renew u given words)
         (store_read entered renew s old e is.1)
-        (a given is.2 (subst (λ e. has_flag (codes "in-place") e ≡ false) same is.3))
+        (a given is.2 (subst (λ e. has_flag (codes "new") e ≡ false) same is.3)
+        (subst (λ e. has_flag (codes "in-place") e ≡ false) same is.4))
 
 -- and what asks for it is asked for
 pub taken_asks : (words : List Text) (entered : Option (Text × List Row)) (asked : Asked)
     → entered ≡ subcommand_of night words → IsTaken words (named_in entered) (new_in entered)
-    → Asks (named_in entered) (new_in entered) entered (Ok asked) → AsksFor asked words
+    → Asks entered (Ok asked) → AsksFor asked words
 taken_asks words entered (Demo strict) same t is = subst (NamesDemo strict) same is
 taken_asks words entered (Format store n) same t is =
     subst (NamesFormat store.now n) same is
@@ -488,30 +482,50 @@ taken_asks words entered (Inspect store view) same t is =
     subst (NamesInspect store.now (Ok view)) same is
 taken_asks words entered (Crew store n known) same t is =
     subst (NamesCrew store.now (Some n) known) same is
-taken_asks words entered (Migrate o g) same t is =
-    (asks_two words _ _ o.now g.now t is.0, is.1)
-taken_asks words entered (Renew o g) same t is =
+taken_asks words entered (Migrate o g false) same t is =
+    (asks_migration words entered o.now g.now same t is.0, is.1)
+taken_asks words entered (Migrate o g true) same t is =
+    (subst (NamesMigration o.now g.now true) same is.0, is.1)
+taken_asks words entered (Renew o g false) same t is =
     (asks_renewal words entered o.now g.now same t is.0, is.1)
+taken_asks words entered (Renew o g true) same t is =
+    (subst (NamesRenewal o.now (Some g.now) true false) same is.0, is.1)
 taken_asks words entered (RenewInPlace store) same t is =
-    subst (NamesRenewal store.now None true) same is
+    subst (NamesRenewal store.now None false true) same is
 taken_asks words entered (Help text) same t is = absurd is
 
 -- and two equal names are those of the words, and so is each other fault
 pub taken_fails : (words : List Text) (entered : Option (Text × List Row)) (why : WordsFault)
     → entered ≡ subcommand_of night words → IsTaken words (named_in entered) (new_in entered)
-    → Asks (named_in entered) (new_in entered) entered (Err why) → IsCausedBy why words
-taken_fails words entered SameStores same t (store, inl is) =
-    (store, inl (asks_two words _ _ store store t is))
-taken_fails words entered SameStores same t (store, inr is) =
-    (store, inr (asks_renewal words entered store store same t is))
+    → Asks entered (Err why) → IsCausedBy why words
+taken_fails words entered SameStores same t (store, (false, inl is)) =
+    (store, (false, inl (asks_migration words entered store store same t is)))
+taken_fails words entered SameStores same t (store, (true, inl is)) =
+    (store, (true, inl (subst (NamesMigration store store true) same is)))
+taken_fails words entered SameStores same t (store, (false, inr is)) =
+    (store, (false, inr (asks_renewal words entered store store same t is)))
+taken_fails words entered SameStores same t (store, (true, inr is)) =
+    (store, (true, inr (subst (NamesRenewal store (Some store) true false) same is)))
 taken_fails words entered Workers same t is =
     (is.0, (is.1.0, subst (NamesCrew is.0 None is.1.0) same is.1.1))
 taken_fails words entered Views same t is =
     (is.0, subst (NamesInspect is.0 (Err Views)) same is.1)
 taken_fails words entered Phase same t is =
     (is.0, subst (NamesInspect is.0 (Err Phase)) same is.1)
-taken_fails words entered Place same t is =
-    (is.0, (is.1.0, subst (NamesRenewal is.0 is.1.0 (is_some is.1.0)) same is.1.1))
+taken_fails words entered Place same t (store, (new, (is_new, (in_place, wrong, is)))) = (
+  store,
+  (
+    new,
+    (
+      is_new,
+      (
+        in_place,
+        wrong,
+        subst (NamesRenewal store new is_new in_place) same is,
+      ),
+    ),
+  ),
+)
 taken_fails words entered (Mistake text) same t is = absurd is
 taken_fails words entered NotText same t is = absurd is
 taken_fails words entered Memory same t is = absurd is

@@ -1,6 +1,6 @@
 -- Which words the command line takes.
 use Rattle.std.specs.Prelude.{◌≡◌, ◌≢◌, ◌⊎◌, ◌∷◌, [], ℕ, List, Option, Some, None, Result, Ok, Err}
-use Rattle.std.specs.Prelude.{◌&&◌, ◌||◌, ◌-◌, codes, if◌then◌else◌, is_some, nat_le}
+use Rattle.std.specs.Prelude.{◌&&◌, ◌||◌, ◌-◌, codes, if◌then◌else◌, is_some, nat_le, not}
 use Rattle.std.specs.Prelude.{option_and_then, option_map, Bool, false, true, unwrap_or}
 use Rattle.std.specs.List.{list_any}
 use Rattle.std.specs.Option.{option_map_or}
@@ -76,19 +76,23 @@ inspect_line =
     (flag (codes "json")))
     (flag (codes "tree"))
 
--- one that takes the names of two stores, the old one first
+-- one that takes the names of two stores, the old one first, and a flag
 abbrev pub migrate_line : App
-migrate_line = with_rule (store_line (codes "migrate")) (wanted (codes "NEW"))
+migrate_line = with_rule
+    (with_rule (store_line (codes "migrate")) (wanted (codes "NEW")))
+    (flag (codes "new"))
 
 -- a word that names a store, without which the command is taken; help has one name for it
 abbrev pub free : Text → Rule
 free id = record (new_rule id) { action = Some Set; value_names = 1 }
 
--- one that takes the names of two stores, the new one or none, and a flag
+-- one that takes the names of two stores, the new one or none, and two flags
 abbrev pub renew_line : App
 renew_line =
     with_rule
+    (with_rule
     (with_rule (store_line (codes "renew")) (free (codes "NEW")))
+    (flag (codes "new")))
     (flag (codes "in-place"))
 
 -- a command that takes the name of a store and a flag, and may be given the number of workers
@@ -98,8 +102,8 @@ crew_line = with_rule
     (flag (codes "known"))
 
 -- the command line of `night`: the commands are `demo`, over a store `format`, `script` and
--- `inspect`, over two `migrate`, over a store `crew`, and over two or one `renew`; all but
--- `migrate` take a flag, or flags, and `inspect` and `crew` options
+-- `inspect`, over two `migrate`, over a store `crew`, and over two or one `renew`; all take a flag,
+-- or flags, and `inspect` and `crew` options
 abbrev pub night : App
 night =
     with_subcommand
@@ -229,11 +233,24 @@ abbrev pub NamesInspect : Text → Result View WordsFault → Option (Text × Li
 NamesInspect store view entered = (command_in entered ≡ Some (codes "inspect"))
     × (word_in (codes "STORE") entered ≡ Some store) × IsView (λ id. word_in id entered) view
 
--- the parser entered `renew` with this store, and with this new one or with none, in place or not
-abbrev pub NamesRenewal : Text → Option Text → Bool → Option (Text × List Row) → Type 0
-NamesRenewal old new in_place entered = (command_in entered ≡ Some (codes "renew"))
+-- the parser entered `migrate` with these two stores, the second of a new file or of any
+abbrev pub NamesMigration : (old new : Text) → Bool → Option (Text × List Row) → Type 0
+NamesMigration old new is_new entered = (command_in entered ≡ Some (codes "migrate"))
+    × (word_in (codes "STORE") entered ≡ Some old) × (word_in (codes "NEW") entered ≡ Some new)
+    × (has_flag (codes "new") entered ≡ is_new)
+
+-- the parser entered `renew` with this store, and with this new one or with none, of a new file or
+-- of any, in place or not
+abbrev pub NamesRenewal : Text → Option Text → (is_new in_place : Bool)
+    → Option (Text × List Row) → Type 0
+NamesRenewal old new is_new in_place entered = (command_in entered ≡ Some (codes "renew"))
     × (word_in (codes "STORE") entered ≡ Some old) × (word_in (codes "NEW") entered ≡ new)
-    × (has_flag (codes "in-place") entered ≡ in_place)
+    × (has_flag (codes "new") entered ≡ is_new) × (has_flag (codes "in-place") entered ≡ in_place)
+
+-- a renewal in place has no new store, and no file that is to be new; any other one has a new store
+abbrev pub is_misplaced : Option Text → (is_new in_place : Bool) → Bool
+is_misplaced new is_new true = is_some new || is_new
+is_misplaced new is_new false = not (is_some new)
 
 -- the parser entered `crew` with this store, with this number of workers, and of known jobs or not
 abbrev pub NamesCrew : Text → Option ℕ → Bool → Option (Text × List Row) → Type 0
@@ -265,10 +282,23 @@ abbrev pub AsksForInspect : Text → View → List Text → Type 0
 AsksForInspect store view words =
     NamesInspect store (Ok view) (subcommand_of night words)
 
+-- the words ask for a migration between these stores: they stand after the program's own name and
+-- `migrate`, alone but for the mark; to a new file alone it is told as the parser reads them, and
+-- `--new` stands before, between or after them
+abbrev pub AsksForMigration : (old new : Text) → (is_new : Bool) → List Text → Type 0
+AsksForMigration old new false words = AsksForTwo (codes "migrate") old new words
+AsksForMigration old new true words = NamesMigration old new true (subcommand_of night words)
+
+-- so it is for a renewal, which is not in place
+abbrev pub AsksForRenewal : (old new : Text) → (is_new : Bool) → List Text → Type 0
+AsksForRenewal old new false words = AsksForTwo (codes "renew") old new words
+AsksForRenewal old new true words =
+    NamesRenewal old (Some new) true false (subcommand_of night words)
+
 -- the words ask for a renewal of this store in its place, as the parser reads them: it stands alone
 -- after the program's own name and `renew`, and `--in-place` stands before or after it
 abbrev pub AsksForRenewalInPlace : Text → List Text → Type 0
-AsksForRenewalInPlace store words = NamesRenewal store None true (subcommand_of night words)
+AsksForRenewalInPlace store words = NamesRenewal store None false true (subcommand_of night words)
 
 -- the words ask for a crew of so many workers over this store, as the parser reads them: the store
 -- stands after the program's own name and `crew`, and before or after it may stand `--workers N`
@@ -284,10 +314,10 @@ AsksFor (Format store is_new) words = AsksForFormat store.now is_new words
 AsksFor (Script store strict is_timed) words = AsksForScript store.now strict is_timed words
 AsksFor (Inspect store view) words = AsksForInspect store.now view words
 AsksFor (Crew store workers known) words = AsksForCrew store.now workers known words
-AsksFor (Migrate old new) words =
-    AsksForTwo (codes "migrate") old.now new.now words × (old.now ≢ new.now)
-AsksFor (Renew old new) words =
-    AsksForTwo (codes "renew") old.now new.now words × (old.now ≢ new.now)
+AsksFor (Migrate old new is_new) words =
+    AsksForMigration old.now new.now is_new words × (old.now ≢ new.now)
+AsksFor (Renew old new is_new) words =
+    AsksForRenewal old.now new.now is_new words × (old.now ≢ new.now)
 AsksFor (RenewInPlace store) words = AsksForRenewalInPlace store.now words
 AsksFor (Help text) words = Unit {0}
 
@@ -295,19 +325,19 @@ AsksFor (Help text) words = Unit {0}
 -- from a store to itself, to that of the workers if a crew of none, of more than 8 or of no number
 -- is, to that of the views if more than one is, to that of the phase if the tasks in one are that
 -- has no such word, and to that of the place if a renewal is asked for with neither a new store nor
--- `--in-place`, or with both; `IsAnswer` defines the others
+-- `--in-place`, or with both, or in place with `--new`; `IsAnswer` defines the others
 abbrev pub IsCausedBy : WordsFault → List Text → Type 0
-IsCausedBy SameStores words = (store : Text)
-    × (AsksForTwo (codes "migrate") store store words
-    ⊎ AsksForTwo (codes "renew") store store words)
+IsCausedBy SameStores words = (store : Text) × ((is_new : Bool)
+    × (AsksForMigration store store is_new words ⊎ AsksForRenewal store store is_new words))
 IsCausedBy Workers words = (store : Text) × ((known : Bool)
     × NamesCrew store None known (subcommand_of night words))
 IsCausedBy Views words = (store : Text)
     × NamesInspect store (Err Views) (subcommand_of night words)
 IsCausedBy Phase words = (store : Text)
     × NamesInspect store (Err Phase) (subcommand_of night words)
-IsCausedBy Place words = (store : Text) × ((new : Option Text)
-    × NamesRenewal store new (is_some new) (subcommand_of night words))
+IsCausedBy Place words = (store : Text) × ((new : Option Text) × ((is_new : Bool)
+    × ((in_place : Bool) × (is_misplaced new is_new in_place ≡ true)
+    × NamesRenewal store new is_new in_place (subcommand_of night words))))
 IsCausedBy why words = Unit {0}
 
 -- ---- what is returned
@@ -396,33 +426,33 @@ abbrev pub NamesTwo : (command old given : Text) → Named → Option Text → T
 NamesTwo command old given named new =
     (named ≡ Some (command, Some old)) × (new ≡ Some given)
 
--- what is named is asked for, or the two stores of a migration or a renewal are one; of a command
--- that takes a flag it is said what the parser entered
-abbrev pub Asks : Named → Option Text → Option (Text × List Row) → Result Asked WordsFault → Type 0
-Asks named new entered (Ok (Demo strict)) = NamesDemo strict entered
-Asks named new entered (Ok (Format store is_new)) = NamesFormat store.now is_new entered
-Asks named new entered (Ok (Script store strict is_timed)) =
+-- what the parser entered is asked for, or the two stores of a migration or a renewal are one
+abbrev pub Asks : Option (Text × List Row) → Result Asked WordsFault → Type 0
+Asks entered (Ok (Demo strict)) = NamesDemo strict entered
+Asks entered (Ok (Format store is_new)) = NamesFormat store.now is_new entered
+Asks entered (Ok (Script store strict is_timed)) =
     NamesScript store.now strict is_timed entered
-Asks named new entered (Ok (Inspect store view)) =
+Asks entered (Ok (Inspect store view)) =
     NamesInspect store.now (Ok view) entered
-Asks named new entered (Ok (Crew store workers known)) =
+Asks entered (Ok (Crew store workers known)) =
     NamesCrew store.now (Some workers) known entered
-Asks named new entered (Ok (Migrate old given)) =
-    NamesTwo (codes "migrate") old.now given.now named new × (old.now ≢ given.now)
-Asks named new entered (Ok (Renew old given)) =
-    NamesRenewal old.now (Some given.now) false entered × (old.now ≢ given.now)
-Asks named new entered (Ok (RenewInPlace store)) = NamesRenewal store.now None true entered
-Asks named new entered (Ok (Help text)) = ⊥
-Asks named new entered (Err SameStores) = (store : Text)
-    × (NamesTwo (codes "migrate") store store named new
-    ⊎ NamesRenewal store (Some store) false entered)
-Asks named new entered (Err Workers) = (store : Text) × ((known : Bool)
+Asks entered (Ok (Migrate old given is_new)) =
+    NamesMigration old.now given.now is_new entered × (old.now ≢ given.now)
+Asks entered (Ok (Renew old given is_new)) =
+    NamesRenewal old.now (Some given.now) is_new false entered × (old.now ≢ given.now)
+Asks entered (Ok (RenewInPlace store)) = NamesRenewal store.now None false true entered
+Asks entered (Ok (Help text)) = ⊥
+Asks entered (Err SameStores) = (store : Text) × ((is_new : Bool)
+    × (NamesMigration store store is_new entered
+    ⊎ NamesRenewal store (Some store) is_new false entered))
+Asks entered (Err Workers) = (store : Text) × ((known : Bool)
     × NamesCrew store None known entered)
-Asks named new entered (Err Views) = (store : Text) × NamesInspect store (Err Views) entered
-Asks named new entered (Err Phase) = (store : Text) × NamesInspect store (Err Phase) entered
-Asks named new entered (Err Place) = (store : Text)
-    × ((new_one : Option Text) × NamesRenewal store new_one (is_some new_one) entered)
-Asks named new entered (Err why) = ⊥
+Asks entered (Err Views) = (store : Text) × NamesInspect store (Err Views) entered
+Asks entered (Err Phase) = (store : Text) × NamesInspect store (Err Phase) entered
+Asks entered (Err Place) = (store : Text) × ((new_one : Option Text)
+    × ((is_new : Bool) × ((in_place : Bool) × (is_misplaced new_one is_new in_place ≡ true)
+    × NamesRenewal store new_one is_new in_place entered)))
+Asks entered (Err why) = ⊥
 
 -- a command is named, and the stores that it needs
 abbrev pub IsNamed : Named → Option Text → Type 0
@@ -457,25 +487,26 @@ IsTasks phase group (Ok view) = ⊥
 IsTasks phase group (Err Phase) = names_phase phase ≡ false
 IsTasks phase group (Err why) = ⊥
 
--- a renewal or a migration between two names that differ, or the fault of equal ones
-abbrev pub IsForTwo : (renews : Bool) (old new : Text) → Result Asked WordsFault → Type 0
-IsForTwo renews old new (Ok (Migrate o n)) =
-    (renews ≡ false) × (o.now ≡ old) × (n.now ≡ new) × (old ≢ new)
-IsForTwo renews old new (Ok (Renew o n)) =
-    (renews ≡ true) × (o.now ≡ old) × (n.now ≡ new) × (old ≢ new)
-IsForTwo renews old new (Ok asked) = ⊥
-IsForTwo renews old new (Err SameStores) = old ≡ new
-IsForTwo renews old new (Err why) = ⊥
+-- a renewal or a migration between two names that differ, to a new file or to any, or the fault of
+-- equal ones
+abbrev pub IsForTwo : (renews is_new : Bool) (old new : Text) → Result Asked WordsFault → Type 0
+IsForTwo renews is_new old new (Ok (Migrate o n b)) =
+    (renews ≡ false) × (b ≡ is_new) × (o.now ≡ old) × (n.now ≡ new) × (old ≢ new)
+IsForTwo renews is_new old new (Ok (Renew o n b)) =
+    (renews ≡ true) × (b ≡ is_new) × (o.now ≡ old) × (n.now ≡ new) × (old ≢ new)
+IsForTwo renews is_new old new (Ok asked) = ⊥
+IsForTwo renews is_new old new (Err SameStores) = old ≡ new
+IsForTwo renews is_new old new (Err why) = ⊥
 
 -- a renewal of this store, into this new one or in place, or the fault of neither or both, or that
 -- of equal names
-abbrev pub IsRenewal : (old : Text) (new : Option Text) (in_place : Bool)
+abbrev pub IsRenewal : (old : Text) (new : Option Text) (is_new in_place : Bool)
     → Result Asked WordsFault → Type 0
-IsRenewal old new in_place (Ok (Renew o n)) =
-    (o.now ≡ old) × (new ≡ Some n.now) × (in_place ≡ false) × (old ≢ n.now)
-IsRenewal old new in_place (Ok (RenewInPlace o)) =
-    (o.now ≡ old) × (new ≡ None) × (in_place ≡ true)
-IsRenewal old new in_place (Ok asked) = ⊥
-IsRenewal old new in_place (Err SameStores) = (new ≡ Some old) × (in_place ≡ false)
-IsRenewal old new in_place (Err Place) = in_place ≡ is_some new
-IsRenewal old new in_place (Err why) = ⊥
+IsRenewal old new is_new in_place (Ok (Renew o n b)) =
+    (o.now ≡ old) × (new ≡ Some n.now) × (b ≡ is_new) × (in_place ≡ false) × (old ≢ n.now)
+IsRenewal old new is_new in_place (Ok (RenewInPlace o)) =
+    (o.now ≡ old) × (new ≡ None) × (is_new ≡ false) × (in_place ≡ true)
+IsRenewal old new is_new in_place (Ok asked) = ⊥
+IsRenewal old new is_new in_place (Err SameStores) = (new ≡ Some old) × (in_place ≡ false)
+IsRenewal old new is_new in_place (Err Place) = is_misplaced new is_new in_place ≡ true
+IsRenewal old new is_new in_place (Err why) = ⊥

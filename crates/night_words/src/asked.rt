@@ -38,12 +38,20 @@ pub enum Asked<'a> {
         workers: u8,
         known: bool,
     },
-    /// `migrate OLD NEW`: the file NEW becomes a large store with the state of the small store OLD.
-    /// The two names differ.
-    Migrate(&'a str, &'a str),
-    /// `renew OLD NEW`: the file NEW becomes a store of what the store OLD still needs. The two
-    /// names differ.
-    Renew(&'a str, &'a str),
+    /// `migrate OLD NEW`: the file NEW becomes a large store with the state of the small store OLD;
+    /// with `--new` only if there is no file of that name. The two names differ.
+    Migrate {
+        old: &'a str,
+        new: &'a str,
+        is_new: bool,
+    },
+    /// `renew OLD NEW`: the file NEW becomes a store of what the store OLD still needs; with
+    /// `--new` only if there is no file of that name. The two names differ.
+    Renew {
+        old: &'a str,
+        new: &'a str,
+        is_new: bool,
+    },
     /// `renew --in-place STORE`: the store is made anew of what it still needs.
     RenewInPlace(&'a str),
     /// A text for the output: help, or the version.
@@ -83,7 +91,8 @@ pub enum WordsFault {
     Views,
     /// The tasks of a store in a phase are asked for, but by a word that names no phase.
     Phase,
-    /// A renewal is asked for, but with neither NEW nor `--in-place`, or with both.
+    /// A renewal is asked for, but with neither NEW nor `--in-place`, or with both, or in place
+    /// with `--new`, which is about NEW.
     Place,
     /// A word is not text in UTF-8.
     NotText,

@@ -59,6 +59,9 @@ const LINES: &str = "\
 /// What `--strict` does, of `demo` and of `script`.
 const STRICT: &str = "Ends at the first line that is no line or is refused, with status 1";
 
+/// What `--new` does, of `migrate` and of `renew`.
+const NEW: &str = "Refuses where there is a file NEW";
+
 /// What `--now` does, of `script`.
 const NOW: &str = "Moves the clock to the machine's time, each second in which a line comes";
 
@@ -209,12 +212,12 @@ fn migrate_command<'a>(alloc: Global) -> Result<Command<'a>, AllocError>
 {
     let migrate = Command::new(alloc, "migrate")
         .about("Makes a large store NEW of a small store OLD; what NEW held is lost")
-        .after_help(ending!("Example: night migrate small.store large.store"));
+        .after_help(ending!("Example: night migrate --new small.store large.store"));
     let old = with_word(
         Ok(migrate),
         store_word(alloc, "STORE", "OLD", "The small store, which is only read"),
     );
-    with_word(
+    let new = with_word(
         old,
         store_word(
             alloc,
@@ -222,7 +225,8 @@ fn migrate_command<'a>(alloc: Global) -> Result<Command<'a>, AllocError>
             "NEW",
             "The new file; one that is there is emptied",
         ),
-    )
+    );
+    with_word(new, flag_word(alloc, "new", NEW))
 }
 
 /// The command that works off the tasks of a store.
@@ -267,7 +271,8 @@ fn renew_command<'a>(alloc: Global) -> Result<Command<'a>, AllocError>
     let renew = Command::new(alloc, "renew")
         .about("Makes a store NEW of what a store OLD still needs; what NEW held is lost")
         .after_help(ending!(
-            "Examples:\n  night renew old.store new.store\n  night renew --in-place jobs.store"
+            "Examples:\n  night renew --new old.store new.store\n  \
+            night renew --in-place jobs.store"
         ));
     let old = with_word(
         Ok(renew),
@@ -282,8 +287,9 @@ fn renew_command<'a>(alloc: Global) -> Result<Command<'a>, AllocError>
         old,
         other_word(alloc, "NEW", "The new file; one that is there is emptied"),
     );
+    let to_new = with_word(new, flag_word(alloc, "new", NEW));
     with_word(
-        new,
+        to_new,
         flag_word(
             alloc,
             "in-place",

@@ -7,8 +7,9 @@ ghost use Rattle.std.specs.Borrow.{Bor};
 ghost use Rattle.clap.specs.Words.{subcommand_of};
 ghost use Rattle.clap.specs.declared.error.kind.ErrorKind.TheVariants as kind;
 ghost use Rattle.night_words.specs.Commands.{AsksForCrew, AsksForDemo, AsksForFormat};
-ghost use Rattle.night_words.specs.Commands.{AsksForInspect, AsksForRenewalInPlace, AsksForScript};
-ghost use Rattle.night_words.specs.Commands.{IsCausedBy, NamesRenewal, faults_of, night};
+ghost use Rattle.night_words.specs.Commands.{AsksForInspect, AsksForMigration, AsksForRenewal};
+ghost use Rattle.night_words.specs.Commands.{AsksForRenewalInPlace, AsksForScript, IsCausedBy};
+ghost use Rattle.night_words.specs.Commands.{NamesRenewal, faults_of, night};
 ghost use Rattle.night_words.specs.declared.asked.View.TheVariants.{Json, Tasks, Tree, Whole};
 ghost use Rattle.night_words.specs.declared.asked.WordsFault.TheVariants.{Phase, Place, SameStores};
 ghost use Rattle.night_words.specs.declared.asked.WordsFault.TheVariants.{Views, Workers};
@@ -147,6 +148,10 @@ pub fn flags_are_taken()
         → faults_of (name ∷ codes "inspect" ∷ codes "a" ∷ codes "--group=g" ∷ []) ≡ [] }
     ensures in_place { (name : List ℕ)
         → faults_of (name ∷ codes "renew" ∷ codes "--in-place" ∷ codes "a" ∷ []) ≡ [] }
+    ensures migrate_new { (name : List ℕ) → faults_of
+        (name ∷ codes "migrate" ∷ codes "--new" ∷ codes "a" ∷ codes "b" ∷ []) ≡ [] }
+    ensures renew_new { (name : List ℕ) → faults_of
+        (name ∷ codes "renew" ∷ codes "a" ∷ codes "b" ∷ codes "--new" ∷ []) ≡ [] }
     ensures known { (name : List ℕ)
         → faults_of (name ∷ codes "crew" ∷ codes "--known" ∷ codes "a" ∷ []) ≡ [] }
 {}
@@ -160,7 +165,7 @@ pub fn other_flags_are_mistakes()
         → faults_of (name ∷ codes "format" ∷ codes "--strict" ∷ codes "a" ∷ [])
         ≡ kind.UnknownArgument ∷ [] }
     ensures migrate { (name : List ℕ)
-        → faults_of (name ∷ codes "migrate" ∷ codes "--new" ∷ codes "a" ∷ codes "b" ∷ [])
+        → faults_of (name ∷ codes "migrate" ∷ codes "--in-place" ∷ codes "a" ∷ codes "b" ∷ [])
         ≡ kind.UnknownArgument ∷ [] }
     ensures twice { (name : List ℕ)
         → faults_of (name ∷ codes "demo" ∷ codes "--strict" ∷ codes "--strict" ∷ [])
@@ -229,8 +234,26 @@ pub fn a_store_may_be_renewed_in_place()
         → IsCausedBy Place (name ∷ codes "renew" ∷ codes "a" ∷ []) }
     ensures both { (name : List ℕ) → IsCausedBy Place
         (name ∷ codes "renew" ∷ codes "--in-place" ∷ codes "a" ∷ codes "b" ∷ []) }
-    ensures two { (name : List ℕ) → NamesRenewal (codes "a") (Some (codes "b")) false
+    ensures new { (name : List ℕ) → IsCausedBy Place
+        (name ∷ codes "renew" ∷ codes "--in-place" ∷ codes "--new" ∷ codes "a" ∷ []) }
+    ensures two { (name : List ℕ) → NamesRenewal (codes "a") (Some (codes "b")) false false
         (subcommand_of night (name ∷ codes "renew" ∷ codes "a" ∷ codes "b" ∷ [])) }
+{}
+
+/// With its flag of a new one alone, a migration or a renewal is to a file that isn't there.
+pub fn a_new_file_may_be_wanted()
+    ensures migrate { (name : List ℕ) → AsksForMigration (codes "a") (codes "b") true
+        (name ∷ codes "migrate" ∷ codes "--new" ∷ codes "a" ∷ codes "b" ∷ []) }
+    ensures migrate_between { (name : List ℕ) → AsksForMigration (codes "a") (codes "b") true
+        (name ∷ codes "migrate" ∷ codes "a" ∷ codes "--new" ∷ codes "b" ∷ []) }
+    ensures renew { (name : List ℕ) → AsksForRenewal (codes "a") (codes "b") true
+        (name ∷ codes "renew" ∷ codes "--new" ∷ codes "a" ∷ codes "b" ∷ []) }
+    ensures renew_after { (name : List ℕ) → AsksForRenewal (codes "a") (codes "b") true
+        (name ∷ codes "renew" ∷ codes "a" ∷ codes "b" ∷ codes "--new" ∷ []) }
+    ensures not_new { (name : List ℕ) → AsksForRenewal (codes "--new") (codes "b") false
+        (name ∷ codes "renew" ∷ codes "--" ∷ codes "--new" ∷ codes "b" ∷ []) }
+    ensures same { (name : List ℕ) → IsCausedBy SameStores
+        (name ∷ codes "migrate" ∷ codes "--new" ∷ codes "a" ∷ codes "a" ∷ []) }
 {}
 
 /// Two stores are needed.

@@ -70,8 +70,7 @@ pub fn read_words<'a>(alloc: Global, words: &'a [String]) -> Result<Asked<'a>, W
 /// What the parser's matches ask for: the command that was used, its stores and its flag.
 fn asked_of<'a>(matches: &ArgMatches<'a>) -> Result<Asked<'a>, WordsFault>
     requires { IsNamed (named_by matches.now) (new_by matches.now) }
-    ensures { Asks (named_by matches.now) (new_by matches.now)
-        (subcommand_rows_of matches.now) result }
+    ensures { Asks (subcommand_rows_of matches.now) result }
 {
     let Some((command, inner)) = matches.subcommand() else {
         unreachable!();
@@ -113,12 +112,15 @@ fn asked_of<'a>(matches: &ArgMatches<'a>) -> Result<Asked<'a>, WordsFault>
     }
     let renews = command == "renew";
     if renews {
-        return renewal(store, inner.get_str("NEW"), is_set(inner, "in-place"));
+        let is_new = is_set(inner, "new");
+        let in_place = is_set(inner, "in-place");
+        return renewal(store, inner.get_str("NEW"), is_new, in_place);
     }
     let Some(new) = inner.get_str("NEW") else {
         unreachable!();
     };
-    for_two(store, new, false)
+    let is_new = is_set(inner, "new");
+    for_two(store, new, is_new, false)
 }
 
 /// Returns whether the words have this flag of the command that was used.
@@ -205,27 +207,38 @@ fn workers_of(text: Option<&str>) -> Option<u8>
     }
 }
 
-/// A renewal of a store, into a new one or in place. Both at once are a mistake, and so is neither.
-fn renewal<'a>(old: &'a str, new: Option<&'a str>, in_place: bool) -> Result<Asked<'a>, WordsFault>
-    ensures { IsRenewal old.now (option_map (λ word. word.now) new.entry) in_place result }
+/// A renewal of a store, into a new one or in place. Both at once are a mistake, and so is neither,
+/// or a file that is to be new in place.
+fn renewal<'a>(
+    old: &'a str,
+    new: Option<&'a str>,
+    is_new: bool,
+    in_place: bool,
+) -> Result<Asked<'a>, WordsFault>
+    ensures { IsRenewal old.now (option_map (λ word. word.now) new.entry) is_new in_place result }
 {
-    match (new, in_place) {
-        (Some(new), false) => for_two(old, new, true),
-        (None, true) => Ok(Asked::RenewInPlace(old)),
+    match (new, is_new, in_place) {
+        (Some(new), _, false) => for_two(old, new, is_new, true),
+        (None, false, true) => Ok(Asked::RenewInPlace(old)),
         _ => Err(WordsFault::Place),
     }
 }
 
 /// A migration or a renewal, from one store to another. Two equal names are a mistake.
-fn for_two<'a>(old: &'a str, new: &'a str, renews: bool) -> Result<Asked<'a>, WordsFault>
-    ensures { IsForTwo renews old.now new.now result }
+fn for_two<'a>(
+    old: &'a str,
+    new: &'a str,
+    is_new: bool,
+    renews: bool,
+) -> Result<Asked<'a>, WordsFault>
+    ensures { IsForTwo renews is_new old.now new.now result }
 {
     if old == new {
         Err(WordsFault::SameStores)
     } else if renews {
-        Ok(Asked::Renew(old, new))
+        Ok(Asked::Renew { old, new, is_new })
     } else {
-        Ok(Asked::Migrate(old, new))
+        Ok(Asked::Migrate { old, new, is_new })
     }
 }
 

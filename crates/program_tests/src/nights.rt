@@ -82,10 +82,15 @@ fn a_stopped_night_is_inspected(rt: HostRuntime) {
 }
 
 /// A stopped night goes on, and another one is migrated.
-static LATER: [Over; 2] = [
+static LATER: [Over; 3] = [
     (&["script", "jobs.store"], AGAIN, (0, GOES_ON, "")),
     (
         &["migrate", "jobs.store", "new.store"],
+        "",
+        (0, "migrated; events 6\n", ""),
+    ),
+    (
+        &["migrate", "jobs.store", "--new", "new.store"],
         "",
         (0, "migrated; events 6\n", ""),
     ),
@@ -99,6 +104,7 @@ fn a_stopped_night_is_opened_again(rt: HostRuntime) {
 #[test]
 fn a_migration_goes_by_its_words(rt: HostRuntime) {
     assert_over(&rt, rt.alloc(), false, &LATER[1]);
+    assert_over(&rt, rt.alloc(), false, &LATER[2]);
 }
 
 /// The large store that a small one is migrated to; and what was printed, and what is left of the
@@ -140,26 +146,118 @@ fn a_stopped_night_is_migrated(rt: HostRuntime) {
     }
 }
 
-/// A file of so many zeros that is to be migrated, and what it is answered.
-type Unmigrated = (usize, End);
+/// Words that make a store of a file of so many zeros, and how they end.
+type Unserved = (&'static [&'static str], usize, End);
 
-static UNMIGRATED: [Unmigrated; 3] = [
-    (SIZES.1, (3, "", "night: fault 4 WrongSize\n")),
-    (SIZES.0 - 1, (3, "", "night: fault 4 WrongSize\n")),
-    (SIZES.0, (3, "", "night: fault 3 NotAStore\n")),
+/// How they end where it has the size of none of which it can be made, or holds none.
+const WRONG_SIZE: End = (3, "", "night: fault 4 WrongSize\n");
+
+const NOT_A_STORE: End = (3, "", "night: fault 3 NotAStore\n");
+
+static UNSERVED: [Unserved; 7] = [
+    (&["migrate", "a", "b"], SIZES.1, WRONG_SIZE),
+    (&["migrate", "a", "b"], SIZES.0 - 1, WRONG_SIZE),
+    (&["migrate", "a", "b"], SIZES.0, NOT_A_STORE),
+    (&["migrate", "--new", "a", "b"], SIZES.0, NOT_A_STORE),
+    (&["renew", "a", "b"], SIZES.0 - 1, WRONG_SIZE),
+    (&["renew", "a", "b"], SIZES.1, NOT_A_STORE),
+    (&["renew", "a", "b", "--new"], SIZES.0, NOT_A_STORE),
 ];
 
-/// Asserts what a migration of a file of zeros is answered.
-fn assert_unmigrated<R: Threads + Wait + Sync + Abort>(rt: &R, alloc: Global, row: &Unmigrated) {
-    let bytes = done(rt, vec![in alloc; 0u8; row.0], "zeros");
+/// Asserts how these words end, and that no file was made, emptied or taken away.
+fn assert_spared<R: Threads + Wait + Sync + Abort>(
+    rt: &R,
+    alloc: Global,
+    n: usize,
+    shelf: &mut Shelf,
+    words: &[&str],
+    end: &End,
+) {
+    assert_run(rt, alloc, words, shelf, "", end);
+    holds(rt, !shelf.has_made && !shelf.has_removed, "files", n);
+}
+
+/// Asserts that a file of zeros is no source of a store.
+fn assert_unserved<R: Threads + Wait + Sync + Abort>(
+    rt: &R,
+    alloc: Global,
+    n: usize,
+    row: &Unserved,
+) {
+    let bytes = done(rt, vec![in alloc; 0u8; row.1], "zeros");
     let mut shelf = Shelf::new(alloc, "a", bytes);
-    assert_run(rt, alloc, &["migrate", "a", "b"], &mut shelf, "", &row.1);
+    assert_spared(rt, alloc, n, &mut shelf, row.0, &row.2);
 }
 
 #[test]
-fn what_is_no_small_store_is_not_migrated(rt: HostRuntime) {
-    for row in UNMIGRATED.iter() {
-        assert_unmigrated(&rt, rt.alloc(), row);
+fn what_is_no_old_store_leaves_the_new_file_as_it_was(rt: HostRuntime) {
+    for (n, row) in UNSERVED.iter().enumerate() {
+        assert_unserved(&rt, rt.alloc(), n, row);
+    }
+}
+
+/// Words that make a store of the stopped night, the other file that is there, how many calls of
+/// each disk pass, and how they end.
+type Sparing = (
+    &'static [&'static str],
+    Option<&'static str>,
+    u64,
+    &'static str,
+);
+
+/// What is told of a file that was to be new, and of an old store whose disk fails.
+const THERE: &str = "night: fault 2 DiskFailed\nnight: new.store: there is one\n";
+
+const FAILS: &str = "night: fault 2 DiskFailed\nnight: jobs.store: broken\n";
+
+static SPARED: [Sparing; 6] = [
+    (
+        &["migrate", "--new", "jobs.store", "new.store"],
+        Some("new.store"),
+        u64::MAX,
+        THERE,
+    ),
+    (
+        &["renew", "jobs.store", "new.store", "--new"],
+        Some("new.store"),
+        u64::MAX,
+        THERE,
+    ),
+    (&["migrate", "jobs.store", "new.store"], None, 0, FAILS),
+    (
+        &["migrate", "jobs.store", "new.store"],
+        Some("new.store"),
+        2,
+        FAILS,
+    ),
+    (&["renew", "jobs.store", "new.store"], None, 1, FAILS),
+    (
+        &["renew", "--new", "jobs.store", "new.store"],
+        None,
+        2,
+        FAILS,
+    ),
+];
+
+/// Asserts that these words leave the files as they are.
+fn assert_sparing<R: Threads + Wait + Sync + Abort>(
+    rt: &R,
+    alloc: Global,
+    stored: &[u8],
+    n: usize,
+    row: &Sparing,
+) {
+    let mut shelf = Shelf::new(alloc, "jobs.store", copied(rt, alloc, stored));
+    shelf.other = row.1;
+    shelf.passes = row.2;
+    assert_spared(rt, alloc, n, &mut shelf, row.0, &(3, "", row.3));
+}
+
+#[test]
+fn a_file_that_is_there_is_spared(rt: HostRuntime) {
+    let stored = scripted(&rt, rt.alloc(), STOPPED.0);
+    for (n, row) in SPARED.iter().enumerate() {
+        assert_sparing(&rt, rt.alloc(), stored.bytes.as_slice(), n, row);
     }
 }
 
@@ -227,8 +325,9 @@ const LEFT: &str = "events 8; clock 0\n\
 /// Words that renew it, and whether the store itself is renewed.
 type Renewing = (&'static [&'static str], bool);
 
-static RENEWED: [Renewing; 3] = [
+static RENEWED: [Renewing; 4] = [
     (&["renew", "jobs.store", "new.store"], false),
+    (&["renew", "--new", "jobs.store", "new.store"], false),
     (&["renew", "--in-place", "jobs.store"], true),
     (&["renew", "jobs.store", "--in-place"], true),
 ];

@@ -15,6 +15,8 @@ use store_files::{Files, Made, Opened, Reason, Why};
 pub struct Shelf {
     pub alloc: Global,
     pub name: &'static str,
+    /// Another file that is there, whose bytes aren't kept.
+    pub other: Option<&'static str>,
     pub bytes: Vec<u8>,
     /// Whether another program has it open.
     pub is_used: bool,
@@ -22,6 +24,8 @@ pub struct Shelf {
     pub passes: u64,
     /// Whether its file can't be replaced.
     pub is_kept: bool,
+    /// Whether a file was made or emptied.
+    pub has_made: bool,
     /// Whether a file was taken away.
     pub has_removed: bool,
 }
@@ -32,11 +36,21 @@ impl Shelf {
         Shelf {
             alloc,
             name,
+            other: None,
             bytes,
             is_used: false,
             passes: u64::MAX,
             is_kept: false,
+            has_made: false,
             has_removed: false,
+        }
+    }
+
+    /// Says whether there is a file of this name.
+    fn has(&self, name: &str) -> bool {
+        match self.other {
+            Some(other) => name == other || name == self.name,
+            None => name == self.name,
         }
     }
 
@@ -135,7 +149,8 @@ impl Files for Shelf {
     }
 
     fn create(&mut self, name: &str, size: u64) -> Result<Made<Fuse<MemoryDisk>, Broken>, Reason> {
-        self.made(size, name != self.name)
+        self.has_made = true;
+        self.made(size, !self.has(name))
     }
 
     fn create_new(
@@ -144,9 +159,10 @@ impl Files for Shelf {
         _like: Option<&str>,
         size: u64,
     ) -> Result<Made<Fuse<MemoryDisk>, Broken>, Reason> {
-        if name == self.name {
+        if self.has(name) {
             return Err(said("there is one"));
         }
+        self.has_made = true;
         self.made(size, true)
     }
 

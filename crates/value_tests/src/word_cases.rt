@@ -14,10 +14,10 @@ pub enum Told {
     Tasks(&'static str, Option<&'static str>, Option<&'static str>),
     /// They ask for this view of this store.
     Inspect(&'static str, View<'static>),
-    /// They ask for a migration from this store to that one.
-    Migration(&'static str, &'static str),
+    /// They ask for a migration from this store to that one, in a new file alone or in any.
+    Migration(&'static str, &'static str, bool),
     /// They ask for a renewal, likewise.
-    Renewal(&'static str, &'static str),
+    Renewal(&'static str, &'static str, bool),
     /// They ask for a renewal of this store in its place.
     InPlace(&'static str),
     /// A text for help that has this part.
@@ -34,7 +34,7 @@ pub enum Told {
     Views,
     /// A word that is no phase.
     Phase,
-    /// A renewal with neither a new store nor a place, or with both.
+    /// A renewal with neither a new store nor a place, or with both, or with a new file in place.
     Place,
     /// A mistake whose text has this part, and ends with a line feed.
     Mistake(&'static str),
@@ -257,51 +257,100 @@ pub static SOME_TASKS: [Case; 18] = [
     (&["inspect", "--phase", "error no", "a"], Told::Phase),
 ];
 
-pub static MIGRATIONS: [Case; 7] = [
+pub static MIGRATIONS: [Case; 13] = [
     (
         &["migrate", "a.disk", "b.disk"],
-        Told::Migration("a.disk", "b.disk"),
+        Told::Migration("a.disk", "b.disk", false),
     ),
-    (&["migrate", "--", "-a", "-b"], Told::Migration("-a", "-b")),
-    (&["migrate", "a", "--", "-b"], Told::Migration("a", "-b")),
-    (&["migrate", "a", "b", "--"], Told::Migration("a", "b")),
-    (&["migrate", "a", ""], Told::Migration("a", "")),
+    (
+        &["migrate", "--", "-a", "-b"],
+        Told::Migration("-a", "-b", false),
+    ),
+    (
+        &["migrate", "a", "--", "-b"],
+        Told::Migration("a", "-b", false),
+    ),
+    (
+        &["migrate", "a", "b", "--"],
+        Told::Migration("a", "b", false),
+    ),
+    (&["migrate", "a", ""], Told::Migration("a", "", false)),
     (&["migrate", "a.disk", "a.disk"], Told::SameStores),
     (&["migrate", "--", "-a", "-a"], Told::SameStores),
+    (
+        &["migrate", "--new", "a", "b"],
+        Told::Migration("a", "b", true),
+    ),
+    (
+        &["migrate", "a", "--new", "b"],
+        Told::Migration("a", "b", true),
+    ),
+    (
+        &["migrate", "a", "b", "--new"],
+        Told::Migration("a", "b", true),
+    ),
+    (
+        &["migrate", "--new", "--", "-a", "--new"],
+        Told::Migration("-a", "--new", true),
+    ),
+    (
+        &["migrate", "a", "--", "--new"],
+        Told::Migration("a", "--new", false),
+    ),
+    (&["migrate", "--new", "a", "a"], Told::SameStores),
 ];
 
-pub static RENEWALS: [Case; 7] = [
+pub static RENEWALS: [Case; 13] = [
     (
         &["renew", "a.disk", "b.disk"],
-        Told::Renewal("a.disk", "b.disk"),
+        Told::Renewal("a.disk", "b.disk", false),
     ),
-    (&["renew", "--", "-a", "-b"], Told::Renewal("-a", "-b")),
-    (&["renew", "a", "--", "-b"], Told::Renewal("a", "-b")),
-    (&["renew", "a", "b", "--"], Told::Renewal("a", "b")),
-    (&["renew", "a", ""], Told::Renewal("a", "")),
+    (
+        &["renew", "--", "-a", "-b"],
+        Told::Renewal("-a", "-b", false),
+    ),
+    (&["renew", "a", "--", "-b"], Told::Renewal("a", "-b", false)),
+    (&["renew", "a", "b", "--"], Told::Renewal("a", "b", false)),
+    (&["renew", "a", ""], Told::Renewal("a", "", false)),
     (&["renew", "a.disk", "a.disk"], Told::SameStores),
     (&["renew", "--", "-a", "-a"], Told::SameStores),
+    (&["renew", "--new", "a", "b"], Told::Renewal("a", "b", true)),
+    (&["renew", "a", "--new", "b"], Told::Renewal("a", "b", true)),
+    (&["renew", "a", "b", "--new"], Told::Renewal("a", "b", true)),
+    (
+        &["renew", "--new", "--", "-a", "--new"],
+        Told::Renewal("-a", "--new", true),
+    ),
+    (
+        &["renew", "a", "--", "--new"],
+        Told::Renewal("a", "--new", false),
+    ),
+    (&["renew", "a", "a", "--new"], Told::SameStores),
 ];
 
-/// A renewal in its place, and one with neither a place nor a new store, or with both.
-pub static RENEWALS_IN_PLACE: [Case; 11] = [
+/// A renewal in its place, and one with neither a place nor a new store, or with both, or with a
+/// new file in place.
+pub static RENEWALS_IN_PLACE: [Case; 14] = [
     (&["renew", "--in-place", "a.disk"], Told::InPlace("a.disk")),
     (&["renew", "a.disk", "--in-place"], Told::InPlace("a.disk")),
     (&["renew", "--in-place", "--", "-a"], Told::InPlace("-a")),
     (&["renew", "a", "--in-place", "--"], Told::InPlace("a")),
     (
         &["renew", "--", "--in-place", "a"],
-        Told::Renewal("--in-place", "a"),
+        Told::Renewal("--in-place", "a", false),
     ),
     (
         &["renew", "a", "--", "--in-place"],
-        Told::Renewal("a", "--in-place"),
+        Told::Renewal("a", "--in-place", false),
     ),
     (&["renew", "a.disk"], Told::Place),
     (&["renew", "--", "a.disk"], Told::Place),
     (&["renew", "--in-place", "a", "b"], Told::Place),
     (&["renew", "a", "b", "--in-place"], Told::Place),
     (&["renew", "a", "--in-place", "a"], Told::Place),
+    (&["renew", "--new", "a"], Told::Place),
+    (&["renew", "--new", "--in-place", "a"], Told::Place),
+    (&["renew", "a", "--in-place", "b", "--new"], Told::Place),
 ];
 
 pub static CREWS: [Case; 13] = [
@@ -335,7 +384,7 @@ pub static CREWS: [Case; 13] = [
     (&["crew", "a", "--workers", "two"], Told::Workers),
 ];
 
-pub static HELP: [Case; 27] = [
+pub static HELP: [Case; 30] = [
     (&["--help"], Told::Help("Usage: night <COMMAND>")),
     (&["--help"], Told::Help("A line asks one thing of a book")),
     (&["--help"], Told::Help("docs/formats/console.md and")),
@@ -372,7 +421,19 @@ pub static HELP: [Case; 27] = [
     ),
     (
         &["migrate", "--help"],
-        Told::Help("Usage: night migrate <OLD> <NEW>"),
+        Told::Help("Usage: night migrate [OPTIONS] <OLD> <NEW>"),
+    ),
+    (
+        &["migrate", "--help"],
+        Told::Help("      --new   Refuses where there is a file NEW\n"),
+    ),
+    (
+        &["migrate", "--help"],
+        Told::Help("Example: night migrate --new small.store large.store"),
+    ),
+    (
+        &["renew", "--help"],
+        Told::Help("Refuses where there is a file NEW\n"),
     ),
     (
         &["inspect", "--help"],
@@ -401,7 +462,7 @@ pub static HELP: [Case; 27] = [
     (
         &["renew", "--help"],
         Told::Help(
-            "Examples:\n  night renew old.store new.store\n  night renew --in-place jobs.store\n",
+            "  night renew --new old.store new.store\n  night renew --in-place jobs.store\n",
         ),
     ),
     (

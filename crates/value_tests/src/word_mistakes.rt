@@ -98,7 +98,7 @@ pub static MISTAKES: [Case; 25] = [
 ];
 
 /// Flags that stand twice, have a value, or stand where their command doesn't take them.
-pub static STRAY_FLAGS: [Case; 23] = [
+pub static STRAY_FLAGS: [Case; 24] = [
     (
         &["demo", "--strict", "--strict"],
         Told::Mistake("'--strict' cannot be used multiple times"),
@@ -180,12 +180,16 @@ pub static STRAY_FLAGS: [Case; 23] = [
         Told::Mistake("unexpected argument '--strict' found"),
     ),
     (
-        &["migrate", "--new", "a", "b"],
+        &["crew", "a", "--new"],
         Told::Mistake("unexpected argument '--new' found"),
     ),
     (
-        &["renew", "--new", "a", "b"],
-        Told::Mistake("unexpected argument '--new' found"),
+        &["migrate", "--new", "a", "b", "--new"],
+        Told::Mistake("'--new' cannot be used multiple times"),
+    ),
+    (
+        &["renew", "a", "--new", "b", "--new"],
+        Told::Mistake("'--new' cannot be used multiple times"),
     ),
     (
         &["--strict", "demo"],

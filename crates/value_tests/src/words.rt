@@ -116,18 +116,18 @@ fn is_crew(told: &Told, store: &str, workers: u8, known: bool) -> bool {
     }
 }
 
-/// Says whether a migration from this store to that one is told.
-fn is_migration(told: &Told, old: &str, new: &str) -> bool {
+/// Says whether a migration from this store to that one is told, in a new file alone or in any.
+fn is_migration(told: &Told, old: &str, new: &str, is_new: bool) -> bool {
     match told {
-        Told::Migration(from, to) => *from == old && *to == new,
+        Told::Migration(from, to, flag) => *from == old && *to == new && *flag == is_new,
         _ => false,
     }
 }
 
-/// Says whether a renewal of this store to that one is told.
-fn is_renewal(told: &Told, old: &str, new: &str) -> bool {
+/// Says whether a renewal of this store to that one is told, likewise.
+fn is_renewal(told: &Told, old: &str, new: &str, is_new: bool) -> bool {
     match told {
-        Told::Renewal(from, to) => *from == old && *to == new,
+        Told::Renewal(from, to, flag) => *from == old && *to == new && *flag == is_new,
         _ => false,
     }
 }
@@ -165,8 +165,8 @@ fn is_asked(asked: &Asked, told: &Told) -> bool {
             workers,
             known,
         } => is_crew(told, store, *workers, *known),
-        Asked::Migrate(old, new) => is_migration(told, old, new),
-        Asked::Renew(old, new) => is_renewal(told, old, new),
+        Asked::Migrate { old, new, is_new } => is_migration(told, old, new, *is_new),
+        Asked::Renew { old, new, is_new } => is_renewal(told, old, new, *is_new),
         Asked::RenewInPlace(store) => is_in_place(told, store),
         Asked::Help(text) => is_help(told, text),
     }

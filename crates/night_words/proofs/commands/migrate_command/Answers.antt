@@ -7,4 +7,6 @@ returns c =
     let before : app_of c.after_help-migrate.result ≡ new_app (codes "migrate") = search rules in
     let old = c.with_word-old.ensures _ _ c.store_word.ensures.local
     c.store_word.ensures.rule before in
-    c.with_word.ensures _ _ c.store_word-2.ensures.local c.store_word-2.ensures.rule old
+    let new = c.with_word-new.ensures _ _ c.store_word-2.ensures.local
+    c.store_word-2.ensures.rule old in
+    c.with_word.ensures _ _ c.flag_word.ensures.local c.flag_word.ensures.rule new

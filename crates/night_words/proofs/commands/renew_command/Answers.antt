@@ -9,4 +9,6 @@ returns c =
     c.store_word.ensures.rule before in
     let new = c.with_word-new.ensures _ _ c.other_word.ensures.local
     c.other_word.ensures.rule old in
-    c.with_word.ensures _ _ c.flag_word.ensures.local c.flag_word.ensures.rule new
+    let to_new = c.with_word-to_new.ensures _ _ c.flag_word.ensures.local
+    c.flag_word.ensures.rule new in
+    c.with_word.ensures _ _ c.flag_word-2.ensures.local c.flag_word-2.ensures.rule to_new

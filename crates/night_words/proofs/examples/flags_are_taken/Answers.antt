@@ -22,6 +22,14 @@ pub returns-clause-json : goal.returns-clause-json
 unfolding clap_on_literals
 returns-clause-json c = λ name. refl
 
+pub returns-clause-migrate_new : goal.returns-clause-migrate_new
+unfolding clap_on_literals
+returns-clause-migrate_new c = λ name. refl
+
+pub returns-clause-renew_new : goal.returns-clause-renew_new
+unfolding clap_on_literals
+returns-clause-renew_new c = λ name. refl
+
 pub returns-clause-known : goal.returns-clause-known
 unfolding clap_on_literals
 returns-clause-known c = λ name. refl

@@ -1,4 +1,4 @@
-use Rattle.std.proofs.Common.{inr, inl, refl}
+use Rattle.std.proofs.Common.{false, inr, inl, refl}
 use Rattle.std.specs.Prelude.{codes}
 use Rattle.clap.proofs.OnLiterals.{clap_on_literals}
 use Rattle.night_words.proofs.examples.two_stores_may_be_renewed.Goals as goal
@@ -12,7 +12,7 @@ unfolding clap_on_literals
 returns-clause-between c = λ name. refl
 
 pub returns-clause-same : goal.returns-clause-same
-returns-clause-same c = λ name. (codes "a", inr (name, inl refl))
+returns-clause-same c = λ name. (codes "a", (false, inr (name, inl refl)))
 
 pub returns-clause-none : goal.returns-clause-none
 unfolding clap_on_literals

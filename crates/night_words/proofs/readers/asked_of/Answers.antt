@@ -4,11 +4,10 @@ use Rattle.std.specs.Borrow.{Bor}
 use Rattle.clap.specs.Walk.{Text}
 use Rattle.night_words.proofs.TakenLemmas.{crew, demo, format, inspect, script}
 use Rattle.night_words.proofs.NamedLemmas.{crew_here, demo_here, differ, format_here, inspect_here}
-use Rattle.night_words.proofs.NamedLemmas.{named_here, new_here, new_is_there, no_store}
-use Rattle.night_words.proofs.NamedLemmas.{renewal_here, same, script_here, two_asked, two_left}
+use Rattle.night_words.proofs.NamedLemmas.{migration_here, named_here, new_here, new_is_there}
+use Rattle.night_words.proofs.NamedLemmas.{no_store, renewal_here, same, script_here, two_left}
 use Rattle.night_words.proofs.NamedLemmas.{unwrapped}
 use Rattle.night_words.proofs.PairLemmas.{renew}
-use Rattle.clap.specs.Words.{subcommand_rows_of}
 use Rattle.night_words.specs.Commands.{named_by, new_by}
 use Rattle.night_words.proofs.readers.asked_of.Goals as goal
 
@@ -68,11 +67,12 @@ pub returns-then-renews : goal.returns-then-renews
 returns-then-renews c =
     let now : Option (Bor Text) → Option Text = option_map (λ s. s.now) in
     renewal_here c.args.matches.now c.in-Some.command c.in-Some.inner
-    c.in-Some-get_str.store.now (now c.get_str-then-renews.result) c.is_set-then-renews.result
+    c.in-Some-get_str.store.now (now c.get_str-then-renews.result)
+    c.is_set-is_new-then-renews.result c.is_set-in_place.result
     c.renewal.result c.in-Some.ensures.name c.in-Some.ensures.rows
     (same c.in-Some.command.now renew c.eq-renews.result c.eq-renews.ensures c.if-renews.true)
-    c.in-Some-get_str.ensures c.get_str-then-renews.ensures c.is_set-then-renews.ensures
-    c.renewal.ensures
+    c.in-Some-get_str.ensures c.get_str-then-renews.ensures
+    c.is_set-is_new-then-renews.ensures c.is_set-in_place.ensures c.renewal.ensures
 
 pub unreachable-requires-in_default-get_str-2 : goal.unreachable-requires-in_default-get_str-2
 unreachable-requires-in_default-get_str-2 c =
@@ -106,10 +106,8 @@ returns c =
     (differ command script c.eq-scripts.result c.eq-scripts.ensures c.if-scripts.false)
     (differ command inspect c.eq-inspects.result c.eq-inspects.ensures c.if-inspects.false)
     (differ command renew c.eq-renews.result c.eq-renews.ensures c.if-renews.false) in
-    two_asked (named_by c.args.matches.now) (new_by c.args.matches.now) command
-    c.in-Some-get_str.store.now c.in-Some-get_str-2.new.now
-    (subcommand_rows_of c.args.matches.now) c.for_two.result left.0
-    (at ∙ ap (λ s. Some (command, s)) (sym c.in-Some-get_str.ensures))
-    (new_here c.args.matches.now c.in-Some.command c.in-Some.inner c.in-Some.ensures.rows
-    ∙ sym c.in-Some-get_str-2.ensures)
+    migration_here c.args.matches.now c.in-Some.command c.in-Some.inner
+    c.in-Some-get_str.store.now c.in-Some-get_str-2.new.now c.is_set-is_new-2.result
+    c.for_two.result c.in-Some.ensures.name c.in-Some.ensures.rows left.0
+    c.in-Some-get_str.ensures c.in-Some-get_str-2.ensures c.is_set-is_new-2.ensures
     c.for_two.ensures
