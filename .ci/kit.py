@@ -26,7 +26,7 @@ def load() -> ModuleType:
     rt = importlib.util.module_from_spec(spec)
     try:
         loader.exec_module(rt)
-    except (OSError, SyntaxError) as error:
+    except (Exception, SystemExit) as error:  # (another program of that name may raise any)
         raise NoKit(f"{found} can't be read as the `rt` of a kit: {error}") from error
     lacking = [it for it in USED if not hasattr(rt, it)]
     if lacking or not hasattr(rt, "rtlib"):
