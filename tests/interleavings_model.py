@@ -1,0 +1,845 @@
+"""A model of a crew's threads: the bodies of `crates/run_crew/src` that wait and wake, what each of
+their statements does, and every order in which the threads can take them.
+
+BODIES has the statements as the source has them, by file and function. A line `// .. is dropped`
+stands where a guard goes that no statement drops. EFFECTS says what a statement does; what isn't
+there can't be run. `explore` takes the steps of all threads in every order, and tells the first
+state that must not be.
+
+A step is an access to a counter of the arrivals, a lock that is taken, a sleep, a wake-up, the
+turns of a task, or a join. What lies under a lock is touched under it alone, so a statement that
+touches nothing else is of one step with the statement before it. Turns look at a scope under the
+lock, and touch no counter: of that there is no step.
+"""
+
+from __future__ import annotations
+
+import re
+from collections import deque
+from collections.abc import Callable, Iterator
+from dataclasses import dataclass
+
+Place = tuple[str, str]
+
+BODIES: dict[Place, str] = {
+    ("arrivals.rt", "come"): """
+        self.awake.fetch_add(1, Ordering::SeqCst);
+        """,
+    ("arrivals.rt", "go"): """
+        if self.awake.fetch_sub(1, Ordering::SeqCst) == 1 {
+            self.moved.notify_one();
+        }
+        """,
+    ("arrivals.rt", "is_last"): """
+        self.awake.load(Ordering::SeqCst) == 1
+        """,
+    ("arrivals.rt", "sleep"): """
+        let flushes = self.flushes.load(Ordering::SeqCst);
+        self.asleep.fetch_add(1, Ordering::SeqCst);
+        self.awake.fetch_sub(1, Ordering::SeqCst);
+        let guard = self.moved.wait(rt, guard);
+        if self.flushes.load(Ordering::SeqCst) == flushes {
+            self.asleep.fetch_sub(1, Ordering::SeqCst);
+            self.awake.fetch_add(1, Ordering::SeqCst);
+        }
+        guard
+        """,
+    ("arrivals.rt", "wake"): """
+        self.flushes.fetch_add(1, Ordering::SeqCst);
+        let asleep = self.asleep.swap(0, Ordering::SeqCst);
+        self.awake.fetch_add(asleep, Ordering::SeqCst);
+        self.moved.notify_all();
+        """,
+    ("saves.rt", "save"): """
+        let mut place = shared.lock(rt);
+        for _ in rt.forever() {
+            let durable = place.durable();
+            if event <= durable {
+                arrivals.go();
+                // place is dropped
+                return Ok(durable);
+            }
+            if !arrivals.is_last() {
+                place = arrivals.sleep(rt, place);
+                continue;
+            }
+            let flushed = place.flush();
+            arrivals.wake();
+            if let Err(trouble) = flushed {
+                arrivals.go();
+                // place is dropped
+                return Err(trouble);
+            }
+        }
+        unreachable!()
+        """,
+    ("bells.rt", "ring"): """
+        let mut marks = self.marks.lock(rt);
+        marks.event = marks.event.max(event);
+        self.moved.notify_all();
+        """,
+    ("bells.rt", "close"): """
+        let mut marks = self.marks.lock(rt);
+        marks.closed = true;
+        self.moved.notify_all();
+        """,
+    ("bells.rt", "wait"): """
+        let mut marks = self.marks.lock(rt);
+        for _ in rt.forever() {
+            if marks.closed {
+                return None;
+            }
+            if marks.event > heard {
+                return Some(marks.event);
+            }
+            marks = self.moved.wait(rt, marks);
+        }
+        unreachable!()
+        """,
+    ("workplaces.rt", "start"): """
+        self.arrivals.come();
+        let mut place = self.shared.lock(self.rt);
+        let started = place.start_as(seat);
+        if started.is_err() {
+            self.arrivals.go();
+        }
+        // place is dropped
+        started
+        """,
+    ("workplaces.rt", "save"): """
+        save(self.rt, self.shared, self.arrivals, event)
+        """,
+    ("workplaces.rt", "finish"): """
+        self.arrivals.come();
+        let mut place = self.shared.lock(self.rt);
+        let finished = place.finish_as(seat, task, outcome);
+        self.arrivals.go();
+        // place is dropped
+        finished
+        """,
+    ("workplaces.rt", "ring"): """
+        self.bell.ring(self.rt, event);
+        """,
+    ("watches.rt", "wait"): """
+        self.bell.wait(self.rt, heard)
+        """,
+    ("watches.rt", "save"): """
+        self.arrivals.come();
+        save(self.rt, self.shared, self.arrivals, event)
+        """,
+    ("watches.rt", "save_rings"): """
+        let mut heard = 0;
+        for _ in rt.forever() {
+            let Some(event) = watch.wait(heard) else {
+                return;
+            };
+            heard = event;
+            let _ = watch.save(event);
+        }
+        unreachable!()
+        """,
+    ("courses.rt", "take_tasks"): """
+        for _ in rt.forever() {
+            if !take_task(floor, seat, notes) {
+                return;
+            }
+        }
+        unreachable!()
+        """,
+    ("courses.rt", "take_task"): """
+        if notes.is_full() {
+            return false;
+        }
+        let Some(started) = start(floor, seat) else {
+            return false;
+        };
+        let task = started.info.task;
+        let outcome = run(floor, &started.info);
+        let Ok(event) = floor.finish(seat, task, &outcome) else {
+            return false;
+        };
+        notes.note(Note {
+            event,
+            task,
+            outcome,
+        });
+        floor.tell(task);
+        floor.ring(event);
+        true
+        """,
+    ("courses.rt", "start"): """
+        let Ok(started) = floor.start(seat) else {
+            return None;
+        };
+        match floor.save(started.event) {
+            Ok(_) => Some(started),
+            Err(_) => None,
+        }
+        """,
+    ("workers.rt", "work"): """
+        let Station {
+            jobs,
+            mut seat,
+            mut notes,
+        } = self;
+        let mut place = Workplace {
+            rt,
+            shared,
+            arrivals,
+            bell,
+            gate,
+            jobs,
+        };
+        take_tasks(rt, &mut place, &mut seat, &mut notes);
+        Shift { seat, notes }
+        """,
+    ("nights.rt", "save_at"): """
+        let mut watch = Lookout {
+            rt,
+            shared,
+            arrivals,
+            bell,
+        };
+        save_rings(rt, &mut watch);
+        """,
+    ("nights.rt", "shifts_of"): """
+        let count = stations.len();
+        let mut handles = Vec::with_capacity(alloc, count)?;
+        let mut shifts = Vec::with_capacity(alloc, count)?;
+        let bell = Bell::new();
+        let bell = &bell;
+        let arrivals = Arrivals::new();
+        let arrivals = &arrivals;
+        thread::scope(
+            thread::scope_env(),
+            rt,
+            |scope| -> Result<Vec<Shift<S, F>>, AllocError> {
+                let flusher = scope.spawn(move || save_at(rt, shared, arrivals, bell))?;
+                let mut refused = false;
+                for station in stations {
+                    match scope.spawn(move || station.work(rt, shared, arrivals, bell, gate)) {
+                        Ok(handle) => handles.push_reserved(handle),
+                        Err(_) => refused = true,
+                    }
+                }
+                for handle in handles {
+                    shifts.push_reserved(handle.join(rt));
+                }
+                bell.close(rt);
+                flusher.join(rt);
+                let _ = &count;
+                if refused {
+                    return Err(AllocError);
+                }
+                Ok(shifts)
+            },
+        )
+        """,
+    ("nights.rt", "run_night"): """
+        let Ok(mut notes) = Vec::with_capacity(alloc, jobs.len()) else {
+            return Err(Fault::Memory);
+        };
+        let Ok(stations) = stations_of(alloc, seat, jobs) else {
+            return Err(Fault::Memory);
+        };
+        let shifts = shifts_of(rt, alloc, shared, stations, gate);
+        let last = shared.lock(rt).flush();
+        let Ok(shifts) = shifts else {
+            return Err(Fault::Memory);
+        };
+        gather(seat, shifts, &mut notes);
+        Ok((notes, last))
+        """,
+}
+
+
+def statements(body: str) -> list[str]:
+    """The statements of a body and the heads of its blocks, in order, without comments, contracts
+    of closures, fields of literals and patterns, `self.`, and the one ordering that there is."""
+    return [it for it in pieces(re.sub(r"//[^\n]*", "", body)) if it not in ("{", "}")]
+
+
+def pieces(body: str) -> list[str]:
+    """The same with the braces, and with the comments that the body has."""
+    body = re.sub(r"\b(?:requires|ensures)\b[^{;]*\{[^{}]*\}", "", body)
+    body = re.sub(r"\b([A-Z]\w*) \{[^{}]*\}", r"\1", body)
+    body = re.sub(r"(?:, )?Ordering::SeqCst|\bself\.", "", body)
+    body = re.sub(r"//([^\n]*)", r";//\1;", body)
+    found = [re.sub(r"\s+", " ", it).strip(" ") for it in re.split(r"([;{}])", body)]
+    return [it for it in found if it and it not in (";", ",", ")", ",)", ", )")]
+
+
+@dataclass(frozen=True)
+class Crew:
+    """A crew: its workers, the tasks that are ready, whether the device fails at some flush, and
+    whether a sleep may end for no reason."""
+
+    workers: int
+    tasks: int
+    fails: bool = False
+    wakes: bool = False
+
+    def __str__(self) -> str:
+        beside = [", a device that fails"] * self.fails + [", idle wake-ups"] * self.wakes
+        return f"{self.workers} workers, {self.tasks} tasks{''.join(beside)}"
+
+
+# What lies under the lock, the arrivals and the bell, and then each thread.
+State = tuple[tuple[int, ...], ...]
+
+
+class Night:
+    """A state of a crew, all of it numbers. The last two threads are the flusher and the one that
+    joins all others. Workers are alike: in a state their order is that of their numbers."""
+
+    __slots__ = ("locked", "events", "durable", "ready", "broken", "awake", "asleep", "flushes",
+                 "rung", "closed", "dozes",
+                 "at", "event", "test", "ok", "kept", "sleeps", "crew", "ends", "pick", "picks",
+                 "is_idle")
+
+    def __init__(self, crew: Crew, ends: list[int]) -> None:
+        # the lock, and what lies under it
+        self.locked = self.events = self.durable = self.broken = 0
+        self.ready = crew.tasks
+        # the counters of the arrivals
+        self.awake = self.asleep = self.flushes = 0
+        # the bell: its event, whether it is closed, and how the flusher dozes there
+        self.rung = self.closed = self.dozes = 0
+        # of each thread its next statement, its event, the last test, what was answered, the number
+        # that a statement keeps for another one, and how it sleeps at the arrivals
+        self.at, self.event, self.test, self.ok, self.kept, self.sleeps = (
+            [0] * len(ends) for _ in range(6))
+        self.crew, self.ends = crew, ends
+        # which of how many ways a step takes, and whether it was a wake-up for no reason
+        self.pick, self.picks, self.is_idle = 0, 1, False
+
+    def state(self) -> State:
+        shared = (self.locked, self.events, self.durable, self.ready, self.broken, self.awake,
+                  self.asleep, self.flushes, self.rung, self.closed, self.dozes)
+        threads = [*zip(self.at, self.event, self.test, self.ok, self.kept, self.sleeps)]
+        return (shared, *sorted(threads[:-2]), *threads[-2:])
+
+    def restore(self, state: State) -> None:
+        (self.locked, self.events, self.durable, self.ready, self.broken, self.awake,
+         self.asleep, self.flushes, self.rung, self.closed, self.dozes) = state[0]
+        self.at, self.event, self.test, self.ok, self.kept, self.sleeps = map(
+            list, zip(*state[1:]))
+        self.pick, self.picks, self.is_idle = 0, 1, False
+
+
+# How a thread sleeps: not, until it is woken, and until it has the lock again.
+UP, ASLEEP, WOKEN = range(3)
+# What a statement does: false where it can't be done yet.
+Act = Callable[[Night, int], bool | None]
+
+
+@dataclass(frozen=True)
+class Effect:
+    """What a statement does, and whether it is a step of its own."""
+
+    act: Act
+    is_step: bool
+
+
+@dataclass(frozen=True)
+class Call:
+    """A call of another body that is modelled."""
+
+    place: Place
+
+
+EFFECTS: dict[Place, tuple[Effect | Call, ...]] = {}
+
+
+def does(file: str, *lines: str, is_step: bool = False) -> Callable[[Act], Act]:
+    """The function below does what these statements of a file do."""
+    def put(act: Act) -> Act:
+        for line in lines:
+            EFFECTS[file, line] = (*EFFECTS.get((file, line), ()), Effect(act, is_step))
+        return act
+    return put
+
+
+def calls(file: str, line: str, called: str, function: str) -> None:
+    """This statement of a file calls a function of a file."""
+    EFFECTS[file, line] = (*EFFECTS.get((file, line), ()), Call((called, function)))
+
+
+# The arrivals.
+
+@does("arrivals.rt", "awake.fetch_add(1)", is_step=True)
+def come(it: Night, me: int) -> None:
+    it.awake += 1
+
+
+@does("arrivals.rt", "awake.fetch_sub(1)", "if awake.fetch_sub(1) == 1", is_step=True)
+def go(it: Night, me: int) -> None:
+    it.test[me] = it.awake == 1
+    it.awake -= 1
+
+
+@does("arrivals.rt", "awake.fetch_add(asleep)", is_step=True)
+def come_again(it: Night, me: int) -> None:
+    it.awake += it.kept[me]
+    it.kept[me] = 0
+
+
+@does("arrivals.rt", "awake.load() == 1", is_step=True)
+def is_one(it: Night, me: int) -> None:
+    it.test[me] = it.awake == 1
+
+
+@does("arrivals.rt", "asleep.fetch_add(1)", is_step=True)
+def lie_down(it: Night, me: int) -> None:
+    it.asleep += 1
+
+
+@does("arrivals.rt", "asleep.fetch_sub(1)", is_step=True)
+def get_up(it: Night, me: int) -> None:
+    it.asleep -= 1
+
+
+@does("arrivals.rt", "let asleep = asleep.swap(0)", is_step=True)
+def count_sleepers(it: Night, me: int) -> None:
+    it.kept[me], it.asleep = it.asleep, 0
+
+
+@does("arrivals.rt", "flushes.fetch_add(1)", is_step=True)
+def count_flush(it: Night, me: int) -> None:
+    it.flushes += 1
+
+
+@does("arrivals.rt", "let flushes = flushes.load()", is_step=True)
+def keep_flushes(it: Night, me: int) -> None:
+    it.kept[me] = it.flushes
+
+
+@does("arrivals.rt", "if flushes.load() == flushes", is_step=True)
+def is_no_flush(it: Night, me: int) -> None:
+    it.test[me], it.kept[me] = it.flushes == it.kept[me], 0
+
+
+@does("arrivals.rt", "let guard = moved.wait(rt, guard)", is_step=True)
+def fall_asleep(it: Night, me: int) -> None:
+    it.sleeps[me] = ASLEEP
+    it.locked = 0
+
+
+@does("arrivals.rt", "let guard = moved.wait(rt, guard)", is_step=True)
+def wake_up(it: Night, me: int) -> bool:
+    it.is_idle = it.sleeps[me] == ASLEEP
+    if it.locked or it.is_idle and not it.crew.wakes:
+        return False
+    it.sleeps[me] = UP
+    it.locked = 1
+    return True
+
+
+@does("arrivals.rt", "moved.notify_one()", is_step=True)
+def wake_one(it: Night, me: int) -> None:
+    sleepers = [one for one, how in enumerate(it.sleeps) if how == ASLEEP]
+    it.picks = max(1, len(sleepers))
+    if sleepers:
+        it.sleeps[sleepers[it.pick]] = WOKEN
+
+
+@does("arrivals.rt", "moved.notify_all()", is_step=True)
+def wake_all(it: Night, me: int) -> None:
+    it.sleeps = [WOKEN if how == ASLEEP else how for how in it.sleeps]
+
+
+# The lock, and what lies under it.
+
+@does("saves.rt", "let mut place = shared.lock(rt)", is_step=True)
+@does("workplaces.rt", "let mut place = shared.lock(rt)", is_step=True)
+def lock(it: Night, me: int) -> bool:
+    if it.locked:
+        return False
+    it.locked = 1
+    return True
+
+
+@does("saves.rt", "// place is dropped")
+@does("workplaces.rt", "// place is dropped")
+def unlock(it: Night, me: int) -> None:
+    it.locked = 0
+
+
+@does("workplaces.rt", "let started = place.start_as(seat)")
+def start_as(it: Night, me: int) -> None:
+    it.ok[me] = it.ready > 0 and not it.broken
+    if it.ok[me]:
+        it.ready -= 1
+        it.events += 1
+        it.event[me] = it.events
+
+
+@does("workplaces.rt", "let finished = place.finish_as(seat, task, outcome)")
+def finish_as(it: Night, me: int) -> None:
+    it.ok[me] = not it.broken
+    if it.ok[me]:
+        it.events += 1
+        it.event[me] = it.events
+
+
+@does("workplaces.rt", "if started.is_err()")
+def is_err(it: Night, me: int) -> None:
+    it.test[me] = not it.ok[me]
+
+
+@does("saves.rt", "if let Err(trouble) = flushed")
+def is_failed(it: Night, me: int) -> None:
+    it.test[me], it.ok[me] = not it.ok[me], False
+
+
+@does("workplaces.rt", "started", "finished")
+def answer(it: Night, me: int) -> None:
+    it.test[me], it.ok[me] = it.ok[me], False
+
+
+@does("saves.rt", "if event <= durable")
+def is_durable(it: Night, me: int) -> None:
+    it.test[me] = it.event[me] <= it.durable
+
+
+@does("saves.rt", "let flushed = place.flush()")
+def flush(it: Night, me: int) -> None:
+    it.picks = 2 if it.crew.fails and not it.broken else 1
+    it.broken |= it.pick == 1
+    it.ok[me] = not it.broken
+    if it.ok[me]:
+        it.durable = it.events
+
+
+@does("nights.rt", "let last = shared.lock(rt).flush()", is_step=True)
+def flush_last(it: Night, me: int) -> bool:
+    if it.locked:
+        return False
+    flush(it, me)
+    return True
+
+
+# The bell. A turn of its lock is one step.
+
+@does("bells.rt", "let mut marks = marks.lock(rt)", is_step=True)
+def lock_marks(it: Night, me: int) -> None:
+    pass
+
+
+@does("bells.rt", "marks.event = marks.event.max(event)")
+def ring(it: Night, me: int) -> None:
+    it.rung = max(it.rung, it.event[me])
+
+
+@does("bells.rt", "marks.event = event")
+def ring_last(it: Night, me: int) -> None:
+    it.rung = it.event[me]
+
+
+@does("bells.rt", "marks.event = marks.event.min(event)")
+def ring_first(it: Night, me: int) -> None:
+    it.rung = min(it.rung or it.event[me], it.event[me])
+
+
+@does("bells.rt", "marks.closed = true")
+def close(it: Night, me: int) -> None:
+    it.closed = 1
+
+
+@does("bells.rt", "moved.notify_all()")
+def call(it: Night, me: int) -> None:
+    it.dozes = WOKEN if it.dozes == ASLEEP else it.dozes
+
+
+@does("bells.rt", "if marks.closed")
+def is_closed(it: Night, me: int) -> None:
+    it.test[me] = it.closed
+
+
+@does("bells.rt", "if marks.event > heard")
+def is_later(it: Night, me: int) -> None:
+    it.test[me] = it.rung > it.event[me]
+
+
+@does("bells.rt", "return Some(marks.event)")
+def hear(it: Night, me: int) -> None:
+    it.test[me], it.event[me] = True, it.rung
+
+
+@does("bells.rt", "marks = moved.wait(rt, marks)")
+def doze(it: Night, me: int) -> None:
+    it.dozes = ASLEEP
+
+
+@does("bells.rt", "marks = moved.wait(rt, marks)", is_step=True)
+def rise(it: Night, me: int) -> bool:
+    it.is_idle = it.dozes == ASLEEP
+    if it.is_idle and not it.crew.wakes:
+        return False
+    it.dozes = UP
+    return True
+
+
+# Workers, the flusher, and the thread that joins them.
+
+@does("courses.rt", "let outcome = run(floor, &started.info)", is_step=True)
+def make_turns(it: Night, me: int) -> None:
+    pass
+
+
+@does("watches.rt", "let mut heard = 0")
+def hear_nothing(it: Night, me: int) -> None:
+    it.event[me] = 0
+
+
+@does("workplaces.rt", "let event = event - 1")
+def take_earlier(it: Night, me: int) -> None:
+    it.event[me] -= 1
+
+
+@does("courses.rt", "true")
+def forget_event(it: Night, me: int) -> None:
+    it.test[me], it.event[me] = True, 0
+
+
+@does("courses.rt", "return false")
+def end(it: Night, me: int) -> None:
+    it.test[me], it.event[me] = False, 0
+
+
+@does("saves.rt", "return Ok(durable)")
+@does("arrivals.rt", "if true")
+@does("workplaces.rt", "if true")
+@does("nights.rt", "let Ok(mut notes) = Vec::with_capacity(alloc, jobs.len()) else",
+      "let Ok(stations) = stations_of(alloc, seat, jobs) else", "let Ok(shifts) = shifts else")
+def yes(it: Night, me: int) -> None:
+    it.test[me] = True
+
+
+@does("saves.rt", "return Err(trouble)")
+@does("bells.rt", "return None")
+@does("courses.rt", "if notes.is_full()", "return None")
+@does("nights.rt", "if refused")
+def no(it: Night, me: int) -> None:
+    it.test[me] = False
+
+
+@does("nights.rt", "shifts.push_reserved(handle.join(rt))", is_step=True)
+def join_workers(it: Night, me: int) -> bool:
+    return it.at[:-2] == it.ends[:-2]
+
+
+@does("nights.rt", "flusher.join(rt)", is_step=True)
+def join_flusher(it: Night, me: int) -> bool:
+    return it.at[-2] == it.ends[-2]
+
+
+def invert(it: Night, me: int) -> None:
+    it.test[me] = not it.test[me]
+
+
+for _file in ("saves.rt", "workplaces.rt", "watches.rt"):
+    calls(_file, "arrivals.come()", "arrivals.rt", "come")
+    calls(_file, "arrivals.go()", "arrivals.rt", "go")
+calls("saves.rt", "if !arrivals.is_last()", "arrivals.rt", "is_last")
+does("saves.rt", "if !arrivals.is_last()")(invert)
+calls("saves.rt", "place = arrivals.sleep(rt, place)", "arrivals.rt", "sleep")
+calls("saves.rt", "arrivals.wake()", "arrivals.rt", "wake")
+calls("workplaces.rt", "save(rt, shared, arrivals, event)", "saves.rt", "save")
+calls("workplaces.rt", "bell.ring(rt, event)", "bells.rt", "ring")
+calls("watches.rt", "bell.wait(rt, heard)", "bells.rt", "wait")
+calls("watches.rt", "save(rt, shared, arrivals, event)", "saves.rt", "save")
+calls("watches.rt", "let Some(event) = watch.wait(heard) else", "watches.rt", "wait")
+calls("watches.rt", "let _ = watch.save(event)", "watches.rt", "save")
+does("watches.rt", "let _ = watch.save(event)")(no)
+calls("courses.rt", "if !take_task(floor, seat, notes)", "courses.rt", "take_task")
+does("courses.rt", "if !take_task(floor, seat, notes)")(invert)
+calls("courses.rt", "let Some(started) = start(floor, seat) else", "courses.rt", "start")
+calls("courses.rt", "let Ok(started) = floor.start(seat) else", "workplaces.rt", "start")
+calls("courses.rt", "match floor.save(started.event)", "workplaces.rt", "save")
+calls("courses.rt", "let Ok(event) = floor.finish(seat, task, &outcome) else", "workplaces.rt",
+      "finish")
+calls("courses.rt", "floor.ring(event)", "workplaces.rt", "ring")
+calls("workers.rt", "take_tasks(rt, &mut place, &mut seat, &mut notes)", "courses.rt", "take_tasks")
+calls("nights.rt", "save_rings(rt, &mut watch)", "watches.rt", "save_rings")
+calls("nights.rt", "bell.close(rt)", "bells.rt", "close")
+calls("nights.rt", "let shifts = shifts_of(rt, alloc, shared, stations, gate)", "nights.rt",
+      "shifts_of")
+
+# Statements that change nothing of this. A thread that was spawned takes its first step whenever it
+# comes to that, so all are there from the beginning.
+IDLE: dict[str, tuple[str, ...]] = {
+    "arrivals.rt": ("guard",),
+    "saves.rt": ("let durable = place.durable()",),
+    "watches.rt": ("return", "heard = event"),
+    "courses.rt": ("return", "let task = started.info.task", "notes.note(Note)",
+                   "floor.tell(task)", "Ok(_) => Some(started), Err(_) => None,"),
+    "workers.rt": ("let Station = self", "let mut place = Workplace", "Shift"),
+    "nights.rt": ("let mut watch = Lookout", *statements(BODIES["nights.rt", "shifts_of"])[:12],
+                  "Ok(handle) => handles.push_reserved(handle), Err(_) => refused = true,",
+                  "for handle in handles", "let _ = &count", "return Err(AllocError)",
+                  "Ok(shifts)", "return Err(Fault::Memory)", "gather(seat, shifts, &mut notes)",
+                  "Ok((notes, last))"),
+}
+for _file, _lines in IDLE.items():
+    for _line in _lines:
+        EFFECTS[_file, _line] = ()
+
+
+# The code of a thread: an effect, a jump, or a branch that is taken where the last test was false.
+Jump = tuple[str, int]
+Code = list["Effect | Jump"]
+
+
+class Reader:
+    """Makes the code of a body, with the bodies that it calls in the place of their calls."""
+
+    def __init__(self, bodies: dict[Place, str]) -> None:
+        self.bodies = bodies
+        self.code: Code = []
+
+    def read(self, place: Place) -> None:
+        tokens = pieces(self.bodies[place])
+        leaves: list[int] = []
+        self.read_block(place[0], iter(tokens), leaves, -1)
+        self.settle(leaves)
+
+    def read_block(self, file: str, tokens: Iterator[str], leaves: list[int], loop: int) -> None:
+        """A block up to its end. `leaves` gets the places from which the function is left; `loop`
+        is the head of the loop around it."""
+        line = ""
+        for token in tokens:
+            if token == "}":
+                break
+            if token != "{":
+                line = token
+                self.read_line(file, line, leaves, loop)
+            elif line == "for _ in rt.forever()":
+                head = len(self.code)
+                self.read_block(file, tokens, leaves, head)
+                self.code.append(("jump", head))
+            elif line.startswith("if ") or line.endswith(" else"):
+                self.code.append(("unless" if line.startswith("if ") else "where", -1))
+                branch = len(self.code) - 1
+                self.read_block(file, tokens, leaves, loop)
+                self.settle([branch])
+            else:
+                self.read_block(file, tokens, leaves, loop)
+
+    def read_line(self, file: str, line: str, leaves: list[int], loop: int) -> None:
+        if line in ("for _ in rt.forever()", "unreachable!()"):
+            return
+        if line == "continue":
+            self.code.append(("jump", loop))
+            return
+        for it in EFFECTS[file, line]:
+            if isinstance(it, Call):
+                self.read(it.place)
+            else:
+                self.code.append(it)
+        if line.startswith("return"):
+            self.code.append(("jump", -1))
+            leaves.append(len(self.code) - 1)
+
+    def settle(self, places: list[int]) -> None:
+        """Lets these jumps lead to here."""
+        for at in places:
+            jump = self.code[at]
+            assert not isinstance(jump, Effect)
+            self.code[at] = (jump[0], len(self.code))
+
+
+def code_of(bodies: dict[Place, str], function: Place) -> Code:
+    reader = Reader(bodies)
+    reader.read(function)
+    return reader.code
+
+
+def take_step(it: Night, me: int, code: Code, has_begun: bool = False) -> bool:
+    """A thread's next step, and all that is one with it. False where it can't be taken."""
+    at = it.at[me]
+    while at < len(code):
+        line = code[at]
+        if isinstance(line, Effect):
+            if line.is_step and has_begun:
+                break
+            if line.act(it, me) is False:
+                return False
+            has_begun |= line.is_step
+            at += 1
+        else:
+            is_taken = line[0] == "jump" or it.test[me] == (line[0] == "where")
+            if line[0] != "jump":
+                it.test[me] = False
+            at = line[1] if is_taken else at + 1
+    it.at[me] = at
+    return has_begun
+
+
+@dataclass(frozen=True)
+class Found:
+    """What of a crew must not be, or nothing; after how many steps, and of how many states."""
+
+    what: str
+    steps: int
+    states: int
+
+
+FAULTS = HANGS, LOSES, LEAVES = (
+    "it hangs", "an event doesn't become durable", "an event isn't durable at the end")
+# Steps that may take any time: a turn; and the join of the workers, of which one more may be in a
+# turn.
+SLOW = (*EFFECTS["courses.rt", "let outcome = run(floor, &started.info)"],
+        *EFFECTS["nights.rt", "shifts.push_reserved(handle.join(rt))"])
+
+
+def explore(bodies: dict[Place, str], crew: Crew, most: int) -> Found:
+    """Takes the steps of a crew in every order, up to the first state that must not be:
+
+    - nobody can take a step, but for wake-ups that come for no reason, and somebody hasn't ended;
+    - all who can take one may take any time for it, the device didn't fail, and an event isn't
+      durable;
+    - all have ended, the device didn't fail, and an event isn't durable.
+    """
+    worker = code_of(bodies, ("workers.rt", "work"))
+    others = [code_of(bodies, ("nights.rt", it)) for it in ("save_at", "run_night")]
+    codes = [worker] * crew.workers + others
+    ends = [len(it) for it in codes]
+    night = Night(crew, ends)
+    for me, code in enumerate(codes):
+        take_step(night, me, code, has_begun=True)
+    first = night.state()
+    found, waiting = {first}, deque([(first, 0)])
+    while waiting:
+        state, steps = waiting.popleft()
+        moves = slow = 0
+        for me, code in enumerate(codes):
+            night.restore(state)
+            if night.at[me] == ends[me]:
+                continue
+            is_slow = code[night.at[me]] in SLOW
+            pick = picks = 0
+            while pick <= picks:
+                night.restore(state)
+                night.pick = pick
+                if not take_step(night, me, code):
+                    break
+                if not night.is_idle:
+                    moves += 1
+                    slow += is_slow
+                pick, picks = pick + 1, night.picks - 1
+                after = night.state()
+                if after not in found:
+                    found.add(after)
+                    waiting.append((after, steps + 1))
+        night.restore(state)
+        is_stored = night.durable == night.events or night.broken
+        if not moves and night.at != ends:
+            return Found(HANGS, steps, len(found))
+        if not moves and not is_stored:
+            return Found(LEAVES, steps, len(found))
+        if moves == slow and not is_stored:
+            return Found(LOSES, steps, len(found))
+        if len(found) > most:
+            return Found(f"more than {most} states", steps, len(found))
+    return Found("", 0, len(found))
