@@ -209,11 +209,12 @@ class Night:
                             f"3: a cancel of {group} beside a driver ended with {it.status}")
 
     def do_second(self, driver: subprocess.Popen[str], _: str) -> None:
-        """Another driver, which doesn't get the store; or this one has ended by then."""
-        began = time.monotonic()
+        """Another driver, which doesn't get the store; or this one has ended by then, or didn't
+        have it yet."""
+        began, is_first = time.monotonic(), f" {driver.pid} " in self.room.text("s.lock")
         other = self.room.start(errors="errors.second")
         status, _ = self.room.end(other, began, "")
-        self.room.holds(status == 3 or driver.poll() is not None,
+        self.room.holds(status == 3 or driver.poll() is not None or not is_first,
                         f"4: a second driver ended with status {status}")
 
     def do_halt(self, driver: subprocess.Popen[str], _: str) -> None:
