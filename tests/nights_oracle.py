@@ -77,7 +77,7 @@ class Run:
 @dataclass(frozen=True)
 class Cancel:
     """A cancel from a second process, of these groups; `written` is when its request was seen
-    beside the store."""
+    beside the store. Of a group whose deadline had passed it is none."""
 
     group: str
     groups: tuple[str, ...]
@@ -85,6 +85,7 @@ class Cancel:
     done: float
     status: int
     had_driver: bool
+    was_done: bool
     written: float | None = None
 
 
@@ -211,7 +212,7 @@ def places(seen: Seen) -> Iterator[str]:
 
 def cancels_obeyed(seen: Seen) -> Iterator[str]:
     for it in seen.cancels:
-        if it.written is not None:
+        if it.written is not None and not it.was_done:
             # (that it was written may be seen late, after it was obeyed)
             obeyed = next((at for at, group in seen.canceled
                            if group == it.group and at > it.asked), it.done)

@@ -223,7 +223,7 @@ class Room:
         # (a group that comes into the file later isn't canceled with the night)
         groups = tuple(self.plan.groups) if group == "night" else (group,)
         self.seen.cancels.append(Cancel(group, groups, asked, done, status, had and had_driver(),
-                                        *written))
+                                        "context deadline exceeded" in output, *written))
 
     def watch(self, written: list[float]) -> None:
         """Notes when a cancel is asked for."""
