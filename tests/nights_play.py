@@ -382,9 +382,10 @@ class Night:
         end = end_between(seen, key, since, now)
         holds = self.room.holds
         holds(phase in ENDED, f"10: {key} is {phase} at the end")
-        # (an end that a stop kept from being acked may be durable all the same)
+        # (an end may be durable that a stop, or a kill of `night` alone, kept from being acked)
+        kills = [*(it.at for it in seen.stops), *seen.hits]
         is_ok = last and last.is_whole() and (end == "ok" or end is None and last.status == 0
-                                              and any(last.began < it.at for it in seen.stops))
+                                              and any(last.began < it for it in kills))
         holds(phase != "ok" or bool(is_ok),
               f"10: {key} is ok, and its last try was {last}, its end {end}")
         holds(end != "ok" or phase == "ok", f"10: {key} had ended ok, and is {phase}")
