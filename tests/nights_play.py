@@ -210,6 +210,9 @@ class Night:
 
     def do_second(self, driver: subprocess.Popen[str], _: str) -> None:
         """Another driver, which doesn't get the store; or this one has ended by then."""
+        # (on a busy machine it could be first)
+        while driver.poll() is None and f" {driver.pid} " not in self.room.text("s.lock"):
+            time.sleep(0.01)
         began = time.monotonic()
         other = self.room.start(errors="errors.second")
         status, _ = self.room.end(other, began, "")
