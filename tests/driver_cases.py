@@ -302,6 +302,24 @@ def clock_ahead(tries: Shared) -> None:
     tries.is_same(f"{kind}: nothing that ended runs again", room.path, room.begun(), {"g.a": 1})
 
 
+def clock_ahead_again(tries: Shared) -> None:
+    """A store that is made anew after a retry was interrupted keeps how often it had failed."""
+    kind = "retries over a clock that is ahead"
+    room = Room(tries, ["g: retries 1", "g a echo g.a >> begun; [ $(wc -l < begun) != 2 ] ||"
+                        " until [ -e go ]; do sleep 0.1; done; exit 3"])
+    run = room.start()
+    tries.holds(f"{kind}: its retry runs", room.path,
+                room.until(lambda: len(room.lines("begun")) == 2))
+    hit(run, "all")
+    room.ended(run)
+    room.settle()
+    tries.is_same(f"{kind}: made", room.path, room.script(["advance 4000000000"]), "")
+    room.write("go", "")
+    os.remove(f"{room.path}/s.log")
+    tries.is_same(kind, room.path, (room.last(), room.begun()),
+                  ((1, "1 commands: 1 failed; 1 run now"), {"g.a": 3}))
+
+
 def cancel_beside(tries: Shared) -> None:
     """A cancel that takes its time keeps no night from beginning."""
     kind = "a slow cancel"
@@ -490,5 +508,5 @@ def order(tries: Shared) -> None:
 
 CASES = [short_commands, short_deadline, short_cancel, full_store, night_dies, lists, bad_cancels,
          held_cancels, late_cancels, cancel_beside, two_tries, backgrounds, stopped_ok, no_room,
-         clock_ahead, other_jobs, many_groups, texts, no_traces, hung_night, missing_store, edits,
-         second_evening, order]
+         clock_ahead, clock_ahead_again, other_jobs, many_groups, texts, no_traces, hung_night,
+         missing_store, edits, second_evening, order]

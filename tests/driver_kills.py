@@ -572,7 +572,9 @@ class Full:
         ended = [f"f{group} k{it} ok" for group in range(self.groups) for it in range(self.tasks)]
         ended += [f"a k{it} ok" for it in range(6)] + ["b good ok", "b bad exit 3", "u k0 ok"]
         tries.is_same(f"{kind}: what had ended", room.path, sorted(
-            it for it in room.lines("s.ended")[1:] if not it.startswith(":")), sorted(ended))
+            it for it in room.lines("s.ended")[1:] if not it.startswith((":", "+"))), sorted(ended))
+        tries.is_same(f"{kind}: what had failed", room.path, [
+            it for it in room.lines("s.ended")[1:] if it.startswith("+")], ["+ b bad 1"])
         names = {(it, 0) for it in (*("{}.{}".format(*it.split()[:2]) for it in ended), "u--2.k1",
                                     "a--2.k6", "a--2.k7", "c.k0")}
         tries.is_same(f"{kind}: the log has all", room.path, set(room.log()), names)

@@ -299,8 +299,7 @@ def ended_once(seen: Seen) -> Iterator[str]:
                 used = 0
             elif end == "ok":
                 yield f"5: {key} began again at {other.began:.3f}, and it had ended ok"
-            elif opened == "failed" or round_of(one) != round_of(other):
-                # (a store that is made anew, since its clock is ahead, counts retries anew)
+            elif opened == "failed":
                 used = 0
             elif end is not None:
                 used += 1
@@ -314,11 +313,6 @@ def stopped_not_ok(seen: Seen) -> Iterator[str]:
             later = tries[at + 1].began if at + 1 < len(tries) else float("inf")
             if it.terms and end_between(seen, key, it.began, later) == "ok":
                 yield f"5: {key} was stopped at {it.terms[0]:.3f}, and counts as ok"
-
-
-def round_of(it: Try) -> str:
-    """The name that the group of a try has in its store, as the name of its output tells."""
-    return it.output.rsplit(".", 2)[0]
 
 
 def end_between(seen: Seen, key: str, one: float, other: float) -> str | None:

@@ -209,12 +209,14 @@ class Night:
                             f"3: a cancel of {group} beside a driver ended with {it.status}")
 
     def do_second(self, driver: subprocess.Popen[str], _: str) -> None:
-        """Another driver, which doesn't get the store; or this one has ended by then, or didn't
-        have it yet."""
-        began, is_first = time.monotonic(), f" {driver.pid} " in self.room.text("s.lock")
+        """Another driver, which doesn't get the store; or this one has ended by then."""
+        # (on a busy machine it could be first)
+        while driver.poll() is None and f" {driver.pid} " not in self.room.text("s.lock"):
+            time.sleep(0.01)
+        began = time.monotonic()
         other = self.room.start(errors="errors.second")
         status, _ = self.room.end(other, began, "")
-        self.room.holds(status == 3 or driver.poll() is not None or not is_first,
+        self.room.holds(status == 3 or driver.poll() is not None,
                         f"4: a second driver ended with status {status}")
 
     def do_halt(self, driver: subprocess.Popen[str], _: str) -> None:
@@ -383,8 +385,8 @@ class Night:
         end = end_between(seen, key, since, now)
         holds = self.room.holds
         holds(phase in ENDED, f"10: {key} is {phase} at the end")
-        # (an end that a stop kept from being acked may be durable all the same)
-        kills = [*seen.hits, *(it.at for it in seen.stops)]
+        # (an end may be durable that a stop, or a kill of `night` alone, kept from being acked)
+        kills = [*(it.at for it in seen.stops), *seen.hits]
         is_ok = last and last.is_whole() and (end == "ok" or end is None and last.status == 0
                                               and any(last.began < it for it in kills))
         holds(phase != "ok" or bool(is_ok),

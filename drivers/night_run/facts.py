@@ -132,7 +132,8 @@ def facts_of(state: State, past: Past, lines: Mapping[Tried, Line], book: Book, 
 
 
 def read_past_ends(facts: Facts, past: Past, lines: Mapping[Tried, Line], now: float) -> None:
-    """What the ends of a renewed store say; the log says how often a command had failed."""
+    """What the ends of a renewed store say, and how often a command had failed; of an older
+    driver's the log says that."""
     failed = collections.Counter((group, key) for (group, key, _), line in lines.items()
                                  if line.end not in ("ok", "interrupted"))
     for group, key, end in past.ends:
@@ -140,6 +141,8 @@ def read_past_ends(facts: Facts, past: Past, lines: Mapping[Tried, Line], now: f
         facts.ended(name, end, now)
         if end != "ok":
             facts.failures[name] = max(1, failed[group, key])
+    # (also of one that was interrupted then, in another try)
+    facts.failures.update(past.failures)
 
 
 def read_task(facts: Facts, task: Task, line: Line | None, now: float) -> None:

@@ -8,9 +8,10 @@ that a name had, and how many lines follow. Each of these is one of
     GROUP KEY END              END is `ok`, or an error's text
     : GROUP CAUSE              the group's scope was done, and is gone, too
     : GROUP                    a name that was had, and that nothing else here has
+    + GROUP KEY N              how often a command had failed, by its group in the file of commands
 
 What the store itself has of a key is later, and counts. (An older driver's first line is
-`events N` alone: it knew one night.)
+`events N` alone: it knew one night. Of failures it wrote nothing: the log is asked for them.)
 """
 
 from __future__ import annotations
@@ -20,7 +21,7 @@ import re
 from collections.abc import Iterable
 from dataclasses import dataclass, field
 
-from . import Fault, base_of, round_of
+from . import Fault, Name, base_of, round_of
 from .files import sync_folder
 from .regular import read_regular
 
@@ -28,6 +29,7 @@ HEAD = re.compile(r"events ([0-9]{1,20})"
                   r"(?: night ([0-9]{1,9}) round ([0-9]{1,9}) lines ([0-9]{1,9}))?")
 LINE = re.compile(r"([a-z0-9_-]{1,32}) ([a-z0-9_-]{1,32}) ([ -~]{1,64})")
 NAMED = re.compile(r": ([a-z0-9_-]{1,32})(?: ([ -~]{1,64}))?")
+FAILED = re.compile(r"\+ ([a-z0-9_-]{1,32}) ([a-z0-9_-]{1,32}) ([0-9]{1,6})")
 
 
 @dataclass
@@ -40,6 +42,7 @@ class Past:
     ends: list[tuple[str, str, str]] = field(default_factory=list)
     done: dict[str, str] = field(default_factory=dict)
     had: list[str] = field(default_factory=list)
+    failures: dict[Name, int] = field(default_factory=dict)
 
     def rounds(self) -> Iterable[tuple[str, int]]:
         for it in [*(group for group, _, _ in self.ends), *self.done, *self.had]:
@@ -75,6 +78,8 @@ def read_past(path: str, shown: str) -> Past:
             past.done[found[1]] = found[2]
         elif found:
             past.had.append(found[1])
+        elif found := FAILED.fullmatch(line):
+            past.failures[found[1], found[2]] = int(found[3])
         else:
             raise Unreadable(f"{shown}.ended", f"line {number} is not GROUP KEY END")
     return past
@@ -85,10 +90,11 @@ def write_past(path: str, past: Past) -> None:
     making = f"{path}.new"
     with open(making, "w", encoding="ascii") as file:
         file.write(f"events {past.events} night {past.night} round {past.round}"
-                   f" lines {len(past.done) + len(past.had) + len(past.ends)}\n")
+                   f" lines {sum(map(len, (past.done, past.had, past.ends, past.failures)))}\n")
         file.writelines(f": {group} {cause}\n" for group, cause in past.done.items())
         file.writelines(f": {group}\n" for group in past.had)
         file.writelines(f"{group} {key} {end}\n" for group, key, end in past.ends)
+        file.writelines(f"+ {group} {key} {it}\n" for (group, key), it in past.failures.items())
         file.flush()
         os.fsync(file.fileno())
     os.replace(making, path)

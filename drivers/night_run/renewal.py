@@ -62,6 +62,8 @@ def keep(files: Files, log: Log, past: Past, jobs: Jobs, state: State, events: i
     ends = ends_of(past if past.night == night else Past(), state, book)
     made = Past(events, night, max([past.round, *book.rounds.values()], default=1),
                 list(ends.values()), done_in(book, state))
+    facts = facts_of(state, past, log.lines, book, time.time(), {})
+    made.failures = {name: count for name, count in facts.failures.items() if count}
     shown = {group for group, _, _ in made.ends}
     made.had = [it for it in rounds_had(book) if it not in shown and it not in made.done]
     write_past(files.ended, made)
