@@ -303,6 +303,25 @@ def left_behind(tries: Shared) -> None:
                   {"soon.a": 1, "hard.b": 1, "late.c": 1, "free.d": 2, "more.e": 1})
 
 
+def stopped_after_a_kill(tries: Shared) -> None:
+    """A try that a killed driver left is stopped by its timeout: nothing of it lives on, though its
+    group keeps what its commands leave, and no other try begins before."""
+    kind = "a try that was left is stopped"
+    room = Room(tries, ["g: background keep timeout 2s",
+                        "g a echo g.a >> begun; "
+                        "sh -c \"trap '' TERM; sleep 5; echo g.a >> late\"; true"])
+    run, began = room.start("s", "JOBS", "--grace", "1"), time.monotonic()
+    tries.holds(f"{kind}: it runs", room.path, room.until(lambda: room.lines("begun")))
+    hit(run, "both")
+    room.ended(run)
+    status, output = room.run("s", "JOBS", "--grace", "1")
+    shown = [it.split(";")[0] for it in output.splitlines() if not it.startswith(" ")]
+    tries.is_same(kind, room.path, (status, shown, room.begun()),
+                  (1, ["g a: timeout 2s", "1 commands: 1 failed"], {"g.a": 2}))
+    time.sleep(max(0.0, began + 7 - time.monotonic()))
+    tries.is_same(f"{kind}: nothing of it lives on", room.path, room.lines("late"), [])
+
+
 def faults(tries: Shared) -> None:
     room = Room(tries, ["g a echo g.a >> begun; until [ -e go ]; do sleep 0.1; done",
                         job("g", "b", 0)])
@@ -672,5 +691,6 @@ def parts(tries: Shared, seed: int) -> list[Part]:
     def random_renewals(tries: Shared) -> None:
         renewals(tries, random.Random(seed), 2 if tries.is_short else 20)
 
-    return [random_renewals, random_kills, full_in_the_midst, resumed, left_behind, cuts,
-            night_is_killed, format_is_killed, full_session, faults, damaged, taken_away, all_canceled, old_night]
+    return [random_renewals, random_kills, full_in_the_midst, resumed, left_behind,
+            stopped_after_a_kill, cuts, night_is_killed, format_is_killed, full_session, faults,
+            damaged, taken_away, all_canceled, old_night]

@@ -67,7 +67,8 @@ class Leftover(Running):
             return False
         if lives(self.process):
             return True
-        if self.keeps or self.process.boot != boot() or not group_exists(self.pid):
+        may_leave = self.keeps and self.stopped is None
+        if may_leave or self.process.boot != boot() or not group_exists(self.pid):
             return False
         leader = stat_of(self.pid)
         if leader and leader.start != self.process.start:
