@@ -185,7 +185,7 @@ def calls_in(log):
 
 
 def remove(path):
-    if os.path.exists(path):
+    if os.path.lexists(path):
         os.remove(path)
 
 
