@@ -274,8 +274,9 @@ def limits() -> Plan:
 
 
 def late() -> Plan:
-    """One command after the other, long behind the group's deadline and a cancel."""
-    plan = brief("late", 2, alike(60, 50) + alike(60, 50, "b"), "cancel b")
+    """One command after the other, long after the group's deadline and a cancel; those of the
+    deadline would take six seconds on a quick machine."""
+    plan = brief("late", 2, alike(240, 50) + alike(60, 50, "b"), "cancel b")
     plan.groups["a"].within = 1
     return plan
 
