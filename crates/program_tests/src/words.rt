@@ -115,7 +115,7 @@ static CASES: [Case; 37] = [
     (
         &["migrate", "-h"],
         0,
-        "Example: night migrate small.store large.store",
+        "Example: night migrate --new small.store large.store",
         "",
     ),
     (
