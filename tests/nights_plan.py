@@ -275,8 +275,8 @@ def limits() -> Plan:
 
 def late() -> Plan:
     """One command after the other, long after the group's deadline and a cancel; those of the
-    deadline would take six seconds on a quick machine."""
-    plan = brief("late", 2, alike(240, 50) + alike(60, 50, "b"), "cancel b")
+    deadline would take fifteen seconds on a quick machine."""
+    plan = brief("late", 2, alike(600, 50) + alike(60, 50, "b"), "cancel b")
     plan.groups["a"].within = 1
     return plan
 

@@ -18,7 +18,7 @@ from nights_room import HERE, Tools, copied, workers
 # single night may miss what a kill or a deadline has to hit. On a machine with five processes for
 # each processor 15 of 17 were found by their first night, one by the second, one by the thirteenth:
 # it is late, and what must come in time may come later there.
-NIGHTS, BESIDE = 24, 4
+NIGHTS, BESIDE = 96, 4
 
 # A text of a file, and what stands there instead.
 Change = tuple[str, str, str]
