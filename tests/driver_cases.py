@@ -52,13 +52,13 @@ def short_commands(tries: Shared) -> None:
     hit(run, "driver")
     room.ended(run)
     room.settle()
-    # (those whose end is acked, and isn't in the log yet, and as many that began behind them)
+    # (those whose end is acked, and isn't in the log yet, and as many that began after them)
     tries.holds(f"{kind}: their ends are recorded as they go", room.path, late <= 3 * most, late)
     status, output = room.last("s", "JOBS", "-j", "8")
     tries.is_same(f"{kind}: run again", room.path, (status, output.split(";")[0]),
                   (0, "400 commands: 400 ok"))
     twice = [it for it, count in room.begun().items() if count > 1]
-    tries.holds(f"{kind}: few run twice behind a kill", room.path, len(twice) <= 2 * most, twice)
+    tries.holds(f"{kind}: few run twice after a kill", room.path, len(twice) <= 2 * most, twice)
 
 
 def short_deadline(tries: Shared) -> None:
@@ -84,7 +84,7 @@ def short_cancel(tries: Shared) -> None:
     tries.is_same(f"{kind}: it is taken", room.path, found, (
         0, "g: done; deadline none; err context canceled; cause not now\n"))
     status, _ = room.ended(run)
-    tries.holds(f"{kind}: nothing begins behind it", room.path,
+    tries.holds(f"{kind}: nothing begins after it", room.path,
                 status == 1 and len(room.lines("begun")) <= begun + 8 < 900,
                 (status, begun, len(room.lines("begun"))))
 

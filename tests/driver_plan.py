@@ -97,11 +97,11 @@ MISTAKES = [
     ("g: limit 2\ng: limit 2", 2, "g has a limit already"),
     ("g: speed 2", 1, "no setting is called 'speed'"),
     ("g a printf '\0'", 1, "it has a byte 0, as no text does"),
-    ("g limit 2", 1, "a setting stands behind a colon, as g: limit 2"),
-    ("g until 05:30", 1, "a setting stands behind a colon, as g: until 05:30"),
-    ("g within 1h30m", 1, "a setting stands behind a colon, as g: within 1h30m"),
-    ("g timeout 10m", 1, "a setting stands behind a colon, as g: timeout 10m"),
-    ("g retries 3 wait 10s", 1, "a setting stands behind a colon, as g: retries 3 wait 10s"),
+    ("g limit 2", 1, "a setting stands after a colon, as g: limit 2"),
+    ("g until 05:30", 1, "a setting stands after a colon, as g: until 05:30"),
+    ("g within 1h30m", 1, "a setting stands after a colon, as g: within 1h30m"),
+    ("g timeout 10m", 1, "a setting stands after a colon, as g: timeout 10m"),
+    ("g retries 3 wait 10s", 1, "a setting stands after a colon, as g: retries 3 wait 10s"),
     ("g " + "k" * 41 + " true", 1,
      "the key '" + "k" * 40 + "..' is not 1 to 32 of a-z, 0-9, - and _"),
     ("g: timeout 0s", 1, "a timeout has a second at least"),
@@ -157,7 +157,7 @@ def pair(words: str) -> Name:
 
 
 def facts_of(tries: Shared, ends: dict[str, str]) -> object:
-    """The facts behind these ends, all of a moment ten seconds ago."""
+    """The facts after these ends, all of a moment ten seconds ago."""
     facts = driver_module(tries, "facts").Facts()
     for words, end in ends.items():
         name = pair(words)

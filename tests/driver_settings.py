@@ -159,7 +159,7 @@ def summaries(tries: Shared) -> None:
                   f"1 {os.path.realpath(room.path)}/s\n{wanted}")
     os.remove(f"{room.path}/alarm")
     status, output = room.run("s", "JOBS", "--quiet", "--on-failure", alarm)
-    tries.holds(f"{kind}: nothing to do behind a failure", room.path, status == 1
+    tries.holds(f"{kind}: nothing to do after a failure", room.path, status == 1
                 and "nothing to do: 2 ended before" in output and "--failed" in output
                 and not room.has("alarm"), (status, output))
     room.set(["h: within 1h", "g a true", "g b true"])
@@ -201,7 +201,7 @@ def views(tries: Shared) -> None:
 
 
 def failed(tries: Shared) -> None:
-    """--failed, --again and --nightly behind failures, cancels and stops."""
+    """--failed, --again and --nightly after failures, cancels and stops."""
     kind = "what failed, again"
     room = Room(tries, [job("g", "a", end="; test -e fine"), job("h", "b", 30), job("g", "c")])
     run = room.start()
@@ -229,13 +229,13 @@ def failed(tries: Shared) -> None:
 
 def nightly(tries: Shared) -> None:
     """--nightly where a line is added, and where a deadline passed that no driver saw."""
-    kind = "the next night behind an added line"
+    kind = "the next night after an added line"
     room = Room(tries, [job("g", "a")])
     room.run()
     room.set([job("g", "a"), job("g", "b")])
     tries.is_same(kind, room.path, (room.run("s", "JOBS", "--nightly")[0], room.begun()),
                   (0, {"g.a": 2, "g.b": 1}))
-    kind = "the next night behind a deadline"
+    kind = "the next night after a deadline"
     room = Room(tries, ["night: within 3s", job("g", "a", 1), job("g", "b", 1)])
     run = room.start("s", "JOBS", "-j", "1")
     room.until(lambda: room.lines("begun"))

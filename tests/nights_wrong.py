@@ -33,7 +33,7 @@ class Wrong:
 
 
 def read_wrong(path: str) -> Wrong:
-    """Reads an edit. All spaces behind `old: ` and `new: ` count."""
+    """Reads an edit. All spaces after `old: ` and `new: ` count."""
     said = {"breaks": "", "nights": "", "file": "", "old": ""}
     changes = []
     with open(path, encoding="utf-8") as lines:

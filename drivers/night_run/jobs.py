@@ -134,7 +134,7 @@ class Jobs:
             same = "twice" if command == self.texts[group, key] else "with two commands"
             raise Wrong(f"the key {key} of {group} stands {same}, first in line {first}")
         if key in FORMS and FORMS[key].fullmatch(command):
-            raise Wrong(f"a setting stands behind a colon, as {group}: {key} {command}")
+            raise Wrong(f"a setting stands after a colon, as {group}: {key} {command}")
         self.texts[group, key], self.lines[group, key] = command, number
         self.groups.setdefault(group, Settings(0))
 
@@ -166,7 +166,7 @@ class Jobs:
             tuple({**group.env, **own.env}.items()), own.keeps or group.keeps, group.way)
 
     def need(self, group: str, word: str, line: int) -> Name | str:
-        """What a word behind `after` names: a key of the same group, GROUP/KEY, or a group."""
+        """What a word after `after` names: a key of the same group, GROUP/KEY, or a group."""
         where, slash, key = word.partition("/")
         is_group = word != OF_ALL and word in self.with_commands
         if slash and (where, key) in self.texts:
@@ -181,7 +181,7 @@ class Jobs:
         raise self.mistake(line, f"after {short(word)}: no such key of {group}, and no such group")
 
     def sorted(self) -> list[Name | str]:
-        """Commands and groups, each behind all that it waits for; a group behind its commands."""
+        """Commands and groups, each after all that it waits for; a group after its commands."""
         needs: dict[Name | str, Iterable[Name | str]] = {
             **{it: job.after for it, job in self.all.items()},
             **{it: tuple(its) for it, its in self.members.items()}}

@@ -28,7 +28,7 @@ from .telling import note
 
 LINE = re.compile(r"([a-z0-9_-]{1,32}) ([a-z0-9_-]{1,32}) ([0-9]+) (\S+) ([0-9]+) ([0-9]+)")
 OLD_LINE = re.compile(r"([0-9]+) ([a-z0-9_-]{1,32}) ([a-z0-9_-]{1,32})")
-# So many seconds a command may take to write its line, and a `night` to end behind its driver.
+# So many seconds a command may take to write its line, and a `night` to end after its driver has.
 PATIENCE = 10.0
 
 

@@ -66,7 +66,7 @@ def withdraw(session: Session, state: State) -> None:
 
 
 def withdrawn(state: State) -> State:
-    """The state behind that."""
+    """The state after that."""
     tasks = tuple(replace(it, phase="error", error=WITHDRAWN) if it.phase in FRESH else it
                   for it in state.tasks)
     return replace(state, tasks=tasks)
@@ -179,7 +179,7 @@ def advance(session: Session, now: int) -> None:
 
 
 def give_back(session: Session, state: State, night: int, needed: Iterable[str]) -> None:
-    """The lines behind which all groups go with a renewal, and the scopes of earlier nights, and of
+    """The lines after which all groups go with a renewal, and the scopes of earlier nights, and of
     groups that have nothing left to do; those that are needed are named."""
     withdraw(session, state)
     lines = [f"wait {it.name}" for it in state.groups if not it.waited]

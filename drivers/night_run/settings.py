@@ -4,11 +4,11 @@
     until MOMENT            (a group, night) a deadline
     within TIME             (a group, night) one so much later than the group was made
     after X..               begun once these are ok: keys of the group, GROUP/KEY, or groups
-    retries N [wait TIME]   so many more tries behind a failure, each TIME later
+    retries N [wait TIME]   so many more tries after a failure, each TIME later
     timeout TIME            how long a try may take; then it is stopped, and has failed
     in FOLDER               where it runs
     env NAME=VALUE          a variable of its environment
-    stop on failure         (a group) behind a failure nothing more of it is begun
+    stop on failure         (a group) after a failure nothing more of it is begun
     background keep         processes that a command leaves in its process group may live on
     via WORDS..             (a group) what each command is handed to; it takes the rest of its line
     ask WORDS..             (a group) what asks how a try of it ended; likewise
