@@ -1,7 +1,7 @@
 -- What an advance that is put before a line asks for.
 use Rattle.std.specs.Prelude.{◌≡◌, ◌==◌, ◌≤◌, ◌<◌, ◌-◌, true, false, pos, codes}
-use Rattle.std.specs.Prelude.{ℕ, List, [], ◌∷◌, ◌++◌, length, take, position, Some, Ok}
-use Rattle.std.specs.Option.{option_map_or}
+use Rattle.std.specs.Prelude.{ℕ, List, [], ◌∷◌, ◌++◌, length, take, position, Some, Ok, unwrap_or}
+use Rattle.std.specs.Option.{option_map, option_map_or}
 use Rattle.std.specs.Char.{is_ascii_digit}
 use Rattle.std.specs.Fmt.{decimal}
 use Rattle.std.specs.List.{All, list_all}
@@ -80,7 +80,7 @@ two_words digits h =
     (ap words_of rest ∙ slice_split_none (λ b. b == 32) digits (no_spaces digits h))
 
 in_bounds : (line : List ℕ) → 0 < length line → length line ≤ 256
-    → asked_of line ≡ asked_by (words_of line)
+    → asked_of line ≡ unwrap_or (asked_by (words_of line)) asked.BadLine
 in_bounds line some few = grind (arith, nat_tests, common_steps, some, few)
 
 -- The line that is put before others is read as an advance to its moment.
@@ -91,5 +91,6 @@ asks_so m h =
     let few = moment_digits m (omega (arith, h)) in
     let size = length-append (codes "advance ") digits in
     in_bounds (advance_line m) (omega (arith, size)) (omega (arith, size, few))
-    ∙ ap asked_by (two_words digits (decimal_is_IsNumeral m (omega (arith, h))).0.1)
-    ∙ ap (λ moment. option_map_or asks_advance moment asked.BadLine) (read_back m h)
+    ∙ ap (λ words. unwrap_or (asked_by words) asked.BadLine)
+    (two_words digits (decimal_is_IsNumeral m (omega (arith, h))).0.1)
+    ∙ ap (λ moment. unwrap_or (option_map asks_advance moment) asked.BadLine) (read_back m h)

@@ -1,3 +1,5 @@
 pub mod Ascii
+pub mod DateLemmas
+pub mod MomentTexts
 pub mod NumberLemmas
 pub mod OnLiterals

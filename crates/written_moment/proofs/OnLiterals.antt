@@ -1,6 +1,7 @@
 -- What an answer unfolds to compute this crate's readings on a literal.
 use Rattle.std.specs.Prelude.{⊤}
 use Rattle.jiff.proofs.OnLiterals.{jiff_on_literals}
+use Rattle.written_moment.specs.Dates.{in_month, in_year, moment_text}
 use Rattle.written_moment.specs.Numbers.{is_number}
 use Rattle.written_moment.specs.Shapes.{has_shape, is_in}
 use Rattle.written_moment.specs.Moments.{is_local, is_offset, is_date_time, date_time_of, moment_at}
@@ -12,3 +13,7 @@ fields_on_literals = tt
 unfoldable pub moments_on_literals : ⊤
 unfolding jiff_on_literals fields_on_literals is_local is_offset is_date_time date_time_of moment_at
 moments_on_literals = tt
+
+unfoldable pub texts_on_literals : ⊤
+unfolding in_year in_month moment_text
+texts_on_literals = tt

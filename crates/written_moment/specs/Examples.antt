@@ -2,6 +2,7 @@
 use Prim.Native.String.{String}
 use Rattle.std.specs.Prelude.{◌≡◌, ℕ, codes, Some, None, Ok, Err}
 use Rattle.run_model.specs.declared.refusals.Refusal.TheVariants.{MomentOutOfRange}
+use Rattle.written_moment.specs.Dates.{moment_text}
 use Rattle.written_moment.specs.Moments.{moment_of}
 
 -- The word writes the moment of so many seconds.
@@ -15,3 +16,7 @@ IsOutOfRange word = moment_of (codes word) ≡ Some (Err MomentOutOfRange)
 -- The word writes no moment.
 abbrev pub IsNoMoment : String → Type 0
 IsNoMoment word = moment_of (codes word) ≡ None
+
+-- So many seconds have this text.
+abbrev pub HasText : ℕ → String → Type 0
+HasText seconds word = moment_text seconds ≡ codes word

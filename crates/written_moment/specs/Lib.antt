@@ -1,3 +1,4 @@
+pub mod Dates
 pub mod Examples
 pub mod Moments
 pub mod Numbers

@@ -1,9 +1,10 @@
-//! Examples of the definition: what words write, with dates counted by another program.
+//! Examples of the definitions: what words write, and the texts of moments, with dates counted by
+//! another program.
 //!
 //! Each function has an empty body, and its clauses are the examples: they are computed from the
 //! definition alone, without any of the code that reads a word.
 
-ghost use Rattle.written_moment.specs.Examples.{Writes, IsOutOfRange, IsNoMoment};
+ghost use Rattle.written_moment.specs.Examples.{HasText, IsNoMoment, IsOutOfRange, Writes};
 
 /// Digits are seconds, and zeros may stand first.
 pub fn digits_are_seconds()
@@ -41,4 +42,14 @@ pub fn the_ends_of_the_range_are_moments()
     ensures before { IsOutOfRange "1969-12-31T23:59:59Z" }
     ensures greatest { Writes "9987-04-02T17:46:40Z" 253000000000 }
     ensures past { IsOutOfRange "9987-04-02T17:46:41Z" }
+{}
+
+/// A moment has its date and time, over leap years and at the ends of months and years.
+pub fn moments_have_texts()
+    ensures first { HasText 0 "1970-01-01T00:00:00Z" }
+    ensures leap { HasText 951827696 "2000-02-29T12:34:56Z" }
+    ensures year_end { HasText 1735689599 "2024-12-31T23:59:59Z" }
+    ensures new_year { HasText 1735689600 "2025-01-01T00:00:00Z" }
+    ensures no_leap { HasText 4107542400 "2100-03-01T00:00:00Z" }
+    ensures greatest { HasText 253000000000 "9987-04-02T17:46:40Z" }
 {}
