@@ -2,7 +2,8 @@
 use Rattle.std.proofs.Common.{◌≡◌, ℕ, ◌+◌, ◌<◌, List, [], ◌∷◌, ◌++◌, length, Bool, true, false}
 use Rattle.std.proofs.Common.{Option, None, Some, suc, arith, ◌∙◌, append-nil, append_assoc, ap}
 use Rattle.std.proofs.Common.{inl, inr, refl, subst, sym}
-use Rattle.std.specs.Prelude.{Result, Ok, Err, IfOk, IfSome, codes, ◌≤◌}
+use Rattle.std.proofs.lemmas.List.Elements.{All-cons, All-nil, All-weaker}
+use Rattle.std.specs.Prelude.{Result, Ok, Err, All, IfOk, IfSome, codes, ◌≤◌}
 use Rattle.run_model.specs.declared.answers.Started.{Started}
 use Rattle.run_model.specs.declared.answers.TaskInfo.{TaskInfo}
 use Rattle.run_model.specs.declared.bounds.TheConstants.{MOST_TASKS}
@@ -14,7 +15,8 @@ use Rattle.run_crew.specs.declared.jobs.Turn.{Turn}
 use Rattle.run_crew.specs.declared.jobs.Turn.TheVariants as turn
 use Rattle.run_crew.specs.declared.notes.Note.{Note}
 use Rattle.run_crew.specs.Courses.{AreCourses, AreRounds, AreSaves, AreTurns, Call, EndsAt}
-use Rattle.run_crew.specs.Courses.{IsBegun, IsCourse, IsRun, IsShift, IsWatch, Path}
+use Rattle.run_crew.specs.Courses.{IsAnswered, IsBegun, IsCourse, IsGates, IsOfShift, IsRun}
+use Rattle.run_crew.specs.Courses.{IsShift, IsWatch, Path}
 use Rattle.run_crew.specs.Courses.{TakesTask, Went, declined, most_turns, round, task_calls}
 use Rattle.run_crew.specs.Courses as call
 
@@ -25,6 +27,18 @@ path-append :
 path-append step [] ys a b c same path = subst (λ m. Path step m ys c) (sym same) path
 path-append step (x ∷ xs) ys a b c first path =
     (first.0, first.1, path-append step xs ys first.0 b c first.2 path)
+
+-- Where each call was answered by what stays the same, all were answered by that.
+pub all_answered :
+    {A B : Type 0} (step : A → Call → A → Type 0) (at : A → B) (Answered : B → Call → Type 0)
+    → ((a : A) (x : Call) (b : A) → step a x b → (at b ≡ at a) × Answered (at a) x)
+    → (calls : List Call) (a b : A) → Path step a calls b → All (Answered (at a)) calls
+all_answered step at Answered each [] a b path = All-nil (Answered (at a))
+all_answered step at Answered each (x ∷ xs) a b path =
+    let first = each a x path.0 path.1 in
+    All-cons (Answered (at a)) x xs first.1
+    (subst (λ s. All (Answered s) xs) first.0
+    (all_answered step at Answered each xs path.0 b path.2))
 
 -- ---- turns
 
@@ -268,6 +282,23 @@ courses-snoc jobs (first ∷ notes) calls course note all is = (
   ap (λ l. l ++ course) all.4 ∙ append_assoc all.0 all.1 course,
 )
 
+answered_gates :
+    {T : Type 0} (starts : T → Result Started Refusal → T → Type 0) (holds : T → ℕ → Type 0)
+    (flushes : T → Result ℕ Trouble → T → Type 0) (tells : T → ℕ → Bool → Type 0)
+    (finishes : T → ℕ → Outcome → Result ℕ Refusal → T → Type 0) (lets : ℕ → ℕ → Bool → Type 0)
+    (told : ℕ → Type 0) (x : Call)
+    → IsAnswered starts holds flushes tells finishes lets told x → IsGates lets told x
+answered_gates starts holds flushes tells finishes lets told (call.Start r) is = tt
+answered_gates starts holds flushes tells finishes lets told (call.Save event r) is = tt
+answered_gates starts holds flushes tells finishes lets told (call.Scope task answer) is = tt
+answered_gates starts holds flushes tells finishes lets told (call.Finish task how r) is = tt
+answered_gates starts holds flushes tells finishes lets told (call.Gate task turn answer) is = is
+answered_gates starts holds flushes tells finishes lets told (call.Tell task) is = is
+answered_gates starts holds flushes tells finishes lets told (call.Handles job name answer) is = tt
+answered_gates starts holds flushes tells finishes lets told (call.Make j i n d r) is = tt
+answered_gates starts holds flushes tells finishes lets told (call.Ring event) is = tt
+answered_gates starts holds flushes tells finishes lets told (call.Wait heard answer) is = tt
+
 pub next_course :
     {A : Type 0} (step : A → Call → A → Type 0) (jobs had : ℕ) (came : Bool)
     (notes after : List Note) (a b c : A) → had ≡ jobs → came ≡ true
@@ -297,6 +328,22 @@ ended_shift step jobs had came notes after a b c same is before more =
       path-append step before.0 ended.0 a b c before.2 ended.2,
     ) in
     subst (λ l. Went step (IsShift jobs l) a c) (sym ended.1.0) all
+
+-- What the gate answered and was told is among all answers.
+pub gates_shift :
+    {T : Type 0} (starts : T → Result Started Refusal → T → Type 0) (holds : T → ℕ → Type 0)
+    (flushes : T → Result ℕ Trouble → T → Type 0) (tells : T → ℕ → Bool → Type 0)
+    (finishes : T → ℕ → Outcome → Result ℕ Refusal → T → Type 0) (lets : ℕ → ℕ → Bool → Type 0)
+    (told : ℕ → Type 0) (notes : List Note)
+    → IsOfShift (IsAnswered starts holds flushes tells finishes lets told) notes
+    → IsOfShift (IsGates lets told) notes
+gates_shift starts holds flushes tells finishes lets told notes of = (
+  of.0,
+  of.1,
+  of.2,
+  All-weaker (IsAnswered starts holds flushes tells finishes lets told) (IsGates lets told)
+      (λ x is. answered_gates starts holds flushes tells finishes lets told x is) of.1 of.3,
+)
 
 -- ---- the flusher
 

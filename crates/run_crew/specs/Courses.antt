@@ -1,7 +1,8 @@
 -- The course of a task: the calls of a worker, in order, with the answer to each; and the calls
 -- that the flusher makes beside it.
 use Rattle.std.specs.Prelude.{ℕ, zero, suc, ◌<◌, ◌≤◌, ◌≡◌, ◌⊎◌, Bool, true, false, codes}
-use Rattle.std.specs.Prelude.{List, [], ◌∷◌, ◌++◌, length, Result, Ok, Err, Option, None, Some, ⊤}
+use Rattle.std.specs.Prelude.{List, [], ◌∷◌, ◌++◌, All, length, Result, Ok, Err, Option, None}
+use Rattle.std.specs.Prelude.{Some, ⊤}
 use Rattle.run_model.specs.declared.answers.Started.{Started}
 use Rattle.run_model.specs.declared.answers.TaskInfo.{TaskInfo}
 use Rattle.run_model.specs.declared.bounds.TheConstants.{MOST_TASKS}
@@ -190,16 +191,29 @@ abbrev pub IsTold
 IsTold holds flushes (Ok durable) = (d : _) × holds d durable
 IsTold holds flushes (Err why) = (d : _) × (e : _) × flushes d (Err why) e
 
+-- A call of the gate was answered by this one, by what it lets pass and what it was told.
+abbrev pub IsGates : (ℕ → ℕ → Bool → Type 0) → (ℕ → Type 0) → Call → Type 0
+IsGates lets told (Gate task turn answer) = lets task turn answer
+IsGates lets told (Tell task) = told task
+IsGates lets told _ = ⊤
+
 -- The call was answered by the one that it is of: a value of the lock, by what it starts, holds,
--- tells and finishes, or the gate, by what it lets pass and what it was told.
+-- flushes, tells and finishes, or the gate.
 abbrev pub IsAnswered
-    : (Result Started Refusal → Type 0) → (Result ℕ Trouble → Type 0) → (ℕ → Bool → Type 0)
-    → (ℕ → Outcome → Result ℕ Refusal → Type 0) → (ℕ → ℕ → Bool → Type 0) → (ℕ → Type 0)
-    → Call → Type 0
-IsAnswered starts saves tells finishes lets told (Start r) = starts r
-IsAnswered starts saves tells finishes lets told (Save event r) = saves r
-IsAnswered starts saves tells finishes lets told (Scope task answer) = tells task answer
-IsAnswered starts saves tells finishes lets told (Finish task how r) = finishes task how r
-IsAnswered starts saves tells finishes lets told (Gate task turn answer) = lets task turn answer
-IsAnswered starts saves tells finishes lets told (Tell task) = told task
-IsAnswered starts saves tells finishes lets told _ = ⊤
+    : {T : Type 0} → (T → Result Started Refusal → T → Type 0) → (T → ℕ → Type 0)
+    → (T → Result ℕ Trouble → T → Type 0) → (T → ℕ → Bool → Type 0)
+    → (T → ℕ → Outcome → Result ℕ Refusal → T → Type 0) → (ℕ → ℕ → Bool → Type 0)
+    → (ℕ → Type 0) → Call → Type 0
+IsAnswered starts holds flushes tells finishes lets told (Start r) =
+    (d : _) × (e : _) × starts d r e
+IsAnswered starts holds flushes tells finishes lets told (Save event r) = IsTold holds flushes r
+IsAnswered starts holds flushes tells finishes lets told (Scope task answer) =
+    (d : _) × tells d task answer
+IsAnswered starts holds flushes tells finishes lets told (Finish task how r) =
+    (d : _) × (e : _) × finishes d task how r e
+IsAnswered starts holds flushes tells finishes lets told call = IsGates lets told call
+
+-- These notes are of a shift, each call of which was answered so.
+abbrev pub IsOfShift : (Call → Type 0) → List Note → Type 0
+IsOfShift Answered notes =
+    (jobs : ℕ) × (calls : List Call) × IsShift jobs notes calls × All Answered calls

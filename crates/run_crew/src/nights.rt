@@ -1,8 +1,9 @@
 //! A night: one worker for each list of jobs, beside a thread that flushes.
 
-ghost use Rattle.std.specs.Prelude.{◌≡◌, ◌+◌, ◌<◌, ◌≤◌, [], vec_len, vec_capacity};
+ghost use Rattle.std.specs.Prelude.{◌≡◌, ◌+◌, ◌<◌, ◌≤◌, [], All, map, vec_len, vec_capacity};
 ghost use Rattle.std.specs.Prelude.{IfOk, IfErr, OnOk};
 ghost use Rattle.run_model.specs.declared.faults.Fault.TheVariants.{Memory};
+ghost use Rattle.run_crew.specs.Courses.{IsGates, IsOfShift};
 ghost use Rattle.run_crew.specs.Notes.{noted};
 ghost use Rattle.run_crew.specs.Seats.{CountsNight};
 
@@ -15,7 +16,7 @@ use crate::openings::Opening;
 use crate::places::{CountedPlace, Place};
 use crate::seats::Seat;
 use crate::watches::{Lookout, save_rings};
-use crate::workers::{Shift, Station};
+use crate::workers::{GateOf, Shift, Station};
 use run_disk::RunDisk;
 use run_model::{Fault, Trouble};
 use std::alloc::{AllocError, Global};
@@ -56,6 +57,8 @@ pub fn run_night<
     ensures workers { IfOk result (λ r. vec_len r.0 ≡ vec_len jobs) }
     ensures seat { IfOk result (λ r.
         CountsNight (vec_len jobs) (noted r.0.items) seat.old seat.new) }
+    ensures gate { IfOk result (λ r.
+        All (IsOfShift (IsGates (G.lets gate.now) (G.told gate.now))) r.0.items) }
     ensures fault { IfErr result (λ fault. fault ≡ Memory) }
 {
     let Ok(mut notes) = Vec::with_capacity(alloc, jobs.len()) else {
@@ -115,7 +118,9 @@ fn shifts_of<
     stations: Vec<Station<S, F>>,
     gate: &G,
 ) -> Result<Vec<Shift<S, F>>, AllocError>
-    ensures { IfOk result (λ v. vec_len v ≡ vec_len stations) }
+    ensures len { IfOk result (λ v. vec_len v ≡ vec_len stations) }
+    ensures gate { IfOk result (λ v. All (λ shift.
+        IsOfShift (IsGates (G.lets gate.now) (G.told gate.now)) shift.notes) v.items) }
 {
     let count = stations.len();
     let mut handles = Vec::with_capacity(alloc, count)?;
@@ -131,12 +136,20 @@ fn shifts_of<
             requires stations { vec_len stations ≡ count }
             requires handles { (vec_len handles ≡ 0) × (count ≤ vec_capacity handles) }
             requires shifts { (vec_len shifts ≡ 0) × (count ≤ vec_capacity shifts) }
-            ensures { IfOk result (λ v. vec_len v ≡ count) }
+            ensures len { IfOk result (λ v. vec_len v ≡ count) }
+            ensures gate { IfOk result (λ v. All (λ shift. IsOfShift
+                (IsGates (G.lets gate.entry.now) (G.told gate.entry.now)) shift.notes) v.items) }
         {
             let flusher = scope.spawn(move || save_at(rt, shared, arrivals, bell))?;
             let mut refused = false;
             for station in stations {
-                match scope.spawn(move || station.work(rt, shared, arrivals, bell, gate)) {
+                match scope.spawn_with(
+                    GateOf { gate },
+                    move || -> Shift<S, F>
+                        ensures { IsOfShift (IsGates (G.lets gate.entry.now)
+                            (G.told gate.entry.now)) result.notes }
+                    { station.work(rt, shared, arrivals, bell, gate) },
+                ) {
                     Ok(handle) => handles.push_reserved(handle),
                     Err(_) => refused = true,
                 }
@@ -146,8 +159,9 @@ fn shifts_of<
             }
             bell.close(rt);
             flusher.join(rt);
-            // the clauses above speak of it
+            // the clauses above speak of them
             let _ = &count;
+            let _ = &gate;
             if refused {
                 return Err(AllocError);
             }
@@ -176,6 +190,7 @@ fn gather<S: Ledger, F: Ledger>(
     requires empty { vec_len notes.old ≡ 0 }
     requires room { vec_len shifts ≤ vec_capacity notes.old }
     ensures len { vec_len notes.new ≡ vec_len shifts }
+    ensures notes { notes.new.items ≡ map (λ shift. shift.notes) shifts.items }
     ensures start_parts { seat.new.start_parts ≡ seat.old.start_parts + vec_len shifts }
     ensures finish_parts { seat.new.finish_parts ≡ seat.old.finish_parts + vec_len shifts }
     ensures finishes { seat.new.finishes ≡ seat.old.finishes + noted notes.new.items }

@@ -1,7 +1,7 @@
 //! A [`Watch`] is what the flusher works on: all that it asks, one call after another.
 
 ghost use Rattle.std.specs.Prelude.{◌≡◌, ◌<◌, ⊤, IfSome};
-ghost use Rattle.run_crew.specs.Courses.{Call, IsAnswered, IsTold, IsWatch, Went};
+ghost use Rattle.run_crew.specs.Courses.{Call, IsAnswered, IsWatch, Went};
 ghost use Rattle.run_crew.specs.Courses as call;
 
 use crate::arrivals::Arrivals;
@@ -53,9 +53,8 @@ pub struct Lookout<'a, T, R> {
 }
 
 impl<'a, T: Place, R: Wait> Watch for Lookout<'a, T, R> {
-    ghost step = { λ _ call _. IsAnswered (λ _. ⊤)
-        (λ r. IsTold T.holds T.flushes r)
-        (λ _ _. ⊤) (λ _ _ _. ⊤) (λ _ _ _. ⊤) (λ _. ⊤) call };
+    ghost step = { λ _ call _. IsAnswered (λ _ _ _. ⊤) T.holds T.flushes (λ _ _ _. ⊤)
+        (λ _ _ _ _ _. ⊤) (λ _ _ _. ⊤) (λ _. ⊤) call };
 
     fn wait(&mut self, heard: u64) -> Option<u64> {
         self.bell.wait(self.rt, heard)

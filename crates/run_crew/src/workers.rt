@@ -2,6 +2,7 @@
 //! is its station, and what it leaves is its shift.
 
 ghost use Rattle.std.specs.Prelude.{◌≡◌, ◌+◌, ◌≤◌, [], length};
+ghost use Rattle.run_crew.specs.Courses.{IsAnswered, IsGates, IsOfShift};
 ghost use Rattle.run_crew.specs.Seats.{one_part};
 
 use crate::arrivals::Arrivals;
@@ -14,6 +15,7 @@ use crate::seats::Seat;
 use crate::workplaces::Workplace;
 use std::sync::ledger::Ledger;
 use std::sync::{Mutex, Wait};
+use std::thread::Promise;
 
 /// What a worker begins with: jobs, one part of each share, and no notes.
 #[derive(Drop)]
@@ -41,6 +43,18 @@ pub struct Shift<S: Ledger, F: Ledger> {
     pub ghost one_more_at_most: { seat.starts ≤ length notes + 1 },
 }
 
+/// The gate of a worker, which promises that all of the worker's shift was asked of it and told to
+/// it.
+#[derive(Drop)]
+pub struct GateOf<'a, G> {
+    pub gate: &'a G,
+}
+
+impl<'a, S: Ledger, F: Ledger, G: Gate> Promise<Shift<S, F>> for GateOf<'a, G> {
+    ghost kept_by = { λ p shift.
+        IsOfShift (IsGates (G.lets p.gate.now) (G.told p.gate.now)) shift.notes };
+}
+
 impl<S: Ledger, F: Ledger> Station<S, F> {
     /// The station of a worker with these jobs.
     pub fn new(
@@ -62,7 +76,10 @@ impl<S: Ledger, F: Ledger> Station<S, F> {
         arrivals: &Arrivals,
         bell: &Bell,
         gate: &G,
-    ) -> Shift<S, F> {
+    ) -> Shift<S, F>
+        ensures { IsOfShift (IsAnswered T.starts T.holds T.flushes T.tells T.finishes
+            (G.lets gate.now) (G.told gate.now)) result.notes }
+    {
         let Station {
             jobs,
             mut seat,

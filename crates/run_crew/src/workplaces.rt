@@ -1,8 +1,8 @@
 //! A [`Workplace`] is the [`Floor`] of a worker in a crew: the one lock, the gate, the bell and the
 //! worker's own jobs.
 
-ghost use Rattle.std.specs.Prelude.{vec_len};
-ghost use Rattle.run_crew.specs.Courses.{IsAnswered, IsTold};
+ghost use Rattle.std.specs.Prelude.{◌≡◌, vec_len};
+ghost use Rattle.run_crew.specs.Courses.{IsAnswered};
 
 use crate::arrivals::Arrivals;
 use crate::bells::Bell;
@@ -15,8 +15,8 @@ use run_model::{Name, Outcome, Refusal, Started, TaskInfo, Trouble};
 use std::sync::ledger::Ledger;
 use std::sync::{Mutex, Wait};
 
-/// Each call is one of the value of the lock, which is released after it, of the gate, of a job or
-/// of the bell.
+/// Each call is one of the value of the lock, which is released after it, of the gate, which stays
+/// the same, of a job or of the bell.
 #[derive(Drop)]
 pub struct Workplace<'a, T, G, R> {
     pub rt: &'a R,
@@ -29,11 +29,8 @@ pub struct Workplace<'a, T, G, R> {
 
 impl<'a, S: Ledger, F: Ledger, T: CountedPlace<S, F>, G: Gate, R: Wait> Floor<S, F>
     for Workplace<'a, T, G, R> {
-    ghost step = { λ from call to. IsAnswered
-        (λ r. (d : T) × (e : T) × T.starts d r e)
-        (λ r. IsTold T.holds T.flushes r)
-        (λ task answer. (d : T) × T.tells d task answer)
-        (λ task how r. (d : T) × (e : T) × T.finishes d task how r e)
+    ghost step = { λ from call to. (to.gate.now ≡ from.gate.now)
+        × IsAnswered T.starts T.holds T.flushes T.tells T.finishes
         (G.lets from.gate.now) (G.told from.gate.now) call };
 
     ghost jobs = { λ place. vec_len place.jobs };

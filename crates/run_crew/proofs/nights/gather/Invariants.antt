@@ -1,5 +1,5 @@
-use Rattle.std.proofs.Common.{◌≡◌, ◌+◌, ◌≤◌, vec_len, vec_capacity}
-use Rattle.std.specs.Vec.Iter.{into_iter_len}
+use Rattle.std.proofs.Common.{◌≡◌, ◌+◌, ◌++◌, ◌≤◌, map, vec_len, vec_capacity}
+use Rattle.std.specs.Vec.Iter.{into_iter_items, into_iter_len}
 use Rattle.run_crew.specs.Notes.{noted}
 use Rattle.run_crew.proofs.nights.gather.Given as goal
 
@@ -12,3 +12,5 @@ invariant-loop-shift g l =
     × (l.seat.finishes ≡ l.fn.seat.finishes + noted l.notes.items)
     × (l.fn.seat.starts + noted l.notes.items ≤ l.seat.starts)
     × (l.seat.starts ≤ l.fn.seat.starts + noted l.notes.items + vec_len l.notes)
+    × (l.notes.items ++ map (λ s. s.notes) (into_iter_items l.shift-iterator)
+    ≡ map (λ s. s.notes) l.fn.shifts.items)

@@ -1,4 +1,7 @@
-use Rattle.std.proofs.Common.{arith}
+use Rattle.std.proofs.Common.{List, arith}
+use Rattle.std.proofs.lemmas.List.Elements.{All-map, All-same}
+use Rattle.run_crew.specs.declared.notes.Note.{Note}
+use Rattle.run_crew.specs.Courses.{IsGates, IsOfShift}
 use Rattle.run_crew.proofs.nights.run_night.Goals as goal
 
 pub returns-clause-seat : goal.returns-clause-seat
@@ -12,3 +15,10 @@ returns-clause-seat g c =
       starts = omega arith;
       one_more = omega (arith, stations.len, shifts);
     }
+
+pub returns-clause-gate : goal.returns-clause-gate
+returns-clause-gate g c =
+    let P : List Note → Type 0 =
+    IsOfShift (IsGates (g.G.Gate.lets c.args.gate.now) (g.G.Gate.told c.args.gate.now)) in
+    All-same P _ _ c.gather.ensures.notes
+    (All-map P (λ s. s.notes) c.in-Ok-shifts.shifts.items c.in-Ok-shifts.ensures.gate)
