@@ -1,5 +1,5 @@
 -- Texts that are gathered one after the other.
-use Rattle.std.specs.Prelude.{◌≡◌, ◌+◌, ◌≤◌, ℕ, List, ◌++◌}
+use Rattle.std.specs.Prelude.{◌+◌, ◌≤◌, ℕ, List, ◌++◌}
 use Rattle.std.proofs.Common.{arith, ap, ◌∙◌, append_assoc}
 use Rattle.console_lines.specs.Gathers.{Gathers}
 

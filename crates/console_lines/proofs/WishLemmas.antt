@@ -2,7 +2,7 @@
 use Rattle.std.specs.Prelude.{◌≡◌, ℕ, Bool, true, false, not, ◌&&◌, if◌then◌else◌, List, ◌∷◌}
 use Rattle.std.specs.Prelude.{Option, Some, None, Result, Ok, Err}
 use Rattle.std.specs.List.{list_all}
-use Rattle.std.specs.Option.{option_map, option_map_or, option_to_list}
+use Rattle.std.specs.Option.{option_map, option_to_list}
 use Rattle.std.proofs.Common.{refl, ap, sym, ◌∙◌}
 use Rattle.run_model.specs.declared.commands.Wish.{Wish}
 use Rattle.run_model.specs.declared.commands.Wish.TheVariants as wish
@@ -11,7 +11,7 @@ use Rattle.run_model.specs.declared.refusals.Refusal.TheVariants.{BadName, BadTe
 use Rattle.run_model.specs.Texts.{is_name, is_text}
 use Rattle.written_moment.specs.Numbers.{number_of}
 use Rattle.written_moment.specs.Moments.{moment_of}
-use Rattle.console_lines.specs.declared.asked.Asked.TheVariants.{BadLine, Refused}
+use Rattle.console_lines.specs.declared.asked.Asked.TheVariants.{Refused}
 use Rattle.console_lines.specs.Asked.{Wished, wished, refused_behind, judged, derived, asks_judged}
 use Rattle.console_lines.specs.Asked.{asks_derive}
 use Rattle.console_lines.specs.Checked.{names_in_wish, texts_in_wish}
@@ -48,11 +48,11 @@ judged_behind_names name parent (refused_behind cause why) =
 pub derive_wished :
     (name parent : List ℕ) (o : Option Wished) (r : Result Wish Refusal)
     → Some r ≡ option_map judged o
-    → asks_judged name parent r ≡ option_map_or (asks_derive name parent) o BadLine
+    → Some (asks_judged name parent r) ≡ option_map (asks_derive name parent) o
 derive_wished name parent None r e = cc
 derive_wished name parent (Some w) r e =
     let same : r ≡ judged w = cc in
-    ap (asks_judged name parent) same ∙ judged_behind_names name parent w
+    ap Some (ap (asks_judged name parent) same ∙ judged_behind_names name parent w)
 
 -- ---- wishes that are read
 

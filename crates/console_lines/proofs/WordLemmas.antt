@@ -13,9 +13,8 @@ use Rattle.std.proofs.lemmas.List.Sums.{position_or_len_is, fails_before_first}
 use Rattle.run_model.specs.declared.commands.Wish.{Wish}
 use Rattle.console_lines.specs.Words.{words_of, words_in, rest_of, only_word}
 use Rattle.console_lines.specs.Asked.{alone}
-use Rattle.console_lines.specs.TaskLines.{asks_alone, success_of}
+use Rattle.console_lines.specs.TaskLines.{asks_alone}
 use Rattle.console_lines.specs.declared.asked.Asked.{Asked}
-use Rattle.console_lines.specs.declared.asked.Asked.TheVariants as asked
 
 is_space : ℕ → Bool
 is_space b = b == 32
@@ -75,21 +74,13 @@ pub alone_more : (wish : Wish) (line : List ℕ) → alone wish (words_of line) 
 alone_more wish line = alone_words wish (words_of line) (has_words line)
 
 asks_alone_words : (a : Asked) (words : List (List ℕ)) → 0 < length words
-    → asks_alone a words ≡ asked.BadLine
+    → asks_alone a words ≡ None
 asks_alone_words a [] h = absurd (omega (arith, h))
 asks_alone_words a (word ∷ words) h = refl
 
--- A line that no word may follow is a bad line where a word is left over.
-pub asks_alone_more : (a : Asked) (line : List ℕ) → asks_alone a (words_of line) ≡ asked.BadLine
+-- A line that no word may follow is none where a word is left over.
+pub asks_alone_more : (a : Asked) (line : List ℕ) → asks_alone a (words_of line) ≡ None
 asks_alone_more a line = asks_alone_words a (words_of line) (has_words line)
-
-success_words : (words : List (List ℕ)) → 0 < length words → success_of words ≡ None
-success_words [] h = absurd (omega (arith, h))
-success_words (word ∷ words) h = refl
-
--- Nothing stands after a success.
-pub success_more : (line : List ℕ) → success_of (words_of line) ≡ None
-success_more line = success_words (words_of line) (has_words line)
 
 only_word_words : (word : List ℕ) (words : List (List ℕ)) → 0 < length words
     → only_word (word ∷ words) ≡ None

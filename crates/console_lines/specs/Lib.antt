@@ -17,6 +17,8 @@ pub mod Replies
 pub mod Script
 pub mod Strict
 pub mod StrictNights
+pub mod Summaries
+pub mod SummaryNights
 pub mod Tallies
 pub mod TaskLines
 pub mod TreeNights

@@ -1,6 +1,6 @@
 -- What is asked of tasks and of the store: the forms of their lines, by the words after the first.
 use Rattle.std.specs.Prelude.{ℕ, if◌then◌else◌, List, [], ◌∷◌, codes, Option, Some, None}
-use Rattle.std.specs.Option.{option_map, option_map_or, option_and_then}
+use Rattle.std.specs.Option.{option_map, option_and_then}
 use Rattle.std.specs.Str.{bytes_eq}
 use Rattle.run_model.specs.declared.commands.Command.TheVariants as command
 use Rattle.run_model.specs.declared.commands.Step.TheVariants as step
@@ -11,7 +11,7 @@ use Rattle.run_model.specs.Records.{is_row_number}
 use Rattle.written_moment.specs.Numbers.{number_of}
 use Rattle.console_lines.specs.declared.asked.Asked.{Asked}
 use Rattle.console_lines.specs.declared.asked.Asked.TheVariants as asked
-use Rattle.console_lines.specs.Checked.{checked}
+use Rattle.console_lines.specs.Checked.{asks, checked}
 use Rattle.console_lines.specs.Words.{rest_of, only_word}
 
 -- What is asked of the task of a number: no task has one of more than two bytes.
@@ -21,7 +21,7 @@ asks_task asks number =
 
 -- A line of a retry.
 abbrev pub asks_retry : ℕ → Asked
-asks_retry number = asks_task (λ n. asked.Step (step.Command (command.Retry n))) number
+asks_retry number = asks_task (λ n. asks (command.Retry n)) number
 
 -- A line of the question how far a task is.
 abbrev pub asks_phase : ℕ → Asked
@@ -39,41 +39,31 @@ asks_finish number outcome =
     (asks_task (λ n. asked.Step (step.Finish n outcome)) number)
 
 -- A line that no word may follow.
-abbrev pub asks_alone : Asked → List (List ℕ) → Asked
-asks_alone asks [] = asks
-asks_alone asks _ = asked.BadLine
+abbrev pub asks_alone : Asked → List (List ℕ) → Option Asked
+asks_alone asks [] = Some asks
+asks_alone asks _ = None
 
 -- What a line of one number asks for.
-abbrev pub asks_number : (ℕ → Asked) → List (List ℕ) → Asked
-asks_number asks words =
-    option_map_or asks (option_and_then number_of (only_word words)) asked.BadLine
+abbrev pub asks_number : (ℕ → Asked) → List (List ℕ) → Option Asked
+asks_number asks words = option_map asks (option_and_then number_of (only_word words))
 
--- ok: no word may follow it.
-abbrev pub success_of : List (List ℕ) → Option Outcome
-success_of [] = Some outcome.Success
-success_of _ = None
-
--- error TEXT: its text may be any bytes.
-abbrev pub failure_of : List (List ℕ) → Option Outcome
-failure_of words = option_map outcome.Failure (rest_of words)
-
--- The outcome that words write: ok, or error TEXT.
-abbrev pub outcome_of : List (List ℕ) → Option Outcome
-outcome_of (first ∷ words) =
-    if bytes_eq first (codes "ok") then success_of words
-    else if bytes_eq first (codes "error") then failure_of words
+-- How the task of a number ends: ok, which no word may follow, or error TEXT, whose text may be any
+-- bytes.
+abbrev pub outcome_line : ℕ → List (List ℕ) → Option Asked
+outcome_line number (first ∷ words) =
+    if bytes_eq first (codes "ok") then asks_alone (asks_finish number outcome.Success) words
+    else if bytes_eq first (codes "error") then
+    option_map (λ error. asks_finish number (outcome.Failure error)) (rest_of words)
     else None
-outcome_of [] = None
+outcome_line number [] = None
 
 -- finish NUMBER ok, finish NUMBER error TEXT
-abbrev pub finish_line : List (List ℕ) → Asked
-finish_line (number ∷ words) =
-    option_map_or (λ n. option_map_or (asks_finish n) (outcome_of words) asked.BadLine)
-    (number_of number) asked.BadLine
-finish_line _ = asked.BadLine
+abbrev pub finish_line : List (List ℕ) → Option Asked
+finish_line (number ∷ words) = option_and_then (λ n. outcome_line n words) (number_of number)
+finish_line _ = None
 
 -- What a line asks of tasks or of the store, by its first word. No other word begins a line.
-abbrev pub task_line_of : List ℕ → List (List ℕ) → Asked
+abbrev pub task_line_of : List ℕ → List (List ℕ) → Option Asked
 task_line_of first words =
     if bytes_eq first (codes "start") then asks_alone (asked.Step step.Start) words
     else if bytes_eq first (codes "finish") then finish_line words
@@ -82,4 +72,4 @@ task_line_of first words =
     else if bytes_eq first (codes "tally") then asks_alone asked.Tally words
     else if bytes_eq first (codes "flush") then asks_alone (asked.Step step.Flush) words
     else if bytes_eq first (codes "checkpoint") then asks_alone (asked.Step step.Checkpoint) words
-    else asked.BadLine
+    else None

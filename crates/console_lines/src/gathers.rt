@@ -172,10 +172,7 @@ pub(crate) fn push<const N: usize>(out: &mut ArrayVec<u8, N>, bytes: &[u8])
     requires { array_vec_len out.old + length bytes.now ≤ N }
     ensures { Gathers out.old.items out.new.items bytes.now (length bytes.now) }
 {
-    match out.try_extend_from_slice(bytes) {
-        Ok(()) => (),
-        Err(_) => unreachable!(),
-    }
+    out.try_extend_from_slice(bytes).unwrap();
 }
 
 /// A refusal. The unfinished tasks are counted after the name.
@@ -323,7 +320,7 @@ fn push_done<const N: usize>(
 }
 
 /// Why a scope is done, and with which cause.
-fn push_ending<const N: usize>(out: &mut ArrayVec<u8, N>, reason: Reason, cause: &[u8])
+pub(crate) fn push_ending<const N: usize>(out: &mut ArrayVec<u8, N>, reason: Reason, cause: &[u8])
     requires room { array_vec_len out.old + 103 ≤ N }
     requires text { IsText cause.now }
     ensures { Gathers out.old.items out.new.items (ending_text reason cause.now) 103 }

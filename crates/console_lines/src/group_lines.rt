@@ -1,9 +1,8 @@
 //! The lines that ask something of groups.
 
-ghost use Rattle.std.specs.Prelude.{◌≡◌};
-ghost use Rattle.console_lines.specs.GroupLines.{bare_line, go_line, group_line};
+ghost use Rattle.std.specs.Prelude.{◌≡◌, if◌then◌else◌};
+ghost use Rattle.console_lines.specs.Checked.{asks, of_one, of_three, of_two};
 ghost use Rattle.console_lines.specs.GroupLines.{group_line_of, limit_at, limit_line, limit_of};
-ghost use Rattle.console_lines.specs.GroupLines.{result_line, try_line, wait_line};
 ghost use Rattle.console_lines.specs.Words.{words_in, lent};
 
 use crate::asked::Asked;
@@ -13,7 +12,7 @@ use run_model::{Command, Limit, Name, Refusal, Step, is_spelled};
 use written_moment::read_number;
 
 /// What a line with this first word asks of groups or, else, of tasks or of the store.
-pub(crate) fn read_group_line(word: &[u8], left: Option<&[u8]>) -> Asked
+pub(crate) fn read_group_line(word: &[u8], left: Option<&[u8]>) -> Option<Asked>
     ensures { result ≡ group_line_of word.now (words_in (lent left.entry)) }
 {
     if is_spelled(word, b"group") {
@@ -23,9 +22,9 @@ pub(crate) fn read_group_line(word: &[u8], left: Option<&[u8]>) -> Asked
     } else if is_spelled(word, b"limit") {
         read_limit(left)
     } else if is_spelled(word, b"go") {
-        read_go(left)
+        read_go(false, left)
     } else if is_spelled(word, b"try") {
-        read_try(left)
+        read_go(true, left)
     } else if is_spelled(word, b"wait") {
         read_wait(left)
     } else if is_spelled(word, b"result") {
@@ -36,125 +35,101 @@ pub(crate) fn read_group_line(word: &[u8], left: Option<&[u8]>) -> Asked
 }
 
 /// `group NAME PARENT`
-fn read_group(left: Option<&[u8]>) -> Asked
-    ensures { result ≡ group_line (words_in (lent left.entry)) }
+fn read_group(left: Option<&[u8]>) -> Option<Asked>
+    ensures { result ≡ of_two (λ name parent. asks (Command.Group name parent))
+        (words_in (lent left.entry)) }
 {
-    let Some((name, left)) = next_word(left) else {
-        return Asked::BadLine;
-    };
-    let Some(parent) = last_word(left) else {
-        return Asked::BadLine;
-    };
+    let (name, left) = next_word(left)?;
+    let parent = last_word(left)?;
     match (Name::read(name), Name::read(parent)) {
-        (Some(name), Some(parent)) => Asked::Step(Step::Command(Command::Group { name, parent })),
-        _ => Asked::Refused(Refusal::BadName),
+        (Some(name), Some(parent)) => Some(Asked::Step(Step::Command(Command::Group {
+            name,
+            parent,
+        }))),
+        _ => Some(Asked::Refused(Refusal::BadName)),
     }
 }
 
 /// `bare NAME SCOPE`
-fn read_bare(left: Option<&[u8]>) -> Asked
-    ensures { result ≡ bare_line (words_in (lent left.entry)) }
+fn read_bare(left: Option<&[u8]>) -> Option<Asked>
+    ensures { result ≡ of_two (λ name scope. asks (Command.Bare name scope))
+        (words_in (lent left.entry)) }
 {
-    let Some((name, left)) = next_word(left) else {
-        return Asked::BadLine;
-    };
-    let Some(scope) = last_word(left) else {
-        return Asked::BadLine;
-    };
+    let (name, left) = next_word(left)?;
+    let scope = last_word(left)?;
     match (Name::read(name), Name::read(scope)) {
-        (Some(name), Some(scope)) => Asked::Step(Step::Command(Command::Bare { name, scope })),
-        _ => Asked::Refused(Refusal::BadName),
+        (Some(name), Some(scope)) => Some(Asked::Step(Step::Command(Command::Bare {
+            name,
+            scope,
+        }))),
+        _ => Some(Asked::Refused(Refusal::BadName)),
     }
 }
 
 /// `limit GROUP NUMBER`, `limit GROUP none`
-fn read_limit(left: Option<&[u8]>) -> Asked
+fn read_limit(left: Option<&[u8]>) -> Option<Asked>
     ensures { result ≡ limit_line (words_in (lent left.entry)) }
 {
-    let Some((group, left)) = next_word(left) else {
-        return Asked::BadLine;
-    };
-    let Some(limit) = last_word(left) else {
-        return Asked::BadLine;
-    };
-    let Some(limit) = limit_of(limit) else {
-        return Asked::BadLine;
-    };
+    let (group, left) = next_word(left)?;
+    let limit = limit_of(last_word(left)?)?;
     match Name::read(group) {
-        Some(group) => Asked::Step(Step::Command(Command::SetLimit { group, limit })),
-        None => Asked::Refused(Refusal::BadName),
+        Some(group) => Some(Asked::Step(Step::Command(Command::SetLimit { group, limit }))),
+        None => Some(Asked::Refused(Refusal::BadName)),
     }
 }
 
-/// `go GROUP JOB ARG`
-fn read_go(left: Option<&[u8]>) -> Asked
-    ensures { result ≡ go_line (words_in (lent left.entry)) }
+/// `go GROUP JOB ARG`, and `try GROUP JOB ARG` if it is `tried`.
+fn read_go(tried: bool, left: Option<&[u8]>) -> Option<Asked>
+    ensures { result ≡ of_three (λ group job argument. asks (if tried
+        then Command.TryGo group job argument else Command.Go group job argument))
+        (words_in (lent left.entry)) }
 {
-    let Some((group, left)) = next_word(left) else {
-        return Asked::BadLine;
-    };
-    let Some((job, left)) = next_word(left) else {
-        return Asked::BadLine;
-    };
-    let Some(argument) = last_word(left) else {
-        return Asked::BadLine;
-    };
+    let (group, left) = next_word(left)?;
+    let (job, left) = next_word(left)?;
+    let argument = last_word(left)?;
     match (Name::read(group), Name::read(job), Name::read(argument)) {
-        (Some(group), Some(job), Some(argument)) => Asked::Step(Step::Command(Command::Go {
-            group,
-            job,
-            argument,
-        })),
-        _ => Asked::Refused(Refusal::BadName),
-    }
-}
-
-/// `try GROUP JOB ARG`
-fn read_try(left: Option<&[u8]>) -> Asked
-    ensures { result ≡ try_line (words_in (lent left.entry)) }
-{
-    let Some((group, left)) = next_word(left) else {
-        return Asked::BadLine;
-    };
-    let Some((job, left)) = next_word(left) else {
-        return Asked::BadLine;
-    };
-    let Some(argument) = last_word(left) else {
-        return Asked::BadLine;
-    };
-    match (Name::read(group), Name::read(job), Name::read(argument)) {
-        (Some(group), Some(job), Some(argument)) => Asked::Step(Step::Command(Command::TryGo {
-            group,
-            job,
-            argument,
-        })),
-        _ => Asked::Refused(Refusal::BadName),
+        (Some(group), Some(job), Some(argument)) => Some(go(tried, group, job, argument)),
+        _ => Some(Asked::Refused(Refusal::BadName)),
     }
 }
 
 /// `wait GROUP`
-fn read_wait(left: Option<&[u8]>) -> Asked
-    ensures { result ≡ wait_line (words_in (lent left.entry)) }
+fn read_wait(left: Option<&[u8]>) -> Option<Asked>
+    ensures { result ≡ of_one (λ group. asks (Command.Wait group)) (words_in (lent left.entry)) }
 {
-    let Some(group) = last_word(left) else {
-        return Asked::BadLine;
-    };
-    match Name::read(group) {
-        Some(group) => Asked::Step(Step::Command(Command::Wait { group })),
-        None => Asked::Refused(Refusal::BadName),
+    match Name::read(last_word(left)?) {
+        Some(group) => Some(Asked::Step(Step::Command(Command::Wait { group }))),
+        None => Some(Asked::Refused(Refusal::BadName)),
     }
 }
 
 /// `result GROUP`
-fn read_result(left: Option<&[u8]>) -> Asked
-    ensures { result ≡ result_line (words_in (lent left.entry)) }
+fn read_result(left: Option<&[u8]>) -> Option<Asked>
+    ensures { result ≡ of_one Asked.Result (words_in (lent left.entry)) }
 {
-    let Some(group) = last_word(left) else {
-        return Asked::BadLine;
-    };
-    match Name::read(group) {
-        Some(group) => Asked::Result(group),
-        None => Asked::Refused(Refusal::BadName),
+    match Name::read(last_word(left)?) {
+        Some(group) => Some(Asked::Result(group)),
+        None => Some(Asked::Refused(Refusal::BadName)),
+    }
+}
+
+/// A task is submitted to a group; if it is `tried`, only if the limit admits it now.
+fn go(tried: bool, group: Name, job: Name, argument: Name) -> Asked
+    ensures { result ≡ asks (if tried
+        then Command.TryGo group job argument else Command.Go group job argument) }
+{
+    if tried {
+        Asked::Step(Step::Command(Command::TryGo {
+            group,
+            job,
+            argument,
+        }))
+    } else {
+        Asked::Step(Step::Command(Command::Go {
+            group,
+            job,
+            argument,
+        }))
     }
 }
 

@@ -114,12 +114,10 @@ impl<A: Allocator + Copy> Tallies<A> {
         requires { i < length self.now }
         ensures { slice_get self.now i ≡ Some result }
     {
-        match self.jobs.get_index(i) {
-            Some((job, counts)) => Tally {
-                job: job.name.copy(),
-                counts: *counts,
-            },
-            None => unreachable!(),
+        let (job, counts) = self.jobs.get_index(i).unwrap();
+        Tally {
+            job: job.name.copy(),
+            counts: *counts,
         }
     }
 }

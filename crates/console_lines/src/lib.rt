@@ -25,6 +25,8 @@ mod replies;
 mod rows;
 mod strays;
 pub mod strict_nights;
+mod summaries;
+pub mod summary_nights;
 mod tallies;
 mod task_lines;
 pub mod tree_nights;
@@ -42,6 +44,9 @@ pub use lines::{LONGEST_INPUT, LONGEST_LINE, read_line};
 pub use replies::Reply;
 pub use rows::{LONGEST_ROW, Row};
 pub use strays::{Stray, StrayLine};
+pub use summaries::{
+    LONGEST_SUMMARY, Phases, gather_group_summary, gather_scope_summary, is_in_phase,
+};
 pub use tallies::{Counts, Tally};
 pub use trees::{
     LONGEST_TREE_HEAD, LONGEST_TREE_SCOPE, Taken, gather_tree_head, gather_tree_scope,

@@ -2,10 +2,9 @@
 //! ask something of scopes.
 
 ghost use Rattle.std.specs.Prelude.{◌≡◌};
-ghost use Rattle.console_lines.specs.Asked.{asked_of, asked_by, derive_line, cancel_line};
-ghost use Rattle.console_lines.specs.Asked.{advance_line, scope_line, value_line};
-ghost use Rattle.console_lines.specs.Asked.{asks_judged};
-ghost use Rattle.console_lines.specs.Checked.{asks_command};
+ghost use Rattle.console_lines.specs.Asked.{advance_line, asked_by, asked_of, asks_cancel};
+ghost use Rattle.console_lines.specs.Asked.{asks_judged, cancel_line, derive_line};
+ghost use Rattle.console_lines.specs.Checked.{of_one, of_two};
 ghost use Rattle.console_lines.specs.Words.{words_in, lent};
 
 use crate::asked::Asked;
@@ -32,16 +31,14 @@ pub fn read_line(line: &[u8]) -> Asked
     if line.is_empty() {
         return Asked::Nothing;
     }
-    read_words(Some(line))
+    read_words(Some(line)).unwrap_or(Asked::BadLine)
 }
 
-/// What the words of a line ask for.
-fn read_words(line: Option<&[u8]>) -> Asked
+/// What the words of a line ask for, and `None` if they are of no form.
+fn read_words(line: Option<&[u8]>) -> Option<Asked>
     ensures { result ≡ asked_by (words_in (lent line.entry)) }
 {
-    let Some((word, left)) = next_word(line) else {
-        return Asked::BadLine;
-    };
+    let (word, left) = next_word(line)?;
     if is_spelled(word, b"derive") {
         read_derive(left)
     } else if is_spelled(word, b"cancel") {
@@ -58,74 +55,52 @@ fn read_words(line: Option<&[u8]>) -> Asked
 }
 
 /// `derive NAME PARENT KIND`
-fn read_derive(left: Option<&[u8]>) -> Asked
+fn read_derive(left: Option<&[u8]>) -> Option<Asked>
     ensures { result ≡ derive_line (words_in (lent left.entry)) }
 {
-    let Some((name, left)) = next_word(left) else {
-        return Asked::BadLine;
-    };
-    let Some((parent, left)) = next_word(left) else {
-        return Asked::BadLine;
-    };
-    let Some((kind, left)) = next_word(left) else {
-        return Asked::BadLine;
-    };
-    match read_wish(kind, left) {
-        Some(wish) => derive(name, parent, wish),
-        None => Asked::BadLine,
-    }
+    let (name, left) = next_word(left)?;
+    let (parent, left) = next_word(left)?;
+    let (kind, left) = next_word(left)?;
+    Some(derive(name, parent, read_wish(kind, left)?))
 }
 
 /// `cancel SCOPE [CAUSE]`
-fn read_cancel(left: Option<&[u8]>) -> Asked
+fn read_cancel(left: Option<&[u8]>) -> Option<Asked>
     ensures { result ≡ cancel_line (words_in (lent left.entry)) }
 {
-    match next_word(left) {
-        Some((scope, cause)) => cancel(scope, cause),
-        None => Asked::BadLine,
-    }
+    let (scope, cause) = next_word(left)?;
+    Some(cancel(scope, cause))
 }
 
 /// `advance MOMENT`
-fn read_advance(left: Option<&[u8]>) -> Asked
+fn read_advance(left: Option<&[u8]>) -> Option<Asked>
     ensures { result ≡ advance_line (words_in (lent left.entry)) }
 {
-    let Some(word) = last_word(left) else {
-        return Asked::BadLine;
-    };
-    match read_moment(word) {
-        Some(Ok(moment)) => Asked::Step(Step::Command(Command::Advance { moment })),
-        Some(Err(refusal)) => Asked::Refused(refusal),
-        None => Asked::BadLine,
+    match read_moment(last_word(left)?)? {
+        Ok(moment) => Some(Asked::Step(Step::Command(Command::Advance { moment }))),
+        Err(refusal) => Some(Asked::Refused(refusal)),
     }
 }
 
 /// `scope SCOPE`
-fn read_scope(left: Option<&[u8]>) -> Asked
-    ensures { result ≡ scope_line (words_in (lent left.entry)) }
+fn read_scope(left: Option<&[u8]>) -> Option<Asked>
+    ensures { result ≡ of_one Asked.Scope (words_in (lent left.entry)) }
 {
-    let Some(scope) = last_word(left) else {
-        return Asked::BadLine;
-    };
-    match Name::read(scope) {
-        Some(scope) => Asked::Scope(scope),
-        None => Asked::Refused(Refusal::BadName),
+    match Name::read(last_word(left)?) {
+        Some(scope) => Some(Asked::Scope(scope)),
+        None => Some(Asked::Refused(Refusal::BadName)),
     }
 }
 
 /// `value SCOPE KEY`
-fn read_value(left: Option<&[u8]>) -> Asked
-    ensures { result ≡ value_line (words_in (lent left.entry)) }
+fn read_value(left: Option<&[u8]>) -> Option<Asked>
+    ensures { result ≡ of_two Asked.Value (words_in (lent left.entry)) }
 {
-    let Some((scope, left)) = next_word(left) else {
-        return Asked::BadLine;
-    };
-    let Some(key) = last_word(left) else {
-        return Asked::BadLine;
-    };
+    let (scope, left) = next_word(left)?;
+    let key = last_word(left)?;
     match (Name::read(scope), Name::read(key)) {
-        (Some(scope), Some(key)) => Asked::Value { scope, key },
-        _ => Asked::Refused(Refusal::BadName),
+        (Some(scope), Some(key)) => Some(Asked::Value { scope, key }),
+        _ => Some(Asked::Refused(Refusal::BadName)),
     }
 }
 
@@ -142,7 +117,7 @@ fn derive(name: &[u8], parent: &[u8], wish: Result<Wish, Refusal>) -> Asked
 }
 
 fn cancel(scope: &[u8], cause: Option<&[u8]>) -> Asked
-    ensures { result ≡ asks_command (Command.Cancel scope.now (lent cause.entry)) }
+    ensures { result ≡ asks_cancel scope.now (lent cause.entry) }
 {
     let Some(scope) = Name::read(scope) else {
         return Asked::Refused(Refusal::BadName);

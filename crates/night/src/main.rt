@@ -13,12 +13,12 @@
 mod clock;
 
 use crate::clock::SystemClock;
-use night_program::{CopyJob, FailJob, SpinJob, night};
+use night_program::{CopyJob, FailJob, SpinJob, Streams, night};
 use night_words::own_words;
 use run_crew::Job;
 use std::process::ExitCode;
 use std::thread::Builder;
-use system_files::{Complaints, SystemFiles};
+use system_files::{Complaint, Complaints, Heard, SystemFiles};
 
 /// The most workers that the words can ask for.
 const MOST_WORKERS: usize = 8;
@@ -55,7 +55,14 @@ fn main(rt: HostRuntime) -> ExitCode {
         let complaints = Complaints::new();
         let mut files = SystemFiles::new(&rt, alloc, &complaints);
         let mut clock = SystemClock::new(&rt);
-        let (mut input, mut output, mut errors) = (rt.stdin(), rt.stdout(), rt.stderr());
+        let (why_input, why_output) = (Complaint::new(), Complaint::new());
+        let mut input = Heard::new(rt.stdin(), &why_input);
+        let mut output = Heard::new(rt.stdout(), &why_output);
+        let streams = Streams {
+            input: &why_input,
+            output: &why_output,
+        };
+        let mut errors = rt.stderr();
         let ended = night(
             &rt,
             alloc,
@@ -65,6 +72,7 @@ fn main(rt: HostRuntime) -> ExitCode {
             &mut clock,
             &mut input,
             &mut output,
+            &streams,
             &mut errors,
         );
         ended.status

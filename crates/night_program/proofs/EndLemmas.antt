@@ -1,5 +1,5 @@
 -- From what a call wrote, or where it stopped, to how a word ends.
-use Rattle.std.proofs.Common.{◌∙◌, append_assoc, ap, ap₂, inr}
+use Rattle.std.proofs.Common.{◌∙◌, append_assoc, ap, ap₂, inr, subst}
 use Rattle.std.specs.Prelude.{◌≡◌, ◌++◌, [], ℕ, true, List, Option, Result, Ok, Err, IfErr}
 use Rattle.std.specs.Prelude.{IfOk, OnErr, OnOk, is_ok}
 use Rattle.std.specs.Global.{Global}
@@ -14,10 +14,11 @@ use Rattle.console_lines.specs.declared.faults.RunFault.{RunFault}
 use Rattle.console_lines.specs.declared.faults.RunFault.TheVariants.{Output}
 use Rattle.console_lines.specs.declared.strays.StrayLine.{StrayLine}
 use Rattle.console_lines.specs.Progress.{WritesPart}
-use Rattle.run_console.specs.Progress.{BeginsScript, RunStops, RunsAll}
-use Rattle.run_console.specs.Strict.{RunsStrictly, StopsStrictly}
-use Rattle.night_program.specs.Demos.{DemoEnds, IsRun, IsUnrun, StrictDemoEnds}
-use Rattle.night_program.specs.Stores.{Prints, Runs, RunsStrict}
+use Rattle.run_console.specs.Progress.{RunEnds, RunStops}
+use Rattle.run_console.specs.declared.untils.Until.{Until}
+use Rattle.run_console.proofs.Fronts.{stops_begin}
+use Rattle.night_program.specs.Demos.{DemoEnds}
+use Rattle.night_program.specs.Stores.{Prints, Runs}
 
 -- What was written whole or in part was printed.
 pub printed : {T : Type 0} (r : Result T RunFault) (text : List ℕ) (w0 w1 : Option (List ℕ))
@@ -27,41 +28,27 @@ printed (Ok done) text w0 w1 whole cut fault = whole
 printed (Err why) text w0 w1 whole cut fault = (fault, cut)
 
 -- What a run says of both of its ends.
-pub ran : {T D : Type 0} (state : D → DiskState) (r : Result T RunFault)
-    (r0 r1 w0 w1 : Option (List ℕ)) (b c : BookView D)
-    → OnOk r (RunsAll state b c r0 r1 w0 w1)
-    → IfErr r (λ why. RunStops state why b c r0 r1 w0 w1)
-    → IfErr r (λ why. BeginsScript why b.session r0 r1 w0 w1)
-    → Runs state r r0 r1 w0 w1 b c
-ran state (Ok done) r0 r1 w0 w1 b c all stops begins = all
-ran state (Err why) r0 r1 w0 w1 b c all stops begins = (stops, begins)
+pub ran : {D : Type 0} (state : D → DiskState) (until : Until)
+    (r : Result (Option StrayLine) RunFault) (r0 r1 w0 w1 : Option (List ℕ)) (b c : BookView D)
+    → IfOk r (λ stray. RunEnds state until stray b c r0 r1 w0 w1)
+    → IfErr r (λ why. RunStops state until why b c r0 r1 w0 w1)
+    → Runs state until r r0 r1 w0 w1 b c
+ran state until (Ok stray) r0 r1 w0 w1 b c runs stops = runs
+ran state until (Err why) r0 r1 w0 w1 b c runs stops = (
+  stops,
+  λ whole. stops_begin state why b c r0 r1 w0 w1
+      (subst (λ u. RunStops state u why b c r0 r1 w0 w1) whole stops),
+)
 
--- So of a strict run.
-pub ran_strict : {D : Type 0} (state : D → DiskState) (r : Result (Option StrayLine) RunFault)
-    (r0 r1 w0 w1 : Option (List ℕ)) (b c : BookView D)
-    → IfOk r (λ stray. RunsStrictly state stray b c r0 r1 w0 w1)
-    → IfErr r (λ why. StopsStrictly state why b c r0 r1 w0 w1)
-    → RunsStrict state r r0 r1 w0 w1 b c
-ran_strict state (Ok stray) r0 r1 w0 w1 b c runs stops = runs
-ran_strict state (Err why) r0 r1 w0 w1 b c runs stops = stops
-
--- So of a strict run over a book in memory that was just opened.
-pub strict_demo_ends : (r : Result (Option StrayLine) RunFault)
+-- So of a run over a book in memory that was just opened.
+pub demo_ends : (until : Until) (r : Result (Option StrayLine) RunFault)
     (r0 r1 w0 w1 : Option (List ℕ)) (b c : BookView (MemoryDisk Global))
     → b.session ≡ opened Small
-    → IfOk r (λ stray. RunsStrictly state_of stray b c r0 r1 w0 w1)
-    → IfErr r (λ why. StopsStrictly state_of why b c r0 r1 w0 w1)
-    → StrictDemoEnds r r0 r1 w0 w1
-strict_demo_ends (Ok stray) r0 r1 w0 w1 b c begun runs stops = (b, c, begun, runs)
-strict_demo_ends (Err why) r0 r1 w0 w1 b c begun runs stops =
-    inr (b, c, begun, stops)
-
--- So of a run over a book in memory.
-pub demo_ends : {T : Type 0} (r : Result T RunFault) (r0 r1 w0 w1 : Option (List ℕ))
-    → OnOk r (IsRun r0 r1 w0 w1) → IfErr r (λ why. IsUnrun why r0 r1 w0 w1)
-    → DemoEnds r r0 r1 w0 w1
-demo_ends (Ok done) r0 r1 w0 w1 all stops = all
-demo_ends (Err why) r0 r1 w0 w1 all stops = stops
+    → IfOk r (λ stray. RunEnds state_of until stray b c r0 r1 w0 w1)
+    → IfErr r (λ why. RunStops state_of until why b c r0 r1 w0 w1)
+    → DemoEnds until r r0 r1 w0 w1
+demo_ends until (Ok stray) r0 r1 w0 w1 b c begun runs stops = (b, c, begun, runs)
+demo_ends until (Err why) r0 r1 w0 w1 b c begun runs stops = inr (b, c, begun, stops)
 
 -- What is asked of a result, and what it says.
 pub if_ok : {T E : Type 0} (r : Result T E) (P : Type 0) → OnOk r P → is_ok r ≡ true → P

@@ -15,6 +15,7 @@ use Rattle.book_model.proofs.Storing.{stores_one}
 use Rattle.console_lines.specs.declared.faults.RunFault.{RunFault}
 use Rattle.run_console.specs.Crews.{CrewEnds, StoresNight}
 use Rattle.run_console.proofs.Nights.{opened_night}
+use Rattle.night_program.specs.Crews.{IsOpen}
 use Rattle.night_program.specs.Lasting.{FindsLeft, StoresWork}
 use Rattle.night_words.specs.declared.asked.View.{View}
 use Rattle.night_program.specs.Stores.{InspectEnds, view_text}
@@ -27,7 +28,7 @@ module _ {D : Type 0} (state : D → DiskState) where
   formatted_is_found given left next made disk honest finds =
       made.stores honest (state next).now (disk.only_now (state next).now finds.content)
 
-  start_is : (given : D) (p : State) (b : BookView D) → LiesWith state given p
+  pub start_is : (given : D) (p : State) (b : BookView D) → LiesWith state given p
       → Opens state given (Ok b) → b.session.start ≡ restarted p
   start_is given p b lies opens =
       ap (λ s. s.start) opens.answer.opened.session
@@ -74,7 +75,7 @@ module _ {D : Type 0} (state : D → DiskState) where
 
   pub crew_is_found : (given left next : D) (p : State) (workers : ℕ)
       (answer : Result Bool RunFault) (w0 w1 : Option (List ℕ)) → LiesWith state given p
-      → CrewEnds state given workers answer left w0 w1
+      → CrewEnds state IsOpen given workers answer left w0 w1
       → FindsLeft state given left next → StoresWork p (state next).now
   crew_is_found given left next p workers answer w0 w1 lies
       (inl (why, told, opens, same, promises)) finds = record {

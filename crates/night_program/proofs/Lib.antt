@@ -4,4 +4,5 @@ mod KnownTasks
 mod LastingLemmas
 mod Looking
 mod NameTexts
+mod RowLemmas
 mod TimedLemmas

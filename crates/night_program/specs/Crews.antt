@@ -1,24 +1,28 @@
 -- What a crew's night over a store comes to, and the look before it at the jobs of its tasks.
 use Rattle.std.specs.Prelude.{◌≡◌, ◌⊎◌, ℕ, Bool, true, false, List, Option, Some, None, Result, Ok}
-use Rattle.std.specs.Prelude.{Err}
+use Rattle.std.specs.Prelude.{Err, ⊤}
 use Rattle.run_model.specs.declared.faults.Fault.{Fault}
 use Rattle.run_model.specs.State.{State}
 use Rattle.run_disk.specs.Disk.{DiskState}
 use Rattle.book_model.specs.Openings.{HasRecovered, RecoversNone}
 use Rattle.console_lines.specs.declared.faults.RunFault.{RunFault}
 use Rattle.run_console.specs.Troubles.{stopped}
+use Rattle.run_crew.specs.Courses.{Call, IsGates}
 use Rattle.night_program.specs.declared.endings.Done.{Done}
 use Rattle.night_program.specs.declared.endings.Done.TheVariants.{Strayed, Unknown, Well}
 use Rattle.night_program.specs.declared.failures.Failure.{Failure}
-use Rattle.night_program.specs.declared.failures.FileFailure.{FileFailure}
 use Rattle.night_program.specs.declared.known.UnknownJob.{UnknownJob}
 use Rattle.night_program.specs.Failures.{FailsBy, Names}
 use Rattle.night_program.specs.Known.{unknown_in}
 
+-- The gate of a night lets each turn pass.
+abbrev pub IsOpen : Call → Type 0
+IsOpen call = IsGates (λ task turn answer. answer ≡ true) (λ task. ⊤) call
+
 -- What the program answers after a night: all is well, the audit strayed, or the same fault ended
 -- it.
 abbrev pub AnswersCrew :
-    (Option FileFailure → Type 0) → Result Bool RunFault → Result Done Failure → Type 0
+    (Failure → Type 0) → Result Bool RunFault → Result Done Failure → Type 0
 AnswersCrew Of (Ok true) answer = answer ≡ Ok Well
 AnswersCrew Of (Ok false) answer = answer ≡ Ok Strayed
 AnswersCrew Of (Err why) answer = FailsBy Of why answer

@@ -9,8 +9,8 @@ use Rattle.book_model.specs.Books.{BookView}
 use Rattle.console_lines.specs.declared.faults.RunFault.{RunFault}
 use Rattle.console_lines.specs.declared.faults.RunFault.TheVariants as fault
 use Rattle.console_lines.specs.declared.strays.StrayLine.{StrayLine}
-use Rattle.run_console.specs.Progress.{RunStops, RunsAll}
-use Rattle.run_console.specs.Strict.{RunsStrictly, StopsStrictly}
+use Rattle.run_console.specs.Progress.{RunEnds, RunStops}
+use Rattle.run_console.specs.declared.untils.Until.{Until}
 
 -- There is no book in memory: memory was wanting for it, or its store failed.
 abbrev pub IsUnopened : RunFault → Type 0
@@ -18,41 +18,21 @@ IsUnopened fault.Memory = Unit {0}
 IsUnopened (fault.Store why) = Unit {0}
 IsUnopened _ = ⊥
 
--- All lines of the input were run over a book that was just formatted and opened.
-abbrev pub IsRun : (r0 r1 w0 w1 : Option (List ℕ)) → Type 0
-IsRun r0 r1 w0 w1 =
+-- The lines of the input were run until then over a book that was just formatted and opened.
+abbrev pub IsRun : Until → Option StrayLine → (r0 r1 w0 w1 : Option (List ℕ)) → Type 0
+IsRun until stray r0 r1 w0 w1 =
     (b : BookView (MemoryDisk Global)) × (c : BookView (MemoryDisk Global))
-    × (b.session ≡ opened Small) × RunsAll state_of b c r0 r1 w0 w1
+    × (b.session ≡ opened Small) × RunEnds state_of until stray b c r0 r1 w0 w1
 
 -- A fault stopped such a run. Where there is no book, nothing was read and nothing was written.
-abbrev pub IsUnrun : RunFault → (r0 r1 w0 w1 : Option (List ℕ)) → Type 0
-IsUnrun why r0 r1 w0 w1 =
+abbrev pub IsUnrun : Until → RunFault → (r0 r1 w0 w1 : Option (List ℕ)) → Type 0
+IsUnrun until why r0 r1 w0 w1 =
     (IsUnopened why × (r1 ≡ r0) × (w1 ≡ w0))
     ⊎ ((b : BookView (MemoryDisk Global)) × (c : BookView (MemoryDisk Global))
-    × (b.session ≡ opened Small) × RunStops state_of why b c r0 r1 w0 w1)
+    × (b.session ≡ opened Small) × RunStops state_of until why b c r0 r1 w0 w1)
 
 -- One or the other, by the answer.
-abbrev pub DemoEnds : {T : Type 0} → Result T RunFault → (r0 r1 w0 w1 : Option (List ℕ)) → Type 0
-DemoEnds (Ok done) r0 r1 w0 w1 = IsRun r0 r1 w0 w1
-DemoEnds (Err why) r0 r1 w0 w1 = IsUnrun why r0 r1 w0 w1
-
--- ---- a strict run
-
--- The lines up to the first that strays were run over a book that was just formatted and opened.
-abbrev pub IsRunStrictly : Option StrayLine → (r0 r1 w0 w1 : Option (List ℕ)) → Type 0
-IsRunStrictly stray r0 r1 w0 w1 =
-    (b : BookView (MemoryDisk Global)) × (c : BookView (MemoryDisk Global))
-    × (b.session ≡ opened Small) × RunsStrictly state_of stray b c r0 r1 w0 w1
-
--- A fault stopped such a run. Where there is no book, nothing was read and nothing was written.
-abbrev pub IsUnrunStrictly : RunFault → (r0 r1 w0 w1 : Option (List ℕ)) → Type 0
-IsUnrunStrictly why r0 r1 w0 w1 =
-    (IsUnopened why × (r1 ≡ r0) × (w1 ≡ w0))
-    ⊎ ((b : BookView (MemoryDisk Global)) × (c : BookView (MemoryDisk Global))
-    × (b.session ≡ opened Small) × StopsStrictly state_of why b c r0 r1 w0 w1)
-
--- One or the other, by the answer.
-abbrev pub StrictDemoEnds :
-    Result (Option StrayLine) RunFault → (r0 r1 w0 w1 : Option (List ℕ)) → Type 0
-StrictDemoEnds (Ok stray) r0 r1 w0 w1 = IsRunStrictly stray r0 r1 w0 w1
-StrictDemoEnds (Err why) r0 r1 w0 w1 = IsUnrunStrictly why r0 r1 w0 w1
+abbrev pub DemoEnds : Until → Result (Option StrayLine) RunFault
+    → (r0 r1 w0 w1 : Option (List ℕ)) → Type 0
+DemoEnds until (Ok stray) r0 r1 w0 w1 = IsRun until stray r0 r1 w0 w1
+DemoEnds until (Err why) r0 r1 w0 w1 = IsUnrun until why r0 r1 w0 w1

@@ -1,6 +1,6 @@
 -- How the program ends: its exit status, and what standard error is told.
 use Rattle.std.specs.Prelude.{◌≡◌, ◌∷◌, ◌++◌, [], ℕ, Bool, true, List, Option, Result, Ok, Err}
-use Rattle.std.specs.Prelude.{codes}
+use Rattle.std.specs.Prelude.{IfSome, codes}
 use Rattle.std.specs.Fmt.{decimal}
 use Rattle.std.specs.Io.KnownBytes.{Appends}
 use Rattle.std.specs.Option.{option_map_or}
@@ -17,8 +17,7 @@ use Rattle.night_program.specs.declared.endings.Ended.{Ended}
 use Rattle.night_program.specs.declared.failures.Failure.{Failure}
 use Rattle.night_program.specs.declared.failures.FileFailure.{FileFailure}
 use Rattle.night_program.specs.declared.known.UnknownJob.{UnknownJob}
-use Rattle.night_program.specs.Failures.{name_text}
-use Rattle.store_files.specs.Reasons.{reason_text}
+use Rattle.night_program.specs.Failures.{IsStream, name_text, wrong_text}
 
 -- The exit status where a fault ended the program: want of memory is told from all else.
 abbrev pub fault_status : RunFault → ℕ
@@ -61,16 +60,21 @@ TellsDone (Stray line) told e0 e1 =
 TellsDone (Unknown unknown) told e0 e1 = Tells told (unknown_line unknown) e0 e1
 TellsDone _ told e0 e1 = (told ≡ true) × (e1 ≡ e0)
 
--- What standard error is told of a call of a file, as in `night: jobs.store: Permission denied`.
+-- What standard error is told of a file or a stream, as in `night: jobs.store: not a store`.
 abbrev pub file_line : FileFailure → List ℕ
 file_line file =
     codes "night: "
-    ++ (name_text file.name ++ (codes ": " ++ (reason_text file.reason ++ codes "\n")))
+    ++ (name_text file.name ++ (codes ": " ++ (wrong_text file.wrong ++ codes "\n")))
 
--- What standard error is told of a failure: the line of its fault, and after it that of the call
--- of a file which failed.
-abbrev pub failure_lines : Failure → List ℕ
-failure_lines failure = fault_line failure.fault ++ option_map_or file_line failure.file []
+-- So it is told, where one is to blame.
+abbrev pub blamed_line : Option FileFailure → List ℕ
+blamed_line file = option_map_or file_line file []
+
+-- What standard error is told of a failure: the line of its fault, and after it those of the file
+-- and of the stream that are to blame.
+abbrev pub failure_lines : Failure → (stream : Option FileFailure) → List ℕ
+failure_lines failure stream =
+    fault_line failure.fault ++ (blamed_line failure.file ++ blamed_line stream)
 
 -- What the words asked for came to this, or a fault ended it; and it is told.
 abbrev pub EndsBy : Result Done Failure → Ended → (e0 e1 : Option (List ℕ)) → Type 0
@@ -78,7 +82,8 @@ EndsBy (Ok done) ended e0 e1 =
     (ended.status ≡ done_status done) × TellsDone done ended.told e0 e1
 EndsBy (Err failure) ended e0 e1 =
     (ended.status ≡ fault_status failure.fault)
-    × Tells ended.told (failure_lines failure) e0 e1
+    × ((stream : Option FileFailure) × IfSome stream (IsStream failure.fault)
+    × Tells ended.told (failure_lines failure stream) e0 e1)
 
 -- The words asked for nothing, and it is told why.
 abbrev pub Refuses : WordsFault → Ended → (e0 e1 : Option (List ℕ)) → Type 0

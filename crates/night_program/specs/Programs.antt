@@ -21,16 +21,16 @@ use Rattle.night_words.specs.declared.asked.WordsFault.{WordsFault}
 use Rattle.night_program.specs.declared.endings.Done.{Done}
 use Rattle.night_program.specs.declared.endings.Ended.{Ended}
 use Rattle.night_program.specs.declared.failures.Failure.{Failure}
-use Rattle.night_program.specs.Crews.{AnswersCrew, IsLooked, StopsAt}
-use Rattle.night_program.specs.Demos.{DemoEnds, StrictDemoEnds}
+use Rattle.night_program.specs.Crews.{AnswersCrew, IsLooked, IsOpen, StopsAt}
+use Rattle.night_program.specs.Demos.{DemoEnds}
 use Rattle.night_program.specs.Endings.{EndsBy, Refuses}
 use Rattle.night_program.specs.Failures.{AnswersAlone, AnswersOver, AnswersStrict, HasNoFile}
-use Rattle.night_program.specs.Failures.{FailsBy, Names, NamesOne}
+use Rattle.night_program.specs.Failures.{FailsBy, Names, NamesOne, NamesSource}
 use Rattle.night_program.specs.Looks.{LookEnds}
 use Rattle.night_program.specs.Replacements.{DoesRenewInPlace}
 use Rattle.night_program.specs.Sources.{Serves, ServesNot, migrated_layout}
 use Rattle.night_program.specs.Stores.{FormatEnds, InspectEnds, MigrateEnds, Prints, RenewEnds}
-use Rattle.night_program.specs.Stores.{ScriptEnds, StrictEnds}
+use Rattle.night_program.specs.Stores.{ScriptEnds, until_of}
 use Rattle.night_program.specs.Timed.{DoesTimed}
 use Rattle.store_files.specs.Files.{FilesView, Holds, HoldsAlone, IsNotMade, IsSettled, Makes}
 
@@ -70,26 +70,17 @@ module _ {F D : Type 0} (state : D → DiskState) (seen : FilesView F D) where
 
   -- ---- script
 
-  -- The input was run over the store on this disk, all of it or, in a strict run, up to the first
-  -- line that strays.
-  abbrev pub RunsStore : (store : List ℕ) → (strict : Bool) → Result Done Failure
-      → (given left : D) → (r0 r1 w0 w1 : Option (List ℕ)) → Type 0
-  RunsStore store false answer given left r0 r1 w0 w1 =
-      (done : Result ⊤ RunFault) × ScriptEnds state given done left r0 r1 w0 w1
-      × AnswersOver (Names store) done answer
-  RunsStore store true answer given left r0 r1 w0 w1 =
-      (done : Result (Option StrayLine) RunFault) × StrictEnds state given done left r0 r1 w0 w1
-      × AnswersStrict (Names store) done answer
-
-  -- The file of this name was opened, and the input run over the store in it; and it is the disk
-  -- that the run left.
+  -- The file of this name was opened, and the input run over the store in it, all of it or, in a
+  -- strict run, up to the first line that strays; and it is the disk that the run left.
   pub record Scripts (store : List ℕ) (strict : Bool) (answer : Result Done Failure)
       (f0 f1 : F) (r0 r1 w0 w1 : Option (List ℕ)) : Type 0 where
     pub given : D
     pub left : D
     pub held : HoldsAlone seen seen.opens store given left f0 f1
     pub settled : IsSettled (state given)
-    pub runs : RunsStore store strict answer given left r0 r1 w0 w1
+    pub done : Result (Option StrayLine) RunFault
+    pub runs : ScriptEnds state (until_of strict) given done left r0 r1 w0 w1
+    pub answers : AnswersStrict (Names store) done answer
 
   abbrev pub DoesScript : List ℕ → (strict : Bool) → Result Done Failure → (f0 f1 : F)
       → (r0 r1 w0 w1 : Option (List ℕ)) → Type 0
@@ -139,7 +130,8 @@ module _ {F D : Type 0} (state : D → DiskState) (seen : FilesView F D) where
     pub held : HoldsAlone seen seen.shows old source read f0 f1
     pub settled : IsSettled (state source)
     pub none : ServesNot state (of source) source why read
-    pub answers : FailsBy (Names old) (stopped why) answer
+    pub answers :
+        FailsBy (NamesSource (layout_of (state source).size) (of source) old) (stopped why) answer
 
   -- The store in the file of the old name was read whole, and that of the new one couldn't be made
   -- anew. The old file is the disk that was read.
@@ -221,7 +213,7 @@ module _ {F D : Type 0} (state : D → DiskState) (seen : FilesView F D) where
     pub held : HoldsAlone seen seen.opens store given left f0 f1
     pub settled : IsSettled (state given)
     pub looked : IsLooked state known given begun
-    pub works : CrewEnds state begun workers done left w0 w1
+    pub works : CrewEnds state IsOpen begun workers done left w0 w1
     pub answers : AnswersCrew (Names store) done answer
 
   -- The file of this name was opened and read alone: it wasn't known what is in it, or it has tasks
@@ -250,11 +242,9 @@ module _ {F D : Type 0} (state : D → DiskState) (seen : FilesView F D) where
   -- that strays.
   abbrev pub DoesDemo : (strict : Bool) → Result Done Failure
       → (r0 r1 w0 w1 : Option (List ℕ)) → Type 0
-  DoesDemo false answer r0 r1 w0 w1 =
-      (done : Result ⊤ RunFault) × DemoEnds done r0 r1 w0 w1 × AnswersAlone done answer
-  DoesDemo true answer r0 r1 w0 w1 =
-      (done : Result (Option StrayLine) RunFault) × StrictDemoEnds done r0 r1 w0 w1
-      × AnswersStrict (λ file. file ≡ None) done answer
+  DoesDemo strict answer r0 r1 w0 w1 =
+      (done : Result (Option StrayLine) RunFault) × DemoEnds (until_of strict) done r0 r1 w0 w1
+      × AnswersStrict (λ failure. failure.file ≡ None) done answer
 
   -- A text was printed.
   abbrev pub DoesPrint : List ℕ → Result Done Failure → (w0 w1 : Option (List ℕ)) → Type 0

@@ -4,16 +4,17 @@ use Rattle.std.specs.Prelude.{◌≡◌, ◌⊎◌, ℕ, true, List, Option, Som
 use Rattle.run_model.specs.declared.layouts.Layout.{Layout}
 use Rattle.run_model.specs.Layouts.{layout_of}
 use Rattle.run_disk.specs.Disk.{DiskState}
+use Rattle.book_model.specs.declared.migrations.MigrateFault.{MigrateFault}
 use Rattle.console_lines.specs.declared.faults.RunFault.{RunFault}
 use Rattle.console_lines.specs.declared.faults.RunFault.TheVariants.{Memory}
 use Rattle.night_program.specs.declared.endings.Done.{Done}
 use Rattle.night_program.specs.declared.failures.Failure.{Failure}
 use Rattle.night_program.specs.declared.renewals.Kept.{Kept}
 use Rattle.night_program.specs.Failures.{AnswersAlone, AnswersOver, FailsBy, HasNoFile, HasNoSize}
-use Rattle.night_program.specs.Failures.{IsUnput, Names, NamesOne}
+use Rattle.night_program.specs.Failures.{IsUnput, Names, NamesBeside}
 use Rattle.store_files.specs.Files.{FilesView, Holds, HoldsAlone, IsKept, IsNotMade, IsReplaced}
 use Rattle.store_files.specs.Files.{IsSettled, Makes, beside}
-use Rattle.night_program.specs.Stores.{Prints, Remakes, sizes_line}
+use Rattle.night_program.specs.Stores.{Prints, Remakes, sizes_line, unmigrated}
 
 module _ {F D : Type 0} (state : D → DiskState) (seen : FilesView F D) where
   -- The file of this name was had for this program alone, and taken away; or nothing was done.
@@ -52,7 +53,7 @@ module _ {F D : Type 0} (state : D → DiskState) (seen : FilesView F D) where
   -- A store was made in the file beside the one of this name, of what was read there. Then it was
   -- put in its place, and how much is left was printed; or it couldn't be put there, which is told.
   -- Or none was made.
-  abbrev pub Puts : (store : List ℕ) → Result Kept RunFault → (read left : D)
+  abbrev pub Puts : (store : List ℕ) → Result Kept MigrateFault → (read left : D)
       → Result Done Failure → (f0 f1 : F) → (w0 w1 : Option (List ℕ)) → Type 0
   Puts store (Ok kept) read left answer f0 f1 w0 w1 =
       (IsReplaced seen left (beside store) store f0 f1
@@ -62,7 +63,7 @@ module _ {F D : Type 0} (state : D → DiskState) (seen : FilesView F D) where
       × ((failure : Failure) × (answer ≡ Err failure) × IsUnput store failure) × (w1 ≡ w0))
   Puts store (Err why) read left answer f0 f1 w0 w1 =
       IsNotBeside store read f0 f1
-      × FailsBy (NamesOne store (beside store)) why answer × (w1 ≡ w0)
+      × FailsBy (NamesBeside why store) (unmigrated why) answer × (w1 ≡ w0)
 
   -- The store on the one disk was renewed to the other one, the file beside, and that put in its
   -- place.
@@ -70,7 +71,7 @@ module _ {F D : Type 0} (state : D → DiskState) (seen : FilesView F D) where
       (f0 f1 : F) (w0 w1 : Option (List ℕ)) : Type 0 where
     pub read : D
     pub left : D
-    pub done : Result Kept RunFault
+    pub done : Result Kept MigrateFault
     pub remakes : Remakes state state source given done read left
     pub puts : Puts store done read left answer f0 f1 w0 w1
 

@@ -1,6 +1,6 @@
 -- What each word does to a store, by what its disk was and what is left of it.
 use Rattle.std.specs.Prelude.{◌≡◌, ◌⊎◌, ◌++◌, ℕ, List, Option, Result, Ok, Err, codes}
-use Rattle.std.specs.Prelude.{length, option_map}
+use Rattle.std.specs.Prelude.{Bool, true, false, length, option_map}
 use Rattle.std.specs.Fmt.{decimal}
 use Rattle.std.specs.Io.KnownBytes.{Appends}
 use Rattle.run_model.specs.declared.faults.Fault.{Fault}
@@ -20,12 +20,14 @@ use Rattle.console_lines.specs.Entries.{json_text}
 use Rattle.console_lines.specs.Inspected.{inspected}
 use Rattle.console_lines.specs.Listed.{listed}
 use Rattle.console_lines.specs.Progress.{WritesPart}
+use Rattle.console_lines.specs.Summaries.{summary_text}
 use Rattle.console_lines.specs.Trees.{tree_text}
-use Rattle.run_console.specs.Progress.{BeginsScript, Lasts, RunStops, RunsAll}
-use Rattle.run_console.specs.Strict.{RunsStrictly, StopsStrictly}
+use Rattle.run_console.specs.Progress.{BeginsScript, Lasts, RunEnds, RunStops}
 use Rattle.run_console.specs.Troubles.{stopped}
+use Rattle.run_console.specs.declared.untils.Until.{Until}
+use Rattle.run_console.specs.declared.untils.Until.TheVariants.{End, FirstStray}
 use Rattle.night_words.specs.declared.asked.View.{View}
-use Rattle.night_words.specs.declared.asked.View.TheVariants.{Whole, Tasks, Json, Tree}
+use Rattle.night_words.specs.declared.asked.View.TheVariants.{Json, Summary, Tasks, Tree, Whole}
 use Rattle.night_program.specs.declared.renewals.Kept.{Kept}
 use Rattle.night_program.specs.declared.renewals.Sizes.{Sizes}
 
@@ -49,20 +51,19 @@ FormatEnds state given answer left w0 w1 =
 
 -- ---- script
 
--- All lines of the input were run, and at the end all events are durable; or a fault stopped the
--- run.
-abbrev pub Runs : {T D : Type 0} → (D → DiskState) → Result T RunFault
-    → (r0 r1 w0 w1 : Option (List ℕ)) → BookView D → BookView D → Type 0
-Runs state (Ok done) r0 r1 w0 w1 b c = RunsAll state b c r0 r1 w0 w1
-Runs state (Err why) r0 r1 w0 w1 b c =
-    RunStops state why b c r0 r1 w0 w1 × BeginsScript why b.session r0 r1 w0 w1
+-- A strict run goes on up to the first line that strays, any other to the end of its input.
+abbrev pub until_of : (strict : Bool) → Until
+until_of true = FirstStray
+until_of false = End
 
--- The lines up to the first that strays were run, and at the end all events are durable; or a fault
--- stopped the run.
-abbrev pub RunsStrict : {D : Type 0} → (D → DiskState) → Result (Option StrayLine) RunFault
+-- The lines of the input were run until then, and at the end all events are durable; or a fault
+-- stopped the run, and what was written of an input that was to be run whole begins its script.
+abbrev pub Runs : {D : Type 0} → (D → DiskState) → Until → Result (Option StrayLine) RunFault
     → (r0 r1 w0 w1 : Option (List ℕ)) → BookView D → BookView D → Type 0
-RunsStrict state (Ok stray) r0 r1 w0 w1 b c = RunsStrictly state stray b c r0 r1 w0 w1
-RunsStrict state (Err why) r0 r1 w0 w1 b c = StopsStrictly state why b c r0 r1 w0 w1
+Runs state until (Ok stray) r0 r1 w0 w1 b c = RunEnds state until stray b c r0 r1 w0 w1
+Runs state until (Err why) r0 r1 w0 w1 b c =
+    RunStops state until why b c r0 r1 w0 w1
+    × (until ≡ End → BeginsScript why b.session r0 r1 w0 w1)
 
 -- A book was opened over the disk, the input was run over it so, and the disk is left as it held
 -- it.
@@ -86,16 +87,10 @@ EndsOver state Ran given answer left r0 r1 w0 w1 =
     ⊎ ((why : Fault) × (answer ≡ Err (stopped why)) × Opens state given (Err (why, left))
     × (r1 ≡ r0) × (w1 ≡ w0))
 
-abbrev pub ScriptEnds : {T D : Type 0} → (D → DiskState) → (given : D)
-    → Result T RunFault → (left : D) → (r0 r1 w0 w1 : Option (List ℕ)) → Type 0
-ScriptEnds state given answer left r0 r1 w0 w1 =
-    EndsOver state (Runs state answer r0 r1 w0 w1) given answer left r0 r1 w0 w1
-
--- So it is where the run is strict.
-abbrev pub StrictEnds : {D : Type 0} → (D → DiskState) → (given : D)
+abbrev pub ScriptEnds : {D : Type 0} → (D → DiskState) → Until → (given : D)
     → Result (Option StrayLine) RunFault → (left : D) → (r0 r1 w0 w1 : Option (List ℕ)) → Type 0
-StrictEnds state given answer left r0 r1 w0 w1 =
-    EndsOver state (RunsStrict state answer r0 r1 w0 w1) given answer left r0 r1 w0 w1
+ScriptEnds state until given answer left r0 r1 w0 w1 =
+    EndsOver state (Runs state until answer r0 r1 w0 w1) given answer left r0 r1 w0 w1
 
 -- ---- inspect
 
@@ -109,13 +104,14 @@ Shows text state old answer new w0 w1 =
     × (w1 ≡ w0))
 
 -- What a view shows of a state: all that it holds, the lines of its tasks alone, or of those in a
--- phase and of a group, all of it as one object of JSON, or as a tree.
+-- phase and of a group, all of it as one object of JSON, as a tree, or its summary.
 abbrev pub view_text : View → State → List ℕ
 view_text Whole p = inspected p
 view_text (Tasks phase group) p =
     listed (option_map (λ word. word.now) phase) (option_map (λ word. word.now) group) p
 view_text Json p = json_text p
 view_text Tree p = tree_text p
+view_text Summary p = summary_text p
 
 -- What the view shows of it was printed.
 abbrev pub InspectEnds : {T D : Type 0} → View → (D → DiskState) → (old : D)
@@ -195,25 +191,24 @@ pub record HasRemade {D E : Type 0} (from : D → DiskState) (to : E → DiskSta
 -- Why not, and what is left of the two disks: the old store wasn't read, and nothing was made; or
 -- none was made of it; or one was, which wasn't read.
 abbrev pub RemakesNot : {D E : Type 0} → (D → DiskState) → (E → DiskState) → (old : D)
-    → (given : E) → RunFault → (read : D) → (left : E) → Type 0
+    → (given : E) → MigrateFault → (read : D) → (left : E) → Type 0
 RemakesNot {D = D} {E = E} from to old given fault read left =
-    ((why : Fault) × (fault ≡ stopped why) × RecoversNone from old why read × (left ≡ given))
+    ((why : Fault) × (fault ≡ of_two.Old why) × RecoversNone from old why read × (left ≡ given))
     ⊎ ((p : State) × (seen : D) × HasRecovered p (from old) (from seen)
-    × (((why : MigrateFault) × (fault ≡ unmigrated why)
-    × Renews from to seen given (Err (why, left)) read)
-    ⊎ ((made : E) × (why : Fault) × (fault ≡ stopped why)
+    × (Renews from to seen given (Err (fault, left)) read
+    ⊎ ((made : E) × (why : Fault) × (fault ≡ of_two.New why)
     × Renews from to seen given (Ok made) read × RecoversNone to made why left)))
 
 abbrev pub Remakes : {D E : Type 0} → (D → DiskState) → (E → DiskState) → (old : D)
-    → (given : E) → Result Kept RunFault → (read : D) → (left : E) → Type 0
+    → (given : E) → Result Kept MigrateFault → (read : D) → (left : E) → Type 0
 Remakes from to old given (Ok kept) read left = HasRemade from to old given kept read left
 Remakes from to old given (Err fault) read left = RemakesNot from to old given fault read left
 
 -- What is left was printed; or nothing was, since there is nothing: the same fault tells why.
-abbrev pub PrintsKept : {T : Type 0} → Result Kept RunFault → Result T RunFault
+abbrev pub PrintsKept : {T : Type 0} → Result Kept MigrateFault → Result T RunFault
     → (w0 w1 : Option (List ℕ)) → Type 0
 PrintsKept (Ok kept) answer w0 w1 = Prints (sizes_line kept.before kept.left) answer w0 w1
-PrintsKept (Err fault) answer w0 w1 = (answer ≡ Err fault) × (w1 ≡ w0)
+PrintsKept (Err why) answer w0 w1 = (answer ≡ Err (unmigrated why)) × (w1 ≡ w0)
 
 -- The old store was read, then renewed, and shown how much of it the new one stores; or not, and
 -- nothing was printed.
@@ -221,5 +216,5 @@ abbrev pub RenewEnds : {T D E : Type 0} → (D → DiskState) → (E → DiskSta
     → (given : E) → Result T RunFault → (read : D) → (left : E)
     → (w0 w1 : Option (List ℕ)) → Type 0
 RenewEnds from to old given answer read left w0 w1 =
-    (done : Result Kept RunFault) × Remakes from to old given done read left
+    (done : Result Kept MigrateFault) × Remakes from to old given done read left
     × PrintsKept done answer w0 w1

@@ -1,15 +1,16 @@
 -- A script whose input comes with the machine's time before its lines.
-use Rattle.std.specs.Prelude.{◌≡◌, ◌⊎◌, ℕ, Bool, true, false, List, Option, ⊤, Result}
+use Rattle.std.specs.Prelude.{◌≡◌, ◌⊎◌, ℕ, Bool, List, Option, Result}
 use Rattle.run_disk.specs.Disk.{DiskState}
 use Rattle.book_model.specs.Books.{BookView}
 use Rattle.console_lines.specs.declared.faults.RunFault.{RunFault}
 use Rattle.console_lines.specs.declared.strays.StrayLine.{StrayLine}
+use Rattle.run_console.specs.declared.untils.Until.{Until}
 use Rattle.timed_input.specs.Timed.{timed_known}
 use Rattle.night_program.specs.declared.endings.Done.{Done}
 use Rattle.night_program.specs.declared.failures.Failure.{Failure}
-use Rattle.night_program.specs.Failures.{AnswersOver, AnswersStrict, HasNoFile, Names}
+use Rattle.night_program.specs.Failures.{AnswersStrict, HasNoFile, Names}
 use Rattle.store_files.specs.Files.{FilesView, HoldsAlone, IsSettled}
-use Rattle.night_program.specs.Stores.{EndsOver, Runs, RunsStrict}
+use Rattle.night_program.specs.Stores.{EndsOver, Runs, until_of}
 
 -- The input was run so (Ran), with the time before its lines: the moments that the clock told, from
 -- the clock of the state on over which they are run. How much of it is left isn't told.
@@ -21,43 +22,26 @@ RunsTimed moments Ran r0 b c =
 
 -- The store was opened, and the input run over it with the time before its lines. Or it was not
 -- opened, and nothing was read or printed: the fault tells why.
-abbrev pub TimedEnds : {T D : Type 0} → (moments : Option (List ℕ)) → (D → DiskState)
-    → (given : D) → Result T RunFault → (left : D) → (r0 r1 w0 w1 : Option (List ℕ)) → Type 0
-TimedEnds moments state given answer left r0 r1 w0 w1 =
-    EndsOver state (RunsTimed moments (λ s0 s1. Runs state answer s0 s1 w0 w1) r0)
-    given answer left r0 r1 w0 w1
-
--- So it is where the run is strict.
-abbrev pub StrictTimedEnds : {D : Type 0} → (moments : Option (List ℕ)) → (D → DiskState)
+abbrev pub TimedEnds : {D : Type 0} → (moments : Option (List ℕ)) → (D → DiskState) → Until
     → (given : D) → Result (Option StrayLine) RunFault → (left : D)
     → (r0 r1 w0 w1 : Option (List ℕ)) → Type 0
-StrictTimedEnds moments state given answer left r0 r1 w0 w1 =
-    EndsOver state (RunsTimed moments (λ s0 s1. RunsStrict state answer s0 s1 w0 w1) r0)
+TimedEnds moments state until given answer left r0 r1 w0 w1 =
+    EndsOver state (RunsTimed moments (λ s0 s1. Runs state until answer s0 s1 w0 w1) r0)
     given answer left r0 r1 w0 w1
 
 module _ {F D : Type 0} (state : D → DiskState) (seen : FilesView F D)
     (moments : Option (List ℕ)) where
-  -- The input was run so over the store on this disk, all of it or, in a strict run, up to the
-  -- first line that strays.
-  abbrev pub RunsStoreTimed : (store : List ℕ) → (strict : Bool) → Result Done Failure
-      → (given left : D) → (r0 r1 w0 w1 : Option (List ℕ)) → Type 0
-  RunsStoreTimed store false answer given left r0 r1 w0 w1 =
-      (done : Result ⊤ RunFault) × TimedEnds moments state given done left r0 r1 w0 w1
-      × AnswersOver (Names store) done answer
-  RunsStoreTimed store true answer given left r0 r1 w0 w1 =
-      (done : Result (Option StrayLine) RunFault)
-      × StrictTimedEnds moments state given done left r0 r1 w0 w1
-      × AnswersStrict (Names store) done answer
-
-  -- The file of this name was opened, and the input run so over the store in it; and it is the disk
-  -- that the run left.
+  -- The file of this name was opened, and the input run so over the store in it, all of it or, in a
+  -- strict run, up to the first line that strays; and it is the disk that the run left.
   pub record ScriptsTimed (store : List ℕ) (strict : Bool) (answer : Result Done Failure)
       (f0 f1 : F) (r0 r1 w0 w1 : Option (List ℕ)) : Type 0 where
     pub given : D
     pub left : D
     pub held : HoldsAlone seen seen.opens store given left f0 f1
     pub settled : IsSettled (state given)
-    pub runs : RunsStoreTimed store strict answer given left r0 r1 w0 w1
+    pub done : Result (Option StrayLine) RunFault
+    pub runs : TimedEnds moments state (until_of strict) given done left r0 r1 w0 w1
+    pub answers : AnswersStrict (Names store) done answer
 
   abbrev pub DoesTimed : List ℕ → (strict : Bool) → Result Done Failure → (f0 f1 : F)
       → (r0 r1 w0 w1 : Option (List ℕ)) → Type 0

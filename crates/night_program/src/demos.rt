@@ -1,14 +1,14 @@
 //! The input run over a book in memory, which keeps nothing.
 
-ghost use Rattle.std.specs.Prelude.{◌≡◌, false, IfErr, IfOk, OnOk};
+ghost use Rattle.std.specs.Prelude.{◌≡◌, false, IfOk};
 ghost use Rattle.run_model.specs.declared.layouts.Layout.TheVariants.{Small};
 ghost use Rattle.run_model.specs.Layouts.{store_len};
 ghost use Rattle.run_model.specs.Session.{opened, begun_at};
 ghost use Rattle.book_model.specs.Openings.{HasFormatted, HasOpened};
-ghost use Rattle.night_program.specs.Demos.{IsRun, IsUnopened, IsUnrun, StrictDemoEnds};
+ghost use Rattle.night_program.specs.Demos.{DemoEnds, IsUnopened};
 
 use console_lines::{RunFault, StrayLine};
-use run_console::{Book, run, run_strict};
+use run_console::{Book, Until, run_until};
 use run_disk::{MemoryDisk, RunDisk};
 use run_model::{Fault, Trouble};
 use std::alloc::Global;
@@ -17,36 +17,22 @@ use std::io::{Read, Write};
 /// How many bytes a small store has.
 const SMALL_STORE: usize = 1_572_864;
 
-/// Runs the lines of the input over a book in memory, which was just formatted and opened. If there
-/// is no memory for the book, nothing is read and nothing written.
-pub fn demo<R: Read, W: Write>(alloc: Global, input: &mut R, output: &mut W) -> Result<(), RunFault>
-    ensures all { OnOk result (IsRun (R.remaining input.old) (R.remaining input.new)
-        (W.contents output.old) (W.contents output.new)) }
-    ensures stops { IfErr result (λ fault. IsUnrun fault
-        (R.remaining input.old) (R.remaining input.new)
-        (W.contents output.old) (W.contents output.new)) }
-{
-    let mut book = match small_book(alloc) {
-        Ok(book) => book,
-        Err(fault) => return Err(not_opened(fault)),
-    };
-    run(alloc, input, output, &mut book)
-}
-
-/// So does [`demo`], up to the first line that strays, and returns which it is.
-pub fn demo_strict<R: Read, W: Write>(
+/// Runs the lines of the input until then over a book in memory, which was just formatted and
+/// opened. If there is no memory for the book, nothing is read and nothing written.
+pub fn demo<R: Read, W: Write>(
     alloc: Global,
+    until: Until,
     input: &mut R,
     output: &mut W,
 ) -> Result<Option<StrayLine>, RunFault>
-    ensures { StrictDemoEnds result (R.remaining input.old) (R.remaining input.new)
+    ensures { DemoEnds until result (R.remaining input.old) (R.remaining input.new)
         (W.contents output.old) (W.contents output.new) }
 {
     let mut book = match small_book(alloc) {
         Ok(book) => book,
         Err(fault) => return Err(not_opened(fault)),
     };
-    run_strict(alloc, input, output, &mut book)
+    run_until(alloc, input, output, &mut book, until)
 }
 
 /// What a fault of an opening is to a run.

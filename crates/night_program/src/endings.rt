@@ -2,14 +2,16 @@
 
 ghost use Rattle.std.specs.Prelude.{◌≡◌};
 ghost use Rattle.night_program.specs.Endings.{EndsBy, Refuses, Tells, TellsDone, done_status};
-ghost use Rattle.night_program.specs.Endings.{failure_lines, fault_status, file_line};
+ghost use Rattle.night_program.specs.Endings.{blamed_line, failure_lines, fault_status, file_line};
 ghost use Rattle.night_program.specs.Endings.{unknown_line, words_status};
 
 use crate::failures::{Failure, FileFailure};
 use crate::known::UnknownJob;
+use crate::streams::Streams;
 use console_lines::{RunFault, StrayLine};
 use night_words::WordsFault;
 use std::io::Write;
+use store_files::Why;
 
 /// How the program ended.
 #[derive(Clone, Copy, Debug, PartialEq, Eq)]
@@ -36,10 +38,14 @@ pub enum Done {
 }
 
 /// Ends what the words asked for. A fault is printed in one line, as in `night: fault 3 NotAStore`,
-/// and a call of a file that failed in another, as in `night: jobs.store: No such file or
-/// directory`; so is a line at which a strict run ended, as in `night: line 7: bad line`. What
-/// strays in an audit is printed by its own line.
-pub fn end<E: Write>(answer: &Result<Done, Failure<'_>>, errors: &mut E) -> Ended
+/// and in another which file or stream is to blame and why, as in `night: jobs.store: not a store`;
+/// so is a line at which a strict run ended, as in `night: line 7: bad line`. What strays in an
+/// audit is printed by its own line.
+pub fn end<E: Write, Y: Why + Drop>(
+    answer: &Result<Done, Failure<'_>>,
+    streams: &Streams<Y>,
+    errors: &mut E,
+) -> Ended
     ensures { EndsBy answer.now result (E.contents errors.old) (E.contents errors.new) }
 {
     match answer {
@@ -47,10 +53,13 @@ pub fn end<E: Write>(answer: &Result<Done, Failure<'_>>, errors: &mut E) -> Ende
             status: status_of(done),
             told: tell_done(done, errors),
         },
-        Err(failure) => Ended {
-            status: fault_status(failure.fault),
-            told: tell(failure, errors),
-        },
+        Err(failure) => {
+            let stream = streams.blamed(failure.fault);
+            Ended {
+                status: fault_status(failure.fault),
+                told: tell(failure, &stream, errors),
+            }
+        }
     }
 }
 
@@ -117,27 +126,37 @@ fn tell_unknown<E: Write>(unknown: &UnknownJob, errors: &mut E) -> bool
     writeln!(errors, "night: unknown job {job}; tasks {tasks}").is_ok()
 }
 
-/// Writes the line of a fault, and that of a call of a file after it, and returns whether all was
-/// written.
-fn tell<E: Write>(failure: &Failure<'_>, errors: &mut E) -> bool
-    ensures { Tells result (failure_lines failure.now)
+/// Writes the line of a fault, and those of the file and of the stream that are to blame after it,
+/// and returns whether all was written.
+fn tell<E: Write>(failure: &Failure<'_>, stream: &Option<FileFailure<'_>>, errors: &mut E) -> bool
+    ensures { Tells result (failure_lines failure.now stream.now)
         (E.contents errors.old) (E.contents errors.new) }
 {
     let line = failure.fault;
     if writeln!(errors, "night: {line}").is_err() {
         return false;
     }
-    match &failure.file {
+    if !tell_blamed(&failure.file, errors) {
+        return false;
+    }
+    tell_blamed(stream, errors)
+}
+
+/// Writes which file is to blame, if one is, and for what.
+fn tell_blamed<E: Write>(file: &Option<FileFailure<'_>>, errors: &mut E) -> bool
+    ensures { Tells result (blamed_line file.now) (E.contents errors.old) (E.contents errors.new) }
+{
+    match file {
         Some(file) => tell_file(file, errors),
         None => true,
     }
 }
 
-/// Writes which file a call failed of, and why.
+/// Writes which file is to blame, and for what.
 fn tell_file<E: Write>(file: &FileFailure<'_>, errors: &mut E) -> bool
     ensures { Tells result (file_line file.now) (E.contents errors.old) (E.contents errors.new) }
 {
     let name = &file.name;
-    let reason = &file.reason;
-    writeln!(errors, "night: {name}: {reason}").is_ok()
+    let wrong = &file.wrong;
+    writeln!(errors, "night: {name}: {wrong}").is_ok()
 }

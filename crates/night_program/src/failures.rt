@@ -2,27 +2,31 @@
 
 ghost use Rattle.std.specs.Prelude.{◌≡◌, None, Some};
 ghost use Rattle.night_program.specs.Failures.{AnswersAlone, AnswersOver, AnswersStrict};
-ghost use Rattle.night_program.specs.Failures.{IsNoFile, IsUnput, Names, NamesOne, blamed};
-ghost use Rattle.night_program.specs.Failures.{fault_of, name_text};
+ghost use Rattle.night_program.specs.Failures.{IsNoFile, IsUnput, Names, NamesBeside, NamesBy};
+ghost use Rattle.night_program.specs.Failures.{NamesOne, NamesSource, blamed, fault_of, name_text};
+ghost use Rattle.night_program.specs.Stores.{unmigrated};
 
 use crate::endings::Done;
+use crate::migrations::unmigrated;
+use crate::wrongs::Wrong;
 use console_lines::{RunFault, StrayLine};
-use run_model::{Fault, Trouble};
+use run_book::MigrateFault;
+use run_model::{Fault, Layout, Trouble};
 use std::fmt;
 use store_files::{BESIDE, Reason, Why};
 
-/// The fault that ended what the words asked for, and the call of a file that failed, if one did.
+/// The fault that ended what the words asked for, and the file that is to blame, if one is.
 #[derive(Drop)]
 pub struct Failure<'a> {
     pub fault: RunFault,
     pub file: Option<FileFailure<'a>>,
 }
 
-/// A call of a file failed: which file, and why.
+/// A file, and what is wrong with it.
 #[derive(Drop)]
 pub struct FileFailure<'a> {
     pub name: FileName<'a>,
-    pub reason: Reason,
+    pub wrong: Wrong,
 }
 
 /// The name of a file, as it is printed.
@@ -32,6 +36,8 @@ pub enum FileName<'a> {
     Own(&'a str),
     /// The file beside the one of this name, in which a renewal in place makes its new store.
     Beside(&'a str),
+    StandardInput,
+    StandardOutput,
 }
 
 impl fmt::Display for FileName<'_> {
@@ -44,6 +50,8 @@ impl fmt::Display for FileName<'_> {
                 f.write_str(name)?;
                 f.write_str(BESIDE)
             }
+            FileName::StandardInput => f.write_str("standard input"),
+            FileName::StandardOutput => f.write_str("standard output"),
         }
     }
 }
@@ -61,7 +69,18 @@ pub fn not_had<'a>(name: FileName<'a>, reason: Reason) -> Failure<'a>
 {
     Failure {
         fault: fault_of(&reason),
-        file: Some(FileFailure { name, reason }),
+        file: Some(of_call(name, reason)),
+    }
+}
+
+/// A file of which a call failed.
+pub fn of_call<'a>(name: FileName<'a>, reason: Reason) -> FileFailure<'a>
+    ensures name { result.name ≡ name.entry }
+    ensures wrong { result.wrong ≡ Wrong.Call reason }
+{
+    FileFailure {
+        name,
+        wrong: Wrong::Call(reason),
     }
 }
 
@@ -89,7 +108,7 @@ pub fn not_put<'a>(store: &'a str, reason: Reason) -> Failure<'a>
     let name = blamed(store, &reason);
     Failure {
         fault,
-        file: Some(FileFailure { name, reason }),
+        file: Some(of_call(name, reason)),
     }
 }
 
@@ -108,24 +127,63 @@ fn blamed<'a>(store: &'a str, reason: &Reason) -> FileName<'a>
     }
 }
 
-/// A fault of what was done over the file of this name.
+/// A fault of what was done over the file of this name: why a call of it failed is printed, or else
+/// what the fault says of what it holds.
 pub fn failed_over<'a, Y: Why>(fault: RunFault, name: &'a str, why: &Y) -> Failure<'a>
     ensures fault { result.fault ≡ fault }
-    ensures file { Names name.now result.file }
+    ensures file { Names name.now result }
 {
-    failed(fault, FileName::Own(name), why)
+    let file = failed(FileName::Own(name), why, Wrong::of(fault));
+    Failure { fault, file }
 }
 
-/// So does [`failed_over`], of any file.
-fn failed<'a, Y: Why>(fault: RunFault, name: FileName<'a>, why: &Y) -> Failure<'a>
+/// So does [`failed_over`], of a file that has the size of a store of the layout `from`, if of any,
+/// and of which a store of the layout `to` was to be made, if of any.
+pub fn failed_source<'a, Y: Why>(
+    fault: RunFault,
+    from: Option<Layout>,
+    to: Option<Layout>,
+    name: &'a str,
+    why: &Y,
+) -> Failure<'a>
     ensures fault { result.fault ≡ fault }
-    ensures file { Names (name_text name.entry) result.file }
+    ensures file { NamesSource from to name.now result }
 {
-    let file = match why.reason() {
-        Some(reason) => Some(FileFailure { name, reason }),
-        None => None,
-    };
+    let file = failed(FileName::Own(name), why, Wrong::of_source(from, to, fault));
     Failure { fault, file }
+}
+
+/// Why no store was made in the file beside the one of this name, of what is in it: the one or the
+/// other is to blame.
+pub fn failed_beside<'a, Y: Why>(
+    fault: MigrateFault,
+    store: &'a str,
+    why: &Y,
+    why_beside: &Y,
+) -> Failure<'a>
+    ensures fault { result.fault ≡ unmigrated fault }
+    ensures file { NamesBeside fault store.now result }
+{
+    let told = unmigrated(fault);
+    let file = match fault {
+        MigrateFault::Memory => None,
+        MigrateFault::Old(_) => failed(FileName::Own(store), why, Wrong::of(told)),
+        MigrateFault::New(_) => failed(FileName::Beside(store), why_beside, Wrong::of(told)),
+    };
+    Failure { fault: told, file }
+}
+
+/// The file of this name, of which a call failed, or else with what is wrong with what it holds.
+fn failed<'a, Y: Why>(name: FileName<'a>, why: &Y, held: Option<Wrong>) -> Option<FileFailure<'a>>
+    ensures { NamesBy held (name_text name.entry) result }
+{
+    match why.reason() {
+        Some(reason) => Some(of_call(name, reason)),
+        None => match held {
+            Some(wrong) => Some(FileFailure { name, wrong }),
+            None => None,
+        },
+    }
 }
 
 /// What came of what was done over the file of this name.
@@ -159,7 +217,7 @@ pub fn strict_over<'a, Y: Why>(
 
 /// What came of a strict run without a file.
 pub fn strict_alone<'a>(done: Result<Option<StrayLine>, RunFault>) -> Result<Done, Failure<'a>>
-    ensures { AnswersStrict (λ file. file ≡ None) done result }
+    ensures { AnswersStrict (λ failure. failure.file ≡ None) done result }
 {
     match done {
         Ok(None) => Ok(Done::Well),
@@ -168,8 +226,8 @@ pub fn strict_alone<'a>(done: Result<Option<StrayLine>, RunFault>) -> Result<Don
     }
 }
 
-/// What came of what was done over two files, each with its name; the first that says why a call
-/// failed is named.
+/// What came of what was done over two files, each with its name; the first of which a call failed
+/// is named. If none failed, neither is: a fault doesn't say in which store it was found.
 pub fn done_over_two<'a, Y: Why>(
     done: Result<(), RunFault>,
     old: &'a str,
@@ -183,11 +241,11 @@ pub fn done_over_two<'a, Y: Why>(
         Ok(()) => return Ok(Done::Well),
         Err(fault) => fault,
     };
-    let failure = failed_over(fault, old, why_old);
-    if failure.file.is_some() {
-        return Err(failure);
-    }
-    Err(failed(fault, new, why_new))
+    let file = match failed(FileName::Own(old), why_old, None) {
+        Some(file) => Some(file),
+        None => failed(new, why_new, None),
+    };
+    Err(Failure { fault, file })
 }
 
 /// What came of what was done without a file.

@@ -1,9 +1,8 @@
 //! Which jobs the program's crews know, and which tasks of a store they don't.
 
-ghost use Rattle.std.specs.Prelude.{◌≡◌, ◌<◌, ◌≤◌, ◌+◌, ◌++◌, ◌∷◌, [], ℕ, List, length};
-ghost use Rattle.std.specs.Prelude.{IfSome, Some};
+ghost use Rattle.std.specs.Prelude.{◌≡◌, ◌<◌, ◌≤◌, ◌+◌, ◌++◌, ◌∷◌, [], ℕ, List};
+ghost use Rattle.std.specs.Prelude.{IfSome};
 ghost use Rattle.run_model.specs.declared.tasks.Task.{Task};
-ghost use Rattle.run_model.specs.Questions.{task_look_of};
 ghost use Rattle.night_program.specs.Known.{IsSeen, is_known, is_unended, unknown_in};
 
 use run_model::{Name, Phase, TaskLook};
@@ -25,7 +24,7 @@ pub fn unknown_in<B: Allocator>(state: &State<B>) -> Option<UnknownJob>
 {
     let mut found: Option<UnknownJob> = None;
     for task in 0..state.task_count() as u16 {
-        found = with_task(found, &look(state, task));
+        found = with_task(found, &state.task(task).unwrap());
     }
     found
 }
@@ -66,15 +65,4 @@ fn is_unended(phase: &Phase) -> bool
     ensures { result ≡ is_unended phase.now }
 {
     matches!(phase, Phase::Held | Phase::Ready | Phase::Running)
-}
-
-/// What is seen of the task of this number.
-fn look<B: Allocator>(state: &State<B>, task: u16) -> TaskLook
-    requires { task < length state.now.work.tasks }
-    ensures { task_look_of state.now task ≡ Some result }
-{
-    match state.task(task) {
-        Some(look) => look,
-        None => unreachable!(),
-    }
 }

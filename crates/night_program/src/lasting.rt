@@ -8,10 +8,16 @@ ghost use Rattle.book_model.specs.Openings.{HasFormatted, Opens};
 ghost use Rattle.book_model.specs.Standing.{LiesWith};
 ghost use Rattle.book_model.specs.Stores.{Stores, StoresFront, restarted};
 ghost use Rattle.console_lines.specs.declared.faults.RunFault.{RunFault};
+ghost use Rattle.console_lines.specs.declared.strays.StrayLine.{StrayLine};
 ghost use Rattle.run_console.specs.Crews.{CrewEnds, StoresNight};
-ghost use Rattle.night_program.specs.Lasting.{FindsLeft, StoresWork};
+ghost use Rattle.run_console.specs.declared.untils.Until.{Until};
+ghost use Rattle.night_program.specs.Lasting.{FindsLeft, IsReadAlone, IsRunOver, Run, RunsLeave};
+ghost use Rattle.night_program.specs.Lasting.{StoresAfterRuns, StoresWork};
+ghost use Rattle.night_program.specs.Sources.{Serves};
+ghost use Rattle.night_program.specs.Timed.{TimedEnds};
+ghost use Rattle.night_program.specs.Crews.{IsOpen};
 ghost use Rattle.night_words.specs.declared.asked.View.{View};
-ghost use Rattle.night_program.specs.Stores.{InspectEnds, view_text};
+ghost use Rattle.night_program.specs.Stores.{InspectEnds, ScriptEnds, view_text};
 
 use run_disk::RunDisk;
 
@@ -35,11 +41,42 @@ pub fn a_store_lasts_from_run_to_run<D: RunDisk>()
         → StoresFront (restarted p) c.session.history (acked m) (D.state next).now }
     ensures crew { (given left next : D) (p : State) (workers : ℕ) (answer : Result Bool RunFault)
         (w0 w1 : Option (List ℕ)) → LiesWith D.state given p
-        → CrewEnds D.state given workers answer left w0 w1
+        → CrewEnds D.state IsOpen given workers answer left w0 w1
         → FindsLeft D.state given left next
         → StoresWork p (D.state next).now }
     ensures inspect { (view : View) (found read : D) (p : State) (done : ⊤)
         (w0 w1 : Option (List ℕ)) → LiesWith D.state found p
         → InspectEnds view D.state found (Ok done) read w0 w1
         → Appends w0 w1 (view_text view p) }
+{}
+
+/// Whatever runs of the program come one after another over a store, each ended anywhere, lose
+/// nothing that they printed as acknowledged, if each opening finds what a crash may have left of
+/// the disk that was there: the state after them is the one that was stored, changed run by run. A
+/// script and a crew change it by a restart and a prefix of their events, with every acknowledged
+/// one in it; a format makes root alone of it, a migration the state in the large layout, a renewal
+/// the renewed one. What only reads a store changes nothing: an inspection, and the look at an old
+/// store before a new one is made of it.
+pub fn many_runs_lose_nothing_acknowledged<D: RunDisk>()
+    ensures runs { (given next : D) (p : State) (runs : List Run) → LiesWith D.state given p
+        → RunsLeave D.state given runs next → StoresAfterRuns p runs (D.state next).now }
+    ensures inspect { (view : View) (given left : D) (done : Result ⊤ RunFault)
+        (w0 w1 : Option (List ℕ)) → InspectEnds view D.state given done left w0 w1
+        → IsReadAlone (D.state given) (D.state left) }
+    ensures source { (given read : D) → Serves (D.state given) (D.state read)
+        → IsReadAlone (D.state given) (D.state read) }
+{}
+
+/// Each script is such a run, strict or not, as it is or with the time before its lines: lines are
+/// run over the store, if it is opened.
+pub fn a_script_runs_lines<D: RunDisk>()
+    ensures script { (until : Until) (done : Result (Option StrayLine) RunFault)
+        (given left : D) (r0 r1 w0 w1 : Option (List ℕ))
+        → ScriptEnds D.state until given done left r0 r1 w0 w1
+        → IsRunOver D.state given left }
+    ensures timed { (moments : Option (List ℕ)) (until : Until)
+        (done : Result (Option StrayLine) RunFault) (given left : D)
+        (r0 r1 w0 w1 : Option (List ℕ))
+        → TimedEnds moments D.state until given done left r0 r1 w0 w1
+        → IsRunOver D.state given left }
 {}

@@ -20,13 +20,19 @@ mod renewals;
 mod replacements;
 mod sources;
 mod stores;
+mod streams;
 mod timed;
+mod wrongs;
 
-pub use demos::{demo, demo_strict};
+pub use demos::demo;
 pub use endings::Ended;
 pub use jobs::{CopyJob, FailJob, SpinJob};
-pub use lasting::a_store_lasts_from_run_to_run;
+pub use lasting::{
+    a_script_runs_lines, a_store_lasts_from_run_to_run, many_runs_lose_nothing_acknowledged,
+};
 pub use migrations::migrate;
 pub use programs::night;
 pub use renewals::renew;
-pub use stores::{format, inspect, script, script_strict};
+pub use run_console::Until;
+pub use stores::{format, inspect, script};
+pub use streams::Streams;

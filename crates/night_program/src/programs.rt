@@ -8,10 +8,10 @@ ghost use Rattle.night_program.specs.Programs.{DoesRenew, DoesScript, IsLeft, Is
 ghost use Rattle.night_program.specs.Programs.{asks_crew};
 
 use crate::crews::crew_file;
-use crate::demos::{demo, demo_strict};
+use crate::demos::demo;
 use crate::endings::{Done, Ended, end, refuse};
 use crate::failures::{
-    Failure, FileName, done_alone, done_over, done_over_two, failed_over, no_file, strict_alone,
+    Failure, FileName, done_alone, done_over, done_over_two, failed_source, no_file, strict_alone,
     strict_over,
 };
 use crate::looks::look;
@@ -19,7 +19,8 @@ use crate::migrations::migrate;
 use crate::renewals::renew;
 use crate::replacements::renew_in_place;
 use crate::sources::{migrated_layout, read_source};
-use crate::stores::{format, inspect, script, script_strict};
+use crate::stores::{format, inspect, script, until_of};
+use crate::streams::Streams;
 use crate::timed::timed_file;
 use console_lines::RunFault;
 use night_words::{Asked, View, WordsFault, read_words};
@@ -31,7 +32,7 @@ use std::alloc::Global;
 use std::io::{Read, Write};
 use std::sync::Wait;
 use std::thread::Threads;
-use store_files::{Files, Made, Opened, Reason};
+use store_files::{Files, Made, Opened, Reason, Why};
 use timed_input::MachineTime;
 
 /// Does what the words ask for, the program's own name first. They come as the system gave them, or
@@ -49,9 +50,18 @@ use timed_input::MachineTime;
 /// `renew --in-place STORE` makes one beside STORE, on which it holds the lock, and puts it in its
 /// place. Help and the version go to the output. Why words ask for nothing, and a fault that ended
 /// the rest, go to `errors`: any call of a file that fails is printed as `fault 2 DiskFailed`, and
-/// after it which file it was, and why. A file that was made for a store which then isn't made is
-/// taken away again. A crew with fewer lists than it has workers is want of memory.
-pub fn night<F: Files, C: MachineTime, I: Read, O: Write, E: Write, R: Threads + Wait + Sync>(
+/// after a fault which file it was, and why; so is why a call of a stream failed, if `streams` tell
+/// it. A file that was made for a store which then isn't made is taken away again. A crew with
+/// fewer lists than it has workers is want of memory.
+pub fn night<
+    F: Files,
+    C: MachineTime,
+    I: Read,
+    O: Write,
+    E: Write,
+    Y: Why + Drop,
+    R: Threads + Wait + Sync,
+>(
     rt: &R,
     alloc: Global,
     words: Result<Vec<String>, WordsFault>,
@@ -60,6 +70,7 @@ pub fn night<F: Files, C: MachineTime, I: Read, O: Write, E: Write, R: Threads +
     clock: &mut C,
     input: &mut I,
     output: &mut O,
+    streams: &Streams<Y>,
     errors: &mut E,
 ) -> Ended
     ensures refused { IfErr words (λ why. IsRefused why result files.old files.new
@@ -80,7 +91,7 @@ pub fn night<F: Files, C: MachineTime, I: Read, O: Write, E: Write, R: Threads +
     match read_words(alloc, words.as_slice()) {
         Ok(asked) => {
             let answer = answer(rt, alloc, &asked, jobs, files, clock, input, output);
-            end(&answer, errors)
+            end(&answer, streams, errors)
         }
         Err(fault) => refuse(fault, errors),
     }
@@ -128,8 +139,7 @@ fn answer_alone<'a, F: Files, C: MachineTime, I: Read, O: Write>(
         (O.contents output.old) (O.contents output.new) }
 {
     match asked {
-        Asked::Demo { strict: true } => strict_alone(demo_strict(alloc, input, output)),
-        Asked::Demo { strict: false } => done_alone(demo(alloc, input, output)),
+        Asked::Demo { strict } => { strict_alone(demo(alloc, until_of(*strict), input, output)) }
         Asked::Format { store, is_new } => format_file(store, *is_new, files, output),
         Asked::Script {
             store,
@@ -229,15 +239,9 @@ fn script_file<'a, F: Files, I: Read, O: Write>(
         Ok(opened) => opened,
         Err(reason) => return Err(no_file(store, reason)),
     };
-    if strict {
-        let (done, left) = script_strict(alloc, disk, input, output);
-        files.close(store, left);
-        strict_over(done, store, &why)
-    } else {
-        let (done, left) = script(alloc, disk, input, output);
-        files.close(store, left);
-        done_over(done, store, &why)
-    }
+    let (done, left) = script(alloc, disk, until_of(strict), input, output);
+    files.close(store, left);
+    strict_over(done, store, &why)
 }
 
 /// Prints what the view shows of the store in the file of this name, also if another program has it
@@ -307,12 +311,13 @@ fn migrate_file<'a, F: Files, O: Write>(
         disk: mut source,
         why: why_old,
     } = opened;
+    let from = Layout::of(source.size());
     let to = migrated_layout(source.size());
     let large = match read_source(alloc, &mut source, to) {
         Ok(layout) => layout,
         Err(fault) => {
             files.close(old, source);
-            return Err(failed_over(stopped(fault), old, &why_old));
+            return Err(failed_source(stopped(fault), from, to, old, &why_old));
         }
     };
     match make(new, large, only_new, files) {
@@ -355,7 +360,7 @@ fn renew_file<'a, F: Files, O: Write>(
         Ok(layout) => layout,
         Err(fault) => {
             files.close(old, stored);
-            return Err(failed_over(stopped(fault), old, &why_old));
+            return Err(failed_source(stopped(fault), same, same, old, &why_old));
         }
     };
     match make(new, layout, only_new, files) {

@@ -12,7 +12,8 @@ use crate::migrations::{push, unmigrated};
 use arrayvec::ArrayVec;
 use console_lines::RunFault;
 use itoa::Buffer;
-use run_console::{Book, stopped, write_whole};
+use run_book::MigrateFault;
+use run_console::{Book, write_whole};
 use run_disk::RunDisk;
 use run_model::Fault;
 use run_state::State;
@@ -59,30 +60,30 @@ pub fn remake<D: RunDisk, E: RunDisk>(
     alloc: Global,
     old: &mut D,
     new: E,
-) -> (Result<Kept, RunFault>, E)
+) -> (Result<Kept, MigrateFault>, E)
     ensures { Remakes D.state E.state old.old new result.0 old.new result.1 }
 {
     let before = match sizes_on(alloc, old) {
         Ok(before) => before,
-        Err(fault) => return (Err(stopped(fault)), new),
+        Err(fault) => return (Err(MigrateFault::Old(fault)), new),
     };
     let mut made = match run_book::renew(alloc, old, new) {
         Ok(made) => made,
-        Err((fault, left)) => return (Err(unmigrated(fault)), left),
+        Err((fault, left)) => return (Err(fault), left),
     };
     match sizes_on(alloc, &mut made) {
         Ok(left) => (Ok(Kept { before, left }), made),
-        Err(fault) => (Err(stopped(fault)), made),
+        Err(fault) => (Err(MigrateFault::New(fault)), made),
     }
 }
 
 /// Prints the line of a renewal, if there is one.
-fn print_kept<W: Write>(done: Result<Kept, RunFault>, output: &mut W) -> Result<(), RunFault>
+fn print_kept<W: Write>(done: Result<Kept, MigrateFault>, output: &mut W) -> Result<(), RunFault>
     ensures { PrintsKept done result (W.contents output.old) (W.contents output.new) }
 {
     match done {
         Ok(kept) => print_sizes(kept, output),
-        Err(fault) => Err(fault),
+        Err(fault) => Err(unmigrated(fault)),
     }
 }
 

@@ -9,7 +9,7 @@ ghost use Rattle.night_program.specs.Replacements.{LacksBeside, MakesBeside};
 
 use crate::endings::Done;
 use crate::failures::{
-    Failure, FileName, done_alone, done_over, done_over_two, failed_over, no_file, not_had, not_put,
+    Failure, FileName, done_alone, done_over, failed_beside, failed_over, no_file, not_had, not_put,
 };
 use crate::renewals::{print_sizes, remake};
 use console_lines::RunFault;
@@ -114,8 +114,7 @@ fn put_renewed<'a, F: Files, O: Write>(
         Err(fault) => {
             files.remove(name);
             files.close(store, source);
-            let new = FileName::Beside(store);
-            done_over_two(Err(fault), store, &why_old, new, &why)
+            Err(failed_beside(fault, store, &why_old, &why))
         }
     }
 }

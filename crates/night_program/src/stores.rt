@@ -3,13 +3,13 @@
 ghost use Rattle.std.specs.Io.KnownBytes.{Appends};
 ghost use Rattle.std.specs.Prelude.{◌≡◌, IfErr, OnErr, OnOk};
 ghost use Rattle.console_lines.specs.Progress.{WritesPart};
-ghost use Rattle.night_program.specs.Stores.{FormatEnds, InspectEnds, ScriptEnds, StrictEnds};
+ghost use Rattle.night_program.specs.Stores.{FormatEnds, InspectEnds, ScriptEnds, until_of};
 ghost use Rattle.night_program.specs.Stores.{view_text};
 
 use console_lines::{RunFault, StrayLine};
 use night_words::View;
 use run_console::{
-    Book, list_tasks, print_json, print_tree, run, run_strict, stopped, write_whole,
+    Book, Until, list_tasks, print_json, print_summary, print_tree, run_until, stopped, write_whole,
 };
 use run_disk::RunDisk;
 use run_state::State;
@@ -28,44 +28,36 @@ pub fn format<D: RunDisk, W: Write>(disk: D, output: &mut W) -> (Result<(), RunF
     }
 }
 
-/// Opens the store on a disk, and runs the lines of the input over it. If the store isn't opened,
-/// nothing is read or written. The disk is handed back, as the book held it.
+/// Opens the store on a disk, and runs the lines of the input over it until then. If the store
+/// isn't opened, nothing is read or written. The disk is handed back, as the book held it.
 pub fn script<D: RunDisk, R: Read, W: Write>(
     alloc: Global,
     disk: D,
+    until: Until,
     input: &mut R,
     output: &mut W,
-) -> (Result<(), RunFault>, D)
-    ensures { ScriptEnds D.state disk result.0 result.1
+) -> (Result<Option<StrayLine>, RunFault>, D)
+    ensures { ScriptEnds D.state until disk result.0 result.1
         (R.remaining input.old) (R.remaining input.new)
         (W.contents output.old) (W.contents output.new) }
 {
     match Book::open(alloc, disk) {
         Ok(mut book) => {
-            let answer = run(alloc, input, output, &mut book);
+            let answer = run_until(alloc, input, output, &mut book, until);
             (answer, book.into_disk())
         }
         Err((fault, disk)) => (Err(stopped(fault)), disk),
     }
 }
 
-/// So does [`script`], up to the first line that strays, and returns which it is.
-pub fn script_strict<D: RunDisk, R: Read, W: Write>(
-    alloc: Global,
-    disk: D,
-    input: &mut R,
-    output: &mut W,
-) -> (Result<Option<StrayLine>, RunFault>, D)
-    ensures { StrictEnds D.state disk result.0 result.1
-        (R.remaining input.old) (R.remaining input.new)
-        (W.contents output.old) (W.contents output.new) }
+/// Until when a run goes on that is strict or isn't.
+pub fn until_of(strict: bool) -> Until
+    ensures { result ≡ until_of strict }
 {
-    match Book::open(alloc, disk) {
-        Ok(mut book) => {
-            let answer = run_strict(alloc, input, output, &mut book);
-            (answer, book.into_disk())
-        }
-        Err((fault, disk)) => (Err(stopped(fault)), disk),
+    if strict {
+        Until::FirstStray
+    } else {
+        Until::End
     }
 }
 
@@ -102,5 +94,6 @@ fn show<W: Write, B: Allocator>(
         View::Tasks { phase, group } => list_tasks(state, phase, group, output),
         View::Json => print_json(state, output),
         View::Tree => print_tree(state, output),
+        View::Summary => print_summary(state, output),
     }
 }

@@ -3,13 +3,14 @@
 ghost use Rattle.std.specs.Prelude.{◌≡◌, false};
 ghost use Rattle.book_model.specs.Books.{CarriesOn};
 ghost use Rattle.run_console.specs.Progress.{Lasts};
-ghost use Rattle.night_program.specs.Stores.{Runs, RunsStrict};
-ghost use Rattle.night_program.specs.Timed.{DoesTimed, RunsTimed, StrictTimedEnds, TimedEnds};
+ghost use Rattle.night_program.specs.Stores.{Runs};
+ghost use Rattle.night_program.specs.Timed.{DoesTimed, RunsTimed, TimedEnds};
 
 use crate::endings::Done;
-use crate::failures::{Failure, done_over, no_file, strict_over};
+use crate::failures::{Failure, no_file, strict_over};
+use crate::stores::until_of;
 use console_lines::{RunFault, StrayLine};
-use run_console::{Book, run, run_strict, stopped};
+use run_console::{Book, Until, run_until, stopped};
 use run_disk::RunDisk;
 use std::alloc::Global;
 use std::io::{Read, Write};
@@ -35,95 +36,52 @@ pub fn timed_file<'a, F: Files, C: MachineTime, I: Read, O: Write>(
         Ok(opened) => opened,
         Err(reason) => return Err(no_file(store, reason)),
     };
-    if strict {
-        let (done, left) = timed_strict(alloc, disk, clock, input, output);
-        files.close(store, left);
-        strict_over(done, store, &why)
-    } else {
-        let (done, left) = timed(alloc, disk, clock, input, output);
-        files.close(store, left);
-        done_over(done, store, &why)
-    }
+    let (done, left) = timed(alloc, disk, until_of(strict), clock, input, output);
+    files.close(store, left);
+    strict_over(done, store, &why)
 }
 
-/// Opens the store on a disk, and runs the lines of the input over it with the time before them.
-/// If the store isn't opened, nothing is read or written. The disk is handed back, as the book held
-/// it.
+/// Opens the store on a disk, and runs the lines of the input over it until then, with the time
+/// before them. If the store isn't opened, nothing is read or written. The disk is handed back, as
+/// the book held it.
 fn timed<D: RunDisk, C: MachineTime, R: Read, W: Write>(
     alloc: Global,
     disk: D,
-    clock: &mut C,
-    input: &mut R,
-    output: &mut W,
-) -> (Result<(), RunFault>, D)
-    ensures { TimedEnds (C.moments clock.old) D.state disk result.0 result.1
-        (R.remaining input.old) (R.remaining input.new)
-        (W.contents output.old) (W.contents output.new) }
-{
-    match Book::open(alloc, disk) {
-        Ok(mut book) => {
-            let answer = run_timed(alloc, clock, input, output, &mut book);
-            (answer, book.into_disk())
-        }
-        Err((fault, disk)) => (Err(stopped(fault)), disk),
-    }
-}
-
-/// So does [`timed`], up to the first line that strays, and returns which it is.
-fn timed_strict<D: RunDisk, C: MachineTime, R: Read, W: Write>(
-    alloc: Global,
-    disk: D,
+    until: Until,
     clock: &mut C,
     input: &mut R,
     output: &mut W,
 ) -> (Result<Option<StrayLine>, RunFault>, D)
-    ensures { StrictTimedEnds (C.moments clock.old) D.state disk result.0 result.1
+    ensures { TimedEnds (C.moments clock.old) D.state until disk result.0 result.1
         (R.remaining input.old) (R.remaining input.new)
         (W.contents output.old) (W.contents output.new) }
 {
     match Book::open(alloc, disk) {
         Ok(mut book) => {
-            let answer = run_timed_strict(alloc, clock, input, output, &mut book);
+            let answer = run_timed(alloc, until, clock, input, output, &mut book);
             (answer, book.into_disk())
         }
         Err((fault, disk)) => (Err(stopped(fault)), disk),
     }
 }
 
-/// Runs the lines of the input with the time before them, from the clock of the book on.
+/// Runs the lines of the input until then, with the time before them, from the clock of the book
+/// on.
 fn run_timed<D: RunDisk, C: MachineTime, R: Read, W: Write>(
     alloc: Global,
-    clock: &mut C,
-    input: &mut R,
-    output: &mut W,
-    book: &mut Book<D>,
-) -> Result<(), RunFault>
-    requires { book.old.journal.broken ≡ false }
-    ensures runs { RunsTimed (C.moments clock.old) (λ s0 s1. Runs D.state result s0 s1
-        (W.contents output.old) (W.contents output.new)) (R.remaining input.old)
-        book.old book.new }
-    ensures lasts { Lasts book.old.session book.new.session }
-    ensures carries_on { CarriesOn D.state book.old book.new }
-{
-    let mut lines = TimedInput::new(book.state().clock(), clock, input);
-    run(alloc, &mut lines, output, book)
-}
-
-/// So does [`run_timed`], up to the first line that strays, and returns which it is.
-fn run_timed_strict<D: RunDisk, C: MachineTime, R: Read, W: Write>(
-    alloc: Global,
+    until: Until,
     clock: &mut C,
     input: &mut R,
     output: &mut W,
     book: &mut Book<D>,
 ) -> Result<Option<StrayLine>, RunFault>
     requires { book.old.journal.broken ≡ false }
-    ensures runs { RunsTimed (C.moments clock.old) (λ s0 s1. RunsStrict D.state result s0 s1
+    ensures runs { RunsTimed (C.moments clock.old) (λ s0 s1. Runs D.state until result s0 s1
         (W.contents output.old) (W.contents output.new)) (R.remaining input.old)
         book.old book.new }
     ensures lasts { Lasts book.old.session book.new.session }
     ensures carries_on { CarriesOn D.state book.old book.new }
 {
     let mut lines = TimedInput::new(book.state().clock(), clock, input);
-    run_strict(alloc, &mut lines, output, book)
+    run_until(alloc, &mut lines, output, book, until)
 }

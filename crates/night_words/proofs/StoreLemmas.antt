@@ -69,7 +69,10 @@ formed inspects = record {
           is_option (codes "group") refl refl,
           (
             is_flag (codes "json") refl,
-            (is_flag (codes "tree") refl, (is_help refl, tt)),
+            (
+              is_flag (codes "tree") refl,
+              (is_flag (codes "summary") refl, (is_help refl, tt)),
+            ),
           ),
         ),
       ),
@@ -82,7 +85,7 @@ abbrev pub IsUnset : Command → (word : Text → Option Text) → Type 0
 IsUnset formats word = is_true (word (codes "new")) ≡ false
 IsUnset scripts word = (is_true (word (codes "strict")) ≡ false)
     × (is_true (word (codes "now")) ≡ false)
-IsUnset inspects word = AsksViews false false false word
+IsUnset inspects word = AsksViews false false false false word
 
 -- neither of three
 none_of : (a b c : Bool) → a || (b || c) ≡ false → (a ≡ false) × (b ≡ false) × (c ≡ false)
@@ -112,7 +115,10 @@ quiet inspects rows unset =
             λ named shown. apart _ no.2 shown,
             (
               λ named shown. apart _ unset.1 shown,
-              (λ named shown. apart _ unset.2 shown, (λ named shown. cc, tt)),
+              (
+                λ named shown. apart _ unset.2 shown,
+                (λ named shown. apart _ unset.3 shown, (λ named shown. cc, tt)),
+              ),
             ),
           ),
         ),
@@ -300,7 +306,7 @@ ReadsAlone c x w = (store_of c w ≡ Some x) × IsUnsetAt c w
 reads_alone : (c : Command) (x : Text) (t : Bool) → ReadsAlone c x (stands [] (stored x) 2 t)
 reads_alone formats x t = (refl, refl)
 reads_alone scripts x t = (refl, (refl, refl))
-reads_alone inspects x t = (refl, (refl, refl, refl))
+reads_alone inspects x t = (refl, (refl, refl, refl, refl))
 
 marks : (c : Command) (r : List Row) (p : Option (Text × List Text)) (q : Waiting) (n : ℕ)
     → walked (shape c).rules [] (standing r p q n false) mark ≡ standing r p q n true
@@ -330,7 +336,13 @@ leave_out inspects = (
       λ named values t none. cc,
       (
         λ named values t none. cc,
-        (λ named values t none. cc, (λ named values t none. cc, (λ named values t none. cc, tt))),
+        (
+          λ named values t none. cc,
+          (
+            λ named values t none. cc,
+            (λ named values t none. cc, (λ named values t none. cc, tt)),
+          ),
+        ),
       ),
     ),
   ),

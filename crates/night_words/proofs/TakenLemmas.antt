@@ -247,6 +247,7 @@ unset_alike inspects a b same u = (
   asks_alike b a (λ id. sym (same id)) ∙ u.0,
   ap is_true (sym (same (codes "json"))) ∙ u.1,
   ap is_true (sym (same (codes "tree"))) ∙ u.2,
+  ap is_true (sym (same (codes "summary"))) ∙ u.3,
 )
 
 -- where the walk meets a command over a store, and what the parser enters there

@@ -4,7 +4,7 @@ use Rattle.std.specs.Prelude.{◌||◌, Result, Ok, Err, codes, is_some}
 use Rattle.clap.specs.Walk.{Text}
 use Rattle.night_words.specs.Commands.{IsView, are_two, asks_tasks, is_true, names_phase}
 use Rattle.night_words.specs.declared.asked.View.{View}
-use Rattle.night_words.specs.declared.asked.View.TheVariants.{Whole, Tasks, Json, Tree}
+use Rattle.night_words.specs.declared.asked.View.TheVariants.{Json, Summary, Tasks, Tree, Whole}
 use Rattle.night_words.specs.declared.asked.WordsFault.{WordsFault}
 use Rattle.night_words.specs.declared.asked.WordsFault.TheVariants.{Memory, Mistake, NotText}
 use Rattle.night_words.specs.declared.asked.WordsFault.TheVariants.{Phase, Place, SameStores}
@@ -31,9 +31,15 @@ module _ (a b : Text → Option Text) (same : (id : Text) → a id ≡ b id) whe
     asks_alike ∙ is.0,
     flag_alike (codes "json") ∙ is.1,
     flag_alike (codes "tree") ∙ is.2,
+    flag_alike (codes "summary") ∙ is.3,
   )
   view_alike (Ok (Tasks phase group)) is = (
-    (asks_alike ∙ is.0.0, flag_alike (codes "json") ∙ is.0.1, flag_alike (codes "tree") ∙ is.0.2),
+    (
+      asks_alike ∙ is.0.0,
+      flag_alike (codes "json") ∙ is.0.1,
+      flag_alike (codes "tree") ∙ is.0.2,
+      flag_alike (codes "summary") ∙ is.0.3,
+    ),
     same (codes "phase") ∙ is.1,
     same (codes "group") ∙ is.2,
     phase_alike ∙ is.3,
@@ -42,19 +48,37 @@ module _ (a b : Text → Option Text) (same : (id : Text) → a id ≡ b id) whe
     asks_alike ∙ is.0,
     flag_alike (codes "json") ∙ is.1,
     flag_alike (codes "tree") ∙ is.2,
+    flag_alike (codes "summary") ∙ is.3,
   )
   view_alike (Ok Tree) is = (
     asks_alike ∙ is.0,
     flag_alike (codes "json") ∙ is.1,
     flag_alike (codes "tree") ∙ is.2,
+    flag_alike (codes "summary") ∙ is.3,
+  )
+  view_alike (Ok Summary) is = (
+    asks_alike ∙ is.0,
+    flag_alike (codes "json") ∙ is.1,
+    flag_alike (codes "tree") ∙ is.2,
+    flag_alike (codes "summary") ∙ is.3,
   )
   view_alike (Err Views) is =
-      ap (λ x. are_two x (is_true (a (codes "json"))) (is_true (a (codes "tree")))) asks_alike
-      ∙ ap (λ x. are_two (asks_tasks b) x (is_true (a (codes "tree")))) (flag_alike (codes "json"))
-      ∙ ap (λ x. are_two (asks_tasks b) (is_true (b (codes "json"))) x) (flag_alike (codes "tree"))
+      ap (λ x. are_two x (is_true (a (codes "json"))) (is_true (a (codes "tree")))
+      (is_true (a (codes "summary")))) asks_alike
+      ∙ ap (λ x. are_two (asks_tasks b) x (is_true (a (codes "tree")))
+      (is_true (a (codes "summary")))) (flag_alike (codes "json"))
+      ∙ ap (λ x. are_two (asks_tasks b) (is_true (b (codes "json"))) x
+      (is_true (a (codes "summary")))) (flag_alike (codes "tree"))
+      ∙ ap (λ x. are_two (asks_tasks b) (is_true (b (codes "json")))
+      (is_true (b (codes "tree"))) x) (flag_alike (codes "summary"))
       ∙ is
   view_alike (Err Phase) is = (
-    (asks_alike ∙ is.0.0, flag_alike (codes "json") ∙ is.0.1, flag_alike (codes "tree") ∙ is.0.2),
+    (
+      asks_alike ∙ is.0.0,
+      flag_alike (codes "json") ∙ is.0.1,
+      flag_alike (codes "tree") ∙ is.0.2,
+      flag_alike (codes "summary") ∙ is.0.3,
+    ),
     phase_alike ∙ is.1,
   )
   view_alike (Err (Mistake text)) is = absurd is

@@ -1,6 +1,7 @@
 -- Which words the command line takes.
-use Rattle.std.specs.Prelude.{◌≡◌, ◌≢◌, ◌⊎◌, ◌∷◌, [], ℕ, List, Option, Some, None, Result, Ok, Err}
-use Rattle.std.specs.Prelude.{◌&&◌, ◌||◌, ◌-◌, codes, if◌then◌else◌, is_some, nat_le, not}
+use Rattle.std.specs.Prelude.{◌≡◌, ◌≢◌, ◌⊎◌, ◌∷◌, ◌++◌, [], ℕ, List, Option, Some, None}
+use Rattle.std.specs.Prelude.{Result, Ok, Err, ◌&&◌, ◌||◌, ◌-◌, codes, if◌then◌else◌, is_some}
+use Rattle.std.specs.Prelude.{nat_le, not}
 use Rattle.std.specs.Prelude.{option_and_then, option_map, Bool, false, true, unwrap_or}
 use Rattle.std.specs.List.{list_any}
 use Rattle.std.specs.Option.{option_map_or}
@@ -19,6 +20,7 @@ use Rattle.night_words.specs.declared.asked.Asked.TheVariants.{Demo, Format, Scr
 use Rattle.night_words.specs.declared.asked.Asked.TheVariants.{Crew, Migrate, Renew, RenewInPlace}
 use Rattle.night_words.specs.declared.asked.View.{View}
 use Rattle.night_words.specs.declared.asked.View.TheVariants.{Whole, Tasks, Json, Tree}
+use Rattle.night_words.specs.declared.asked.View.TheVariants.{Summary}
 use Rattle.night_words.specs.declared.asked.WordsFault.{WordsFault}
 use Rattle.night_words.specs.declared.asked.WordsFault.TheVariants.{Mistake, NotText, Memory}
 use Rattle.night_words.specs.declared.asked.WordsFault.TheVariants.{Phase, Place, SameStores}
@@ -63,10 +65,11 @@ script_line = with_rule
 abbrev pub value_option : Text → Rule
 value_option id = record (new_rule id) { long = Some id; action = Some Set; value_names = 1 }
 
--- one that takes three flags, and may be given a phase and a group
+-- one that takes four flags, and may be given a phase and a group
 abbrev pub inspect_line : App
 inspect_line =
     with_rule
+    (with_rule
     (with_rule
     (with_rule
     (with_rule
@@ -74,7 +77,8 @@ inspect_line =
     (value_option (codes "phase")))
     (value_option (codes "group")))
     (flag (codes "json")))
-    (flag (codes "tree"))
+    (flag (codes "tree")))
+    (flag (codes "summary"))
 
 -- one that takes the names of two stores, the old one first, and a flag
 abbrev pub migrate_line : App
@@ -203,28 +207,30 @@ abbrev pub asks_tasks : (word : Text → Option Text) → Bool
 asks_tasks word = is_true (word (codes "tasks"))
     || (is_some (word (codes "phase")) || is_some (word (codes "group")))
 
--- these views are asked for, and no others: that of tasks, JSON and the tree
-abbrev pub AsksViews : (tasks json tree : Bool) (word : Text → Option Text) → Type 0
-AsksViews tasks json tree word = (asks_tasks word ≡ tasks)
+-- these views are asked for, and no others: that of tasks, JSON, the tree and the summary
+abbrev pub AsksViews : (tasks json tree summary : Bool) (word : Text → Option Text) → Type 0
+AsksViews tasks json tree summary word = (asks_tasks word ≡ tasks)
     × (is_true (word (codes "json")) ≡ json) × (is_true (word (codes "tree")) ≡ tree)
+    × (is_true (word (codes "summary")) ≡ summary)
 
--- two of three are true, or all are
-abbrev pub are_two : (a b c : Bool) → Bool
-are_two a b c = (a && b) || ((a && c) || (b && c))
+-- two of four are true, or more
+abbrev pub are_two : (a b c d : Bool) → Bool
+are_two a b c d = (a && b) || ((c && d) || ((a || b) && (c || d)))
 
 -- one view is asked for, or none and all is shown; the two options go with the view of tasks, and
 -- the phase is given by its word. More than one view is a mistake, and so is another word
 abbrev pub IsView : (word : Text → Option Text) → Result View WordsFault → Type 0
-IsView word (Ok Whole) = AsksViews false false false word
-IsView word (Ok (Tasks phase group)) = AsksViews true false false word
+IsView word (Ok Whole) = AsksViews false false false false word
+IsView word (Ok (Tasks phase group)) = AsksViews true false false false word
     × (word (codes "phase") ≡ option_map (λ text. text.now) phase)
     × (word (codes "group") ≡ option_map (λ text. text.now) group)
     × (names_phase (word (codes "phase")) ≡ true)
-IsView word (Ok Json) = AsksViews false true false word
-IsView word (Ok Tree) = AsksViews false false true word
+IsView word (Ok Json) = AsksViews false true false false word
+IsView word (Ok Tree) = AsksViews false false true false word
+IsView word (Ok Summary) = AsksViews false false false true word
 IsView word (Err Views) = are_two (asks_tasks word) (is_true (word (codes "json")))
-    (is_true (word (codes "tree"))) ≡ true
-IsView word (Err Phase) = AsksViews true false false word
+    (is_true (word (codes "tree"))) (is_true (word (codes "summary"))) ≡ true
+IsView word (Err Phase) = AsksViews true false false false word
     × (names_phase (word (codes "phase")) ≡ false)
 IsView word (Err why) = ⊥
 
@@ -382,6 +388,7 @@ fault_text SameStores = codes "error: OLD and NEW name the same file\n"
 fault_text Workers = codes "error: --workers takes a number from 1 to 8\n"
 fault_text Views =
     codes "error: inspect takes one of --tasks (or --phase, --group), --json and --tree\n"
+    ++ codes "or --summary alone\n"
 fault_text Phase =
     codes "error: --phase takes held, ready, running, success, error or interrupted\n"
 fault_text Place = codes "error: renew takes one of NEW and --in-place\n"

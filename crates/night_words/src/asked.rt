@@ -74,6 +74,8 @@ pub enum View<'a> {
     Json,
     /// `--tree`: its scopes as a tree, with their groups and tasks.
     Tree,
+    /// `--summary`: how full it is, a line for each group, and one for each scope that is done.
+    Summary,
 }
 
 /// Why words ask for nothing. It is printed whole, with its LF, on standard error; `Memory` as the
@@ -109,7 +111,8 @@ impl fmt::Display for WordsFault {
             WordsFault::SameStores => f.write_str("error: OLD and NEW name the same file\n"),
             WordsFault::Workers => f.write_str("error: --workers takes a number from 1 to 8\n"),
             WordsFault::Views => f.write_str(
-                "error: inspect takes one of --tasks (or --phase, --group), --json and --tree\n",
+                "error: inspect takes one of --tasks (or --phase, --group), --json and --tree\n\
+                or --summary alone\n",
             ),
             WordsFault::Phase => f.write_str(
                 "error: --phase takes held, ready, running, success, error or interrupted\n",

@@ -13,17 +13,12 @@ use std::alloc::{AllocError, Global};
 /// The version that `--version` shows.
 const VERSION: &str = "0.3.0";
 
-/// The end of a command's help: its example, what a line is, and where lines are described.
-macro_rules! ending {
-    ($example:literal) => {
-        concat!(
-            $example,
-            "\n\nA line asks one thing of a book, as `go g copy a`, and is replied to in one\n\
-            line, as `task 0 ready`. `night script --help` lists all lines, and\n\
-            docs/formats/console.md and the manual page night(1) describe them."
-        )
-    };
-}
+/// The end of the program's help: an example, what a line is, and where lines are described.
+const EXAMPLE: &str = "\
+    Example: printf 'derive a root cause\\nscope a\\n' | night demo\n\n\
+    A line asks one thing of a book, as `go g copy a`, and is replied to in one\n\
+    line, as `task 0 ready`. `night script --help` lists all lines, and\n\
+    docs/formats/console.md and the manual page night(1) describe them.";
 
 /// The end of the help of `demo` and of `script`, whose input is lines.
 const LINES: &str = "\
@@ -51,7 +46,43 @@ const LINES: &str = "\
     tally                                       how many tasks of each job ended, and how\n  \
     flush                                       makes all events so far durable\n  \
     checkpoint                                  .. as an image of the whole state\n\n\
-    docs/formats/console.md and the manual page night(1) describe each of them.\n\n\
+    What their words are:\n\n  \
+    NAME, KEY, JOB, ARG     1 to 32 of a-z, 0-9, - and _: no capital, no dot\n  \
+    PARENT, SCOPE, GROUP    the name of one that is there\n  \
+    TEXT, CAUSE             the rest of the line: 1 to 64 bytes of printable ASCII\n  \
+    NUMBER                  1 to 12 digits; a limit is 0 to 64\n  \
+    MOMENT                  seconds since 1970, or a date and its offset:\n\
+    \x20                         2024-01-01T02:00:00Z, 2024-01-01T03:00:00+01:00\n\n\
+    A line of another form is replied `bad line`; a carriage return belongs to its\n\
+    line. One that the state refuses changes nothing, and is replied its refusal:\n\n  \
+    refused 1 NoSuchScope        no scope has this name\n  \
+    refused 2 NoSuchGroup        no group has this name\n  \
+    refused 3 NoSuchTask         no task has this number\n  \
+    refused 4 NameTaken          the name is taken\n  \
+    refused 5 BadName            one of the words isn't a name, as above\n  \
+    refused 6 BadText            the text or the cause isn't one, as above\n  \
+    refused 7 TooManyScopes      the store has no room for another scope\n  \
+    refused 8 TooManyGroups      the store has no room for another group\n  \
+    refused 9 TooManyTasks       the store has no room for another task\n  \
+    refused 10 NotCancellable    a scope of this kind isn't cancelled by a line\n  \
+    refused 11 CauseNotTaken     a cancel of a scope of this kind takes no cause\n  \
+    refused 12 AlreadyDone       the scope is done already\n  \
+    refused 13 LimitWhileActive  a task of the group hasn't ended: its limit stays\n  \
+    refused 14 AtLimit           the limit of the group admits no task now\n  \
+    refused 15 Waited            the group was waited for\n  \
+    refused 16 Unfinished N      so many tasks of the group haven't ended\n  \
+    refused 17 ClockNotForward   the moment isn't later than the clock\n  \
+    refused 18 MomentOutOfRange  the moment is before 1970, or too late\n  \
+    refused 19 NothingReady      no task is ready\n  \
+    refused 20 NotRunning        the task isn't running\n  \
+    refused 21 SessionFull       this run has no room for it: run the rest after it\n  \
+    refused 22 Broken            the device failed: open the store again\n  \
+    refused 23 NoValue           the scope has no value of this key\n  \
+    refused 24 NotInterrupted    the task wasn't interrupted\n  \
+    refused 25 AlreadyRetried    another task is a retry of it already\n\n\
+    At a terminal `flush` keeps what was typed, and Ctrl-D keeps it and ends; Ctrl-C\n\
+    ends, and drops what was typed since the last flush.\n\n\
+    docs/formats/console.md and the manual page night(1) describe each line.\n\n\
     Examples:\n  \
     printf 'derive a root cause\\ncancel a disk\\nscope a\\n' | night demo\n  \
     printf 'group g root\\ngo g copy a\\n' | night script jobs.store";
@@ -85,7 +116,7 @@ fn night_alone<'a>(alloc: Global) -> Command<'a>
     Command::new(alloc, "night")
         .about("A durable job runner with cancellation scopes")
         .version(VERSION)
-        .after_help(ending!("Example: printf 'derive a root cause\\nscope a\\n' | night demo"))
+        .after_help(EXAMPLE)
         .subcommand_required(true)
         .arg_required_else_help(true)
 }
@@ -122,7 +153,7 @@ fn format_command<'a>(alloc: Global) -> Result<Command<'a>, AllocError>
         alloc,
         "format",
         "Makes a new store of a file, and prints `formatted`; what the file held is lost",
-        ending!("Example: night format --new jobs.store"),
+        "Example: night format --new jobs.store",
     );
     with_word(
         store,
@@ -152,7 +183,7 @@ fn inspect_command<'a>(alloc: Global) -> Result<Command<'a>, AllocError>
         alloc,
         "inspect",
         "Prints what a store holds, and writes nothing to it",
-        ending!("Example: night inspect jobs.store"),
+        "Example: night inspect jobs.store",
     );
     let tasks = with_word(
         store,
@@ -180,12 +211,20 @@ fn inspect_command<'a>(alloc: Global) -> Result<Command<'a>, AllocError>
         group,
         flag_word(alloc, "json", "Prints all of it as one object of JSON"),
     );
-    with_word(
+    let tree = with_word(
         json,
         flag_word(
             alloc,
             "tree",
             "Draws its scopes as a tree, with their groups and tasks",
+        ),
+    );
+    with_word(
+        tree,
+        flag_word(
+            alloc,
+            "summary",
+            "Prints how full it is, a line for each group, and the scopes that are done",
         ),
     )
 }
@@ -212,7 +251,7 @@ fn migrate_command<'a>(alloc: Global) -> Result<Command<'a>, AllocError>
 {
     let migrate = Command::new(alloc, "migrate")
         .about("Makes a large store NEW of a small store OLD; what NEW held is lost")
-        .after_help(ending!("Example: night migrate --new small.store large.store"));
+        .after_help("Example: night migrate --new small.store large.store");
     let old = with_word(
         Ok(migrate),
         store_word(alloc, "STORE", "OLD", "The small store, which is only read"),
@@ -235,12 +274,14 @@ fn crew_command<'a>(alloc: Global) -> Result<Command<'a>, AllocError>
 {
     let crew = Command::new(alloc, "crew")
         .about("Runs the ready tasks of a store, and prints how many were started and finished")
-        .after_help(ending!(
-            "The crew knows three jobs: `spin`, `copy` and `fail`. It ends a task of any\n\
-            other job as failed, `no such job`, and that task can't be retried. With\n\
-            `--known` it starts nothing where such a task isn't ended.\n\n\
-            Example: night crew jobs.store --workers 2"
-        ));
+        .after_help(
+            "The crew knows three jobs: `spin`, `copy` and `fail`. With `--known` it starts\n\
+            nothing while a task of any other job isn't ended. Without, it ends such a task\n\
+            for good: it fails as `no such job`, and can't be retried.\n\n\
+            Examples:\n  \
+            night crew --known jobs.store\n  \
+            night crew jobs.store --workers 2",
+        );
     let store = with_word(
         Ok(crew),
         store_word(alloc, "STORE", "STORE", "The file of the store"),
@@ -270,10 +311,10 @@ fn renew_command<'a>(alloc: Global) -> Result<Command<'a>, AllocError>
 {
     let renew = Command::new(alloc, "renew")
         .about("Makes a store NEW of what a store OLD still needs; what NEW held is lost")
-        .after_help(ending!(
+        .after_help(
             "Examples:\n  night renew --new old.store new.store\n  \
-            night renew --in-place jobs.store"
-        ));
+            night renew --in-place jobs.store",
+        );
     let old = with_word(
         Ok(renew),
         store_word(

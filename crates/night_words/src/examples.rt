@@ -10,7 +10,8 @@ ghost use Rattle.night_words.specs.Commands.{AsksForCrew, AsksForDemo, AsksForFo
 ghost use Rattle.night_words.specs.Commands.{AsksForInspect, AsksForMigration, AsksForRenewal};
 ghost use Rattle.night_words.specs.Commands.{AsksForRenewalInPlace, AsksForScript, IsCausedBy};
 ghost use Rattle.night_words.specs.Commands.{NamesRenewal, faults_of, night};
-ghost use Rattle.night_words.specs.declared.asked.View.TheVariants.{Json, Tasks, Tree, Whole};
+ghost use Rattle.night_words.specs.declared.asked.View.TheVariants.{Json, Summary, Tasks, Tree};
+ghost use Rattle.night_words.specs.declared.asked.View.TheVariants.{Whole};
 ghost use Rattle.night_words.specs.declared.asked.WordsFault.TheVariants.{Phase, Place, SameStores};
 ghost use Rattle.night_words.specs.declared.asked.WordsFault.TheVariants.{Views, Workers};
 
@@ -107,8 +108,8 @@ pub fn some_tasks_may_be_inspected()
         (name ∷ codes "inspect" ∷ codes "--phase=Held" ∷ codes "a" ∷ []) }
 {}
 
-/// With another flag it prints all of it as JSON, with another one as a tree, and two views are a
-/// mistake.
+/// With another flag it prints all of it as JSON, with others as a tree and a summary, and two
+/// views are a mistake.
 pub fn other_views_may_be_printed()
     ensures json { (name : List ℕ) → AsksForInspect (codes "a") Json
         (name ∷ codes "inspect" ∷ codes "--json" ∷ codes "a" ∷ []) }
@@ -116,6 +117,10 @@ pub fn other_views_may_be_printed()
         (name ∷ codes "inspect" ∷ codes "a" ∷ codes "--json" ∷ []) }
     ensures tree { (name : List ℕ) → AsksForInspect (codes "a") Tree
         (name ∷ codes "inspect" ∷ codes "--tree" ∷ codes "a" ∷ []) }
+    ensures summary { (name : List ℕ) → AsksForInspect (codes "a") Summary
+        (name ∷ codes "inspect" ∷ codes "--summary" ∷ codes "a" ∷ []) }
+    ensures summary_too { (name : List ℕ) → IsCausedBy Views
+        (name ∷ codes "inspect" ∷ codes "--summary" ∷ codes "--tree" ∷ codes "a" ∷ []) }
     ensures tasks_too { (name : List ℕ) → IsCausedBy Views
         (name ∷ codes "inspect" ∷ codes "--json" ∷ codes "a" ∷ codes "--tasks" ∷ []) }
     ensures tree_too { (name : List ℕ) → IsCausedBy Views
@@ -142,6 +147,8 @@ pub fn flags_are_taken()
         → faults_of (name ∷ codes "inspect" ∷ codes "a" ∷ codes "--json" ∷ []) ≡ [] }
     ensures tree { (name : List ℕ)
         → faults_of (name ∷ codes "inspect" ∷ codes "--tree" ∷ codes "a" ∷ []) ≡ [] }
+    ensures summary { (name : List ℕ)
+        → faults_of (name ∷ codes "inspect" ∷ codes "--summary" ∷ codes "a" ∷ []) ≡ [] }
     ensures phase { (name : List ℕ) → faults_of
         (name ∷ codes "inspect" ∷ codes "--phase" ∷ codes "held" ∷ codes "a" ∷ []) ≡ [] }
     ensures group { (name : List ℕ)

@@ -150,11 +150,13 @@ fn view_of<'a>(inner: &ArgMatches<'a>) -> Result<View<'a>, WordsFault>
     let phase = inner.get_str("phase");
     let group = inner.get_str("group");
     let lists = is_set(inner, "tasks") || phase.is_some() || group.is_some();
-    match (lists, is_set(inner, "json"), is_set(inner, "tree")) {
-        (false, false, false) => Ok(View::Whole),
-        (true, false, false) => tasks(phase, group),
-        (false, true, false) => Ok(View::Json),
-        (false, false, true) => Ok(View::Tree),
+    let sums = is_set(inner, "summary");
+    match (lists, is_set(inner, "json"), is_set(inner, "tree"), sums) {
+        (false, false, false, false) => Ok(View::Whole),
+        (true, false, false, false) => tasks(phase, group),
+        (false, true, false, false) => Ok(View::Json),
+        (false, false, true, false) => Ok(View::Tree),
+        (false, false, false, true) => Ok(View::Summary),
         _ => Err(WordsFault::Views),
     }
 }

@@ -6,7 +6,7 @@
 
 use crate::asserts::{done, holds_at};
 use crate::stores::{copied, formatted};
-use night_program::script;
+use night_program::{Until, script};
 use run_book::Book;
 use run_disk::{Fuse, MemoryDisk, RunDisk};
 use run_model::Fault;
@@ -50,7 +50,7 @@ static FAILURES: [Failure; 8] = [
 /// Runs lines over the store on a disk, and gives what was printed.
 fn run_lines<D: RunDisk>(alloc: Global, disk: D, lines: &str) -> (D, bool, Vec<u8>) {
     let mut output = Vec::new(alloc);
-    let (ran, disk) = script(alloc, disk, &mut lines.as_bytes(), &mut output);
+    let (ran, disk) = script(alloc, disk, Until::End, &mut lines.as_bytes(), &mut output);
     (disk, ran.is_ok(), output)
 }
 

@@ -44,6 +44,11 @@ const JSON: &str = "{\"count\":6,\"clock\":0,\"layout\":\"small\",\
      {\"number\":1,\"group\":0,\"job\":\"copy\",\"argument\":\"b\",\"phase\":\"held\",\
      \"error\":null,\"retry_of\":null}]}\n";
 
+/// Its summary.
+const SUMMARY: &str = "events 6; clock 0; scopes 2 of 1024; groups 1 of 128; tasks 2 of 2048\n\
+     group 0 g unfinished 2; limit 1; waited no; error none; tasks held 1, ready 0, running 1, \
+     success 0, error 0, interrupted 0; scope 1 live; deadline none\n";
+
 /// What is typed after the stop.
 const AGAIN: &str = "task 0\ntask 1\nresult g\nscope g\n";
 
@@ -64,12 +69,17 @@ fn assert_over<R: Threads + Wait + Sync + Abort>(rt: &R, alloc: Global, is_used:
     assert_run(rt, alloc, row.0, &mut shelf, row.1, &row.2);
 }
 
-static VIEWS: [Over; 5] = [
+static VIEWS: [Over; 6] = [
     (&["inspect", "jobs.store"], "", (0, INSPECTED, "")),
     (&["inspect", "--tasks", "jobs.store"], "", (0, TASKS, "")),
     (&["inspect", "jobs.store", "--tasks"], "", (0, TASKS, "")),
     (&["inspect", "--json", "jobs.store"], "", (0, JSON, "")),
     (&["inspect", "jobs.store", "--json"], "", (0, JSON, "")),
+    (
+        &["inspect", "--summary", "jobs.store"],
+        "",
+        (0, SUMMARY, ""),
+    ),
 ];
 
 #[test]
@@ -149,13 +159,24 @@ fn a_stopped_night_is_migrated(rt: HostRuntime) {
 /// Words that make a store of a file of so many zeros, and how they end.
 type Unserved = (&'static [&'static str], usize, End);
 
-/// How they end where it has the size of none of which it can be made, or holds none.
-const WRONG_SIZE: End = (3, "", "night: fault 4 WrongSize\n");
+/// How they end where it is large already, has the size of no store, or holds none.
+const LARGE_OLD: End = (
+    3,
+    "",
+    "night: fault 4 WrongSize\nnight: a: is a large store already; OLD has to be a small one\n",
+);
 
-const NOT_A_STORE: End = (3, "", "night: fault 3 NotAStore\n");
+const WRONG_SIZE: End = (
+    3,
+    "",
+    "night: fault 4 WrongSize\n\
+     night: a: not the size of a store: 1,572,864 or 6,291,456 bytes\n",
+);
+
+const NOT_A_STORE: End = (3, "", "night: fault 3 NotAStore\nnight: a: not a store\n");
 
 static UNSERVED: [Unserved; 7] = [
-    (&["migrate", "a", "b"], SIZES.1, WRONG_SIZE),
+    (&["migrate", "a", "b"], SIZES.1, LARGE_OLD),
     (&["migrate", "a", "b"], SIZES.0 - 1, WRONG_SIZE),
     (&["migrate", "a", "b"], SIZES.0, NOT_A_STORE),
     (&["migrate", "--new", "a", "b"], SIZES.0, NOT_A_STORE),

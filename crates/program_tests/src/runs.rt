@@ -1,8 +1,8 @@
 //! Runs of the program, and what each printed.
 
 use crate::asserts::done;
-use crate::shelves::Shelf;
-use night_program::{CopyJob, Ended, FailJob, SpinJob, night};
+use crate::shelves::{Shelf, said};
+use night_program::{CopyJob, Ended, FailJob, SpinJob, Streams, night};
 use night_words::WordsFault;
 use run_crew::Job;
 use run_model::Moment;
@@ -11,6 +11,7 @@ use std::io::{Read, Write};
 use std::process::Abort;
 use std::sync::Wait;
 use std::thread::Threads;
+use store_files::{Reason, Why};
 
 /// How many lists of jobs each run has.
 const LISTS: usize = 2;
@@ -77,6 +78,16 @@ fn list(rt: &impl Abort, alloc: Global) -> Vec<Box<dyn Job + Send>> {
     list
 }
 
+/// Tells why calls of a stream failed.
+#[derive(Drop)]
+struct Said(&'static str);
+
+impl Why for Said {
+    fn reason(&self) -> Option<Reason> {
+        Some(said(self.0))
+    }
+}
+
 /// Runs the program with what the system gave for its words, by a clock that tells these moments,
 /// over one file and these streams.
 pub fn run_over<R: Threads + Wait + Sync + Abort, I: Read, O: Write, E: Write>(
@@ -91,8 +102,12 @@ pub fn run_over<R: Threads + Wait + Sync + Abort, I: Read, O: Write, E: Write>(
 ) -> Ended {
     let jobs = lists(rt, alloc);
     let mut clock = moments;
+    let streams = Streams {
+        input: Said("nobody writes"),
+        output: Said("nobody reads"),
+    };
     night(
-        rt, alloc, words, jobs, shelf, &mut clock, input, output, errors,
+        rt, alloc, words, jobs, shelf, &mut clock, input, output, &streams, errors,
     )
 }
 

@@ -196,7 +196,7 @@ impl Why for Broken {
 }
 
 /// What a system says.
-fn said(text: &str) -> Reason {
+pub fn said(text: &str) -> Reason {
     let mut said = ArrayString::new();
     let _fits = said.try_push_str(text);
     Reason::Said(said)

@@ -2,7 +2,7 @@
 
 use crate::asserts::done;
 use crate::shelves::Shelf;
-use night_program::{format, script};
+use night_program::{Until, format, script};
 use run_disk::{MemoryDisk, Torn};
 use std::alloc::Global;
 use std::process::Abort;
@@ -43,7 +43,7 @@ pub fn formatted(rt: &impl Abort, alloc: Global, name: &'static str) -> Shelf {
 pub fn typed(rt: &impl Abort, alloc: Global, lines: &str) -> (Shelf, Vec<u8>) {
     let mut output = Vec::new(alloc);
     let disk = small(rt, alloc, &mut output);
-    let (ran, disk) = script(alloc, disk, &mut lines.as_bytes(), &mut output);
+    let (ran, disk) = script(alloc, disk, Until::End, &mut lines.as_bytes(), &mut output);
     done(rt, ran, "night");
     let shelf = Shelf::new(alloc, "jobs.store", left(rt, alloc, &disk));
     (shelf, output)

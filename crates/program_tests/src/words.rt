@@ -16,7 +16,11 @@ type Case = (&'static [&'static str], u8, &'static str, &'static str);
 /// What is told of a file that isn't there.
 const NO_FILE: &str = "night: fault 2 DiskFailed\nnight: none: no such file\n";
 
-static CASES: [Case; 37] = [
+/// What is told of a file of no bytes.
+const NO_SIZE: &str = "night: fault 4 WrongSize\n\
+     night: a: not the size of a store: 1,572,864 or 6,291,456 bytes\n";
+
+static CASES: [Case; 39] = [
     (&[], 2, "", "Usage: night <COMMAND>"),
     (&[""], 2, "", "unrecognized subcommand ''"),
     (&["work", "a"], 2, "", "unrecognized subcommand 'work'"),
@@ -31,21 +35,17 @@ static CASES: [Case; 37] = [
         &["inspect", "--json", "--tasks", "a"],
         2,
         "",
-        "error: inspect takes one of --tasks (or --phase, --group), --json and --tree\n",
+        "error: inspect takes one of --tasks (or --phase, --group), --json and --tree\n\
+         or --summary alone\n",
     ),
     (
         &["crew", "--help"],
         0,
-        "Example: night crew jobs.store --workers 2",
+        "Examples:\n  night crew --known jobs.store\n",
         "",
     ),
     (&["crew", "none", "--workers=2"], 3, "", NO_FILE),
-    (
-        &["crew", "a", "--workers=1"],
-        3,
-        "",
-        "night: fault 4 WrongSize\n",
-    ),
+    (&["crew", "a", "--workers=1"], 3, "", NO_SIZE),
     (&["format"], 2, "", "required arguments were not provided"),
     (
         &["script", "a", "b"],
@@ -86,7 +86,9 @@ static CASES: [Case; 37] = [
     ),
     (&["script", "none"], 3, "", NO_FILE),
     (&["inspect", "none"], 3, "", NO_FILE),
-    (&["script", "a"], 3, "", "night: fault 4 WrongSize\n"),
+    (&["script", "a"], 3, "", NO_SIZE),
+    (&["inspect", "a"], 3, "", NO_SIZE),
+    (&["renew", "--in-place", "a"], 3, "", NO_SIZE),
     (
         &["migrate", "a", "a"],
         2,
@@ -106,12 +108,7 @@ static CASES: [Case; 37] = [
         "unexpected argument 'c' found",
     ),
     (&["migrate", "none", "new"], 3, "", NO_FILE),
-    (
-        &["migrate", "a", "new"],
-        3,
-        "",
-        "night: fault 4 WrongSize\n",
-    ),
+    (&["migrate", "a", "new"], 3, "", NO_SIZE),
     (
         &["migrate", "-h"],
         0,
@@ -205,7 +202,8 @@ fn assert_untaken<R: Threads + Wait + Sync + Abort>(
         &mut Closed,
         &mut errors,
     );
-    let is_told = errors.as_slice() == b"night: output\n".as_slice();
+    let is_told = errors.as_slice()
+        == b"night: output\nnight: standard output: nobody reads\n".as_slice();
     holds(rt, ended.status == 3 && ended.told && is_told, "words", row);
     holds(rt, shelf.has_removed == printing.1, "file", row);
 }
@@ -231,7 +229,8 @@ fn an_input_that_fails_is_told(rt: HostRuntime) {
         &mut output,
         &mut errors,
     );
-    let is_told = errors.as_slice() == b"night: input\n".as_slice();
+    let is_told = errors.as_slice()
+        == b"night: input\nnight: standard input: nobody writes\n".as_slice();
     holds(&rt, ended.status == 3 && is_told, "errors", 0);
     holds(&rt, output.is_empty(), "output", 0);
 }

@@ -23,10 +23,10 @@ use Rattle.console_lines.specs.declared.faults.RunFault.{RunFault}
 use Rattle.console_lines.specs.declared.faults.RunFault.TheVariants as fault
 use Rattle.console_lines.specs.Asked.{asked_of}
 use Rattle.console_lines.specs.Script.{steps_of}
+use Rattle.run_console.specs.declared.untils.Until.{Until}
 use Rattle.run_console.specs.Progress.{IsRunStopped, LineStops, RunStops}
 use Rattle.run_console.specs.Rows.{Tries, TriesLine, next_steps, steps_asked}
 use Rattle.run_console.specs.SessionLines.{IsSaving}
-use Rattle.run_console.specs.Strict.{StopsStrictly}
 use Rattle.run_console.specs.Troubles.{Accounts, DeviceFails, Tells}
 
 pub true_false : (b : Bool) → b ≡ true → b ≡ false → ⊥
@@ -264,18 +264,13 @@ module _ {D : Type 0} (state : D → DiskState) where
       (row_sound old p.middle (steps_of ran) p.taken.answers sound p.taken.row p.taken.fine)
       stopped p.tried
 
-  -- ---- runs, and a line
+  -- ---- a run, and a line
 
-  pub run_accounts : (why : RunFault) (b c : BookView D) (r0 r1 w0 w1 : Option (List ℕ))
-      → b.journal.broken ≡ false → RunStops state why b c r0 r1 w0 w1
+  pub run_accounts : (until : Until) (why : RunFault) (b c : BookView D)
+      (r0 r1 w0 w1 : Option (List ℕ))
+      → b.journal.broken ≡ false → RunStops state until why b c r0 r1 w0 w1
       → Accounts state b why c
-  run_accounts why b c r0 r1 w0 w1 sound p =
-      tried_accounts b c why p.ran p.left sound p.stopped p.tried
-
-  pub strict_accounts : (why : RunFault) (b c : BookView D) (r0 r1 w0 w1 : Option (List ℕ))
-      → b.journal.broken ≡ false → StopsStrictly state why b c r0 r1 w0 w1
-      → Accounts state b why c
-  strict_accounts why b c r0 r1 w0 w1 sound p =
+  run_accounts until why b c r0 r1 w0 w1 sound p =
       tried_accounts b c why p.ran p.left sound p.stopped p.tried
 
   pub line_accounts : (why : RunFault) (line : List ℕ) (b c : BookView D)

@@ -1,5 +1,5 @@
 -- A book carries on over the steps of the lines that were run, and over what became of the next.
-use Rattle.std.specs.Prelude.{◌≡◌, List, Option, Result, Ok, Err, IfErr, IfOk, OnOk, ⊤, ℕ}
+use Rattle.std.specs.Prelude.{◌≡◌, List, Option, Result, Ok, Err, IfErr, IfOk, ℕ}
 use Rattle.std.proofs.Common.{inl, inr, sym, subst}
 use Rattle.run_model.specs.declared.commands.Step.{Step}
 use Rattle.run_disk.specs.Disk.{DiskState, IsDisk}
@@ -9,9 +9,9 @@ use Rattle.book_model.proofs.Rows.{row_carries}
 use Rattle.console_lines.specs.declared.faults.RunFault.{RunFault}
 use Rattle.console_lines.specs.declared.faults.RunFault.TheVariants as fault
 use Rattle.console_lines.specs.declared.strays.StrayLine.{StrayLine}
-use Rattle.run_console.specs.Progress.{Cut, Ran, RunStops, RunsAll}
+use Rattle.run_console.specs.declared.untils.Until.{Until}
+use Rattle.run_console.specs.Progress.{Cut, Ran, RunEnds, RunStops}
 use Rattle.run_console.specs.Rows.{TakesAll, Tries, TriesLine}
-use Rattle.run_console.specs.Strict.{RunsStrictly, StopsStrictly}
 
 module _ {D : Type 0} (state : D → DiskState) (disk : (d : D) → IsDisk (state d)) where
   takes_carry : (old new : BookView D) (steps : List Step) → IsDurable state old
@@ -46,23 +46,14 @@ module _ {D : Type 0} (state : D → DiskState) (disk : (d : D) → IsDisk (stat
 
   -- ---- what a call says of both of its ends
 
-  pub run_carries : (r : Result ⊤ RunFault) (b c : BookView D) (r0 r1 w0 w1 : Option (List ℕ))
-      → IsDurable state b → OnOk r (RunsAll state b c r0 r1 w0 w1)
-      → IfErr r (λ why. RunStops state why b c r0 r1 w0 w1)
-      → CarriesOn state b c
-  run_carries (Ok done) b c r0 r1 w0 w1 durable all stops =
-      takes_carry b c _ durable all.taken
-  run_carries (Err why) b c r0 r1 w0 w1 durable all stops =
-      tried_carries b c why stops.ran _ durable stops.tried
-
-  pub strict_carries : (r : Result (Option StrayLine) RunFault) (b c : BookView D)
+  pub run_carries : (until : Until) (r : Result (Option StrayLine) RunFault) (b c : BookView D)
       (r0 r1 w0 w1 : Option (List ℕ)) → IsDurable state b
-      → IfOk r (λ stray. RunsStrictly state stray b c r0 r1 w0 w1)
-      → IfErr r (λ why. StopsStrictly state why b c r0 r1 w0 w1)
+      → IfOk r (λ stray. RunEnds state until stray b c r0 r1 w0 w1)
+      → IfErr r (λ why. RunStops state until why b c r0 r1 w0 w1)
       → CarriesOn state b c
-  strict_carries (Ok stray) b c r0 r1 w0 w1 durable runs stops =
+  run_carries until (Ok stray) b c r0 r1 w0 w1 durable runs stops =
       takes_carry b c _ durable runs.taken
-  strict_carries (Err why) b c r0 r1 w0 w1 durable runs stops =
+  run_carries until (Err why) b c r0 r1 w0 w1 durable runs stops =
       tried_carries b c why stops.ran _ durable stops.tried
 
   pub ran_carries : (lines : List (List ℕ)) (b c : BookView D) (before gathered : List ℕ)

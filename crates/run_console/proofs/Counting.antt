@@ -2,7 +2,7 @@
 use Rattle.std.specs.Prelude.{◌≡◌, ◌≢◌, ◌<◌, ◌+◌, ℕ, List, [], ◌∷◌, ◌++◌, map, length, take}
 use Rattle.std.specs.Prelude.{Option, Some, None, slice_get}
 use Rattle.std.specs.Option.{option_map}
-use Rattle.std.proofs.Common.{refl, ap, ◌∙◌, arith}
+use Rattle.std.proofs.Common.{refl, ap, sym, ◌∙◌, arith}
 use Rattle.std.proofs.lemmas.List.{take_more, length-take}
 use Rattle.std.proofs.lemmas.Option.{get_or_from_slice_get, slice_get_within}
 use Rattle.run_model.specs.declared.answers.TaskLook.{TaskLook}
@@ -51,10 +51,11 @@ seen_by p n look (Some row) at h =
     }
 
 -- A task that is seen has a row.
-pub seen_row : (p : State) (n : ℕ) (look : TaskLook)
-    → task_look_of p n ≡ Some look
+pub seen_row : (p : State) (n : ℕ) (look : TaskLook) (seen : Option TaskLook)
+    → seen ≡ task_look_of p n
+    → seen ≡ Some look
     → SeenRow p n look
-seen_row p n look h = seen_by p n look (slice_get p.work.tasks n) refl h
+seen_row p n look seen e h = seen_by p n look (slice_get p.work.tasks n) refl (sym e ∙ h)
 
 -- Fewer tasks are counted than there can be.
 pub few_counted : (tasks : List Task) (n : ℕ) → n < 8192 → length (take n tasks) < 65535

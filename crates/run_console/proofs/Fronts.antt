@@ -12,6 +12,7 @@ use Rattle.console_lines.specs.Lines.{whole_lines, open_line, lines_of}
 use Rattle.console_lines.specs.Progress.{IsFront}
 use Rattle.console_lines.specs.Script.{after_lines, closing, replies, script}
 use Rattle.console_lines.proofs.Steps.{replies-append}
+use Rattle.run_console.specs.declared.untils.Until.TheVariants.{End}
 use Rattle.run_console.specs.Progress.{BeginsScript, IsTold, IsWritten, RunStops, untried}
 
 -- What is replied to the lines that were run; where no line is left, the closing line comes after.
@@ -155,7 +156,7 @@ none_untried fault.Memory = refl
 
 pub stops_begin : {D : Type 0} (state : D → DiskState)
     (why : RunFault) (b c : BookView D) (r0 r1 w0 w1 : Option (List ℕ))
-    → RunStops state why b c r0 r1 w0 w1
+    → RunStops state End why b c r0 r1 w0 w1
     → BeginsScript why b.session r0 r1 w0 w1
 stops_begin state why b c r0 r1 w0 w1 h =
     let w = fronts_of why b.session h.ran h.left c w0 w1 h.written in
@@ -165,7 +166,7 @@ stops_begin state why b c r0 r1 w0 w1 h =
       front = w.front;
       begins =
           said_begins b.session h.bytes h.ran h.left r1 w.front h.lines_are
-          (λ e. h.ended (ap (untried why) e ∙ none_untried why)) w.begins;
+          (λ e. h.read_for (ap (untried why) e ∙ none_untried why)) w.begins;
       told = w.told;
       trouble = w.trouble;
       written = w.written;

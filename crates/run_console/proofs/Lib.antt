@@ -16,7 +16,7 @@ pub mod Parts
 pub mod Printing
 pub mod Quiet
 pub mod Rows
+pub mod RunLines
 pub mod Saving
-pub mod StrictLemmas
 pub mod Wholes
 pub mod Working

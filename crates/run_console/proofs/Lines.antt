@@ -20,7 +20,7 @@ use Rattle.run_console.specs.SessionLines.{IsSaving}
 use Rattle.run_console.specs.Progress.{Cut, IsStopped, Lasts, Ran, Told, Troubled, Untold, Wrote}
 use Rattle.run_console.specs.Progress.{WritesTrouble}
 use Rattle.run_console.specs.Rows.{TakesAll, TriesLine}
-use Rattle.run_console.proofs.Rows.{takes_lines, takes_none, takes_tally, tries_more}
+use Rattle.run_console.proofs.Rows.{takes_lines, takes_none, takes_tally}
 
 -- ---- the session
 
@@ -314,23 +314,3 @@ stopped_more fault.Memory (line ∷ left) ys h = h
 stopped_more fault.Input left ys h = tt
 stopped_more fault.InputTooLong left ys h = tt
 stopped_more fault.Output left ys h = tt
-
--- Lines that were cut are cut, whatever lines come after them.
-pub cut_more : {D : Type 0} (state : D → DiskState)
-    (why : RunFault) (xs ys : List (List ℕ)) (b c : BookView D) (f : List ℕ)
-    (w0 w1 : Option (List ℕ))
-    → Cut state why xs b c f w0 w1
-    → Cut state why (xs ++ ys) b c f w0 w1
-cut_more state why xs ys b c f w0 w1 h = record {
-  ran = h.ran;
-  left = h.left ++ ys;
-  lines_are = ap (λ z. z ++ ys) h.lines_are ∙ append_assoc h.ran h.left ys;
-  stopped = stopped_more why h.left ys h.stopped;
-  written = h.written;
-  session = h.session;
-  tried = record {
-    middle = h.tried.middle;
-    taken = h.tried.taken;
-    tried = tries_more state h.tried.middle c why h.left ys h.tried.tried;
-  };
-}

@@ -1,6 +1,7 @@
 -- Bytes without an LF: they end no line, and go on with the one that was begun.
 use Rattle.std.specs.Prelude.{◌≡◌, ◌==◌, ◌<◌, ◌+◌, ◌-◌, ℕ, zero, suc, Bool, true, false}
 use Rattle.std.specs.Prelude.{List, [], ◌∷◌, ◌++◌, length, take, drop, min, Option, slice_index}
+use Rattle.std.specs.Prelude.{Some, None}
 use Rattle.std.proofs.Common.{arith, inl, inr, refl, sym, ap, subst, ◌∙◌, append-nil, append_assoc}
 use Rattle.std.proofs.lemmas.Bool.{cases_lt, eqb-true}
 use Rattle.std.proofs.lemmas.List.{length-drop, length-take-le, take_all, take_min, take-append-le}
@@ -9,11 +10,15 @@ use Rattle.memchr.specs.Find.{Nowhere, Passes, is_byte}
 use Rattle.run_disk.specs.Disk.{DiskState}
 use Rattle.book_model.specs.Books.{BookView}
 use Rattle.console_lines.specs.declared.faults.RunFault.{RunFault}
+use Rattle.console_lines.specs.declared.strays.Stray.{Stray}
 use Rattle.console_lines.specs.Lines.{whole_lines, open_line}
 use Rattle.console_lines.specs.Progress.{kept}
+use Rattle.console_lines.specs.Strict.{stray_at}
 use Rattle.console_lines.proofs.Splits.{whole_lines-append, open_line-append}
-use Rattle.run_console.specs.Progress.{Cut, PartRan, Ran}
-use Rattle.run_console.proofs.Parts.{part_cut, part_ends}
+use Rattle.run_console.specs.declared.untils.Until.{Until}
+use Rattle.run_console.specs.Progress.{Clean, Cut, PartCut, PartRan, PartStrays, Ran}
+use Rattle.run_console.specs.Until.{ends_at}
+use Rattle.run_console.proofs.Parts.{part_ends, part_stops, part_strays}
 
 -- These bytes end no line, and go on with the one that was begun.
 abbrev pub IsQuiet : List ℕ → Type 0
@@ -75,61 +80,86 @@ kept_room tail xs room most e most_is =
 
 -- ---- a part of an input
 
--- Bytes without an LF run nothing.
-pub part_quiet : {D : Type 0} (state : D → DiskState)
-    (begun front xs tail more f g : List ℕ) (b c : BookView D) (w0 w1 : Option (List ℕ))
-    → PartRan state begun front b c tail f g w0 w1
-    → IsQuiet xs
-    → more ≡ kept (tail ++ xs)
-    → PartRan state begun (front ++ xs) b c more f g w0 w1
-part_quiet state begun front xs tail more f g b c w0 w1 so_far quiet e =
-    let line = open_line begun front in
-    let P : List (List ℕ) → Type 0 = λ lines. Ran state lines b c f g w0 w1 in
-    let whole : whole_lines begun (front ++ xs) ≡ whole_lines begun front =
-    whole_lines-append begun front xs
-    ∙ ap (λ l. whole_lines begun front ++ l) (quiet line).0
-    ∙ append-nil (whole_lines begun front) in
-    record {
-      ran = subst P (sym whole) so_far.ran;
-      tail_is =
-          kept_longer line xs tail more so_far.tail_is e
-          ∙ sym (ap kept (open_line-append begun front xs ∙ (quiet line).1));
-    }
-
--- The line that they go on with.
+-- The line that bytes without an LF go on with.
 open_quiet : (begun front xs : List ℕ) → IsQuiet xs
     → open_line begun front ++ xs ≡ open_line begun (front ++ xs)
 open_quiet begun front xs quiet =
     sym (open_line-append begun front xs ∙ (quiet (open_line begun front)).1)
 
--- The next line was run, which an LF ends.
-pub line_ran : {D : Type 0} (state : D → DiskState)
-    (begun front xs tail more f g h : List ℕ) (b c d : BookView D) (w0 w1 w2 : Option (List ℕ))
-    → PartRan state begun front b c tail f g w0 w1
-    → IsQuiet xs
-    → Ran state ((open_line begun front ++ xs) ∷ []) c d g h w1 w2
-    → more ≡ []
-    → PartRan state begun ((front ++ xs) ++ 10 ∷ []) b d more f h w0 w2
-line_ran state begun front xs tail more f g h b c d w0 w1 w2 so_far quiet ran none =
-    let P : List ℕ → Type 0 = λ line. Ran state (line ∷ []) c d g h w1 w2 in
-    part_ends state begun (front ++ xs) more b c d (kept (tail ++ xs)) f g h w0 w1 w2
-    (part_quiet state begun front xs tail (kept (tail ++ xs)) f g b c w0 w1 so_far quiet refl)
-    (subst P (open_quiet begun front xs quiet) ran) none
+module _ {D : Type 0} (state : D → DiskState) (until : Until) where
+  -- They run nothing.
+  pub part_quiet : (n m : ℕ) (begun front xs tail more f g : List ℕ) (b c : BookView D)
+      (w0 w1 : Option (List ℕ))
+      → PartRan state until n m begun front b c tail f g w0 w1
+      → IsQuiet xs
+      → more ≡ kept (tail ++ xs)
+      → PartRan state until n m begun (front ++ xs) b c more f g w0 w1
+  part_quiet n m begun front xs tail more f g b c w0 w1 so_far quiet e =
+      let line = open_line begun front in
+      let P : List (List ℕ) → Type 0 = λ lines. Ran state lines b c f g w0 w1 in
+      let Q : List (List ℕ) → Type 0 = λ lines. Clean until n m b.session lines in
+      let whole : whole_lines begun (front ++ xs) ≡ whole_lines begun front =
+      whole_lines-append begun front xs
+      ∙ ap (λ l. whole_lines begun front ++ l) (quiet line).0
+      ∙ append-nil (whole_lines begun front) in
+      record {
+        ran = subst P (sym whole) so_far.ran;
+        tail_is =
+            kept_longer line xs tail more so_far.tail_is e
+            ∙ ap kept (open_quiet begun front xs quiet);
+        clean = subst Q (sym whole) so_far.clean;
+      }
 
--- Or it was cut, whatever bytes come after its LF.
-pub line_cut : {D : Type 0} (state : D → DiskState)
-    (why : RunFault) (begun all front xs behind tail f g : List ℕ) (b c d : BookView D)
-    (w0 w1 w2 : Option (List ℕ))
-    → all ≡ ((front ++ xs) ++ 10 ∷ []) ++ behind
-    → PartRan state begun front b c tail f g w0 w1
-    → IsQuiet xs
-    → Cut state why ((open_line begun front ++ xs) ∷ []) c d g w1 w2
-    → Cut state why (whole_lines begun all) b d f w0 w2
-line_cut state why begun all front xs behind tail f g b c d w0 w1 w2 e so_far quiet cut =
-    let P : List ℕ → Type 0 = λ line. Cut state why (line ∷ []) c d g w1 w2 in
-    part_cut state why begun all (front ++ xs) behind b c d (kept (tail ++ xs)) f g w0 w1 w2 e
-    (part_quiet state begun front xs tail (kept (tail ++ xs)) f g b c w0 w1 so_far quiet refl)
-    (subst P (open_quiet begun front xs quiet) cut)
+  -- The next line was run, which an LF ends, and the run goes on.
+  pub line_ran : (n m : ℕ) (begun front xs tail more f g h : List ℕ) (b c d : BookView D)
+      (w0 w1 w2 : Option (List ℕ))
+      → PartRan state until n m begun front b c tail f g w0 w1
+      → IsQuiet xs
+      → Ran state ((open_line begun front ++ xs) ∷ []) c d g h w1 w2
+      → ends_at until (stray_at c.session (open_line begun front ++ xs)) ≡ None
+      → more ≡ []
+      → PartRan state until n (m + 1) begun ((front ++ xs) ++ 10 ∷ []) b d more f h w0 w2
+  line_ran n m begun front xs tail more f g h b c d w0 w1 w2 so_far quiet ran stays none =
+      let P : List ℕ → Type 0 = λ line. Ran state (line ∷ []) c d g h w1 w2 in
+      let Q : List ℕ → Type 0 = λ line. ends_at until (stray_at c.session line) ≡ None in
+      let line = open_quiet begun front xs quiet in
+      part_ends state until n m begun (front ++ xs) more b c d (kept (tail ++ xs)) f g h w0 w1 w2
+      (part_quiet n m begun front xs tail (kept (tail ++ xs)) f g b c w0 w1 so_far quiet refl)
+      (subst P line ran) (subst Q line stays) none
+
+  -- Or the run ends after it.
+  pub line_strays : (n m : ℕ) (begun all front xs behind tail f g h : List ℕ)
+      (b c d : BookView D) (w0 w1 w2 : Option (List ℕ)) (why : Stray)
+      → all ≡ ((front ++ xs) ++ 10 ∷ []) ++ behind
+      → PartRan state until n m begun front b c tail f g w0 w1
+      → IsQuiet xs
+      → Ran state ((open_line begun front ++ xs) ∷ []) c d g h w1 w2
+      → ends_at until (stray_at c.session (open_line begun front ++ xs)) ≡ Some why
+      → PartStrays state until (record { number = m; why = why }) n begun all b d f h w0 w2
+  line_strays n m begun all front xs behind tail f g h b c d w0 w1 w2 why e so_far quiet ran
+      strays =
+      let P : List ℕ → Type 0 = λ line. Ran state (line ∷ []) c d g h w1 w2 in
+      let Q : List ℕ → Type 0 = λ line. ends_at until (stray_at c.session line) ≡ Some why in
+      let line = open_quiet begun front xs quiet in
+      part_strays state until n m begun all (front ++ xs) behind b c d (kept (tail ++ xs)) f g h
+      w0 w1 w2 why (e ∙ append_assoc (front ++ xs) (10 ∷ []) behind)
+      (part_quiet n m begun front xs tail (kept (tail ++ xs)) f g b c w0 w1 so_far quiet refl)
+      (subst P line ran) (subst Q line strays)
+
+  -- Or it was cut, whatever bytes come after its LF.
+  pub line_cut : (why : RunFault) (n m : ℕ) (begun all front xs behind tail f g : List ℕ)
+      (b c d : BookView D) (w0 w1 w2 : Option (List ℕ))
+      → all ≡ ((front ++ xs) ++ 10 ∷ []) ++ behind
+      → PartRan state until n m begun front b c tail f g w0 w1
+      → IsQuiet xs
+      → Cut state why ((open_line begun front ++ xs) ∷ []) c d g w1 w2
+      → PartCut state until why n begun all b d f w0 w2
+  line_cut why n m begun all front xs behind tail f g b c d w0 w1 w2 e so_far quiet cut =
+      let P : List ℕ → Type 0 = λ line. Cut state why (line ∷ []) c d g w1 w2 in
+      part_stops state until why n m begun all (front ++ xs) behind b c d (kept (tail ++ xs)) f g
+      w0 w1 w2 (e ∙ append_assoc (front ++ xs) (10 ∷ []) behind)
+      (part_quiet n m begun front xs tail (kept (tail ++ xs)) f g b c w0 w1 so_far quiet refl)
+      (subst P (open_quiet begun front xs quiet) cut)
 
 -- Where that line stands in the part.
 pub line_stands : (all front rest : List ℕ) (n : ℕ)

@@ -1,28 +1,40 @@
 -- A whole input: what was read of it, and how its run ended.
-use Rattle.std.specs.Prelude.{◌≡◌, ◌≤◌, ◌+◌, ◌-◌, min, ℕ, List, [], ◌∷◌, ◌++◌, Option, length, take}
+use Rattle.std.specs.Prelude.{◌≡◌, ◌≤◌, ◌<◌, ◌+◌, ◌-◌, min, ℕ, List, [], ◌∷◌, ◌++◌, length}
+use Rattle.std.specs.Prelude.{Option, Some, None, is_some, true, false, take}
+use Rattle.std.specs.Option.{option_map}
 use Rattle.std.specs.Io.KnownBytes.{Appends, Consumes, IsAtEnd}
 use Rattle.std.proofs.Common.{arith, inl, inr, refl, sym, ap, ◌∙◌, subst, append_assoc, append-nil}
 use Rattle.std.proofs.Common.{length-append}
-use Rattle.std.proofs.lemmas.List.{length-take, length-take-le}
+use Rattle.std.proofs.lemmas.List.{length-take, length-take-le, take-append-le}
 use Rattle.run_model.specs.Session.{Session}
 use Rattle.run_disk.specs.Disk.{DiskState}
 use Rattle.book_model.specs.Books.{BookView}
 use Rattle.console_lines.specs.declared.lines.TheConstants.{LONGEST_INPUT}
 use Rattle.console_lines.specs.declared.faults.RunFault.{RunFault}
 use Rattle.console_lines.specs.declared.faults.RunFault.TheVariants as fault
+use Rattle.console_lines.specs.declared.strays.Stray.{Stray}
+use Rattle.console_lines.specs.declared.strays.StrayLine.{StrayLine}
 use Rattle.console_lines.specs.Lines.{whole_lines, open_line, lines_of}
 use Rattle.console_lines.specs.Script.{after_lines, closing, replies, steps_of}
+use Rattle.console_lines.specs.Strict.{stray_at}
 use Rattle.console_lines.specs.Progress.{WritesPart}
-use Rattle.console_lines.proofs.Splits.{whole_lines-append}
+use Rattle.console_lines.proofs.Splits.{whole_lines-append, open_line-append}
 use Rattle.console_lines.proofs.Written.{appends_then, consumes_then}
 use Rattle.run_model.specs.declared.commands.Step.{Step}
 use Rattle.run_model.specs.declared.commands.Step.TheVariants as step
+use Rattle.run_console.specs.declared.untils.Until.{Until}
 use Rattle.run_console.specs.Rows.{TakesAll, Tries, next_steps}
+use Rattle.run_console.specs.Progress.{Cut, EndStops, Found, IsOfLine, IsReached, IsRunStopped}
+use Rattle.run_console.specs.Progress.{IsStopped, IsWritten, PartCut, PartRan, PartRuns, PartStrays}
+use Rattle.run_console.specs.Progress.{Ran, RanLines, Reads, ReadsAll, RunEnds, RunStops, Told}
+use Rattle.run_console.specs.Progress.{WritesTrouble, Wrote, lines_to, untried}
+use Rattle.run_console.specs.Until.{IsReadFor, ends_at, lines_until}
 use Rattle.run_console.proofs.Rows.{takes_join, tries_more, tries_next}
-use Rattle.run_console.specs.Progress.{Cut, EndStops, IsOfLine, IsReached, IsRunStopped, IsStopped}
-use Rattle.run_console.specs.Progress.{IsWritten, PartRan, Ran, ReadsAll, RunStops, RunsAll, Told}
-use Rattle.run_console.specs.Progress.{WritesTrouble, Wrote, untried}
-use Rattle.run_console.proofs.Lines.{cut_then, part_behind, ran_then, trouble_behind}
+use Rattle.run_console.proofs.Lines.{cut_then, cut_written, part_behind, ran_then, stopped_more}
+use Rattle.run_console.proofs.Lines.{trouble_behind}
+use Rattle.run_console.proofs.Parts.{part_then}
+use Rattle.run_console.proofs.RunLines.{at_end, ends_first, found_then, last_lines, last_stray}
+use Rattle.run_console.proofs.RunLines.{left_over, lines_behind, read_first, search_on}
 
 -- ---- what is read
 
@@ -45,69 +57,60 @@ part_read bytes room old n most total part h few long is within =
     let cut = length-take most old in
     record { len = omega arith; within = omega arith }
 
--- The input was read to its end.
-pub reads_all : {D : Type 0} (state : D → DiskState)
-    (bytes tail : List ℕ) (b c : BookView D) (r0 r1 r2 w0 w1 : Option (List ℕ))
-    → Consumes r0 r1 bytes
-    → Consumes r1 r2 []
-    → IsAtEnd r2
-    → length bytes ≤ LONGEST_INPUT
-    → PartRan state [] bytes b c tail [] [] w0 w1
-    → ReadsAll state b c tail r0 r2 w0 w1
-reads_all state bytes tail b c r0 r1 r2 w0 w1 read none ended within part =
-    let P : List ℕ → Type 0 = λ x. Consumes r0 r2 x in
-    record {
-      bytes = bytes;
-      read = subst P (append-nil bytes) (consumes_then r0 r1 r2 bytes [] read none);
-      ended = ended;
-      within = within;
-      part = part;
-    }
+-- The bytes that were read, where nothing was gathered before them.
+pub part_here : (P : List ℕ → List ℕ → Type 0) (n : ℕ) (room rest gathered : List ℕ)
+    → n ≤ length room
+    → gathered ≡ []
+    → P gathered (take n (room ++ rest))
+    → P [] (take n room)
+part_here P n room rest gathered few none h =
+    subst (λ x. P [] x) (take-append-le n room rest few)
+    (subst (λ x. P x (take n (room ++ rest))) none h)
+
+-- They are no more than there was room for.
+pub part_few : (room old : List ℕ) (n most total part : ℕ)
+    → n ≤ length room
+    → length room ≡ length (take most old)
+    → most ≡ min (LONGEST_INPUT + 1 - total) part
+    → length (take n room) ≤ part
+part_few room old n most total part few long is =
+    let size : length (take n room) ≡ n = length-take-le n room few in
+    let cut = length-take most old in
+    omega arith
+
+-- Every line but the last of an input is ended by a byte of it.
+few_lines : (begun bytes : List ℕ) → length (whole_lines begun bytes) ≤ length bytes
+few_lines begun [] = omega arith
+few_lines begun (x ∷ bytes) =
+    grind (arith, few_lines [] bytes, few_lines (begun ++ x ∷ []) bytes)
+
+-- The lines up to some LF of a part, after those before it.
+lines_up_to : (xs front : List ℕ)
+    → lines_of (xs ++ front) ≡ whole_lines [] xs ++ lines_to (open_line [] xs) front
+lines_up_to xs front =
+    ap (λ l. l ++ open_line [] (xs ++ front) ∷ []) (whole_lines-append [] xs front)
+    ∙ ap (λ l. (whole_lines [] xs ++ whole_lines (open_line [] xs) front) ++ l ∷ [])
+    (open_line-append [] xs front)
+    ∙ append_assoc (whole_lines [] xs) (whole_lines (open_line [] xs) front)
+    (open_line (open_line [] xs) front ∷ [])
+
+-- An input up to some LF, and what comes after it.
+around : (xs part front behind : List ℕ)
+    → part ≡ front ++ 10 ∷ behind
+    → xs ++ part ≡ (xs ++ front) ++ 10 ∷ behind
+around xs part front behind e =
+    ap (λ t. xs ++ t) e ∙ sym (append_assoc xs front (10 ∷ behind))
+
+-- Of a part that was read at once little comes after an LF.
+few_behind : (part front behind : List ℕ)
+    → part ≡ front ++ 10 ∷ behind → length part ≤ 4096 → length behind < 4096
+few_behind part front behind e h =
+    omega (arith, ap length e, length-append front (10 ∷ behind), h)
 
 -- ---- a run that stops
 
--- A line after these is left.
-pub left_over : (xs : List (List ℕ)) (y : List ℕ) (X : Type 0) → xs ++ y ∷ [] ≡ [] → X
-left_over [] y X e = absurd (omega (arith, ap length e))
-left_over (x ∷ xs) y X e = absurd (omega (arith, ap length e))
-
--- A fault of reading, after all lines that an LF ended.
-pub stops_reading : {D : Type 0} (state : D → DiskState)
-    (why : RunFault) (bytes tail : List ℕ) (b c : BookView D) (r0 r1 w0 w1 : Option (List ℕ))
-    → Consumes r0 r1 bytes
-    → PartRan state [] bytes b c tail [] [] w0 w1
-    → IsReached why bytes (whole_lines [] bytes)
-    → ((left : List (List ℕ)) → untried why left ≡ left)
-    → ((left : List (List ℕ)) → IsRunStopped why left)
-    → (Appends w0 w1 (replies b.session (whole_lines [] bytes))
-    → IsWritten why b.session (whole_lines [] bytes) (open_line [] bytes ∷ []) c w0 w1)
-    → ((steps : List Step) → Tries state c why steps c)
-    → RunStops state why b c r0 r1 w0 w1
-stops_reading state why bytes tail b c r0 r1 w0 w1 read part reached all_left stopped written
-    not_tried =
-    let P : List ℕ → Type 0 = λ x. Appends w0 w1 x in
-    let ran = part.ran in
-    let left = open_line [] bytes ∷ [] in
-    record {
-      bytes = bytes;
-      read = read;
-      ran = whole_lines [] bytes;
-      left = left;
-      lines_are = refl;
-      ended = λ e. left_over [] (open_line [] bytes) _ (sym (all_left left) ∙ e);
-      stopped = stopped left;
-      reached = reached;
-      session = ran.session;
-      tried = record {
-        middle = c;
-        taken = ran.taken;
-        tried = not_tried (next_steps left);
-      };
-      written = written (subst P (sym (ran.replied ∙ append-nil ran.out)) ran.written);
-    }
-
 -- What was written up to a line that stopped.
-pub written_so : {D : Type 0} (why : RunFault) (s : Session) (ran left : List (List ℕ))
+written_so : {D : Type 0} (why : RunFault) (s : Session) (ran left : List (List ℕ))
     (c : BookView D) (w0 w1 : Option (List ℕ))
     → Wrote why (replies s ran) w0 w1 → IsWritten why s ran left c w0 w1
 written_so fault.Output s ran left c w0 w1 h = inl h
@@ -116,7 +119,7 @@ written_so fault.Memory s ran left c w0 w1 h = h
 written_so fault.Input s ran left c w0 w1 h = h
 written_so fault.InputTooLong s ran left c w0 w1 h = h
 
-pub reached_in : (why : RunFault) (bytes : List ℕ) (ran : List (List ℕ))
+reached_in : (why : RunFault) (bytes : List ℕ) (ran : List (List ℕ))
     → IsOfLine why
     → length bytes ≤ LONGEST_INPUT + 1
     → IsReached why bytes ran
@@ -126,84 +129,35 @@ reached_in fault.Memory bytes ran f h = h
 reached_in fault.Input bytes ran f h = absurd f
 reached_in fault.InputTooLong bytes ran f h = absurd f
 
--- A line that stopped, with lines after it, stops a run.
-run_stopped : (why : RunFault) (left : List (List ℕ)) (y : List ℕ)
-    → IsStopped why left → IsRunStopped why (left ++ y ∷ [])
-run_stopped (fault.Store why) [] y h = absurd h
-run_stopped (fault.Store why) (line ∷ left) y h = h
-run_stopped fault.Memory [] y h = absurd h
-run_stopped fault.Memory (line ∷ left) y h = h
-run_stopped fault.Input left y h = tt
-run_stopped fault.InputTooLong left y h = tt
-run_stopped fault.Output left y h = tt
+-- What ends with nothing has nothing at its end.
+no_end : (xs ys : List (List ℕ)) → xs ++ ys ≡ [] → ys ≡ []
+no_end [] ys e = e
+no_end (x ∷ xs) ys e = absurd (omega (arith, ap length e))
 
--- A line that was not tried follows.
-untried_more : (why : RunFault) (left : List (List ℕ)) (y : List ℕ) (X : Type 0)
-    → IsStopped why left → untried why (left ++ y ∷ []) ≡ [] → X
-untried_more (fault.Store why) [] y X h e = absurd h
-untried_more (fault.Store why) (line ∷ left) y X h e = left_over left y X e
-untried_more fault.Memory [] y X h e = absurd h
-untried_more fault.Memory (line ∷ left) y X h e = left_over left y X e
-untried_more fault.Input left y X h e = left_over left y X e
-untried_more fault.InputTooLong left y X h e = left_over left y X e
-untried_more fault.Output left y X h e = left_over left y X e
+-- Where no line is left after one that stopped, none follows.
+none_behind : (why : RunFault) (left more : List (List ℕ))
+    → IsStopped why left → untried why (left ++ more) ≡ [] → more ≡ []
+none_behind (fault.Store why) [] more h e = absurd h
+none_behind (fault.Store why) (line ∷ left) more h e = no_end left more e
+none_behind fault.Memory [] more h e = absurd h
+none_behind fault.Memory (line ∷ left) more h e = no_end left more e
+none_behind fault.Input left more h e = no_end left more e
+none_behind fault.InputTooLong left more h e = no_end left more e
+none_behind fault.Output left more h e = no_end left more e
 
--- A line stopped after some part of the input.
-pub stops_in_a_part : {D : Type 0} (state : D → DiskState)
-    (why : RunFault) (bytes part tail : List ℕ) (b c d : BookView D)
-    (r0 r1 r2 w0 w1 w2 : Option (List ℕ))
-    → IsOfLine why
-    → Consumes r0 r1 bytes
-    → Consumes r1 r2 part
-    → length (bytes ++ part) ≤ LONGEST_INPUT + 1
-    → PartRan state [] bytes b c tail [] [] w0 w1
-    → Cut state why (whole_lines (open_line [] bytes) part) c d [] w1 w2
-    → RunStops state why b d r0 r2 w0 w2
-stops_in_a_part state why bytes part tail b c d r0 r1 r2 w0 w1 w2 f read more few so_far cut =
-    let all = bytes ++ part in
-    let behind = whole_lines (open_line [] bytes) part in
-    let last = open_line [] all in
-    let s = b.session in
-    let whole =
-    cut_then state why (whole_lines [] bytes) behind b c d [] [] w0 w1 w2 so_far.ran cut in
-    record {
-      bytes = all;
-      read = consumes_then r0 r1 r2 bytes part read more;
-      ran = whole.ran;
-      left = whole.left ++ last ∷ [];
-      lines_are =
-          ap (λ x. x ++ last ∷ []) (whole_lines-append [] bytes part ∙ whole.lines_are)
-          ∙ append_assoc whole.ran whole.left (last ∷ []);
-      ended = untried_more why whole.left last _ whole.stopped;
-      stopped = run_stopped why whole.left last whole.stopped;
-      reached = reached_in why all whole.ran f few;
-      session = whole.session;
-      tried = record {
-        middle = whole.tried.middle;
-        taken = whole.tried.taken;
-        tried =
-            tries_next state whole.tried.middle d why (whole.left ++ last ∷ [])
-            (tries_more state whole.tried.middle d why whole.left (last ∷ [])
-            whole.tried.tried);
-      };
-      written = written_so why s whole.ran (whole.left ++ last ∷ []) d w0 w2 whole.written;
-    }
-
--- ---- the end of the input
-
--- All lines were run.
-pub all_ran : {D : Type 0} (state : D → DiskState)
-    (b c d : BookView D) (tail g : List ℕ) (r0 r1 w0 w1 w2 : Option (List ℕ))
-    → (reads : ReadsAll state b c tail r0 r1 w0 w1)
-    → Ran state (open_line [] reads.bytes ∷ []) c d [] g w1 w2
-    → Ran state (lines_of reads.bytes) b d [] g w0 w2
-all_ran state b c d tail g r0 r1 w0 w1 w2 reads last =
-    ran_then state (whole_lines [] reads.bytes) (open_line [] reads.bytes ∷ []) b c d [] [] g w0 w1
-    w2
-    reads.part.ran last
+-- A line that stopped stops a run.
+stopped_so : (why : RunFault) (left : List (List ℕ)) → IsStopped why left
+    → IsRunStopped why left
+stopped_so (fault.Store why) [] h = tt
+stopped_so (fault.Store why) (line ∷ left) h = h
+stopped_so fault.Memory [] h = h
+stopped_so fault.Memory (line ∷ left) h = h
+stopped_so fault.Input left h = tt
+stopped_so fault.InputTooLong left h = tt
+stopped_so fault.Output left h = tt
 
 -- The closing line was told after these lines.
-pub end_told : {D : Type 0} (state : D → DiskState)
+end_told : {D : Type 0} (state : D → DiskState)
     (b d : BookView D) (lines : List (List ℕ)) (g : List ℕ) (w0 w2 w3 : Option (List ℕ))
     → Ran state lines b d [] g w0 w2
     → Told (closing d.session) g [] w2 w3
@@ -222,7 +176,7 @@ end_told state b d lines g w0 w2 w3 ran told =
     subst P (sym text) (appends_then w0 w2 w3 ran.out told.out ran.written told.written)
 
 -- What stopped in the end.
-pub end_stops : {D : Type 0} (why : RunFault) (e : BookView D) (end g : List ℕ)
+end_stops : {D : Type 0} (why : RunFault) (e : BookView D) (end g : List ℕ)
     (w2 w3 : Option (List ℕ))
     → EndStops why e end g w2 w3 → IsRunStopped why []
 end_stops (fault.Store why) e end g w2 w3 h = tt
@@ -231,7 +185,7 @@ end_stops fault.Memory e end g w2 w3 h = absurd h
 end_stops fault.Input e end g w2 w3 h = tt
 end_stops fault.InputTooLong e end g w2 w3 h = tt
 
-pub reached_end : {D : Type 0} (why : RunFault) (e : BookView D) (end g : List ℕ)
+reached_end : {D : Type 0} (why : RunFault) (e : BookView D) (end g : List ℕ)
     (w2 w3 : Option (List ℕ)) (bytes : List ℕ) (lines : List (List ℕ))
     → EndStops why e end g w2 w3
     → length bytes ≤ LONGEST_INPUT + 1 → IsReached why bytes lines
@@ -242,7 +196,7 @@ reached_end fault.Input e end g w2 w3 bytes lines h few = absurd h
 reached_end fault.InputTooLong e end g w2 w3 bytes lines h few = absurd h
 
 -- What was written up to there.
-pub end_wrote : {D : Type 0} (state : D → DiskState) (why : RunFault) (b d e : BookView D)
+end_wrote : {D : Type 0} (state : D → DiskState) (why : RunFault) (b d e : BookView D)
     (lines : List (List ℕ)) (g : List ℕ)
     (w0 w2 w3 : Option (List ℕ))
     → Ran state lines b d [] g w0 w2
@@ -267,98 +221,367 @@ end_wrote state fault.Memory b d e lines g w0 w2 w3 ran h = absurd h
 end_wrote state fault.Input b d e lines g w0 w2 w3 ran h = absurd h
 end_wrote state fault.InputTooLong b d e lines g w0 w2 w3 ran h = absurd h
 
--- The closing line was written after them.
-pub runs_all : {D : Type 0} (state : D → DiskState)
-    (b c d e : BookView D) (tail g : List ℕ) (r0 r1 w0 w1 w2 w3 : Option (List ℕ))
-    → (reads : ReadsAll state b c tail r0 r1 w0 w1)
-    → Ran state (open_line [] reads.bytes ∷ []) c d [] g w1 w2
-    → e.session ≡ d.session
-    → Told (closing d.session) g [] w2 w3
-    → TakesAll state d (step.Flush ∷ []) e
-    → e.durable ≡ e.session.state.count
-    → RunsAll state b e r0 r1 w0 w3
-runs_all state b c d e tail g r0 r1 w0 w1 w2 w3 reads last same told flushed saved =
-    let ran = all_ran state b c d tail g r0 r1 w0 w1 w2 reads last in
-    record {
-      bytes = reads.bytes;
-      read = reads.read;
-      ended = reads.ended;
-      within = reads.within;
-      session = same ∙ ran.session;
-      taken =
-          takes_join state b d e (steps_of (lines_of reads.bytes))
-          (step.Flush ∷ []) ran.taken flushed;
-      written = end_told state b d (lines_of reads.bytes) g w0 w2 w3 ran told;
-      saved = saved;
-    }
+-- ---- a whole run
 
--- A line that stopped stops a run.
-pub stopped_so : (why : RunFault) (left : List (List ℕ)) → IsStopped why left
-    → IsRunStopped why left
-stopped_so (fault.Store why) [] h = tt
-stopped_so (fault.Store why) (line ∷ left) h = h
-stopped_so fault.Memory [] h = h
-stopped_so fault.Memory (line ∷ left) h = h
-stopped_so fault.Input left h = tt
-stopped_so fault.InputTooLong left h = tt
-stopped_so fault.Output left h = tt
+module _ {D : Type 0} (state : D → DiskState) (until : Until) where
+  -- The input was read to its end.
+  pub reads_all : (m : ℕ) (bytes tail : List ℕ) (b c : BookView D)
+      (r0 r1 r2 w0 w1 : Option (List ℕ))
+      → Consumes r0 r1 bytes
+      → Consumes r1 r2 []
+      → IsAtEnd r2
+      → length bytes ≤ LONGEST_INPUT
+      → PartRan state until 1 m [] bytes b c tail [] [] w0 w1
+      → ReadsAll state until m b c tail r0 r2 w0 w1
+  reads_all m bytes tail b c r0 r1 r2 w0 w1 read none ended within part =
+      let P : List ℕ → Type 0 = λ x. Consumes r0 r2 x in
+      record {
+        bytes = bytes;
+        read = subst P (append-nil bytes) (consumes_then r0 r1 r2 bytes [] read none);
+        ended = ended;
+        within = within;
+        part = part;
+      }
 
--- The last line stopped.
-pub stops_in_the_last : {D : Type 0} (state : D → DiskState)
-    (why : RunFault) (b c d : BookView D) (tail : List ℕ) (r0 r1 w0 w1 w2 : Option (List ℕ))
-    → IsOfLine why
-    → (reads : ReadsAll state b c tail r0 r1 w0 w1)
-    → Cut state why (open_line [] reads.bytes ∷ []) c d [] w1 w2
-    → RunStops state why b d r0 r1 w0 w2
-stops_in_the_last state why b c d tail r0 r1 w0 w1 w2 f reads cut =
-    let bytes = reads.bytes in
-    let last = open_line [] bytes in
-    let whole =
-    cut_then state why (whole_lines [] bytes) (last ∷ []) b c d [] [] w0 w1 w2 reads.part.ran cut in
-    record {
-      bytes = bytes;
-      read = reads.read;
-      ran = whole.ran;
-      left = whole.left;
-      lines_are = whole.lines_are;
-      ended = λ _. reads.ended;
-      stopped = stopped_so why whole.left whole.stopped;
-      reached = reached_in why bytes whole.ran f (omega (arith, reads.within));
-      session = whole.session;
-      tried = record {
-        middle = whole.tried.middle;
-        taken = whole.tried.taken;
-        tried =
-            tries_next state whole.tried.middle d why whole.left whole.tried.tried;
-      };
-      written = written_so why b.session whole.ran whole.left d w0 w2 whole.written;
-    }
+  -- The number of the line that was begun.
+  pub few_before : (m : ℕ) (bytes tail : List ℕ) (b c : BookView D) (w0 w1 : Option (List ℕ))
+      → PartRan state until 1 m [] bytes b c tail [] [] w0 w1
+      → m ≤ 1 + length bytes
+  few_before m bytes tail b c w0 w1 so_far =
+      omega (arith, so_far.clean.next, few_lines [] bytes)
 
--- The last flush stopped, or the writer failed after it.
-pub stops_closing : {D : Type 0} (state : D → DiskState)
-    (why : RunFault) (b c d e : BookView D) (tail g : List ℕ) (r0 r1 w0 w1 w2 w3 : Option (List ℕ))
-    → (reads : ReadsAll state b c tail r0 r1 w0 w1)
-    → Ran state (open_line [] reads.bytes ∷ []) c d [] g w1 w2
-    → e.session ≡ d.session
-    → EndStops why e (closing d.session) g w2 w3
-    → Tries state d why (step.Flush ∷ []) e
-    → RunStops state why b e r0 r1 w0 w3
-stops_closing state why b c d e tail g r0 r1 w0 w1 w2 w3 reads last same end flushed =
-    let bytes = reads.bytes in
-    let lines = lines_of bytes in
-    let ran = all_ran state b c d tail g r0 r1 w0 w1 w2 reads last in
-    record {
-      bytes = bytes;
-      read = reads.read;
-      ran = lines;
-      left = [];
-      lines_are = sym (append-nil lines);
-      ended = λ _. reads.ended;
-      stopped = end_stops why e (closing d.session) g w2 w3 end;
-      reached =
-          reached_end why e (closing d.session) g w2 w3 bytes lines end
-          (omega (arith, reads.within));
-      session = same ∙ ran.session;
-      tried = record { middle = d; taken = ran.taken; tried = flushed };
-      written = end_wrote state why b d e lines g w0 w2 w3 ran end;
-    }
+  -- A fault of reading, after all lines that an LF ended.
+  pub stops_reading : (why : RunFault) (m : ℕ) (bytes tail : List ℕ) (b c : BookView D)
+      (r0 r1 w0 w1 : Option (List ℕ))
+      → Consumes r0 r1 bytes
+      → PartRan state until 1 m [] bytes b c tail [] [] w0 w1
+      → IsReached why bytes (whole_lines [] bytes)
+      → ((left : List (List ℕ)) → untried why left ≡ left)
+      → ((left : List (List ℕ)) → IsRunStopped why left)
+      → (Appends w0 w1 (replies b.session (whole_lines [] bytes))
+      → IsWritten why b.session (whole_lines [] bytes) (open_line [] bytes ∷ []) c w0 w1)
+      → ((steps : List Step) → Tries state c why steps c)
+      → RunStops state until why b c r0 r1 w0 w1
+  stops_reading why m bytes tail b c r0 r1 w0 w1 read part reached all_left stopped written
+      not_tried =
+      let P : List ℕ → Type 0 = λ x. Appends w0 w1 x in
+      let ran = part.ran in
+      let left = open_line [] bytes ∷ [] in
+      record {
+        bytes = bytes;
+        read = read;
+        ran = whole_lines [] bytes;
+        left = left;
+        lines_are = last_lines until m b.session c.session bytes ran.session part.clean;
+        read_for = λ e. left_over [] (open_line [] bytes) _ (sym (all_left left) ∙ e);
+        stopped = stopped left;
+        reached = reached;
+        session = ran.session;
+        tried = record {
+          middle = c;
+          taken = ran.taken;
+          tried = not_tried (next_steps left);
+        };
+        written = written (subst P (sym (ran.replied ∙ append-nil ran.out)) ran.written);
+      }
+
+  -- Lines of which the first were run stopped, and more come after them.
+  stops_of : (why : RunFault) (bytes : List ℕ) (lines more : List (List ℕ)) (b d : BookView D)
+      (r0 r1 w0 w1 : Option (List ℕ))
+      → IsOfLine why
+      → Consumes r0 r1 bytes
+      → length bytes ≤ LONGEST_INPUT + 1
+      → lines_until until b.session (lines_of bytes) ≡ lines ++ more
+      → Cut state why lines b d [] w0 w1
+      → (more ≡ [] → IsReadFor until lines bytes r1)
+      → RunStops state until why b d r0 r1 w0 w1
+  stops_of why bytes lines more b d r0 r1 w0 w1 f read few is cut reads =
+      let P : List (List ℕ) → Type 0 = λ l. IsReadFor until l bytes r1 in
+      let left = cut.left ++ more in
+      record {
+        bytes = bytes;
+        read = read;
+        ran = cut.ran;
+        left = left;
+        lines_are =
+            is ∙ ap (λ l. l ++ more) cut.lines_are ∙ append_assoc cut.ran cut.left more;
+        read_for = λ e.
+            let none = none_behind why cut.left more cut.stopped e in
+            subst P
+            (cut.lines_are
+            ∙ ap (λ l. cut.ran ++ l)
+            (sym (append-nil cut.left) ∙ ap (λ m. cut.left ++ m) (sym none)))
+            (reads none);
+        stopped = stopped_so why left (stopped_more why cut.left more cut.stopped);
+        reached = reached_in why bytes cut.ran f few;
+        session = cut.session;
+        tried = record {
+          middle = cut.tried.middle;
+          taken = cut.tried.taken;
+          tried =
+              tries_next state cut.tried.middle d why left
+              (tries_more state cut.tried.middle d why cut.left more cut.tried.tried);
+        };
+        written = written_so why b.session cut.ran left d w0 w1 cut.written;
+      }
+
+  -- A line of a part stopped.
+  pub stops_in_a_part : (why : RunFault) (n : ℕ) (bytes part tail : List ℕ)
+      (b c d : BookView D) (r0 r1 r2 w0 w1 w2 : Option (List ℕ))
+      → IsOfLine why
+      → Consumes r0 r1 bytes
+      → Consumes r1 r2 part
+      → length (bytes ++ part) ≤ LONGEST_INPUT + 1
+      → length part ≤ 4096
+      → PartRan state until 1 n [] bytes b c tail [] [] w0 w1
+      → PartCut state until why n (open_line [] bytes) part c d [] w1 w2
+      → RunStops state until why b d r0 r2 w0 w2
+  stops_in_a_part why n bytes part tail b c d r0 r1 r2 w0 w1 w2 f read more within few so_far
+      cut =
+      let s = b.session in
+      let all = bytes ++ part in
+      let front = bytes ++ cut.front in
+      let before = whole_lines [] bytes in
+      let here = whole_lines (open_line [] bytes) cut.front in
+      let line = open_line (open_line [] bytes) cut.front in
+      let up_to = lines_up_to bytes cut.front in
+      let rest = lines_behind until s (before ++ here) line front cut.behind
+      (search_on until 1 n s c.session before here so_far.ran.session so_far.clean ∙ cut.none)
+      (up_to ∙ sym (append_assoc before here (line ∷ []))) in
+      let tried = cut_then state why before (here ++ line ∷ []) b c d [] [] w0 w1 w2 so_far.ran
+      cut.cut in
+      let is_first = around bytes part cut.front cut.behind cut.part_is in
+      stops_of why all (before ++ (here ++ line ∷ [])) rest.0 b d r0 r2 w0 w2 f
+      (consumes_then r0 r1 r2 bytes part read more) within
+      (ap (λ l. lines_until until s (lines_of l)) is_first ∙ rest.1
+      ∙ ap (λ l. l ++ rest.0) (append_assoc before here (line ∷ []))) tried
+      (λ none. rest.2 (before ++ (here ++ line ∷ [])) all r2 none (record {
+        front = front;
+        behind = cut.behind;
+        bytes_are = is_first;
+        lines_are = up_to;
+        few_behind = few_behind part cut.front cut.behind cut.part_is few;
+      }))
+
+  -- The lines of a part were run, and what was gathered for them is cut.
+  pub stops_behind_part : (m k : ℕ) (bytes part tail more g : List ℕ) (b c d : BookView D)
+      (r0 r1 r2 w0 w1 w2 w3 : Option (List ℕ))
+      → Consumes r0 r1 bytes
+      → Consumes r1 r2 part
+      → length (bytes ++ part) ≤ LONGEST_INPUT + 1
+      → PartRan state until 1 m [] bytes b c tail [] [] w0 w1
+      → PartRan state until m k (open_line [] bytes) part c d more [] g w1 w2
+      → WritesPart w2 w3 g
+      → RunStops state until fault.Output b d r0 r2 w0 w3
+  stops_behind_part m k bytes part tail more g b c d r0 r1 r2 w0 w1 w2 w3 read next within so_far
+      here cut =
+      let all = bytes ++ part in
+      let lines = whole_lines [] all in
+      let last = open_line [] all in
+      let both = part_then state until 1 m k [] bytes part tail more [] [] g b c d w0 w1 w2 so_far
+      here in
+      stops_of fault.Output all lines (last ∷ []) b d r0 r2 w0 w3 tt
+      (consumes_then r0 r1 r2 bytes part read next) within
+      (last_lines until k b.session d.session all both.ran.session both.clean)
+      (cut_written state lines b d [] g w0 w2 w3 both.ran cut) (λ e. left_over [] last _ e)
+
+  -- The last line stopped.
+  pub stops_at_last : (why : RunFault) (m : ℕ) (b c d : BookView D) (tail : List ℕ)
+      (r0 r1 w0 w1 w2 : Option (List ℕ))
+      → IsOfLine why
+      → (reads : ReadsAll state until m b c tail r0 r1 w0 w1)
+      → Cut state why (open_line [] reads.bytes ∷ []) c d [] w1 w2
+      → RunStops state until why b d r0 r1 w0 w2
+  stops_at_last why m b c d tail r0 r1 w0 w1 w2 f reads cut =
+      let bytes = reads.bytes in
+      let line = open_line [] bytes in
+      let ran = reads.part.ran in
+      stops_of why bytes (lines_of bytes) [] b d r0 r1 w0 w2 f reads.read
+      (omega (arith, reads.within))
+      (last_lines until m b.session c.session bytes ran.session reads.part.clean
+      ∙ sym (append-nil (lines_of bytes)))
+      (cut_then state why (whole_lines [] bytes) (line ∷ []) b c d [] [] w0 w1 w2 ran cut)
+      (λ _. at_end until (lines_of bytes) bytes r1 reads.ended)
+
+  -- ---- all lines were run
+
+  -- The run ends after a line of a part.
+  ran_to_stray : (n : ℕ) (bytes part tail g : List ℕ) (b c d : BookView D) (stray : StrayLine)
+      (r0 r1 r2 w0 w1 w2 : Option (List ℕ))
+      → Consumes r0 r1 bytes
+      → Consumes r1 r2 part
+      → length (bytes ++ part) ≤ LONGEST_INPUT + 1
+      → length part ≤ 4096
+      → PartRan state until 1 n [] bytes b c tail [] [] w0 w1
+      → PartStrays state until stray n (open_line [] bytes) part c d [] g w1 w2
+      → RanLines state until (Some stray) b d g r0 r2 w0 w2
+  ran_to_stray n bytes part tail g b c d stray r0 r1 r2 w0 w1 w2 read more within few so_far
+      strays =
+      let s = b.session in
+      let all = bytes ++ part in
+      let front = bytes ++ strays.front in
+      let first = whole_lines [] bytes in
+      let next = lines_to (open_line [] bytes) strays.front in
+      let is_first = around bytes part strays.front strays.behind strays.part_is in
+      let P : List (List ℕ) → Type 0 = λ lines. Found until 1 s lines stray in
+      let Q : List (List ℕ) → Type 0 = λ lines. Ran state lines b d [] g w0 w2 in
+      let lines = lines_up_to bytes strays.front in
+      let both = ends_first until s all front strays.behind stray is_first
+      (subst P (sym lines)
+      (found_then until 1 n s c.session first next stray so_far.ran.session so_far.clean
+      strays.found)) in
+      record {
+        bytes = all;
+        read = consumes_then r0 r1 r2 bytes part read more;
+        stray_is = sym both.0;
+        read_for =
+            read_first until 1 s (lines_of all) stray both.0 _ all r2 (record {
+              front = front;
+              behind = strays.behind;
+              bytes_are = is_first;
+              lines_are = sym both.1;
+              few_behind = few_behind part strays.front strays.behind strays.part_is few;
+            });
+        ended = λ e. absurd (grind (arith, e));
+        within = within;
+        ran =
+            subst Q (sym (both.1 ∙ lines))
+            (ran_then state first next b c d [] [] g w0 w1 w2 so_far.ran strays.ran);
+      }
+
+  -- The last line was run, whether the run ends after it or not.
+  pub ran_to_end : (m : ℕ) (b c d : BookView D) (tail g : List ℕ) (stray : Option StrayLine)
+      (why : Option Stray) (r0 r1 w0 w1 w2 : Option (List ℕ))
+      → (reads : ReadsAll state until m b c tail r0 r1 w0 w1)
+      → Ran state (open_line [] reads.bytes ∷ []) c d [] g w1 w2
+      → why ≡ ends_at until (stray_at c.session (open_line [] reads.bytes))
+      → stray ≡ option_map (λ x. record { number = m; why = x }) why
+      → RanLines state until stray b d g r0 r1 w0 w2
+  ran_to_end m b c d tail g stray why r0 r1 w0 w1 w2 reads last is e =
+      let bytes = reads.bytes in
+      let first = whole_lines [] bytes in
+      let line = open_line [] bytes in
+      let ran = reads.part.ran in
+      let clean = reads.part.clean in
+      let Q : List (List ℕ) → Type 0 = λ lines. Ran state lines b d [] g w0 w2 in
+      record {
+        bytes = bytes;
+        read = reads.read;
+        stray_is =
+            last_stray until m c.session line why is stray e
+            ∙ sym (search_on until 1 m b.session c.session first (line ∷ []) ran.session clean);
+        read_for = at_end until _ bytes r1 reads.ended;
+        ended = λ none. (reads.ended, reads.within);
+        within = omega (arith, reads.within);
+        ran =
+            subst Q (sym (last_lines until m b.session c.session bytes ran.session clean))
+            (ran_then state first (line ∷ []) b c d [] [] g w0 w1 w2 ran last);
+      }
+
+  -- ---- the end
+
+  -- The last flush stopped, or the writer failed after it.
+  pub stops_closing : (why : RunFault) (b d e : BookView D) (g : List ℕ)
+      (stray : Option StrayLine) (r0 r1 w0 w2 w3 : Option (List ℕ))
+      → RanLines state until stray b d g r0 r1 w0 w2
+      → e.session ≡ d.session
+      → EndStops why e (closing d.session) g w2 w3
+      → Tries state d why (step.Flush ∷ []) e
+      → RunStops state until why b e r0 r1 w0 w3
+  stops_closing why b d e g stray r0 r1 w0 w2 w3 ran same end flushed =
+      let lines = lines_until until b.session (lines_of ran.bytes) in
+      let P : List (List ℕ) → Type 0 = λ l. IsReadFor until l ran.bytes r1 in
+      record {
+        bytes = ran.bytes;
+        read = ran.read;
+        ran = lines;
+        left = [];
+        lines_are = sym (append-nil lines);
+        read_for = λ _. subst P (sym (append-nil lines)) ran.read_for;
+        stopped = end_stops why e (closing d.session) g w2 w3 end;
+        reached = reached_end why e (closing d.session) g w2 w3 ran.bytes lines end ran.within;
+        session = same ∙ ran.ran.session;
+        tried = record { middle = d; taken = ran.ran.taken; tried = flushed };
+        written = end_wrote state why b d e lines g w0 w2 w3 ran.ran end;
+      }
+
+  -- The closing line was written.
+  pub run_ends : (stray : Option StrayLine) (b d e : BookView D) (g : List ℕ)
+      (r0 r1 w0 w2 w3 : Option (List ℕ))
+      → RanLines state until stray b d g r0 r1 w0 w2
+      → e.session ≡ d.session
+      → Told (closing d.session) g [] w2 w3
+      → TakesAll state d (step.Flush ∷ []) e
+      → e.durable ≡ e.session.state.count
+      → RunEnds state until stray b e r0 r1 w0 w3
+  run_ends stray b d e g r0 r1 w0 w2 w3 ran same told flushed saved =
+      let lines = lines_until until b.session (lines_of ran.bytes) in
+      record {
+        bytes = ran.bytes;
+        read = ran.read;
+        lines = lines;
+        lines_are = refl;
+        stray_is = ran.stray_is;
+        read_for = ran.read_for;
+        ended = ran.ended;
+        within = ran.within;
+        session = same ∙ ran.ran.session;
+        taken = takes_join state b d e (steps_of lines) (step.Flush ∷ []) ran.ran.taken flushed;
+        written = end_told state b d lines g w0 w2 w3 ran.ran told;
+        saved = saved;
+      }
+
+-- ---- what the lines that an LF ends came to
+
+-- A line of it strays.
+pub reads_stray : {D : Type 0} (state : D → DiskState) (until : Until)
+    (found : Option StrayLine) (n m : ℕ) (bytes part tail more g : List ℕ) (b c d : BookView D)
+    (r0 r1 r2 w0 w1 w2 : Option (List ℕ))
+    → is_some found ≡ true
+    → Consumes r0 r1 bytes
+    → Consumes r1 r2 part
+    → length (bytes ++ part) ≤ LONGEST_INPUT + 1
+    → length part ≤ 4096
+    → PartRan state until 1 n [] bytes b c tail [] [] w0 w1
+    → PartRuns state until found n m (open_line [] bytes) part c d more [] g w1 w2
+    → Reads state until found m b d more g r0 r2 w0 w2
+reads_stray state until None n m bytes part tail more g b c d r0 r1 r2 w0 w1 w2 some read next
+    within few so_far runs =
+    absurd (grind (arith, some))
+reads_stray state until (Some stray) n m bytes part tail more g b c d r0 r1 r2 w0 w1 w2 some read
+    next within few so_far runs =
+    ran_to_stray state until n bytes part tail g b c d stray r0 r1 r2 w0 w1 w2 read next within few
+    so_far runs
+
+-- No line of it does.
+pub is_clean : {D : Type 0} (state : D → DiskState) (until : Until)
+    (found : Option StrayLine) (n m : ℕ) (begun part : List ℕ) (b c : BookView D)
+    (tail before gathered : List ℕ) (w0 w1 : Option (List ℕ))
+    → is_some found ≡ false
+    → PartRuns state until found n m begun part b c tail before gathered w0 w1
+    → PartRan state until n m begun part b c tail before gathered w0 w1
+is_clean state until None n m begun part b c tail before gathered w0 w1 none runs = runs
+is_clean state until (Some stray) n m begun part b c tail before gathered w0 w1 none runs =
+    absurd (grind (arith, none))
+
+-- One strays, and that ends the run.
+pub ran_with_stray : {D : Type 0} (state : D → DiskState) (until : Until)
+    (found : Option StrayLine) (m : ℕ) (b c : BookView D) (tail g : List ℕ)
+    (r0 r1 w0 w1 : Option (List ℕ))
+    → is_some found ≡ true
+    → Reads state until found m b c tail g r0 r1 w0 w1
+    → RanLines state until found b c g r0 r1 w0 w1
+ran_with_stray state until None m b c tail g r0 r1 w0 w1 some reads =
+    absurd (grind (arith, some))
+ran_with_stray state until (Some stray) m b c tail g r0 r1 w0 w1 some reads = reads
+
+-- None does, and the last line is left.
+pub reads_clean : {D : Type 0} (state : D → DiskState) (until : Until)
+    (found : Option StrayLine) (m : ℕ) (b c : BookView D) (tail g : List ℕ)
+    (r0 r1 w0 w1 : Option (List ℕ))
+    → is_some found ≡ false
+    → Reads state until found m b c tail g r0 r1 w0 w1
+    → ReadsAll state until m b c tail r0 r1 w0 w1 × (g ≡ [])
+reads_clean state until None m b c tail g r0 r1 w0 w1 none reads = reads
+reads_clean state until (Some stray) m b c tail g r0 r1 w0 w1 none reads =
+    absurd (grind (arith, none))

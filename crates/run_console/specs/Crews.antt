@@ -1,6 +1,6 @@
 -- A night of worker threads over a store: what it leaves, and what is printed of it.
 use Rattle.std.specs.Prelude.{◌≡◌, ◌⊎◌, ◌≤◌, ◌+◌, ◌++◌, ℕ, List, length, Bool, Option, Result, Ok}
-use Rattle.std.specs.Prelude.{Err, Some, true, ⊤, [], codes, is_ok, IfOk, MatchResult, OnOk}
+use Rattle.std.specs.Prelude.{All, Err, Some, true, ⊤, [], codes, is_ok, IfOk, MatchResult, OnOk}
 use Rattle.std.specs.Fmt.{decimal}
 use Rattle.std.specs.Io.KnownBytes.{Appends}
 use Rattle.std.specs.List.{list_all}
@@ -23,6 +23,7 @@ use Rattle.book_model.specs.Stores.{Stores, StoresFront, StoresOpened, restarted
 use Rattle.run_crew.specs.declared.audits.Strayed.{Strayed}
 use Rattle.run_crew.specs.declared.notes.Note.{Note}
 use Rattle.run_crew.specs.Audits.{HasStrayed, IsComplete, made_at}
+use Rattle.run_crew.specs.Courses.{Call, IsOfShift}
 use Rattle.run_crew.specs.Desks.{DeskView, finishes_of, starts_of}
 use Rattle.run_crew.specs.Notes.{all_notes, noted}
 use Rattle.run_crew.specs.Openings.{Carries, From, Known, is_work, opened_of}
@@ -78,9 +79,10 @@ pub record WasLeft {D : Type 0} (state : D → DiskState) (known : Known) (left 
   pub carries : Carries known state book
   pub disk : book.journal.disk ≡ left
 
--- So many workers left a desk, whose book was flushed then, and a list of notes each. The book
--- carries on from what is known of it, and this disk is its own.
-pub record IsWorked {D : Type 0} (state : D → DiskState) (known : Known) (workers : ℕ)
+-- So many workers left a desk, whose book was flushed then, and a list of notes each, by calls that
+-- the gate answered so. The book carries on from what is known of it, and this disk is its own.
+pub record IsWorked {D : Type 0} (state : D → DiskState) (known : Known) (ByGate : Call → Type 0)
+    (workers : ℕ)
     (audited : Result ⊤ Strayed) (starts finishes : ℕ) (flushed : Result ℕ Trouble)
     (left : D) : Type 0
   where
@@ -101,6 +103,7 @@ pub record IsWorked {D : Type 0} (state : D → DiskState) (known : Known) (work
     pub exactly : OnOk audited (IsPermutation (made_at desk) (all_notes lists))
     pub started : starts ≡ starts_of desk.book.session.history
     pub finished : finishes ≡ finishes_of desk.book.session.history
+    pub gate : All (IsOfShift ByGate) lists
     pub each_has_a_list : length lists ≡ workers
     pub each_is_noted : finishes ≡ noted lists
     pub each_was_started : finishes ≤ starts
@@ -133,9 +136,9 @@ pub record AcksNight (p : State) (work : List Event) (n : ℕ) (s : DiskState) :
 -- Either no book was opened, the fault gives the reason, and nothing was printed. Or a book was
 -- opened: then memory or a thread was wanting, and nothing was printed, or the workers worked, and
 -- what they left was printed.
-abbrev pub CrewEnds : {D : Type 0} → (D → DiskState) → (given : D) → (workers : ℕ)
-    → Result Bool RunFault → (left : D) → (w0 w1 : Option (List ℕ)) → Type 0
-CrewEnds {D = D} state given workers answer left w0 w1 =
+abbrev pub CrewEnds : {D : Type 0} → (D → DiskState) → (ByGate : Call → Type 0) → (given : D)
+    → (workers : ℕ) → Result Bool RunFault → (left : D) → (w0 w1 : Option (List ℕ)) → Type 0
+CrewEnds {D = D} state ByGate given workers answer left w0 w1 =
     ((why : Fault) × (answer ≡ Err (stopped why)) × OpensNot state given why left × (w1 ≡ w0)
     × Promises (state given) (λ p. LeavesOnly (StoresOpened p) (state given) (state left)))
     ⊎ ((b : BookView D) × HasOpened state given b
@@ -144,7 +147,7 @@ CrewEnds {D = D} state given workers answer left w0 w1 =
     × Promises (state given) (λ p. (work : List Event)
     × KeepsNight p work (state given) (state left)))
     ⊎ ((audited : Result ⊤ Strayed) × (starts : ℕ) × (finishes : ℕ) × (flushed : Result ℕ Trouble)
-    × (worked : IsWorked state (From (opened_of state b)) workers audited starts
+    × (worked : IsWorked state (From (opened_of state b)) ByGate workers audited starts
     finishes flushed left)
     × IsTold audited starts finishes flushed answer w0 w1
     × Promises (state given) (λ p.

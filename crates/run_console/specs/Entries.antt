@@ -4,9 +4,11 @@ use Rattle.std.specs.Prelude.{ℕ, List, ◌++◌, codes}
 use Rattle.run_model.specs.State.{State}
 use Rattle.console_lines.specs.Entries.{group_item, scope_item, task_item}
 use Rattle.console_lines.specs.Inspected.{lines_below}
+use Rattle.run_console.specs.declared.inspects.Form.{Form}
+use Rattle.run_console.specs.declared.inspects.Form.TheVariants.{Line, Entry}
 use Rattle.run_console.specs.declared.inspects.Rows.{Rows}
 use Rattle.run_console.specs.declared.inspects.Rows.TheVariants.{Scopes, Groups, Tasks}
-use Rattle.run_console.specs.Inspecting.{count_of}
+use Rattle.run_console.specs.Inspecting.{count_of, line_of}
 
 -- What stands in the list for each number.
 abbrev pub item_of : Rows → State → ℕ → List ℕ
@@ -14,9 +16,17 @@ item_of Scopes p = scope_item p
 item_of Groups p = group_item p
 item_of Tasks p = task_item p
 
--- What stands in the list for all.
+-- What is gathered for each number, as a line or as an entry.
+abbrev pub text_of : Form → Rows → State → ℕ → List ℕ
+text_of Line rows p = line_of rows p
+text_of Entry rows p = item_of rows p
+
+-- What is gathered for all.
+abbrev pub texts_of : Form → Rows → State → List ℕ
+texts_of form rows p = lines_below (text_of form rows p) (count_of rows p)
+
 abbrev pub items_text : Rows → State → List ℕ
-items_text rows p = lines_below (item_of rows p) (count_of rows p)
+items_text rows p = texts_of Entry rows p
 
 -- The object from its list of tasks on, of groups, of scopes.
 abbrev pub from_tasks : State → List ℕ

@@ -4,5 +4,6 @@ pub mod Inspecting
 pub mod Progress
 pub mod Rows
 pub mod SessionLines
-pub mod Strict
+pub mod Summing
 pub mod Troubles
+pub mod Until

@@ -1,6 +1,6 @@
 -- How far a run came: what was read, which lines were run, and what was written.
 use Rattle.std.specs.Prelude.{◌≡◌, ◌≤◌, ◌⊎◌, ◌+◌, ℕ, List, [], ◌∷◌, ◌++◌, Option, length, Err}
-use Rattle.std.specs.Prelude.{false}
+use Rattle.std.specs.Prelude.{Some, None, false}
 use Rattle.std.specs.Io.KnownBytes.{Appends, Consumes, IsAtEnd}
 use Rattle.run_model.specs.declared.faults.Trouble.{Trouble}
 use Rattle.run_model.specs.Session.{Session}
@@ -16,6 +16,7 @@ use Rattle.console_lines.specs.declared.faults.RunFault.{RunFault}
 use Rattle.console_lines.specs.declared.faults.RunFault.TheVariants as fault
 use Rattle.console_lines.specs.declared.replies.Reply.{Reply}
 use Rattle.console_lines.specs.declared.replies.Reply.TheVariants as said
+use Rattle.console_lines.specs.declared.strays.StrayLine.{StrayLine}
 use Rattle.console_lines.specs.Asked.{asked_of}
 use Rattle.console_lines.specs.Lines.{whole_lines, open_line, lines_of}
 use Rattle.console_lines.specs.Progress.{IsFront, WritesPart, kept}
@@ -24,6 +25,8 @@ use Rattle.console_lines.specs.Script.{after_lines, closing, replies, replies_to
 use Rattle.console_lines.specs.Script.{steps_of, after_line, after_lines}
 use Rattle.run_console.specs.Rows.{TakesAll, TriesLine, first_steps, next_steps, steps_asked}
 use Rattle.run_console.specs.SessionLines.{IsSaving}
+use Rattle.run_console.specs.Until.{IsReadFor, lines_until, stray_until}
+use Rattle.run_console.specs.declared.untils.Until.{Until}
 
 -- What is done or has ended stays so: each scope that was done is done still, for the same reason
 -- and with the same cause, each task that had ended is as it ended, and each group keeps its first
@@ -39,17 +42,23 @@ WritesTrouble why text old new =
 
 -- ---- a whole input, by what the reader had left and what the writer had taken
 
--- The input was read to its end and all of its lines were run, and its script was written: the
--- steps of its lines were taken, and then the closing flush, so that all events are durable.
-pub record RunsAll {D : Type 0} (state : D → DiskState) (b c : BookView D)
-    (r0 r1 w0 w1 : Option (List ℕ)) : Type 0 where
+-- A run came to its end: these lines of what was read were run, up to the one after which it ends,
+-- and their replies and the closing line were written. Their steps were taken, and then the closing
+-- flush, so that all events are durable. If no line strays, the input was read to its end.
+pub record RunEnds {D : Type 0} (state : D → DiskState) (until : Until)
+    (stray : Option StrayLine) (b c : BookView D) (r0 r1 w0 w1 : Option (List ℕ))
+    : Type 0 where
   pub bytes : List ℕ
   pub read : Consumes r0 r1 bytes
-  pub ended : IsAtEnd r1
-  pub within : length bytes ≤ LONGEST_INPUT
-  pub session : c.session ≡ after_lines b.session (lines_of bytes)
-  pub taken : TakesAll state b (steps_of (lines_of bytes) ++ step.Flush ∷ []) c
-  pub written : Appends w0 w1 (script b.session bytes)
+  pub lines : List (List ℕ)
+  pub lines_are : lines ≡ lines_until until b.session (lines_of bytes)
+  pub stray_is : stray ≡ stray_until until 1 b.session (lines_of bytes)
+  pub read_for : IsReadFor until lines bytes r1
+  pub ended : stray ≡ None → IsAtEnd r1 × (length bytes ≤ LONGEST_INPUT)
+  pub within : length bytes ≤ LONGEST_INPUT + 1
+  pub session : c.session ≡ after_lines b.session lines
+  pub taken : TakesAll state b (steps_of lines ++ step.Flush ∷ []) c
+  pub written : Appends w0 w1 (replies b.session lines ++ closing (after_lines b.session lines))
   pub saved : c.durable ≡ c.session.state.count
 
 -- All events of a book are durable.
@@ -103,18 +112,18 @@ untried (fault.Store why) (line ∷ left) = left
 untried fault.Memory (line ∷ left) = left
 untried _ left = left
 
--- A run stopped: the first lines of what was read were run, their steps were taken, and this became
--- of the next step. The last line, which no LF ends, was tried only if the end of the input was
--- read.
-pub record RunStops {D : Type 0} (state : D → DiskState)
+-- A run stopped: the first of its lines were run, their steps were taken, and this became of the
+-- next step. No line after the one after which it ends was tried, and the last line, which no LF
+-- ends, only if the end of the input was read.
+pub record RunStops {D : Type 0} (state : D → DiskState) (until : Until)
     (why : RunFault) (b c : BookView D) (r0 r1 w0 w1 : Option (List ℕ))
     : Type 0 where
   pub bytes : List ℕ
   pub read : Consumes r0 r1 bytes
   pub ran : List (List ℕ)
   pub left : List (List ℕ)
-  pub lines_are : lines_of bytes ≡ ran ++ left
-  pub ended : untried why left ≡ [] → IsAtEnd r1
+  pub lines_are : lines_until until b.session (lines_of bytes) ≡ ran ++ left
+  pub read_for : untried why left ≡ [] → IsReadFor until (ran ++ left) bytes r1
   pub stopped : IsRunStopped why left
   pub reached : IsReached why bytes ran
   pub session : c.session ≡ after_lines b.session ran
@@ -126,9 +135,9 @@ abbrev pub IsTold : RunFault → List ℕ → Type 0
 IsTold (fault.Store why) told = IsFront told (reply_line (said.Failed why))
 IsTold _ told = told ≡ []
 
--- What was written of an input begins its script: it is a prefix of the replies to the lines that
--- an LF ended, or, if the input was read to its end, of its script. If the store stopped the run, a
--- prefix of its trouble's line follows.
+-- What was written of an input that was to be run whole begins its script: it is a prefix of the
+-- replies to the lines that an LF ended, or, if the input was read to its end, of its script. If
+-- the store stopped the run, a prefix of its trouble's line follows.
 pub record BeginsScript
     (why : RunFault) (b : Session) (r0 r1 w0 w1 : Option (List ℕ))
     : Type 0 where
@@ -262,22 +271,97 @@ EndStops fault.Output c end before w0 w1 =
 EndStops (fault.Store why) c end before w0 w1 = WritesTrouble why before w0 w1
 EndStops _ c end before w0 w1 = ⊥
 
--- ---- a part of an input, when `begun` was begun and `before` gathered when it came
+-- ---- a part of an input, when `begun` was begun and `before` gathered when it came, and the line
+-- that was begun had the number n
 
--- The lines that an LF ends were run, and of the line that is begun this is kept.
-pub record PartRan {D : Type 0} (state : D → DiskState)
-    (begun part : List ℕ) (b c : BookView D) (tail before gathered : List ℕ)
+-- A run ends after none of these lines, and the line after them has the number m.
+pub record Clean (until : Until) (n m : ℕ) (s : Session) (lines : List (List ℕ)) : Type 0 where
+  pub none : stray_until until n s lines ≡ None
+  pub next : m ≡ n + length lines
+
+-- It ends after the last of these lines.
+pub record Found (until : Until) (n : ℕ) (s : Session) (lines : List (List ℕ)) (stray : StrayLine)
+    : Type 0 where
+  pub found : stray_until until n s lines ≡ Some stray
+  pub all : lines_until until s lines ≡ lines
+
+-- The lines of a part up to some LF: those that end in this prefix of it, and the one that the LF
+-- ends.
+abbrev pub lines_to : (begun front : List ℕ) → List (List ℕ)
+lines_to begun front = whole_lines begun front ++ open_line begun front ∷ []
+
+-- The lines that an LF ends were run, the run ends after none of them, and of the line that is
+-- begun this is kept.
+pub record PartRan {D : Type 0} (state : D → DiskState) (until : Until)
+    (n m : ℕ) (begun part : List ℕ) (b c : BookView D) (tail before gathered : List ℕ)
     (w0 w1 : Option (List ℕ))
     : Type 0 where
   pub ran : Ran state (whole_lines begun part) b c before gathered w0 w1
   pub tail_is : tail ≡ kept (open_line begun part)
+  pub clean : Clean until n m b.session (whole_lines begun part)
+
+-- The lines up to some LF were run, and the run ends after the last of them.
+pub record PartStrays {D : Type 0} (state : D → DiskState) (until : Until)
+    (stray : StrayLine) (n : ℕ) (begun part : List ℕ) (b c : BookView D)
+    (before gathered : List ℕ) (w0 w1 : Option (List ℕ))
+    : Type 0 where
+  pub front : List ℕ
+  pub behind : List ℕ
+  pub part_is : part ≡ front ++ 10 ∷ behind
+  pub ran : Ran state (lines_to begun front) b c before gathered w0 w1
+  pub found : Found until n b.session (lines_to begun front) stray
+
+-- One of both.
+abbrev pub PartRuns :
+    {D : Type 0} → (D → DiskState) → Until → Option StrayLine → (n m : ℕ)
+    → (begun part : List ℕ) → (b c : BookView D) → (tail before gathered : List ℕ)
+    → (w0 w1 : Option (List ℕ)) → Type 0
+PartRuns state until None n m begun part b c tail before gathered w0 w1 =
+    PartRan state until n m begun part b c tail before gathered w0 w1
+PartRuns state until (Some stray) n m begun part b c tail before gathered w0 w1 =
+    PartStrays state until stray n begun part b c before gathered w0 w1
+
+-- A line that an LF ends stopped, and the run ends after none before it.
+pub record PartCut {D : Type 0} (state : D → DiskState) (until : Until)
+    (why : RunFault) (n : ℕ) (begun part : List ℕ) (b c : BookView D) (before : List ℕ)
+    (w0 w1 : Option (List ℕ))
+    : Type 0 where
+  pub front : List ℕ
+  pub behind : List ℕ
+  pub part_is : part ≡ front ++ 10 ∷ behind
+  pub none : stray_until until n b.session (whole_lines begun front) ≡ None
+  pub cut : Cut state why (lines_to begun front) b c before w0 w1
+
+-- ---- an input, of which no line has a number yet
 
 -- The input was read to its end, and the lines that an LF ends were run and replied to.
-pub record ReadsAll {D : Type 0} (state : D → DiskState)
-    (b c : BookView D) (tail : List ℕ) (r0 r1 w0 w1 : Option (List ℕ))
+pub record ReadsAll {D : Type 0} (state : D → DiskState) (until : Until)
+    (m : ℕ) (b c : BookView D) (tail : List ℕ) (r0 r1 w0 w1 : Option (List ℕ))
     : Type 0 where
   pub bytes : List ℕ
   pub read : Consumes r0 r1 bytes
   pub ended : IsAtEnd r1
   pub within : length bytes ≤ LONGEST_INPUT
-  pub part : PartRan state [] bytes b c tail [] [] w0 w1
+  pub part : PartRan state until 1 m [] bytes b c tail [] [] w0 w1
+
+-- All lines of a run were run, and their replies written or gathered.
+pub record RanLines {D : Type 0} (state : D → DiskState) (until : Until)
+    (stray : Option StrayLine) (b c : BookView D) (gathered : List ℕ)
+    (r0 r1 w0 w1 : Option (List ℕ))
+    : Type 0 where
+  pub bytes : List ℕ
+  pub read : Consumes r0 r1 bytes
+  pub stray_is : stray ≡ stray_until until 1 b.session (lines_of bytes)
+  pub read_for : IsReadFor until (lines_until until b.session (lines_of bytes)) bytes r1
+  pub ended : stray ≡ None → IsAtEnd r1 × (length bytes ≤ LONGEST_INPUT)
+  pub within : length bytes ≤ LONGEST_INPUT + 1
+  pub ran : Ran state (lines_until until b.session (lines_of bytes)) b c [] gathered w0 w1
+
+-- They were up to the line that strays; else all but the last of the input were.
+abbrev pub Reads :
+    {D : Type 0} → (D → DiskState) → Until → Option StrayLine → (m : ℕ) → (b c : BookView D)
+    → (tail gathered : List ℕ) → (r0 r1 w0 w1 : Option (List ℕ)) → Type 0
+Reads state until None m b c tail gathered r0 r1 w0 w1 =
+    ReadsAll state until m b c tail r0 r1 w0 w1 × (gathered ≡ [])
+Reads state until (Some stray) m b c tail gathered r0 r1 w0 w1 =
+    RanLines state until (Some stray) b c gathered r0 r1 w0 w1

@@ -1,4 +1,4 @@
-//! The console over a book: a line is run and replied to, and so is each line of an input.
+//! A line over a book: it is run and replied to.
 
 ghost use Rattle.std.specs.Prelude.{◌≡◌, ◌∷◌, ◌+◌, ◌++◌, ◌≤◌, [], Err, List, ℕ, true, false};
 ghost use Rattle.std.specs.Prelude.{OnOk, IfErr, IfOk};
@@ -13,13 +13,12 @@ ghost use Rattle.console_lines.specs.Replies.{reply_lines};
 ghost use Rattle.console_lines.specs.Script.{closing, scope_reply};
 ghost use Rattle.console_lines.specs.declared.gathers.TheConstants.{LONGEST_REPLY};
 ghost use Rattle.console_lines.specs.Strict.{stray_among, stray_at};
-ghost use Rattle.run_console.specs.Progress.{BeginsScript, Cut, EndStops, IsOfLine, Lasts};
-ghost use Rattle.run_console.specs.Progress.{LineRuns, LineStops, Ran, RunStops, RunsAll, Told};
+ghost use Rattle.run_console.specs.Progress.{Cut, EndStops, IsOfLine, Lasts};
+ghost use Rattle.run_console.specs.Progress.{LineRuns, LineStops, Ran, Told};
 ghost use Rattle.run_console.specs.Rows.{TakesAll, Tries};
 ghost use Rattle.run_console.specs.SessionLines.{IsSaving, is_tally};
 
 use crate::answers::{reply_to, step_reply};
-use crate::inputs::{OpenLine, run_whole_lines};
 use crate::tallies::gather_tally;
 use crate::writings::{Gathered, gather_reply, make_room, stop, write_gathered};
 use console_lines::{Asked, Reply, RunFault, Stray, gather_scope, read_line};
@@ -28,53 +27,7 @@ use run_disk::RunDisk;
 use run_model::{Name, Refusal, Step, Trouble};
 use run_state::{LookView, State};
 use std::alloc::Allocator;
-use std::io::{Read, Write};
-
-/// Runs each line of the input over the book and writes its reply; at the end of the input it
-/// flushes, and writes the closing line.
-///
-/// What is replied to the lines that were read is written before more is read. So if a read fails
-/// (`Input`) or the input is longer than 16,777,216 bytes (`InputTooLong`), each line that an LF
-/// ended was run and has its reply. If a write fails or takes nothing (`Output`), what was written
-/// is a prefix of the replies to the lines that were run, and some of these may have none. If the
-/// store fails in a flush or a checkpoint (`Store`), its line is written after the replies; if
-/// there is no memory for a tally (`Memory`), each line before it has its reply. The last line,
-/// which no LF ends, is run if the end of the input is read after it.
-///
-/// At most one byte more is read than an input may have. At every exit the session is the result of
-/// the lines that were run, and the book carries on. Memory is taken for a tally alone. The writer
-/// isn't flushed: hand in one that keeps nothing back.
-///
-/// A book that is broken is left as it is, and nothing is read or written.
-pub fn run<A: Allocator + Copy, R: Read, W: Write, D: RunDisk, B: Allocator>(
-    alloc: A,
-    input: &mut R,
-    output: &mut W,
-    book: &mut Book<D, B>,
-) -> Result<(), RunFault>
-    ensures all { OnOk result (RunsAll D.state book.old book.new
-        (R.remaining input.old) (R.remaining input.new)
-        (W.contents output.old) (W.contents output.new)) }
-    ensures stops { book.old.journal.broken ≡ false
-        → IfErr result (λ fault. RunStops D.state fault book.old book.new
-        (R.remaining input.old) (R.remaining input.new)
-        (W.contents output.old) (W.contents output.new)) }
-    ensures begins { book.old.journal.broken ≡ false
-        → IfErr result (λ fault. BeginsScript fault book.old.session
-        (R.remaining input.old) (R.remaining input.new)
-        (W.contents output.old) (W.contents output.new)) }
-    ensures refused { book.old.journal.broken ≡ true
-        → (result ≡ Err (RunFault.Store (Refused Broken))) × (book.new ≡ book.old)
-        × (input.new ≡ input.old) × (output.new ≡ output.old) }
-    ensures lasts { Lasts book.old.session book.new.session }
-    ensures carries_on { CarriesOn D.state book.old book.new }
-{
-    let _durable = book.durable();
-    if book.is_broken() {
-        return Err(RunFault::Store(Trouble::Refused(Refusal::Broken)));
-    }
-    run_sound(alloc, input, output, book)
-}
+use std::io::Write;
 
 /// Runs one line over the book, and writes its reply; an empty line has none.
 ///
@@ -109,30 +62,7 @@ pub fn line<A: Allocator + Copy, W: Write, D: RunDisk, B: Allocator>(
     write_gathered(&mut gathered, output)
 }
 
-/// The same over a book that isn't broken.
-fn run_sound<A: Allocator + Copy, R: Read, W: Write, D: RunDisk, B: Allocator>(
-    alloc: A,
-    input: &mut R,
-    output: &mut W,
-    book: &mut Book<D, B>,
-) -> Result<(), RunFault>
-    requires sound { book.old.journal.broken ≡ false }
-    ensures all { OnOk result (RunsAll D.state book.old book.new
-        (R.remaining input.old) (R.remaining input.new)
-        (W.contents output.old) (W.contents output.new)) }
-    ensures stops { IfErr result (λ fault. RunStops D.state fault book.old book.new
-        (R.remaining input.old) (R.remaining input.new)
-        (W.contents output.old) (W.contents output.new)) }
-    ensures lasts { Lasts book.old.session book.new.session }
-{
-    let mut tail = OpenLine::new();
-    let mut gathered = Gathered::new();
-    run_whole_lines(alloc, input, output, book, &mut tail, &mut gathered)?;
-    gather_line(alloc, tail.as_slice(), &mut gathered, output, book)?;
-    close(&mut gathered, output, book)
-}
-
-/// Flushes, and writes what was gathered and the closing line. Each clause is a field of `RunsAll`
+/// Flushes, and writes what was gathered and the closing line. Each clause is a field of `RunEnds`
 /// or of `RunStops`, which its callers join, so there are more than six.
 pub fn close<W: Write, D: RunDisk, B: Allocator>(
     gathered: &mut Gathered,
@@ -162,8 +92,8 @@ pub fn close<W: Write, D: RunDisk, B: Allocator>(
 
 /// Runs one line over the book, and gathers its reply; an empty line has none. It returns why the
 /// line strays, if it does. The clauses speak of each line that asks for the same, since a line
-/// that is too long is handed in without its end. There are more than six, since one line, a run
-/// and a strict run take different ones.
+/// that is too long is handed in without its end. There are more than six, since one line and a
+/// run take different ones.
 pub fn gather_line<A: Allocator + Copy, W: Write, D: RunDisk, B: Allocator>(
     alloc: A,
     bytes: &[u8],

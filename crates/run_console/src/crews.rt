@@ -5,6 +5,7 @@ ghost use Rattle.std.specs.Fmt.{decimal};
 ghost use Rattle.arrayvec.specs.ArrayVec.{array_vec_len};
 ghost use Rattle.run_model.specs.declared.faults.Fault.TheVariants.{Memory};
 ghost use Rattle.run_model.specs.Session.{begun_at};
+ghost use Rattle.run_crew.specs.Courses.{IsGates};
 ghost use Rattle.run_crew.specs.Openings.{Carries};
 ghost use Rattle.console_lines.specs.Gathers.{Gathers};
 ghost use Rattle.run_console.specs.Crews.{CrewEnds, IsTold, IsWorked, WasLeft, audit_line};
@@ -45,8 +46,8 @@ pub fn crew<D: RunDisk + Drop + Send, G: Gate + Sync, R: Threads + Wait + Sync, 
     gate: &G,
     output: &mut W,
 ) -> Result<bool, RunFault>
-    ensures { (left : D) × CrewEnds D.state disk (vec_len jobs) result left
-        (W.contents output.old) (W.contents output.new) }
+    ensures { (left : D) × CrewEnds D.state (IsGates (G.lets gate.now) (G.told gate.now)) disk
+        (vec_len jobs) result left (W.contents output.old) (W.contents output.new) }
 {
     let (done, _) = crew_over(rt, alloc, disk, jobs, gate, output);
     done
@@ -63,8 +64,8 @@ pub fn crew_over<D: RunDisk + Drop + Send, G: Gate + Sync, R: Threads + Wait + S
     gate: &G,
     output: &mut W,
 ) -> (Result<bool, RunFault>, D)
-    ensures { CrewEnds D.state disk (vec_len jobs) result.0 result.1
-        (W.contents output.old) (W.contents output.new) }
+    ensures { CrewEnds D.state (IsGates (G.lets gate.now) (G.told gate.now)) disk
+        (vec_len jobs) result.0 result.1 (W.contents output.old) (W.contents output.new) }
 {
     let book = match Book::open(alloc, disk) {
         Ok(book) => book,
@@ -117,8 +118,9 @@ fn work<
         × (vec_len jobs < F.parts) }
     requires begun { book.session ≡ begun_at book.session.start }
     requires carries { Carries O.opening D.state book }
-    ensures worked { IfOk result.0 (λ night. IsWorked D.state O.opening (vec_len jobs)
-        night.audited night.starts night.finishes night.flushed result.1) }
+    ensures worked { IfOk result.0 (λ night. IsWorked D.state O.opening
+        (IsGates (G.lets gate.now) (G.told gate.now)) (vec_len jobs) night.audited night.starts
+        night.finishes night.flushed result.1) }
     ensures left { WasLeft D.state O.opening result.1 }
     ensures fault { IfErr result.0 (λ fault. fault ≡ Memory) }
 {

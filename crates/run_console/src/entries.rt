@@ -11,7 +11,7 @@ ghost use Rattle.run_console.specs.Entries.{from_groups, from_scopes, from_tasks
 ghost use Rattle.run_console.specs.Entries.{items_text};
 ghost use Rattle.run_console.specs.Progress.{Told};
 
-use crate::inspects::{Rows, scope_row};
+use crate::inspects::{Form, Rows, gather_rows, scope_row};
 use crate::writings::{Gathered, gather_bytes, write_gathered};
 use console_lines::{Entry, LONGEST_ENTRY, RunFault};
 use run_state::State;
@@ -97,32 +97,12 @@ fn gather_list<W: Write, B: Allocator>(
     ensures fault { IfErr result (λ fault. fault ≡ RunFault.Output) }
 {
     gather_bytes(head, gathered, output)?;
-    gather_entries(rows, state, gathered, output)
-}
-
-/// Gathers the entries of these rows. What is gathered is written when there is no room for
-/// another.
-fn gather_entries<W: Write, B: Allocator>(
-    rows: Rows,
-    state: &State<B>,
-    gathered: &mut Gathered,
-    output: &mut W,
-) -> Result<(), RunFault>
-    ensures told { OnOk result (Told (items_text rows state.now)
-        gathered.old.items gathered.new.items (W.contents output.old) (W.contents output.new)) }
-    ensures cut { OnErr result (WritesPart (W.contents output.old) (W.contents output.new)
-        (gathered.old.items ++ items_text rows state.now)) }
-    ensures fault { IfErr result (λ fault. fault ≡ RunFault.Output) }
-{
-    for number in 0..rows.count(state) as u16 {
-        gather_entry(number, rows.entry(number, state), gathered, output)?;
-    }
-    Ok(())
+    gather_rows(Form::Entry, rows, state, gathered, output)
 }
 
 impl Rows {
     /// The entry of the one of this number.
-    fn entry<B: Allocator>(self, number: u16, state: &State<B>) -> Option<Entry>
+    pub(crate) fn entry<B: Allocator>(self, number: u16, state: &State<B>) -> Option<Entry>
         ensures { listed_entry number result ≡ item_of self state.now number }
     {
         match self {
@@ -143,7 +123,7 @@ fn scope_entry<B: Allocator>(number: u16, state: &State<B>) -> Option<Entry>
 }
 
 /// Gathers the entry of this number in a list, if there is one.
-fn gather_entry<W: Write>(
+pub(crate) fn gather_entry<W: Write>(
     number: u16,
     entry: Option<Entry>,
     gathered: &mut Gathered,

@@ -5,16 +5,18 @@
 
 ghost use Rattle.std.specs.Io.{ReadsAtMost};
 ghost use Rattle.std.specs.Io.KnownBytes.{ReadConsumes};
-ghost use Rattle.std.specs.Prelude.{◌≡◌, [], ◌∷◌, ◌++◌, false, List, ℕ, OnOk, IfErr};
-ghost use Rattle.console_lines.specs.Lines.{whole_lines};
+ghost use Rattle.std.specs.Prelude.{◌≡◌, ◌<◌, ◌+◌, ◌^◌, [], ◌∷◌, ◌++◌, length, false, List, ℕ};
+ghost use Rattle.std.specs.Prelude.{IfErr, IfOk, OnOk};
 ghost use Rattle.console_lines.specs.Progress.{kept};
-ghost use Rattle.run_console.specs.Progress.{Cut, IsOfLine, Lasts, PartRan, Ran, ReadsAll};
+ghost use Rattle.console_lines.specs.Strict.{stray_at};
+ghost use Rattle.run_console.specs.Progress.{Cut, IsOfLine, Lasts, PartCut, PartRuns, Ran, Reads};
 ghost use Rattle.run_console.specs.Progress.{RunStops};
 
 use crate::consoles::gather_line;
+use crate::untils::Until;
 use crate::writings::{Gathered, write_gathered};
 use arrayvec::ArrayVec;
-use console_lines::{LONGEST_INPUT, LONGEST_LINE, RunFault};
+use console_lines::{LONGEST_INPUT, LONGEST_LINE, RunFault, Stray, StrayLine};
 use memchr::memchr;
 use run_book::Book;
 use run_disk::RunDisk;
@@ -22,7 +24,7 @@ use std::alloc::Allocator;
 use std::io::{Read, Write};
 
 /// How many bytes are read at most at a time.
-pub const PART: usize = 4096;
+const PART: usize = 4096;
 
 /// How many bytes of a line are kept at most: one more than the longest line has.
 const KEPT: usize = LONGEST_LINE + 1;
@@ -30,26 +32,30 @@ const KEPT: usize = LONGEST_LINE + 1;
 /// The line that was begun.
 pub type OpenLine = ArrayVec<u8, KEPT>;
 
-/// Runs each line that an LF ends, to the end of the input, and keeps the last line. What is
-/// replied to the lines that were read is written before more is read.
+/// Runs the lines that an LF ends, to the one after which the run ends or to the end of the input,
+/// and keeps the last line and its number. What is replied to the lines that were read is written
+/// before more is read.
 pub fn run_whole_lines<A: Allocator + Copy, R: Read, W: Write, D: RunDisk, B: Allocator>(
     alloc: A,
     input: &mut R,
     output: &mut W,
     book: &mut Book<D, B>,
+    until: Until,
     tail: &mut OpenLine,
+    number: &mut u64,
     gathered: &mut Gathered,
-) -> Result<(), RunFault>
+) -> Result<Option<StrayLine>, RunFault>
     requires tail { tail.old.items ≡ [] }
+    requires number { number.old ≡ 1 }
     requires gathered { gathered.old.items ≡ [] }
     requires sound { book.old.journal.broken ≡ false }
-    ensures read { OnOk result (ReadsAll D.state book.old book.new tail.new.items
+    ensures read { IfOk result (λ stray. Reads D.state until stray number.new
+        book.old book.new tail.new.items gathered.new.items
         (R.remaining input.old) (R.remaining input.new)
         (W.contents output.old) (W.contents output.new)) }
-    ensures stops { IfErr result (λ fault. RunStops D.state fault book.old book.new
+    ensures stops { IfErr result (λ fault. RunStops D.state until fault book.old book.new
         (R.remaining input.old) (R.remaining input.new)
         (W.contents output.old) (W.contents output.new)) }
-    ensures none { OnOk result (gathered.new.items ≡ []) }
     ensures sound { OnOk result (book.new.journal.broken ≡ false) }
     ensures lasts { Lasts book.old.session book.new.session }
 {
@@ -59,32 +65,41 @@ pub fn run_whole_lines<A: Allocator + Copy, R: Read, W: Write, D: RunDisk, B: Al
         let most = (LONGEST_INPUT + 1 - total).min(PART);
         let count = read_some(input, &mut room[..most])?;
         if count == 0 {
-            return Ok(());
+            return Ok(None);
         }
         total += count;
-        run_part(alloc, &room[..count], output, book, tail, gathered)?;
+        let part = &room[..count];
+        let found = run_part(alloc, part, output, book, until, tail, number, gathered)?;
+        if found.is_some() {
+            return Ok(found);
+        }
         write_gathered(gathered, output)?;
     }
     Err(RunFault::InputTooLong)
 }
 
-/// Runs the lines that end in this part of the input, gathers their replies, and keeps the line
-/// that it begins. What was begun before it is kept already.
+/// Runs the lines that end in this part of the input, to the one after which the run ends, gathers
+/// their replies, and keeps the line that it begins, with its number. What was begun before it is
+/// kept already.
 fn run_part<A: Allocator + Copy, W: Write, D: RunDisk, B: Allocator>(
     alloc: A,
     part: &[u8],
     output: &mut W,
     book: &mut Book<D, B>,
+    until: Until,
     tail: &mut OpenLine,
+    number: &mut u64,
     gathered: &mut Gathered,
-) -> Result<(), RunFault>
+) -> Result<Option<StrayLine>, RunFault>
+    requires number { number.old + length part.now < 2 ^ 64 }
     requires sound { book.old.journal.broken ≡ false }
     ensures ran { (begun : List ℕ) → tail.old.items ≡ kept begun
-        → OnOk result (PartRan D.state begun part.now book.old book.new tail.new.items
+        → IfOk result (λ stray. PartRuns D.state until stray number.old number.new begun part.now
+        book.old book.new tail.new.items
         gathered.old.items gathered.new.items
         (W.contents output.old) (W.contents output.new)) }
     ensures cut { (begun : List ℕ) → tail.old.items ≡ kept begun
-        → IfErr result (λ fault. Cut D.state fault (whole_lines begun part.now)
+        → IfErr result (λ fault. PartCut D.state until fault number.old begun part.now
         book.old book.new gathered.old.items
         (W.contents output.old) (W.contents output.new)) }
     ensures fault { IfErr result IsOfLine }
@@ -93,15 +108,20 @@ fn run_part<A: Allocator + Copy, W: Write, D: RunDisk, B: Allocator>(
 {
     let mut rest = part;
     while let Some(end) = memchr(b'\n', rest) {
-        end_line(alloc, &rest[..end], output, book, tail, gathered)?;
+        let why = end_line(alloc, &rest[..end], output, book, tail, gathered)?;
+        if let Some(why) = until.ends_at(why) {
+            let number = *number;
+            return Ok(Some(StrayLine { number, why }));
+        }
+        *number += 1;
         rest = &rest[end + 1..];
     }
     keep(rest, tail);
-    Ok(())
+    Ok(None)
 }
 
-/// Runs the line that these bytes end, and gathers its reply. A line that was not begun before
-/// them is lent from them, and not copied.
+/// Runs the line that these bytes end, and gathers its reply. It returns why the line strays, if it
+/// does. A line that was not begun before them is lent from them, and not copied.
 fn end_line<A: Allocator + Copy, W: Write, D: RunDisk, B: Allocator>(
     alloc: A,
     end: &[u8],
@@ -109,12 +129,13 @@ fn end_line<A: Allocator + Copy, W: Write, D: RunDisk, B: Allocator>(
     book: &mut Book<D, B>,
     tail: &mut OpenLine,
     gathered: &mut Gathered,
-) -> Result<(), RunFault>
+) -> Result<Option<Stray>, RunFault>
     requires sound { book.old.journal.broken ≡ false }
     ensures ran { (begun : List ℕ) → tail.old.items ≡ kept begun
-        → OnOk result (Ran D.state ((begun ++ end.now) ∷ []) book.old book.new
+        → IfOk result (λ why. Ran D.state ((begun ++ end.now) ∷ []) book.old book.new
         gathered.old.items gathered.new.items
-        (W.contents output.old) (W.contents output.new)) }
+        (W.contents output.old) (W.contents output.new)
+        × (why ≡ stray_at book.old.session (begun ++ end.now))) }
     ensures none { OnOk result (tail.new.items ≡ []) }
     ensures cut { (begun : List ℕ) → tail.old.items ≡ kept begun
         → IfErr result (λ fault. Cut D.state fault ((begun ++ end.now) ∷ [])
@@ -125,13 +146,12 @@ fn end_line<A: Allocator + Copy, W: Write, D: RunDisk, B: Allocator>(
     ensures lasts { Lasts book.old.session book.new.session }
 {
     if tail.is_empty() {
-        gather_line(alloc, end, gathered, output, book)?;
-        return Ok(());
+        return gather_line(alloc, end, gathered, output, book);
     }
     keep(end, tail);
-    gather_line(alloc, tail.as_slice(), gathered, output, book)?;
+    let why = gather_line(alloc, tail.as_slice(), gathered, output, book)?;
     tail.clear();
-    Ok(())
+    Ok(why)
 }
 
 /// Keeps as many of these bytes as fit, after those that are kept.
@@ -146,7 +166,7 @@ fn keep(bytes: &[u8], tail: &mut OpenLine)
 }
 
 /// Reads some bytes; none when the input is at its end.
-pub fn read_some<R: Read>(input: &mut R, room: &mut [u8]) -> Result<usize, RunFault>
+fn read_some<R: Read>(input: &mut R, room: &mut [u8]) -> Result<usize, RunFault>
     ensures bound { ReadsAtMost result room.new }
     ensures bytes { ReadConsumes (R.remaining input.old) (R.remaining input.new) result room.new }
     ensures fault { IfErr result (λ fault. fault ≡ RunFault.Input) }

@@ -4,9 +4,11 @@ ghost use Rattle.std.specs.Io.KnownBytes.{Appends};
 ghost use Rattle.std.specs.Prelude.{◌≡◌, ◌≤◌, ◌++◌, IfErr, OnErr, OnOk, option_map, slice_get};
 ghost use Rattle.console_lines.specs.Inspected.{inspected, seen_line, task_row};
 ghost use Rattle.console_lines.specs.Progress.{WritesPart};
-ghost use Rattle.run_console.specs.Inspecting.{count_of, line_of, rows_text};
+ghost use Rattle.run_console.specs.Entries.{text_of, texts_of};
+ghost use Rattle.run_console.specs.Inspecting.{count_of, line_of};
 ghost use Rattle.run_console.specs.Progress.{Told};
 
+use crate::entries::gather_entry;
 use crate::writings::{Gathered, make_room, write_gathered};
 use console_lines::{Row, RunFault};
 use run_model::Scope;
@@ -26,9 +28,9 @@ pub fn inspect<W: Write, B: Allocator>(state: &State<B>, output: &mut W) -> Resu
 {
     let mut gathered = Gathered::new();
     Row::Counts(state.count(), state.clock()).gather(&mut gathered);
-    gather_rows(Rows::Scopes, state, &mut gathered, output)?;
-    gather_rows(Rows::Groups, state, &mut gathered, output)?;
-    gather_rows(Rows::Tasks, state, &mut gathered, output)?;
+    gather_rows(Form::Line, Rows::Scopes, state, &mut gathered, output)?;
+    gather_rows(Form::Line, Rows::Groups, state, &mut gathered, output)?;
+    gather_rows(Form::Line, Rows::Tasks, state, &mut gathered, output)?;
     write_gathered(&mut gathered, output)
 }
 
@@ -38,6 +40,13 @@ pub enum Rows {
     Scopes,
     Groups,
     Tasks,
+}
+
+/// How they are gathered: each as a line, or as an entry of a list in JSON.
+#[derive(Clone, Copy)]
+pub enum Form {
+    Line,
+    Entry,
 }
 
 impl Rows {
@@ -82,22 +91,44 @@ pub(crate) fn scope_row<B: Allocator>(number: u16, state: &State<B>) -> Option<&
 }
 
 /// Gathers these rows of a state. What is gathered is written when there is no room for another.
-fn gather_rows<W: Write, B: Allocator>(
+pub(crate) fn gather_rows<W: Write, B: Allocator>(
+    form: Form,
     rows: Rows,
     state: &State<B>,
     gathered: &mut Gathered,
     output: &mut W,
 ) -> Result<(), RunFault>
-    ensures told { OnOk result (Told (rows_text rows state.now)
+    ensures told { OnOk result (Told (texts_of form rows state.now)
         gathered.old.items gathered.new.items (W.contents output.old) (W.contents output.new)) }
     ensures cut { OnErr result (WritesPart (W.contents output.old) (W.contents output.new)
-        (gathered.old.items ++ rows_text rows state.now)) }
+        (gathered.old.items ++ texts_of form rows state.now)) }
     ensures fault { IfErr result (λ fault. fault ≡ RunFault.Output) }
 {
     for number in 0..rows.count(state) as u16 {
-        gather_row(rows.seen(number, state), gathered, output)?;
+        gather_one(form, rows, number, state, gathered, output)?;
     }
     Ok(())
+}
+
+/// Gathers the one of this number, if there is one.
+fn gather_one<W: Write, B: Allocator>(
+    form: Form,
+    rows: Rows,
+    number: u16,
+    state: &State<B>,
+    gathered: &mut Gathered,
+    output: &mut W,
+) -> Result<(), RunFault>
+    ensures told { OnOk result (Told (text_of form rows state.now number) gathered.old.items
+        gathered.new.items (W.contents output.old) (W.contents output.new)) }
+    ensures cut { OnErr result
+        (WritesPart (W.contents output.old) (W.contents output.new) gathered.old.items) }
+    ensures fault { IfErr result (λ fault. fault ≡ RunFault.Output) }
+{
+    match form {
+        Form::Line => gather_row(rows.seen(number, state), gathered, output),
+        Form::Entry => gather_entry(number, rows.entry(number, state), gathered, output),
+    }
 }
 
 /// Gathers a row, if there is one.

@@ -12,9 +12,9 @@ ghost use Rattle.console_lines.specs.Replies.{reply_line};
 ghost use Rattle.console_lines.specs.declared.asked.Asked.TheVariants as asks;
 ghost use Rattle.console_lines.specs.declared.replies.Reply.TheVariants as said;
 ghost use Rattle.console_lines.specs.Script.{reply, steps_of};
+ghost use Rattle.run_console.specs.declared.untils.Until.{Until};
 ghost use Rattle.run_console.specs.Progress.{LineStops, RunStops};
 ghost use Rattle.run_console.specs.Rows.{TakesAll};
-ghost use Rattle.run_console.specs.Strict.{StopsStrictly};
 ghost use Rattle.run_console.specs.Troubles.{Accounts};
 
 use run_disk::RunDisk;
@@ -29,15 +29,13 @@ pub fn what_is_printed_is_what_was_answered<D: RunDisk>()
         → reply s line ≡ reply_line (said.Step (reply_of_step s x)) }
 {}
 
-/// A fault that stopped a run, a strict run or a line over a book that wasn't broken has its cause
-/// in the store: which trouble the store's fault gives, and from what. That follows from the steps
-/// that were taken, and from what became of the next.
+/// A fault that stopped a run or a line over a book that wasn't broken has its cause in the store:
+/// which trouble the store's fault gives, and from what. That follows from the steps that were
+/// taken, and from what became of the next.
 pub fn a_fault_that_stops_a_run_has_its_cause<D: RunDisk>()
-    ensures run { (why : RunFault) (b c : BookView D) (r0 r1 w0 w1 : Option (List ℕ))
-        → b.journal.broken ≡ false → RunStops D.state why b c r0 r1 w0 w1
-        → Accounts D.state b why c }
-    ensures strict { (why : RunFault) (b c : BookView D) (r0 r1 w0 w1 : Option (List ℕ))
-        → b.journal.broken ≡ false → StopsStrictly D.state why b c r0 r1 w0 w1
+    ensures run { (until : Until) (why : RunFault) (b c : BookView D)
+        (r0 r1 w0 w1 : Option (List ℕ))
+        → b.journal.broken ≡ false → RunStops D.state until why b c r0 r1 w0 w1
         → Accounts D.state b why c }
     ensures line { (why : RunFault) (line : List ℕ) (b c : BookView D)
         (w0 w1 : Option (List ℕ)) → b.journal.broken ≡ false

@@ -5,7 +5,6 @@
 
 ghost use Rattle.std.specs.Prelude.{◌≡◌, ◌≢◌, ◌<◌, [], length, map, IfErr, IfOk, OnErr, OnOk, Some};
 ghost use Rattle.std.specs.String.{string_bytes};
-ghost use Rattle.run_model.specs.Questions.{task_look_of};
 ghost use Rattle.console_lines.specs.Replies.{reply_lines};
 ghost use Rattle.console_lines.specs.Tallies.{tallies_of};
 ghost use Rattle.console_lines.specs.declared.replies.Reply.TheVariants as said;
@@ -13,7 +12,6 @@ ghost use Rattle.run_console.specs.Progress.{Told, Untold};
 
 use crate::writings::{Gathered, gather_bytes, write_gathered};
 use console_lines::{RunFault, Tallies};
-use run_model::TaskLook;
 use run_state::State;
 use std::alloc::{AllocError, Allocator};
 use std::io::Write;
@@ -68,19 +66,8 @@ fn count_tasks<A: Allocator + Copy, B: Allocator>(
 {
     let mut tallies = Tallies::new(alloc);
     for task in 0..state.task_count() as u16 {
-        let look = look(state, task);
+        let look = state.task(task).unwrap();
         tallies.add(&look.job, &look.phase)?;
     }
     Ok(tallies)
-}
-
-/// What is seen of the task of this number.
-fn look<B: Allocator>(state: &State<B>, task: u16) -> TaskLook
-    requires { task < length state.now.work.tasks }
-    ensures { task_look_of state.now task ≡ Some result }
-{
-    match state.task(task) {
-        Some(look) => look,
-        None => unreachable!(),
-    }
 }

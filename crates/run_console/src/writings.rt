@@ -64,10 +64,8 @@ pub fn gather_bytes<W: Write>(
     if gathered.remaining_capacity() < bytes.len() {
         return write_behind(bytes, gathered, output);
     }
-    match gathered.try_extend_from_slice(bytes) {
-        Ok(()) => Ok(()),
-        Err(_) => unreachable!(),
-    }
+    gathered.try_extend_from_slice(bytes).unwrap();
+    Ok(())
 }
 
 /// Writes all that was gathered, and these bytes after it.

@@ -135,7 +135,7 @@ const TASKS: View<'static> = View::Tasks {
 };
 
 /// The flags of a view, one alone; after `--` each is the name of a store.
-pub static VIEWS: [Case; 13] = [
+pub static VIEWS: [Case; 16] = [
     (&["inspect", "--tasks", "a"], Told::Inspect("a", TASKS)),
     (&["inspect", "a", "--tasks"], Told::Inspect("a", TASKS)),
     (
@@ -163,6 +163,18 @@ pub static VIEWS: [Case; 13] = [
         Told::Inspect("--tree", View::Whole),
     ),
     (
+        &["inspect", "--summary", "a"],
+        Told::Inspect("a", View::Summary),
+    ),
+    (
+        &["inspect", "a", "--summary"],
+        Told::Inspect("a", View::Summary),
+    ),
+    (
+        &["inspect", "--", "--summary"],
+        Told::Inspect("--summary", View::Whole),
+    ),
+    (
         &["inspect", "--", "--phase"],
         Told::Inspect("--phase", View::Whole),
     ),
@@ -173,7 +185,7 @@ pub static VIEWS: [Case; 13] = [
 ];
 
 /// More than one view.
-pub static TWO_VIEWS: [Case; 9] = [
+pub static TWO_VIEWS: [Case; 13] = [
     (&["inspect", "--json", "--tasks", "a"], Told::Views),
     (&["inspect", "--tasks", "a", "--json"], Told::Views),
     (&["inspect", "--tasks", "--tree", "a"], Told::Views),
@@ -189,6 +201,10 @@ pub static TWO_VIEWS: [Case; 9] = [
         &["inspect", "--json", "--group=g", "--phase=x", "a"],
         Told::Views,
     ),
+    (&["inspect", "--summary", "--tree", "a"], Told::Views),
+    (&["inspect", "--json", "a", "--summary"], Told::Views),
+    (&["inspect", "--tasks", "--summary", "a"], Told::Views),
+    (&["inspect", "--summary", "--phase=held", "a"], Told::Views),
 ];
 
 /// The tasks of a phase or of a group, with `--tasks` or without it.
@@ -408,8 +424,8 @@ pub static HELP: [Case; 30] = [
         Told::Help("      --new   Refuses where there is a file of that name\n"),
     ),
     (
-        &["format", "--help"],
-        Told::Help("`night script --help` lists all lines"),
+        &["demo", "--help"],
+        Told::Help("  NAME, KEY, JOB, ARG     1 to 32 of a-z, 0-9, - and _"),
     ),
     (
         &["script", "--help"],
@@ -466,12 +482,12 @@ pub static HELP: [Case; 30] = [
         ),
     ),
     (
-        &["renew", "--help"],
-        Told::Help("`night script --help` lists all lines"),
+        &["script", "--help"],
+        Told::Help("\n  refused 25 AlreadyRetried    another task is a retry of it already\n"),
     ),
     (
         &["crew", "--help"],
-        Told::Help("Example: night crew jobs.store --workers 2"),
+        Told::Help("  night crew --known jobs.store\n  night crew jobs.store --workers 2\n"),
     ),
     (
         &["crew", "--help"],
@@ -479,11 +495,11 @@ pub static HELP: [Case; 30] = [
     ),
     (
         &["crew", "--help"],
-        Told::Help("`no such job`, and that task can't be retried"),
+        Told::Help("for good: it fails as `no such job`, and can't be retried.\n"),
     ),
     (
         &["crew", "--help"],
-        Told::Help("With\n`--known` it starts nothing where such a task isn't ended.\n"),
+        Told::Help("With `--known` it starts\nnothing while a task of any other job isn't ended."),
     ),
     (
         &["crew", "--help"],

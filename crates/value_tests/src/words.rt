@@ -81,6 +81,7 @@ fn is_view(view: View, other: View) -> bool {
         }
         (View::Json, View::Json) => true,
         (View::Tree, View::Tree) => true,
+        (View::Summary, View::Summary) => true,
         _ => false,
     }
 }

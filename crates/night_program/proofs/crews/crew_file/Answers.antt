@@ -1,7 +1,7 @@
 use Rattle.std.proofs.Common.{◌≡◌, ◌∙◌, ℕ, arith, inl, inr, refl, subst, vec_len}
 use Rattle.std.specs.Prelude.{None, Some}
 use Rattle.run_console.specs.Crews.{CrewEnds}
-use Rattle.night_program.specs.Crews.{IsLooked}
+use Rattle.night_program.specs.Crews.{IsLooked, IsOpen}
 use Rattle.night_program.proofs.Looking.{found_is, looked_first, looked_not}
 use Rattle.night_program.proofs.crews.crew_file.Goals as goal
 use Rattle.night_program.proofs.crews.crew_file.Goals.{then-known+in-Ok-None, else-known}
@@ -72,7 +72,7 @@ returns g c =
       c.from.ensures,
       c.from-2.ensures,
     ) in
-    let P : ℕ → Type 0 = λ n. CrewEnds g.F.Disk.RunDisk.state c.if-known.disk n
+    let P : ℕ → Type 0 = λ n. CrewEnds g.F.Disk.RunDisk.state IsOpen c.if-known.disk n
     c.crew_over-done.result.0 c.crew_over-done.result.1
     (g.O.Write.contents c.args.output.now) (g.O.Write.contents c.crew_over-done.new.output) in
     let looked : IsLooked g.F.Disk.RunDisk.state c.args.known c.in-Ok.opened.disk c.if-known.disk =

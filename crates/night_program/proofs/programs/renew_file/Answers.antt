@@ -1,6 +1,7 @@
 use Rattle.std.proofs.Common.{◌≡◌, ◌∙◌, Option, inl, inr, refl, subst, sym}
 use Rattle.run_model.specs.declared.layouts.Layout.{Layout}
 use Rattle.run_model.specs.Layouts.{layout_of}
+use Rattle.night_program.specs.Failures.{NamesSource}
 use Rattle.night_program.specs.Sources.{ServesNot}
 use Rattle.night_program.proofs.programs.renew_file.Goals as goal
 
@@ -10,6 +11,8 @@ returns-in-Err-read_source g c =
     let state = g.F.Disk.RunDisk.state in
     let source = c.in-Ok.opened.disk in
     let to : c.of-same.result ≡ layout_of (state source).size = cc in
+    let named : NamesSource (layout_of (state source).size) (layout_of (state source).size)
+    c.args.old.now c.failed_source.result = rw to at c.failed_source.ensures.file in
     let None : Option Layout → Type 0 = λ to.
     ServesNot state to source c.in-Err-read_source.fault c.read_source.new.disk in
     inr (inl (
@@ -27,10 +30,10 @@ returns-in-Err-read_source g c =
         settled = c.in-Ok.ensures.settled;
         none = subst None to c.in-Err-read_source.ensures.not;
         answers = (
-          c.failed_over.result,
+          c.failed_source.result,
           refl,
-          c.failed_over.ensures.fault ∙ c.stopped.ensures,
-          c.failed_over.ensures.file,
+          c.failed_source.ensures.fault ∙ c.stopped.ensures,
+          named,
         );
       },
       refl,

@@ -1,5 +1,10 @@
-use Rattle.std.proofs.Common.{inr}
+use Rattle.std.proofs.Common.{inl, inr, refl}
 use Rattle.night_program.proofs.renewals.remake.Goals as goal
+
+pub returns-in-Err-renew : goal.returns-in-Err-renew
+returns-in-Err-renew g c =
+    let found = c.in-Ok.ensures.found in
+    inr (found.0, c.sizes_on.new.disk, found.1, inl c.in-Err-renew.ensures.renews)
 
 pub returns-in-Err-sizes_on : goal.returns-in-Err-sizes_on
 returns-in-Err-sizes_on g c =
@@ -11,7 +16,7 @@ returns-in-Err-sizes_on g c =
       inr (
         c.in-Ok-renew.made,
         c.in-Err-sizes_on.fault,
-        c.stopped-in-Err-sizes_on.ensures,
+        refl,
         c.in-Ok-renew.ensures.renews,
         c.in-Err-sizes_on.ensures.none,
       ),

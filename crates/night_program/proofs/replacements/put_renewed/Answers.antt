@@ -43,7 +43,12 @@ returns g c =
           removed = subst Gone c.requires.named c.remove.ensures;
           closes = c.close.ensures;
         },
-        c.done_over_two.ensures,
+        (
+          c.failed_beside.result,
+          refl,
+          c.failed_beside.ensures.fault,
+          c.failed_beside.ensures.file,
+        ),
         refl,
       );
     }

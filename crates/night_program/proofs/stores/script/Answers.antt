@@ -9,14 +9,14 @@ returns-in-Ok g c =
     let sound = opens.answer.opened.sound in
     inl record {
       before = c.in-Ok.book;
-      after = c.run-answer.new.book;
+      after = c.run_until-answer.new.book;
       opened = opens;
       begun = c.in-Ok.ensures.session;
-      runs = ran g.D.RunDisk.state c.run-answer.result _ _ _ _ c.in-Ok.book
-          c.run-answer.new.book c.run-answer.ensures.all
-          (c.run-answer.ensures.stops sound) (c.run-answer.ensures.begins sound);
-      lasts = c.run-answer.ensures.lasts;
-      carries_on = c.run-answer.ensures.carries_on;
+      runs = ran g.D.RunDisk.state c.args.until c.run_until-answer.result _ _ _ _ c.in-Ok.book
+          c.run_until-answer.new.book c.run_until-answer.ensures.runs
+          (c.run_until-answer.ensures.stops sound);
+      lasts = c.run_until-answer.ensures.lasts;
+      carries_on = c.run_until-answer.ensures.carries_on;
       disk = c.into_disk.ensures;
     }
 

@@ -14,3 +14,6 @@ returns-in-Json-clause-cut g c = rw c.in-Json.is c.print_json.ensures.cut
 
 pub returns-in-Tree-clause-cut : goal.returns-in-Tree-clause-cut
 returns-in-Tree-clause-cut g c = rw c.in-Tree.is c.print_tree.ensures.cut
+
+pub returns-in-Summary-clause-cut : goal.returns-in-Summary-clause-cut
+returns-in-Summary-clause-cut g c = rw c.in-Summary.is c.print_summary.ensures.cut

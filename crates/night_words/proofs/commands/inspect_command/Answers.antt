@@ -10,4 +10,6 @@ returns c =
     c.value_word-2.ensures.rule phase in
     let json = c.with_word-json.ensures _ _ c.flag_word-2.ensures.local
     c.flag_word-2.ensures.rule group in
-    c.with_word.ensures _ _ c.flag_word-3.ensures.local c.flag_word-3.ensures.rule json
+    let tree = c.with_word-tree.ensures _ _ c.flag_word-3.ensures.local
+    c.flag_word-3.ensures.rule json in
+    c.with_word.ensures _ _ c.flag_word-4.ensures.local c.flag_word-4.ensures.rule tree

@@ -46,6 +46,10 @@ pub returns-clause-tree : goal.returns-clause-tree
 unfolding clap_on_literals
 returns-clause-tree c = λ name. refl
 
+pub returns-clause-summary : goal.returns-clause-summary
+unfolding clap_on_literals
+returns-clause-summary c = λ name. refl
+
 pub returns-clause-phase : goal.returns-clause-phase
 unfolding clap_on_literals
 returns-clause-phase c = λ name. refl

@@ -1,6 +1,7 @@
 use Rattle.std.proofs.Common.{◌≡◌, ◌∙◌, Err, ap, inl, inr, refl, subst}
 use Rattle.std.specs.Prelude.{IfErr, IfOk, vec_len}
 use Rattle.run_model.specs.declared.faults.Fault.TheVariants as fault
+use Rattle.run_crew.specs.Courses.{IsGates}
 use Rattle.run_crew.specs.Openings.{From, opened_of}
 use Rattle.run_console.specs.Crews.{IsWorked}
 use Rattle.run_console.specs.Troubles.{stopped}
@@ -46,6 +47,7 @@ returns-in-Ok-night g c =
     let night = c.in-Ok-night.night in
     let left = c.work-night.result.1 in
     let worked = subst (λ r. IfOk r (λ n. IsWorked state (From (opened_of state b))
+    (IsGates (g.G.Gate.lets c.args.gate.now) (g.G.Gate.told c.args.gate.now))
     (vec_len c.args.jobs) n.audited n.starts n.finishes n.flushed left)) c.in-Ok-night.is
     c.work-night.ensures.worked in
     inr (

@@ -1,5 +1,7 @@
-use Rattle.std.proofs.Common.{◌∙◌, ap, sym}
+use Rattle.std.proofs.Common.{◌∙◌, ap, subst, sym}
+use Rattle.std.specs.Prelude.{All}
 use Rattle.book_model.specs.Books.{BookView}
+use Rattle.run_crew.specs.Courses.{IsGates, IsOfShift}
 use Rattle.run_crew.specs.Desks.{DeskView}
 use Rattle.run_crew.specs.Notes.{noted}
 use Rattle.run_crew.specs.Seats.{SeatView}
@@ -37,6 +39,8 @@ returns-clause-worked g c =
       exactly = c.audit-audited.ensures.exactly;
       started = c.settle-starts.ensures.history.0;
       finished = c.settle-starts.ensures.history.1;
+      gate = subst (λ l. All (IsOfShift (IsGates (g.G.Gate.lets c.args.gate.now)
+          (g.G.Gate.told c.args.gate.now))) l) (sym c.as_slice.ensures.value) c.in-Ok.ensures.gate;
       each_has_a_list = c.as_slice.ensures.len ∙ c.in-Ok.ensures.workers;
       each_is_noted = counts.0;
       each_was_started = counts.1;

@@ -14,18 +14,18 @@ returns-in_err-gather_bytes-clause-cut g c =
 
 pub returns-clause-told : goal.returns-clause-told
 returns-clause-told g c =
-    on_ok_weaker c.gather_entries.result
+    on_ok_weaker c.gather_rows.result
     (told_then (c.args.head.now) (items_text c.args.rows c.args.state.now)
-    c.args.gathered.now.items c.gather_bytes.new.gathered.items c.gather_entries.new.gathered.items
+    c.args.gathered.now.items c.gather_bytes.new.gathered.items c.gather_rows.new.gathered.items
     (g.W.Write.contents c.args.output.now) (g.W.Write.contents c.gather_bytes.new.output)
-    (g.W.Write.contents c.gather_entries.new.output) c.in_ok-gather_bytes.ensures.told)
-    c.gather_entries.ensures.told
+    (g.W.Write.contents c.gather_rows.new.output) c.in_ok-gather_bytes.ensures.told)
+    c.gather_rows.ensures.told
 
 pub returns-clause-cut : goal.returns-clause-cut
 returns-clause-cut g c =
-    on_err_weaker c.gather_entries.result
+    on_err_weaker c.gather_rows.result
     (second_cut (c.args.head.now) (items_text c.args.rows c.args.state.now)
     c.args.gathered.now.items c.gather_bytes.new.gathered.items
     (g.W.Write.contents c.args.output.now) (g.W.Write.contents c.gather_bytes.new.output)
-    (g.W.Write.contents c.gather_entries.new.output) c.in_ok-gather_bytes.ensures.told)
-    c.gather_entries.ensures.cut
+    (g.W.Write.contents c.gather_rows.new.output) c.in_ok-gather_bytes.ensures.told)
+    c.gather_rows.ensures.cut

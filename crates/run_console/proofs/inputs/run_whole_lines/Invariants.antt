@@ -5,15 +5,15 @@ use Rattle.run_console.specs.Progress.{PartRan}
 use Rattle.run_console.proofs.Going.{Goes}
 use Rattle.run_console.proofs.inputs.run_whole_lines.Given as goal
 
--- Some bytes were read and run, and no more than may be read.
+-- Some bytes were read and run, the run goes on, and no more was read than may be.
 abbrev pub invariant-loop-total : goal.invariant-loop-total
 invariant-loop-total g l =
     (bytes : List ℕ)
     × Consumes (g.R.Read.remaining l.initial.input) (g.R.Read.remaining l.input) bytes
     × (length bytes ≡ l.total)
     × (l.total ≤ LONGEST_INPUT + 1)
-    × PartRan g.D.RunDisk.state [] bytes l.initial.book l.book l.tail.items [] []
-    (g.W.Write.contents l.initial.output) (g.W.Write.contents l.output)
+    × PartRan g.D.RunDisk.state l.until 1 l.number [] bytes l.initial.book l.book l.tail.items
+    [] [] (g.W.Write.contents l.initial.output) (g.W.Write.contents l.output)
     × (l.gathered.items ≡ [])
     × Goes l.initial.book l.book
 

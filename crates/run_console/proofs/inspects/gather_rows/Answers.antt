@@ -1,8 +1,9 @@
-use Rattle.std.specs.Prelude.{◌≡◌, ◌<◌, ℕ, List}
+use Rattle.std.specs.Prelude.{◌≡◌, ◌<◌, ℕ}
 use Rattle.std.proofs.Common.{[], append-nil, arith, subst, sym}
 use Rattle.std.proofs.lemmas.Result.{err_from_is_err_and}
 use Rattle.console_lines.specs.Inspected.{lines_below}
-use Rattle.run_console.specs.Inspecting.{count_of, line_of}
+use Rattle.run_console.specs.Entries.{text_of}
+use Rattle.run_console.specs.Inspecting.{count_of}
 use Rattle.run_console.specs.Progress.{Told}
 use Rattle.run_console.proofs.Inspecting.{line_cut, line_told, told_first}
 use Rattle.run_console.proofs.inspects.gather_rows.Goals as goal
@@ -12,37 +13,34 @@ loop-number-init g c =
     told_first [] c.args.gathered.now.items c.args.gathered.now.items
     (g.W.Write.contents c.args.output.now) (sym (append-nil c.args.gathered.now.items))
 
-pub returns-in_err-gather_row-clause-cut : goal.returns-in_err-gather_row-clause-cut
-returns-in_err-gather_row-clause-cut g c =
+pub returns-in_err-gather_one-clause-cut : goal.returns-in_err-gather_one-clause-cut
+returns-in_err-gather_one-clause-cut g c =
     let p = err_from_is_err_and c.from_residual.result c.from_residual.ensures.1 in
     let state = c.args.state.now in
     let n = count_of c.args.rows state in
     let less : c.loop-number.number < n =
     omega (arith, c.loop-number-test.true, c.count-number-end.ensures.few) in
     rw p.1 (
-    line_cut (line_of c.args.rows state) c.loop-number.number n
+    line_cut (text_of c.args.form c.args.rows state) c.loop-number.number n
     c.args.gathered.now.items c.loop-number.gathered.items
     (g.W.Write.contents c.args.output.now) (g.W.Write.contents c.loop-number.output)
-    (g.W.Write.contents c.gather_row.new.output)
-    less c.loop-number.invariant c.in_err-gather_row.ensures.cut)
+    (g.W.Write.contents c.gather_one.new.output)
+    less c.loop-number.invariant c.in_err-gather_one.ensures.cut)
 
 pub loop-number-preserved : goal.loop-number-preserved
 loop-number-preserved g c =
-    let h = c.loop-number.gathered.items in
-    let k = c.gather_row.new.gathered.items in
-    let w1 = g.W.Write.contents c.loop-number.output in
-    let w2 = g.W.Write.contents c.gather_row.new.output in
-    let P : List ℕ → Type 0 = λ t. Told t h k w1 w2 in
-    line_told (line_of c.args.rows c.args.state.now) c.loop-number.number
-    c.args.gathered.now.items h k (g.W.Write.contents c.args.output.now) w1 w2
-    c.loop-number.invariant (subst P c.seen.ensures c.in_ok-gather_row.ensures.told)
+    line_told (text_of c.args.form c.args.rows c.args.state.now) c.loop-number.number
+    c.args.gathered.now.items c.loop-number.gathered.items c.gather_one.new.gathered.items
+    (g.W.Write.contents c.args.output.now) (g.W.Write.contents c.loop-number.output)
+    (g.W.Write.contents c.gather_one.new.output)
+    c.loop-number.invariant c.in_ok-gather_one.ensures.told
 
 pub returns-clause-told : goal.returns-clause-told
 returns-clause-told g c =
     let state = c.args.state.now in
     let n = count_of c.args.rows state in
     let P : ℕ → Type 0 = λ i.
-    Told (lines_below (line_of c.args.rows state) i)
+    Told (lines_below (text_of c.args.form c.args.rows state) i)
     c.args.gathered.now.items c.loop-number.gathered.items
     (g.W.Write.contents c.args.output.now) (g.W.Write.contents c.loop-number.output) in
     let same : c.loop-number.number ≡ n =

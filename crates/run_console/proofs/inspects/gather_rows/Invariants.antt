@@ -1,11 +1,11 @@
 use Rattle.console_lines.specs.Inspected.{lines_below}
-use Rattle.run_console.specs.Inspecting.{line_of}
+use Rattle.run_console.specs.Entries.{text_of}
 use Rattle.run_console.specs.Progress.{Told}
 use Rattle.run_console.proofs.inspects.gather_rows.Given as goal
 
 -- The lines of the first ones were told.
 abbrev pub invariant-loop-number : goal.invariant-loop-number
 invariant-loop-number g l =
-    Told (lines_below (line_of l.rows l.state) l.number)
+    Told (lines_below (text_of l.form l.rows l.state) l.number)
     l.initial.gathered.items l.gathered.items
     (g.W.Write.contents l.initial.output) (g.W.Write.contents l.output)

@@ -10,7 +10,7 @@ pub loop-task-preserved : goal.loop-task-preserved
 loop-task-preserved g c =
     let p = c.args.state.now in
     let n = c.loop-task.task in
-    let seen = seen_row p n c.look-look.result c.look-look.ensures in
+    let seen = seen_row p n c.unwrap-look.result _ c.task.ensures c.unwrap-look.ensures in
     let few : n < 8192 =
     omega (arith, c.loop-task-test.true, c.task_count-task-end.ensures.few) in
     c.in_ok-add.ensures.added (take n p.work.tasks) seen.row (is_admitted p.work n seen.row)

@@ -1,0 +1,117 @@
+-- What a summary of a state prints: how full the store is, a line for each group, and one for each
+-- scope that is done and isn't a group's own.
+use Rattle.std.specs.Prelude.{ℕ, zero, suc, ◌+◌, nat_eq, Bool, false, ◌&&◌, if◌then◌else◌, is_some}
+use Rattle.std.specs.Prelude.{List, [], ◌∷◌, ◌++◌, length, codes, slice_get, Option, Some, None}
+use Rattle.std.specs.Fmt.{decimal}
+use Rattle.std.specs.Option.{option_map_or}
+use Rattle.std.specs.Str.{bytes_eq}
+use Rattle.run_model.specs.declared.answers.GroupLook.{GroupLook}
+use Rattle.run_model.specs.declared.answers.Look.{Look}
+use Rattle.run_model.specs.declared.answers.TaskLook.{TaskLook}
+use Rattle.run_model.specs.declared.scopes.Kind.{Kind}
+use Rattle.run_model.specs.declared.scopes.Kind.TheVariants as kind
+use Rattle.run_model.specs.Questions.{group_look_of, look_of, task_look_of}
+use Rattle.run_model.specs.State.{State}
+use Rattle.written_moment.specs.Dates.{moment_text}
+use Rattle.console_lines.specs.declared.summaries.Phases.{Phases}
+use Rattle.console_lines.specs.Inspected.{lines_below, named}
+use Rattle.console_lines.specs.Listed.{phase_word}
+use Rattle.console_lines.specs.Replies.{ending_text, group_text}
+use Rattle.console_lines.specs.Trees.{head_line, kind_line, taken_of}
+
+-- ---- tasks
+
+-- How many numbers below this one pass the test.
+abbrev pub count_below : (ℕ → Bool) → ℕ → ℕ
+count_below test zero = 0
+count_below test (suc n) = count_below test n + (if test n then 1 else 0)
+
+-- A task is of this group, and in the phase of this word.
+abbrev pub is_in_phase : ℕ → List ℕ → TaskLook → Bool
+is_in_phase g word look = nat_eq look.group g && bytes_eq (phase_word look.phase) word
+
+-- How many tasks of a state are.
+abbrev pub tasks_in : State → ℕ → List ℕ → ℕ
+tasks_in p g word =
+    count_below (λ n. option_map_or (is_in_phase g word) (task_look_of p n) false)
+    (length p.work.tasks)
+
+-- How many tasks of a group are in each phase.
+abbrev pub phases_of : State → ℕ → Phases
+phases_of p g = record {
+  held = tasks_in p g (codes "held");
+  ready = tasks_in p g (codes "ready");
+  running = tasks_in p g (codes "running");
+  success = tasks_in p g (codes "success");
+  error = tasks_in p g (codes "error");
+  interrupted = tasks_in p g (codes "interrupted");
+}
+
+-- ---- lines
+
+-- A number after what it counts.
+abbrev pub counted : List ℕ → ℕ → List ℕ
+counted word n = word ++ decimal n
+
+abbrev pub phases_text : Phases → List ℕ
+phases_text phases =
+    counted (codes "; tasks held ") phases.held
+    ++ (counted (codes ", ready ") phases.ready
+    ++ (counted (codes ", running ") phases.running
+    ++ (counted (codes ", success ") phases.success
+    ++ (counted (codes ", error ") phases.error
+    ++ counted (codes ", interrupted ") phases.interrupted))))
+
+-- A deadline in seconds, and its date and time; or `none`.
+abbrev pub dated_text : Option ℕ → List ℕ
+dated_text None = codes "none"
+dated_text (Some moment) = decimal moment ++ (codes " " ++ moment_text moment)
+
+-- A scope as its question is answered, with a deadline's date and time.
+abbrev pub state_text : Look → List ℕ
+state_text look = option_map_or
+    (λ ending. codes "done; deadline " ++ (dated_text look.deadline
+    ++ ending_text ending.0 ending.1))
+    look.done
+    (codes "live; deadline " ++ dated_text look.deadline)
+
+-- A group as in a whole state, how many of its tasks are in each phase, and its scope.
+abbrev pub group_summary : ℕ → GroupLook → Phases → Look → List ℕ
+group_summary g group phases scope =
+    named (codes "group") g group.name
+    ++ (group_text group
+    ++ (phases_text phases
+    ++ (counted (codes "; scope ") group.scope
+    ++ (codes " " ++ (state_text scope ++ 10 ∷ [])))))
+
+-- Whether a scope has a line: it is done, and isn't a group's own, which the group's line shows.
+abbrev pub is_summed : Kind → Look → Bool
+is_summed kind.Group look = false
+is_summed kind look = is_some look.done
+
+-- The line that it has in a tree.
+abbrev pub scope_summary : ℕ → Kind → Look → List ℕ
+scope_summary s kind look = if is_summed kind look then kind_line s kind look else []
+
+-- ---- a state
+
+abbrev pub group_summed : State → ℕ → List ℕ
+group_summed p g = option_map_or
+    (λ group. option_map_or (group_summary g group (phases_of p g)) (look_of p group.scope) [])
+    (group_look_of p g) []
+
+abbrev pub scope_summed : State → ℕ → List ℕ
+scope_summed p s = option_map_or
+    (λ row. option_map_or (scope_summary s row.kind) (look_of p s) [])
+    (slice_get p.tree.scopes s) []
+
+-- The lines of groups and scopes, each in order of number.
+abbrev pub lines_summed : State → List ℕ
+lines_summed p =
+    lines_below (group_summed p) (length p.work.groups)
+    ++ lines_below (scope_summed p) (length p.tree.scopes)
+
+-- All that a summary prints: the first line is a tree's.
+abbrev pub summary_text : State → List ℕ
+summary_text p =
+    head_line p.count p.tree.clock p.tree.layout (taken_of p) ++ lines_summed p

@@ -1,0 +1,150 @@
+//! The lines of a summary: those of a group, with its tasks by phase and its scope, and of a scope
+//! that is done. They take no memory.
+
+ghost use Rattle.std.specs.Prelude.{◌≡◌, ◌+◌, ◌≤◌, Some, length};
+ghost use Rattle.arrayvec.specs.ArrayVec.{array_vec_len};
+ghost use Rattle.console_lines.specs.declared.summaries.TheConstants.{LONGEST_SUMMARY};
+ghost use Rattle.console_lines.specs.Gathers.{Gathers};
+ghost use Rattle.console_lines.specs.Summaries.{counted, dated_text, group_summary};
+ghost use Rattle.console_lines.specs.Summaries.{is_in_phase, is_summed, phases_text};
+ghost use Rattle.console_lines.specs.Summaries.{scope_summary, state_text};
+
+use crate::gathers::{push, push_count, push_ending, push_group, push_moment};
+use crate::listings::phase_word;
+use crate::rows::push_named;
+use crate::trees::gather_tree_scope;
+use arrayvec::ArrayVec;
+use run_model::{GroupLook, Kind, Look, Moment, TaskLook};
+use written_moment::moment_text;
+
+/// No line of a summary has more bytes, with its LF.
+pub const LONGEST_SUMMARY: usize = 444;
+
+/// How many tasks of a group are in each phase.
+#[derive(Clone, Copy)]
+pub struct Phases {
+    pub held: u16,
+    pub ready: u16,
+    pub running: u16,
+    pub success: u16,
+    pub error: u16,
+    pub interrupted: u16,
+}
+
+/// Returns whether a task is of this group and in this phase, by the phase's word.
+pub fn is_in_phase(group: u16, word: &str, look: &TaskLook) -> bool
+    ensures { result ≡ is_in_phase group word.now look.now }
+{
+    look.group == group && phase_word(&look.phase) == word
+}
+
+/// Appends the line of a group: `group 0 g unfinished 2; limit 1; waited no; error none; tasks held
+/// 1, ready 0, running 1, success 0, error 0, interrupted 0; scope 1 live; deadline none`.
+pub fn gather_group_summary<const N: usize>(
+    number: u16,
+    group: &GroupLook,
+    phases: &Phases,
+    scope: &Look,
+    out: &mut ArrayVec<u8, N>,
+)
+    requires { array_vec_len out.old + LONGEST_SUMMARY ≤ N }
+    ensures { Gathers out.old.items out.new.items
+        (group_summary number group.now phases.now scope.now) LONGEST_SUMMARY }
+{
+    push_named(out, b"group", number, &group.name);
+    push_group(out, group);
+    push_phases(out, phases);
+    push_counted(out, b"; scope ", group.scope);
+    push(out, b" ");
+    push_state(out, scope);
+    push(out, b"\n");
+}
+
+/// Appends the line of a scope, if it is done and isn't a group's own.
+pub fn gather_scope_summary<const N: usize>(
+    number: u16,
+    kind: &Kind,
+    look: &Look,
+    out: &mut ArrayVec<u8, N>,
+)
+    requires { array_vec_len out.old + LONGEST_SUMMARY ≤ N }
+    ensures { Gathers out.old.items out.new.items (scope_summary number kind.now look.now)
+        LONGEST_SUMMARY }
+{
+    if is_summed(kind, look) {
+        gather_tree_scope(number, kind, look, out);
+    }
+}
+
+/// Returns whether a scope has a line.
+fn is_summed(kind: &Kind, look: &Look) -> bool
+    ensures { result ≡ is_summed kind.now look.now }
+{
+    match kind {
+        Kind::Group => false,
+        _ => look.done.is_some(),
+    }
+}
+
+/// How many tasks are in each phase.
+fn push_phases<const N: usize>(out: &mut ArrayVec<u8, N>, phases: &Phases)
+    requires { array_vec_len out.old + 114 ≤ N }
+    ensures { Gathers out.old.items out.new.items (phases_text phases.now) 114 }
+{
+    push_counted(out, b"; tasks held ", phases.held);
+    push_counted(out, b", ready ", phases.ready);
+    push_counted(out, b", running ", phases.running);
+    push_counted(out, b", success ", phases.success);
+    push_counted(out, b", error ", phases.error);
+    push_counted(out, b", interrupted ", phases.interrupted);
+}
+
+/// A number after what it counts.
+fn push_counted<const N: usize>(out: &mut ArrayVec<u8, N>, word: &[u8], count: u16)
+    requires word { length word.now ≤ 14 }
+    requires room { array_vec_len out.old + 19 ≤ N }
+    ensures { Gathers out.old.items out.new.items (counted word.now count) 19 }
+{
+    push(out, word);
+    push_count(out, count);
+}
+
+/// How a scope is.
+fn push_state<const N: usize>(out: &mut ArrayVec<u8, N>, look: &Look)
+    requires { array_vec_len out.old + 151 ≤ N }
+    ensures { Gathers out.old.items out.new.items (state_text look.now) 151 }
+{
+    match &look.done {
+        None => {
+            push(out, b"live; deadline ");
+            push_dated(out, look.deadline);
+        }
+        Some(ending) => {
+            push(out, b"done; deadline ");
+            push_dated(out, look.deadline);
+            push_ending(out, ending.0, ending.1.as_bytes());
+        }
+    }
+}
+
+/// A deadline in seconds, and its date and time; or `none`.
+fn push_dated<const N: usize>(out: &mut ArrayVec<u8, N>, deadline: Option<Moment>)
+    requires { array_vec_len out.old + 33 ≤ N }
+    ensures { Gathers out.old.items out.new.items (dated_text deadline) 33 }
+{
+    match deadline {
+        Some(moment) => push_date(out, moment),
+        None => push(out, b"none"),
+    }
+}
+
+/// A moment in seconds, and its date and time.
+fn push_date<const N: usize>(out: &mut ArrayVec<u8, N>, moment: Moment)
+    requires { array_vec_len out.old + 33 ≤ N }
+    ensures { Gathers out.old.items out.new.items (dated_text (Some moment)) 33 }
+{
+    push_moment(out, moment);
+    push(out, b" ");
+    let text = moment_text(moment);
+    push(out, text.as_str().as_bytes());
+}
