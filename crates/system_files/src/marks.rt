@@ -6,8 +6,8 @@
 //! what takes it away, a restart of the machine, also takes away what the system kept.
 
 use std::alloc::{AllocError, Global};
-use std::fs;
 use std::fs::{File, OpenOptions};
+use std::{fs, io};
 
 /// What stands after a store's name in that of its mark.
 const FAILED: &str = ".failed";
@@ -37,9 +37,14 @@ impl<'a, S: fs::Files<File = File>> Mark<'a, S> {
             .open(self.system, self.name.as_str());
     }
 
-    /// Says whether the mark was left.
-    pub fn is_left(&self) -> bool {
-        fs::symlink_metadata(self.system, self.name.as_str()).is_ok()
+    /// Says whether the mark was left. Where the system can't tell, as of a name that is too long
+    /// for it, none could be left.
+    pub fn is_left(&self) -> io::Result<bool> {
+        match fs::symlink_metadata(self.system, self.name.as_str()) {
+            Ok(_) => Ok(true),
+            Err(error) if matches!(error.kind(), io::ErrorKind::NotFound) => Ok(false),
+            Err(error) => Err(error),
+        }
     }
 
     /// Takes the mark away.

@@ -137,12 +137,19 @@ impl<'a, S: fs::Files<File = File>> SystemFiles<'a, S> {
         }
     }
 
-    /// The path of the file of this name without a link in it, or else the name.
+    /// The path of the file of this name without a link in it. Where the system can't tell it, it
+    /// is the name, if that is no link.
     fn path(&self, name: &str) -> Result<PathBuf, Reason> {
         match self.system.canonicalize(self.alloc, name) {
             Ok(path) => Ok(path),
+            Err(error) if self.is_link(name) => Err(Reason::of(&error)),
             Err(_) => or_no_memory(PathBuf::from_str(self.alloc, name)),
         }
+    }
+
+    /// Says whether this is the name of a link.
+    fn is_link(&self, name: &str) -> bool {
+        fs::symlink_metadata(self.system, name).is_ok_and(|it| it.is_symlink())
     }
 
     /// The place of the mark of the store in the file of this path.
@@ -242,11 +249,12 @@ impl<'a, S: fs::Files<File = File>> SystemFiles<'a, S> {
         ensures { IfOk result (λ made. (⟦<SystemDisk<'a, S> as RunDisk>⟧.state made).size ≡ size) }
     {
         let mut file = file;
+        let path = self.path(name)?;
+        let mark = self.mark(path.as_str())?;
+        let _forgiven = or_reason(mark.is_left())?;
         or_reason(self.liken(&file, like))?;
         or_reason(fill(&mut file, size))?;
         or_reason(self.sync_folder(name))?;
-        let path = self.path(name)?;
-        let mark = self.mark(path.as_str())?;
         let disk = self.settled(file, mark, &self.complaints.created)?;
         if disk.size() != size {
             return Err(Reason::EndedEarly);
@@ -267,9 +275,22 @@ impl<'a, S: fs::Files<File = File>> SystemFiles<'a, S> {
         File::open(self.system, folder)?.sync_all()
     }
 
-    /// So does [`SystemFiles::sync_folder`], as far as the folder may be read and has a sync.
-    fn settle_folder(&self, name: &str) -> Result<(), Reason> {
-        match self.sync_folder(name) {
+    /// So does [`SystemFiles::sync_folder`] of a store's folder. Where that fails, the store's mark
+    /// is left: the system may take the folder for written, but a copy that the next opening puts
+    /// in the store's place changes the folder once more.
+    fn sync_names(&self, name: &str, mark: &Mark<'a, S>) -> io::Result<()> {
+        let done = self.sync_folder(name);
+        if let Err(error) = &done
+            && !is_unsynced(error.kind())
+        {
+            mark.leave();
+        }
+        done
+    }
+
+    /// So does [`SystemFiles::sync_names`], as far as the folder may be read and has a sync.
+    fn settle_folder(&self, name: &str, mark: &Mark<'a, S>) -> Result<(), Reason> {
+        match self.sync_names(name, mark) {
             Err(error) if !is_unsynced(error.kind()) => Err(Reason::of(&error)),
             _ => Ok(()),
         }
@@ -344,8 +365,9 @@ impl<'a, S: fs::Files<File = File>> SystemFiles<'a, S> {
         if !is_only_name(&found) || old != Inode::of(&found) {
             return Err(Reason::OtherName);
         }
+        let mark = self.mark(to)?;
         or_reason(fs::rename(self.system, from, to))?;
-        or_reason(self.sync_folder(to))
+        or_reason(self.sync_names(to, &mark))
     }
 }
 
@@ -371,16 +393,16 @@ impl<'a, S: fs::Files<File = File> + Clock + Sync> Files for SystemFiles<'a, S> 
         self.lock(&file, name)?;
         let path = self.path(name)?;
         let mark = self.mark(path.as_str())?;
-        let file = if mark.is_left() {
+        let file = if or_reason(mark.is_left())? {
             let made = self.renewed(&file, path.as_str())?;
             mark.remove();
             made
         } else {
             file
         };
-        self.settle_folder(path.as_str())?;
-        if fs::symlink_metadata(self.system, name).is_ok_and(|it| it.is_symlink()) {
-            self.settle_folder(name)?;
+        self.settle_folder(path.as_str(), &mark)?;
+        if self.is_link(name) {
+            self.settle_folder(name, &mark)?;
         }
         let held = or_reason(file.try_clone())?;
         let why = &self.complaints.opened;
