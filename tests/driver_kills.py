@@ -72,7 +72,7 @@ if words[0] == "renew":
     if what == "fails":
         sys.exit("night: s: it fails")
     status = subprocess.run([night, *words]).returncode
-    if what == "behind":
+    if what == "after":
         die()
     sys.exit(status)
 if words[0] != "script" or what != "line":
@@ -319,6 +319,26 @@ def stopped_after_a_kill(tries: Shared) -> None:
     tries.is_same(kind, room.path, (status, shown, room.begun()),
                   (1, ["g a: timeout 2s", "1 commands: 1 failed"], {"g.a": 2}))
     time.sleep(max(0.0, began + 7 - time.monotonic()))
+    tries.is_same(f"{kind}: nothing of it lives on", room.path, room.lines("late"), [])
+
+
+def killed_while_it_stops(tries: Shared) -> None:
+    """A try that its driver was stopping as that was killed: as above, though its shell has ended
+    by then."""
+    kind = "a try that was being stopped"
+    room = Room(tries, ["g: background keep timeout 1s",
+                        "g a echo g.a >> begun; "
+                        "sh -c \"trap 'echo it >> asked' TERM; sleep 2; sleep 2; sleep 2;"
+                        " echo g.a >> late\"; true"])
+    run, began = room.start("s", "JOBS", "--grace", "9"), time.monotonic()
+    tries.holds(f"{kind}: it is asked to end", room.path, room.until(lambda: room.lines("asked")))
+    hit(run, "both")
+    room.ended(run)
+    status, output = room.run("s", "JOBS", "--grace", "1")
+    shown = [it.split(";")[0] for it in output.splitlines() if not it.startswith(" ")]
+    tries.is_same(kind, room.path, (status, shown, room.begun()),
+                  (1, ["g a: timeout 1s", "1 commands: 1 failed"], {"g.a": 2}))
+    time.sleep(max(0.0, began + 9 - time.monotonic()))
     tries.is_same(f"{kind}: nothing of it lives on", room.path, room.lines("late"), [])
 
 
@@ -623,14 +643,14 @@ def stopped_renewals(tries: Shared, full: Full) -> None:
     # both; then the flush, and the end of the lines)
     last = (full.groups + 3) + (1 + 2 * full.groups) + 1
     lines = (0, 5, last - 1, last) if tries.is_short else tuple(range(last + 1))
-    for what, at in [("before", 0), ("behind", 0), *(("line", it) for it in lines)]:
+    for what, at in [("before", 0), ("after", 0), *(("line", it) for it in lines)]:
         kind = "a renewal is stopped"
         room = full.room(what, at)
         tries.is_same(f"{kind}: it is", (what, at), room.run(), (-signal.SIGKILL, ""))
         room.settle()
         tries.is_same(f"{kind}: nothing is begun", (what, at), len(room.begun()), 8)
         tries.holds(f"{kind}: what had ended is kept first", (what, at), not room.has("too_soon"))
-        full.ends(room, kind, 0 if what == "behind" else 1, is_brief=tries.is_short)
+        full.ends(room, kind, 0 if what == "after" else 1, is_brief=tries.is_short)
 
 
 def killed_renewals(tries: Shared, full: Full, dice: random.Random, rounds: int) -> None:
@@ -692,5 +712,5 @@ def parts(tries: Shared, seed: int) -> list[Part]:
         renewals(tries, random.Random(seed), 2 if tries.is_short else 20)
 
     return [random_renewals, random_kills, full_in_the_midst, resumed, left_behind,
-            stopped_after_a_kill, cuts, night_is_killed, format_is_killed, full_session, faults,
-            damaged, taken_away, all_canceled, old_night]
+            stopped_after_a_kill, killed_while_it_stops, cuts, night_is_killed, format_is_killed,
+            full_session, faults, damaged, taken_away, all_canceled, old_night]

@@ -5,7 +5,8 @@
 A command writes its own before it does anything else, and holds the file's lock until then. So
 once the driver has the lock, each command that lives stands there; its process number, when that
 began and which boot it was tell it from any other process. The line of a `night` has the group
-`night`. (An older driver's line is `PID GROUP KEY`; its commands have the folder of outputs open.)
+`night`. One that is stopped gets a line `stopped BOOT PID START` first: then nothing of it may live
+on, under a later driver either. (An older driver's line is `PID GROUP KEY`; its commands have the folder of outputs open.)
 """
 
 from __future__ import annotations
@@ -27,6 +28,7 @@ from .settings import OF_ALL
 from .telling import note
 
 LINE = re.compile(r"([a-z0-9_-]{1,32}) ([a-z0-9_-]{1,32}) ([0-9]+) (\S+) ([0-9]+) ([0-9]+)")
+STOPPED = re.compile(r"stopped (\S+) ([0-9]+) ([0-9]+)")
 OLD_LINE = re.compile(r"([0-9]+) ([a-z0-9_-]{1,32}) ([a-z0-9_-]{1,32})")
 # So many seconds a command may take to write its line, and a `night` to end after its driver has.
 PATIENCE = 10.0
@@ -104,6 +106,8 @@ def read(pids: int) -> str:
 def written(text: str, files: Files, jobs: Jobs) -> Iterator[Leftover]:
     """What the lines of the file say was begun."""
     olds = None
+    stopped = {Process(it[1], int(it[2]), int(it[3]))
+               for it in map(STOPPED.fullmatch, text.splitlines()) if it}
     for line in text.splitlines():
         if found := LINE.fullmatch(line):
             group, key = found[1], found[2]
@@ -118,7 +122,9 @@ def written(text: str, files: Files, jobs: Jobs) -> Iterator[Leftover]:
         else:
             continue
         if group != OF_ALL:
-            yield Leftover(group, key, process, jobs.all.get((base_of(group), key)))
+            left = Leftover(group, key, process, jobs.all.get((base_of(group), key)))
+            left.keeps = left.keeps and process not in stopped
+            yield left
 
 
 def running_now(files: Files) -> set[tuple[str, str]]:
@@ -152,6 +158,14 @@ def sign_night(pids: int, pid: int) -> None:
     found = stat_of(pid)
     if found:
         os.write(pids, f"{OF_ALL} script 0 {boot()} {pid} {found.start}\n".encode())
+
+
+def sign_stop(pids: int, pid: int) -> None:
+    """Writes that this command is stopped, before it is."""
+    found = stat_of(pid)
+    if found:
+        with contextlib.suppress(OSError):  # (as where the disk is full)
+            os.write(pids, f"stopped {boot()} {pid} {found.start}\n".encode())
 
 
 def processes_with(path: str) -> Iterator[int]:

@@ -45,7 +45,7 @@ from .facts import CANCELED, PASSED, Book, Facts, book_of, facts_of, numbered
 from .far import Elsewhere, Far, Named, outstanding
 from .files import Files
 from .jobs import Jobs
-from .leftovers import Leftover, sign_night
+from .leftovers import Leftover, sign_night, sign_stop
 from .log import Line, Log, Tried, line_of
 from .night import (ALREADY_DONE, CLOCK_NOT_FORWARD, FULL, MOST_BUSY, NOTHING_READY, NightEnded,
                     Session, SessionFull, refusal)
@@ -608,13 +608,13 @@ class Driver:
             if command.has_begun and not command.poll(self.grace) and (
                     command.status is None or command.is_asked_for):
                 if command.is_overdue():
-                    command.stop(f"timeout {command.job.timeout_said}")
+                    self.stop(command, f"timeout {command.job.timeout_said}")
                 self.press_one(command)
         for left in self.left:
             if left.is_orphaned and left.elsewhere:
                 left.clear_here()
             elif left.is_orphaned or left.is_overdue():
-                left.stop("")
+                self.stop(left, "")
             self.press_one(left)
 
     def press_one(self, it: Running) -> None:
@@ -624,10 +624,16 @@ class Driver:
                 and scope.deadline <= time.time():
             cause = self.book.said.get(it.name[0], PASSED)
         if cause is not None:
-            it.stop(text_of(f"{CANCELED}{cause}"))
+            self.stop(it, text_of(f"{CANCELED}{cause}"))
         elif self.asked_to_end > 1:
-            it.stop("")
+            self.stop(it, "")
         it.press(self.grace)
+
+    def stop(self, it: Running, why: str) -> None:
+        """Asks a command to end, once, and has a later driver know it."""
+        if it.stopped is None and it.is_here:
+            sign_stop(self.pids, it.pid)
+        it.stop(why)
 
     def look_for_leftovers(self, batch: Batch) -> None:
         """Forgets commands of an earlier driver that have ended; they are begun anew, unless it is
