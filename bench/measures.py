@@ -35,7 +35,7 @@ def in_turn(rows, count):
     for _ in range(count):
         for what, row in rows.items():
             found[what].append(row())
-    print(f"load {load:.1f} before, {os.getloadavg()[0]:.1f} behind; {count} rounds")
+    print(f"load {load:.1f} before, {os.getloadavg()[0]:.1f} after; {count} rounds")
     return found
 
 

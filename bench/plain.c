@@ -2,7 +2,7 @@
  * a segment are read, and what a checkpoint writes is written: plain BYTES FILE.
  *
  * It makes the three reads and the seven calls of a checkpoint, whose image has so many bytes, and
- * nothing else. The file has its bytes behind it. */
+ * nothing else. The file has its bytes after it. */
 #include <fcntl.h>
 #include <stdio.h>
 #include <stdlib.h>

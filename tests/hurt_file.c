@@ -4,8 +4,8 @@
  *   HURT_LOG    each call on it is told there, in a line
  *   HURT_SHORT  a seed: each read and write moves a random part of its bytes, one at least
  *   HURT_ROOM   so many bytes can be written; the write that goes past them is short, and each one
- *               behind it fails with ENOSPC
- *   HURT_FAIL   the number of a call, from 1: it and each one behind it fail with EIO
+ *               after it fails with ENOSPC
+ *   HURT_FAIL   the number of a call, from 1: it and each one after it fail with EIO
  *   HURT_ONCE   the number of a call, from 1: it alone fails with EIO
  *   HURT_TRIM   the number of a call, from 1: before it the file is cut short to HURT_TO bytes
  *   HURT_CUT    the number of a call, from 1: the power is cut there
@@ -56,7 +56,7 @@
 #include <time.h>
 #include <unistd.h>
 
-/* A write since the last sync: the bytes of its range before and behind it, and the file's length
+/* A write since the last sync: the bytes of its range before and after it, and the file's length
  * before it. */
 struct unsynced {
     off_t at;

@@ -217,7 +217,10 @@ BODIES: dict[Place, str] = {
                 let flusher = scope.spawn(move || save_at(rt, shared, arrivals, bell))?;
                 let mut refused = false;
                 for station in stations {
-                    match scope.spawn(move || station.work(rt, shared, arrivals, bell, gate)) {
+                    match scope.spawn_with(
+                        GateOf { gate },
+                        move || -> Shift<S, F> { station.work(rt, shared, arrivals, bell, gate) },
+                    ) {
                         Ok(handle) => handles.push_reserved(handle),
                         Err(_) => refused = true,
                     }
@@ -228,6 +231,7 @@ BODIES: dict[Place, str] = {
                 bell.close(rt);
                 flusher.join(rt);
                 let _ = &count;
+                let _ = &gate;
                 if refused {
                     return Err(AllocError);
                 }
@@ -675,11 +679,11 @@ IDLE: dict[str, tuple[str, ...]] = {
     "courses.rt": ("return", "let task = started.info.task", "notes.note(Note)",
                    "floor.tell(task)", "Ok(_) => Some(started), Err(_) => None,"),
     "workers.rt": ("let Station = self", "let mut place = Workplace", "Shift"),
-    "nights.rt": ("let mut watch = Lookout", *statements(BODIES["nights.rt", "shifts_of"])[:12],
+    "nights.rt": ("let mut watch = Lookout", *statements(BODIES["nights.rt", "shifts_of"])[:13],
                   "Ok(handle) => handles.push_reserved(handle), Err(_) => refused = true,",
-                  "for handle in handles", "let _ = &count", "return Err(AllocError)",
-                  "Ok(shifts)", "return Err(Fault::Memory)", "gather(seat, shifts, &mut notes)",
-                  "Ok((notes, last))"),
+                  "for handle in handles", "let _ = &count", "let _ = &gate",
+                  "return Err(AllocError)", "Ok(shifts)", "return Err(Fault::Memory)",
+                  "gather(seat, shifts, &mut notes)", "Ok((notes, last))"),
 }
 for _file, _lines in IDLE.items():
     for _line in _lines:

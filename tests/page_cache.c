@@ -8,6 +8,7 @@
  *                   names.K   the folder's names, each with its inode before it: 0 as the device
  *                             has them, then those after each change that no sync has written yet
  *                   gone.N    a file that has no name any more, so that N isn't given again
+ *                   clean     a sync of the folder failed, and no name has changed after it
  *   CACHE_LOG     each call on the folder or on a file of it is told there, in a line
  *   CACHE_KILL    the number of such a call, from 1: the program is killed before it
  *   CACHE_STOP    the number of such a call, from 1: the program stops before it (SIGSTOP)
@@ -18,7 +19,8 @@
  *
  * It is as Linux: a sync that fails leaves its pages clean, later ones don't write them, and reads
  * give what memory has, until the pages are dropped. A name is durable once its folder was synced,
- * after the change; a sync of the file itself says nothing of it.
+ * after the change; a sync of the file itself says nothing of it. If the folder's sync fails, later
+ * ones write nothing until a name changes, as on an ext4 without a journal.
  */
 #define _GNU_SOURCE
 #include <dirent.h>
@@ -191,17 +193,28 @@ static void write_names(int number)
     let_go(fd);
 }
 
+/* Where it is kept that a sync of the folder failed. */
+static const char *clean_names(void)
+{
+    static char name[PATH_MAX];
+    snprintf(name, sizeof name, "%s/clean", state);
+    return name;
+}
+
 /* The names have changed, and no sync has written that yet. */
 static void names_changed(void)
 {
     char name[PATH_MAX];
     write_names(last_names(name) + 1);
+    syscall(SYS_unlink, clean_names());
 }
 
-/* The device has the names as they are now. */
+/* The device has the names as they are now, unless the system takes them for written. */
 static void names_written(void)
 {
     char name[PATH_MAX];
+    if (!access(clean_names(), F_OK))
+        return;
     for (int last = last_names(name); last > 0; last--) {
         snprintf(name, sizeof name, "%s/names.%d", state, last);
         syscall(SYS_unlink, name);
@@ -447,6 +460,8 @@ static int synced(int fd, int number)
         errno = (int)unsynced;
         return -1;
     }
+    if (it->kind == FOLDER && is_failed)
+        let_go((int)syscall(SYS_openat, AT_FDCWD, clean_names(), O_WRONLY | O_CREAT, 0644));
     if (it->kind == FOLDER && !is_failed)
         names_written();
     if (it->kind == FILE_OF_IT)

@@ -57,10 +57,12 @@ class Inode:
 @dataclass
 class Left:
     """A folder at some moment: its files by their inodes, and its names: as the device has them,
-    and then as they were after each change that isn't durable yet."""
+    and then as they were after each change that isn't durable yet; and whether the system takes
+    these for written, since a sync of the folder failed."""
 
     inodes: dict[int, Inode] = field(default_factory=dict)
     names: list[dict[str, int]] = field(default_factory=list)
+    is_clean: bool = False
 
     def in_memory(self) -> dict[str, bytes]:
         return {name: self.inodes[it].memory for name, it in self.names[-1].items()}
@@ -121,10 +123,12 @@ class Cache:
         for place, table in enumerate(left.names):
             lines = "".join(f"{numbers[it]} {name}\n" for name, it in table.items())
             self._write(f"names.{place}", lines.encode())
+        if left.is_clean:
+            self._write("clean", b"")
 
     def left(self) -> Left:
         """The folder as it is now."""
-        found = Left()
+        found = Left(is_clean=os.path.exists(f"{self.state}/clean"))
         while os.path.exists(f"{self.state}/names.{len(found.names)}"):
             table = bytes_of(f"{self.state}/names.{len(found.names)}").decode().splitlines()
             pairs = [it.split(" ", 1) for it in table]
@@ -148,6 +152,7 @@ class Cache:
         table = dict(left.names[-1])
         table[new] = table.pop(old)
         left.names.append(table)
+        left.is_clean = False
         self.restore(left)
 
     def environment(self, hurts: Hurts) -> dict[str, str]:

@@ -2,7 +2,7 @@
  *
  *   REFUSE_GROWTH  the number of a growth, from 1: it is refused
  *   REFUSE_THREAD  the number of a thread's start, from 1: it is refused
- *   REFUSE_ALL     so is each one behind it
+ *   REFUSE_ALL     so is each one after it
  *   REFUSE_LOG     how many growths and starts there were is told there, in a line, at the end
  *
  * A growth is a call that asks for memory or for more of it, the C library's own too, from the

@@ -1,7 +1,7 @@
 """What a renewed store does next, and what a cut of the power leaves of it; for tests/renew.
 
-- Random stores, and lines behind that name what was kept: each is answered by the renewed store as
-  by the old one, but for the numbers of what comes behind what is gone, and so both go on to states
+- Random stores, and lines after that name what was kept: each is answered by the renewed store as
+  by the old one, but for the numbers of what comes after what is gone, and so both go on to states
   that are the same for what was kept and made.
 - Nights of 2,000 tasks in a large store, each renewed, beside a group that is never waited for: it
   and its scope are shown at the end as at the beginning.
@@ -45,7 +45,7 @@ class Both:
                      for kind in ("scopes", "groups", "tasks")}
 
     def place(self, kind, numbers):
-        """The place of what has these numbers in both; what is new is put behind the others."""
+        """The place of what has these numbers in both; what is new is put after the others."""
         there = getattr(self, kind)
         if numbers == self.next[kind]:
             self.next[kind] = numbers[0] + 1, numbers[1] + 1
@@ -113,7 +113,7 @@ def lines_of(both, dice, n):
 
 
 def try_answers(tries, drawn, seeds, count):
-    """Lines behind a renewal, beside the same lines over the old store."""
+    """Lines after a renewal, beside the same lines over the old store."""
     accepted = 0
     for seed in range(seeds):
         dice, store = drawn(10_000 + seed)
@@ -121,7 +121,7 @@ def try_answers(tries, drawn, seeds, count):
         for n in range(count):
             line, task, name = lines_of(both, dice, n)
             (old, new), places = both.ask(line, task)
-            tries.holds("answers to lines behind a renewal", f"seed {seed}, line {n}, {line}",
+            tries.holds("answers to lines after a renewal", f"seed {seed}, line {n}, {line}",
                         old == new and old and all(isinstance(it, int) for it in places),
                         f"{old!r}, {new!r}, {places}")
             if not old.startswith("refused"):
@@ -130,7 +130,7 @@ def try_answers(tries, drawn, seeds, count):
                     if line.startswith(words):
                         names.append(name)
         old, new = both.shown(tries)
-        tries.is_same("states behind these lines", seed, new, old)
+        tries.is_same("states after these lines", seed, new, old)
     tries.holds("answers: half of the lines are accepted", accepted, accepted > seeds * count / 2)
 
 

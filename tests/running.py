@@ -19,10 +19,22 @@ MISSING, EXISTS, FOLDER, DENIED, READ_ONLY, TOO_LARGE, FULL, FAILED = map(os.str
     errno.ENOSPC, errno.EIO))
 EARLY = "it ended early"
 IN_USE = "in use by another program"
+# What a file holds that is no store, or no OLD of a migration, by the fault.
+WRONG = {"3 NotAStore": "not a store",
+         "4 WrongSize": "not the size of a store: 1,572,864 or 6,291,456 bytes",
+         "5 BadSlot": "damaged: a slot can't be read",
+         "6 BadImage": "damaged: the image in a slot can't be read",
+         "7 BadBatch": "damaged: a batch can't be read",
+         "8 BadRecord": "damaged: a record can't be read",
+         "9 BadEvent": "damaged: an event isn't allowed at its place"}
+LARGE_OLD = "is a large store already; OLD has to be a small one"
 # An opening syncs the file before it is read, which no page of the formats counts.
 SETTLES = ("sync",)
 
-# Two nights, the second behind a restart of what the first one left. Each save comes in both slots,
+# What --wrong= makes wrong of the files, by wrong_files.c; the other kinds are those of a disk.
+WRONG_FILES = ("mark", "folder", "here", "lock", "device", "names", "rights", "group", "data")
+
+# Two nights, the second after a restart of what the first one left. Each save comes in both slots,
 # and over a slot whose gate is closed and one whose gate is open.
 FIRST = ["derive a root cause", "derive b a cancel", "cancel a disk", "flush",
          "derive v root value region eu west", "group g root", "limit g 1", "go g copy a", "flush",
@@ -67,8 +79,9 @@ def failed(name, why, output=""):
     return Ended(3, output, f"{FAULT}night: {name}: {why}\n")
 
 
-def fault(text):
-    return Ended(3, "", f"night: fault {text}\n")
+def fault(text, name, why=None):
+    """A run that what the file of this name holds ended."""
+    return Ended(3, "", f"night: fault {text}\nnight: {name}: {why or WRONG[text]}\n")
 
 
 class Tries:
@@ -91,6 +104,7 @@ class Tries:
         self.library = self.built(source)
         if self.wrong and not self.library:
             sys.exit(f"{about}: a wrong disk is made by the library, which wants `cc`")
+        self.before = [self.built("wrong_files.c")] if self.wrong in WRONG_FILES else []
 
     def built(self, source):
         """The library that stands between the program and the system, or none where there is no
@@ -115,10 +129,11 @@ class Tries:
         return path
 
     def given(self, hurt):
-        """The environment of a run: with the library, where a file is hurt or the disk is wrong."""
+        """The environment of a run: with the library, where a file is hurt or a part is wrong."""
         if not hurt and not self.wrong:
             return {}
-        return {"LD_PRELOAD": self.library, **environment(self.wrong), **(hurt or {})}
+        given = {"LD_PRELOAD": self.library, **environment(self.wrong), **(hurt or {})}
+        return {**given, "LD_PRELOAD": " ".join([*self.before, given["LD_PRELOAD"]])}
 
     def run(self, *words, lines=(), text="", hurt=None, before=(), **how):
         """Runs the program; a file that is hurt is named by `hurt`."""
@@ -196,11 +211,11 @@ def bytes_of(path):
 
 class Step:
     """A step of a night by hand: what is typed, none at the opening and at the end; the reply, the
-    calls that are made, and the states that are acknowledged before and behind it."""
+    calls that are made, and the states that are acknowledged before and after it."""
 
-    def __init__(self, typed, reply, calls, before, behind):
+    def __init__(self, typed, reply, calls, before, after):
         self.typed, self.reply, self.calls = typed, reply, calls
-        self.before, self.behind = before, behind
+        self.before, self.after = before, after
 
 
 def steps(store, lines):
