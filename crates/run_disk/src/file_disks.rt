@@ -56,21 +56,9 @@ impl FileDisk {
         FileDisk::unsettled(file)
     }
 
-    /// A disk over a file that is only read. It is synced first if its file system syncs such a
-    /// file: on one that is mounted for reading alone, what reads give may be what a power failure
-    /// would have lost.
-    pub fn to_read(file: File) -> io::Result<FileDisk>
-        ensures calls { IfOk result (λ d. (⟦<FileDisk as RunDisk>⟧.state d).clock ≡ 0) }
-        ensures failures { IfOk result (λ d. (⟦<FileDisk as RunDisk>⟧.state d).failures ≡ 0) }
-    {
-        match file.sync_data() {
-            Err(error) if !is_unsynced(error.kind()) => Err(error),
-            _ => FileDisk::unsettled(file),
-        }
-    }
-
-    /// Makes a disk over this file as it is.
-    fn unsettled(file: File) -> io::Result<FileDisk>
+    /// Makes a disk over this file as it is: reads may give what another program left in the
+    /// system's memory, and a power failure would take that.
+    pub fn unsettled(file: File) -> io::Result<FileDisk>
         ensures calls { IfOk result (λ d. (⟦<FileDisk as RunDisk>⟧.state d).clock ≡ 0) }
         ensures failures { IfOk result (λ d. (⟦<FileDisk as RunDisk>⟧.state d).failures ≡ 0) }
     {
@@ -136,13 +124,4 @@ fn or_failed(done: io::Result<()>, first: &mut Option<io::Error>) -> Result<(), 
             Err(DiskFailed)
         }
     }
-}
-
-/// Returns whether the file system refused a sync that failed so: it keeps nothing back of a file
-/// that may only be read, or has no sync.
-fn is_unsynced(kind: io::ErrorKind) -> bool {
-    matches!(
-        kind,
-        io::ErrorKind::ReadOnlyFilesystem | io::ErrorKind::InvalidInput | io::ErrorKind::Unsupported
-    )
 }

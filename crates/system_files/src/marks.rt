@@ -28,13 +28,13 @@ impl<'a, S: fs::Files<File = File>> Mark<'a, S> {
         })
     }
 
-    /// Leaves the mark. It follows no link.
-    pub fn leave(&self) {
+    /// Leaves the mark, and says whether there was none before. It follows no link.
+    pub fn leave(&self) -> bool {
         let mut how = OpenOptions::new();
-        let _made = how
-            .write(true)
+        how.write(true)
             .create_new(true)
-            .open(self.system, self.name.as_str());
+            .open(self.system, self.name.as_str())
+            .is_ok()
     }
 
     /// Says whether the mark was left. Where the system can't tell, as of a name that is too long

@@ -122,7 +122,7 @@ impl<'a, S: fs::Files<File = File>> SystemFiles<'a, S> {
     /// Takes a file away that has this name, under its lock, and its mark.
     fn take_away(&self, file: &File, name: &str) {
         if self.is_named(file, name) {
-            let mark = self.path(name).and_then(|it| self.mark(it.as_str()));
+            let mark = self.mark_of(name);
             let _gone = fs::remove_file(self.system, name);
             if let Ok(mark) = mark {
                 mark.remove();
@@ -157,6 +157,12 @@ impl<'a, S: fs::Files<File = File>> SystemFiles<'a, S> {
         or_no_memory(Mark::beside(self.system, self.alloc, path))
     }
 
+    /// The place of the mark of the store in the file of this name.
+    fn mark_of(&self, name: &str) -> Result<Mark<'a, S>, Reason> {
+        let path = self.path(name)?;
+        self.mark(path.as_str())
+    }
+
     /// Gives a file the owner and the rights of the one of this name, if there is to be one.
     fn liken(&self, file: &File, like: Option<&str>) -> io::Result<()> {
         let Some(name) = like else {
@@ -187,26 +193,19 @@ impl<'a, S: fs::Files<File = File>> SystemFiles<'a, S> {
         }
     }
 
-    /// A disk over a file that is read alone.
+    /// A disk over a file that is read alone, as it is.
     fn shown(
         &self,
         file: File,
-        name: &str,
+        mark: Mark<'a, S>,
     ) -> Result<Opened<SystemDisk<'a, S>, &'a Complaint>, Reason> {
         let why = &self.complaints.opened;
-        let path = self.path(name)?;
-        let mark = self.mark(path.as_str())?;
         let inode = or_reason(inode(&file))?;
-        match FileDisk::to_read(file) {
-            Ok(disk) => Ok(Opened {
-                disk: SystemDisk::new(disk, inode, mark, why),
-                why,
-            }),
-            Err(error) => {
-                mark.leave();
-                Err(Reason::of(&error))
-            }
-        }
+        let disk = or_reason(FileDisk::unsettled(file))?;
+        Ok(Opened {
+            disk: SystemDisk::new(disk, inode, mark, why),
+            why,
+        })
     }
 
     /// A file that was created, or is emptied, made like that of another name, if there is one, and
@@ -249,8 +248,7 @@ impl<'a, S: fs::Files<File = File>> SystemFiles<'a, S> {
         ensures { IfOk result (λ made. (⟦<SystemDisk<'a, S> as RunDisk>⟧.state made).size ≡ size) }
     {
         let mut file = file;
-        let path = self.path(name)?;
-        let mark = self.mark(path.as_str())?;
+        let mark = self.mark_of(name)?;
         let _forgiven = or_reason(mark.is_left())?;
         or_reason(self.liken(&file, like))?;
         or_reason(fill(&mut file, size))?;
@@ -417,12 +415,15 @@ impl<'a, S: fs::Files<File = File> + Clock + Sync> Files for SystemFiles<'a, S> 
     ) -> Result<Opened<SystemDisk<'a, S>, &'a Complaint>, Reason> {
         let file = self.with_reading(name)?;
         lock_shared(&file)?;
-        self.shown(file, name)
+        let mark = self.mark_of(name)?;
+        settle_under(&mark, &file)?;
+        self.shown(file, mark)
     }
 
     fn look(&mut self, name: &str) -> Result<Opened<SystemDisk<'a, S>, &'a Complaint>, Reason> {
         let file = self.with_reading(name)?;
-        self.shown(file, name)
+        let mark = self.mark_of(name)?;
+        self.shown(file, mark)
     }
 
     fn close(&mut self, _name: &str, _disk: SystemDisk<'a, S>) {}
@@ -491,8 +492,8 @@ fn is_only_name(found: &Metadata) -> bool {
     found.is_file() && found.nlink() == 1
 }
 
-/// Says whether a sync of a folder that failed so wasn't to be had: it may not be read, or its file
-/// system has no such sync.
+/// Says whether a sync that failed so wasn't to be had: of a folder that may not be read, or on a
+/// file system that has none, or is only read.
 fn is_unsynced(kind: io::ErrorKind) -> bool {
     matches!(
         kind,
@@ -519,6 +520,22 @@ fn lock_shared(file: &File) -> Result<(), Reason> {
     match file.try_lock_shared() {
         Err(TryLockError::WouldBlock) => Err(Reason::InUse),
         _ => Ok(()),
+    }
+}
+
+/// Syncs a file that is only read, where its mark can be left first: whoever sees a sync fail and
+/// leaves none would take from the next program what tells it of that. One that was left before
+/// stays, and nothing is synced.
+fn settle_under<S: fs::Files<File = File>>(mark: &Mark<'_, S>, file: &File) -> Result<(), Reason> {
+    if !mark.leave() {
+        return Ok(());
+    }
+    match file.sync_data() {
+        Err(error) if !is_unsynced(error.kind()) => Err(Reason::of(&error)),
+        _ => {
+            mark.remove();
+            Ok(())
+        }
     }
 }
 
