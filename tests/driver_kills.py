@@ -303,43 +303,44 @@ def left_behind(tries: Shared) -> None:
                   {"soon.a": 1, "hard.b": 1, "late.c": 1, "free.d": 2, "more.e": 1})
 
 
+def stubborn(trap: str) -> str:
+    """A command whose shell ends when it is asked to, and what it began does not."""
+    return (f"g a echo g.a >> begun; sh -c \"trap '{trap}' TERM; until [ -e over ]; do sleep 0.1;"
+            " done\"; true")
+
+
+def is_over(room: Room, kind: str, timeout: str) -> None:
+    """The next run begins it anew, once nothing of the first try lives, and stops that, too."""
+    status, output = room.run("s", "JOBS", "--grace", "1")
+    shown = [it.split(";")[0] for it in output.splitlines() if not it.startswith(" ")]
+    room.tries.is_same(kind, room.path, (status, shown, room.begun()),
+                       (1, [f"g a: timeout {timeout}", "1 commands: 1 failed"], {"g.a": 2}))
+    room.tries.holds(f"{kind}: nothing of it lives on", room.path, room.settle(5))
+    room.write("over", "")
+
+
 def stopped_after_a_kill(tries: Shared) -> None:
     """A try that a killed driver left is stopped by its timeout: nothing of it lives on, though its
     group keeps what its commands leave, and no other try begins before."""
     kind = "a try that was left is stopped"
-    room = Room(tries, ["g: background keep timeout 2s",
-                        "g a echo g.a >> begun; "
-                        "sh -c \"trap '' TERM; sleep 5; echo g.a >> late\"; true"])
-    run, began = room.start("s", "JOBS", "--grace", "1"), time.monotonic()
+    room = Room(tries, ["g: background keep timeout 2s", stubborn("")])
+    run = room.start("s", "JOBS", "--grace", "1")
     tries.holds(f"{kind}: it runs", room.path, room.until(lambda: room.lines("begun")))
     hit(run, "both")
     room.ended(run)
-    status, output = room.run("s", "JOBS", "--grace", "1")
-    shown = [it.split(";")[0] for it in output.splitlines() if not it.startswith(" ")]
-    tries.is_same(kind, room.path, (status, shown, room.begun()),
-                  (1, ["g a: timeout 2s", "1 commands: 1 failed"], {"g.a": 2}))
-    time.sleep(max(0.0, began + 7 - time.monotonic()))
-    tries.is_same(f"{kind}: nothing of it lives on", room.path, room.lines("late"), [])
+    is_over(room, kind, "2s")
 
 
 def killed_while_it_stops(tries: Shared) -> None:
     """A try that its driver was stopping as that was killed: as above, though its shell has ended
     by then."""
     kind = "a try that was being stopped"
-    room = Room(tries, ["g: background keep timeout 1s",
-                        "g a echo g.a >> begun; "
-                        "sh -c \"trap 'echo it >> asked' TERM; sleep 2; sleep 2; sleep 2;"
-                        " echo g.a >> late\"; true"])
-    run, began = room.start("s", "JOBS", "--grace", "9"), time.monotonic()
+    room = Room(tries, ["g: background keep timeout 1s", stubborn("echo it >> asked")])
+    run = room.start("s", "JOBS", "--grace", "9")
     tries.holds(f"{kind}: it is asked to end", room.path, room.until(lambda: room.lines("asked")))
     hit(run, "both")
     room.ended(run)
-    status, output = room.run("s", "JOBS", "--grace", "1")
-    shown = [it.split(";")[0] for it in output.splitlines() if not it.startswith(" ")]
-    tries.is_same(kind, room.path, (status, shown, room.begun()),
-                  (1, ["g a: timeout 1s", "1 commands: 1 failed"], {"g.a": 2}))
-    time.sleep(max(0.0, began + 9 - time.monotonic()))
-    tries.is_same(f"{kind}: nothing of it lives on", room.path, room.lines("late"), [])
+    is_over(room, kind, "1s")
 
 
 def faults(tries: Shared) -> None:

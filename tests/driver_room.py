@@ -112,9 +112,10 @@ class Room:
             time.sleep(0.01)
         return bool(found)
 
-    def settle(self) -> None:
-        """Waits until no command and no `night` of a killed driver is left."""
-        self.until(lambda: not any(self.path in it for it in environments(self.path)))
+    def settle(self, seconds: float = 60) -> bool:
+        """Waits until no command and no `night` of a killed driver is left, and says whether."""
+        return self.until(lambda: not any(self.path in it for it in environments(self.path)),
+                          seconds)
 
     # --- what it came to
 

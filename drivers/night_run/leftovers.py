@@ -5,8 +5,9 @@
 A command writes its own before it does anything else, and holds the file's lock until then. So
 once the driver has the lock, each command that lives stands there; its process number, when that
 began and which boot it was tell it from any other process. The line of a `night` has the group
-`night`. One that is stopped gets a line `stopped BOOT PID START` first: then nothing of it may live
-on, under a later driver either. (An older driver's line is `PID GROUP KEY`; its commands have the folder of outputs open.)
+`night`. A process that is stopped gets a line `stopped BOOT PID START` first: then nothing of it
+may live on, under a later driver either. (An older driver's line is `PID GROUP KEY`; its commands
+have the folder of outputs open.)
 """
 
 from __future__ import annotations
