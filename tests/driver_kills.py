@@ -403,8 +403,10 @@ def damaged(tries: Shared) -> None:
     room.settle()
     room.write("s.ended", "events 1\nh c ok\n")
     before = room.begun()
-    for make, why in ((os.mkdir, "it is no regular file"), (os.mkfifo, "it is no regular file"),
-                      (cut_off, "line 2 is not GROUP KEY END")):
+    makers: list[tuple[Callable[[str], None], str]] = [
+        (os.mkdir, "it is no regular file"), (os.mkfifo, "it is no regular file"),
+        (cut_off, "line 2 is not GROUP KEY END")]
+    for make, why in makers:
         remove_any(f"{room.path}/s.ended")
         make(f"{room.path}/s.ended")
         found = room.run(seconds=40)

@@ -41,6 +41,7 @@ from .state import ENDED, State
 from .telling import note_once
 
 BEGUN, STOPPED, OVER = "begun", "stopped", "over"
+FIELD = re.compile(r"\{(?:store|group|key|try)\}")
 LINE = re.compile(r"([a-z0-9_-]{1,32}) ([a-z0-9_-]{1,32}) ([0-9]{1,6}) (begun|stopped|over)")
 ANSWER = re.compile(r"running|none|ok|exit [1-9][0-9]{0,2}|signal [1-9][0-9]?|error ([ -~]{1,64})")
 RUNNING, NONE = "running", "none"
@@ -78,8 +79,7 @@ class Far:
         """The words of a try."""
         given = {"{store}": self.store, "{group}": it.group, "{key}": it.key,
                  "{try}": str(it.number)}
-        return [re.sub(r"\{(?:store|group|key|try)\}", lambda found: given[found[0]], word)
-                for word in words]
+        return [FIELD.sub(lambda found: given[found.group()], word) for word in words]
 
     def read(self) -> dict[Name, tuple[Named, str]]:
         """The last line of each command. One that was cut off says nothing: what it is about had
