@@ -64,7 +64,7 @@ BODIES: dict[Place, str] = {
                 continue;
             }
             let flushed = place.flush();
-            arrivals.wake();
+            arrivals.wake(&place);
             if let Err(trouble) = flushed {
                 arrivals.go();
                 // place is dropped
@@ -326,8 +326,8 @@ class Night:
     def restore(self, state: State) -> None:
         (self.locked, self.events, self.durable, self.ready, self.broken, self.awake,
          self.asleep, self.flushes, self.rung, self.closed, self.dozes) = state[0]
-        self.at, self.event, self.test, self.ok, self.kept, self.sleeps = map(
-            list, zip(*state[1:]))
+        self.at, self.event, self.test, self.ok, self.kept, self.sleeps = (
+            [*column] for column in zip(*state[1:]))
         self.pick, self.picks, self.is_idle = 0, 1, False
 
 
@@ -648,7 +648,7 @@ for _file in ("saves.rt", "workplaces.rt", "watches.rt"):
 calls("saves.rt", "if !arrivals.is_last()", "arrivals.rt", "is_last")
 does("saves.rt", "if !arrivals.is_last()")(invert)
 calls("saves.rt", "place = arrivals.sleep(rt, place)", "arrivals.rt", "sleep")
-calls("saves.rt", "arrivals.wake()", "arrivals.rt", "wake")
+calls("saves.rt", "arrivals.wake(&place)", "arrivals.rt", "wake")
 calls("workplaces.rt", "save(rt, shared, arrivals, event)", "saves.rt", "save")
 calls("workplaces.rt", "bell.ring(rt, event)", "bells.rt", "ring")
 calls("watches.rt", "bell.wait(rt, heard)", "bells.rt", "wait")

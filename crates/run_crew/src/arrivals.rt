@@ -57,9 +57,9 @@ impl Arrivals {
         guard
     }
 
-    /// A flush was made. All that sleep are on their way again from now on, and not only from when
-    /// they wake: so the next flush is of what they start, too.
-    pub fn wake(&self) {
+    /// A flush was made by who holds the lock still. All that sleep are on their way again from now
+    /// on, and not only from when they wake: so the next flush is of what they start, too.
+    pub fn wake<T>(&self, _held: &MutexGuard<'_, T>) {
         self.flushes.fetch_add(1, Ordering::SeqCst);
         let asleep = self.asleep.swap(0, Ordering::SeqCst);
         self.awake.fetch_add(asleep, Ordering::SeqCst);

@@ -32,7 +32,7 @@ pub fn save<T: Place, R: Wait>(
             continue;
         }
         let flushed = place.flush();
-        arrivals.wake();
+        arrivals.wake(&place);
         if let Err(trouble) = flushed {
             arrivals.go();
             return Err(trouble);
