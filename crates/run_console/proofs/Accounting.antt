@@ -255,10 +255,11 @@ module _ {D : Type 0} (state : D → DiskState) where
   row_accounts old middle new fault.Memory left few sound stopped same =
       same_sound middle new sound same
 
-  tried_accounts : (old new : BookView D) (why : RunFault) (ran left : List (List ℕ))
+  tried_accounts : {old new : BookView D} {why : RunFault} {ran : List (List ℕ)}
+      (left : List (List ℕ))
       → old.journal.broken ≡ false → IsRunStopped why left
       → TriesLine state old why ran (next_steps left) new → Accounts state old why new
-  tried_accounts old new why ran left sound stopped p =
+  tried_accounts {old} {new} {why} {ran} left sound stopped p =
       row_accounts old p.middle new why left
       (row_failures old p.middle (steps_of ran) p.taken.answers p.taken.row)
       (row_sound old p.middle (steps_of ran) p.taken.answers sound p.taken.row p.taken.fine)
@@ -270,8 +271,7 @@ module _ {D : Type 0} (state : D → DiskState) where
       (r0 r1 w0 w1 : Option (List ℕ))
       → b.journal.broken ≡ false → RunStops state until why b c r0 r1 w0 w1
       → Accounts state b why c
-  run_accounts until why b c r0 r1 w0 w1 sound p =
-      tried_accounts b c why p.ran p.left sound p.stopped p.tried
+  run_accounts until why b c r0 r1 w0 w1 sound p = tried_accounts p.left sound p.stopped p.tried
 
   pub line_accounts : (why : RunFault) (line : List ℕ) (b c : BookView D)
       (w0 w1 : Option (List ℕ)) → b.journal.broken ≡ false

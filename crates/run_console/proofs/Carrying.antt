@@ -14,9 +14,9 @@ use Rattle.run_console.specs.Progress.{Cut, Ran, RunEnds, RunStops}
 use Rattle.run_console.specs.Rows.{TakesAll, Tries, TriesLine}
 
 module _ {D : Type 0} (state : D → DiskState) (disk : (d : D) → IsDisk (state d)) where
-  takes_carry : (old new : BookView D) (steps : List Step) → IsDurable state old
+  takes_carry : {old new : BookView D} {steps : List Step} → IsDurable state old
       → TakesAll state old steps new → CarriesOn state old new
-  takes_carry old new steps durable p =
+  takes_carry {old} {new} {steps} durable p =
       row_carries state old new steps p.answers disk durable p.row
 
   same_carries : (old new : BookView D) → IsDurable state old → new ≡ old
@@ -36,34 +36,32 @@ module _ {D : Type 0} (state : D → DiskState) (disk : (d : D) → IsDisk (stat
   tries_carry old new fault.InputTooLong next durable same = same_carries old new durable same
   tries_carry old new fault.Memory next durable same = same_carries old new durable same
 
-  tried_carries : (old new : BookView D) (why : RunFault) (ran : List (List ℕ))
-      (next : List Step) → IsDurable state old → TriesLine state old why ran next new
+  tried_carries : {old new : BookView D} {why : RunFault} {ran : List (List ℕ)} {next : List Step}
+      → IsDurable state old → TriesLine state old why ran next new
       → CarriesOn state old new
-  tried_carries old new why ran next durable p =
-      let on = takes_carry old p.middle _ durable p.taken in
+  tried_carries {old} {new} {why} {next} durable p =
+      let on = takes_carry durable p.taken in
       carries_after state old p.middle new on
       (tries_carry p.middle new why next on.images p.tried)
 
   -- ---- what a call says of both of its ends
 
-  pub run_carries : (until : Until) (r : Result (Option StrayLine) RunFault) (b c : BookView D)
+  pub run_carries : {b c : BookView D} (until : Until) (r : Result (Option StrayLine) RunFault)
       (r0 r1 w0 w1 : Option (List ℕ)) → IsDurable state b
       → IfOk r (λ stray. RunEnds state until stray b c r0 r1 w0 w1)
       → IfErr r (λ why. RunStops state until why b c r0 r1 w0 w1)
       → CarriesOn state b c
-  run_carries until (Ok stray) b c r0 r1 w0 w1 durable runs stops =
-      takes_carry b c _ durable runs.taken
-  run_carries until (Err why) b c r0 r1 w0 w1 durable runs stops =
-      tried_carries b c why stops.ran _ durable stops.tried
+  run_carries until (Ok stray) r0 r1 w0 w1 durable runs stops = takes_carry durable runs.taken
+  run_carries until (Err why) r0 r1 w0 w1 durable runs stops = tried_carries durable stops.tried
 
-  pub ran_carries : (lines : List (List ℕ)) (b c : BookView D) (before gathered : List ℕ)
-      (w0 w1 : Option (List ℕ)) → IsDurable state b
+  pub ran_carries : {lines : List (List ℕ)} {b c : BookView D} {before gathered : List ℕ}
+      {w0 w1 : Option (List ℕ)}
+      → IsDurable state b
       → Ran state lines b c before gathered w0 w1 → CarriesOn state b c
-  ran_carries lines b c before gathered w0 w1 durable ran =
-      takes_carry b c _ durable ran.taken
+  ran_carries durable ran = takes_carry durable ran.taken
 
-  pub cut_carries : (why : RunFault) (lines : List (List ℕ)) (b c : BookView D)
-      (before : List ℕ) (w0 w1 : Option (List ℕ)) → IsDurable state b
+  pub cut_carries : {why : RunFault} {lines : List (List ℕ)} {b c : BookView D} {before : List ℕ}
+      {w0 w1 : Option (List ℕ)}
+      → IsDurable state b
       → Cut state why lines b c before w0 w1 → CarriesOn state b c
-  cut_carries why lines b c before w0 w1 durable cut =
-      tried_carries b c why cut.ran _ durable cut.tried
+  cut_carries durable cut = tried_carries durable cut.tried

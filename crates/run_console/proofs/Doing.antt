@@ -14,23 +14,22 @@ use Rattle.run_console.specs.Rows.{TakesAll, steps_asked}
 use Rattle.run_console.proofs.Rows.{takes_none}
 
 -- What is said of a state is the one reply.
-pub said_of : (p q : State) (say : State → Reply) (r : Reply)
+pub said_of : {p q : State} {r : Reply} (say : State → Reply)
     → p ≡ q
     → r ≡ say p
     → r ∷ [] ≡ say q ∷ []
-said_of p q say r same is = ap (λ x. x ∷ []) (is ∙ ap say same)
+said_of say same is = ap (λ x. x ∷ []) (is ∙ ap say same)
 
-module _ {D : Type 0} (state : D → DiskState) where
-  -- A line that asks for no step leaves the book.
-  pub does_none : (a : Asked) (b : BookView D) (answers : List Reply)
-      → steps_asked a ≡ []
-      → b.journal.broken ≡ false
-      → answers ≡ replies_to b.session a
-      → Does state a b b answers
-  does_none a b answers none sound replied = record {
-    taken = subst (λ (l : List Step). TakesAll state b l b) (sym none)
-        (takes_none state b);
-    replied = replied;
-    sound = sound;
-    lasts = stays_same b.session.state;
-  }
+-- A line that asks for no step leaves the book.
+pub does_none : {D : Type 0} {state : D → DiskState} {a : Asked} {b : BookView D}
+    {answers : List Reply}
+    → steps_asked a ≡ []
+    → b.journal.broken ≡ false
+    → answers ≡ replies_to b.session a
+    → Does state a b b answers
+does_none {state} {b} none sound replied = record {
+  taken = subst (λ (l : List Step). TakesAll state b l b) (sym none) (takes_none state);
+  replied = replied;
+  sound = sound;
+  lasts = stays_same b.session.state;
+}

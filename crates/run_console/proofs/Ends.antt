@@ -5,6 +5,7 @@ use Rattle.std.specs.Io.KnownBytes.{Appends}
 use Rattle.std.proofs.Common.{inl, inr, arith, refl, sym, ap, ◌∙◌, subst, append_assoc, append-nil}
 use Rattle.std.proofs.Common.{length-append}
 use Rattle.run_model.specs.declared.faults.Trouble.{Trouble}
+use Rattle.run_state.proofs.Staying.{stays_same}
 use Rattle.run_disk.specs.Disk.{DiskState}
 use Rattle.book_model.specs.Books.{BookView}
 use Rattle.console_lines.specs.declared.faults.RunFault.{RunFault}
@@ -60,22 +61,22 @@ told_cut text g h w0 w1 w2 told cut =
     subst P (sym told.told) (part_behind told.out h w0 w1 w2 told.written cut)
 
 -- Making room is no line.
-ran_told : {D : Type 0} (state : D → DiskState) (b : BookView D) (g m : List ℕ)
-    (w0 w1 : Option (List ℕ))
+ran_told : {D : Type 0} {state : D → DiskState} {b : BookView D} {g m : List ℕ}
+    {w0 w1 : Option (List ℕ)}
     → Told [] g m w0 w1
     → Ran state [] b b g m w0 w1
-ran_told state b g m w0 w1 room = record {
+ran_told {state} {b} room = record {
   out = room.out;
   written = room.written;
   replied = room.told;
   session = refl;
-  taken = takes_none state b;
+  taken = takes_none state;
+  lasts = stays_same b.session.state;
 }
 
 -- A trouble after the room that was made.
-pub cut_stopped : {D : Type 0} (state : D → DiskState)
-    (why : RunFault) (trouble : Trouble) (line : List ℕ) (b c : BookView D) (g m : List ℕ)
-    (w0 w1 w2 : Option (List ℕ))
+pub cut_stopped : {D : Type 0} {state : D → DiskState} {why : RunFault} {line : List ℕ}
+    {b c : BookView D} {g m : List ℕ} {w0 w1 w2 : Option (List ℕ)} (trouble : Trouble)
     → IsSaving (asked_of line)
     → c.session ≡ b.session
     → StepsOn state b (steps_of (line ∷ [])) (reply_of_save (Err trouble) ∷ [])
@@ -83,9 +84,8 @@ pub cut_stopped : {D : Type 0} (state : D → DiskState)
     → Told [] g m w0 w1
     → Troubled why trouble m w1 w2
     → Cut state why (line ∷ []) b c g w0 w2
-cut_stopped state why trouble line b c g m w0 w1 w2 saving same row room stop =
-    cut_then state why [] (line ∷ []) b b c g m w0 w1 w2 (ran_told state b g m w0 w1 room)
-    (cut_troubled state why trouble line b c m w1 w2 saving same row stop)
+cut_stopped {why} trouble saving same row room stop =
+    cut_then (ran_told room) (cut_troubled why trouble saving same row stop)
 
 -- ---- the end
 
@@ -93,34 +93,33 @@ room_is : (g m : List ℕ) (w0 w1 : Option (List ℕ)) (room : Told [] g m w0 w1
     → room.out ++ m ≡ g
 room_is g m w0 w1 room = sym room.told ∙ append-nil g
 
-pub end_stopped : {D : Type 0}
-    (why : RunFault) (trouble : Trouble) (c : BookView D) (end g m : List ℕ)
-    (w0 w1 w2 : Option (List ℕ))
+pub end_stopped : {D : Type 0} {g m : List ℕ} {w0 w1 : Option (List ℕ)} (why : RunFault)
+    (trouble : Trouble) (c : BookView D) (end : List ℕ) (w2 : Option (List ℕ))
     → Told [] g m w0 w1
     → Troubled why trouble m w1 w2
     → EndStops why c end g w0 w2
-end_stopped fault.Output trouble c end g m w0 w1 w2 room stop =
+end_stopped {g} {m} {w0} {w1} fault.Output trouble c end w2 room stop =
     let P : List ℕ → Type 0 = λ t. WritesPart w0 w2 t in
     inl (subst P (room_is g m w0 w1 room) (part_behind room.out m w0 w1 w2 room.written stop))
-end_stopped (fault.Store why) trouble c end g m w0 w1 w2 room stop =
+end_stopped {g} {m} {w0} {w1} (fault.Store why) trouble c end w2 room stop =
     let P : List ℕ → Type 0 = λ t. WritesTrouble why t w0 w2 in
     let Q : Trouble → Type 0 = λ t. WritesTrouble t m w1 w2 in
     subst P (room_is g m w0 w1 room)
     (trouble_behind why room.out m w0 w1 w2 room.written (subst Q (sym stop.0) stop.1))
-end_stopped fault.Input trouble c end g m w0 w1 w2 room stop = absurd stop
-end_stopped fault.InputTooLong trouble c end g m w0 w1 w2 room stop = absurd stop
-end_stopped fault.Memory trouble c end g m w0 w1 w2 room stop = absurd stop
+end_stopped fault.Input trouble c end w2 room stop = absurd stop
+end_stopped fault.InputTooLong trouble c end w2 room stop = absurd stop
+end_stopped fault.Memory trouble c end w2 room stop = absurd stop
 
 -- ---- one line
 
 -- One line was run and its reply written.
-pub line_runs : {D : Type 0} (state : D → DiskState) (line : List ℕ) (b c : BookView D) (h : List ℕ)
-    (w0 w1 w2 : Option (List ℕ))
+pub line_runs : {D : Type 0} {state : D → DiskState} {line : List ℕ} {b c : BookView D} {h : List ℕ}
+    {w0 w1 w2 : Option (List ℕ)}
     → Ran state (line ∷ []) b c [] h w0 w1
     → Appends w1 w2 h
     → (IsSaving (asked_of line) → c.durable ≡ c.session.state.count)
     → LineRuns state line b c w0 w2
-line_runs state line b c h w0 w1 w2 ran all saved =
+line_runs {line} {b} {h} {w0} {w1} {w2} ran all saved =
     let P : List ℕ → Type 0 = λ t. Appends w0 w2 t in
     record {
       session = ran.session;
@@ -167,10 +166,10 @@ module _ {D : Type 0} (state : D → DiskState) (line : List ℕ) (b c : BookVie
     subst
         (λ (h : BookView D).
         StepsOn state h (steps_of (line ∷ [])) (reply_of_save (Err why) ∷ []) c)
-        (took_nothing state b next.middle next.taken) next.tried,
+        (took_nothing state next.taken) next.tried,
   )
   not_run fault.Memory f stopped wrote same next =
-      (stopped, same, wrote, next.tried ∙ took_nothing state b next.middle next.taken)
+      (stopped, same, wrote, next.tried ∙ took_nothing state next.taken)
   not_run fault.Input f stopped wrote same next = absurd f
   not_run fault.InputTooLong f stopped wrote same next = absurd f
 
@@ -220,30 +219,11 @@ module _ {D : Type 0} (state : D → DiskState) (line : List ℕ) (b c : BookVie
 
   -- One line that was cut stopped.
   pub line_stops : (why : RunFault)
-      → IsOfLine why
       → Cut state why (line ∷ []) b c [] w0 w1
       → LineStops state why line b c w0 w1
-  line_stops why f cut =
-      either_run why cut.ran cut.left f cut.stopped cut.written cut.session cut.tried
+  line_stops why cut =
+      either_run why cut.ran cut.left cut.of_line cut.stopped cut.written cut.session cut.tried
       (split_one line cut.ran cut.left cut.lines_are)
-
--- ---- faults that a line can have
-
-pub of_line : (why : RunFault) (trouble : Trouble) (m : List ℕ) (w0 w1 : Option (List ℕ))
-    → Troubled why trouble m w0 w1 → IsOfLine why
-of_line fault.Output trouble m w0 w1 h = tt
-of_line (fault.Store why) trouble m w0 w1 h = tt
-of_line fault.Memory trouble m w0 w1 h = tt
-of_line fault.Input trouble m w0 w1 h = absurd h
-of_line fault.InputTooLong trouble m w0 w1 h = absurd h
-
-pub of_tally : (why : RunFault) (text m : List ℕ) (w0 w1 : Option (List ℕ))
-    → Untold why text m w0 w1 → IsOfLine why
-of_tally fault.Output text m w0 w1 h = tt
-of_tally (fault.Store why) text m w0 w1 h = tt
-of_tally fault.Memory text m w0 w1 h = tt
-of_tally fault.Input text m w0 w1 h = absurd h
-of_tally fault.InputTooLong text m w0 w1 h = absurd h
 
 -- ---- the line of a trouble
 

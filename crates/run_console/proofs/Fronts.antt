@@ -96,6 +96,17 @@ no_more : (front : List ℕ) (w0 w1 : Option (List ℕ))
     → Appends w0 w1 front → Appends w0 w1 (front ++ [])
 no_more front w0 w1 h = subst (λ t. Appends w0 w1 t) (sym (append-nil front)) h
 
+-- The replies were written whole, and nothing after them.
+said_whole : (why : RunFault) (s : Session) (ran left : List (List ℕ)) (w0 w1 : Option (List ℕ))
+    → IsTold why [] → Appends w0 w1 (replies s ran) → Fronts why s ran left w0 w1
+said_whole why s ran left w0 w1 none h = record {
+  front = replies s ran;
+  begins = replies_said s ran left;
+  told = [];
+  trouble = none;
+  written = no_more (replies s ran) w0 w1 h;
+}
+
 fronts_of : {D : Type 0}
     (why : RunFault) (s : Session) (ran left : List (List ℕ)) (c : BookView D)
     (w0 w1 : Option (List ℕ))
@@ -124,27 +135,10 @@ fronts_of (fault.Store why) s ran left c w0 w1 h = record {
   trouble = h.1;
   written = h.2;
 }
-fronts_of fault.Input s ran left c w0 w1 h = record {
-  front = replies s ran;
-  begins = replies_said s ran left;
-  told = [];
-  trouble = refl;
-  written = no_more (replies s ran) w0 w1 h;
-}
-fronts_of fault.InputTooLong s ran left c w0 w1 h = record {
-  front = replies s ran;
-  begins = replies_said s ran left;
-  told = [];
-  trouble = refl;
-  written = no_more (replies s ran) w0 w1 h;
-}
-fronts_of fault.Memory s ran left c w0 w1 h = record {
-  front = replies s ran;
-  begins = replies_said s ran left;
-  told = [];
-  trouble = refl;
-  written = no_more (replies s ran) w0 w1 h;
-}
+fronts_of fault.Input s ran left c w0 w1 h = said_whole fault.Input s ran left w0 w1 refl h
+fronts_of fault.InputTooLong s ran left c w0 w1 h =
+    said_whole fault.InputTooLong s ran left w0 w1 refl h
+fronts_of fault.Memory s ran left c w0 w1 h = said_whole fault.Memory s ran left w0 w1 refl h
 
 -- Where no line is left, none was left untried.
 none_untried : (why : RunFault) → untried why [] ≡ []
@@ -154,11 +148,11 @@ none_untried fault.Input = refl
 none_untried fault.InputTooLong = refl
 none_untried fault.Memory = refl
 
-pub stops_begin : {D : Type 0} (state : D → DiskState)
-    (why : RunFault) (b c : BookView D) (r0 r1 w0 w1 : Option (List ℕ))
+pub stops_begin : {D : Type 0} {state : D → DiskState} {why : RunFault} {b c : BookView D}
+    {r0 r1 w0 w1 : Option (List ℕ)}
     → RunStops state End why b c r0 r1 w0 w1
     → BeginsScript why b.session r0 r1 w0 w1
-stops_begin state why b c r0 r1 w0 w1 h =
+stops_begin {why} {b} {c} {r1} {w0} {w1} h =
     let w = fronts_of why b.session h.ran h.left c w0 w1 h.written in
     record {
       bytes = h.bytes;

@@ -6,7 +6,6 @@ pub mod Drawing
 pub mod Ends
 pub mod EntryTexts
 pub mod Fronts
-pub mod Going
 pub mod Inspecting
 pub mod LineSteps
 pub mod Lines

@@ -3,7 +3,7 @@ use Rattle.std.specs.Prelude.{◌≡◌, ℕ, List, [], ◌∷◌, ◌++◌, Opt
 use Rattle.std.specs.Io.KnownBytes.{Appends}
 use Rattle.std.proofs.Common.{inl, inr, refl, sym, ap, ◌∙◌, subst, append_assoc, append-nil}
 use Rattle.run_model.specs.declared.faults.Trouble.{Trouble}
-use Rattle.run_state.proofs.Staying.{stays_join}
+use Rattle.run_state.proofs.Staying.{stays_join, stays_same}
 use Rattle.run_model.specs.Session.{Session}
 use Rattle.run_disk.specs.Disk.{DiskState}
 use Rattle.book_model.specs.Steps.{StepsOn, reply_of_save}
@@ -48,6 +48,9 @@ replies_then xs ys b c h =
 pub lasts_then : (b c d : Session) → Lasts b c → Lasts c d → Lasts b d
 lasts_then b c d = stays_join b.state c.state d.state
 
+lasts_same : (b c : Session) → c ≡ b → Lasts b c
+lasts_same b c same = subst (λ (s : Session). Lasts b s) (sym same) (stays_same b.state)
+
 -- ---- what is written after what was written
 
 -- Of some text that goes on what was written, a front was written, and not all.
@@ -87,38 +90,42 @@ wrote_behind fault.Memory x g w0 w1 w2 h k = appends_then w0 w1 w2 x g h k
 -- ---- lines that were run
 
 -- No line was run yet.
-pub ran_nothing : {D : Type 0} (state : D → DiskState) (b : BookView D) (g : List ℕ)
-    (w : Option (List ℕ)) → Ran state [] b b g g w w
-ran_nothing state b g w = record {
+pub ran_nothing : {D : Type 0} {state : D → DiskState} {b : BookView D} {g : List ℕ}
+    {w : Option (List ℕ)}
+    → Ran state [] b b g g w w
+ran_nothing {state} {b} {g} {w} = record {
   out = [];
   written = appends_nothing w;
   replied = append-nil g;
   session = refl;
-  taken = takes_none state b;
+  taken = takes_none state;
+  lasts = stays_same b.session.state;
 }
 
 -- One line was run, and its reply told.
-pub ran_line : {D : Type 0} (state : D → DiskState)
-    (line : List ℕ) (b c : BookView D) (g h : List ℕ) (w0 w1 : Option (List ℕ))
+pub ran_line : {D : Type 0} {state : D → DiskState} {line : List ℕ} {b c : BookView D}
+    {g h : List ℕ} {w0 w1 : Option (List ℕ)}
     → c.session ≡ after_line b.session line
     → TakesAll state b (steps_of (line ∷ [])) c
+    → Lasts b.session c.session
     → Told (reply b.session line) g h w0 w1
     → Ran state (line ∷ []) b c g h w0 w1
-ran_line state line b c g h w0 w1 session taken told = record {
+ran_line {line} {b} {g} session taken lasts told = record {
   out = told.out;
   written = told.written;
   replied = ap (λ t. g ++ t) (append-nil (reply b.session line)) ∙ told.told;
   session = session;
   taken = taken;
+  lasts = lasts;
 }
 
 -- These lines were run, and then those.
-pub ran_then : {D : Type 0} (state : D → DiskState)
-    (xs ys : List (List ℕ)) (b c d : BookView D) (f g h : List ℕ) (w0 w1 w2 : Option (List ℕ))
+pub ran_then : {D : Type 0} {state : D → DiskState} {xs ys : List (List ℕ)} {b c d : BookView D}
+    {f g h : List ℕ} {w0 w1 w2 : Option (List ℕ)}
     → Ran state xs b c f g w0 w1
     → Ran state ys c d g h w1 w2
     → Ran state (xs ++ ys) b d f h w0 w2
-ran_then state xs ys b c d f g h w0 w1 w2 one two =
+ran_then {state} {xs} {ys} {b} {c} {d} {f} {g} {h} {w0} {w1} {w2} one two =
     let s = replies b.session xs in
     let t = replies c.session ys in
     record {
@@ -132,104 +139,109 @@ ran_then state xs ys b c d f g h w0 w1 w2 one two =
           ∙ ap (λ x. one.out ++ x) two.replied
           ∙ sym (append_assoc one.out two.out h);
       session = session_then xs ys b.session c.session d.session one.session two.session;
-      taken = takes_lines state b c d xs ys one.taken two.taken;
+      taken = takes_lines state xs ys one.taken two.taken;
+      lasts = lasts_then b.session c.session d.session one.lasts two.lasts;
     }
 
 -- All that was gathered is written.
-pub ran_written : {D : Type 0} (state : D → DiskState)
-    (lines : List (List ℕ)) (b c : BookView D) (f g : List ℕ) (w0 w1 w2 : Option (List ℕ))
+pub ran_written : {D : Type 0} {state : D → DiskState} {lines : List (List ℕ)} {b c : BookView D}
+    {f g : List ℕ} {w0 w1 w2 : Option (List ℕ)}
     → Ran state lines b c f g w0 w1
     → Appends w1 w2 g
     → Ran state lines b c f [] w0 w2
-ran_written state lines b c f g w0 w1 w2 ran all = record {
+ran_written {g} {w0} {w1} {w2} ran all = record {
   out = ran.out ++ g;
   written = appends_then w0 w1 w2 ran.out g ran.written all;
   replied = ran.replied ∙ sym (append-nil (ran.out ++ g));
   session = ran.session;
   taken = ran.taken;
+  lasts = ran.lasts;
 }
 
 -- ---- a line that stopped
 
 -- The writer failed in what was gathered before.
-pub cut_before : {D : Type 0} (state : D → DiskState)
-    (line : List ℕ) (b c : BookView D) (g : List ℕ) (w0 w1 : Option (List ℕ))
+pub cut_before : {D : Type 0} {state : D → DiskState} {line : List ℕ} {b c : BookView D}
+    {g : List ℕ} {w0 w1 : Option (List ℕ)}
     → c.session ≡ b.session
     → TriesLine state b fault.Output [] (steps_of (line ∷ [])) c
     → WritesPart w0 w1 g
     → Cut state fault.Output (line ∷ []) b c g w0 w1
-cut_before state line b c g w0 w1 same tried cut =
+cut_before {line} {b} {c} {g} {w0} {w1} same tried cut =
     let P : List ℕ → Type 0 = λ t. WritesPart w0 w1 t in
     record {
       ran = [];
       left = line ∷ [];
       lines_are = refl;
+      of_line = tt;
       stopped = tt;
       written = subst P (sym (append-nil g)) cut;
       session = same;
       tried = tried;
+      lasts = lasts_same b.session c.session same;
     }
 
 -- What a fault of a text leaves of a line that asks for it.
-pub cut_untold : {D : Type 0} (state : D → DiskState)
-    (why : RunFault) (line : List ℕ) (b : BookView D) (g : List ℕ) (w0 w1 : Option (List ℕ))
+pub cut_untold : {D : Type 0} {state : D → DiskState} {line : List ℕ} {b : BookView D} {g : List ℕ}
+    {w0 w1 : Option (List ℕ)} (why : RunFault)
     → asked_of line ≡ asked.Tally
     → b.session ≡ after_line b.session line
     → Untold why (reply b.session line) g w0 w1
     → Cut state why (line ∷ []) b b g w0 w1
-cut_untold state fault.Output line b g w0 w1 tally session cut =
+cut_untold {state} {line} {b} {g} {w0} {w1} fault.Output tally session cut =
     let P : List ℕ → Type 0 = λ t. WritesPart w0 w1 (g ++ t) in
     record {
       ran = line ∷ [];
       left = [];
       lines_are = refl;
+      of_line = tt;
       stopped = tt;
       written = subst P (sym (append-nil (reply b.session line))) cut;
       session = session;
       tried = record {
         middle = b;
-        taken = takes_tally state b line tally;
+        taken = takes_tally state line tally;
         tried = inl refl;
       };
+      lasts = stays_same b.session.state;
     }
-cut_untold state fault.Memory line b g w0 w1 tally session cut =
+cut_untold {state} {line} {b} {g} {w0} {w1} fault.Memory tally session cut =
     let P : List ℕ → Type 0 = λ t. Appends w0 w1 t in
     record {
       ran = [];
       left = line ∷ [];
       lines_are = refl;
+      of_line = tt;
       stopped = tally;
       written = subst P (sym (append-nil g)) cut;
       session = refl;
       tried = record {
         middle = b;
-        taken = takes_none state b;
+        taken = takes_none state;
         tried = refl;
       };
+      lasts = stays_same b.session.state;
     }
-cut_untold state fault.Input line b g w0 w1 tally session cut = absurd cut
-cut_untold state fault.InputTooLong line b g w0 w1 tally session cut = absurd cut
-cut_untold state (fault.Store why) line b g w0 w1 tally session cut = absurd cut
+cut_untold fault.Input tally session cut = absurd cut
+cut_untold fault.InputTooLong tally session cut = absurd cut
+cut_untold (fault.Store why) tally session cut = absurd cut
 
 -- What a trouble leaves of a line that asks for a flush or a checkpoint.
-pub cut_troubled : {D : Type 0} (state : D → DiskState)
-    (why : RunFault) (trouble : Trouble) (line : List ℕ) (b c : BookView D) (g : List ℕ)
-    (w0 w1 : Option (List ℕ))
+pub cut_troubled : {D : Type 0} {state : D → DiskState} {line : List ℕ} {b c : BookView D}
+    {g : List ℕ} {w0 w1 : Option (List ℕ)} (why : RunFault) (trouble : Trouble)
     → IsSaving (asked_of line)
     → c.session ≡ b.session
     → StepsOn state b (steps_of (line ∷ [])) (reply_of_save (Err trouble) ∷ [])
     c
     → Troubled why trouble g w0 w1
     → Cut state why (line ∷ []) b c g w0 w1
-cut_troubled state fault.Output trouble line b c g w0 w1 saving same row cut =
-    cut_before state line b c g w0 w1 same
-    (record {
+cut_troubled {state} {b} fault.Output trouble saving same row cut =
+    cut_before same (record {
       middle = b;
-      taken = takes_none state b;
+      taken = takes_none state;
       tried = inr (reply_of_save (Err trouble) ∷ [], row);
-    })
-    cut
-cut_troubled state (fault.Store why) trouble line b c g w0 w1 saving same row cut =
+    }) cut
+cut_troubled {state} {line} {b} {c} {g} {w0} {w1} (fault.Store why) trouble saving same row cut =
     let P : List ℕ → Type 0 = λ t. WritesTrouble why t w0 w1 in
     let Q : Trouble → Type 0 = λ t. WritesTrouble t g w0 w1 in
     let R : Trouble → Type 0 = λ t.
@@ -238,47 +250,50 @@ cut_troubled state (fault.Store why) trouble line b c g w0 w1 saving same row cu
       ran = [];
       left = line ∷ [];
       lines_are = refl;
+      of_line = tt;
       stopped = saving;
       written = subst P (sym (append-nil g)) (subst Q (sym cut.0) cut.1);
       session = same;
       tried = record {
         middle = b;
-        taken = takes_none state b;
+        taken = takes_none state;
         tried = subst R (sym cut.0) row;
       };
+      lasts = lasts_same b.session c.session same;
     }
-cut_troubled state fault.Input trouble line b c g w0 w1 saving same row cut = absurd cut
-cut_troubled state fault.InputTooLong trouble line b c g w0 w1 saving same row cut = absurd cut
-cut_troubled state fault.Memory trouble line b c g w0 w1 saving same row cut = absurd cut
+cut_troubled fault.Input trouble saving same row cut = absurd cut
+cut_troubled fault.InputTooLong trouble saving same row cut = absurd cut
+cut_troubled fault.Memory trouble saving same row cut = absurd cut
 
 -- ---- lines that were cut
 
 -- What was gathered for all lines was cut.
-pub cut_written : {D : Type 0} (state : D → DiskState)
-    (lines : List (List ℕ)) (b c : BookView D) (f g : List ℕ) (w0 w1 w2 : Option (List ℕ))
+pub cut_written : {D : Type 0} {state : D → DiskState} {lines : List (List ℕ)} {b c : BookView D}
+    {f g : List ℕ} {w0 w1 w2 : Option (List ℕ)}
     → Ran state lines b c f g w0 w1
     → WritesPart w1 w2 g
     → Cut state fault.Output lines b c f w0 w2
-cut_written state lines b c f g w0 w1 w2 ran cut =
+cut_written {lines} {c} {g} {w0} {w1} {w2} ran cut =
     let P : List ℕ → Type 0 = λ t. WritesPart w0 w2 t in
     record {
       ran = lines;
       left = [];
       lines_are = sym (append-nil lines);
+      of_line = tt;
       stopped = tt;
       written = subst P (sym ran.replied) (part_behind ran.out g w0 w1 w2 ran.written cut);
       session = ran.session;
       tried = record { middle = c; taken = ran.taken; tried = inl refl };
+      lasts = ran.lasts;
     }
 
 -- These lines were run, and those were cut.
-pub cut_then : {D : Type 0} (state : D → DiskState)
-    (why : RunFault) (xs ys : List (List ℕ)) (b c d : BookView D) (f g : List ℕ)
-    (w0 w1 w2 : Option (List ℕ))
+pub cut_then : {D : Type 0} {state : D → DiskState} {why : RunFault} {xs ys : List (List ℕ)}
+    {b c d : BookView D} {f g : List ℕ} {w0 w1 w2 : Option (List ℕ)}
     → Ran state xs b c f g w0 w1
     → Cut state why ys c d g w1 w2
     → Cut state why (xs ++ ys) b d f w0 w2
-cut_then state why xs ys b c d f g w0 w1 w2 one two =
+cut_then {state} {why} {xs} {b} {c} {d} {f} {g} {w0} {w1} {w2} one two =
     let P : List ℕ → Type 0 = λ t. Wrote why t w0 w2 in
     let s = replies b.session xs in
     let t = replies c.session two.ran in
@@ -286,6 +301,7 @@ cut_then state why xs ys b c d f g w0 w1 w2 one two =
       ran = xs ++ two.ran;
       left = two.left;
       lines_are = ap (λ z. xs ++ z) two.lines_are ∙ sym (append_assoc xs two.ran two.left);
+      of_line = two.of_line;
       stopped = two.stopped;
       written =
           subst P
@@ -297,11 +313,10 @@ cut_then state why xs ys b c d f g w0 w1 w2 one two =
       session = session_then xs two.ran b.session c.session d.session one.session two.session;
       tried = record {
         middle = two.tried.middle;
-        taken =
-            takes_lines state b c two.tried.middle xs two.ran one.taken
-            two.tried.taken;
+        taken = takes_lines state xs two.ran one.taken two.tried.taken;
         tried = two.tried.tried;
       };
+      lasts = lasts_then b.session c.session d.session one.lasts two.lasts;
     }
 
 -- Lines after one that stopped change nothing of that.

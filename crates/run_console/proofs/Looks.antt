@@ -16,5 +16,4 @@ pub looks : {D : Type 0} (state : D → DiskState)
     → p ≡ b.session.state
     → Does state (asked.Scope name) b b (scope_reply p name ∷ [])
 looks state b p name sound same =
-    does_none state (asked.Scope name) b (scope_reply p name ∷ []) refl sound
-    (said_of p b.session.state (λ (q : State). scope_reply q name) (scope_reply p name) same refl)
+    does_none refl sound (said_of (λ (q : State). scope_reply q name) same refl)

@@ -85,32 +85,24 @@ module _ {D : Type 0} (state : D → DiskState) (given : D) (b : BookView D)
   pub start_night : h.session.start ≡ restarted p
   start_night = on.start ∙ start
 
-module _ {D : Type 0} (state : D → DiskState) (given : D) (b : BookView D)
-    (opens : Opens state given (Ok b)) (begun : b.session ≡ begun_at b.session.start)
-    (honest : (state given).honest) (rest : IsAtRest (state given)) (p : State)
-    (stores : Stores (state given).now p) (d : BookView D)
-    (on : CarriesFrom (opened_of state b) state d) where
-  pub acks_night : (left : D) (n : ℕ) → d.journal.disk ≡ left → Replays d.session
-      → IsDurable state d → n ≡ d.session.state.count → d.durable ≡ n
-      → AcksNight p d.session.history n (state left)
+  pub acks_night : (left : D) (n : ℕ) → h.journal.disk ≡ left → Replays h.session
+      → IsDurable state h → n ≡ h.session.state.count → h.durable ≡ n
+      → AcksNight p h.session.history n (state left)
   acks_night left n is replays durable counted acked =
-      let safe = safe_night state given b opens begun honest rest p stores d on in
       record {
-        state = d.session.state;
-        reached = ap (λ q. run q d.session.history)
-            (sym (start_night state given b opens begun honest rest p stores d on))
-            ∙ replays.replays;
+        state = h.session.state;
+        reached = ap (λ q. run q h.session.history) (sym start_night) ∙ replays.replays;
         counted = counted;
         stores = subst
-            (λ e. (x : List ℕ) → (state e).images x → Stores x d.session.state) is
+            (λ e. (x : List ℕ) → (state e).images x → Stores x h.session.state) is
             (λ x image.
-            saved_stores state d x durable safe (acked ∙ counted) replays.replays image);
+            saved_stores state h x durable safe_night (acked ∙ counted) replays.replays image);
       }
 
-  pub acks_told : (left : D) (r : Result ℕ Trouble) → d.journal.disk ≡ left → Replays d.session
-      → IsDurable state d
-      → IfOk r (λ count. (count ≡ d.session.state.count) × (d.durable ≡ count))
-      → IfOk r (λ n. AcksNight p d.session.history n (state left))
+  pub acks_told : (left : D) (r : Result ℕ Trouble) → h.journal.disk ≡ left → Replays h.session
+      → IsDurable state h
+      → IfOk r (λ count. (count ≡ h.session.state.count) × (h.durable ≡ count))
+      → IfOk r (λ n. AcksNight p h.session.history n (state left))
   acks_told left (Ok n) is replays durable acked =
       acks_night left n is replays durable acked.0 acked.1
   acks_told left (Err why) is replays durable acked = tt

@@ -16,29 +16,29 @@ use Rattle.run_console.specs.Until.{ends_at}
 use Rattle.run_console.proofs.Lines.{cut_then, ran_nothing, ran_then, ran_written}
 use Rattle.run_console.proofs.RunLines.{clean_line, clean_none, clean_then, found_line, found_then}
 
-module _ {D : Type 0} (state : D → DiskState) (until : Until) where
+module _ {D : Type 0} {state : D → DiskState} {until : Until} where
   -- Nothing was read yet.
-  pub part_begins : (n m : ℕ) (begun tail g : List ℕ) (b : BookView D) (w : Option (List ℕ))
+  pub part_begins : {n m : ℕ} {begun tail g : List ℕ} {b : BookView D} {w : Option (List ℕ)}
       → m ≡ n
       → tail ≡ kept begun
       → PartRan state until n m begun [] b b tail g g w w
-  part_begins n m begun tail g b w same e = record {
-    ran = ran_nothing state b g w;
+  part_begins same e = record {
+    ran = ran_nothing;
     tail_is = e;
-    clean = clean_none until n m b.session same;
+    clean = clean_none until same;
   }
 
   -- ---- one line after another
 
   -- An LF runs the line that was begun, and the run goes on.
-  pub part_ends : (n m : ℕ) (begun part more : List ℕ) (b c d : BookView D)
-      (tail f g h : List ℕ) (w0 w1 w2 : Option (List ℕ))
+  pub part_ends : {n m : ℕ} {begun part more : List ℕ} {b c d : BookView D} {tail f g h : List ℕ}
+      {w0 w1 w2 : Option (List ℕ)}
       → PartRan state until n m begun part b c tail f g w0 w1
       → Ran state (open_line begun part ∷ []) c d g h w1 w2
       → ends_at until (stray_at c.session (open_line begun part)) ≡ None
       → more ≡ []
       → PartRan state until n (m + 1) begun (part ++ 10 ∷ []) b d more f h w0 w2
-  part_ends n m begun part more b c d tail f g h w0 w1 w2 so_far ran stays none =
+  part_ends {n} {m} {begun} {part} {b} {d} {f} {h} {w0} {w2} so_far ran stays none =
       let P : List (List ℕ) → Type 0 = λ lines. Ran state lines b d f h w0 w2 in
       let Q : List (List ℕ) → Type 0 = λ lines. Clean until n (m + 1) b.session lines in
       let line = open_line begun part in
@@ -46,63 +46,56 @@ module _ {D : Type 0} (state : D → DiskState) (until : Until) where
       record {
         ran =
             subst P (sym both.0)
-            (ran_then state (whole_lines begun part) (line ∷ []) b c d f g h w0 w1 w2
-            so_far.ran ran);
+            (ran_then so_far.ran ran);
         tail_is = none ∙ sym (ap kept both.1);
         clean =
             subst Q (sym both.0)
-            (clean_then until n m (m + 1) b.session c.session (whole_lines begun part) (line ∷ [])
-            so_far.ran.session so_far.clean (clean_line until m c.session line stays));
+            (clean_then until so_far.ran.session so_far.clean (clean_line until stays));
       }
 
   -- Or the run ends after it.
-  pub part_strays : (n m : ℕ) (begun all part behind : List ℕ) (b c d : BookView D)
-      (tail f g h : List ℕ) (w0 w1 w2 : Option (List ℕ)) (why : Stray)
+  pub part_strays : {n m : ℕ} {begun all part : List ℕ} {b c d : BookView D} {tail f g h : List ℕ}
+      {w0 w1 w2 : Option (List ℕ)} (behind : List ℕ) (why : Stray)
       → all ≡ part ++ 10 ∷ behind
       → PartRan state until n m begun part b c tail f g w0 w1
       → Ran state (open_line begun part ∷ []) c d g h w1 w2
       → ends_at until (stray_at c.session (open_line begun part)) ≡ Some why
       → PartStrays state until (record { number = m; why = why }) n begun all b d f h w0 w2
-  part_strays n m begun all part behind b c d tail f g h w0 w1 w2 why e so_far ran strays =
+  part_strays {begun} {part} behind why e so_far ran strays =
       let line = open_line begun part in
       let lines = whole_lines begun part in
       record {
         front = part;
         behind = behind;
         part_is = e;
-        ran = ran_then state lines (line ∷ []) b c d f g h w0 w1 w2 so_far.ran ran;
-        found =
-            found_then until n m b.session c.session lines (line ∷ [])
-            (record { number = m; why = why }) so_far.ran.session so_far.clean
-            (found_line until m c.session line why strays);
+        ran = ran_then so_far.ran ran;
+        found = found_then until so_far.ran.session so_far.clean (found_line until why strays);
       }
 
   -- Or it stops.
-  pub part_stops : (why : RunFault) (n m : ℕ) (begun all part behind : List ℕ)
-      (b c d : BookView D) (tail f g : List ℕ) (w0 w1 w2 : Option (List ℕ))
+  pub part_stops : {why : RunFault} {n m : ℕ} {begun all part : List ℕ} {b c d : BookView D}
+      {tail f g : List ℕ} {w0 w1 w2 : Option (List ℕ)} (behind : List ℕ)
       → all ≡ part ++ 10 ∷ behind
       → PartRan state until n m begun part b c tail f g w0 w1
       → Cut state why (open_line begun part ∷ []) c d g w1 w2
       → PartCut state until why n begun all b d f w0 w2
-  part_stops why n m begun all part behind b c d tail f g w0 w1 w2 e so_far cut = record {
+  part_stops {part} behind e so_far cut = record {
     front = part;
     behind = behind;
     part_is = e;
     none = so_far.clean.none;
-    cut =
-        cut_then state why (whole_lines begun part) (open_line begun part ∷ []) b c d f g w0 w1
-        w2 so_far.ran cut;
+    cut = cut_then so_far.ran cut;
   }
 
   -- ---- one part after another
 
   -- Two parts were run.
-  pub part_then : (n m k : ℕ) (begun xs ys tail more f g h : List ℕ) (b c d : BookView D)
-      (w0 w1 w2 : Option (List ℕ))
+  pub part_then : {n m k : ℕ} {begun xs ys tail more f g h : List ℕ} {b c d : BookView D}
+      {w0 w1 w2 : Option (List ℕ)}
       → PartRan state until n m begun xs b c tail f g w0 w1
       → PartRan state until m k (open_line begun xs) ys c d more g h w1 w2
       → PartRan state until n k begun (xs ++ ys) b d more f h w0 w2
-  part_then n m k begun xs ys tail more f g h b c d w0 w1 w2 one two =
+  part_then {n} {k} {begun} {xs} {ys} {f} {h} {b} {d} {w0} {w2} one two =
       let P : List (List ℕ) → Type 0 = λ lines. Ran state lines b d f h w0 w2 in
       let Q : List (List ℕ) → Type 0 = λ lines. Clean until n k b.session lines in
       let first = whole_lines begun xs in
@@ -111,22 +104,21 @@ module _ {D : Type 0} (state : D → DiskState) (until : Until) where
       record {
         ran =
             subst P (sym lines)
-            (ran_then state first next b c d f g h w0 w1 w2 one.ran two.ran);
+            (ran_then one.ran two.ran);
         tail_is = two.tail_is ∙ sym (ap kept (open_line-append begun xs ys));
         clean =
             subst Q (sym lines)
-            (clean_then until n m k b.session c.session first next one.ran.session one.clean
-            two.clean);
+            (clean_then until one.ran.session one.clean two.clean);
       }
 
   -- All that was gathered is written.
-  pub part_written : (n m : ℕ) (begun xs tail f g : List ℕ) (b c : BookView D)
-      (w0 w1 w2 : Option (List ℕ))
+  pub part_written : {n m : ℕ} {begun xs tail f g : List ℕ} {b c : BookView D}
+      {w0 w1 w2 : Option (List ℕ)}
       → PartRan state until n m begun xs b c tail f g w0 w1
       → Appends w1 w2 g
       → PartRan state until n m begun xs b c tail f [] w0 w2
-  part_written n m begun xs tail f g b c w0 w1 w2 so_far all = record {
-    ran = ran_written state (whole_lines begun xs) b c f g w0 w1 w2 so_far.ran all;
+  part_written so_far all = record {
+    ran = ran_written so_far.ran all;
     tail_is = so_far.tail_is;
     clean = so_far.clean;
   }

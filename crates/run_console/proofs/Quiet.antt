@@ -86,15 +86,15 @@ open_quiet : (begun front xs : List ℕ) → IsQuiet xs
 open_quiet begun front xs quiet =
     sym (open_line-append begun front xs ∙ (quiet (open_line begun front)).1)
 
-module _ {D : Type 0} (state : D → DiskState) (until : Until) where
+module _ {D : Type 0} {state : D → DiskState} {until : Until} where
   -- They run nothing.
-  pub part_quiet : (n m : ℕ) (begun front xs tail more f g : List ℕ) (b c : BookView D)
-      (w0 w1 : Option (List ℕ))
+  pub part_quiet : {n m : ℕ} {begun front tail more f g : List ℕ} {b c : BookView D}
+      {w0 w1 : Option (List ℕ)} (xs : List ℕ)
       → PartRan state until n m begun front b c tail f g w0 w1
       → IsQuiet xs
       → more ≡ kept (tail ++ xs)
       → PartRan state until n m begun (front ++ xs) b c more f g w0 w1
-  part_quiet n m begun front xs tail more f g b c w0 w1 so_far quiet e =
+  part_quiet {n} {m} {begun} {front} {tail} {more} {f} {g} {b} {c} {w0} {w1} xs so_far quiet e =
       let line = open_line begun front in
       let P : List (List ℕ) → Type 0 = λ lines. Ran state lines b c f g w0 w1 in
       let Q : List (List ℕ) → Type 0 = λ lines. Clean until n m b.session lines in
@@ -111,55 +111,48 @@ module _ {D : Type 0} (state : D → DiskState) (until : Until) where
       }
 
   -- The next line was run, which an LF ends, and the run goes on.
-  pub line_ran : (n m : ℕ) (begun front xs tail more f g h : List ℕ) (b c d : BookView D)
-      (w0 w1 w2 : Option (List ℕ))
+  pub line_ran : {n m : ℕ} {begun front tail more f g h : List ℕ} {b c d : BookView D}
+      {w0 w1 w2 : Option (List ℕ)} (xs : List ℕ)
       → PartRan state until n m begun front b c tail f g w0 w1
       → IsQuiet xs
       → Ran state ((open_line begun front ++ xs) ∷ []) c d g h w1 w2
       → ends_at until (stray_at c.session (open_line begun front ++ xs)) ≡ None
       → more ≡ []
       → PartRan state until n (m + 1) begun ((front ++ xs) ++ 10 ∷ []) b d more f h w0 w2
-  line_ran n m begun front xs tail more f g h b c d w0 w1 w2 so_far quiet ran stays none =
+  line_ran {begun} {front} {g} {h} {c} {d} {w1} {w2} xs so_far quiet ran stays none =
       let P : List ℕ → Type 0 = λ line. Ran state (line ∷ []) c d g h w1 w2 in
       let Q : List ℕ → Type 0 = λ line. ends_at until (stray_at c.session line) ≡ None in
       let line = open_quiet begun front xs quiet in
-      part_ends state until n m begun (front ++ xs) more b c d (kept (tail ++ xs)) f g h w0 w1 w2
-      (part_quiet n m begun front xs tail (kept (tail ++ xs)) f g b c w0 w1 so_far quiet refl)
-      (subst P line ran) (subst Q line stays) none
+      part_ends (part_quiet xs so_far quiet refl) (subst P line ran) (subst Q line stays) none
 
   -- Or the run ends after it.
-  pub line_strays : (n m : ℕ) (begun all front xs behind tail f g h : List ℕ)
-      (b c d : BookView D) (w0 w1 w2 : Option (List ℕ)) (why : Stray)
+  pub line_strays : {n m : ℕ} {begun all front tail f g h : List ℕ} {b c d : BookView D}
+      {w0 w1 w2 : Option (List ℕ)} (xs behind : List ℕ) (why : Stray)
       → all ≡ ((front ++ xs) ++ 10 ∷ []) ++ behind
       → PartRan state until n m begun front b c tail f g w0 w1
       → IsQuiet xs
       → Ran state ((open_line begun front ++ xs) ∷ []) c d g h w1 w2
       → ends_at until (stray_at c.session (open_line begun front ++ xs)) ≡ Some why
       → PartStrays state until (record { number = m; why = why }) n begun all b d f h w0 w2
-  line_strays n m begun all front xs behind tail f g h b c d w0 w1 w2 why e so_far quiet ran
-      strays =
+  line_strays {begun} {front} {g} {h} {c} {d} {w1} {w2} xs behind why e so_far quiet ran strays =
       let P : List ℕ → Type 0 = λ line. Ran state (line ∷ []) c d g h w1 w2 in
       let Q : List ℕ → Type 0 = λ line. ends_at until (stray_at c.session line) ≡ Some why in
       let line = open_quiet begun front xs quiet in
-      part_strays state until n m begun all (front ++ xs) behind b c d (kept (tail ++ xs)) f g h
-      w0 w1 w2 why (e ∙ append_assoc (front ++ xs) (10 ∷ []) behind)
-      (part_quiet n m begun front xs tail (kept (tail ++ xs)) f g b c w0 w1 so_far quiet refl)
-      (subst P line ran) (subst Q line strays)
+      part_strays behind why (e ∙ append_assoc (front ++ xs) (10 ∷ []) behind)
+      (part_quiet xs so_far quiet refl) (subst P line ran) (subst Q line strays)
 
   -- Or it was cut, whatever bytes come after its LF.
-  pub line_cut : (why : RunFault) (n m : ℕ) (begun all front xs behind tail f g : List ℕ)
-      (b c d : BookView D) (w0 w1 w2 : Option (List ℕ))
+  pub line_cut : {why : RunFault} {n m : ℕ} {begun all front tail f g : List ℕ} {b c d : BookView D}
+      {w0 w1 w2 : Option (List ℕ)} (xs behind : List ℕ)
       → all ≡ ((front ++ xs) ++ 10 ∷ []) ++ behind
       → PartRan state until n m begun front b c tail f g w0 w1
       → IsQuiet xs
       → Cut state why ((open_line begun front ++ xs) ∷ []) c d g w1 w2
       → PartCut state until why n begun all b d f w0 w2
-  line_cut why n m begun all front xs behind tail f g b c d w0 w1 w2 e so_far quiet cut =
+  line_cut {why} {begun} {front} {g} {c} {d} {w1} {w2} xs behind e so_far quiet cut =
       let P : List ℕ → Type 0 = λ line. Cut state why (line ∷ []) c d g w1 w2 in
-      part_stops state until why n m begun all (front ++ xs) behind b c d (kept (tail ++ xs)) f g
-      w0 w1 w2 (e ∙ append_assoc (front ++ xs) (10 ∷ []) behind)
-      (part_quiet n m begun front xs tail (kept (tail ++ xs)) f g b c w0 w1 so_far quiet refl)
-      (subst P (open_quiet begun front xs quiet) cut)
+      part_stops behind (e ∙ append_assoc (front ++ xs) (10 ∷ []) behind)
+      (part_quiet xs so_far quiet refl) (subst P (open_quiet begun front xs quiet) cut)
 
 -- Where that line stands in the part.
 pub line_stands : (all front rest : List ℕ) (n : ℕ)

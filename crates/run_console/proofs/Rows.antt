@@ -46,19 +46,19 @@ none_either (x ∷ xs) ys p q =
 module _ {D : Type 0} (state : D → DiskState) where
   -- ---- one step
 
-  pub takes_none : (h : BookView D) → TakesAll state h [] h
-  takes_none h = record { answers = []; row = refl; fine = refl }
+  pub takes_none : {h : BookView D} → TakesAll state h [] h
+  takes_none = record { answers = []; row = refl; fine = refl }
 
   -- A tally takes none.
-  pub takes_tally : (h : BookView D) (line : List ℕ) → asked_of line ≡ asked.Tally
+  pub takes_tally : {h : BookView D} (line : List ℕ) → asked_of line ≡ asked.Tally
       → TakesAll state h (steps_of (line ∷ [])) h
-  takes_tally h line tally =
-      subst (λ (a : Asked). TakesAll state h (steps_asked a) h) (sym tally) (takes_none h)
+  takes_tally {h} line tally =
+      subst (λ (a : Asked). TakesAll state h (steps_asked a) h) (sym tally) (takes_none)
 
   -- A step that isn't answered by a fault.
-  pub takes_one : (old new : BookView D) (x : Step) (r : Reply) → AnswersStep state old x r new
+  pub takes_one : {old new : BookView D} {x : Step} (r : Reply) → AnswersStep state old x r new
       → CarriesOn state old new → is_fault r ≡ false → TakesAll state old (x ∷ []) new
-  takes_one old new x r answers on fine = record {
+  takes_one {old} {new} {x} r answers on fine = record {
     answers = r ∷ [];
     row = row_one state old new x r answers on;
     fine = ap (λ b. b || false) fine;
@@ -66,27 +66,27 @@ module _ {D : Type 0} (state : D → DiskState) where
 
   -- ---- some steps
 
-  pub takes_join : (a b c : BookView D) (xs ys : List Step) → TakesAll state a xs b
+  pub takes_join : {a b c : BookView D} {xs ys : List Step} → TakesAll state a xs b
       → TakesAll state b ys c → TakesAll state a (xs ++ ys) c
-  takes_join a b c xs ys p q = record {
+  takes_join {a} {b} {c} {xs} {ys} p q = record {
     answers = p.answers ++ q.answers;
     row = row_join state a b c xs ys p.answers q.answers p.row q.row;
     fine = none_either p.answers q.answers p.fine q.fine;
   }
 
-  pub takes_lines : (a b c : BookView D) (xs ys : List (List ℕ)) → TakesAll state a (steps_of xs) b
+  pub takes_lines : {a b c : BookView D} (xs ys : List (List ℕ)) → TakesAll state a (steps_of xs) b
       → TakesAll state b (steps_of ys) c → TakesAll state a (steps_of (xs ++ ys)) c
-  takes_lines a b c xs ys p q =
+  takes_lines {a} {c} xs ys p q =
       subst (λ l. TakesAll state a l c) (sym (steps_of-append xs ys))
-      (takes_join a b c (steps_of xs) (steps_of ys) p q)
+      (takes_join p q)
 
   -- No step leaves the book as it was.
   nothing_row : (a b : BookView D) (answers : List Reply) → StepsOn state a [] answers b → b ≡ a
   nothing_row a b [] row = row
   nothing_row a b (r ∷ answers) row = absurd row
 
-  pub took_nothing : (a b : BookView D) → TakesAll state a [] b → b ≡ a
-  took_nothing a b p = nothing_row a b p.answers p.row
+  pub took_nothing : {a b : BookView D} → TakesAll state a [] b → b ≡ a
+  took_nothing {a} {b} p = nothing_row a b p.answers p.row
 
   -- ---- the step that was next
 

@@ -106,69 +106,68 @@ read_first FirstStray n s xs stray h lines bytes r first = inr first
 
 module _ (until : Until) where
   -- The search goes on from there.
-  pub search_on : (n m : ℕ) (b c : Session) (xs ys : List (List ℕ))
+  pub search_on : {n m : ℕ} {b : Session} {xs : List (List ℕ)} (c : Session) (ys : List (List ℕ))
       → c ≡ after_lines b xs
       → Clean until n m b xs
       → stray_until until n b (xs ++ ys) ≡ stray_until until m c ys
-  search_on n m b c xs ys session clean =
+  search_on {n} {m} {b} {xs} c ys session clean =
       search_then until n b xs ys clean.none
       ∙ ap (λ i. stray_until until i (after_lines b xs) ys) (sym clean.next)
       ∙ ap (λ t. stray_until until m t ys) (sym session)
 
   -- And so do the lines that are run.
-  run_on : (n m : ℕ) (b c : Session) (xs ys : List (List ℕ))
+  run_on : {n m : ℕ} {b : Session} {xs : List (List ℕ)} (c : Session) (ys : List (List ℕ))
       → c ≡ after_lines b xs
       → Clean until n m b xs
       → lines_until until b (xs ++ ys) ≡ xs ++ lines_until until c ys
-  run_on n m b c xs ys session clean =
+  run_on {n} {b} {xs} c ys session clean =
       run_then until n b xs ys clean.none
       ∙ ap (λ t. xs ++ lines_until until t ys) (sym session)
 
-  pub clean_none : (n m : ℕ) (s : Session) → m ≡ n → Clean until n m s []
-  clean_none n m s e = record { none = no_line until n s; next = omega (arith, e) }
+  pub clean_none : {n m : ℕ} {s : Session} → m ≡ n → Clean until n m s []
+  clean_none {n} {s} e = record { none = no_line until n s; next = omega (arith, e) }
 
   -- The run ends after none of these, and after none of those.
-  pub clean_then : (n m k : ℕ) (b c : Session) (xs ys : List (List ℕ))
+  pub clean_then : {n m k : ℕ} {b c : Session} {xs ys : List (List ℕ)}
       → c ≡ after_lines b xs
       → Clean until n m b xs
       → Clean until m k c ys
       → Clean until n k b (xs ++ ys)
-  clean_then n m k b c xs ys session one two = record {
-    none = search_on n m b c xs ys session one ∙ two.none;
+  clean_then {c} {xs} {ys} session one two = record {
+    none = search_on c ys session one ∙ two.none;
     next = omega (arith, one.next, two.next, length-append xs ys);
   }
 
   -- It ends after none of these, and after the last of those.
-  pub found_then : (n m : ℕ) (b c : Session) (xs ys : List (List ℕ)) (stray : StrayLine)
+  pub found_then : {n m : ℕ} {b c : Session} {xs ys : List (List ℕ)} {stray : StrayLine}
       → c ≡ after_lines b xs
       → Clean until n m b xs
       → Found until m c ys stray
       → Found until n b (xs ++ ys) stray
-  found_then n m b c xs ys stray session one two = record {
-    found = search_on n m b c xs ys session one ∙ two.found;
-    all = run_on n m b c xs ys session one ∙ ap (λ l. xs ++ l) two.all;
+  found_then {c} {xs} {ys} session one two = record {
+    found = search_on c ys session one ∙ two.found;
+    all = run_on c ys session one ∙ ap (λ l. xs ++ l) two.all;
   }
 
-  pub clean_line : (n : ℕ) (s : Session) (line : List ℕ) → ends_at until (stray_at s line) ≡ None
+  pub clean_line : {n : ℕ} {s : Session} {line : List ℕ} → ends_at until (stray_at s line) ≡ None
       → Clean until n (n + 1) s (line ∷ [])
-  clean_line n s line h =
-      record { none = goes_on until n s line h; next = omega arith }
+  clean_line {n} {s} {line} h = record { none = goes_on until n s line h; next = omega arith }
 
-  pub found_line : (n : ℕ) (s : Session) (line : List ℕ) (why : Stray)
+  pub found_line : {n : ℕ} {s : Session} {line : List ℕ} (why : Stray)
       → ends_at until (stray_at s line) ≡ Some why
       → Found until n s (line ∷ []) (record { number = n; why = why })
-  found_line n s line why h =
+  found_line {n} {s} {line} why h =
       record { found = ends_so until n s line why h; all = run_one until s line }
 
   -- ---- a whole input
 
   -- The run ends after the last of the first lines, whatever comes after its LF.
-  pub ends_first : (s : Session) (bytes front behind : List ℕ) (stray : StrayLine)
+  pub ends_first : {s : Session} {stray : StrayLine} (bytes front behind : List ℕ)
       → bytes ≡ front ++ 10 ∷ behind
       → Found until 1 s (lines_of front) stray
       → (stray_until until 1 s (lines_of bytes) ≡ Some stray)
       × (lines_until until s (lines_of bytes) ≡ lines_of front)
-  ends_first s bytes front behind stray e found =
+  ends_first {s} {stray} bytes front behind e found =
       let lines : lines_of bytes ≡ lines_of front ++ lines_of behind =
       ap lines_of e ∙ lines_around front behind in
       let more = ended_more until 1 s (lines_of front) (lines_of behind) stray found.found in (
@@ -177,12 +176,12 @@ module _ (until : Until) where
       )
 
   -- All lines but the last are clean, and so the last one is run, too.
-  pub last_lines : (m : ℕ) (b c : Session) (bytes : List ℕ)
+  pub last_lines : {m : ℕ} {b : Session} (c : Session) (bytes : List ℕ)
       → c ≡ after_lines b (whole_lines [] bytes)
       → Clean until 1 m b (whole_lines [] bytes)
       → lines_until until b (lines_of bytes) ≡ lines_of bytes
-  last_lines m b c bytes session clean =
-      run_on 1 m b c (whole_lines [] bytes) (open_line [] bytes ∷ []) session clean
+  last_lines c bytes session clean =
+      run_on c (open_line [] bytes ∷ []) session clean
       ∙ ap (λ l. whole_lines [] bytes ++ l) (run_one until c (open_line [] bytes))
 
   -- The run may end after it.

@@ -110,7 +110,7 @@ module _ {D : Type 0} (state : D → DiskState) (b c : BookView D) (x : Step) (r
       → IfOk result (λ reply. Does state (asked.Step x) b c (option_to_list reply))
   step_does (Ok reply) on lasts is fine =
       record {
-        taken = takes_one state b c x r one on fine;
+        taken = takes_one state r one on fine;
         replied = is ∙ ap (λ y. said.Step y ∷ []) (known.is_told fine);
         sound = row_sound state b c (x ∷ []) (r ∷ []) sound
             (row_one state b c x r one on) (ap (λ q. q || false) fine);

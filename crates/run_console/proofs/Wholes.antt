@@ -24,7 +24,8 @@ use Rattle.run_model.specs.declared.commands.Step.{Step}
 use Rattle.run_model.specs.declared.commands.Step.TheVariants as step
 use Rattle.run_console.specs.declared.untils.Until.{Until}
 use Rattle.run_console.specs.Rows.{TakesAll, Tries, next_steps}
-use Rattle.run_console.specs.Progress.{Cut, EndStops, Found, IsOfLine, IsReached, IsRunStopped}
+use Rattle.run_console.specs.Progress.{Closes, Cut, EndStops, Found, Halts, IsOfLine, IsReached}
+use Rattle.run_console.specs.Progress.{IsRunStopped}
 use Rattle.run_console.specs.Progress.{IsStopped, IsWritten, PartCut, PartRan, PartRuns, PartStrays}
 use Rattle.run_console.specs.Progress.{Ran, RanLines, Reads, ReadsAll, RunEnds, RunStops, Told}
 use Rattle.run_console.specs.Progress.{WritesTrouble, Wrote, lines_to, untried}
@@ -38,10 +39,12 @@ use Rattle.run_console.proofs.RunLines.{left_over, lines_behind, read_first, sea
 
 -- ---- what is read
 
--- A part that was read at once: the input stays within what may be read.
-pub record PartRead (bytes room : List ℕ) (n : ℕ) : Type 0 where
+-- A part that was read at once: the input stays within what may be read, and the part within the
+-- room that there was for it.
+pub record PartRead (bytes room : List ℕ) (n part : ℕ) : Type 0 where
   pub len : length (bytes ++ take n room) ≡ length bytes + n
   pub within : length (bytes ++ take n room) ≤ LONGEST_INPUT + 1
+  pub few : length (take n room) ≤ part
 
 -- There was room for no more than may be read yet.
 pub part_read : (bytes room old : List ℕ) (n most total part : ℕ)
@@ -50,33 +53,12 @@ pub part_read : (bytes room old : List ℕ) (n most total part : ℕ)
     → length room ≡ length (take most old)
     → most ≡ min (LONGEST_INPUT + 1 - total) part
     → total ≤ LONGEST_INPUT
-    → PartRead bytes room n
+    → PartRead bytes room n part
 part_read bytes room old n most total part h few long is within =
     let sum = length-append bytes (take n room) in
     let size : length (take n room) ≡ n = length-take-le n room few in
     let cut = length-take most old in
-    record { len = omega arith; within = omega arith }
-
--- The bytes that were read, where nothing was gathered before them.
-pub part_here : (P : List ℕ → List ℕ → Type 0) (n : ℕ) (room rest gathered : List ℕ)
-    → n ≤ length room
-    → gathered ≡ []
-    → P gathered (take n (room ++ rest))
-    → P [] (take n room)
-part_here P n room rest gathered few none h =
-    subst (λ x. P [] x) (take-append-le n room rest few)
-    (subst (λ x. P x (take n (room ++ rest))) none h)
-
--- They are no more than there was room for.
-pub part_few : (room old : List ℕ) (n most total part : ℕ)
-    → n ≤ length room
-    → length room ≡ length (take most old)
-    → most ≡ min (LONGEST_INPUT + 1 - total) part
-    → length (take n room) ≤ part
-part_few room old n most total part few long is =
-    let size : length (take n room) ≡ n = length-take-le n room few in
-    let cut = length-take most old in
-    omega arith
+    record { len = omega arith; within = omega arith; few = omega arith }
 
 -- Every line but the last of an input is ended by a byte of it.
 few_lines : (begun bytes : List ℕ) → length (whole_lines begun bytes) ≤ length bytes
@@ -157,19 +139,17 @@ stopped_so fault.InputTooLong left h = tt
 stopped_so fault.Output left h = tt
 
 -- The closing line was told after these lines.
-end_told : {D : Type 0} (state : D → DiskState)
-    (b d : BookView D) (lines : List (List ℕ)) (g : List ℕ) (w0 w2 w3 : Option (List ℕ))
+end_told : {D : Type 0} {state : D → DiskState} {b d : BookView D} {lines : List (List ℕ)}
+    {g : List ℕ} {w0 w2 w3 : Option (List ℕ)}
     → Ran state lines b d [] g w0 w2
     → Told (closing d.session) g [] w2 w3
-    → Appends w0 w3 (replies b.session lines ++ closing
-    (after_lines b.session lines))
-end_told state b d lines g w0 w2 w3 ran told =
+    → Appends w0 w3 (replies b.session lines ++ closing (after_lines b.session lines))
+end_told {b} {d} {lines} {g} {w0} {w2} {w3} ran told =
     let P : List ℕ → Type 0 = λ x. Appends w0 w3 x in
     let end = closing d.session in
     let text : replies b.session lines ++ closing (after_lines b.session lines)
     ≡ ran.out ++ told.out =
-    ap (λ t. replies b.session lines ++ closing t) (sym
-    ran.session)
+    ap (λ t. replies b.session lines ++ closing t) (sym ran.session)
     ∙ ap (λ x. x ++ end) ran.replied
     ∙ append_assoc ran.out g end
     ∙ ap (λ x. ran.out ++ x) (told.told ∙ append-nil told.out) in
@@ -196,16 +176,15 @@ reached_end fault.Input e end g w2 w3 bytes lines h few = absurd h
 reached_end fault.InputTooLong e end g w2 w3 bytes lines h few = absurd h
 
 -- What was written up to there.
-end_wrote : {D : Type 0} (state : D → DiskState) (why : RunFault) (b d e : BookView D)
-    (lines : List (List ℕ)) (g : List ℕ)
-    (w0 w2 w3 : Option (List ℕ))
+end_wrote : {D : Type 0} {state : D → DiskState} {b d : BookView D} {lines : List (List ℕ)}
+    {g : List ℕ} {w0 w2 : Option (List ℕ)} (why : RunFault) (e : BookView D) (w3 : Option (List ℕ))
     → Ran state lines b d [] g w0 w2
     → EndStops why e (closing d.session) g w2 w3
     → IsWritten why b.session lines [] e w0 w3
-end_wrote state fault.Output b d e lines g w0 w2 w3 ran (inl h) =
+end_wrote {g} {w0} {w2} fault.Output e w3 ran (inl h) =
     let P : List ℕ → Type 0 = λ x. WritesPart w0 w3 x in
     inl (subst P (sym ran.replied) (part_behind ran.out g w0 w2 w3 ran.written h))
-end_wrote state fault.Output b d e lines g w0 w2 w3 ran (inr (saved, h)) =
+end_wrote {b} {d} {lines} {g} {w0} {w2} fault.Output e w3 ran (inr (saved, h)) =
     let P : List ℕ → Type 0 = λ x. WritesPart w0 w3 x in
     let s = b.session in
     let end = closing d.session in
@@ -214,26 +193,26 @@ end_wrote state fault.Output b d e lines g w0 w2 w3 ran (inr (saved, h)) =
     ∙ ap (λ x. x ++ end) ran.replied
     ∙ append_assoc ran.out g end in
     inr (refl, saved, subst P (sym text) (part_behind ran.out (g ++ end) w0 w2 w3 ran.written h))
-end_wrote state (fault.Store why) b d e lines g w0 w2 w3 ran h =
+end_wrote {g} {w0} {w2} (fault.Store why) e w3 ran h =
     let P : List ℕ → Type 0 = λ x. WritesTrouble why x w0 w3 in
     subst P (sym ran.replied) (trouble_behind why ran.out g w0 w2 w3 ran.written h)
-end_wrote state fault.Memory b d e lines g w0 w2 w3 ran h = absurd h
-end_wrote state fault.Input b d e lines g w0 w2 w3 ran h = absurd h
-end_wrote state fault.InputTooLong b d e lines g w0 w2 w3 ran h = absurd h
+end_wrote fault.Memory e w3 ran h = absurd h
+end_wrote fault.Input e w3 ran h = absurd h
+end_wrote fault.InputTooLong e w3 ran h = absurd h
 
 -- ---- a whole run
 
-module _ {D : Type 0} (state : D → DiskState) (until : Until) where
+module _ {D : Type 0} {state : D → DiskState} {until : Until} where
   -- The input was read to its end.
-  pub reads_all : (m : ℕ) (bytes tail : List ℕ) (b c : BookView D)
-      (r0 r1 r2 w0 w1 : Option (List ℕ))
+  pub reads_all : {m : ℕ} {bytes tail : List ℕ} {b c : BookView D} {r0 r2 w0 w1 : Option (List ℕ)}
+      (r1 : Option (List ℕ))
       → Consumes r0 r1 bytes
       → Consumes r1 r2 []
       → IsAtEnd r2
       → length bytes ≤ LONGEST_INPUT
       → PartRan state until 1 m [] bytes b c tail [] [] w0 w1
       → ReadsAll state until m b c tail r0 r2 w0 w1
-  reads_all m bytes tail b c r0 r1 r2 w0 w1 read none ended within part =
+  reads_all {bytes} {r0} {r2} r1 read none ended within part =
       let P : List ℕ → Type 0 = λ x. Consumes r0 r2 x in
       record {
         bytes = bytes;
@@ -244,15 +223,14 @@ module _ {D : Type 0} (state : D → DiskState) (until : Until) where
       }
 
   -- The number of the line that was begun.
-  pub few_before : (m : ℕ) (bytes tail : List ℕ) (b c : BookView D) (w0 w1 : Option (List ℕ))
+  pub few_before : {m : ℕ} {bytes tail : List ℕ} {b c : BookView D} {w0 w1 : Option (List ℕ)}
       → PartRan state until 1 m [] bytes b c tail [] [] w0 w1
       → m ≤ 1 + length bytes
-  few_before m bytes tail b c w0 w1 so_far =
-      omega (arith, so_far.clean.next, few_lines [] bytes)
+  few_before {bytes} so_far = omega (arith, so_far.clean.next, few_lines [] bytes)
 
   -- A fault of reading, after all lines that an LF ended.
-  pub stops_reading : (why : RunFault) (m : ℕ) (bytes tail : List ℕ) (b c : BookView D)
-      (r0 r1 w0 w1 : Option (List ℕ))
+  pub stops_reading : {why : RunFault} {m : ℕ} {bytes tail : List ℕ} {b c : BookView D}
+      {r0 r1 w0 w1 : Option (List ℕ)}
       → Consumes r0 r1 bytes
       → PartRan state until 1 m [] bytes b c tail [] [] w0 w1
       → IsReached why bytes (whole_lines [] bytes)
@@ -261,83 +239,85 @@ module _ {D : Type 0} (state : D → DiskState) (until : Until) where
       → (Appends w0 w1 (replies b.session (whole_lines [] bytes))
       → IsWritten why b.session (whole_lines [] bytes) (open_line [] bytes ∷ []) c w0 w1)
       → ((steps : List Step) → Tries state c why steps c)
-      → RunStops state until why b c r0 r1 w0 w1
-  stops_reading why m bytes tail b c r0 r1 w0 w1 read part reached all_left stopped written
-      not_tried =
+      → Halts state until why b c r0 r1 w0 w1
+  stops_reading {bytes} {c} {w0} {w1} read part reached all_left stopped written not_tried =
       let P : List ℕ → Type 0 = λ x. Appends w0 w1 x in
       let ran = part.ran in
       let left = open_line [] bytes ∷ [] in
       record {
-        bytes = bytes;
-        read = read;
-        ran = whole_lines [] bytes;
-        left = left;
-        lines_are = last_lines until m b.session c.session bytes ran.session part.clean;
-        read_for = λ e. left_over [] (open_line [] bytes) _ (sym (all_left left) ∙ e);
-        stopped = stopped left;
-        reached = reached;
-        session = ran.session;
-        tried = record {
-          middle = c;
-          taken = ran.taken;
-          tried = not_tried (next_steps left);
+        lasts = ran.lasts;
+        stops = record {
+          bytes = bytes;
+          read = read;
+          ran = whole_lines [] bytes;
+          left = left;
+          lines_are = last_lines until c.session bytes ran.session part.clean;
+          read_for = λ e. left_over [] (open_line [] bytes) _ (sym (all_left left) ∙ e);
+          stopped = stopped left;
+          reached = reached;
+          session = ran.session;
+          tried = record {
+            middle = c;
+            taken = ran.taken;
+            tried = not_tried (next_steps left);
+          };
+          written = written (subst P (sym (ran.replied ∙ append-nil ran.out)) ran.written);
         };
-        written = written (subst P (sym (ran.replied ∙ append-nil ran.out)) ran.written);
       }
 
   -- Lines of which the first were run stopped, and more come after them.
-  stops_of : (why : RunFault) (bytes : List ℕ) (lines more : List (List ℕ)) (b d : BookView D)
-      (r0 r1 w0 w1 : Option (List ℕ))
-      → IsOfLine why
+  stops_of : {why : RunFault} {lines : List (List ℕ)} {b d : BookView D}
+      {r0 r1 w0 w1 : Option (List ℕ)} (bytes : List ℕ) (more : List (List ℕ))
       → Consumes r0 r1 bytes
       → length bytes ≤ LONGEST_INPUT + 1
       → lines_until until b.session (lines_of bytes) ≡ lines ++ more
       → Cut state why lines b d [] w0 w1
       → (more ≡ [] → IsReadFor until lines bytes r1)
-      → RunStops state until why b d r0 r1 w0 w1
-  stops_of why bytes lines more b d r0 r1 w0 w1 f read few is cut reads =
+      → Halts state until why b d r0 r1 w0 w1
+  stops_of {why} {b} {d} {r1} {w0} {w1} bytes more read few is cut reads =
       let P : List (List ℕ) → Type 0 = λ l. IsReadFor until l bytes r1 in
       let left = cut.left ++ more in
       record {
-        bytes = bytes;
-        read = read;
-        ran = cut.ran;
-        left = left;
-        lines_are =
-            is ∙ ap (λ l. l ++ more) cut.lines_are ∙ append_assoc cut.ran cut.left more;
-        read_for = λ e.
-            let none = none_behind why cut.left more cut.stopped e in
-            subst P
-            (cut.lines_are
-            ∙ ap (λ l. cut.ran ++ l)
-            (sym (append-nil cut.left) ∙ ap (λ m. cut.left ++ m) (sym none)))
-            (reads none);
-        stopped = stopped_so why left (stopped_more why cut.left more cut.stopped);
-        reached = reached_in why bytes cut.ran f few;
-        session = cut.session;
-        tried = record {
-          middle = cut.tried.middle;
-          taken = cut.tried.taken;
-          tried =
-              tries_next state cut.tried.middle d why left
-              (tries_more state cut.tried.middle d why cut.left more cut.tried.tried);
+        lasts = cut.lasts;
+        stops = record {
+          bytes = bytes;
+          read = read;
+          ran = cut.ran;
+          left = left;
+          lines_are =
+              is ∙ ap (λ l. l ++ more) cut.lines_are ∙ append_assoc cut.ran cut.left more;
+          read_for = λ e.
+              let none = none_behind why cut.left more cut.stopped e in
+              subst P
+              (cut.lines_are
+              ∙ ap (λ l. cut.ran ++ l)
+              (sym (append-nil cut.left) ∙ ap (λ m. cut.left ++ m) (sym none)))
+              (reads none);
+          stopped = stopped_so why left (stopped_more why cut.left more cut.stopped);
+          reached = reached_in why bytes cut.ran cut.of_line few;
+          session = cut.session;
+          tried = record {
+            middle = cut.tried.middle;
+            taken = cut.tried.taken;
+            tried =
+                tries_next state cut.tried.middle d why left
+                (tries_more state cut.tried.middle d why cut.left more cut.tried.tried);
+          };
+          written = written_so why b.session cut.ran left d w0 w1 cut.written;
         };
-        written = written_so why b.session cut.ran left d w0 w1 cut.written;
       }
 
   -- A line of a part stopped.
-  pub stops_in_a_part : (why : RunFault) (n : ℕ) (bytes part tail : List ℕ)
-      (b c d : BookView D) (r0 r1 r2 w0 w1 w2 : Option (List ℕ))
-      → IsOfLine why
+  pub stops_in_a_part : {why : RunFault} {n : ℕ} {bytes part tail : List ℕ} {b c d : BookView D}
+      {r0 r2 w0 w1 w2 : Option (List ℕ)} (r1 : Option (List ℕ))
       → Consumes r0 r1 bytes
       → Consumes r1 r2 part
       → length (bytes ++ part) ≤ LONGEST_INPUT + 1
       → length part ≤ 4096
       → PartRan state until 1 n [] bytes b c tail [] [] w0 w1
       → PartCut state until why n (open_line [] bytes) part c d [] w1 w2
-      → RunStops state until why b d r0 r2 w0 w2
-  stops_in_a_part why n bytes part tail b c d r0 r1 r2 w0 w1 w2 f read more within few so_far
-      cut =
+      → Halts state until why b d r0 r2 w0 w2
+  stops_in_a_part {bytes} {part} {b} {c} {r0} {r2} r1 read more within few so_far cut =
       let s = b.session in
       let all = bytes ++ part in
       let front = bytes ++ cut.front in
@@ -346,13 +326,11 @@ module _ {D : Type 0} (state : D → DiskState) (until : Until) where
       let line = open_line (open_line [] bytes) cut.front in
       let up_to = lines_up_to bytes cut.front in
       let rest = lines_behind until s (before ++ here) line front cut.behind
-      (search_on until 1 n s c.session before here so_far.ran.session so_far.clean ∙ cut.none)
+      (search_on until c.session here so_far.ran.session so_far.clean ∙ cut.none)
       (up_to ∙ sym (append_assoc before here (line ∷ []))) in
-      let tried = cut_then state why before (here ++ line ∷ []) b c d [] [] w0 w1 w2 so_far.ran
-      cut.cut in
+      let tried = cut_then so_far.ran cut.cut in
       let is_first = around bytes part cut.front cut.behind cut.part_is in
-      stops_of why all (before ++ (here ++ line ∷ [])) rest.0 b d r0 r2 w0 w2 f
-      (consumes_then r0 r1 r2 bytes part read more) within
+      stops_of all rest.0 (consumes_then r0 r1 r2 bytes part read more) within
       (ap (λ l. lines_until until s (lines_of l)) is_first ∙ rest.1
       ∙ ap (λ l. l ++ rest.0) (append_assoc before here (line ∷ []))) tried
       (λ none. rest.2 (before ++ (here ++ line ∷ [])) all r2 none (record {
@@ -364,50 +342,46 @@ module _ {D : Type 0} (state : D → DiskState) (until : Until) where
       }))
 
   -- The lines of a part were run, and what was gathered for them is cut.
-  pub stops_behind_part : (m k : ℕ) (bytes part tail more g : List ℕ) (b c d : BookView D)
-      (r0 r1 r2 w0 w1 w2 w3 : Option (List ℕ))
+  pub stops_behind_part : {m k : ℕ} {bytes part tail more g : List ℕ} {b c d : BookView D}
+      {r0 r2 w0 w1 w2 w3 : Option (List ℕ)} (r1 : Option (List ℕ))
       → Consumes r0 r1 bytes
       → Consumes r1 r2 part
       → length (bytes ++ part) ≤ LONGEST_INPUT + 1
       → PartRan state until 1 m [] bytes b c tail [] [] w0 w1
       → PartRan state until m k (open_line [] bytes) part c d more [] g w1 w2
       → WritesPart w2 w3 g
-      → RunStops state until fault.Output b d r0 r2 w0 w3
-  stops_behind_part m k bytes part tail more g b c d r0 r1 r2 w0 w1 w2 w3 read next within so_far
-      here cut =
+      → Halts state until fault.Output b d r0 r2 w0 w3
+  stops_behind_part {bytes} {part} {d} {r0} {r2} r1 read next within so_far here cut =
       let all = bytes ++ part in
       let lines = whole_lines [] all in
       let last = open_line [] all in
-      let both = part_then state until 1 m k [] bytes part tail more [] [] g b c d w0 w1 w2 so_far
-      here in
-      stops_of fault.Output all lines (last ∷ []) b d r0 r2 w0 w3 tt
-      (consumes_then r0 r1 r2 bytes part read next) within
-      (last_lines until k b.session d.session all both.ran.session both.clean)
-      (cut_written state lines b d [] g w0 w2 w3 both.ran cut) (λ e. left_over [] last _ e)
+      let both = part_then so_far here in
+      stops_of all (last ∷ []) (consumes_then r0 r1 r2 bytes part read next) within
+      (last_lines until d.session all both.ran.session both.clean)
+      (cut_written both.ran cut) (λ e. left_over [] last _ e)
 
   -- The last line stopped.
-  pub stops_at_last : (why : RunFault) (m : ℕ) (b c d : BookView D) (tail : List ℕ)
-      (r0 r1 w0 w1 w2 : Option (List ℕ))
-      → IsOfLine why
+  pub stops_at_last : {why : RunFault} {m : ℕ} {b c d : BookView D} {tail g : List ℕ}
+      {r0 r1 w0 w1 w2 : Option (List ℕ)}
       → (reads : ReadsAll state until m b c tail r0 r1 w0 w1)
-      → Cut state why (open_line [] reads.bytes ∷ []) c d [] w1 w2
-      → RunStops state until why b d r0 r1 w0 w2
-  stops_at_last why m b c d tail r0 r1 w0 w1 w2 f reads cut =
+      → g ≡ []
+      → Cut state why (open_line [] reads.bytes ∷ []) c d g w1 w2
+      → Halts state until why b d r0 r1 w0 w2
+  stops_at_last {why} {c} {d} {r1} {w1} {w2} reads none cut =
       let bytes = reads.bytes in
       let line = open_line [] bytes in
       let ran = reads.part.ran in
-      stops_of why bytes (lines_of bytes) [] b d r0 r1 w0 w2 f reads.read
-      (omega (arith, reads.within))
-      (last_lines until m b.session c.session bytes ran.session reads.part.clean
+      let P : List ℕ → Type 0 = λ before. Cut state why (line ∷ []) c d before w1 w2 in
+      stops_of bytes [] reads.read (omega (arith, reads.within))
+      (last_lines until c.session bytes ran.session reads.part.clean
       ∙ sym (append-nil (lines_of bytes)))
-      (cut_then state why (whole_lines [] bytes) (line ∷ []) b c d [] [] w0 w1 w2 ran cut)
-      (λ _. at_end until (lines_of bytes) bytes r1 reads.ended)
+      (cut_then ran (subst P none cut)) (λ _. at_end until (lines_of bytes) bytes r1 reads.ended)
 
   -- ---- all lines were run
 
   -- The run ends after a line of a part.
-  ran_to_stray : (n : ℕ) (bytes part tail g : List ℕ) (b c d : BookView D) (stray : StrayLine)
-      (r0 r1 r2 w0 w1 w2 : Option (List ℕ))
+  ran_to_stray : {n : ℕ} {bytes part tail g : List ℕ} {b c d : BookView D} {stray : StrayLine}
+      {r0 r2 w0 w1 w2 : Option (List ℕ)} (r1 : Option (List ℕ))
       → Consumes r0 r1 bytes
       → Consumes r1 r2 part
       → length (bytes ++ part) ≤ LONGEST_INPUT + 1
@@ -415,7 +389,7 @@ module _ {D : Type 0} (state : D → DiskState) (until : Until) where
       → PartRan state until 1 n [] bytes b c tail [] [] w0 w1
       → PartStrays state until stray n (open_line [] bytes) part c d [] g w1 w2
       → RanLines state until (Some stray) b d g r0 r2 w0 w2
-  ran_to_stray n bytes part tail g b c d stray r0 r1 r2 w0 w1 w2 read more within few so_far
+  ran_to_stray {bytes} {part} {g} {b} {d} {stray} {r0} {r2} {w0} {w2} r1 read more within few so_far
       strays =
       let s = b.session in
       let all = bytes ++ part in
@@ -426,10 +400,8 @@ module _ {D : Type 0} (state : D → DiskState) (until : Until) where
       let P : List (List ℕ) → Type 0 = λ lines. Found until 1 s lines stray in
       let Q : List (List ℕ) → Type 0 = λ lines. Ran state lines b d [] g w0 w2 in
       let lines = lines_up_to bytes strays.front in
-      let both = ends_first until s all front strays.behind stray is_first
-      (subst P (sym lines)
-      (found_then until 1 n s c.session first next stray so_far.ran.session so_far.clean
-      strays.found)) in
+      let both = ends_first until all front strays.behind is_first (subst P (sym lines)
+      (found_then until so_far.ran.session so_far.clean strays.found)) in
       record {
         bytes = all;
         read = consumes_then r0 r1 r2 bytes part read more;
@@ -446,49 +418,51 @@ module _ {D : Type 0} (state : D → DiskState) (until : Until) where
         within = within;
         ran =
             subst Q (sym (both.1 ∙ lines))
-            (ran_then state first next b c d [] [] g w0 w1 w2 so_far.ran strays.ran);
+            (ran_then so_far.ran strays.ran);
       }
 
   -- The last line was run, whether the run ends after it or not.
-  pub ran_to_end : (m : ℕ) (b c d : BookView D) (tail g : List ℕ) (stray : Option StrayLine)
-      (why : Option Stray) (r0 r1 w0 w1 w2 : Option (List ℕ))
+  pub ran_to_end : {m : ℕ} {b c d : BookView D} {tail f g : List ℕ} {stray : Option StrayLine}
+      {r0 r1 w0 w1 w2 : Option (List ℕ)} (why : Option Stray)
       → (reads : ReadsAll state until m b c tail r0 r1 w0 w1)
-      → Ran state (open_line [] reads.bytes ∷ []) c d [] g w1 w2
+      → f ≡ []
+      → Ran state (open_line [] reads.bytes ∷ []) c d f g w1 w2
       → why ≡ ends_at until (stray_at c.session (open_line [] reads.bytes))
       → stray ≡ option_map (λ x. record { number = m; why = x }) why
       → RanLines state until stray b d g r0 r1 w0 w2
-  ran_to_end m b c d tail g stray why r0 r1 w0 w1 w2 reads last is e =
+  ran_to_end {m} {b} {c} {d} {g} {stray} {r1} {w0} {w1} {w2} why reads none last is e =
       let bytes = reads.bytes in
       let first = whole_lines [] bytes in
       let line = open_line [] bytes in
       let ran = reads.part.ran in
       let clean = reads.part.clean in
+      let P : List ℕ → Type 0 = λ before. Ran state (line ∷ []) c d before g w1 w2 in
       let Q : List (List ℕ) → Type 0 = λ lines. Ran state lines b d [] g w0 w2 in
       record {
         bytes = bytes;
         read = reads.read;
         stray_is =
             last_stray until m c.session line why is stray e
-            ∙ sym (search_on until 1 m b.session c.session first (line ∷ []) ran.session clean);
+            ∙ sym (search_on until c.session (line ∷ []) ran.session clean);
         read_for = at_end until _ bytes r1 reads.ended;
-        ended = λ none. (reads.ended, reads.within);
+        ended = λ _. (reads.ended, reads.within);
         within = omega (arith, reads.within);
         ran =
-            subst Q (sym (last_lines until m b.session c.session bytes ran.session clean))
-            (ran_then state first (line ∷ []) b c d [] [] g w0 w1 w2 ran last);
+            subst Q (sym (last_lines until c.session bytes ran.session clean))
+            (ran_then ran (subst P none last));
       }
 
   -- ---- the end
 
   -- The last flush stopped, or the writer failed after it.
-  pub stops_closing : (why : RunFault) (b d e : BookView D) (g : List ℕ)
-      (stray : Option StrayLine) (r0 r1 w0 w2 w3 : Option (List ℕ))
+  pub stops_closing : {why : RunFault} {b d e : BookView D} {g : List ℕ} {stray : Option StrayLine}
+      {r0 r1 w0 w2 w3 : Option (List ℕ)}
       → RanLines state until stray b d g r0 r1 w0 w2
       → e.session ≡ d.session
       → EndStops why e (closing d.session) g w2 w3
       → Tries state d why (step.Flush ∷ []) e
       → RunStops state until why b e r0 r1 w0 w3
-  stops_closing why b d e g stray r0 r1 w0 w2 w3 ran same end flushed =
+  stops_closing {why} {b} {d} {e} {g} {r1} {w2} {w3} ran same end flushed =
       let lines = lines_until until b.session (lines_of ran.bytes) in
       let P : List (List ℕ) → Type 0 = λ l. IsReadFor until l ran.bytes r1 in
       record {
@@ -502,19 +476,17 @@ module _ {D : Type 0} (state : D → DiskState) (until : Until) where
         reached = reached_end why e (closing d.session) g w2 w3 ran.bytes lines end ran.within;
         session = same ∙ ran.ran.session;
         tried = record { middle = d; taken = ran.ran.taken; tried = flushed };
-        written = end_wrote state why b d e lines g w0 w2 w3 ran.ran end;
+        written = end_wrote why e w3 ran.ran end;
       }
 
   -- The closing line was written.
-  pub run_ends : (stray : Option StrayLine) (b d e : BookView D) (g : List ℕ)
-      (r0 r1 w0 w2 w3 : Option (List ℕ))
+  pub run_ends : {stray : Option StrayLine} {b d e : BookView D} {g : List ℕ}
+      {r0 r1 w0 w2 w3 : Option (List ℕ)}
       → RanLines state until stray b d g r0 r1 w0 w2
       → e.session ≡ d.session
-      → Told (closing d.session) g [] w2 w3
-      → TakesAll state d (step.Flush ∷ []) e
-      → e.durable ≡ e.session.state.count
+      → Closes state d e g w2 w3
       → RunEnds state until stray b e r0 r1 w0 w3
-  run_ends stray b d e g r0 r1 w0 w2 w3 ran same told flushed saved =
+  run_ends {b} ran same closes =
       let lines = lines_until until b.session (lines_of ran.bytes) in
       record {
         bytes = ran.bytes;
@@ -526,17 +498,17 @@ module _ {D : Type 0} (state : D → DiskState) (until : Until) where
         ended = ran.ended;
         within = ran.within;
         session = same ∙ ran.ran.session;
-        taken = takes_join state b d e (steps_of lines) (step.Flush ∷ []) ran.ran.taken flushed;
-        written = end_told state b d lines g w0 w2 w3 ran.ran told;
-        saved = saved;
+        taken = takes_join state ran.ran.taken closes.taken;
+        written = end_told ran.ran closes.told;
+        saved = closes.saved;
       }
 
 -- ---- what the lines that an LF ends came to
 
 -- A line of it strays.
-pub reads_stray : {D : Type 0} (state : D → DiskState) (until : Until)
-    (found : Option StrayLine) (n m : ℕ) (bytes part tail more g : List ℕ) (b c d : BookView D)
-    (r0 r1 r2 w0 w1 w2 : Option (List ℕ))
+pub reads_stray : {D : Type 0} {state : D → DiskState} {until : Until} {n : ℕ} {bytes tail : List ℕ}
+    {b c : BookView D} {w0 w1 : Option (List ℕ)} (found : Option StrayLine) (m : ℕ)
+    (part more g : List ℕ) (d : BookView D) (r0 r1 r2 w2 : Option (List ℕ))
     → is_some found ≡ true
     → Consumes r0 r1 bytes
     → Consumes r1 r2 part
@@ -545,43 +517,35 @@ pub reads_stray : {D : Type 0} (state : D → DiskState) (until : Until)
     → PartRan state until 1 n [] bytes b c tail [] [] w0 w1
     → PartRuns state until found n m (open_line [] bytes) part c d more [] g w1 w2
     → Reads state until found m b d more g r0 r2 w0 w2
-reads_stray state until None n m bytes part tail more g b c d r0 r1 r2 w0 w1 w2 some read next
-    within few so_far runs =
+reads_stray None m part more g d r0 r1 r2 w2 some read next within few so_far runs =
     absurd (grind (arith, some))
-reads_stray state until (Some stray) n m bytes part tail more g b c d r0 r1 r2 w0 w1 w2 some read
-    next within few so_far runs =
-    ran_to_stray state until n bytes part tail g b c d stray r0 r1 r2 w0 w1 w2 read next within few
-    so_far runs
+reads_stray (Some stray) m part more g d r0 r1 r2 w2 some read next within few so_far runs =
+    ran_to_stray r1 read next within few so_far runs
 
 -- No line of it does.
-pub is_clean : {D : Type 0} (state : D → DiskState) (until : Until)
-    (found : Option StrayLine) (n m : ℕ) (begun part : List ℕ) (b c : BookView D)
-    (tail before gathered : List ℕ) (w0 w1 : Option (List ℕ))
+pub is_clean : {D : Type 0} {state : D → DiskState} {until : Until} {n m : ℕ} {begun part : List ℕ}
+    {b c : BookView D} {tail before gathered : List ℕ} {w0 w1 : Option (List ℕ)}
+    (found : Option StrayLine)
     → is_some found ≡ false
     → PartRuns state until found n m begun part b c tail before gathered w0 w1
     → PartRan state until n m begun part b c tail before gathered w0 w1
-is_clean state until None n m begun part b c tail before gathered w0 w1 none runs = runs
-is_clean state until (Some stray) n m begun part b c tail before gathered w0 w1 none runs =
-    absurd (grind (arith, none))
+is_clean None none runs = runs
+is_clean (Some stray) none runs = absurd (grind (arith, none))
 
 -- One strays, and that ends the run.
-pub ran_with_stray : {D : Type 0} (state : D → DiskState) (until : Until)
-    (found : Option StrayLine) (m : ℕ) (b c : BookView D) (tail g : List ℕ)
-    (r0 r1 w0 w1 : Option (List ℕ))
+pub ran_with_stray : {D : Type 0} {state : D → DiskState} {until : Until} {b c : BookView D}
+    {g : List ℕ} {r0 r1 w0 w1 : Option (List ℕ)} (found : Option StrayLine) (m : ℕ) (tail : List ℕ)
     → is_some found ≡ true
     → Reads state until found m b c tail g r0 r1 w0 w1
     → RanLines state until found b c g r0 r1 w0 w1
-ran_with_stray state until None m b c tail g r0 r1 w0 w1 some reads =
-    absurd (grind (arith, some))
-ran_with_stray state until (Some stray) m b c tail g r0 r1 w0 w1 some reads = reads
+ran_with_stray None m tail some reads = absurd (grind (arith, some))
+ran_with_stray (Some stray) m tail some reads = reads
 
 -- None does, and the last line is left.
-pub reads_clean : {D : Type 0} (state : D → DiskState) (until : Until)
-    (found : Option StrayLine) (m : ℕ) (b c : BookView D) (tail g : List ℕ)
-    (r0 r1 w0 w1 : Option (List ℕ))
+pub reads_clean : {D : Type 0} {state : D → DiskState} {until : Until} {m : ℕ} {b c : BookView D}
+    {tail : List ℕ} {r0 r1 w0 w1 : Option (List ℕ)} (found : Option StrayLine) (g : List ℕ)
     → is_some found ≡ false
     → Reads state until found m b c tail g r0 r1 w0 w1
     → ReadsAll state until m b c tail r0 r1 w0 w1 × (g ≡ [])
-reads_clean state until None m b c tail g r0 r1 w0 w1 none reads = reads
-reads_clean state until (Some stray) m b c tail g r0 r1 w0 w1 none reads =
-    absurd (grind (arith, none))
+reads_clean None g none reads = reads
+reads_clean (Some stray) g none reads = absurd (grind (arith, none))

@@ -208,7 +208,7 @@ pub record Fails {D : Type 0} (state : D → DiskState) (a : Asked) (why : Troub
 -- ---- some lines
 
 -- These lines were run, and `before` was gathered when they came. Of it and of their replies the
--- first bytes were written, and the rest is gathered.
+-- first bytes were written, and the rest is gathered. What is done stays so.
 pub record Ran {D : Type 0} (state : D → DiskState)
     (lines : List (List ℕ)) (b c : BookView D) (before gathered : List ℕ) (w0 w1 : Option (List ℕ))
     : Type 0 where
@@ -217,6 +217,7 @@ pub record Ran {D : Type 0} (state : D → DiskState)
   pub replied : before ++ replies b.session lines ≡ out ++ gathered
   pub session : c.session ≡ after_lines b.session lines
   pub taken : TakesAll state b (steps_of lines) c
+  pub lasts : Lasts b.session c.session
 
 -- What was written of a text, by what stopped: all of it, after it a prefix of the line of a
 -- trouble, or, if the writer failed, a prefix of the text and not all.
@@ -226,7 +227,7 @@ Wrote (fault.Store why) text old new = WritesTrouble why text old new
 Wrote _ text old new = Appends old new text
 
 -- The first of these lines were run, and what was gathered before and their replies were written,
--- by what stopped the next.
+-- by what stopped the next, which is no fault of reading. What is done stays so.
 pub record Cut {D : Type 0} (state : D → DiskState)
     (why : RunFault) (lines : List (List ℕ)) (b c : BookView D) (before : List ℕ)
     (w0 w1 : Option (List ℕ))
@@ -234,10 +235,12 @@ pub record Cut {D : Type 0} (state : D → DiskState)
   pub ran : List (List ℕ)
   pub left : List (List ℕ)
   pub lines_are : lines ≡ ran ++ left
+  pub of_line : IsOfLine why
   pub stopped : IsStopped why left
   pub written : Wrote why (before ++ replies b.session ran) w0 w1
   pub session : c.session ≡ after_lines b.session ran
   pub tried : TriesLine state b why ran (first_steps left) c
+  pub lasts : Lasts b.session c.session
 
 -- A text was appended to what was gathered before: the first bytes were written, and the rest is
 -- gathered.
@@ -260,6 +263,15 @@ Troubled fault.Output trouble before w0 w1 = WritesPart w0 w1 before
 Troubled (fault.Store why) trouble before w0 w1 =
     (why ≡ trouble) × WritesTrouble trouble before w0 w1
 Troubled _ trouble before w0 w1 = ⊥
+
+-- The end came: the closing line was written after what was gathered before, by a flush that was
+-- taken, so that all events are durable.
+pub record Closes {D : Type 0} (state : D → DiskState) (b c : BookView D) (before : List ℕ)
+    (w0 w1 : Option (List ℕ))
+    : Type 0 where
+  pub told : Told (closing b.session) before [] w0 w1
+  pub taken : TakesAll state b (step.Flush ∷ []) c
+  pub saved : IsSaved c
 
 -- The end stopped, and left this book: what was gathered before was written, and after it a prefix
 -- of the line of a trouble; if the writer failed, a part of what was gathered, or, once all
@@ -356,6 +368,13 @@ pub record RanLines {D : Type 0} (state : D → DiskState) (until : Until)
   pub ended : stray ≡ None → IsAtEnd r1 × (length bytes ≤ LONGEST_INPUT)
   pub within : length bytes ≤ LONGEST_INPUT + 1
   pub ran : Ran state (lines_until until b.session (lines_of bytes)) b c [] gathered w0 w1
+
+-- A run stopped, and what is done stays so.
+pub record Halts {D : Type 0} (state : D → DiskState) (until : Until)
+    (why : RunFault) (b c : BookView D) (r0 r1 w0 w1 : Option (List ℕ))
+    : Type 0 where
+  pub stops : RunStops state until why b c r0 r1 w0 w1
+  pub lasts : Lasts b.session c.session
 
 -- They were up to the line that strays; else all but the last of the input were.
 abbrev pub Reads :

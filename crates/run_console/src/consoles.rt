@@ -13,9 +13,9 @@ ghost use Rattle.console_lines.specs.Replies.{reply_lines};
 ghost use Rattle.console_lines.specs.Script.{closing, scope_reply};
 ghost use Rattle.console_lines.specs.declared.gathers.TheConstants.{LONGEST_REPLY};
 ghost use Rattle.console_lines.specs.Strict.{stray_among, stray_at};
-ghost use Rattle.run_console.specs.Progress.{Cut, EndStops, IsOfLine, Lasts};
-ghost use Rattle.run_console.specs.Progress.{LineRuns, LineStops, Ran, Told};
-ghost use Rattle.run_console.specs.Rows.{TakesAll, Tries};
+ghost use Rattle.run_console.specs.Progress.{Closes, Cut, EndStops, Lasts};
+ghost use Rattle.run_console.specs.Progress.{LineRuns, LineStops, Ran};
+ghost use Rattle.run_console.specs.Rows.{Tries};
 ghost use Rattle.run_console.specs.SessionLines.{IsSaving, is_tally};
 
 use crate::answers::{reply_to, step_reply};
@@ -62,24 +62,21 @@ pub fn line<A: Allocator + Copy, W: Write, D: RunDisk, B: Allocator>(
     write_gathered(&mut gathered, output)
 }
 
-/// Flushes, and writes what was gathered and the closing line. Each clause is a field of `RunEnds`
-/// or of `RunStops`, which its callers join, so there are more than six.
+/// Flushes, and writes what was gathered and the closing line.
 pub fn close<W: Write, D: RunDisk, B: Allocator>(
     gathered: &mut Gathered,
     output: &mut W,
     book: &mut Book<D, B>,
 ) -> Result<(), RunFault>
     requires sound { book.old.journal.broken ≡ false }
-    ensures whole { OnOk result (Told (closing book.old.session) gathered.old.items []
+    ensures closes { OnOk result (Closes D.state book.old book.new gathered.old.items
         (W.contents output.old) (W.contents output.new)) }
     ensures stops { IfErr result (λ fault. EndStops fault book.new
         (closing book.old.session) gathered.old.items
         (W.contents output.old) (W.contents output.new)) }
-    ensures session { book.new.session ≡ book.old.session }
-    ensures taken { OnOk result (TakesAll D.state book.old (step.Flush ∷ []) book.new) }
     ensures tried { IfErr result (λ fault. Tries D.state book.old fault
         (step.Flush ∷ []) book.new) }
-    ensures saved { OnOk result (book.new.durable ≡ book.new.session.state.count) }
+    ensures session { book.new.session ≡ book.old.session }
     ensures lasts { Lasts book.old.session book.new.session }
 {
     make_room(gathered, output)?;
@@ -92,8 +89,7 @@ pub fn close<W: Write, D: RunDisk, B: Allocator>(
 
 /// Runs one line over the book, and gathers its reply; an empty line has none. It returns why the
 /// line strays, if it does. The clauses speak of each line that asks for the same, since a line
-/// that is too long is handed in without its end. There are more than six, since one line and a
-/// run take different ones.
+/// that is too long is handed in without its end.
 pub fn gather_line<A: Allocator + Copy, W: Write, D: RunDisk, B: Allocator>(
     alloc: A,
     bytes: &[u8],
@@ -111,11 +107,9 @@ pub fn gather_line<A: Allocator + Copy, W: Write, D: RunDisk, B: Allocator>(
         gathered.old.items (W.contents output.old) (W.contents output.new)) }
     ensures strays { (line : List ℕ) → asked_of line ≡ asked_of bytes.now
         → IfOk result (λ why. why ≡ stray_at book.old.session line) }
-    ensures fault { IfErr result IsOfLine }
     ensures sound { OnOk result (book.new.journal.broken ≡ false) }
     ensures saved { IsSaving (asked_of bytes.now)
         → OnOk result (book.new.durable ≡ book.new.session.state.count) }
-    ensures lasts { Lasts book.old.session book.new.session }
 {
     let asked = read_line(bytes);
     if is_tally(&asked) {

@@ -1,6 +1,6 @@
 //! A night of worker threads over a store, and what is printed of it.
 
-ghost use Rattle.std.specs.Prelude.{◌≡◌, ◌+◌, ◌++◌, ◌<◌, ◌≤◌, codes, length, vec_len, IfErr, IfOk};
+ghost use Rattle.std.specs.Prelude.{◌≡◌, ◌+◌, ◌++◌, ◌<◌, ◌≤◌, codes, length, vec_len, MatchResult};
 ghost use Rattle.std.specs.Fmt.{decimal};
 ghost use Rattle.arrayvec.specs.ArrayVec.{array_vec_len};
 ghost use Rattle.run_model.specs.declared.faults.Fault.TheVariants.{Memory};
@@ -118,11 +118,10 @@ fn work<
         × (vec_len jobs < F.parts) }
     requires begun { book.session ≡ begun_at book.session.start }
     requires carries { Carries O.opening D.state book }
-    ensures worked { IfOk result.0 (λ night. IsWorked D.state O.opening
+    ensures worked { MatchResult result.0 (λ night. IsWorked D.state O.opening
         (IsGates (G.lets gate.now) (G.told gate.now)) (vec_len jobs) night.audited night.starts
-        night.finishes night.flushed result.1) }
+        night.finishes night.flushed result.1) (λ fault. fault ≡ Memory) }
     ensures left { WasLeft D.state O.opening result.1 }
-    ensures fault { IfErr result.0 (λ fault. fault ≡ Memory) }
 {
     let (desk, mut seat) = Desk::<D, S, F, O>::new(book, starts, finishes);
     let shared = Mutex::new(desk);

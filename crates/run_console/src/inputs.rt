@@ -9,8 +9,7 @@ ghost use Rattle.std.specs.Prelude.{◌≡◌, ◌<◌, ◌+◌, ◌^◌, [], �
 ghost use Rattle.std.specs.Prelude.{IfErr, IfOk, OnOk};
 ghost use Rattle.console_lines.specs.Progress.{kept};
 ghost use Rattle.console_lines.specs.Strict.{stray_at};
-ghost use Rattle.run_console.specs.Progress.{Cut, IsOfLine, Lasts, PartCut, PartRuns, Ran, Reads};
-ghost use Rattle.run_console.specs.Progress.{RunStops};
+ghost use Rattle.run_console.specs.Progress.{Cut, Halts, PartCut, PartRuns, Ran, Reads};
 
 use crate::consoles::gather_line;
 use crate::untils::Until;
@@ -45,19 +44,16 @@ pub fn run_whole_lines<A: Allocator + Copy, R: Read, W: Write, D: RunDisk, B: Al
     number: &mut u64,
     gathered: &mut Gathered,
 ) -> Result<Option<StrayLine>, RunFault>
-    requires tail { tail.old.items ≡ [] }
-    requires number { number.old ≡ 1 }
-    requires gathered { gathered.old.items ≡ [] }
+    requires begins { (tail.old.items ≡ []) × (number.old ≡ 1) × (gathered.old.items ≡ []) }
     requires sound { book.old.journal.broken ≡ false }
     ensures read { IfOk result (λ stray. Reads D.state until stray number.new
         book.old book.new tail.new.items gathered.new.items
         (R.remaining input.old) (R.remaining input.new)
         (W.contents output.old) (W.contents output.new)) }
-    ensures stops { IfErr result (λ fault. RunStops D.state until fault book.old book.new
+    ensures stops { IfErr result (λ fault. Halts D.state until fault book.old book.new
         (R.remaining input.old) (R.remaining input.new)
         (W.contents output.old) (W.contents output.new)) }
     ensures sound { OnOk result (book.new.journal.broken ≡ false) }
-    ensures lasts { Lasts book.old.session book.new.session }
 {
     let mut room = [0u8; PART];
     let mut total = 0usize;
@@ -102,9 +98,7 @@ fn run_part<A: Allocator + Copy, W: Write, D: RunDisk, B: Allocator>(
         → IfErr result (λ fault. PartCut D.state until fault number.old begun part.now
         book.old book.new gathered.old.items
         (W.contents output.old) (W.contents output.new)) }
-    ensures fault { IfErr result IsOfLine }
     ensures sound { OnOk result (book.new.journal.broken ≡ false) }
-    ensures lasts { Lasts book.old.session book.new.session }
 {
     let mut rest = part;
     while let Some(end) = memchr(b'\n', rest) {
@@ -141,9 +135,7 @@ fn end_line<A: Allocator + Copy, W: Write, D: RunDisk, B: Allocator>(
         → IfErr result (λ fault. Cut D.state fault ((begun ++ end.now) ∷ [])
         book.old book.new gathered.old.items
         (W.contents output.old) (W.contents output.new)) }
-    ensures fault { IfErr result IsOfLine }
     ensures sound { OnOk result (book.new.journal.broken ≡ false) }
-    ensures lasts { Lasts book.old.session book.new.session }
 {
     if tail.is_empty() {
         return gather_line(alloc, end, gathered, output, book);

@@ -5,7 +5,8 @@ ghost use Rattle.book_model.specs.Books.{CarriesOn};
 ghost use Rattle.run_model.specs.declared.faults.Trouble.TheVariants.{Refused};
 ghost use Rattle.run_model.specs.declared.refusals.Refusal.TheVariants.{Broken};
 ghost use Rattle.run_console.specs.declared.untils.Until.TheVariants.{End, FirstStray};
-ghost use Rattle.run_console.specs.Progress.{BeginsScript, Lasts, RanLines, RunEnds, RunStops};
+ghost use Rattle.run_console.specs.Progress.{BeginsScript, Halts, Lasts, RanLines, RunEnds};
+ghost use Rattle.run_console.specs.Progress.{RunStops};
 
 use crate::consoles::{close, gather_line};
 use crate::inputs::{OpenLine, run_whole_lines};
@@ -163,11 +164,10 @@ fn run_lines<A: Allocator + Copy, R: Read, W: Write, D: RunDisk, B: Allocator>(
     ensures ran { IfOk result (λ stray. RanLines D.state until stray
         book.old book.new gathered.new.items (R.remaining input.old) (R.remaining input.new)
         (W.contents output.old) (W.contents output.new)) }
-    ensures stops { IfErr result (λ fault. RunStops D.state until fault book.old book.new
+    ensures stops { IfErr result (λ fault. Halts D.state until fault book.old book.new
         (R.remaining input.old) (R.remaining input.new)
         (W.contents output.old) (W.contents output.new)) }
     ensures sound { OnOk result (book.new.journal.broken ≡ false) }
-    ensures lasts { Lasts book.old.session book.new.session }
 {
     let mut tail = OpenLine::new();
     let mut number = 1;

@@ -14,7 +14,7 @@ use Rattle.console_lines.specs.Tallies.{tallies_of}
 use Rattle.console_lines.specs.declared.replies.Reply.TheVariants as said
 use Rattle.run_console.specs.Progress.{Told, Untold}
 use Rattle.run_console.specs.SessionLines.{IsSaving, is_tally}
-use Rattle.run_console.proofs.Ends.{cut_stopped, of_line, of_tally, told_more}
+use Rattle.run_console.proofs.Ends.{cut_stopped, told_more}
 use Rattle.run_console.proofs.LineSteps.{line_obeyed, line_replies, line_strays, line_tally}
 use Rattle.run_console.proofs.LineSteps.{saves_no_tally, tally_asked, tally_leaves, tally_stays}
 use Rattle.run_console.proofs.Looks.{looks}
@@ -38,20 +38,16 @@ tallied s p line a same read tally =
 
 pub returns-then-is_tally-clause-ran : goal.returns-then-is_tally-clause-ran
 returns-then-is_tally-clause-ran g c = λ line e.
-    let b = c.args.book.now in
-    let w0 = g.W.Write.contents c.args.output.now in
-    let w1 = g.W.Write.contents c.gather_tally.new.output in
-    let f = c.args.gathered.now.items in
-    let h = c.gather_tally.new.gathered.items in
+    let s = c.args.book.now.session in
+    let a = c.read_line-asked.result in
     let read = c.read_line-asked.ensures ∙ sym e in
-    let P : List ℕ → Type 0 = λ t. Told t f h w0 w1 in
-    ran_line g.D.RunDisk.state line b b f h w0 w1
-    (tally_leaves b.session line c.read_line-asked.result read
-    (sym c.is_tally.ensures ∙ c.if-is_tally.true))
-    (takes_tally g.D.RunDisk.state b line (tally_asked line c.read_line-asked.result read
-    (sym c.is_tally.ensures ∙ c.if-is_tally.true)))
-    (subst P (tallied b.session c.state.result.now line c.read_line-asked.result
-    c.state.ensures.state read (sym c.is_tally.ensures ∙ c.if-is_tally.true))
+    let tally = sym c.is_tally.ensures ∙ c.if-is_tally.true in
+    let P : List ℕ → Type 0 = λ t.
+    Told t c.args.gathered.now.items c.gather_tally.new.gathered.items
+    (g.W.Write.contents c.args.output.now) (g.W.Write.contents c.gather_tally.new.output) in
+    ran_line (tally_leaves s line a read tally)
+    (takes_tally g.D.RunDisk.state line (tally_asked line a read tally)) (stays_same s.state)
+    (subst P (tallied s c.state.result.now line a c.state.ensures.state read tally)
     c.in_ok-gather_tally.ensures.told)
 
 pub returns-then-is_tally-clause-strays : goal.returns-then-is_tally-clause-strays
@@ -62,41 +58,23 @@ returns-then-is_tally-clause-strays g c = λ line e.
 pub returns-in_err-gather_tally-clause-cut : goal.returns-in_err-gather_tally-clause-cut
 returns-in_err-gather_tally-clause-cut g c = λ line e.
     let p = err_from_is_err_and c.from_residual.result c.from_residual.ensures.1 in
-    let b = c.args.book.now in
-    let w0 = g.W.Write.contents c.args.output.now in
-    let w1 = g.W.Write.contents c.gather_tally.new.output in
-    let f = c.args.gathered.now.items in
+    let s = c.args.book.now.session in
+    let a = c.read_line-asked.result in
     let why = c.in_err-gather_tally.field-0.0 in
     let read = c.read_line-asked.ensures ∙ sym e in
+    let tally = sym c.is_tally.ensures ∙ c.if-is_tally.true in
+    let P : List ℕ → Type 0 = λ t.
+    Untold why t c.args.gathered.now.items (g.W.Write.contents c.args.output.now)
+    (g.W.Write.contents c.gather_tally.new.output) in
     rw (p.1, p.2) (
-    cut_untold g.D.RunDisk.state why line b f w0 w1
-    (tally_asked line c.read_line-asked.result read (sym c.is_tally.ensures ∙ c.if-is_tally.true))
-    (tally_leaves b.session line c.read_line-asked.result read
-    (sym c.is_tally.ensures ∙ c.if-is_tally.true))
-    (subst (λ t. Untold why t f w0 w1) (tallied b.session c.state.result.now line
-    c.read_line-asked.result
-    c.state.ensures.state read (sym c.is_tally.ensures ∙ c.if-is_tally.true))
+    cut_untold why (tally_asked line a read tally) (tally_leaves s line a read tally)
+    (subst P (tallied s c.state.result.now line a c.state.ensures.state read tally)
     c.in_err-gather_tally.ensures.untold))
-
-pub returns-in_err-gather_tally-clause-fault : goal.returns-in_err-gather_tally-clause-fault
-returns-in_err-gather_tally-clause-fault g c =
-    let p = err_from_is_err_and c.from_residual.result c.from_residual.ensures.1 in
-    rw (p.1, p.2) (
-    of_tally c.in_err-gather_tally.field-0.0
-    (reply_lines (map said.Tally (tallies_of c.state.result.now.work.tasks)))
-    c.args.gathered.now.items (g.W.Write.contents c.args.output.now)
-    (g.W.Write.contents c.gather_tally.new.output) c.in_err-gather_tally.ensures.untold)
-
-pub returns-in_err-gather_tally-clause-lasts : goal.returns-in_err-gather_tally-clause-lasts
-returns-in_err-gather_tally-clause-lasts g c = stays_same c.args.book.now.session.state
 
 pub returns-then-is_tally-clause-saved : goal.returns-then-is_tally-clause-saved
 returns-then-is_tally-clause-saved g c = λ saving.
     saves_no_tally c.args.bytes.now c.read_line-asked.result _ c.read_line-asked.ensures
     (sym c.is_tally.ensures ∙ c.if-is_tally.true) saving
-
-pub returns-then-is_tally-clause-lasts : goal.returns-then-is_tally-clause-lasts
-returns-then-is_tally-clause-lasts g c = stays_same c.args.book.now.session.state
 
 -- ---- no room
 
@@ -104,19 +82,12 @@ pub returns-in_err-make_room-clause-cut : goal.returns-in_err-make_room-clause-c
 returns-in_err-make_room-clause-cut g c = λ line e.
     let p = err_from_is_err_and c.from_residual-in_err-make_room.result
     c.from_residual-in_err-make_room.ensures.1 in
-    let b = c.args.book.now in
     rw (p.1, p.2, c.in_err-make_room.ensures.fault) (
-    cut_before g.D.RunDisk.state line b b c.args.gathered.now.items
-    (g.W.Write.contents c.args.output.now)
-    (g.W.Write.contents c.make_room.new.output) refl
-    (record {
-      middle = b;
-      taken = takes_none g.D.RunDisk.state b;
+    cut_before refl (record {
+      middle = c.args.book.now;
+      taken = takes_none g.D.RunDisk.state;
       tried = inl refl;
     }) c.in_err-make_room.ensures.cut)
-
-pub returns-in_err-make_room-clause-lasts : goal.returns-in_err-make_room-clause-lasts
-returns-in_err-make_room-clause-lasts g c = stays_same c.args.book.now.session.state
 
 -- ---- a look
 
@@ -126,22 +97,19 @@ gather_look-requires g c = omega (arith, c.in_ok-make_room.ensures.room)
 pub returns-in-Scope-clause-ran : goal.returns-in-Scope-clause-ran
 returns-in-Scope-clause-ran g c = λ line e.
     let b = c.args.book.now in
-    let f = c.args.gathered.now.items in
     let m = c.make_room.new.gathered.items in
-    let h = c.gather_look.new.gathered.items in
-    let w0 = g.W.Write.contents c.args.output.now in
-    let w1 = g.W.Write.contents c.make_room.new.output in
     let a = asked.Scope c.in-Scope.name in
     let p = c.state-in-Scope.result.now in
     let said = scope_reply p c.in-Scope.name ∷ [] in
     let read : a ≡ asked_of line = sym c.in-Scope.is ∙ c.read_line-asked.ensures ∙ sym e in
     let does = looks g.D.RunDisk.state b p c.in-Scope.name c.requires.sound
     c.state-in-Scope.ensures.state in
-    ran_line g.D.RunDisk.state line b b f h w0 w1
-    (line_obeyed b.session b.session line a read refl)
-    (subst (λ (q : Asked). TakesAll g.D.RunDisk.state b (steps_asked q) b) read
-    does.taken)
-    (told_more (reply b.session line) f m h w0 w1 c.in_ok-make_room.ensures.told
+    ran_line (line_obeyed b.session b.session line a read refl)
+    (subst (λ (q : Asked). TakesAll g.D.RunDisk.state b (steps_asked q) b) read does.taken)
+    does.lasts
+    (told_more (reply b.session line) c.args.gathered.now.items m
+    c.gather_look.new.gathered.items (g.W.Write.contents c.args.output.now)
+    (g.W.Write.contents c.make_room.new.output) c.in_ok-make_room.ensures.told
     (c.gather_look.ensures.told
     ∙ ap (λ t. m ++ t) (line_replies b.session line a said read does.replied)))
 
@@ -160,32 +128,16 @@ pub returns-in-Scope-clause-saved : goal.returns-in-Scope-clause-saved
 returns-in-Scope-clause-saved g c = λ saving.
     absurd (subst IsSaving (sym c.read_line-asked.ensures ∙ c.in-Scope.is) saving)
 
-pub returns-in-Scope-clause-lasts : goal.returns-in-Scope-clause-lasts
-returns-in-Scope-clause-lasts g c = stays_same c.args.book.now.session.state
-
 -- ---- a trouble
 
 pub returns-in-Err-clause-cut : goal.returns-in-Err-clause-cut
 returns-in-Err-clause-cut g c = λ line e.
     let read = c.read_line-asked.ensures ∙ sym e in
-    cut_stopped g.D.RunDisk.state c.stop.result c.in-Err.trouble line c.args.book.now
-    c.reply_to.new.book c.args.gathered.now.items c.make_room.new.gathered.items
-    (g.W.Write.contents c.args.output.now) (g.W.Write.contents c.make_room.new.output)
-    (g.W.Write.contents c.stop.new.output)
-    (subst IsSaving read c.in-Err.ensures.fails.saving) c.in-Err.ensures.fails.kept
+    let fails = c.in-Err.ensures.fails in
+    cut_stopped c.in-Err.trouble (subst IsSaving read fails.saving) fails.kept
     (subst (λ (a : Asked). StepsOn g.D.RunDisk.state c.args.book.now (steps_asked a)
-    (reply_of_save (Err c.in-Err.trouble) ∷ []) c.reply_to.new.book) read
-    c.in-Err.ensures.fails.tried)
+    (reply_of_save (Err c.in-Err.trouble) ∷ []) c.reply_to.new.book) read fails.tried)
     c.in_ok-make_room.ensures.told c.stop.ensures
-
-pub returns-in-Err-clause-fault : goal.returns-in-Err-clause-fault
-returns-in-Err-clause-fault g c =
-    of_line c.stop.result c.in-Err.trouble c.make_room.new.gathered.items
-    (g.W.Write.contents c.make_room.new.output) (g.W.Write.contents c.stop.new.output)
-    c.stop.ensures
-
-pub returns-in-Err-clause-lasts : goal.returns-in-Err-clause-lasts
-returns-in-Err-clause-lasts g c = c.in-Err.ensures.fails.lasts
 
 -- ---- a reply
 
@@ -196,31 +148,25 @@ pub returns-in-Ok-clause-ran : goal.returns-in-Ok-clause-ran
 returns-in-Ok-clause-ran g c = λ line e.
     let b = c.args.book.now in
     let d = c.reply_to.new.book in
-    let f = c.args.gathered.now.items in
     let m = c.make_room.new.gathered.items in
-    let h = c.gather_reply.new.gathered.items in
-    let w0 = g.W.Write.contents c.args.output.now in
-    let w1 = g.W.Write.contents c.make_room.new.output in
     let a = c.read_line-asked.result in
+    let does = c.in-Ok.ensures.does in
     let read = c.read_line-asked.ensures ∙ sym e in
-    ran_line g.D.RunDisk.state line b d f h w0 w1 (line_obeyed b.session d.session line a read
-    c.in-Ok.ensures.session)
-    (subst (λ (q : Asked). TakesAll g.D.RunDisk.state b (steps_asked q) d) read
-    c.in-Ok.ensures.does.taken)
-    (told_more (reply b.session line) f m h w0 w1 c.in_ok-make_room.ensures.told
+    ran_line (line_obeyed b.session d.session line a read c.in-Ok.ensures.session)
+    (subst (λ (q : Asked). TakesAll g.D.RunDisk.state b (steps_asked q) d) read does.taken)
+    does.lasts
+    (told_more (reply b.session line) c.args.gathered.now.items m
+    c.gather_reply.new.gathered.items (g.W.Write.contents c.args.output.now)
+    (g.W.Write.contents c.make_room.new.output) c.in_ok-make_room.ensures.told
     (c.gather_reply.ensures
     ∙ ap (λ t. m ++ t)
-    (line_replies b.session line a (option_to_list c.in-Ok.reply) read
-    c.in-Ok.ensures.does.replied)))
+    (line_replies b.session line a (option_to_list c.in-Ok.reply) read does.replied)))
 
 pub returns-in-Ok-clause-strays : goal.returns-in-Ok-clause-strays
 returns-in-Ok-clause-strays g c = λ line e.
     c.stray_of-why.ensures
     ∙ line_strays c.args.book.now.session line c.read_line-asked.result
     (option_to_list c.in-Ok.reply) (c.read_line-asked.ensures ∙ sym e) c.in-Ok.ensures.does.replied
-
-pub returns-in-Ok-clause-lasts : goal.returns-in-Ok-clause-lasts
-returns-in-Ok-clause-lasts g c = c.in-Ok.ensures.does.lasts
 
 pub returns-in-Ok-clause-saved : goal.returns-in-Ok-clause-saved
 returns-in-Ok-clause-saved g c = λ saving.

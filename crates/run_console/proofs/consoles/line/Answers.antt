@@ -15,23 +15,14 @@ returns-in_err-gather_line-clause-stops g c = λ sound.
     rw (p.1, p.2) (
     line_stops g.D.RunDisk.state c.args.bytes.now c.args.book.now c.gather_line.new.book
     (g.W.Write.contents c.args.output.now) (g.W.Write.contents c.gather_line.new.output)
-    c.in_err-gather_line.field-0.0 c.in_err-gather_line.ensures.fault
-    (subst (λ f. Cut g.D.RunDisk.state c.in_err-gather_line.field-0.0 (c.args.bytes.now ∷ [])
-    c.args.book.now c.gather_line.new.book f
-    (g.W.Write.contents c.args.output.now) (g.W.Write.contents c.gather_line.new.output))
-    c.new-gathered.ensures (c.in_err-gather_line.ensures.cut c.args.bytes.now refl)))
+    c.in_err-gather_line.field-0.0
+    (rw c.new-gathered.ensures at (c.in_err-gather_line.ensures.cut c.args.bytes.now refl)))
 
 pub returns-clause-runs : goal.returns-clause-runs
 returns-clause-runs g c =
     on_ok_weaker c.write_gathered.result
-    (λ h. line_runs g.D.RunDisk.state c.args.bytes.now c.args.book.now c.gather_line.new.book
-    c.gather_line.new.gathered.items (g.W.Write.contents c.args.output.now)
-    (g.W.Write.contents c.gather_line.new.output)
-    (g.W.Write.contents c.write_gathered.new.output)
-    (subst (λ f. Ran g.D.RunDisk.state (c.args.bytes.now ∷ [])
-    c.args.book.now c.gather_line.new.book f c.gather_line.new.gathered.items
-    (g.W.Write.contents c.args.output.now) (g.W.Write.contents c.gather_line.new.output))
-    c.new-gathered.ensures (c.in_ok-gather_line.ensures.ran c.args.bytes.now refl)) h
+    (λ h. line_runs
+    (rw c.new-gathered.ensures at (c.in_ok-gather_line.ensures.ran c.args.bytes.now refl)) h
     c.in_ok-gather_line.ensures.saved)
     c.write_gathered.ensures.whole
 
@@ -41,32 +32,29 @@ returns-clause-stops g c = λ sound.
     let b = c.args.book.now in
     let d = c.gather_line.new.book in
     let w0 = g.W.Write.contents c.args.output.now in
-    let w1 = g.W.Write.contents c.gather_line.new.output in
     let w2 = g.W.Write.contents c.write_gathered.new.output in
     let Stops : RunFault → Type 0 = λ why. LineStops g.D.RunDisk.state why line b d w0 w2 in
     fault_known c.write_gathered.result fault.Output _ Stops
-    (λ h. line_stops g.D.RunDisk.state line b d w0 w2 fault.Output tt
-    (cut_written g.D.RunDisk.state (line ∷ []) b d [] c.gather_line.new.gathered.items w0 w1 w2
-    (subst (λ f. Ran g.D.RunDisk.state (line ∷ []) b d f c.gather_line.new.gathered.items w0 w1)
-    c.new-gathered.ensures (c.in_ok-gather_line.ensures.ran line refl)) h))
+    (λ h. line_stops g.D.RunDisk.state line b d w0 w2 fault.Output
+    (cut_written (rw c.new-gathered.ensures at (c.in_ok-gather_line.ensures.ran line refl)) h))
     c.write_gathered.ensures.fault c.write_gathered.ensures.cut
 
 -- ---- the book
 
+pub returns-in_err-gather_line-clause-lasts : goal.returns-in_err-gather_line-clause-lasts
+returns-in_err-gather_line-clause-lasts g c =
+    (c.in_err-gather_line.ensures.cut c.args.bytes.now refl).lasts
+
 pub returns-clause-lasts : goal.returns-clause-lasts
-returns-clause-lasts g c = c.gather_line.ensures.lasts
+returns-clause-lasts g c = (c.in_ok-gather_line.ensures.ran c.args.bytes.now refl).lasts
 
 pub returns-in_err-gather_line-clause-carries_on :
     goal.returns-in_err-gather_line-clause-carries_on
 returns-in_err-gather_line-clause-carries_on g c =
-    cut_carries g.D.RunDisk.state g.met.D.RunDisk.is_disk c.in_err-gather_line.field-0.0
-    (c.args.bytes.now ∷ []) c.args.book.now c.gather_line.new.book _
-    (g.W.Write.contents c.args.output.now) (g.W.Write.contents c.gather_line.new.output)
+    cut_carries g.D.RunDisk.state g.met.D.RunDisk.is_disk
     c.durable-durable.ensures.images (c.in_err-gather_line.ensures.cut c.args.bytes.now refl)
 
 pub returns-clause-carries_on : goal.returns-clause-carries_on
 returns-clause-carries_on g c =
-    ran_carries g.D.RunDisk.state g.met.D.RunDisk.is_disk (c.args.bytes.now ∷ [])
-    c.args.book.now c.gather_line.new.book _ c.gather_line.new.gathered.items
-    (g.W.Write.contents c.args.output.now) (g.W.Write.contents c.gather_line.new.output)
+    ran_carries g.D.RunDisk.state g.met.D.RunDisk.is_disk
     c.durable-durable.ensures.images (c.in_ok-gather_line.ensures.ran c.args.bytes.now refl)

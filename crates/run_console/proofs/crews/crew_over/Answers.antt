@@ -1,9 +1,4 @@
-use Rattle.std.proofs.Common.{◌≡◌, ◌∙◌, Err, ap, inl, inr, refl, subst}
-use Rattle.std.specs.Prelude.{IfErr, IfOk, vec_len}
-use Rattle.run_model.specs.declared.faults.Fault.TheVariants as fault
-use Rattle.run_crew.specs.Courses.{IsGates}
-use Rattle.run_crew.specs.Openings.{From, opened_of}
-use Rattle.run_console.specs.Crews.{IsWorked}
+use Rattle.std.proofs.Common.{◌∙◌, Err, ap, inl, inr, refl}
 use Rattle.run_console.specs.Troubles.{stopped}
 use Rattle.run_console.proofs.Nights.{acks_told, keeps_night}
 use Rattle.run_console.proofs.crews.crew_over.Goals as goal
@@ -22,8 +17,7 @@ pub returns-in-Err-night : goal.returns-in-Err-night
 returns-in-Err-night g c =
     let state = g.D.RunDisk.state in
     let b = c.in-Ok.book in
-    let told = subst (λ r. IfErr r (λ f. f ≡ fault.Memory)) c.in-Err-night.is
-    c.work-night.ensures.fault in
+    let told = rw c.in-Err-night.is at c.work-night.ensures.worked in
     let left = c.work-night.ensures.left in
     inr (
       b,
@@ -46,10 +40,7 @@ returns-in-Ok-night g c =
     let b = c.in-Ok.book in
     let night = c.in-Ok-night.night in
     let left = c.work-night.result.1 in
-    let worked = subst (λ r. IfOk r (λ n. IsWorked state (From (opened_of state b))
-    (IsGates (g.G.Gate.lets c.args.gate.now) (g.G.Gate.told c.args.gate.now))
-    (vec_len c.args.jobs) n.audited n.starts n.finishes n.flushed left)) c.in-Ok-night.is
-    c.work-night.ensures.worked in
+    let worked = rw c.in-Ok-night.is at c.work-night.ensures.worked in
     inr (
       b,
       c.in-Ok.ensures.opens.answer,

@@ -3,9 +3,7 @@ use Rattle.std.proofs.Common.{arith, refl, sym, subst, ap, ◌∙◌}
 use Rattle.std.proofs.lemmas.List.{length-drop, length-take-le}
 use Rattle.std.proofs.lemmas.Result.{err_from_is_err_and}
 use Rattle.console_lines.specs.Lines.{open_line}
-use Rattle.run_console.specs.Progress.{PartRan}
 use Rattle.run_console.specs.Until.{ends_at}
-use Rattle.run_console.proofs.Going.{goes_none, lasts_then}
 use Rattle.run_console.proofs.Parts.{part_begins}
 use Rattle.run_console.proofs.Quiet.{line_cut, line_ran, line_stands, line_strays, part_quiet}
 use Rattle.run_console.proofs.Quiet.{quiet_all, quiet_take}
@@ -15,9 +13,9 @@ pub loop-end-init : goal.loop-end-init
 loop-end-init g c = (
   [],
   refl,
-  λ begun e. part_begins g.D.RunDisk.state c.args.until _ _ begun _ _ _ _ refl e,
+  λ begun e. part_begins refl e,
   omega arith,
-  goes_none c.args.book.now c.requires.sound,
+  c.requires.sound,
 )
 
 -- ---- a line that an LF ends
@@ -31,20 +29,10 @@ returns-in_err-why-clause-cut g c = λ begun e.
     let so_far = c.loop-end.invariant.2 begun e in
     let p = err_from_is_err_and c.from_residual.result c.from_residual.ensures.1 in
     rw (p.1, p.2) (
-    line_cut g.D.RunDisk.state c.args.until c.in_err-why.field-0.0 c.args.number.now
-    c.loop-end.number begun c.args.part.now front
-    (take n rest) (take (length rest - (n + 1)) (drop (n + 1) rest)) c.loop-end.tail.items
-    c.args.gathered.now.items c.loop-end.gathered.items c.args.book.now c.loop-end.book
-    c.end_line.new.book (g.W.Write.contents c.args.output.now)
-    (g.W.Write.contents c.loop-end.output) (g.W.Write.contents c.end_line.new.output)
+    line_cut (take n rest) (take (length rest - (n + 1)) (drop (n + 1) rest))
     (line_stands c.args.part.now front rest n c.loop-end.invariant.1 first.0.high first.1) so_far
     (quiet_take rest n first.0.before)
     (c.in_err-why.ensures.cut (open_line begun front) so_far.tail_is))
-
-pub returns-in_err-why-clause-lasts : goal.returns-in_err-why-clause-lasts
-returns-in_err-why-clause-lasts g c =
-    lasts_then c.args.book.now.session c.loop-end.book.session
-    c.end_line.new.book.session c.loop-end.invariant.4.lasts c.end_line.ensures.lasts
 
 -- The run ends after it.
 pub returns-in-Some-ends_at-clause-ran : goal.returns-in-Some-ends_at-clause-ran
@@ -55,20 +43,11 @@ returns-in-Some-ends_at-clause-ran g c = λ begun e.
     let first = c.in-Some.ensures in
     let so_far = c.loop-end.invariant.2 begun e in
     let line = c.in_ok-why.ensures.ran (open_line begun front) so_far.tail_is in
-    line_strays g.D.RunDisk.state c.args.until c.args.number.now c.loop-end.number begun
-    c.args.part.now front (take n rest) (take (length rest - (n + 1)) (drop (n + 1) rest))
-    c.loop-end.tail.items c.args.gathered.now.items c.loop-end.gathered.items
-    c.end_line.new.gathered.items c.args.book.now c.loop-end.book c.end_line.new.book
-    (g.W.Write.contents c.args.output.now) (g.W.Write.contents c.loop-end.output)
-    (g.W.Write.contents c.end_line.new.output) c.in-Some-ends_at.why
+    line_strays (take n rest) (take (length rest - (n + 1)) (drop (n + 1) rest))
+    c.in-Some-ends_at.why
     (line_stands c.args.part.now front rest n c.loop-end.invariant.1 first.0.high first.1) so_far
     (quiet_take rest n first.0.before) line.0
     (ap (ends_at c.args.until) (sym line.1) ∙ sym c.ends_at.ensures ∙ c.in-Some-ends_at.is)
-
-pub returns-in-Some-ends_at-clause-lasts : goal.returns-in-Some-ends_at-clause-lasts
-returns-in-Some-ends_at-clause-lasts g c =
-    lasts_then c.args.book.now.session c.loop-end.book.session
-    c.end_line.new.book.session c.loop-end.invariant.4.lasts c.end_line.ensures.lasts
 
 -- It goes on.
 pub loop-end-preserved : goal.loop-end-preserved
@@ -86,43 +65,17 @@ loop-end-preserved g c =
       λ begun e.
           let so_far = c.loop-end.invariant.2 begun e in
           let line = c.in_ok-why.ensures.ran (open_line begun front) so_far.tail_is in
-          line_ran g.D.RunDisk.state c.args.until c.args.number.now c.loop-end.number begun front xs
-          c.loop-end.tail.items
-          c.end_line.new.tail.items c.args.gathered.now.items c.loop-end.gathered.items
-          c.end_line.new.gathered.items c.args.book.now c.loop-end.book c.end_line.new.book
-          (g.W.Write.contents c.args.output.now) (g.W.Write.contents c.loop-end.output)
-          (g.W.Write.contents c.end_line.new.output) so_far (quiet_take rest n first.0.before)
-          line.0
+          line_ran xs so_far (quiet_take rest n first.0.before) line.0
           (ap (ends_at c.args.until) (sym line.1) ∙ sym c.ends_at.ensures ∙ c.in_default-ends_at.is)
           c.in_ok-why.ensures.none,
       omega (arith, c.loop-end.invariant.3, left, first.0.high),
-      record {
-        sound = c.in_ok-why.ensures.sound;
-        lasts =
-            lasts_then c.args.book.now.session c.loop-end.book.session
-            c.end_line.new.book.session c.loop-end.invariant.4.lasts c.end_line.ensures.lasts;
-      },
+      c.in_ok-why.ensures.sound,
     )
 
 -- ---- the line that is begun
 
 pub returns-clause-ran : goal.returns-clause-ran
 returns-clause-ran g c = λ begun e.
-    let b = c.args.book.now in
-    let d = c.loop-end.book in
-    let tail = c.keep.new.tail.items in
-    let f = c.args.gathered.now.items in
-    let items = c.loop-end.gathered.items in
-    let w0 = g.W.Write.contents c.args.output.now in
-    let w1 = g.W.Write.contents c.loop-end.output in
-    let P : List ℕ → Type 0 = λ x.
-    PartRan g.D.RunDisk.state c.args.until c.args.number.now c.loop-end.number begun x b d tail f
-    items w0 w1 in
-    subst P (sym c.loop-end.invariant.1)
-    (part_quiet g.D.RunDisk.state c.args.until c.args.number.now c.loop-end.number begun
-    c.loop-end.invariant.0 c.loop-end.rest.now
-    c.loop-end.tail.items tail f items b d w0 w1 (c.loop-end.invariant.2 begun e)
+    rw c.loop-end.invariant.1
+    (part_quiet c.loop-end.rest.now (c.loop-end.invariant.2 begun e)
     (quiet_all c.loop-end.rest.now c.in_default.ensures) c.keep.ensures)
-
-pub returns-clause-lasts : goal.returns-clause-lasts
-returns-clause-lasts g c = c.loop-end.invariant.4.lasts

@@ -1,7 +1,6 @@
-use Rattle.std.proofs.Common.{◌≡◌, ◌≤◌, ◌+◌, ℕ, List, ◌++◌, length}
+use Rattle.std.proofs.Common.{◌≡◌, ◌≤◌, ◌+◌, ℕ, List, ◌++◌, length, false}
 use Rattle.console_lines.specs.Progress.{kept}
 use Rattle.run_console.specs.Progress.{PartRan}
-use Rattle.run_console.proofs.Going.{Goes}
 use Rattle.run_console.proofs.inputs.run_part.Given as goal
 
 -- The lines that end in a front of the part were run, the run goes on, and what is left stands
@@ -15,7 +14,7 @@ invariant-loop-end g l =
     l.initial.book l.book l.tail.items l.initial.gathered.items l.gathered.items
     (g.W.Write.contents l.initial.output) (g.W.Write.contents l.output))
     × (l.number + length l.rest ≤ l.initial.number + length l.part)
-    × Goes l.initial.book l.book
+    × (l.book.journal.broken ≡ false)
 
 abbrev pub decreases-loop-end : goal.decreases-loop-end
 decreases-loop-end g l = length l.rest

@@ -1,8 +1,7 @@
-use Rattle.std.proofs.Common.{◌≡◌, ◌≤◌, ◌+◌, ◌-◌, ℕ, List, [], length}
+use Rattle.std.proofs.Common.{◌≡◌, ◌≤◌, ◌+◌, ◌-◌, ℕ, List, [], length, false}
 use Rattle.std.specs.Io.KnownBytes.{Consumes}
 use Rattle.console_lines.specs.declared.lines.TheConstants.{LONGEST_INPUT}
 use Rattle.run_console.specs.Progress.{PartRan}
-use Rattle.run_console.proofs.Going.{Goes}
 use Rattle.run_console.proofs.inputs.run_whole_lines.Given as goal
 
 -- Some bytes were read and run, the run goes on, and no more was read than may be.
@@ -15,7 +14,7 @@ invariant-loop-total g l =
     × PartRan g.D.RunDisk.state l.until 1 l.number [] bytes l.initial.book l.book l.tail.items
     [] [] (g.W.Write.contents l.initial.output) (g.W.Write.contents l.output)
     × (l.gathered.items ≡ [])
-    × Goes l.initial.book l.book
+    × (l.book.journal.broken ≡ false)
 
 abbrev pub decreases-loop-total : goal.decreases-loop-total
 decreases-loop-total g l = LONGEST_INPUT + 1 - l.total

@@ -17,7 +17,4 @@ returns-in-Ok-clause-all g c =
 
 pub returns-in-Err-clause-begins : goal.returns-in-Err-clause-begins
 returns-in-Err-clause-begins g c = λ sound.
-    stops_begin g.D.RunDisk.state c.in-Err.fault c.args.book.now c.run_until.new.book
-    (g.R.Read.remaining c.args.input.now) (g.R.Read.remaining c.run_until.new.input)
-    (g.W.Write.contents c.args.output.now) (g.W.Write.contents c.run_until.new.output)
-    (c.in-Err.ensures.stops sound)
+    stops_begin (c.in-Err.ensures.stops sound)
