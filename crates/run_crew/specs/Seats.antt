@@ -37,3 +37,24 @@ pub record CountsNight (workers noted : ℕ) (seat after : SeatView) : Type 0 wh
   pub finishes : after.finishes ≡ seat.finishes + noted
   pub starts : seat.starts + noted ≤ after.starts
   pub one_more : after.starts ≤ seat.starts + noted + workers
+
+-- ---- for private functions: no public contract cites what follows
+
+-- So many parts of each share were given away.
+abbrev pub GivesParts : ℕ → SeatView → SeatView → Type 0
+GivesParts parts seat after =
+    (after.start_parts + parts ≡ seat.start_parts)
+    × (after.finish_parts + parts ≡ seat.finish_parts)
+
+-- The seat has counted what it had.
+abbrev pub CountsSame : SeatView → SeatView → Type 0
+CountsSame seat after = (after.starts ≡ seat.starts) × (after.finishes ≡ seat.finishes)
+
+-- So many shifts that noted so many finishes were joined into the seat. It has a part of each share
+-- more for each, and has counted those finishes, and as many starts, or one more for each at most.
+pub record JoinsShifts (shifts noted : ℕ) (seat after : SeatView) : Type 0 where
+  pub start_parts : after.start_parts ≡ seat.start_parts + shifts
+  pub finish_parts : after.finish_parts ≡ seat.finish_parts + shifts
+  pub finishes : after.finishes ≡ seat.finishes + noted
+  pub starts : seat.starts + noted ≤ after.starts
+  pub one_more : after.starts ≤ seat.starts + noted + shifts

@@ -87,8 +87,7 @@ impl<D: RunDisk, S: Ledger, F: Ledger, O: Opening> Desk<D, S, F, O> {
     }
 
     /// Starts the ready task with the least number, as [`Book::start`] does. If it is accepted,
-    /// the seat has counted one start more. A clause more than six, since two values change: the
-    /// book, of which four clauses speak, and the seat.
+    /// the seat has counted one start more.
     pub fn start_as(&mut self, seat: &mut Seat<S, F>) -> Result<Started, Refusal>
         requires part { 0 < seat.old.start_parts }
         ensures reply { result ≡ unless_broken self.old.book
@@ -100,8 +99,6 @@ impl<D: RunDisk, S: Ledger, F: Ledger, O: Opening> Desk<D, S, F, O> {
         ensures refused { OnErr result (self.new.book ≡ self.old.book) }
         ensures seat { MatchResult result (λ _. seat.new ≡ one_start seat.old)
             (λ _. seat.new ≡ seat.old) }
-        ensures parts { (seat.new.start_parts ≡ seat.old.start_parts)
-            × (seat.new.finish_parts ≡ seat.old.finish_parts) }
     {
         let started = self.book.start()?;
         self.starts.add(&mut seat.starts, 1);
@@ -109,7 +106,7 @@ impl<D: RunDisk, S: Ledger, F: Ledger, O: Opening> Desk<D, S, F, O> {
     }
 
     /// Ends a running task with this outcome, as [`Book::finish`] does. If it is accepted, the
-    /// seat has counted one finish more. A clause more than six, as of [`Desk::start_as`].
+    /// seat has counted one finish more.
     pub fn finish_as(
         &mut self,
         seat: &mut Seat<S, F>,
@@ -126,8 +123,6 @@ impl<D: RunDisk, S: Ledger, F: Ledger, O: Opening> Desk<D, S, F, O> {
         ensures refused { OnErr result (self.new.book ≡ self.old.book) }
         ensures seat { MatchResult result (λ _. seat.new ≡ one_finish seat.old)
             (λ _. seat.new ≡ seat.old) }
-        ensures parts { (seat.new.start_parts ≡ seat.old.start_parts)
-            × (seat.new.finish_parts ≡ seat.old.finish_parts) }
     {
         let number = self.book.finish(task, outcome)?;
         self.finishes.add(&mut seat.finishes, 1);

@@ -1,11 +1,11 @@
 //! A night: one worker for each list of jobs, beside a thread that flushes.
 
-ghost use Rattle.std.specs.Prelude.{◌≡◌, ◌+◌, ◌<◌, ◌≤◌, [], All, map, vec_len, vec_capacity};
+ghost use Rattle.std.specs.Prelude.{◌≡◌, ◌<◌, ◌≤◌, [], All, map, vec_len, vec_capacity};
 ghost use Rattle.std.specs.Prelude.{IfOk, IfErr, OnOk};
 ghost use Rattle.run_model.specs.declared.faults.Fault.TheVariants.{Memory};
 ghost use Rattle.run_crew.specs.Courses.{IsGates, IsOfShift};
 ghost use Rattle.run_crew.specs.Notes.{noted};
-ghost use Rattle.run_crew.specs.Seats.{CountsNight};
+ghost use Rattle.run_crew.specs.Seats.{CountsNight, CountsSame, GivesParts, JoinsShifts};
 
 use crate::arrivals::Arrivals;
 use crate::bells::Bell;
@@ -85,12 +85,8 @@ fn stations_of<S: Ledger, F: Ledger>(
     requires start_parts { vec_len jobs < seat.old.start_parts }
     requires finish_parts { vec_len jobs < seat.old.finish_parts }
     ensures len { IfOk result (λ v. vec_len v ≡ vec_len jobs) }
-    ensures start_parts { OnOk result
-        (seat.new.start_parts + vec_len jobs ≡ seat.old.start_parts) }
-    ensures finish_parts { OnOk result
-        (seat.new.finish_parts + vec_len jobs ≡ seat.old.finish_parts) }
-    ensures starts { seat.new.starts ≡ seat.old.starts }
-    ensures finishes { seat.new.finishes ≡ seat.old.finishes }
+    ensures parts { OnOk result (GivesParts (vec_len jobs) seat.old seat.new) }
+    ensures counts { CountsSame seat.old seat.new }
     ensures fault { IfErr result (λ fault. fault ≡ Memory) }
 {
     let Ok(mut stations) = Vec::with_capacity(alloc, jobs.len()) else {
@@ -191,12 +187,7 @@ fn gather<S: Ledger, F: Ledger>(
     requires room { vec_len shifts ≤ vec_capacity notes.old }
     ensures len { vec_len notes.new ≡ vec_len shifts }
     ensures notes { notes.new.items ≡ map (λ shift. shift.notes) shifts.items }
-    ensures start_parts { seat.new.start_parts ≡ seat.old.start_parts + vec_len shifts }
-    ensures finish_parts { seat.new.finish_parts ≡ seat.old.finish_parts + vec_len shifts }
-    ensures finishes { seat.new.finishes ≡ seat.old.finishes + noted notes.new.items }
-    ensures starts { seat.old.starts + noted notes.new.items ≤ seat.new.starts }
-    ensures one_more { seat.new.starts
-        ≤ seat.old.starts + noted notes.new.items + vec_len shifts }
+    ensures seat { JoinsShifts (vec_len notes.new) (noted notes.new.items) seat.old seat.new }
 {
     for shift in shifts {
         let Shift {

@@ -1,7 +1,7 @@
 //! A [`Seat`] is what a thread counts its own starts and finishes by.
 
-ghost use Rattle.std.specs.Prelude.{◌≡◌, ◌+◌, ◌<◌};
-ghost use Rattle.run_crew.specs.Seats.{SeatView, joined, one_part};
+ghost use Rattle.std.specs.Prelude.{◌≡◌, ◌<◌};
+ghost use Rattle.run_crew.specs.Seats.{CountsSame, GivesParts, SeatView, joined, one_part};
 
 use std::marker::Model;
 use std::sync::ledger::{Ledger, Share};
@@ -45,10 +45,8 @@ impl<S: Ledger, F: Ledger> Seat<S, F> {
         requires starts { 1 < self.old.start_parts }
         requires finishes { 1 < self.old.finish_parts }
         ensures one { result ≡ one_part }
-        ensures start_parts { self.new.start_parts + 1 ≡ self.old.start_parts }
-        ensures finish_parts { self.new.finish_parts + 1 ≡ self.old.finish_parts }
-        ensures starts { self.new.starts ≡ self.old.starts }
-        ensures finishes { self.new.finishes ≡ self.old.finishes }
+        ensures parts { GivesParts 1 self.old self.new }
+        ensures counts { CountsSame self.old self.new }
     {
         let starts = self.starts.split_off(1, 0);
         let finishes = self.finishes.split_off(1, 0);

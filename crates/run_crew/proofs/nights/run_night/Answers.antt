@@ -9,8 +9,8 @@ returns-clause-seat g c =
     let stations = c.in-Ok-stations_of.ensures in
     let shifts = c.in-Ok-shifts.ensures in
     record {
-      start_parts = omega (arith, stations.len, stations.start_parts, shifts);
-      finish_parts = omega (arith, stations.len, stations.finish_parts, shifts);
+      start_parts = omega (arith, stations.len, stations.parts.0, shifts);
+      finish_parts = omega (arith, stations.len, stations.parts.1, shifts);
       finishes = omega arith;
       starts = omega arith;
       one_more = omega (arith, stations.len, shifts);
