@@ -14,7 +14,7 @@ use Rattle.run_model.specs.Event.{Event}
 use Rattle.run_model.specs.Event as event
 use Rattle.run_model.specs.Allowed.{refusals, unless}
 use Rattle.run_model.specs.Replies.{decide_start, if_room, is_full}
-use Rattle.run_model.specs.Session.{after_step, event_of_step, with_event}
+use Rattle.run_model.specs.Session.{Session, after_step, event_of_step, with_event}
 use Rattle.run_model.specs.State.{State}
 use Rattle.std.specs.Result.{result_unwrap_or}
 use Rattle.run_disk.specs.Disk.{DiskState, IsAtRest}
@@ -24,6 +24,7 @@ use Rattle.book_model.specs.Books.{CarriesOn, BookView, acked}
 use Rattle.book_model.specs.Stores.{StoresFront}
 use Rattle.book_model.proofs.BookLemmas.{passed_more, stores_fewer, stores_more}
 use Rattle.run_book.specs.Views.{with_session}
+use Rattle.run_crew.specs.Desks.{finishes_of, starts_of}
 use Rattle.run_crew.specs.Openings.{Carries, CarriesFrom, From, Known, Opened, Unsaid}
 use Rattle.run_crew.specs.Openings.{is_work, obeys, opened_of}
 
@@ -148,11 +149,20 @@ module _ {D : Type 0} (state : D → DiskState) where
   carries_more (From from) h new events is on grown work =
       from_more from h new events is on grown work
 
-  -- No event came.
-  pub carries_same : (known : Known) (h new : BookView D) → Carries known state h
-      → CarriesOn state h new → new.session.history ≡ h.session.history → Carries known state new
-  carries_same known h new is on same =
-      carries_more known h new [] is on (same ∙ sym (append-nil h.session.history)) (λ _. refl)
+  -- No event came: so the totals of a desk stay, too.
+  pub desk_stays : (known : Known) (h new : BookView D) (starts finishes : ℕ)
+      → (starts ≡ starts_of h.session.history) × (finishes ≡ finishes_of h.session.history)
+      × Carries known state h
+      → CarriesOn state h new → new.session ≡ h.session
+      → (starts ≡ starts_of new.session.history) × (finishes ≡ finishes_of new.session.history)
+      × Carries known state new
+  desk_stays known h new starts finishes is on same =
+      let history = ap (λ (s : Session). s.history) same in (
+        is.0 ∙ ap starts_of (sym history),
+        is.1 ∙ ap finishes_of (sym history),
+        carries_more known h new [] is.2 on (history ∙ sym (append-nil h.session.history))
+            (λ _. refl),
+      )
 
 -- Where commands may come it doesn't matter what came.
 pub none_barred : (known : Known) (events : List Event) → obeys known ≡ true

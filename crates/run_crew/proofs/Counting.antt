@@ -14,8 +14,6 @@ use Rattle.run_model.specs.Session.{event_of_step}
 use Rattle.run_model.specs.State.{State}
 use Rattle.std.specs.Result.{result_unwrap_or}
 use Rattle.book_model.specs.Books.{BookView}
-use Rattle.model_laws.specs.Kinds.{is_finish, is_start}
-use Rattle.model_laws.proofs.Commanding.{command_event}
 use Rattle.run_crew.proofs.Carrying.{added_by}
 
 -- How many of the events that a decision leads to pass the test.
@@ -52,12 +50,13 @@ none_of test e not =
     omega (arith, one, sum_by-cons (λ e. cond (test e) 1 0) e [])
 
 -- A total stays that counts none of what a command adds.
-kept : {D : Type 0} (test : Event → Bool) (b new : BookView D) (call : Command) (total : ℕ)
-    → count_by test (event_of b.session.state call ∷ []) ≡ 0
+pub kept : {D : Type 0} (test : Event → Bool) (b new : BookView D) (call : Command) (total : ℕ)
+    → test (event_of b.session.state call) ≡ false
     → total ≡ count_by test b.session.history
     → new.session.history ≡ b.session.history ++ added_by b (step.Command call)
     → total ≡ count_by test new.session.history
-kept test b new call total none counted grown =
+kept test b new call total not counted grown =
+    let none = none_of test (event_of b.session.state call) not in
     let added = added_by b (step.Command call) in
     let nothing : count_by test added ≡ 0 =
     elim b.journal.broken as (λ k.
@@ -70,21 +69,3 @@ kept test b new call total none counted grown =
     let same : count_by test new.session.history ≡ count_by test (b.session.history ++ added) =
     ap (λ es. count_by test es) grown in
     omega arith
-
-pub starts_kept : {D : Type 0} (b new : BookView D) (call : Command) (total : ℕ)
-    → total ≡ count_by is_start b.session.history
-    → new.session.history ≡ b.session.history ++ added_by b (step.Command call)
-    → total ≡ count_by is_start new.session.history
-starts_kept b new call total counted grown =
-    kept is_start b new call total
-    (none_of is_start (event_of b.session.state call)
-    (command_event b.session.state call).start) counted grown
-
-pub finishes_kept : {D : Type 0} (b new : BookView D) (call : Command) (total : ℕ)
-    → total ≡ count_by is_finish b.session.history
-    → new.session.history ≡ b.session.history ++ added_by b (step.Command call)
-    → total ≡ count_by is_finish new.session.history
-finishes_kept b new call total counted grown =
-    kept is_finish b new call total
-    (none_of is_finish (event_of b.session.state call)
-    (command_event b.session.state call).finish) counted grown

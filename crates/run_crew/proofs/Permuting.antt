@@ -4,7 +4,8 @@ use Rattle.std.proofs.Common.{false, ◌||◌, ◌&&◌, refl, ap, sym, ◌∙�
 use Rattle.std.specs.Prelude.{suc, not, slice_index_or, ◌==◌, nat_lt, if◌then◌else◌}
 use Rattle.std.specs.List.{list_all, list_any}
 use Rattle.std.specs.List.Sorted.{IsPermutation}
-use Rattle.std.proofs.lemmas.Bool.{eqb-true}
+use Rattle.std.proofs.lemmas.Bool.{and_parts, eqb-true, not-false, or_from, or_left, or_parts}
+use Rattle.std.proofs.lemmas.Bool.{or_right}
 use Rattle.std.proofs.lemmas.List.{append-nil}
 use Rattle.std.proofs.lemmas.List.Folds.{list_all-append, list_any-append}
 use Rattle.std.proofs.lemmas.List.Sorted.{IsPermutation-cons, IsPermutation-middle}
@@ -30,40 +31,9 @@ by_test : {A : Type 0} (b : Bool) → (b ≡ true → A) → (b ≡ false → A)
 by_test true holds fails = holds refl
 by_test false holds fails = fails refl
 
-or_first : (a b : Bool) → (a || b) ≡ false → a ≡ false
-or_first true b fails = fails
-or_first false b fails = refl
-
-or_second : (a b : Bool) → (a || b) ≡ false → b ≡ false
-or_second true b fails = no_both true refl fails
-or_second false b fails = fails
-
-and_first : (a b : Bool) → (a && b) ≡ true → a ≡ true
-and_first true b holds = refl
-and_first false b holds = holds
-
-and_second : (a b : Bool) → (a && b) ≡ true → b ≡ true
-and_second true b holds = holds
-and_second false b holds = no_both false holds refl
-
-or_true : (a b : Bool) → a ≡ true → (a || b) ≡ true
-or_true true b holds = refl
-or_true false b holds = no_both false holds refl
-
 or_next : (a b : Bool) → a ≡ false → (a || b) ≡ b
 or_next true b fails = no_both true refl fails
 or_next false b fails = refl
-
-or_second_true : (a b : Bool) → b ≡ true → (a || b) ≡ true
-or_second_true true b holds = refl
-or_second_true false b holds = holds
-
-or_none : (a b : Bool) → a ≡ false → b ≡ false → (a || b) ≡ false
-or_none a b fails none = or_next a b fails ∙ none
-
-not_false : (b : Bool) → not b ≡ false → b ≡ true
-not_false true fails = refl
-not_false false fails = sym fails
 
 -- ---- one note is another
 
@@ -79,17 +49,12 @@ outcome_self (Failure x) = (bytes_eq-Decides x x).1 refl
 
 same_is : (x y : Note) → is_same x y ≡ true → x ≡ y
 same_is x y same =
-    let event : x.event ≡ y.event = eqb-true x.event y.event
-    (and_first (x.event == y.event) (x.task == y.task)
-    (and_first ((x.event == y.event) && (x.task == y.task))
-    (is_same_outcome x.outcome y.outcome) same)) in
-    let task : x.task ≡ y.task = eqb-true x.task y.task
-    (and_second (x.event == y.event) (x.task == y.task)
-    (and_first ((x.event == y.event) && (x.task == y.task))
-    (is_same_outcome x.outcome y.outcome) same)) in
-    let outcome : x.outcome ≡ y.outcome = outcome_is x.outcome y.outcome
-    (and_second ((x.event == y.event) && (x.task == y.task))
-    (is_same_outcome x.outcome y.outcome) same) in
+    let both = and_parts ((x.event == y.event) && (x.task == y.task))
+    (is_same_outcome x.outcome y.outcome) same in
+    let first = and_parts (x.event == y.event) (x.task == y.task) both.0 in
+    let event : x.event ≡ y.event = eqb-true x.event y.event first.0 in
+    let task : x.task ≡ y.task = eqb-true x.task y.task first.1 in
+    let outcome : x.outcome ≡ y.outcome = outcome_is x.outcome y.outcome both.1 in
     let one : x ≡ record x { event = y.event } =
     ap (λ (n : ℕ). record x { event = n }) event in
     let two : record x { event = y.event } ≡ record x { event = y.event; task = y.task } =
@@ -139,7 +104,7 @@ stands (y ∷ ys) x h = by_test (is_same x y)
 has_there : (xs ys : List Note) (x : Note) → has (xs ++ x ∷ ys) x ≡ true
 has_there xs ys x =
     has_append xs (x ∷ ys) x
-    ∙ or_second_true _ _ (or_true _ (has ys x) (same_self x))
+    ∙ or_right _ _ (or_left _ (has ys x) (same_self x))
 
 -- Without another note in the middle.
 has_without :
@@ -153,8 +118,8 @@ has_with :
     (xs ys : List Note) (y x : Note) → has (xs ++ ys) x ≡ true → has (xs ++ y ∷ ys) x ≡ true
 has_with xs ys y x h =
     by_test (has xs x)
-    (λ first. has_append xs (y ∷ ys) x ∙ or_true _ _ first)
-    (λ none. has_append xs (y ∷ ys) x ∙ or_second_true _ _ (or_second_true _ _
+    (λ first. has_append xs (y ∷ ys) x ∙ or_left _ _ first)
+    (λ none. has_append xs (y ∷ ys) x ∙ or_right _ _ (or_right _ _
     (sym (or_next _ _ none) ∙ sym (has_append xs ys x) ∙ h)))
 
 -- ---- no note twice
@@ -173,7 +138,7 @@ none_twice_without (z ∷ xs) ys y once =
       by_test (is_same y z)
           (λ same. let P : Note → Type 0 = λ w. has (xs ++ y ∷ ys) w ≡ true in
           no_both _ (subst P (same_is y z same) (has_there xs ys y)) once.0)
-          (λ other. or_none _ _ other rest.0),
+          (λ other. or_from _ _ other rest.0),
       (
         by_test (has (xs ++ ys) z)
             (λ holds. no_both _ (has_with xs ys y z holds) once.0)
@@ -190,9 +155,9 @@ pub permuted :
     → IsPermutation made ys
 permuted [] [] once unique each all = IsPermutation-refl []
 permuted [] (m ∷ made) once unique each all =
-    no_both false (all m (or_true _ (has made m) (same_self m))) refl
+    no_both false (all m (or_left _ (has made m) (same_self m))) refl
 permuted (y ∷ ys) made once unique each all =
-    let at : StandsIn made y = stands made y (each y (or_true _ (has ys y) (same_self y))) in
+    let at : StandsIn made y = stands made y (each y (or_left _ (has ys y) (same_self y))) in
     let xs : List Note = at.before in
     let zs : List Note = at.behind in
     let out : (has (xs ++ zs) y ≡ false) × NoneTwice (xs ++ zs) =
@@ -203,7 +168,7 @@ permuted (y ∷ ys) made once unique each all =
     no_both _ (subst P (same_is x y same) h) once.0)
     (λ other. let P : List Note → Type 0 = λ l. has l x ≡ true in
     has_without xs zs y x
-    (subst P at.split (each x (or_second_true (is_same x y) _ h))) other)) in
+    (subst P at.split (each x (or_right (is_same x y) _ h))) other)) in
     let all' : (x : Note) → has (xs ++ zs) x ≡ true → has ys x ≡ true =
     (λ x h. by_test (is_same x y)
     (λ same. let P : Note → Type 0 = λ w. has (xs ++ zs) w ≡ true in
@@ -335,11 +300,11 @@ fresh made earlier (y ∷ ys) none x h =
     (λ same.
     let P : Note → Type 0 = λ w. (has made w ≡ true) × (has earlier w ≡ false) in
     subst P (sym (same_is x y same))
-    (not_false _ (or_first _ _ none.0), or_second (not (has made y)) _ none.0))
+    (not-false _ (or_parts _ _ none.0).0, (or_parts (not (has made y)) _ none.0).1))
     (λ other.
     let rest : (has made x ≡ true) × (has (earlier ++ y ∷ []) x ≡ false) =
     fresh made (earlier ++ y ∷ []) ys none.1 x (sym (or_next _ _ other) ∙ h) in
-    (rest.0, or_first _ _ (sym (has_append earlier (y ∷ []) x) ∙ rest.1)))
+    (rest.0, (or_parts _ _ (sym (has_append earlier (y ∷ []) x) ∙ rest.1)).0))
 
 notes_once : (made earlier ys : List Note) → NoneStray made earlier ys → NoneTwice ys
 notes_once made earlier [] none = tt
@@ -359,9 +324,9 @@ noted_each made lists noted x h =
     let at : StandsIn made x = stands made x h in
     let all : list_all p (at.before ++ x ∷ at.behind) ≡ true =
     ap (λ l. list_all p l) (sym at.split) ∙ noted in
-    let here : list_all p (x ∷ at.behind) ≡ true = and_second (list_all p at.before) _
-    (sym (list_all-append p at.before (x ∷ at.behind)) ∙ all) in
-    has-all lists x ∙ and_first (p x) (list_all p at.behind) here
+    let here : list_all p (x ∷ at.behind) ≡ true = (and_parts (list_all p at.before) _
+    (sym (list_all-append p at.before (x ∷ at.behind)) ∙ all)).1 in
+    has-all lists x ∙ (and_parts (p x) (list_all p at.behind) here).0
 
 -- ---- both together
 

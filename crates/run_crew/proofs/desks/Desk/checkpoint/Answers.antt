@@ -1,22 +1,14 @@
-use Rattle.std.proofs.Common.{ap, subst, sym, ◌∙◌}
-use Rattle.run_model.specs.Session.{Session}
+use Rattle.std.proofs.Common.{subst, sym}
 use Rattle.book_model.specs.Books.{CarriesOn, Checkpoints, IsSafe}
-use Rattle.run_crew.specs.Desks.{DeskView, finishes_of, starts_of}
-use Rattle.run_crew.proofs.Carrying.{carries_same}
+use Rattle.run_crew.specs.Desks.{DeskView}
+use Rattle.run_crew.proofs.Carrying.{desk_stays}
 use Rattle.run_crew.proofs.desks.Desk.checkpoint.Goals as goal
 
 pub invariant_of-self : goal.invariant_of-self
-invariant_of-self g c = (
-  c.self.invariant.0
-      ∙ ap (λ (s : Session). starts_of s.history)
-      (sym c.checkpoint.ensures.checkpoints.saves.session),
-  c.self.invariant.1
-      ∙ ap (λ (s : Session). finishes_of s.history)
-      (sym c.checkpoint.ensures.checkpoints.saves.session),
-  carries_same g.D.RunDisk.state g.O.Opening.opening c.self.inside.book
-      c.checkpoint.new.self c.self.invariant.2 c.checkpoint.ensures.carries_on
-      (ap (λ (s : Session). s.history) c.checkpoint.ensures.checkpoints.saves.session),
-)
+invariant_of-self g c =
+    desk_stays g.D.RunDisk.state g.O.Opening.opening c.self.inside.book c.checkpoint.new.self
+    c.self.inside.starts.total c.self.inside.finishes.total c.self.invariant
+    c.checkpoint.ensures.carries_on c.checkpoint.ensures.checkpoints.saves.session
 
 pub returns-clause-checkpoints : goal.returns-clause-checkpoints
 returns-clause-checkpoints g c =
