@@ -161,12 +161,17 @@ class Cache:
         return {"LD_PRELOAD": self.library, "CACHE_FOLDER": self.folder, "CACHE_STATE": self.state,
                 "CACHE_LOG": self.log, **given}
 
-    def run(self, *words: str, lines: tuple[str, ...] = (), hurts: Hurts = NONE) -> Ended:
-        """Runs the program, in the folder."""
+    def run(self, *words: str, lines: tuple[str, ...] = (), hurts: Hurts = NONE,
+            wrong: str = "") -> Ended:
+        """Runs the program, in the folder; it is wrong so (wrong_files.c), where that is given."""
         with open(self.log, "wb"):
             pass
-        ended: Ended = self.tries.run(*words, lines=lines, hurt=self.environment(hurts),
-                                      cwd=self.folder, timeout=PATIENCE)
+        given = self.environment(hurts)
+        if wrong:
+            given["HURT_WRONG"] = wrong
+            given["LD_PRELOAD"] = f"{self.tries.built('wrong_files.c')} {self.library}"
+        ended: Ended = self.tries.run(*words, lines=lines, hurt=given, cwd=self.folder,
+                                      timeout=PATIENCE)
         return ended
 
     def ended_over(self, files: dict[str, bytes], word: str, name: str) -> Ended:

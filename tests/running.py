@@ -32,7 +32,8 @@ LARGE_OLD = "is a large store already; OLD has to be a small one"
 SETTLES = ("sync",)
 
 # What --wrong= makes wrong of the files, by wrong_files.c; the other kinds are those of a disk.
-WRONG_FILES = ("mark", "folder", "here", "lock", "device", "names", "rights", "group", "data")
+WRONG_FILES = ("mark", "look", "folder", "here", "lock", "device", "names", "rights", "group",
+               "data")
 
 # Two nights, the second after a restart of what the first one left. Each save comes in both slots,
 # and over a slot whose gate is closed and one whose gate is open.

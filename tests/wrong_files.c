@@ -2,6 +2,7 @@
  *
  *   HURT_WRONG  what it does wrong:
  *               mark    it leaves no file STORE.failed
+ *               look    it takes that for made, and leaves none, while it has no file for writing
  *               folder  it syncs no folder
  *               here    it takes / for the folder of a bare name
  *               lock    its lock of a file ends once it closes one descriptor of two
@@ -32,6 +33,7 @@ static struct known {
     struct statx file;
 } known[MOST_NAMES];
 static size_t names;
+static int writes; /* (it has had a file for writing) */
 
 static int is_wrong(const char *kind)
 {
@@ -84,6 +86,8 @@ static int opened(int folder, const char *name, int flags, mode_t mode)
         errno = EACCES;
         return -1;
     }
+    if (is_wrong("look") && !writes && flags & O_CREAT && ends_with(name, ".failed"))
+        return next(AT_FDCWD, "/dev/null", O_WRONLY | O_CLOEXEC, 0);
     if (is_wrong("here") && !strcmp(name, "."))
         name = "/";
     if (is_wrong("rights") && mode == 0600)
@@ -91,6 +95,7 @@ static int opened(int folder, const char *name, int flags, mode_t mode)
     int fd = next(folder, name, flags, mode);
     if (fd >= 0 && is_wrong("names"))
         keep(fd, name);
+    writes |= fd >= 0 && (flags & O_ACCMODE) != O_RDONLY && kind_of(fd) == S_IFREG;
     return fd;
 }
 
