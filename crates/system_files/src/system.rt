@@ -415,7 +415,12 @@ impl<'a, S: fs::Files<File = File> + Clock + Sync> Files for SystemFiles<'a, S> 
     ) -> Result<Opened<SystemDisk<'a, S>, &'a Complaint>, Reason> {
         let file = self.with_reading(name)?;
         lock_shared(&file)?;
-        let mark = self.mark_of(name)?;
+        let path = self.path(name)?;
+        // (a mark beside another file that has its name by now would be that one's)
+        if !self.is_named(&file, path.as_str()) {
+            return Err(Reason::InUse);
+        }
+        let mark = self.mark(path.as_str())?;
         settle_under(&mark, &file)?;
         self.shown(file, mark)
     }
@@ -492,15 +497,18 @@ fn is_only_name(found: &Metadata) -> bool {
     found.is_file() && found.nlink() == 1
 }
 
-/// Says whether a sync that failed so wasn't to be had: of a folder that may not be read, or on a
-/// file system that has none, or is only read.
+/// Says whether a sync of a folder that failed so wasn't to be had: it may not be read, or its file
+/// system has no sync.
 fn is_unsynced(kind: io::ErrorKind) -> bool {
+    matches!(kind, io::ErrorKind::PermissionDenied) || has_no_sync(kind)
+}
+
+/// Says whether a sync that failed so is one that the file system doesn't have, or is only read.
+/// That a write was denied isn't: it may be what a program wrote before.
+fn has_no_sync(kind: io::ErrorKind) -> bool {
     matches!(
         kind,
-        io::ErrorKind::PermissionDenied
-            | io::ErrorKind::InvalidInput
-            | io::ErrorKind::Unsupported
-            | io::ErrorKind::ReadOnlyFilesystem
+        io::ErrorKind::InvalidInput | io::ErrorKind::Unsupported | io::ErrorKind::ReadOnlyFilesystem
     )
 }
 
@@ -531,7 +539,7 @@ fn settle_under<S: fs::Files<File = File>>(mark: &Mark<'_, S>, file: &File) -> R
         return Ok(());
     }
     match file.sync_data() {
-        Err(error) if !is_unsynced(error.kind()) => Err(Reason::of(&error)),
+        Err(error) if !has_no_sync(error.kind()) => Err(Reason::of(&error)),
         _ => {
             mark.remove();
             Ok(())
