@@ -12,6 +12,7 @@
  *   CACHE_LOG     each call on the folder or on a file of it is told there, in a line
  *   CACHE_KILL    the number of such a call, from 1: the program is killed before it
  *   CACHE_STOP    the number of such a call, from 1: the program stops before it (SIGSTOP)
+ *   CACHE_HALT    likewise, of a later one
  *   CACHE_FAIL    the number of such a call, from 1: it fails with EIO; CACHE_ERROR, of which error
  *   CACHE_PART    a seed: a sync of a file that fails has written some of the pages, and else none
  *   CACHE_MAPPED  advice to drop pages isn't followed, as where another program has them mapped
@@ -55,7 +56,7 @@ static struct open_file {
 static const char *folder, *state;
 static struct stat folder_is;
 static int told = -1, is_mapped;
-static long calls, killing, stopping, failing, error_number, unsynced;
+static long calls, killing, stopping, halting, failing, error_number, unsynced;
 static uint64_t dice;
 
 static void give_up(const char *why)
@@ -79,6 +80,7 @@ __attribute__((constructor)) static void begin(void)
         folder = NULL;
     killing = number_of("CACHE_KILL");
     stopping = number_of("CACHE_STOP");
+    halting = number_of("CACHE_HALT");
     failing = number_of("CACHE_FAIL");
     error_number = getenv("CACHE_ERROR") ? number_of("CACHE_ERROR") : EIO;
     unsynced = number_of("CACHE_UNSYNCED");
@@ -103,7 +105,7 @@ static int fails(const char *what, const char *name)
     calls++;
     if (told >= 0)
         dprintf(told, "%s %s\n", what, name);
-    if (calls == stopping)
+    if (calls == stopping || calls == halting)
         raise(SIGSTOP);
     if (calls == killing) {
         kill(getpid(), SIGKILL);
