@@ -8,6 +8,8 @@
  *   HURT_FAIL   the number of a call, from 1: it and each one after it fail with EIO
  *   HURT_ONCE   the number of a call, from 1: it alone fails with EIO
  *   HURT_TRIM   the number of a call, from 1: before it the file is cut short to HURT_TO bytes
+ *   HURT_SWAP   the number of a call, from 1: before it the file gets another one's bytes, those of
+ *               HURT_FROM
  *   HURT_CUT    the number of a call, from 1: the power is cut there
  *   HURT_KEEP   what then becomes of the bytes that were written since the last sync: none is
  *               there, all is, or some (a write whole, not at all, or torn); or a row of 0 and 1,
@@ -72,7 +74,8 @@ struct unsynced {
 static const char *path, *keep, *wrong, *left, *refused, *stop;
 static char *names[MOST_FILES]; /* (of the open files) */
 static int file = -1, told = -1, listed = -1, is_short, is_full;
-static long calls, cut, failing, once, trim, killing, touches, all_calls, dying, breaking, halting;
+static long calls, cut, failing, once, trim, swap, killing, touches, all_calls, dying, breaking;
+static long halting;
 static unsigned long long room;
 static uint64_t dice, short_dice;
 static long slow, one_way;
@@ -156,6 +159,7 @@ __attribute__((constructor)) static void begin(void)
     failing = number_of("HURT_FAIL");
     once = number_of("HURT_ONCE");
     trim = number_of("HURT_TRIM");
+    swap = number_of("HURT_SWAP");
     killing = number_of("HURT_KILL");
     touches = number_of("HURT_TOUCH");
     dying = number_of("HURT_DIE");
@@ -283,6 +287,23 @@ static int breaks_at(const char *what, int fd)
     return breaks(what, fd >= 0 && fd < MOST_FILES && names[fd] ? names[fd] : "-");
 }
 
+/* Gives the file another one's bytes, by a descriptor of its own. */
+static void give_bytes(void)
+{
+    static unsigned char part[65536];
+    ssize_t count;
+    off_t at = 0;
+    int from = (int)syscall(SYS_openat, AT_FDCWD, getenv("HURT_FROM"), O_RDONLY | O_CLOEXEC, 0);
+    int to = (int)syscall(SYS_openat, AT_FDCWD, path, O_WRONLY | O_CLOEXEC, 0);
+    while ((count = syscall(SYS_read, from, part, sizeof part)) > 0) {
+        if (syscall(SYS_pwrite64, to, part, count, at) != count)
+            give_up("the file can't get other bytes");
+        at += count;
+    }
+    if (count || syscall(SYS_close, from) || syscall(SYS_close, to))
+        give_up("there are no other bytes");
+}
+
 /* Counts a call, and says whether it fails. */
 static int counted(const char *what, off_t at, size_t count)
 {
@@ -296,6 +317,8 @@ static int counted(const char *what, off_t at, size_t count)
     }
     if (calls == trim && syscall(SYS_truncate, path, number_of("HURT_TO")))
         give_up("it can't be cut short");
+    if (calls == swap)
+        give_bytes();
     if ((failing && calls >= failing) || calls == once) {
         errno = EIO;
         return 1;

@@ -19,7 +19,7 @@ use Rattle.run_journal.specs.Pairs.{AreZeros}
 use Rattle.run_journal.proofs.LayoutLemmas.{one_layout}
 use Rattle.state_renewal.specs.Renewed.{renewed_in}
 use Rattle.book_model.specs.Books.{BookView, acked}
-use Rattle.book_model.specs.Migrations.{HasMigrated, widened}
+use Rattle.book_model.specs.Migrations.{widened}
 use Rattle.book_model.specs.Openings.{FormatsNot, HasRecovered, RecoversNone}
 use Rattle.book_model.specs.Plays.{last_acked}
 use Rattle.book_model.specs.Standing.{Finds, LiesWith}
@@ -48,8 +48,8 @@ use Rattle.night_program.specs.Lasting.{IsReadAlone, Leads, LeadsBy, Migrating, 
 use Rattle.night_program.specs.Lasting.{Renewing, Run, RunLeaves, RunsLeave, Scripting}
 use Rattle.night_program.specs.Lasting.{StoresAfterRuns, Working}
 use Rattle.night_program.specs.Lasting.{flushed_by}
-use Rattle.night_program.specs.Stores.{EndsOver, FormatEnds, InspectEnds, MigrateEnds, Remakes}
-use Rattle.night_program.specs.Stores.{Runs, RunsOver, ScriptEnds, Shows, counted, view_text}
+use Rattle.night_program.specs.Stores.{EndsOver, FormatEnds, InspectEnds, MigratesRead, Remakes}
+use Rattle.night_program.specs.Stores.{Runs, RunsOver, ScriptEnds, Shows, view_text}
 use Rattle.night_program.specs.declared.renewals.Kept.{Kept}
 use Rattle.night_program.proofs.LastingLemmas.{crew_is_found, held_is_found, start_is}
 
@@ -426,23 +426,23 @@ module _ {D : Type 0} (state : D → DiskState) (disk : (d : D) → IsDisk (stat
       by fault.BadEvent none = absurd none
       by fault.NumbersSpent none = absurd none
 
-  migrate_leaves : {T : Type 0} (looked made read left : D) (p : State) (done : Result T RunFault)
-      (w0 w1 : Option (List ℕ)) → LiesWith state looked p → (state made).honest
+  migrate_leaves : (looked made read left : D) (p : State) (done : Result ℕ MigrateFault)
+      → LiesWith state looked p → (state made).honest
       → ((x : List ℕ) → (state made).images x → AreZeros x)
-      → MigrateEnds state state looked made done read left w0 w1
+      → MigratesRead state state looked made done read left
       → LeavesOnly (StoresNothingOr (widened p)) (state made) (state left)
-  migrate_leaves looked made read left p done w0 w1 lies honest zeros (inl (new, migrates, shows)) =
+  migrate_leaves looked made read left p (Ok count) lies honest zeros
+      (new, q, migrates, recovered, is) =
       let leaves = migrates.any_moment lies.honest p lies.stores honest zeros in
-      let alone = shows_alone counted new left done w0 w1 shows in
       then_read (StoresNothingOr (widened p)) made new left leaves
-      (alone.reads (new_honest migrates.answer))
-    where
-      new_honest : HasMigrated (state looked) (state read) (state made) (state new)
-          → (state new).honest
-      new_honest has = has.written.passed.honest honest
-  migrate_leaves looked made read left p done w0 w1 lies honest zeros
-      (inr (why, told, migrates, quiet)) =
+      (recovered.read.only (migrates.answer.written.passed.honest honest))
+  migrate_leaves looked made read left p (Err fault) lies honest zeros (inl migrates) =
       migrates.any_moment lies.honest p lies.stores honest zeros
+  migrate_leaves looked made read left p (Err fault) lies honest zeros
+      (inr (new, why, told, migrates, none)) =
+      let leaves = migrates.any_moment lies.honest p lies.stores honest zeros in
+      then_read (StoresNothingOr (widened p)) made new left leaves
+      ((none_alone why new left none).reads (migrates.answer.written.passed.honest honest))
 
   recovered_lies : (q p : State) (old new : D) → LiesWith state old p
       → HasRecovered q (state old) (state new) → LiesWith state new p
@@ -542,8 +542,8 @@ module _ {D : Type 0} (state : D → DiskState) (disk : (d : D) → IsDisk (stat
         state_then = widened p;
         leads = refl;
         lies = made_lies _ next (widened p) cuts
-            (migrate_leaves ends.0 cuts.made ends.3 cuts.left p ends.2 ends.4 ends.5 looked
-            cuts.honest cuts.zeros ends.6);
+            (migrate_leaves ends.0 cuts.made ends.3 cuts.left p ends.2 looked cuts.honest
+            cuts.zeros ends.4);
       }
   run_led given next p (Renewing layout) lies cuts =
       let ends = cuts.ends in

@@ -67,33 +67,37 @@ abbrev pub source_wrong : (from to : Option Layout) → RunFault → Option Wron
 source_wrong (Some from) None why = Some of_file.Large
 source_wrong from to why = wrong_of why
 
--- The file that is told, if one is, is the one of this name: why a call of it failed, or else this,
--- if anything, of what it holds.
-abbrev pub NamesBy : (held : Option Wrong) → List ℕ → Option FileFailure → Type 0
-NamesBy held name file =
+-- The file that is told of a store's fault, if one is, is the one of this name: why a call of it
+-- failed, or else this, if anything, of what it holds. Of any other fault, as of want of memory, no
+-- file is told.
+abbrev pub NamesBy : RunFault → (held : Option Wrong) → List ℕ → Option FileFailure → Type 0
+NamesBy (Store why) held name file =
     IfSome file (λ f. name_text f.name ≡ name)
     × (((reason : Reason) × (option_map (λ f. f.wrong) file ≡ Some (of_file.Call reason)))
     ⊎ (option_map (λ f. f.wrong) file ≡ held))
+NamesBy why held name file = file ≡ None
 
 -- It is told what the fault says of what the file of this name holds, or why a call of it failed.
 abbrev pub Names : List ℕ → Failure → Type 0
-Names name failure = NamesBy (wrong_of failure.fault) name failure.file
+Names name failure = NamesBy failure.fault (wrong_of failure.fault) name failure.file
 
 -- So it is of a store with this layout, of which one of that layout was to be made.
 abbrev pub NamesSource : (from to : Option Layout) → List ℕ → Failure → Type 0
 NamesSource from to name failure =
-    NamesBy (source_wrong from to failure.fault) name failure.file
+    NamesBy failure.fault (source_wrong from to failure.fault) name failure.file
 
--- So it is of the file of this name or of the one beside it, whichever is to blame that no store
--- was made there of what is in it.
-abbrev pub NamesBeside : MigrateFault → List ℕ → Failure → Type 0
-NamesBeside of_two.Memory store failure = failure.file ≡ None
-NamesBeside (of_two.Old why) store failure = Names store failure
-NamesBeside (of_two.New why) store failure = Names (beside store) failure
+-- So it is of the one of these two files that is to blame that no store was made in the new one of
+-- what is in the old one.
+abbrev pub NamesOf : MigrateFault → (old new : List ℕ) → Failure → Type 0
+NamesOf of_two.Memory old new failure = failure.file ≡ None
+NamesOf (of_two.Old why) old new failure = Names old failure
+NamesOf (of_two.New why) old new failure = Names new failure
 
--- The file that is told, if one is, is one of these two, of which a call failed.
-abbrev pub NamesOne : (old new : List ℕ) → Failure → Type 0
-NamesOne old new failure = NamesBy None old failure.file ⊎ NamesBy None new failure.file
+-- What a fault of a migration or of a renewal is to the program.
+abbrev pub unmigrated : MigrateFault → RunFault
+unmigrated of_two.Memory = Memory
+unmigrated (of_two.Old why) = stopped why
+unmigrated (of_two.New why) = stopped why
 
 -- The stream that is to blame for a fault.
 abbrev pub stream_of : RunFault → Option FileName
@@ -137,6 +141,10 @@ IsUnput store failure =
 abbrev pub FailsBy : (Failure → Type 0) → RunFault → Result Done Failure → Type 0
 FailsBy Of why answer =
     (failure : Failure) × (answer ≡ Err failure) × (failure.fault ≡ why) × Of failure
+
+-- This fault of a migration or of a renewal ended it, and the file that is to blame is told.
+abbrev pub FailsOf : MigrateFault → (old new : List ℕ) → Result Done Failure → Type 0
+FailsOf why old new answer = FailsBy (NamesOf why old new) (unmigrated why) answer
 
 -- What the program answers where this was done: all is well, or the same fault ended it.
 abbrev pub AnswersOver :

@@ -34,7 +34,7 @@ use Rattle.run_console.specs.Crews.{CrewEnds, StoresNight}
 use Rattle.night_program.specs.declared.renewals.Kept.{Kept}
 use Rattle.night_program.specs.Crews.{IsOpen}
 use Rattle.run_console.specs.declared.untils.Until.{Until}
-use Rattle.night_program.specs.Stores.{FormatEnds, MigrateEnds, Remakes, Runs, RunsOver}
+use Rattle.night_program.specs.Stores.{FormatEnds, MigratesRead, Remakes, Runs, RunsOver}
 
 -- What an opening finds under a name is an honest disk at rest, with what a crash may have left of
 -- the disk that was last there, at some moment from this one on.
@@ -174,8 +174,8 @@ module _ {D : Type 0} (state : D → DiskState) where
       × FormatEnds state made done left w0 w1) next
   RunLeaves given Migrating next =
       CutsMaking (λ made left. (looked : D) × IsReadAlone (state given) (state looked)
-      × (done : Result ⊤ RunFault) × (read : D) × (w0 : Option (List ℕ))
-      × (w1 : Option (List ℕ)) × MigrateEnds state state looked made done read left w0 w1) next
+      × (done : Result ℕ MigrateFault) × (read : D)
+      × MigratesRead state state looked made done read left) next
   RunLeaves given (Renewing layout) next =
       CutsMaking (λ made left. ((state made).size ≡ store_len layout)
       × (looked : D) × IsReadAlone (state given) (state looked)

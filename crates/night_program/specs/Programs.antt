@@ -7,6 +7,7 @@ use Rattle.run_model.specs.declared.layouts.Layout.{Layout}
 use Rattle.run_model.specs.declared.layouts.Layout.TheVariants.{Large}
 use Rattle.run_model.specs.Layouts.{layout_of}
 use Rattle.run_disk.specs.Disk.{DiskState}
+use Rattle.book_model.specs.declared.migrations.MigrateFault.{MigrateFault}
 use Rattle.console_lines.specs.declared.faults.RunFault.{RunFault}
 use Rattle.console_lines.specs.declared.faults.RunFault.TheVariants.{Memory}
 use Rattle.console_lines.specs.declared.strays.StrayLine.{StrayLine}
@@ -25,12 +26,13 @@ use Rattle.night_program.specs.Crews.{AnswersCrew, IsLooked, IsOpen, StopsAt}
 use Rattle.night_program.specs.Demos.{DemoEnds}
 use Rattle.night_program.specs.Endings.{EndsBy, Refuses}
 use Rattle.night_program.specs.Failures.{AnswersAlone, AnswersOver, AnswersStrict, HasNoFile}
-use Rattle.night_program.specs.Failures.{FailsBy, Names, NamesOne, NamesSource}
+use Rattle.night_program.specs.Failures.{FailsBy, Names, NamesSource}
 use Rattle.night_program.specs.Looks.{LookEnds}
 use Rattle.night_program.specs.Replacements.{DoesRenewInPlace}
 use Rattle.night_program.specs.Sources.{Serves, ServesNot, migrated_layout}
-use Rattle.night_program.specs.Stores.{FormatEnds, InspectEnds, MigrateEnds, Prints, RenewEnds}
-use Rattle.night_program.specs.Stores.{ScriptEnds, until_of}
+use Rattle.night_program.specs.Stores.{AnswersMade, DoesPrint, FormatEnds, InspectEnds}
+use Rattle.night_program.specs.Stores.{MigratesRead, Remakes, ScriptEnds, migrated_line}
+use Rattle.night_program.specs.Stores.{renewed_line, until_of}
 use Rattle.night_program.specs.Timed.{DoesTimed}
 use Rattle.store_files.specs.Files.{FilesView, Holds, HoldsAlone, IsNotMade, IsSettled, Makes}
 
@@ -41,7 +43,7 @@ asks_crew asked = false
 
 -- What became of a file after what it was made for: it is the disk that this left. But where that
 -- failed, a file that wasn't there before is taken away again.
-abbrev pub IsLeft : {F D T : Type 0} → FilesView F D → (is_new : Bool) → Result T RunFault
+abbrev pub IsLeft : {F D : Type 0} → FilesView F D → (is_new : Bool) → Result Done Failure
     → List ℕ → (left : D) → (f0 f1 : F) → Type 0
 IsLeft seen true (Err why) name left f0 f1 = seen.removes f0 name f1
 IsLeft seen _ _ name left f0 f1 = seen.puts f0 name left f1
@@ -60,7 +62,7 @@ module _ {F D : Type 0} (state : D → DiskState) (seen : FilesView F D) where
     pub makes : Makes state seen store Large only_new is_new given f0 made
     pub formats : FormatEnds state given done left w0 w1
     pub answers : AnswersOver (Names store) done answer
-    pub files : IsLeft seen is_new done store left made f1
+    pub files : IsLeft seen is_new answer store left made f1
 
   abbrev pub DoesFormat : List ℕ → Bool → Result Done Failure → (f0 f1 : F)
       → (w0 w1 : Option (List ℕ)) → Type 0
@@ -147,11 +149,11 @@ module _ {F D : Type 0} (state : D → DiskState) (seen : FilesView F D) where
     pub answers : HasNoFile new answer
 
   -- The store in the file of the old name was read whole. Then the file of the new one was made
-  -- anew, of the layout that goes with the old store, and a store made of it so (Ends). The old
-  -- file is the disk that was read.
-  pub record MakesOf (of : D → Option Layout)
-      (Ends : (source given : D) → Result ⊤ RunFault → (read left : D)
-      → (w0 w1 : Option (List ℕ)) → Type 0)
+  -- anew, of the layout that goes with the old store, and a store made of it so (Ends), of which
+  -- this line was printed; or it failed by the one file or the other. The old file is the disk that
+  -- was read.
+  pub record MakesOf {K : Type 0} (of : D → Option Layout) (line : K → List ℕ)
+      (Ends : (source given : D) → Result K MigrateFault → (read left : D) → Type 0)
       (only_new : Bool) (old new : List ℕ) (answer : Result Done Failure) (f0 f1 : F)
       (w0 w1 : Option (List ℕ)) : Type 0 where
     pub source : D
@@ -161,42 +163,41 @@ module _ {F D : Type 0} (state : D → DiskState) (seen : FilesView F D) where
     pub given : D
     pub read : D
     pub left : D
-    pub done : Result ⊤ RunFault
+    pub done : Result K MigrateFault
     pub settled : IsSettled (state source)
     pub fits : of source ≡ Some layout
     pub serves : Serves (state source) (state looked)
-    pub ends : Ends looked given done read left w0 w1
-    pub answers : AnswersOver (NamesOne old new) done answer
+    pub ends : Ends looked given done read left
+    pub answers : AnswersMade line old new done answer w0 w1
     pub held : Holds seen seen.shows old (λ opened after. (made : F)
         × Makes state seen new layout only_new is_new given opened made
-        × IsLeft seen is_new done new left made after) source read f0 f1
+        × IsLeft seen is_new answer new left made after) source read f0 f1
 
   -- A store was made of another one so (Ends), of the layout that goes with it. Or nothing was
   -- printed: the old file couldn't be opened, or no store is made of what is in it, or the new file
   -- couldn't be made anew.
-  abbrev pub DoesMake : (of : D → Option Layout)
-      → (Ends : (source given : D) → Result ⊤ RunFault → (read left : D)
-      → (w0 w1 : Option (List ℕ)) → Type 0)
+  abbrev pub DoesMake : {K : Type 0} → (of : D → Option Layout) → (line : K → List ℕ)
+      → (Ends : (source given : D) → Result K MigrateFault → (read left : D) → Type 0)
       → (only_new : Bool) → (old new : List ℕ) → Result Done Failure → (f0 f1 : F)
       → (w0 w1 : Option (List ℕ)) → Type 0
-  DoesMake of Ends only_new old new answer f0 f1 w0 w1 =
+  DoesMake of line Ends only_new old new answer f0 f1 w0 w1 =
       (HasNoFile old answer × (f1 ≡ f0) × (w1 ≡ w0))
       ⊎ ((Spares of old answer f0 f1 × (w1 ≡ w0))
       ⊎ ((MakesNone of only_new old new answer f0 f1 × (w1 ≡ w0))
-      ⊎ MakesOf of Ends only_new old new answer f0 f1 w0 w1))
+      ⊎ MakesOf of line Ends only_new old new answer f0 f1 w0 w1))
 
   -- The small store in the file of the old name was migrated to a large one.
   abbrev pub DoesMigrate : (only_new : Bool) → (old new : List ℕ) → Result Done Failure
       → (f0 f1 : F) → (w0 w1 : Option (List ℕ)) → Type 0
   DoesMigrate only_new old new answer f0 f1 w0 w1 =
-      DoesMake (λ source. migrated_layout (state source).size) (MigrateEnds state state)
-      only_new old new answer f0 f1 w0 w1
+      DoesMake (λ source. migrated_layout (state source).size) migrated_line
+      (MigratesRead state state) only_new old new answer f0 f1 w0 w1
 
   -- The store in the file of the old name was renewed: the new one is of its layout.
   abbrev pub DoesRenew : (only_new : Bool) → (old new : List ℕ) → Result Done Failure
       → (f0 f1 : F) → (w0 w1 : Option (List ℕ)) → Type 0
   DoesRenew only_new old new answer f0 f1 w0 w1 =
-      DoesMake (λ source. layout_of (state source).size) (RenewEnds state state)
+      DoesMake (λ source. layout_of (state source).size) renewed_line (Remakes state state)
       only_new old new answer f0 f1 w0 w1
 
   -- ---- crew
@@ -245,11 +246,6 @@ module _ {F D : Type 0} (state : D → DiskState) (seen : FilesView F D) where
   DoesDemo strict answer r0 r1 w0 w1 =
       (done : Result (Option StrayLine) RunFault) × DemoEnds (until_of strict) done r0 r1 w0 w1
       × AnswersStrict (λ failure. failure.file ≡ None) done answer
-
-  -- A text was printed.
-  abbrev pub DoesPrint : List ℕ → Result Done Failure → (w0 w1 : Option (List ℕ)) → Type 0
-  DoesPrint text answer w0 w1 =
-      (done : Result ⊤ RunFault) × Prints text done w0 w1 × AnswersAlone done answer
 
   -- ---- all words
 

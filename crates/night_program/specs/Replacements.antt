@@ -10,11 +10,10 @@ use Rattle.console_lines.specs.declared.faults.RunFault.TheVariants.{Memory}
 use Rattle.night_program.specs.declared.endings.Done.{Done}
 use Rattle.night_program.specs.declared.failures.Failure.{Failure}
 use Rattle.night_program.specs.declared.renewals.Kept.{Kept}
-use Rattle.night_program.specs.Failures.{AnswersAlone, AnswersOver, FailsBy, HasNoFile, HasNoSize}
-use Rattle.night_program.specs.Failures.{IsUnput, Names, NamesBeside}
+use Rattle.night_program.specs.Failures.{AnswersAlone, FailsOf, HasNoFile, HasNoSize, IsUnput}
 use Rattle.store_files.specs.Files.{FilesView, Holds, HoldsAlone, IsKept, IsNotMade, IsReplaced}
 use Rattle.store_files.specs.Files.{IsSettled, Makes, beside}
-use Rattle.night_program.specs.Stores.{Prints, Remakes, sizes_line, unmigrated}
+use Rattle.night_program.specs.Stores.{DoesPrint, Remakes, renewed_line}
 
 module _ {F D : Type 0} (state : D → DiskState) (seen : FilesView F D) where
   -- The file of this name was had for this program alone, and taken away; or nothing was done.
@@ -56,14 +55,11 @@ module _ {F D : Type 0} (state : D → DiskState) (seen : FilesView F D) where
   abbrev pub Puts : (store : List ℕ) → Result Kept MigrateFault → (read left : D)
       → Result Done Failure → (f0 f1 : F) → (w0 w1 : Option (List ℕ)) → Type 0
   Puts store (Ok kept) read left answer f0 f1 w0 w1 =
-      (IsReplaced seen left (beside store) store f0 f1
-      × ((done : Result ⊤ RunFault) × Prints (sizes_line kept.before kept.left) done w0 w1
-      × AnswersOver (Names store) done answer))
+      (IsReplaced seen left (beside store) store f0 f1 × DoesPrint (renewed_line kept) answer w0 w1)
       ⊎ (IsNotPut left read (beside store) store f0 f1
       × ((failure : Failure) × (answer ≡ Err failure) × IsUnput store failure) × (w1 ≡ w0))
   Puts store (Err why) read left answer f0 f1 w0 w1 =
-      IsNotBeside store read f0 f1
-      × FailsBy (NamesBeside why store) (unmigrated why) answer × (w1 ≡ w0)
+      IsNotBeside store read f0 f1 × FailsOf why store (beside store) answer × (w1 ≡ w0)
 
   -- The store on the one disk was renewed to the other one, the file beside, and that put in its
   -- place.

@@ -1,6 +1,6 @@
 -- What each word does to a store, by what its disk was and what is left of it.
 use Rattle.std.specs.Prelude.{◌≡◌, ◌⊎◌, ◌++◌, ℕ, List, Option, Result, Ok, Err, codes}
-use Rattle.std.specs.Prelude.{Bool, true, false, length, option_map}
+use Rattle.std.specs.Prelude.{⊤, Bool, true, false, length, option_map}
 use Rattle.std.specs.Fmt.{decimal}
 use Rattle.std.specs.Io.KnownBytes.{Appends}
 use Rattle.run_model.specs.declared.faults.Fault.{Fault}
@@ -14,7 +14,7 @@ use Rattle.book_model.specs.Migrations.{Migrates}
 use Rattle.run_model.specs.Session.{begun_at}
 use Rattle.run_book.specs.Renewals.{Renews}
 use Rattle.console_lines.specs.declared.faults.RunFault.{RunFault}
-use Rattle.console_lines.specs.declared.faults.RunFault.TheVariants.{Memory, Output}
+use Rattle.console_lines.specs.declared.faults.RunFault.TheVariants.{Output}
 use Rattle.console_lines.specs.declared.strays.StrayLine.{StrayLine}
 use Rattle.console_lines.specs.Entries.{json_text}
 use Rattle.console_lines.specs.Inspected.{inspected}
@@ -28,6 +28,9 @@ use Rattle.run_console.specs.declared.untils.Until.{Until}
 use Rattle.run_console.specs.declared.untils.Until.TheVariants.{End, FirstStray}
 use Rattle.night_words.specs.declared.asked.View.{View}
 use Rattle.night_words.specs.declared.asked.View.TheVariants.{Json, Summary, Tasks, Tree, Whole}
+use Rattle.night_program.specs.Failures.{AnswersAlone, FailsOf}
+use Rattle.night_program.specs.declared.endings.Done.{Done}
+use Rattle.night_program.specs.declared.failures.Failure.{Failure}
 use Rattle.night_program.specs.declared.renewals.Kept.{Kept}
 use Rattle.night_program.specs.declared.renewals.Sizes.{Sizes}
 
@@ -35,6 +38,11 @@ use Rattle.night_program.specs.declared.renewals.Sizes.{Sizes}
 abbrev pub Prints : {T : Type 0} → List ℕ → Result T RunFault → (w0 w1 : Option (List ℕ)) → Type 0
 Prints text (Ok done) w0 w1 = Appends w0 w1 text
 Prints text (Err why) w0 w1 = (why ≡ Output) × WritesPart w0 w1 text
+
+-- A text was printed, and no file is to blame if it wasn't.
+abbrev pub DoesPrint : List ℕ → Result Done Failure → (w0 w1 : Option (List ℕ)) → Type 0
+DoesPrint text answer w0 w1 =
+    (done : Result ⊤ RunFault) × Prints text done w0 w1 × AnswersAlone done answer
 
 -- ---- format
 
@@ -124,31 +132,32 @@ InspectEnds view state old answer new w0 w1 = Shows (view_text view) state old a
 abbrev pub migrated_line : ℕ → List ℕ
 migrated_line count = codes "migrated; events " ++ (decimal count ++ codes "\n")
 
-abbrev pub counted : State → List ℕ
-counted p = migrated_line p.count
+-- A store was made of another one so (Made), and wasn't read: the fault is the new store's. Or none
+-- was made.
+abbrev pub MakesNot : {D E : Type 0} → (Made : Result E (MigrateFault × E) → D → Type 0)
+    → (to : E → DiskState) → MigrateFault → (read : D) → (left : E) → Type 0
+MakesNot {E = E} Made to fault read left =
+    Made (Err (fault, left)) read
+    ⊎ ((made : E) × (why : Fault) × (fault ≡ of_two.New why) × Made (Ok made) read
+    × RecoversNone to made why left)
 
--- What a fault of a migration is to the program: it doesn't tell which of the two stores failed.
-abbrev pub unmigrated : MigrateFault → RunFault
-unmigrated of_two.Memory = Memory
-unmigrated (of_two.Old why) = stopped why
-unmigrated (of_two.New why) = stopped why
+-- The small store was migrated, and what was made of it was read: so many events it stores. Or why
+-- not, and what is left of the two disks.
+abbrev pub MigratesRead : {D E : Type 0} → (D → DiskState) → (E → DiskState) → (old : D)
+    → (given : E) → Result ℕ MigrateFault → (read : D) → (left : E) → Type 0
+MigratesRead {E = E} from to old given (Ok count) read left =
+    (made : E) × (p : State) × Migrates from to old given (Ok made) read
+    × HasRecovered p (to made) (to left) × (count ≡ p.count)
+MigratesRead from to old given (Err fault) read left =
+    MakesNot (Migrates from to old given) to fault read left
 
--- A store was made of another one, and this text shown of it. Or it was not, and nothing was
--- printed: the fault tells why. What is left of the two disks `Made` says.
-abbrev pub MakesShown : {T D E : Type 0} → (State → List ℕ)
-    → (Made : Result E (MigrateFault × E) → D → Type 0) → (to : E → DiskState)
-    → Result T RunFault → (read : D) → (left : E) → (w0 w1 : Option (List ℕ)) → Type 0
-MakesShown {E = E} text Made to answer read left w0 w1 =
-    ((made : E) × Made (Ok made) read × Shows text to made answer left w0 w1)
-    ⊎ ((why : MigrateFault) × (answer ≡ Err (unmigrated why))
-    × Made (Err (why, left)) read × (w1 ≡ w0))
-
--- The small store was migrated, and the number of events shown that the new one stores.
-abbrev pub MigrateEnds : {T D E : Type 0} → (D → DiskState) → (E → DiskState) → (old : D)
-    → (given : E) → Result T RunFault → (read : D) → (left : E)
-    → (w0 w1 : Option (List ℕ)) → Type 0
-MigrateEnds from to old given answer read left w0 w1 =
-    MakesShown counted (Migrates from to old given) to answer read left w0 w1
+-- A store was made in the new file of what is in the old one, and this line of it printed. Or none
+-- was made, or it wasn't read, and nothing was printed: the fault and the file that is to blame are
+-- told.
+abbrev pub AnswersMade : {K : Type 0} → (line : K → List ℕ) → (old new : List ℕ)
+    → Result K MigrateFault → Result Done Failure → (w0 w1 : Option (List ℕ)) → Type 0
+AnswersMade line old new (Ok kept) answer w0 w1 = DoesPrint (line kept) answer w0 w1
+AnswersMade line old new (Err why) answer w0 w1 = FailsOf why old new answer × (w1 ≡ w0)
 
 -- ---- renew
 
@@ -178,6 +187,9 @@ sizes_line before left =
     ++ (of_text (codes "; groups ") left.groups before.groups
     ++ (of_text (codes "; tasks ") left.tasks before.tasks ++ codes "\n"))))
 
+abbrev pub renewed_line : Kept → List ℕ
+renewed_line kept = sizes_line kept.before kept.left
+
 -- A store was read, then renewed, and what was made of it was read: so much there was, and so much
 -- is left.
 pub record HasRemade {D E : Type 0} (from : D → DiskState) (to : E → DiskState) (old : D)
@@ -192,29 +204,12 @@ pub record HasRemade {D E : Type 0} (from : D → DiskState) (to : E → DiskSta
 -- none was made of it; or one was, which wasn't read.
 abbrev pub RemakesNot : {D E : Type 0} → (D → DiskState) → (E → DiskState) → (old : D)
     → (given : E) → MigrateFault → (read : D) → (left : E) → Type 0
-RemakesNot {D = D} {E = E} from to old given fault read left =
+RemakesNot {D = D} from to old given fault read left =
     ((why : Fault) × (fault ≡ of_two.Old why) × RecoversNone from old why read × (left ≡ given))
     ⊎ ((p : State) × (seen : D) × HasRecovered p (from old) (from seen)
-    × (Renews from to seen given (Err (fault, left)) read
-    ⊎ ((made : E) × (why : Fault) × (fault ≡ of_two.New why)
-    × Renews from to seen given (Ok made) read × RecoversNone to made why left)))
+    × MakesNot (Renews from to seen given) to fault read left)
 
 abbrev pub Remakes : {D E : Type 0} → (D → DiskState) → (E → DiskState) → (old : D)
     → (given : E) → Result Kept MigrateFault → (read : D) → (left : E) → Type 0
 Remakes from to old given (Ok kept) read left = HasRemade from to old given kept read left
 Remakes from to old given (Err fault) read left = RemakesNot from to old given fault read left
-
--- What is left was printed; or nothing was, since there is nothing: the same fault tells why.
-abbrev pub PrintsKept : {T : Type 0} → Result Kept MigrateFault → Result T RunFault
-    → (w0 w1 : Option (List ℕ)) → Type 0
-PrintsKept (Ok kept) answer w0 w1 = Prints (sizes_line kept.before kept.left) answer w0 w1
-PrintsKept (Err why) answer w0 w1 = (answer ≡ Err (unmigrated why)) × (w1 ≡ w0)
-
--- The old store was read, then renewed, and shown how much of it the new one stores; or not, and
--- nothing was printed.
-abbrev pub RenewEnds : {T D E : Type 0} → (D → DiskState) → (E → DiskState) → (old : D)
-    → (given : E) → Result T RunFault → (read : D) → (left : E)
-    → (w0 w1 : Option (List ℕ)) → Type 0
-RenewEnds from to old given answer read left w0 w1 =
-    (done : Result Kept MigrateFault) × Remakes from to old given done read left
-    × PrintsKept done answer w0 w1

@@ -1,16 +1,17 @@
 //! A [`Failure`] is what ended the program before it did what its words ask for.
 
 ghost use Rattle.std.specs.Prelude.{◌≡◌, None, Some};
+ghost use Rattle.run_model.specs.declared.faults.Trouble.{Trouble as TroubleOf};
+ghost use Rattle.console_lines.specs.declared.faults.RunFault.TheVariants.{Store};
 ghost use Rattle.night_program.specs.Failures.{AnswersAlone, AnswersOver, AnswersStrict};
-ghost use Rattle.night_program.specs.Failures.{IsNoFile, IsUnput, Names, NamesBeside, NamesBy};
-ghost use Rattle.night_program.specs.Failures.{NamesOne, NamesSource, blamed, fault_of, name_text};
-ghost use Rattle.night_program.specs.Stores.{unmigrated};
+ghost use Rattle.night_program.specs.Failures.{IsNoFile, IsUnput, Names, NamesBy, NamesOf};
+ghost use Rattle.night_program.specs.Failures.{NamesSource, blamed, fault_of, name_text, unmigrated};
 
 use crate::endings::Done;
-use crate::migrations::unmigrated;
 use crate::wrongs::Wrong;
 use console_lines::{RunFault, StrayLine};
 use run_book::MigrateFault;
+use run_console::stopped;
 use run_model::{Fault, Layout, Trouble};
 use std::fmt;
 use store_files::{BESIDE, Reason, Why};
@@ -133,8 +134,7 @@ pub fn failed_over<'a, Y: Why>(fault: RunFault, name: &'a str, why: &Y) -> Failu
     ensures fault { result.fault ≡ fault }
     ensures file { Names name.now result }
 {
-    let file = failed(FileName::Own(name), why, Wrong::of(fault));
-    Failure { fault, file }
+    failed(fault, FileName::Own(name), why, Wrong::of(fault))
 }
 
 /// So does [`failed_over`], of a file that has the size of a store of the layout `from`, if of any,
@@ -149,33 +149,75 @@ pub fn failed_source<'a, Y: Why>(
     ensures fault { result.fault ≡ fault }
     ensures file { NamesSource from to name.now result }
 {
-    let file = failed(FileName::Own(name), why, Wrong::of_source(from, to, fault));
-    Failure { fault, file }
+    failed(
+        fault,
+        FileName::Own(name),
+        why,
+        Wrong::of_source(from, to, fault),
+    )
 }
 
-/// Why no store was made in the file beside the one of this name, of what is in it: the one or the
-/// other is to blame.
-pub fn failed_beside<'a, Y: Why>(
+/// Why no store was made in the new file of what is in the old one: whichever of the two is to blame
+/// is named.
+pub fn failed_of<'a, Y: Why>(
     fault: MigrateFault,
-    store: &'a str,
-    why: &Y,
-    why_beside: &Y,
+    old: FileName<'a>,
+    why_old: &Y,
+    new: FileName<'a>,
+    why_new: &Y,
 ) -> Failure<'a>
     ensures fault { result.fault ≡ unmigrated fault }
-    ensures file { NamesBeside fault store.now result }
+    ensures file { NamesOf fault (name_text old.entry) (name_text new.entry) result }
 {
     let told = unmigrated(fault);
-    let file = match fault {
-        MigrateFault::Memory => None,
-        MigrateFault::Old(_) => failed(FileName::Own(store), why, Wrong::of(told)),
-        MigrateFault::New(_) => failed(FileName::Beside(store), why_beside, Wrong::of(told)),
-    };
-    Failure { fault: told, file }
+    match fault {
+        MigrateFault::Memory => Failure {
+            fault: told,
+            file: None,
+        },
+        MigrateFault::Old(_) => failed(told, old, why_old, Wrong::of(told)),
+        MigrateFault::New(_) => failed(told, new, why_new, Wrong::of(told)),
+    }
+}
+
+/// What a fault of a migration or of a renewal is to the program.
+fn unmigrated(fault: MigrateFault) -> RunFault
+    ensures { result ≡ unmigrated fault }
+{
+    match fault {
+        MigrateFault::Memory => RunFault::Memory,
+        MigrateFault::Old(fault) | MigrateFault::New(fault) => stopped(fault),
+    }
+}
+
+/// This fault, and if it is a store's, the file of this name.
+fn failed<'a, Y: Why>(
+    fault: RunFault,
+    name: FileName<'a>,
+    why: &Y,
+    held: Option<Wrong>,
+) -> Failure<'a>
+    ensures fault { result.fault ≡ fault }
+    ensures file { NamesBy fault held (name_text name.entry) result.file }
+{
+    match fault {
+        RunFault::Store(_) => Failure {
+            fault,
+            file: file_failed(name, why, held),
+        },
+        RunFault::Input | RunFault::Output | RunFault::InputTooLong | RunFault::Memory => {
+            Failure { fault, file: None }
+        }
+    }
 }
 
 /// The file of this name, of which a call failed, or else with what is wrong with what it holds.
-fn failed<'a, Y: Why>(name: FileName<'a>, why: &Y, held: Option<Wrong>) -> Option<FileFailure<'a>>
-    ensures { NamesBy held (name_text name.entry) result }
+fn file_failed<'a, Y: Why>(
+    name: FileName<'a>,
+    why: &Y,
+    held: Option<Wrong>,
+) -> Option<FileFailure<'a>>
+    ensures { (trouble : TroubleOf) → NamesBy (Store trouble) held (name_text name.entry) result }
 {
     match why.reason() {
         Some(reason) => Some(of_call(name, reason)),
@@ -224,28 +266,6 @@ pub fn strict_alone<'a>(done: Result<Option<StrayLine>, RunFault>) -> Result<Don
         Ok(Some(line)) => Ok(Done::Stray(line)),
         Err(fault) => Err(Failure { fault, file: None }),
     }
-}
-
-/// What came of what was done over two files, each with its name; the first of which a call failed
-/// is named. If none failed, neither is: a fault doesn't say in which store it was found.
-pub fn done_over_two<'a, Y: Why>(
-    done: Result<(), RunFault>,
-    old: &'a str,
-    why_old: &Y,
-    new: FileName<'a>,
-    why_new: &Y,
-) -> Result<Done, Failure<'a>>
-    ensures { AnswersOver (NamesOne old.now (name_text new.entry)) done result }
-{
-    let fault = match done {
-        Ok(()) => return Ok(Done::Well),
-        Err(fault) => fault,
-    };
-    let file = match failed(FileName::Own(old), why_old, None) {
-        Some(file) => Some(file),
-        None => failed(new, why_new, None),
-    };
-    Err(Failure { fault, file })
 }
 
 /// What came of what was done without a file.

@@ -32,7 +32,7 @@ pub use lasting::{
 };
 pub use migrations::migrate;
 pub use programs::night;
-pub use renewals::renew;
+pub use renewals::{Kept, renew};
 pub use run_console::Until;
 pub use stores::{format, inspect, script};
 pub use streams::Streams;

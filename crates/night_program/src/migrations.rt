@@ -3,52 +3,58 @@
 ghost use Rattle.std.specs.Prelude.{◌≡◌, ◌+◌, ◌≤◌, length};
 ghost use Rattle.arrayvec.specs.ArrayVec.{array_vec_len};
 ghost use Rattle.console_lines.specs.Gathers.{Gathers};
-ghost use Rattle.run_model.specs.State.{State};
-ghost use Rattle.night_program.specs.Stores.{MigrateEnds, Prints, Shows, counted, migrated_line};
-ghost use Rattle.night_program.specs.Stores.{unmigrated};
+ghost use Rattle.night_program.specs.Stores.{AnswersMade, MigratesRead, Prints, migrated_line};
 
+use crate::endings::Done;
+use crate::failures::{Failure, FileName, done_alone, failed_of};
 use arrayvec::ArrayVec;
 use console_lines::RunFault;
 use itoa::Buffer;
 use run_book::MigrateFault;
-use run_console::{Book, stopped, write_whole};
+use run_console::{Book, write_whole};
 use run_disk::RunDisk;
 use std::alloc::Global;
 use std::io::Write;
+use store_files::Why;
 
 /// Makes a large store of `new`, a disk of its size, with the state that the small store on `old`
-/// holds, and prints `migrated; events N`: so many events are read in the new store after that. The
-/// old disk is only read. The new one is handed back.
-pub fn migrate<D: RunDisk, E: RunDisk, W: Write>(
+/// holds, and reads how many events it has. The old disk is only read. The new one is handed back.
+pub fn migrate<D: RunDisk, E: RunDisk>(
     alloc: Global,
     old: &mut D,
     new: E,
-    output: &mut W,
-) -> (Result<(), RunFault>, E)
-    ensures { MigrateEnds D.state E.state old.old new result.0 old.new result.1
-        (W.contents output.old) (W.contents output.new) }
+) -> (Result<u64, MigrateFault>, E)
+    ensures { MigratesRead D.state E.state old.old new result.0 old.new result.1 }
 {
-    match run_book::migrate(alloc, old, new) {
-        Ok(mut made) => {
-            let answer = show_count(alloc, &mut made, output);
-            (answer, made)
-        }
-        Err((fault, left)) => (Err(unmigrated(fault)), left),
+    let mut made = match run_book::migrate(alloc, old, new) {
+        Ok(made) => made,
+        Err((fault, left)) => return (Err(fault), left),
+    };
+    match Book::recover(alloc, &mut made) {
+        Ok(state) => (Ok(state.count()), made),
+        Err(fault) => (Err(MigrateFault::New(fault)), made),
     }
 }
 
-/// Reads the store that was made, and prints how many events it has.
-fn show_count<D: RunDisk, W: Write>(
-    alloc: Global,
-    disk: &mut D,
+/// Prints what came of a migration from the one file to the other: `migrated; events N`, if so many
+/// were read in the new store. Else the fault names the file that is to blame.
+pub fn migrated<'a, Y: Why, W: Write>(
+    done: Result<u64, MigrateFault>,
+    old: &'a str,
+    why_old: &Y,
+    new: &'a str,
+    why_new: &Y,
     output: &mut W,
-) -> Result<(), RunFault>
-    ensures { Shows counted D.state disk.old result disk.new
+) -> Result<Done, Failure<'a>>
+    ensures { AnswersMade migrated_line old.now new.now done result
         (W.contents output.old) (W.contents output.new) }
 {
-    match Book::recover(alloc, disk) {
-        Ok(state) => print_count(state.count(), output),
-        Err(fault) => Err(stopped(fault)),
+    match done {
+        Ok(count) => done_alone(print_count(count, output)),
+        Err(fault) => {
+            let old = FileName::Own(old);
+            Err(failed_of(fault, old, why_old, FileName::Own(new), why_new))
+        }
     }
 }
 
@@ -72,15 +78,5 @@ pub(crate) fn push<const N: usize>(line: &mut ArrayVec<u8, N>, bytes: &[u8])
     match line.try_extend_from_slice(bytes) {
         Ok(()) => (),
         Err(_) => unreachable!(),
-    }
-}
-
-/// What a fault of a migration is to the program. It doesn't say which store failed.
-pub(crate) fn unmigrated(fault: MigrateFault) -> RunFault
-    ensures { result ≡ unmigrated fault }
-{
-    match fault {
-        MigrateFault::Memory => RunFault::Memory,
-        MigrateFault::Old(fault) | MigrateFault::New(fault) => stopped(fault),
     }
 }

@@ -11,18 +11,16 @@ use crate::crews::crew_file;
 use crate::demos::demo;
 use crate::endings::{Done, Ended, end, refuse};
 use crate::failures::{
-    Failure, FileName, done_alone, done_over, done_over_two, failed_source, no_file, strict_alone,
-    strict_over,
+    Failure, done_alone, done_over, failed_source, no_file, strict_alone, strict_over,
 };
 use crate::looks::look;
-use crate::migrations::migrate;
-use crate::renewals::renew;
+use crate::migrations::{migrate, migrated};
+use crate::renewals::{renew, renewed};
 use crate::replacements::renew_in_place;
 use crate::sources::{migrated_layout, read_source};
 use crate::stores::{format, inspect, script, until_of};
 use crate::streams::Streams;
 use crate::timed::timed_file;
-use console_lines::RunFault;
 use night_words::{Asked, View, WordsFault, read_words};
 use run_console::{stopped, write_whole};
 use run_crew::Job;
@@ -176,8 +174,9 @@ fn format_file<'a, F: Files, O: Write>(
     match make(store, Layout::Large, only_new, files) {
         Ok(Made { disk, why, is_new }) => {
             let (done, left) = format(disk, output);
-            leave(files, store, is_new, left, &done);
-            done_over(done, store, &why)
+            let answer = done_over(done, store, &why);
+            leave(files, store, is_new, left, &answer);
+            answer
         }
         Err(reason) => Err(no_file(store, reason)),
     }
@@ -210,11 +209,11 @@ fn leave<F: Files>(
     name: &str,
     is_new: bool,
     left: F::Disk,
-    done: &Result<(), RunFault>,
+    answer: &Result<Done, Failure<'_>>,
 )
-    ensures { IsLeft F.seen is_new done.now name.now left files.old files.new }
+    ensures { IsLeft F.seen is_new answer.now name.now left files.old files.new }
 {
-    if is_new && done.is_err() {
+    if is_new && answer.is_err() {
         files.remove(name);
     } else {
         files.close(name, left);
@@ -322,10 +321,11 @@ fn migrate_file<'a, F: Files, O: Write>(
     };
     match make(new, large, only_new, files) {
         Ok(Made { disk, why, is_new }) => {
-            let (done, left) = migrate(alloc, &mut source, disk, output);
-            leave(files, new, is_new, left, &done);
+            let (done, left) = migrate(alloc, &mut source, disk);
+            let answer = migrated(done, old, &why_old, new, &why, output);
+            leave(files, new, is_new, left, &answer);
             files.close(old, source);
-            done_over_two(done, old, &why_old, FileName::Own(new), &why)
+            answer
         }
         Err(reason) => {
             files.close(old, source);
@@ -365,10 +365,11 @@ fn renew_file<'a, F: Files, O: Write>(
     };
     match make(new, layout, only_new, files) {
         Ok(Made { disk, why, is_new }) => {
-            let (done, left) = renew(alloc, &mut stored, disk, output);
-            leave(files, new, is_new, left, &done);
+            let (done, left) = renew(alloc, &mut stored, disk);
+            let answer = renewed(done, old, &why_old, new, &why, output);
+            leave(files, new, is_new, left, &answer);
             files.close(old, stored);
-            done_over_two(done, old, &why_old, FileName::Own(new), &why)
+            answer
         }
         Err(reason) => {
             files.close(old, stored);

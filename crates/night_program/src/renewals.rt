@@ -5,10 +5,12 @@ ghost use Rattle.std.specs.Fmt.{decimal};
 ghost use Rattle.arrayvec.specs.ArrayVec.{array_vec_len};
 ghost use Rattle.book_model.specs.Openings.{RecoversNone};
 ghost use Rattle.console_lines.specs.Gathers.{Gathers};
-ghost use Rattle.night_program.specs.Stores.{HasSizes, Prints, PrintsKept, Remakes, RenewEnds};
-ghost use Rattle.night_program.specs.Stores.{of_text, sizes, sizes_line};
+ghost use Rattle.night_program.specs.Stores.{AnswersMade, HasSizes, Prints, Remakes, of_text};
+ghost use Rattle.night_program.specs.Stores.{renewed_line, sizes, sizes_line};
 
-use crate::migrations::{push, unmigrated};
+use crate::endings::Done;
+use crate::failures::{Failure, FileName, done_alone, failed_of};
+use crate::migrations::push;
 use arrayvec::ArrayVec;
 use console_lines::RunFault;
 use itoa::Buffer;
@@ -19,6 +21,7 @@ use run_model::Fault;
 use run_state::State;
 use std::alloc::{Allocator, Global};
 use std::io::Write;
+use store_files::Why;
 
 /// How many events, scopes, groups and tasks a state has.
 #[derive(Clone, Copy)]
@@ -37,26 +40,9 @@ pub struct Kept {
 }
 
 /// Makes of `new`, a disk of a store's size, a store of what isn't finished in the store on `old`,
-/// and prints `renewed; events N; scopes A of B; groups C of D; tasks E of F`: N, A, C and E are
-/// read in the new store after that, B, D and F in the old one before. The old disk is only read.
-/// The new one is handed back.
-pub fn renew<D: RunDisk, E: RunDisk, W: Write>(
-    alloc: Global,
-    old: &mut D,
-    new: E,
-    output: &mut W,
-) -> (Result<(), RunFault>, E)
-    ensures { RenewEnds D.state E.state old.old new result.0 old.new result.1
-        (W.contents output.old) (W.contents output.new) }
-{
-    let (done, left) = remake(alloc, old, new);
-    (print_kept(done, output), left)
-}
-
-/// Makes of `new`, a disk of a store's size, a store of what isn't finished in the store on `old`,
 /// and reads how much that is: in the old store before, and in the new one after. The old disk is
 /// only read. The new one is handed back.
-pub fn remake<D: RunDisk, E: RunDisk>(
+pub fn renew<D: RunDisk, E: RunDisk>(
     alloc: Global,
     old: &mut D,
     new: E,
@@ -77,13 +63,26 @@ pub fn remake<D: RunDisk, E: RunDisk>(
     }
 }
 
-/// Prints the line of a renewal, if there is one.
-fn print_kept<W: Write>(done: Result<Kept, MigrateFault>, output: &mut W) -> Result<(), RunFault>
-    ensures { PrintsKept done result (W.contents output.old) (W.contents output.new) }
+/// Prints what came of a renewal from the one file to the other: `renewed; events N; scopes A of B;
+/// groups C of D; tasks E of F`, if N, A, C and E were read in the new store, and B, D and F before
+/// in the old one. Else the fault names the file that is to blame.
+pub fn renewed<'a, Y: Why, W: Write>(
+    done: Result<Kept, MigrateFault>,
+    old: &'a str,
+    why_old: &Y,
+    new: &'a str,
+    why_new: &Y,
+    output: &mut W,
+) -> Result<Done, Failure<'a>>
+    ensures { AnswersMade renewed_line old.now new.now done result
+        (W.contents output.old) (W.contents output.new) }
 {
     match done {
-        Ok(kept) => print_sizes(kept, output),
-        Err(fault) => Err(unmigrated(fault)),
+        Ok(kept) => done_alone(print_sizes(kept, output)),
+        Err(fault) => {
+            let old = FileName::Own(old);
+            Err(failed_of(fault, old, why_old, FileName::Own(new), why_new))
+        }
     }
 }
 
@@ -111,7 +110,7 @@ fn sizes_of<A: Allocator>(state: &State<A>) -> Sizes
 
 /// Prints the line of a renewal. It takes no memory.
 pub fn print_sizes<W: Write>(kept: Kept, output: &mut W) -> Result<(), RunFault>
-    ensures { Prints (sizes_line kept.before kept.left) result
+    ensures { Prints (renewed_line kept) result
         (W.contents output.old) (W.contents output.new) }
 {
     let mut line: ArrayVec<u8, 195> = ArrayVec::new();

@@ -9,9 +9,9 @@ ghost use Rattle.night_program.specs.Replacements.{LacksBeside, MakesBeside};
 
 use crate::endings::Done;
 use crate::failures::{
-    Failure, FileName, done_alone, done_over, failed_beside, failed_over, no_file, not_had, not_put,
+    Failure, FileName, done_alone, failed_of, failed_over, no_file, not_had, not_put,
 };
-use crate::renewals::{print_sizes, remake};
+use crate::renewals::{print_sizes, renew};
 use console_lines::RunFault;
 use run_console::stopped;
 use run_disk::RunDisk;
@@ -105,16 +105,17 @@ fn put_renewed<'a, F: Files, O: Write>(
         why: why_old,
     } = stored;
     let Made { disk, why, .. } = made;
-    let (done, left) = remake(alloc, &mut source, disk);
+    let (done, left) = renew(alloc, &mut source, disk);
     match done {
         Ok(kept) => match put(left, source, name, store, files) {
-            Ok(()) => done_over(print_sizes(kept, output), store, &why),
+            Ok(()) => done_alone(print_sizes(kept, output)),
             Err(reason) => Err(not_put(store, reason)),
         },
         Err(fault) => {
             files.remove(name);
             files.close(store, source);
-            Err(failed_beside(fault, store, &why_old, &why))
+            let beside = FileName::Beside(store);
+            Err(failed_of(fault, FileName::Own(store), &why_old, beside, &why))
         }
     }
 }

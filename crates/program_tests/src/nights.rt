@@ -117,16 +117,15 @@ fn a_migration_goes_by_its_words(rt: HostRuntime) {
     assert_over(&rt, rt.alloc(), false, &LATER[2]);
 }
 
-/// The large store that a small one is migrated to; and what was printed, and what is left of the
-/// small one.
-fn migrated(rt: &impl Abort, alloc: Global, small: &[u8]) -> (Shelf, Vec<u8>, Vec<u8>) {
+/// The large store that a small one is migrated to; and how many events were read in it, and what is
+/// left of the small one.
+fn migrated(rt: &impl Abort, alloc: Global, small: &[u8]) -> (Shelf, u64, Vec<u8>) {
     let bytes = copied(rt, alloc, small);
     let mut old = done(rt, MemoryDisk::from_bytes(alloc, bytes), "disk");
-    let mut output = Vec::new(alloc);
-    let (answer, new) = migrate(alloc, &mut old, zeros(rt, alloc, SIZES.1), &mut output);
-    done(rt, answer, "migration");
+    let (answer, new) = migrate(alloc, &mut old, zeros(rt, alloc, SIZES.1));
+    let count = done(rt, answer, "migration");
     let large = Shelf::new(alloc, "new.store", left(rt, alloc, &new));
-    (large, output, left(rt, alloc, &old))
+    (large, count, left(rt, alloc, &old))
 }
 
 /// What is done with the large store, one after the other.
@@ -138,13 +137,8 @@ static MIGRATED: [Over; 2] = [
 #[test]
 fn a_stopped_night_is_migrated(rt: HostRuntime) {
     let small = scripted(&rt, rt.alloc(), STOPPED.0);
-    let (mut large, printed, old) = migrated(&rt, rt.alloc(), small.bytes.as_slice());
-    holds(
-        &rt,
-        printed.as_slice() == b"migrated; events 6\n".as_slice(),
-        "line",
-        0,
-    );
+    let (mut large, count, old) = migrated(&rt, rt.alloc(), small.bytes.as_slice());
+    holds(&rt, count == 6, "count", 0);
     holds(
         &rt,
         old.as_slice() == small.bytes.as_slice(),
@@ -279,6 +273,41 @@ fn a_file_that_is_there_is_spared(rt: HostRuntime) {
     let stored = scripted(&rt, rt.alloc(), STOPPED.0);
     for (n, row) in SPARED.iter().enumerate() {
         assert_sparing(&rt, rt.alloc(), stored.bytes.as_slice(), n, row);
+    }
+}
+
+/// Words that make a store of the stopped night, how many calls of each disk pass, and which file is
+/// to blame.
+type Blaming = (&'static [&'static str], u64, &'static str);
+
+const NEW_FAILS: &str = "night: fault 2 DiskFailed\nnight: new.store: broken\n";
+
+static BLAMING: [Blaming; 4] = [
+    (&["migrate", "jobs.store", "new.store"], 3, FAILS),
+    (&["migrate", "jobs.store", "new.store"], 7, NEW_FAILS),
+    (&["renew", "jobs.store", "new.store"], 8, FAILS),
+    (&["renew", "jobs.store", "new.store"], 9, NEW_FAILS),
+];
+
+/// Asserts which of two files is named, and that the new one is taken away.
+fn assert_blamed<R: Threads + Wait + Sync + Abort>(
+    rt: &R,
+    alloc: Global,
+    stored: &[u8],
+    n: usize,
+    row: &Blaming,
+) {
+    let mut shelf = Shelf::new(alloc, "jobs.store", copied(rt, alloc, stored));
+    shelf.passes = row.1;
+    assert_run(rt, alloc, row.0, &mut shelf, "", &(3, "", row.2));
+    holds(rt, shelf.has_removed, "file", n);
+}
+
+#[test]
+fn the_file_of_two_that_fails_is_named(rt: HostRuntime) {
+    let stored = scripted(&rt, rt.alloc(), STOPPED.0);
+    for (n, row) in BLAMING.iter().enumerate() {
+        assert_blamed(&rt, rt.alloc(), stored.bytes.as_slice(), n, row);
     }
 }
 

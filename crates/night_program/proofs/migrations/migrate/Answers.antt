@@ -1,10 +1,24 @@
-use Rattle.std.proofs.Common.{ap, inl, inr, refl}
-use Rattle.std.specs.Prelude.{Err}
+use Rattle.std.proofs.Common.{inl, inr, refl}
 use Rattle.night_program.proofs.migrations.migrate.Goals as goal
 
-pub returns-in-Ok : goal.returns-in-Ok
-returns-in-Ok g c = inl (c.in-Ok.made, c.in-Ok.ensures.migrates, c.show_count-answer.ensures)
-
 pub returns-in-Err : goal.returns-in-Err
-returns-in-Err g c =
-    inr (c.in-Err.fault, ap Err c.unmigrated.ensures, c.in-Err.ensures.migrates, refl)
+returns-in-Err g c = inl c.in-Err.ensures.migrates
+
+pub returns-in-Ok-recover : goal.returns-in-Ok-recover
+returns-in-Ok-recover g c = (
+  c.in-Ok.made,
+  c.in-Ok-recover.state,
+  c.in-Ok.ensures.migrates,
+  c.in-Ok-recover.ensures,
+  c.count.ensures.count,
+)
+
+pub returns-in-Err-recover : goal.returns-in-Err-recover
+returns-in-Err-recover g c =
+    inr (
+      c.in-Ok.made,
+      c.in-Err-recover.fault,
+      refl,
+      c.in-Ok.ensures.migrates,
+      c.in-Err-recover.ensures,
+    )

@@ -4,23 +4,23 @@ use Rattle.night_program.proofs.replacements.put_renewed.Goals as goal
 pub returns-in-Ok-put : goal.returns-in-Ok-put
 returns-in-Ok-put g c =
     record {
-      read = c.remake-done.new.old;
-      left = c.remake-done.result.1;
-      done = c.remake-done.result.0;
-      remakes = c.remake-done.ensures;
+      read = c.renew-done.new.old;
+      left = c.renew-done.result.1;
+      done = c.renew-done.result.0;
+      remakes = c.renew-done.ensures;
       puts = rw c.in-Ok.is (inl (
         rw c.requires.named at c.in-Ok-put.ensures.put,
-        (c.print_sizes.result, c.print_sizes.ensures, c.done_over.ensures),
+        (c.print_sizes.result, c.print_sizes.ensures, c.done_alone.ensures),
       ));
     }
 
 pub returns-in-Ok : goal.returns-in-Ok
 returns-in-Ok g c =
     record {
-      read = c.remake-done.new.old;
-      left = c.remake-done.result.1;
-      done = c.remake-done.result.0;
-      remakes = c.remake-done.ensures;
+      read = c.renew-done.new.old;
+      left = c.renew-done.result.1;
+      done = c.renew-done.result.0;
+      remakes = c.renew-done.ensures;
       puts = rw c.in-Ok.is (inr (
         rw c.requires.named at c.in-Err-put.ensures.not,
         (c.not_put.result, refl, c.not_put.ensures),
@@ -33,10 +33,10 @@ returns g c =
     let Gone : List ℕ → Type 0 = λ name.
     g.F.Files.seen.removes c.args.files.now name c.remove.new.self in
     record {
-      read = c.remake-done.new.old;
-      left = c.remake-done.result.1;
-      done = c.remake-done.result.0;
-      remakes = c.remake-done.ensures;
+      read = c.renew-done.new.old;
+      left = c.renew-done.result.1;
+      done = c.renew-done.result.0;
+      remakes = c.renew-done.ensures;
       puts = rw c.in-Err.is (
         record {
           bare = c.remove.new.self;
@@ -44,10 +44,10 @@ returns g c =
           closes = c.close.ensures;
         },
         (
-          c.failed_beside.result,
+          c.failed_of.result,
           refl,
-          c.failed_beside.ensures.fault,
-          c.failed_beside.ensures.file,
+          c.failed_of.ensures.fault,
+          c.failed_of.ensures.file,
         ),
         refl,
       );

@@ -1,5 +1,5 @@
 use Rattle.std.proofs.Common.{inl, inr, refl}
-use Rattle.night_program.proofs.renewals.remake.Goals as goal
+use Rattle.night_program.proofs.renewals.renew.Goals as goal
 
 pub returns-in-Err-renew : goal.returns-in-Err-renew
 returns-in-Err-renew g c =
