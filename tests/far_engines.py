@@ -1,12 +1,13 @@
 """Stand-ins for three engines that run commands elsewhere. Each does what the engine does when its
-client is killed, or can't be heard; where they run, nobody who kills this machine's processes comes.
+client is killed, or can't be heard; where they run, nobody who kills this machine's processes
+comes.
 
     scope   `systemd-run --scope` and `systemctl`: what has begun in a scope belongs to it, and
             ends with a stop of it; the command takes its client's place
     ssh     a client, and a server whose session ends some time after the connection has gone; it
             ends no command
-    slurm   `sbatch --wait`, `squeue`, `scancel` and the record of ended jobs, with names of which
-            one job runs at a time; a job runs on whatever becomes of its client
+    slurm   `sbatch -W`, `squeue`, `scancel` and the record of ended jobs, with names of which one
+            job runs at a time; a job runs on whatever becomes of its client
 
 All of them are this file, whose first word is the program. An engine's folder is ENGINE. There
 `down` makes the programs of slurm fail, and `lag` has how many seconds ssh's server needs to see
@@ -121,11 +122,14 @@ def sshd() -> None:
 
 
 def session(line: socket.socket) -> None:
-    """Runs the guard over a connection, and ends some time after that has gone."""
+    """Runs the guard over a connection, by a shell that stays beside what it is told to run, and
+    ends some time after the connection has gone."""
     asked = b""
     while not asked.endswith(b"\0"):
         asked += line.recv(65536)
-    it = subprocess.Popen(["sh", here("guard")], stdin=subprocess.DEVNULL, cwd=here(""),
+    told = text(here("guard")).partition('command="')[2].partition('"')[0]
+    told = told.replace("/usr/local/bin/", here(""))
+    it = subprocess.Popen(["sh", "-c", f"{told}; exit"], stdin=subprocess.DEVNULL, cwd=here(""),
                           stdout=subprocess.PIPE, stderr=subprocess.STDOUT, env={
                               **os.environ, "HOME": here(""),
                               "SSH_ORIGINAL_COMMAND": asked[:-1].decode()})
@@ -152,7 +156,8 @@ def sbatch(words: list[str]) -> None:
     if text(here("down")):
         sys.exit("sbatch: error: Unable to contact slurm controller (connect failure)")
     job = here(f"jobs/{time.time_ns()}")
-    write(f"{job}.job", json.dumps([word_after(words, "-J"), words[-1], os.getcwd()]))
+    write(f"{job}.job", json.dumps([word_after(words, "-J"), words[-1], os.getcwd(),
+                                    word_after(words, "--wckey")]))
     print("Submitted batch job", os.path.basename(job), flush=True)
     while not (end := text(f"{job}.end")):
         time.sleep(TICK)
@@ -186,6 +191,7 @@ def scancel(words: list[str]) -> None:
 def slurmctld() -> None:
     """Runs jobs, one of a name at a time."""
     running: dict[str, tuple[str, subprocess.Popen[bytes]]] = {}
+    write(here("jobs.txt"), "")
     while True:
         time.sleep(TICK)
         for job, (name, it) in list(running.items()):
@@ -197,11 +203,11 @@ def slurmctld() -> None:
                 record(job, name, it.returncode)
         ended, names = set(jobs(".end")), {name for name, _ in running.values()}
         for job in jobs(".job"):
-            name, command, folder = json.loads(text(f"{job}.job"))
+            name, command, folder, _ = json.loads(text(f"{job}.job"))
             if job in ended or job in running or name in names:
                 continue
             if text(f"{job}.cancel"):
-                record(job, name, -signal.SIGTERM)
+                record(job, name, 0)
                 continue
             names.add(name)
             running[job] = name, subprocess.Popen(["sh", "-c", command], cwd=folder,
@@ -215,9 +221,10 @@ def record(job: str, name: str, status: int) -> None:
     was_canceled = bool(text(f"{job}.cancel"))
     state = "CANCELLED" if was_canceled else "COMPLETED" if not status else "FAILED"
     code = f"{max(status, 0)}:{max(-status, 0)}"
+    wckey = json.loads(text(f"{job}.job"))[3]
     with open(here("jobs.txt"), "a", encoding="utf-8") as file:
         file.write(f"JobId={os.path.basename(job)} UserId=root(0) Name={name} JobState={state}"
-                   f" Partition=all DerivedExitCode=0:0 ExitCode={code} \n")
+                   f" Partition=all WcKey={wckey} DerivedExitCode=0:0 ExitCode={code} \n")
     write(f"{job}.end", str(status if status >= 0 else 1))
 
 
