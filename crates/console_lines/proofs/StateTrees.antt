@@ -15,6 +15,7 @@ use Rattle.run_model.specs.Rows.{root}
 use Rattle.run_model.specs.Rules.{IsConsistent}
 use Rattle.run_model.specs.Scopes.{is_root}
 use Rattle.run_model.specs.State.{State}
+use Rattle.console_lines.specs.Branches.{branches_of, nodes_of}
 use Rattle.console_lines.specs.Trees.{parents_of}
 use Rattle.console_lines.specs.Walks.{AreRising}
 
@@ -106,10 +107,25 @@ risen : (found : Option ℕ) (n : ℕ) → 0 < n → ((m : ℕ) → found ≡ So
 risen None n some all = some
 risen (Some m) n some all = all m refl
 
-pub parents_rise : (p : State) → IsConsistent p → AreRising (parents_of p)
-parents_rise p rules = λ (n : ℕ) some.
-    risen (slice_get (parents_of p) n) n some (λ (m : ℕ) e.
-    let less = all_rise p rules n m e (omega (arith, some)) in omega (arith, less))
+branches_rise : (p : State) → IsConsistent p → Rises 0 (branches_of p)
+branches_rise p rules = λ (k n : ℕ) e some.
+    let scopes = map (λ (row : Scope). row.parent) p.tree.scopes in
+    let long = length-map p.tree.scopes (λ (row : Scope). row.parent) in
+    let groups = map (λ (row : Group). row.scope) p.work.groups in
+    let behind : Rises (0 + length scopes) groups = λ (j m : ℕ) f more.
+    let less = groups_rise p rules j m f (omega (arith, more, long)) in
+    omega (arith, less, long) in
+    rises_append scopes groups 0 k n (scopes_rise p rules) behind e some
+
+are_rising : (ns : List ℕ) → Rises 0 ns → AreRising ns
+are_rising ns rise = λ (n : ℕ) some.
+    risen (slice_get ns n) n some (λ (m : ℕ) e.
+    let less = rise n m e (omega (arith, some)) in omega (arith, less))
+
+pub nodes_rise : (no_tasks : Bool) (p : State) → IsConsistent p
+    → AreRising (nodes_of no_tasks p)
+nodes_rise true p rules = are_rising (branches_of p) (branches_rise p rules)
+nodes_rise false p rules = are_rising (parents_of p) (all_rise p rules)
 
 -- ---- how many there are
 
@@ -140,7 +156,7 @@ within_nodes p rules =
       );
     }
 
-pub nodes_long : (p : State)
+nodes_long : (p : State)
     → length (parents_of p)
     ≡ length p.tree.scopes + (length p.work.groups + length p.work.tasks)
 nodes_long p =
@@ -153,3 +169,25 @@ nodes_long p =
     let g = length-map p.work.groups (λ (row : Group). row.scope) in
     let t = length-map p.work.tasks (λ (row : Task). length p.tree.scopes + row.group) in
     omega (arith, first, second, s, g, t)
+
+branches_long : (p : State)
+    → length (branches_of p) ≡ length p.tree.scopes + length p.work.groups
+branches_long p =
+    let scopes = map (λ (row : Scope). row.parent) p.tree.scopes in
+    let groups = map (λ (row : Group). row.scope) p.work.groups in
+    let first = length-append scopes groups in
+    let s = length-map p.tree.scopes (λ (row : Scope). row.parent) in
+    let g = length-map p.work.groups (λ (row : Group). row.scope) in
+    omega (arith, first, s, g)
+
+-- So many of them are drawn.
+pub drawn_within : (no_tasks : Bool) (p : State) → IsConsistent p
+    → (0 < length (nodes_of no_tasks p)) × (length (nodes_of no_tasks p) ≤ 12416)
+drawn_within true p rules =
+    let count = within_nodes p rules in
+    let long = branches_long p in
+    (omega (arith, count.some, long), omega (arith, count.few, long))
+drawn_within false p rules =
+    let count = within_nodes p rules in
+    let long = nodes_long p in
+    (omega (arith, count.some, long), omega (arith, count.few, long))

@@ -1,6 +1,6 @@
 -- What is printed of a whole state as one object of JSON.
 use Rattle.std.specs.Prelude.{ℕ, Bool, nat_eq, ◌||◌, if◌then◌else◌, List, [], ◌∷◌, ◌++◌, length}
-use Rattle.std.specs.Prelude.{codes, Option, Some, None, slice_get}
+use Rattle.std.specs.Prelude.{codes, Option, Some, None, is_some, slice_get}
 use Rattle.std.specs.List.{flat_map}
 use Rattle.std.specs.Option.{option_map_or, option_and_then, option_map}
 use Rattle.std.specs.Fmt.{decimal}
@@ -16,13 +16,15 @@ use Rattle.run_model.specs.declared.scopes.Reason.{Reason}
 use Rattle.run_model.specs.declared.tasks.Phase.{Phase}
 use Rattle.run_model.specs.declared.tasks.Phase.TheVariants as phase
 use Rattle.run_model.specs.Layouts.{most_scopes, most_tasks}
-use Rattle.run_model.specs.Questions.{look_of, group_look_of, task_look_of}
+use Rattle.run_model.specs.Questions.{look_of, group_look_of}
 use Rattle.run_model.specs.Reasons.{reason_text}
 use Rattle.run_model.specs.State.{State}
 use Rattle.console_lines.specs.declared.entries.Entry.{Entry}
 use Rattle.console_lines.specs.declared.entries.Entry.TheVariants as entry
-use Rattle.console_lines.specs.Inspected.{lines_below}
-use Rattle.console_lines.specs.Listed.{phase_word}
+use Rattle.console_lines.specs.declared.rows.Row.{Row}
+use Rattle.console_lines.specs.declared.rows.Row.TheVariants as row
+use Rattle.console_lines.specs.Inspected.{count_below, lines_below}
+use Rattle.console_lines.specs.Listed.{listed_row, phase_word}
 
 -- A quotation mark and a backslash have a backslash before them in a string.
 abbrev pub is_escaped : ℕ → Bool
@@ -153,14 +155,20 @@ named_work look =
 abbrev pub job_of_task : TaskLook → List ℕ
 job_of_task look = codes ",\"job\":" ++ (quoted look.job ++ named_work look)
 
-abbrev pub group_of_task : TaskLook → List ℕ
-group_of_task look = codes ",\"group\":" ++ (decimal look.group ++ job_of_task look)
+-- The name of its group stands after the group's number.
+abbrev pub named_group : (group : List ℕ) → TaskLook → List ℕ
+named_group group look = codes ",\"group_name\":" ++ (quoted group ++ job_of_task look)
+
+abbrev pub group_of_task : (group : List ℕ) → TaskLook → List ℕ
+group_of_task group look =
+    codes ",\"group\":" ++ (decimal look.group ++ named_group group look)
 
 -- ---- all of them
 
+-- That of the store says first in which version of this form all of it is.
 abbrev pub store_object : ℕ → ℕ → Layout → List ℕ
 store_object count clock layout =
-    codes "{\"count\":" ++ (decimal count
+    codes "{\"version\":1,\"count\":" ++ (decimal count
     ++ (codes ",\"clock\":" ++ (decimal clock ++ layout_text layout)))
 
 abbrev pub scope_object : ℕ → ℕ → Kind → Look → List ℕ
@@ -172,23 +180,23 @@ group_object n look =
     opened_text n look.name
     ++ (codes ",\"scope\":" ++ (decimal look.scope ++ limited_group look))
 
-abbrev pub task_object : ℕ → TaskLook → List ℕ
-task_object n look = codes "{\"number\":" ++ (decimal n ++ group_of_task look)
+abbrev pub task_object : ℕ → (group : List ℕ) → TaskLook → List ℕ
+task_object n group look = codes "{\"number\":" ++ (decimal n ++ group_of_task group look)
 
 -- What an entry prints. That of the store is left open: its lists follow.
 abbrev pub entry_text : Entry → List ℕ
 entry_text (entry.Store count clock layout) = store_object count clock layout
 entry_text (entry.Scope n parent kind look) = scope_object n parent kind look
 entry_text (entry.Group n look) = group_object n look
-entry_text (entry.Task n look) = task_object n look
+entry_text (entry.Task n group look) = task_object n group look
 
 -- Each entry of a list stands on a line of its own, after a comma if another is before it.
 abbrev pub separator : Bool → List ℕ
 separator first = if first then codes "\n" else codes ",\n"
 
-abbrev pub listed_entry : ℕ → Option Entry → List ℕ
-listed_entry n seen =
-    option_map_or (λ entry. separator (nat_eq n 0) ++ entry_text entry) seen []
+abbrev pub listed_entry : (place : ℕ) → Option Entry → List ℕ
+listed_entry place seen =
+    option_map_or (λ entry. separator (nat_eq place 0) ++ entry_text entry) seen []
 
 abbrev pub scope_entry : State → ℕ → Option Entry
 scope_entry p s = option_and_then
@@ -201,17 +209,34 @@ scope_item p s = listed_entry s (scope_entry p s)
 abbrev pub group_item : State → ℕ → List ℕ
 group_item p g = listed_entry g (option_map (entry.Group g) (group_look_of p g))
 
-abbrev pub task_item : State → ℕ → List ℕ
-task_item p n = listed_entry n (option_map (entry.Task n) (task_look_of p n))
+-- The entry of a task that is listed by its row: where the tasks alone are printed it has a line.
+abbrev pub entry_of : Row → Option Entry
+entry_of (row.Task n group look) = Some (entry.Task n group look)
+entry_of _ = None
+
+abbrev pub task_entry : (phase group : Option (List ℕ)) → State → ℕ → Option Entry
+task_entry phase group p n = option_and_then entry_of (listed_row phase group p n)
+
+-- Its place in the list: so many are listed before it.
+abbrev pub place_of : (phase group : Option (List ℕ)) → State → ℕ → ℕ
+place_of phase group p n = count_below (λ i. is_some (task_entry phase group p i)) n
+
+abbrev pub task_item : (phase group : Option (List ℕ)) → State → ℕ → List ℕ
+task_item phase group p n =
+    listed_entry (place_of phase group p n) (task_entry phase group p n)
+
+abbrev pub task_items : (phase group : Option (List ℕ)) → State → List ℕ
+task_items phase group p = lines_below (task_item phase group p) (length p.work.tasks)
 
 -- All that is printed of a state as JSON: one object, with how many events there were, the clock,
--- the layout and its room, and a list of the scopes, of the groups and of the tasks.
-abbrev pub json_text : State → List ℕ
-json_text p =
+-- the layout and its room, and a list of the scopes, of the groups and of those tasks that are in
+-- this phase and of the group of this name. If none is asked for, all tasks are in it.
+abbrev pub json_text : (phase group : Option (List ℕ)) → State → List ℕ
+json_text phase group p =
     entry_text (entry.Store p.count p.tree.clock p.tree.layout)
     ++ (codes ",\n\"scopes\":["
     ++ (lines_below (scope_item p) (length p.tree.scopes)
     ++ (codes "],\n\"groups\":["
     ++ (lines_below (group_item p) (length p.work.groups)
     ++ (codes "],\n\"tasks\":["
-    ++ (lines_below (task_item p) (length p.work.tasks) ++ codes "]}\n"))))))
+    ++ (task_items phase group p ++ codes "]}\n"))))))

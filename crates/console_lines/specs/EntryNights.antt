@@ -1,8 +1,9 @@
 -- Examples of a state as JSON: what a person types into a newly opened store, and what is printed
 -- of it then.
 use Prim.Native.String.{String}
-use Rattle.std.specs.Prelude.{◌≡◌, ℕ, List, [], ◌∷◌, ◌++◌, codes}
+use Rattle.std.specs.Prelude.{◌≡◌, ℕ, List, [], ◌∷◌, ◌++◌, codes, Option}
 use Rattle.console_lines.specs.Entries.{json_text}
+use Rattle.console_lines.specs.ListedNights.{three_tasks}
 use Rattle.console_lines.specs.Nights.{Night, session_of}
 
 -- Texts one after the other.
@@ -10,9 +11,11 @@ abbrev pub joined : List String → List ℕ
 joined [] = []
 joined (text ∷ texts) = codes text ++ joined texts
 
--- After a night these texts, one after the other, are printed as JSON.
-abbrev pub IsShown : Night → List String → Type 0
-IsShown night texts = json_text (session_of night).state ≡ joined texts
+-- After a night these texts, one after the other, are printed as JSON, where tasks in this phase and
+-- of this group are asked for.
+abbrev pub IsShown : (phase group : Option (List ℕ)) → Night → List String → Type 0
+IsShown phase group night texts =
+    json_text phase group (session_of night).state ≡ joined texts
 
 -- A scope of each kind, below root; one is cancelled, and one keeps it from those below.
 abbrev pub all_kinds : Night
@@ -29,7 +32,8 @@ all_kinds =
 -- What is printed of it.
 abbrev pub kinds_shown : List String
 kinds_shown =
-    "{\"count\":8,\"clock\":0,\"layout\":\"small\",\"room\":{\"scopes\":1024,\"groups\":128,"
+    "{\"version\":1,\"count\":8,\"clock\":0,\"layout\":\"small\","
+    ∷ "\"room\":{\"scopes\":1024,\"groups\":128,"
     ∷ "\"tasks\":2048},\n\"scopes\":[\n"
     ∷ "{\"number\":0,\"name\":\"root\",\"parent\":null,\"kind\":\"root\",\"key\":null,"
     ∷ "\"value\":null,\"deadline\":null,\"done\":false,\"reason\":null,\"cause\":null},\n"
@@ -53,11 +57,11 @@ kinds_shown =
     ∷ "\"tasks\":[]}\n"
     ∷ []
 
--- What is printed of the night of three tasks.
-abbrev pub tasks_shown : List String
-tasks_shown =
-    "{\"count\":10,\"clock\":0,\"layout\":\"small\",\"room\":{\"scopes\":1024,\"groups\":128,"
-    ∷ "\"tasks\":2048},\n\"scopes\":[\n"
+-- What is printed of the night of three tasks, up to its tasks.
+abbrev pub tasks_head : List String
+tasks_head =
+    "{\"version\":1,\"count\":10,\"clock\":0,\"layout\":\"small\","
+    ∷ "\"room\":{\"scopes\":1024,\"groups\":128,\"tasks\":2048},\n\"scopes\":[\n"
     ∷ "{\"number\":0,\"name\":\"root\",\"parent\":null,\"kind\":\"root\",\"key\":null,"
     ∷ "\"value\":null,\"deadline\":null,\"done\":false,\"reason\":null,\"cause\":null},\n"
     ∷ "{\"number\":1,\"name\":\"g\",\"parent\":0,\"kind\":\"group\",\"key\":null,"
@@ -67,11 +71,33 @@ tasks_shown =
     ∷ "\"unfinished\":2,\"error\":null},\n"
     ∷ "{\"number\":1,\"name\":\"h\",\"scope\":0,\"limit\":null,\"waited\":false,"
     ∷ "\"unfinished\":0,\"error\":\"no room\"}],\n"
-    ∷ "\"tasks\":[\n"
-    ∷ "{\"number\":0,\"group\":0,\"job\":\"copy\",\"argument\":\"a\",\"phase\":\"running\","
-    ∷ "\"error\":null,\"retry_of\":null},\n"
-    ∷ "{\"number\":1,\"group\":0,\"job\":\"copy\",\"argument\":\"b\",\"phase\":\"held\","
-    ∷ "\"error\":null,\"retry_of\":null},\n"
-    ∷ "{\"number\":2,\"group\":1,\"job\":\"mail\",\"argument\":\"c\",\"phase\":\"error\","
-    ∷ "\"error\":\"no room\",\"retry_of\":null}]}\n"
+    ∷ "\"tasks\":["
     ∷ []
+
+-- Its tasks: one runs, one is held, and one has failed.
+abbrev pub running_one : List String
+running_one =
+    "{\"number\":0,\"group\":0,\"group_name\":\"g\",\"job\":\"copy\",\"argument\":\"a\","
+    ∷ "\"phase\":\"running\",\"error\":null,\"retry_of\":null}"
+    ∷ []
+
+abbrev pub held_one : List String
+held_one =
+    "{\"number\":1,\"group\":0,\"group_name\":\"g\",\"job\":\"copy\",\"argument\":\"b\","
+    ∷ "\"phase\":\"held\",\"error\":null,\"retry_of\":null}"
+    ∷ []
+
+abbrev pub failed_one : List String
+failed_one =
+    "{\"number\":2,\"group\":1,\"group_name\":\"h\",\"job\":\"mail\",\"argument\":\"c\","
+    ∷ "\"phase\":\"error\",\"error\":\"no room\",\"retry_of\":null}"
+    ∷ []
+
+-- Of that night these texts are printed after the head.
+abbrev pub IsShownOf : (phase group : Option (List ℕ)) → List String → Type 0
+IsShownOf phase group texts = IsShown phase group three_tasks (tasks_head ++ texts)
+
+-- All of its tasks.
+abbrev pub tasks_shown : List String
+tasks_shown =
+    "\n" ∷ (running_one ++ (",\n" ∷ (held_one ++ (",\n" ∷ (failed_one ++ "]}\n" ∷ [])))))

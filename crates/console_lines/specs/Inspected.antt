@@ -1,5 +1,6 @@
 -- What is printed of a whole state.
-use Rattle.std.specs.Prelude.{ℕ, zero, suc, List, [], ◌∷◌, ◌++◌, length, codes, Option, Some, None}
+use Rattle.std.specs.Prelude.{ℕ, zero, suc, ◌+◌, Bool, if◌then◌else◌, List, [], ◌∷◌, ◌++◌, length}
+use Rattle.std.specs.Prelude.{codes, Option, Some, None}
 use Rattle.std.specs.Option.{option_map_or, option_and_then, option_map}
 use Rattle.std.specs.Fmt.{decimal}
 use Rattle.run_model.specs.declared.answers.TaskLook.{TaskLook}
@@ -51,6 +52,11 @@ seen_line seen = option_map_or row_line seen []
 abbrev pub lines_below : (ℕ → List ℕ) → ℕ → List ℕ
 lines_below line zero = []
 lines_below line (suc n) = lines_below line n ++ line n
+
+-- How many numbers below this one pass the test.
+abbrev pub count_below : (ℕ → Bool) → ℕ → ℕ
+count_below test zero = 0
+count_below test (suc n) = count_below test n + (if test n then 1 else 0)
 
 -- The line of a scope, of a group, of a task; a task's has the name of its group.
 abbrev pub scope_line : State → ℕ → List ℕ

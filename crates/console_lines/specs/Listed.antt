@@ -35,10 +35,12 @@ is_listed phase group _ = false
 abbrev pub if_listed : (phase group : Option (List ℕ)) → Row → Option Row
 if_listed phase group row = if is_listed phase group row then Some row else None
 
--- The line of a task that is listed, and nothing for another.
+-- The row of a task that is listed, and its line; nothing for another.
+abbrev pub listed_row : (phase group : Option (List ℕ)) → State → ℕ → Option Row
+listed_row phase group p n = option_and_then (if_listed phase group) (task_row p n)
+
 abbrev pub listed_line : (phase group : Option (List ℕ)) → State → ℕ → List ℕ
-listed_line phase group p n =
-    seen_line (option_and_then (if_listed phase group) (task_row p n))
+listed_line phase group p n = seen_line (listed_row phase group p n)
 
 -- All that is listed: the line of each task in order, as a whole state's print has it, if the task
 -- is in this phase and of the group of this name. If none is asked for, all of them are listed.

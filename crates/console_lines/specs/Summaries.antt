@@ -1,6 +1,6 @@
 -- What a summary of a state prints: how full the store is, a line for each group, and one for each
 -- scope that is done and isn't a group's own.
-use Rattle.std.specs.Prelude.{ℕ, zero, suc, ◌+◌, nat_eq, Bool, false, ◌&&◌, if◌then◌else◌, is_some}
+use Rattle.std.specs.Prelude.{ℕ, nat_eq, Bool, false, ◌&&◌, if◌then◌else◌, is_some}
 use Rattle.std.specs.Prelude.{List, [], ◌∷◌, ◌++◌, length, codes, slice_get, Option, Some, None}
 use Rattle.std.specs.Fmt.{decimal}
 use Rattle.std.specs.Option.{option_map_or}
@@ -14,17 +14,12 @@ use Rattle.run_model.specs.Questions.{group_look_of, look_of, task_look_of}
 use Rattle.run_model.specs.State.{State}
 use Rattle.written_moment.specs.Dates.{moment_text}
 use Rattle.console_lines.specs.declared.summaries.Phases.{Phases}
-use Rattle.console_lines.specs.Inspected.{lines_below, named}
+use Rattle.console_lines.specs.Inspected.{count_below, lines_below, named}
 use Rattle.console_lines.specs.Listed.{phase_word}
 use Rattle.console_lines.specs.Replies.{ending_text, group_text}
 use Rattle.console_lines.specs.Trees.{head_line, kind_line, taken_of}
 
 -- ---- tasks
-
--- How many numbers below this one pass the test.
-abbrev pub count_below : (ℕ → Bool) → ℕ → ℕ
-count_below test zero = 0
-count_below test (suc n) = count_below test n + (if test n then 1 else 0)
 
 -- A task is of this group, and in the phase of this word.
 abbrev pub is_in_phase : ℕ → List ℕ → TaskLook → Bool
@@ -75,14 +70,17 @@ state_text look = option_map_or
     look.done
     (codes "live; deadline " ++ dated_text look.deadline)
 
--- A group as in a whole state, how many of its tasks are in each phase, and its scope.
+-- A group as in a whole state, and how many of its tasks are in each phase.
+abbrev pub counted_group : ℕ → GroupLook → Phases → List ℕ
+counted_group g group phases =
+    named (codes "group") g group.name ++ (group_text group ++ phases_text phases)
+
+-- After it stands its scope.
 abbrev pub group_summary : ℕ → GroupLook → Phases → Look → List ℕ
 group_summary g group phases scope =
-    named (codes "group") g group.name
-    ++ (group_text group
-    ++ (phases_text phases
+    counted_group g group phases
     ++ (counted (codes "; scope ") group.scope
-    ++ (codes " " ++ (state_text scope ++ 10 ∷ [])))))
+    ++ (codes " " ++ (state_text scope ++ 10 ∷ [])))
 
 -- Whether a scope has a line: it is done, and isn't a group's own, which the group's line shows.
 abbrev pub is_summed : Kind → Look → Bool

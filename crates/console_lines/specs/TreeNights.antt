@@ -1,9 +1,9 @@
 -- Examples of a state that is drawn as a tree: what a person types into a newly opened store, and
 -- what is drawn of it then.
 use Prim.Native.String.{String}
-use Rattle.std.specs.Prelude.{◌≡◌, ℕ, zero, suc, List, [], ◌∷◌, ◌++◌, codes}
+use Rattle.std.specs.Prelude.{◌≡◌, ℕ, zero, suc, Bool, List, [], ◌∷◌, ◌++◌, codes}
+use Rattle.console_lines.specs.Branches.{tree_text}
 use Rattle.console_lines.specs.Nights.{Night, session_of}
-use Rattle.console_lines.specs.Trees.{tree_text}
 
 -- In UTF-8: `│ `, `├─` and `└─`.
 abbrev pub b : List ℕ
@@ -25,9 +25,9 @@ abbrev pub below : List (List ℕ × String) → List ℕ
 below [] = []
 below (line ∷ lines) = line.0 ++ (codes line.1 ++ 10 ∷ below lines)
 
--- After a night these lines are drawn, that of the store first.
-abbrev pub IsDrawn : Night → List (List ℕ × String) → Type 0
-IsDrawn night lines = tree_text (session_of night).state ≡ below lines
+-- After a night these lines are drawn, that of the store first, without the tasks or with them.
+abbrev pub IsDrawn : (no_tasks : Bool) → Night → List (List ℕ × String) → Type 0
+IsDrawn no_tasks night lines = tree_text no_tasks (session_of night).state ≡ below lines
 
 -- What is drawn of a scope of each kind, below root.
 abbrev pub kinds_drawn : List (List ℕ × String)
@@ -54,6 +54,22 @@ tasks_drawn =
     ∷ (b ++ s 1 ++ l, "task 1 g copy b held")
     ∷ (l, "group 1 h unfinished 0; limit none; waited no; error no room")
     ∷ (s 1 ++ l, "task 2 h mail c error no room")
+    ∷ []
+
+-- What is drawn of it without the tasks: nothing stands below a group.
+abbrev pub branches_drawn : List (List ℕ × String)
+branches_drawn =
+    ([], "events 10; clock 0; scopes 2 of 1024; groups 2 of 128; tasks 3 of 2048")
+    ∷ ([], "scope 0 root root; live; deadline none")
+    ∷ (t, "scope 1 g group; live; deadline none")
+    ∷ (
+      b ++ (l ++ codes "group 0 g unfinished 2; limit 1; waited no; error none"),
+      "; tasks held 1, ready 0, running 1, success 0, error 0, interrupted 0",
+    )
+    ∷ (
+      l ++ codes "group 1 h unfinished 0; limit none; waited no; error no room",
+      "; tasks held 0, ready 0, running 0, success 0, error 1, interrupted 0",
+    )
     ∷ []
 
 -- A night of a copy that was too slow, below a backup that was cancelled; its report goes on.

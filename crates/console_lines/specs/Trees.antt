@@ -1,5 +1,4 @@
--- What is drawn of a whole state as a tree: how full the store is, and a line for each scope, each
--- group and each task, below that of what it belongs to.
+-- The nodes of a state's tree, in their order, and what each line of it has.
 use Rattle.std.specs.Prelude.{ℕ, zero, suc, ◌+◌, ◌-◌, nat_eq, nat_lt, if◌then◌else◌}
 use Rattle.std.specs.Prelude.{List, [], ◌∷◌, ◌++◌, length, drop, map, reverse}
 use Rattle.std.specs.Prelude.{codes, slice_get}
@@ -129,16 +128,6 @@ work_line p n =
     then group_line p n
     else task_line p (n - length p.work.groups)
 
-abbrev pub own_line : State → ℕ → List ℕ
-own_line p n =
-    if nat_lt n (length p.tree.scopes)
-    then tree_scope p n
-    else work_line p (n - length p.tree.scopes)
-
--- A node's line.
-abbrev pub node_line : State → ℕ → List ℕ
-node_line p n = lead (parents_of p) n ++ own_line p n
-
 -- How many of these there are and can be, as in `; tasks 2 of 8192`.
 abbrev pub taken_text : List ℕ → (count most : ℕ) → List ℕ
 taken_text word count most =
@@ -163,9 +152,3 @@ taken_of p = record {
   groups = length p.work.groups;
   tasks = length p.work.tasks;
 }
-
--- All that is drawn of a state: the first line, and the line of each node, in their order.
-abbrev pub tree_text : State → List ℕ
-tree_text p =
-    head_line p.count p.tree.clock p.tree.layout (taken_of p)
-    ++ flat_map (node_line p) (drawn (parents_of p))

@@ -36,8 +36,8 @@ pub enum Entry {
     Scope(u16, u16, Kind, Look),
     /// A group: its number, and what is seen of it.
     Group(u16, GroupLook),
-    /// A task: its number, and what is seen of it.
-    Task(u16, TaskLook),
+    /// A task: its number, the name of its group, and what is seen of it.
+    Task(u16, Name, TaskLook),
 }
 
 impl Entry {
@@ -62,17 +62,17 @@ impl Entry {
                 push_scope(out, *number, *parent, kind, look)
             }
             Entry::Group(number, look) => push_group(out, *number, look),
-            Entry::Task(number, look) => push_task(out, *number, look),
+            Entry::Task(number, group, look) => push_task(out, *number, group, look),
         }
     }
 }
 
 /// A store, up to its lists.
 fn push_store<const N: usize>(out: &mut ArrayVec<u8, N>, count: u64, clock: Moment, layout: Layout)
-    requires { array_vec_len out.old + 192 ≤ N }
-    ensures { Gathers out.old.items out.new.items (store_object count clock layout) 192 }
+    requires { array_vec_len out.old + 204 ≤ N }
+    ensures { Gathers out.old.items out.new.items (store_object count clock layout) 204 }
 {
-    push(out, b"{\"count\":");
+    push(out, b"{\"version\":1,\"count\":");
     push_number(out, count);
     push(out, b",\"clock\":");
     push_moment(out, clock);
@@ -110,14 +110,16 @@ fn push_group<const N: usize>(out: &mut ArrayVec<u8, N>, number: u16, look: &Gro
 }
 
 /// A task.
-fn push_task<const N: usize>(out: &mut ArrayVec<u8, N>, number: u16, look: &TaskLook)
-    requires { array_vec_len out.old + 331 ≤ N }
-    ensures { Gathers out.old.items out.new.items (task_object number look.now) 331 }
+fn push_task<const N: usize>(out: &mut ArrayVec<u8, N>, number: u16, group: &Name, look: &TaskLook)
+    requires { array_vec_len out.old + 379 ≤ N }
+    ensures { Gathers out.old.items out.new.items (task_object number group.now look.now) 379 }
 {
     push(out, b"{\"number\":");
     push_count(out, number);
     push(out, b",\"group\":");
     push_count(out, look.group);
+    push(out, b",\"group_name\":");
+    push_name_quoted(out, group);
     push(out, b",\"job\":");
     push_name_quoted(out, &look.job);
     push_work(out, look);

@@ -1,16 +1,30 @@
 //! Examples of a state that is printed as JSON, after the lines of a night.
 //!
-//! Each function has an empty body, and its clause is the example, as in [`nights`](crate::nights).
+//! Each function has an empty body, and its clauses are the example, as in
+//! [`nights`](crate::nights).
 
-ghost use Rattle.console_lines.specs.EntryNights.{IsShown, all_kinds, kinds_shown, tasks_shown};
-ghost use Rattle.console_lines.specs.ListedNights.{three_tasks};
+ghost use Rattle.std.specs.Prelude.{◌∷◌, ◌++◌, [], codes, None, Some};
+ghost use Rattle.console_lines.specs.EntryNights.{IsShown, IsShownOf, all_kinds, failed_one};
+ghost use Rattle.console_lines.specs.EntryNights.{held_one, kinds_shown, running_one, tasks_shown};
 
 /// Scopes of all kinds, one of which holds a value whose bytes are escaped.
 pub fn scopes_of_all_kinds_are_shown()
-    ensures { IsShown all_kinds kinds_shown }
+    ensures { IsShown None None all_kinds kinds_shown }
 {}
 
 /// Groups and tasks: a running one, a held one, and one that failed.
 pub fn groups_and_tasks_are_shown()
-    ensures { IsShown three_tasks tasks_shown }
+    ensures { IsShownOf None None tasks_shown }
+{}
+
+/// Of the tasks those alone that are in a phase, of a group, or both; the first of them has no comma
+/// before it.
+pub fn some_tasks_are_shown()
+    ensures phase { IsShownOf (Some (codes "error")) None
+        ("\n" ∷ (failed_one ++ "]}\n" ∷ [])) }
+    ensures group { IsShownOf None (Some (codes "g"))
+        ("\n" ∷ (running_one ++ (",\n" ∷ (held_one ++ "]}\n" ∷ [])))) }
+    ensures both { IsShownOf (Some (codes "held")) (Some (codes "g"))
+        ("\n" ∷ (held_one ++ "]}\n" ∷ [])) }
+    ensures none { IsShownOf (Some (codes "held")) (Some (codes "h")) ("]}\n" ∷ []) }
 {}

@@ -5,7 +5,7 @@
 ghost use Rattle.std.specs.List.{slice_split, list_all};
 ghost use Rattle.std.specs.Option.{option_to_list};
 ghost use Rattle.std.specs.Prelude.{◌≡◌, ◌≤◌, ◌==◌, ◌++◌, ◌∷◌, [], List, ℕ, true, false, Option};
-ghost use Rattle.std.specs.Prelude.{Some, None, Ok, codes, length};
+ghost use Rattle.std.specs.Prelude.{Bool, Some, None, Ok, codes, length};
 ghost use Rattle.run_model.specs.Rules.{IsConsistent};
 ghost use Rattle.run_model.specs.Session.{Session, session_after};
 ghost use Rattle.run_model.specs.State.{State};
@@ -13,13 +13,14 @@ ghost use Rattle.run_model.specs.Texts.{is_name, is_text};
 ghost use Rattle.written_moment.specs.Moments.{moment_of};
 ghost use Rattle.written_moment.specs.Numbers.{number_of};
 ghost use Rattle.console_lines.specs.Asked.{wish_of, wished, refused_behind, asks_derive};
+ghost use Rattle.console_lines.specs.Branches.{nodes_of};
 ghost use Rattle.console_lines.specs.Lines.{whole_lines, lines_of};
 ghost use Rattle.console_lines.specs.Words.{words_of, rest_of};
 ghost use Rattle.console_lines.specs.Progress.{IsFront, kept};
 ghost use Rattle.console_lines.specs.Script.{after_line, after_lines, replies, reply, script};
 ghost use Rattle.console_lines.specs.Script.{steps_of};
 ghost use Rattle.console_lines.specs.Strict.{stray_in, strict_script};
-ghost use Rattle.console_lines.specs.Trees.{drawn, drawn_below, parents_of};
+ghost use Rattle.console_lines.specs.Trees.{drawn, drawn_below};
 ghost use Rattle.console_lines.specs.Walks.{AreRising};
 
 use crate::asked::Asked;
@@ -104,7 +105,8 @@ pub fn a_tree_has_no_more_levels_than_nodes()
         → drawn_below levels parents 0 ≡ drawn parents }
 {}
 
-/// If a state keeps the rules, each node of its tree but root stands after its parent.
+/// If a state keeps the rules, each node of its tree but root stands after its parent, without the
+/// tasks, too.
 pub fn a_node_stands_behind_its_parent()
-    ensures { (p : State) → IsConsistent p → AreRising (parents_of p) }
+    ensures { (no_tasks : Bool) (p : State) → IsConsistent p → AreRising (nodes_of no_tasks p) }
 {}

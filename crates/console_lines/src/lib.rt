@@ -45,7 +45,8 @@ pub use replies::Reply;
 pub use rows::{LONGEST_ROW, Row};
 pub use strays::{Stray, StrayLine};
 pub use summaries::{
-    LONGEST_SUMMARY, Phases, gather_group_summary, gather_scope_summary, is_in_phase,
+    LONGEST_SUMMARY, Phases, gather_group_summary, gather_scope_summary, gather_tree_group,
+    is_in_phase,
 };
 pub use tallies::{Counts, Tally};
 pub use trees::{

@@ -1,11 +1,12 @@
 //! The lines of a summary: those of a group, with its tasks by phase and its scope, and of a scope
-//! that is done. They take no memory.
+//! that is done; and a group's line in a tree without tasks. They take no memory.
 
 ghost use Rattle.std.specs.Prelude.{◌≡◌, ◌+◌, ◌≤◌, Some, length};
 ghost use Rattle.arrayvec.specs.ArrayVec.{array_vec_len};
 ghost use Rattle.console_lines.specs.declared.summaries.TheConstants.{LONGEST_SUMMARY};
+ghost use Rattle.console_lines.specs.Branches.{tree_group};
 ghost use Rattle.console_lines.specs.Gathers.{Gathers};
-ghost use Rattle.console_lines.specs.Summaries.{counted, dated_text, group_summary};
+ghost use Rattle.console_lines.specs.Summaries.{counted, counted_group, dated_text, group_summary};
 ghost use Rattle.console_lines.specs.Summaries.{is_in_phase, is_summed, phases_text};
 ghost use Rattle.console_lines.specs.Summaries.{scope_summary, state_text};
 
@@ -51,13 +52,42 @@ pub fn gather_group_summary<const N: usize>(
     ensures { Gathers out.old.items out.new.items
         (group_summary number group.now phases.now scope.now) LONGEST_SUMMARY }
 {
-    push_named(out, b"group", number, &group.name);
-    push_group(out, group);
-    push_phases(out, phases);
+    push_counted_group(out, number, group, phases);
     push_counted(out, b"; scope ", group.scope);
     push(out, b" ");
     push_state(out, scope);
     push(out, b"\n");
+}
+
+/// Appends the line of a group in a tree without tasks: as in a summary, but for its scope.
+pub fn gather_tree_group<const N: usize>(
+    number: u16,
+    group: &GroupLook,
+    phases: &Phases,
+    out: &mut ArrayVec<u8, N>,
+)
+    requires { array_vec_len out.old + LONGEST_SUMMARY ≤ N }
+    ensures { Gathers out.old.items out.new.items (tree_group number group.now phases.now)
+        LONGEST_SUMMARY }
+{
+    push_counted_group(out, number, group, phases);
+    push(out, b"\n");
+}
+
+/// A group, and how many of its tasks are in each phase.
+fn push_counted_group<const N: usize>(
+    out: &mut ArrayVec<u8, N>,
+    number: u16,
+    group: &GroupLook,
+    phases: &Phases,
+)
+    requires { array_vec_len out.old + 272 ≤ N }
+    ensures { Gathers out.old.items out.new.items
+        (counted_group number group.now phases.now) 272 }
+{
+    push_named(out, b"group", number, &group.name);
+    push_group(out, group);
+    push_phases(out, phases);
 }
 
 /// Appends the line of a scope, if it is done and isn't a group's own.

@@ -5,6 +5,6 @@ use Rattle.console_lines.proofs.summaries.gather_group_summary.Goals as goal
 
 pub returns : goal.returns
 returns g c =
-    gathers_within LONGEST_SUMMARY (c.push_named.ensures followed_by c.push_group.ensures
-    followed_by c.push_phases.ensures followed_by c.push_counted.ensures followed_by
-    c.push.ensures followed_by c.push_state.ensures followed_by c.push-2.ensures) (omega arith)
+    gathers_within LONGEST_SUMMARY (c.push_counted_group.ensures followed_by
+    c.push_counted.ensures followed_by c.push.ensures followed_by c.push_state.ensures followed_by
+    c.push-2.ensures) (omega arith)

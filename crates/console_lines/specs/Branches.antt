@@ -1,0 +1,49 @@
+-- What is drawn of a whole state as a tree: how full the store is, and a line for each scope, each
+-- group and each task, below that of what it belongs to. It may be without tasks: then each group
+-- has how many of its tasks are in each phase.
+use Rattle.std.specs.Prelude.{ℕ, ◌-◌, nat_lt, Bool, if◌then◌else◌, List, [], ◌∷◌, ◌++◌, length}
+use Rattle.std.specs.Prelude.{map}
+use Rattle.std.specs.List.{flat_map}
+use Rattle.std.specs.Option.{option_map_or}
+use Rattle.run_model.specs.declared.answers.GroupLook.{GroupLook}
+use Rattle.run_model.specs.Questions.{group_look_of}
+use Rattle.run_model.specs.State.{State}
+use Rattle.console_lines.specs.declared.summaries.Phases.{Phases}
+use Rattle.console_lines.specs.Summaries.{counted_group, phases_of}
+use Rattle.console_lines.specs.Trees.{drawn, head_line, lead, parents_of, taken_of, tree_scope}
+use Rattle.console_lines.specs.Trees.{work_line}
+
+-- The nodes without the tasks: the scopes, and then the groups.
+abbrev pub branches_of : State → List ℕ
+branches_of p = map (λ row. row.parent) p.tree.scopes ++ map (λ row. row.scope) p.work.groups
+
+abbrev pub nodes_of : (no_tasks : Bool) → State → List ℕ
+nodes_of no_tasks p = if no_tasks then branches_of p else parents_of p
+
+-- A group whose tasks aren't drawn has how many are in each phase.
+abbrev pub tree_group : ℕ → GroupLook → Phases → List ℕ
+tree_group g group phases = counted_group g group phases ++ 10 ∷ []
+
+abbrev pub group_counted : State → ℕ → List ℕ
+group_counted p g =
+    option_map_or (λ group. tree_group g group (phases_of p g)) (group_look_of p g) []
+
+-- What a node's line says.
+abbrev pub own_work : (no_tasks : Bool) → State → ℕ → List ℕ
+own_work no_tasks p n = if no_tasks then group_counted p n else work_line p n
+
+abbrev pub own_line : (no_tasks : Bool) → State → ℕ → List ℕ
+own_line no_tasks p n =
+    if nat_lt n (length p.tree.scopes)
+    then tree_scope p n
+    else own_work no_tasks p (n - length p.tree.scopes)
+
+-- A node's line.
+abbrev pub node_line : (no_tasks : Bool) → State → ℕ → List ℕ
+node_line no_tasks p n = lead (nodes_of no_tasks p) n ++ own_line no_tasks p n
+
+-- All that is drawn of a state: the first line, and the line of each node, in their order.
+abbrev pub tree_text : (no_tasks : Bool) → State → List ℕ
+tree_text no_tasks p =
+    head_line p.count p.tree.clock p.tree.layout (taken_of p)
+    ++ flat_map (node_line no_tasks p) (drawn (nodes_of no_tasks p))
