@@ -1,5 +1,5 @@
 -- How the lines of a tree are told, one node after another.
-use Rattle.std.specs.Prelude.{◌≡◌, ◌≤◌, ◌<◌, ◌+◌, ℕ, zero, suc, List, [], ◌∷◌, ◌++◌, length}
+use Rattle.std.specs.Prelude.{◌≡◌, ◌≤◌, ◌<◌, ◌+◌, ℕ, zero, suc, Bool, List, [], ◌∷◌, ◌++◌, length}
 use Rattle.std.specs.Prelude.{Option, Some, None, IfSome, map, slice_get, take, if◌then◌else◌}
 use Rattle.std.specs.Option.{option_map}
 use Rattle.std.specs.List.{flat_map}
@@ -20,39 +20,38 @@ use Rattle.run_model.specs.State.{State}
 use Rattle.run_model.specs.Tasks.{is_admitted, phase_by, unfinished_in}
 use Rattle.console_lines.specs.declared.trees.Taken.{Taken}
 use Rattle.console_lines.specs.Progress.{WritesPart}
-use Rattle.console_lines.specs.Trees.{above, children, drawn, head_line, lead, mark, node_line}
-use Rattle.console_lines.specs.Trees.{own_line, parents_of, taken_of}
+use Rattle.console_lines.specs.Branches.{branches_of, node_line, nodes_of, own_line}
+use Rattle.console_lines.specs.Trees.{above, children, drawn, head_line, lead, mark, parents_of}
+use Rattle.console_lines.specs.Trees.{taken_of}
 use Rattle.console_lines.specs.Walks.{IsAt, after, drawn_from, drawn_next, forest}
-use Rattle.console_lines.proofs.StateTrees.{nodes_long, within_nodes}
+use Rattle.console_lines.proofs.StateTrees.{drawn_within, within_nodes}
 use Rattle.console_lines.proofs.TreeLemmas.{node_first}
 use Rattle.run_console.specs.Progress.{Told}
 use Rattle.run_console.proofs.EntryTexts.{first_cut, second_cut}
 use Rattle.run_console.proofs.Inspecting.{told_first, told_part, told_then}
 use Rattle.run_console.proofs.Lines.{part_more}
 
--- The lines of all nodes.
-abbrev pub nodes_text : State → List ℕ
-nodes_text p = flat_map (node_line p) (drawn (parents_of p))
+-- The lines of all nodes, without the tasks or with them.
+abbrev pub nodes_text : Bool → State → List ℕ
+nodes_text b p = flat_map (node_line b p) (drawn (nodes_of b p))
 
 -- The lines of these nodes were told, and the others are drawn from the next on.
-pub record IsDrawnTo (p : State) (next : Option ℕ) (above g h : List ℕ)
+pub record IsDrawnTo (b : Bool) (p : State) (next : Option ℕ) (above g h : List ℕ)
     (w0 w1 : Option (List ℕ)) : Type 0 where
   pub done : List ℕ
-  pub drawn_is : drawn (parents_of p) ≡ done ++ drawn_next (parents_of p) next
-  pub told : Told (flat_map (node_line p) done) g h w0 w1
-  pub at : IfSome next (λ n. IsAt (parents_of p) n above)
+  pub drawn_is : drawn (nodes_of b p) ≡ done ++ drawn_next (nodes_of b p) next
+  pub told : Told (flat_map (node_line b p) done) g h w0 w1
+  pub at : IfSome next (λ n. IsAt (nodes_of b p) n above)
 
 -- Nothing was told yet, and root is next.
-pub drawn_first : (p : State) (above g : List ℕ) (w : Option (List ℕ)) → IsConsistent p
-    → above ≡ [] → IsDrawnTo p (Some 0) above g g w w
-drawn_first p above g w rules none =
-    let count = within_nodes p rules in
-    let long = nodes_long p in
+pub drawn_first : (b : Bool) (p : State) (above g : List ℕ) (w : Option (List ℕ))
+    → IsConsistent p → above ≡ [] → IsDrawnTo b p (Some 0) above g g w w
+drawn_first b p above g w rules none =
     record {
       done = [];
-      drawn_is = sym (append-nil (drawn (parents_of p)));
+      drawn_is = sym (append-nil (drawn (nodes_of b p)));
       told = told_first [] g g w (sym (append-nil g));
-      at = record { within = omega (arith, count.some, long); text_is = none };
+      at = record { within = (drawn_within b p rules).0; text_is = none };
     }
 
 one_more : (f : ℕ → List ℕ) (done : List ℕ) (n : ℕ)
@@ -62,48 +61,48 @@ one_more f done n =
     ∙ sym (flat_map-append f done (n ∷ []))
 
 -- One node more was told.
-pub drawn_more : (p : State) (n : ℕ) (next : Option ℕ) (above other g h k : List ℕ)
-    (w0 w1 w2 : Option (List ℕ)) → IsDrawnTo p (Some n) above g h w0 w1
-    → Told (node_line p n) h k w1 w2
-    → drawn_from (parents_of p) n ≡ n ∷ drawn_next (parents_of p) next
-    → IfSome next (λ m. IsAt (parents_of p) m other)
-    → IsDrawnTo p next other g k w0 w2
-drawn_more p n next above other g h k w0 w1 w2 to one e at =
-    let rest = drawn_next (parents_of p) next in
+pub drawn_more : (b : Bool) (p : State) (n : ℕ) (next : Option ℕ) (above other g h k : List ℕ)
+    (w0 w1 w2 : Option (List ℕ)) → IsDrawnTo b p (Some n) above g h w0 w1
+    → Told (node_line b p n) h k w1 w2
+    → drawn_from (nodes_of b p) n ≡ n ∷ drawn_next (nodes_of b p) next
+    → IfSome next (λ m. IsAt (nodes_of b p) m other)
+    → IsDrawnTo b p next other g k w0 w2
+drawn_more b p n next above other g h k w0 w1 w2 to one e at =
+    let rest = drawn_next (nodes_of b p) next in
     record {
       done = to.done ++ n ∷ [];
       drawn_is = to.drawn_is ∙ ap (λ x. to.done ++ x) e
           ∙ sym (append_assoc to.done (n ∷ []) rest);
-      told = subst (λ t. Told t g k w0 w2) (one_more (node_line p) to.done n)
-          (told_then (flat_map (node_line p) to.done) (node_line p n) g h k w0 w1 w2 to.told one);
+      told = subst (λ t. Told t g k w0 w2) (one_more (node_line b p) to.done n)
+          (told_then (flat_map (node_line b p) to.done) (node_line b p n) g h k w0 w1 w2 to.told one);
       at = at;
     }
 
 -- One was cut.
-pub drawn_cut : (p : State) (n : ℕ) (above g h : List ℕ) (w0 w1 w2 : Option (List ℕ))
-    → IsDrawnTo p (Some n) above g h w0 w1 → WritesPart w1 w2 (h ++ node_line p n)
-    → WritesPart w0 w2 (g ++ nodes_text p)
-drawn_cut p n above g h w0 w1 w2 to cut =
-    let ps = parents_of p in
-    let f = node_line p in
+pub drawn_cut : (b : Bool) (p : State) (n : ℕ) (above g h : List ℕ) (w0 w1 w2 : Option (List ℕ))
+    → IsDrawnTo b p (Some n) above g h w0 w1 → WritesPart w1 w2 (h ++ node_line b p n)
+    → WritesPart w0 w2 (g ++ nodes_text b p)
+drawn_cut b p n above g h w0 w1 w2 to cut =
+    let ps = nodes_of b p in
+    let f = node_line b p in
     let below = forest ps (children ps n) in
     let rest = below ++ after n ps n in
     let nodes : drawn ps ≡ (to.done ++ n ∷ []) ++ rest =
     to.drawn_is ∙ ap (λ x. to.done ++ (x ++ after n ps n)) (node_first ps n to.at.within)
     ∙ sym (append_assoc to.done (n ∷ []) rest) in
-    let text : nodes_text p ≡ (flat_map f to.done ++ f n) ++ flat_map f rest =
+    let text : nodes_text b p ≡ (flat_map f to.done ++ f n) ++ flat_map f rest =
     ap (flat_map f) nodes ∙ flat_map-append f (to.done ++ n ∷ []) rest
     ∙ ap (λ x. x ++ flat_map f rest) (sym (one_more f to.done n)) in
-    told_part (flat_map f to.done) (f n) (flat_map f rest) (nodes_text p) g h w0 w1 w2 text to.told
+    told_part (flat_map f to.done) (f n) (flat_map f rest) (nodes_text b p) g h w0 w1 w2 text to.told
     cut
 
 -- All were told.
-pub drawn_all : (p : State) (above g h : List ℕ) (w0 w1 : Option (List ℕ))
-    → IsDrawnTo p None above g h w0 w1 → Told (nodes_text p) g h w0 w1
-drawn_all p above g h w0 w1 to =
-    let nodes : to.done ≡ drawn (parents_of p) =
+pub drawn_all : (b : Bool) (p : State) (above g h : List ℕ) (w0 w1 : Option (List ℕ))
+    → IsDrawnTo b p None above g h w0 w1 → Told (nodes_text b p) g h w0 w1
+drawn_all b p above g h w0 w1 to =
+    let nodes : to.done ≡ drawn (nodes_of b p) =
     sym (append-nil to.done) ∙ sym to.drawn_is in
-    subst (λ t. Told t g h w0 w1) (ap (flat_map (node_line p)) nodes) to.told
+    subst (λ t. Told t g h w0 w1) (ap (flat_map (node_line b p)) nodes) to.told
 
 -- Less is left to draw after a node.
 pub drawn_less : (ps : List ℕ) (n : ℕ) (next : Option ℕ)
@@ -112,12 +111,10 @@ pub drawn_less : (ps : List ℕ) (n : ℕ) (next : Option ℕ)
 drawn_less ps n next e = let long = ap length e in omega (arith, long)
 
 -- There are no more nodes than there is room for.
-pub few_parents : (p : State) (parents : List ℕ) → IsConsistent p → parents ≡ parents_of p
-    → length parents ≤ 12416
-few_parents p parents rules e =
-    let count = within_nodes p rules in
-    let long = nodes_long p in
-    omega (arith, count.few, long, ap length e)
+pub few_parents : (b : Bool) (p : State) (parents : List ℕ) → IsConsistent p
+    → parents ≡ nodes_of b p → length parents ≤ 12416
+few_parents b p parents rules e =
+    let few = (drawn_within b p rules).1 in omega (arith, few, ap length e)
 
 -- ---- the first line
 
@@ -171,29 +168,29 @@ lead_cut parents n a m g h w0 w1 w2 other at e one cut =
     (second_cut a m g h w0 w1 w2 one cut)
 
 -- What leads a line and the line were told.
-pub node_told : (p : State) (parents : List ℕ) (n : ℕ) (g h k : List ℕ)
-    (w0 w1 w2 : Option (List ℕ)) → parents ≡ parents_of p
-    → Told (lead parents n) g h w0 w1 → Told (own_line p n) h k w1 w2
-    → Told (node_line p n) g k w0 w2
-node_told p parents n g h k w0 w1 w2 same one two =
-    subst (λ ps. Told (lead ps n ++ own_line p n) g k w0 w2) same
-    (told_then (lead parents n) (own_line p n) g h k w0 w1 w2 one two)
+pub node_told : (b : Bool) (p : State) (parents : List ℕ) (n : ℕ) (g h k : List ℕ)
+    (w0 w1 w2 : Option (List ℕ)) → parents ≡ nodes_of b p
+    → Told (lead parents n) g h w0 w1 → Told (own_line b p n) h k w1 w2
+    → Told (node_line b p n) g k w0 w2
+node_told b p parents n g h k w0 w1 w2 same one two =
+    subst (λ ps. Told (lead ps n ++ own_line b p n) g k w0 w2) same
+    (told_then (lead parents n) (own_line b p n) g h k w0 w1 w2 one two)
 
-pub node_cut_first : (p : State) (parents : List ℕ) (n : ℕ) (g : List ℕ)
-    (w0 w1 : Option (List ℕ)) → parents ≡ parents_of p
-    → WritesPart w0 w1 (g ++ lead parents n) → WritesPart w0 w1 (g ++ node_line p n)
-node_cut_first p parents n g w0 w1 same cut =
-    subst (λ ps. WritesPart w0 w1 (g ++ (lead ps n ++ own_line p n))) same
-    (first_cut (lead parents n) (own_line p n) g w0 w1 cut)
+pub node_cut_first : (b : Bool) (p : State) (parents : List ℕ) (n : ℕ) (g : List ℕ)
+    (w0 w1 : Option (List ℕ)) → parents ≡ nodes_of b p
+    → WritesPart w0 w1 (g ++ lead parents n) → WritesPart w0 w1 (g ++ node_line b p n)
+node_cut_first b p parents n g w0 w1 same cut =
+    subst (λ ps. WritesPart w0 w1 (g ++ (lead ps n ++ own_line b p n))) same
+    (first_cut (lead parents n) (own_line b p n) g w0 w1 cut)
 
-pub node_cut : (p : State) (parents : List ℕ) (n : ℕ) (g h : List ℕ)
-    (w0 w1 w2 : Option (List ℕ)) → parents ≡ parents_of p
+pub node_cut : (b : Bool) (p : State) (parents : List ℕ) (n : ℕ) (g h : List ℕ)
+    (w0 w1 w2 : Option (List ℕ)) → parents ≡ nodes_of b p
     → Told (lead parents n) g h w0 w1 → WritesPart w1 w2 h
-    → WritesPart w0 w2 (g ++ node_line p n)
-node_cut p parents n g h w0 w1 w2 same one cut =
-    subst (λ ps. WritesPart w0 w2 (g ++ (lead ps n ++ own_line p n))) same
-    (second_cut (lead parents n) (own_line p n) g h w0 w1 w2 one
-    (part_more h (own_line p n) w1 w2 cut))
+    → WritesPart w0 w2 (g ++ node_line b p n)
+node_cut b p parents n g h w0 w1 w2 same one cut =
+    subst (λ ps. WritesPart w0 w2 (g ++ (lead ps n ++ own_line b p n))) same
+    (second_cut (lead parents n) (own_line b p n) g h w0 w1 w2 one
+    (part_more h (own_line b p n) w1 w2 cut))
 
 -- ---- the parents
 
@@ -314,6 +311,16 @@ parents_are p none one two all e a b c =
     let tasks = map (λ (row : Task). length p.tree.scopes + row.group) p.work.tasks in
     c ∙ ap (λ t. t ++ tasks) (b ∙ ap (λ t. t ++ groups) (a ∙ ap (λ t. t ++ scopes) e))
     ∙ append_assoc scopes groups tasks
+
+-- Without the tasks they are those of the other two.
+pub branches_are : (p : State) (none one two : List ℕ) → none ≡ []
+    → one ≡ none ++ map (λ row. row.parent) p.tree.scopes
+    → two ≡ one ++ map (λ row. row.scope) p.work.groups
+    → two ≡ branches_of p
+branches_are p none one two e a b =
+    let scopes = map (λ (row : Scope). row.parent) p.tree.scopes in
+    let groups = map (λ (row : Group). row.scope) p.work.groups in
+    b ∙ ap (λ t. t ++ groups) (a ∙ ap (λ t. t ++ scopes) e)
 
 -- There is room for those of each sort.
 pub scopes_fit : (p : State) (none : List ℕ) → IsConsistent p → none ≡ []

@@ -2,84 +2,182 @@
 //! for each scope, each group and each task.
 
 ghost use Rattle.std.specs.Io.KnownBytes.{Appends};
-ghost use Rattle.std.specs.Prelude.{◌≡◌, ◌+◌, ◌≤◌, ◌++◌, [], IfErr, OnErr, OnOk};
+ghost use Rattle.std.specs.Prelude.{◌≡◌, ◌+◌, ◌<◌, ◌≤◌, ◌++◌, [], IfErr, OnErr, OnOk};
+ghost use Rattle.std.specs.Prelude.{if◌then◌else◌, is_some, option_map};
 ghost use Rattle.arrayvec.specs.ArrayVec.{array_vec_len};
 ghost use Rattle.console_lines.specs.declared.entries.TheConstants.{LONGEST_ENTRY};
-ghost use Rattle.console_lines.specs.Entries.{json_text, listed_entry};
+ghost use Rattle.console_lines.specs.Entries.{json_text, listed_entry, task_entry, task_items};
 ghost use Rattle.console_lines.specs.Progress.{WritesPart};
 ghost use Rattle.run_console.specs.Entries.{from_groups, from_scopes, from_tasks, item_of};
-ghost use Rattle.run_console.specs.Entries.{items_text};
+ghost use Rattle.run_console.specs.Entries.{items_text, tasks_list};
 ghost use Rattle.run_console.specs.Progress.{Told};
 
 use crate::inspects::{Form, Rows, gather_rows, scope_row};
+use crate::listings::listed_task;
 use crate::writings::{Gathered, gather_bytes, write_gathered};
-use console_lines::{Entry, LONGEST_ENTRY, RunFault};
+use console_lines::{Entry, LONGEST_ENTRY, Row, RunFault};
 use run_state::State;
 use std::alloc::Allocator;
 use std::io::Write;
 
 /// Prints a state as one object of JSON: how many events there were, the clock, the layout and how
-/// much there can be, and a list of the scopes, one of the groups and one of the tasks. It takes no
-/// memory. If a write fails or takes nothing (`Output`), what was written is a prefix, and not all.
-pub fn print_json<W: Write, B: Allocator>(state: &State<B>, output: &mut W) -> Result<(), RunFault>
+/// much there can be, and a list of the scopes, one of the groups and one of those tasks that are in
+/// this phase, by its word, and of the group of this name. If one of the two is left out, each
+/// task's is as it should be. It takes no memory. If a write fails or takes nothing (`Output`),
+/// what was written is a prefix, and not all.
+pub fn print_json<W: Write, B: Allocator>(
+    state: &State<B>,
+    phase: Option<&str>,
+    group: Option<&str>,
+    output: &mut W,
+) -> Result<(), RunFault>
     ensures whole { OnOk result (Appends (W.contents output.old) (W.contents output.new)
-        (json_text state.now)) }
+        (json_text (option_map (λ word. word.now) phase.entry)
+        (option_map (λ word. word.now) group.entry) state.now)) }
     ensures cut { OnErr result (WritesPart (W.contents output.old) (W.contents output.new)
-        (json_text state.now)) }
+        (json_text (option_map (λ word. word.now) phase.entry)
+        (option_map (λ word. word.now) group.entry) state.now)) }
     ensures fault { IfErr result (λ fault. fault ≡ RunFault.Output) }
 {
     let mut gathered = Gathered::new();
     Entry::Store(state.count(), state.clock(), state.layout()).gather(&mut gathered);
-    gather_lists(state, &mut gathered, output)?;
+    gather_lists(state, phase, group, &mut gathered, output)?;
     write_gathered(&mut gathered, output)
 }
 
 /// Gathers the object from the list of scopes on.
 fn gather_lists<W: Write, B: Allocator>(
     state: &State<B>,
+    phase: Option<&str>,
+    group: Option<&str>,
     gathered: &mut Gathered,
     output: &mut W,
 ) -> Result<(), RunFault>
-    ensures told { OnOk result (Told (from_scopes state.now)
+    ensures told { OnOk result (Told (from_scopes (option_map (λ word. word.now) phase.entry)
+        (option_map (λ word. word.now) group.entry) state.now)
         gathered.old.items gathered.new.items (W.contents output.old) (W.contents output.new)) }
     ensures cut { OnErr result (WritesPart (W.contents output.old) (W.contents output.new)
-        (gathered.old.items ++ from_scopes state.now)) }
+        (gathered.old.items ++ from_scopes (option_map (λ word. word.now) phase.entry)
+        (option_map (λ word. word.now) group.entry) state.now)) }
     ensures fault { IfErr result (λ fault. fault ≡ RunFault.Output) }
 {
     gather_list(b",\n\"scopes\":[", Rows::Scopes, state, gathered, output)?;
-    gather_work(state, gathered, output)
+    gather_work(state, phase, group, gathered, output)
 }
 
 /// Gathers the object from the list of groups on.
 fn gather_work<W: Write, B: Allocator>(
     state: &State<B>,
+    phase: Option<&str>,
+    group: Option<&str>,
     gathered: &mut Gathered,
     output: &mut W,
 ) -> Result<(), RunFault>
-    ensures told { OnOk result (Told (from_groups state.now)
+    ensures told { OnOk result (Told (from_groups (option_map (λ word. word.now) phase.entry)
+        (option_map (λ word. word.now) group.entry) state.now)
         gathered.old.items gathered.new.items (W.contents output.old) (W.contents output.new)) }
     ensures cut { OnErr result (WritesPart (W.contents output.old) (W.contents output.new)
-        (gathered.old.items ++ from_groups state.now)) }
+        (gathered.old.items ++ from_groups (option_map (λ word. word.now) phase.entry)
+        (option_map (λ word. word.now) group.entry) state.now)) }
     ensures fault { IfErr result (λ fault. fault ≡ RunFault.Output) }
 {
     gather_list(b"],\n\"groups\":[", Rows::Groups, state, gathered, output)?;
-    gather_last(state, gathered, output)
+    gather_last(state, phase, group, gathered, output)
 }
 
 /// Gathers the list of tasks, and the end of the object.
 fn gather_last<W: Write, B: Allocator>(
     state: &State<B>,
+    phase: Option<&str>,
+    group: Option<&str>,
     gathered: &mut Gathered,
     output: &mut W,
 ) -> Result<(), RunFault>
-    ensures told { OnOk result (Told (from_tasks state.now)
+    ensures told { OnOk result (Told (from_tasks (option_map (λ word. word.now) phase.entry)
+        (option_map (λ word. word.now) group.entry) state.now)
         gathered.old.items gathered.new.items (W.contents output.old) (W.contents output.new)) }
     ensures cut { OnErr result (WritesPart (W.contents output.old) (W.contents output.new)
-        (gathered.old.items ++ from_tasks state.now)) }
+        (gathered.old.items ++ from_tasks (option_map (λ word. word.now) phase.entry)
+        (option_map (λ word. word.now) group.entry) state.now)) }
     ensures fault { IfErr result (λ fault. fault ≡ RunFault.Output) }
 {
-    gather_list(b"],\n\"tasks\":[", Rows::Tasks, state, gathered, output)?;
+    gather_tasks(state, phase, group, gathered, output)?;
     gather_bytes(b"]}\n", gathered, output)
+}
+
+/// Gathers the list of tasks.
+fn gather_tasks<W: Write, B: Allocator>(
+    state: &State<B>,
+    phase: Option<&str>,
+    group: Option<&str>,
+    gathered: &mut Gathered,
+    output: &mut W,
+) -> Result<(), RunFault>
+    ensures told { OnOk result (Told (tasks_list (option_map (λ word. word.now) phase.entry)
+        (option_map (λ word. word.now) group.entry) state.now)
+        gathered.old.items gathered.new.items (W.contents output.old) (W.contents output.new)) }
+    ensures cut { OnErr result (WritesPart (W.contents output.old) (W.contents output.new)
+        (gathered.old.items ++ tasks_list (option_map (λ word. word.now) phase.entry)
+        (option_map (λ word. word.now) group.entry) state.now)) }
+    ensures fault { IfErr result (λ fault. fault ≡ RunFault.Output) }
+{
+    gather_bytes(b"],\n\"tasks\":[", gathered, output)?;
+    gather_task_items(state, phase, group, gathered, output)
+}
+
+/// Gathers the entries of the tasks that are listed. What is gathered is written when there is no
+/// room for another.
+fn gather_task_items<W: Write, B: Allocator>(
+    state: &State<B>,
+    phase: Option<&str>,
+    group: Option<&str>,
+    gathered: &mut Gathered,
+    output: &mut W,
+) -> Result<(), RunFault>
+    ensures told { OnOk result (Told (task_items (option_map (λ word. word.now) phase.entry)
+        (option_map (λ word. word.now) group.entry) state.now)
+        gathered.old.items gathered.new.items (W.contents output.old) (W.contents output.new)) }
+    ensures cut { OnErr result (WritesPart (W.contents output.old) (W.contents output.new)
+        (gathered.old.items ++ task_items (option_map (λ word. word.now) phase.entry)
+        (option_map (λ word. word.now) group.entry) state.now)) }
+    ensures fault { IfErr result (λ fault. fault ≡ RunFault.Output) }
+{
+    let mut place = 0;
+    for number in 0..Rows::Tasks.count(state) as u16 {
+        let entry = task_entry(number, state, phase, group);
+        let next = next_place(place, &entry);
+        gather_entry(place, entry, gathered, output)?;
+        place = next;
+    }
+    Ok(())
+}
+
+/// The place after that of this entry, if there is one.
+fn next_place(place: u16, entry: &Option<Entry>) -> u16
+    requires { place < 65535 }
+    ensures next { result ≡ place + (if is_some entry.now then 1 else 0) }
+    ensures most { result ≤ place + 1 }
+{
+    match entry {
+        Some(_) => place + 1,
+        None => place,
+    }
+}
+
+/// The entry of the task of this number, if it is listed.
+fn task_entry<B: Allocator>(
+    number: u16,
+    state: &State<B>,
+    phase: Option<&str>,
+    group: Option<&str>,
+) -> Option<Entry>
+    ensures { result ≡ task_entry (option_map (λ word. word.now) phase.entry)
+        (option_map (λ word. word.now) group.entry) state.now number }
+{
+    match listed_task(number, state, phase, group)? {
+        Row::Task(number, name, look) => Some(Entry::Task(number, name, look)),
+        _ => None,
+    }
 }
 
 /// Gathers these bytes, and after them the entries of these rows.
@@ -101,14 +199,14 @@ fn gather_list<W: Write, B: Allocator>(
 }
 
 impl Rows {
-    /// The entry of the one of this number.
+    /// The entry of the one of this number. A task has none here: some may be left out.
     pub(crate) fn entry<B: Allocator>(self, number: u16, state: &State<B>) -> Option<Entry>
         ensures { listed_entry number result ≡ item_of self state.now number }
     {
         match self {
             Rows::Scopes => scope_entry(number, state),
             Rows::Groups => Some(Entry::Group(number, state.group(number)?)),
-            Rows::Tasks => Some(Entry::Task(number, state.task(number)?)),
+            Rows::Tasks => None,
         }
     }
 }
@@ -122,14 +220,14 @@ fn scope_entry<B: Allocator>(number: u16, state: &State<B>) -> Option<Entry>
     Some(Entry::Scope(number, row.parent, row.kind.copy(), look))
 }
 
-/// Gathers the entry of this number in a list, if there is one.
+/// Gathers the entry at this place of a list, if there is one.
 pub(crate) fn gather_entry<W: Write>(
-    number: u16,
+    place: u16,
     entry: Option<Entry>,
     gathered: &mut Gathered,
     output: &mut W,
 ) -> Result<(), RunFault>
-    ensures told { OnOk result (Told (listed_entry number entry) gathered.old.items
+    ensures told { OnOk result (Told (listed_entry place entry) gathered.old.items
         gathered.new.items (W.contents output.old) (W.contents output.new)) }
     ensures cut { OnErr result
         (WritesPart (W.contents output.old) (W.contents output.new) gathered.old.items) }
@@ -137,7 +235,7 @@ pub(crate) fn gather_entry<W: Write>(
 {
     make_entry_room(gathered, output)?;
     if let Some(entry) = entry {
-        entry.gather_next(number == 0, gathered);
+        entry.gather_next(place == 0, gathered);
     }
     Ok(())
 }

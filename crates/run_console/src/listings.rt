@@ -2,8 +2,7 @@
 
 ghost use Rattle.std.specs.Io.KnownBytes.{Appends};
 ghost use Rattle.std.specs.Prelude.{◌≡◌, ◌++◌, IfErr, OnErr, OnOk, option_map};
-ghost use Rattle.console_lines.specs.Inspected.{seen_line};
-ghost use Rattle.console_lines.specs.Listed.{listed, listed_line};
+ghost use Rattle.console_lines.specs.Listed.{listed, listed_row};
 ghost use Rattle.console_lines.specs.Progress.{WritesPart};
 ghost use Rattle.run_console.specs.Progress.{Told};
 
@@ -61,13 +60,13 @@ fn gather_tasks<W: Write, B: Allocator>(
 }
 
 /// The row of the task of this number, if it is listed.
-fn listed_task<B: Allocator>(
+pub(crate) fn listed_task<B: Allocator>(
     number: u16,
     state: &State<B>,
     phase: Option<&str>,
     group: Option<&str>,
 ) -> Option<Row>
-    ensures { seen_line result ≡ listed_line (option_map (λ word. word.now) phase.entry)
+    ensures { result ≡ listed_row (option_map (λ word. word.now) phase.entry)
         (option_map (λ word. word.now) group.entry) state.now number }
 {
     let row = task_row(number, state)?;

@@ -146,7 +146,7 @@ fn push_group<B: Allocator>(number: u16, state: &State<B>, gathered: &mut Gather
 }
 
 /// How many tasks of a group are in each phase.
-fn phases_of<B: Allocator>(group: u16, state: &State<B>) -> Phases
+pub(crate) fn phases_of<B: Allocator>(group: u16, state: &State<B>) -> Phases
     ensures { result ≡ phases_of state.now group }
 {
     Phases {

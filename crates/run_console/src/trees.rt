@@ -5,21 +5,25 @@ ghost use Rattle.std.specs.List.{flat_map};
 ghost use Rattle.std.specs.Prelude.{◌≡◌, ◌+◌, ◌≤◌, ◌++◌, [], IfErr, OnErr, OnOk, length, map};
 ghost use Rattle.std.specs.Prelude.{option_map, slice_get};
 ghost use Rattle.arrayvec.specs.ArrayVec.{array_vec_len};
+ghost use Rattle.console_lines.specs.declared.summaries.TheConstants.{LONGEST_SUMMARY};
 ghost use Rattle.console_lines.specs.declared.trees.TheConstants.{LONGEST_TREE_SCOPE};
 ghost use Rattle.console_lines.specs.declared.walks.TheConstants.{MOST_NODES};
+ghost use Rattle.console_lines.specs.Branches.{group_counted, node_line, nodes_of, own_line};
+ghost use Rattle.console_lines.specs.Branches.{own_work, tree_text};
 ghost use Rattle.console_lines.specs.Inspected.{seen_line};
 ghost use Rattle.console_lines.specs.Progress.{WritesPart};
-ghost use Rattle.console_lines.specs.Trees.{drawn, lead, node_line, own_line, parents_of};
-ghost use Rattle.console_lines.specs.Trees.{tree_scope, tree_text, work_line};
+ghost use Rattle.console_lines.specs.Trees.{drawn, lead, tree_scope, work_line};
 ghost use Rattle.console_lines.specs.Walks.{IsAt};
 ghost use Rattle.run_console.specs.Progress.{Told};
 
 use crate::entries::make_entry_room;
 use crate::inspects::{Rows, gather_row, scope_row};
+use crate::summaries::phases_of;
 use crate::writings::{Gathered, gather_bytes, write_gathered};
 use arrayvec::ArrayVec;
 use console_lines::{
-    Above, MOST_NODES, Row, RunFault, Taken, gather_tree_head, gather_tree_scope, mark, next_node,
+    Above, MOST_NODES, Row, RunFault, Taken, gather_tree_group, gather_tree_head,
+    gather_tree_scope, mark, next_node,
 };
 use run_state::State;
 use std::alloc::Allocator;
@@ -29,13 +33,18 @@ use std::io::Write;
 type Parents = ArrayVec<u16, MOST_NODES>;
 
 /// Prints a state as a tree: how many events there were, the clock and how full the store is, and a
-/// line for each scope, each group and each task below that of what it belongs to. It takes no
-/// memory. If a write fails or takes nothing (`Output`), what was written is a prefix, and not all.
-pub fn print_tree<W: Write, B: Allocator>(state: &State<B>, output: &mut W) -> Result<(), RunFault>
+/// line for each scope, each group and each task below that of what it belongs to; without the
+/// tasks a group's line has how many of its own are in each phase. It takes no memory. If a write
+/// fails or takes nothing (`Output`), what was written is a prefix, and not all.
+pub fn print_tree<W: Write, B: Allocator>(
+    state: &State<B>,
+    no_tasks: bool,
+    output: &mut W,
+) -> Result<(), RunFault>
     ensures whole { OnOk result (Appends (W.contents output.old) (W.contents output.new)
-        (tree_text state.now)) }
+        (tree_text no_tasks state.now)) }
     ensures cut { OnErr result (WritesPart (W.contents output.old) (W.contents output.new)
-        (tree_text state.now)) }
+        (tree_text no_tasks state.now)) }
     ensures fault { IfErr result (λ fault. fault ≡ RunFault.Output) }
 {
     let mut gathered = Gathered::new();
@@ -51,30 +60,41 @@ pub fn print_tree<W: Write, B: Allocator>(state: &State<B>, output: &mut W) -> R
         &taken,
         &mut gathered,
     );
-    gather_nodes(state, &mut gathered, output)?;
+    gather_nodes(no_tasks, state, &mut gathered, output)?;
     write_gathered(&mut gathered, output)
 }
 
 /// Gathers the lines of all nodes, one after another.
 fn gather_nodes<W: Write, B: Allocator>(
+    no_tasks: bool,
     state: &State<B>,
     gathered: &mut Gathered,
     output: &mut W,
 ) -> Result<(), RunFault>
-    ensures told { OnOk result (Told (flat_map (node_line state.now) (drawn (parents_of state.now)))
+    ensures told { OnOk result
+        (Told (flat_map (node_line no_tasks state.now) (drawn (nodes_of no_tasks state.now)))
         gathered.old.items gathered.new.items (W.contents output.old) (W.contents output.new)) }
     ensures cut { OnErr result (WritesPart (W.contents output.old) (W.contents output.new)
-        (gathered.old.items ++ flat_map (node_line state.now) (drawn (parents_of state.now)))) }
+        (gathered.old.items
+        ++ flat_map (node_line no_tasks state.now) (drawn (nodes_of no_tasks state.now)))) }
     ensures fault { IfErr result (λ fault. fault ≡ RunFault.Output) }
 {
     let _rules = state.count();
     let mut parents = Parents::new();
-    push_parents(state, &mut parents);
+    push_parents(no_tasks, state, &mut parents);
     let parents = parents.as_slice();
     let mut above = Above::new();
     let mut next = Some(0);
     while let Some(node) = next {
-        gather_node(node, parents, above.as_slice(), state, gathered, output)?;
+        gather_node(
+            no_tasks,
+            node,
+            parents,
+            above.as_slice(),
+            state,
+            gathered,
+            output,
+        )?;
         next = next_node(parents, node, &mut above);
     }
     Ok(())
@@ -82,6 +102,7 @@ fn gather_nodes<W: Write, B: Allocator>(
 
 /// Gathers a node's line.
 fn gather_node<W: Write, B: Allocator>(
+    no_tasks: bool,
     node: u16,
     parents: &[u16],
     above: &[u8],
@@ -89,17 +110,17 @@ fn gather_node<W: Write, B: Allocator>(
     gathered: &mut Gathered,
     output: &mut W,
 ) -> Result<(), RunFault>
-    requires parents { parents.now ≡ parents_of state.now }
+    requires parents { parents.now ≡ nodes_of no_tasks state.now }
     requires few { length parents.now ≤ MOST_NODES }
     requires at { IsAt parents.now node above.now }
-    ensures told { OnOk result (Told (node_line state.now node) gathered.old.items
+    ensures told { OnOk result (Told (node_line no_tasks state.now node) gathered.old.items
         gathered.new.items (W.contents output.old) (W.contents output.new)) }
     ensures cut { OnErr result (WritesPart (W.contents output.old) (W.contents output.new)
-        (gathered.old.items ++ node_line state.now node)) }
+        (gathered.old.items ++ node_line no_tasks state.now node)) }
     ensures fault { IfErr result (λ fault. fault ≡ RunFault.Output) }
 {
     gather_lead(node, parents, above, gathered, output)?;
-    gather_own(node, state, gathered, output)
+    gather_own(no_tasks, node, state, gathered, output)
 }
 
 /// Gathers what leads a node's line.
@@ -127,12 +148,13 @@ fn gather_lead<W: Write>(
 
 /// Gathers a node's own line.
 fn gather_own<W: Write, B: Allocator>(
+    no_tasks: bool,
     node: u16,
     state: &State<B>,
     gathered: &mut Gathered,
     output: &mut W,
 ) -> Result<(), RunFault>
-    ensures told { OnOk result (Told (own_line state.now node) gathered.old.items
+    ensures told { OnOk result (Told (own_line no_tasks state.now node) gathered.old.items
         gathered.new.items (W.contents output.old) (W.contents output.new)) }
     ensures cut { OnErr result
         (WritesPart (W.contents output.old) (W.contents output.new) gathered.old.items) }
@@ -142,7 +164,56 @@ fn gather_own<W: Write, B: Allocator>(
     if (node as usize) < scopes {
         return gather_scope(node, state, gathered, output);
     }
-    gather_row(work_row(node - scopes as u16, state), gathered, output)
+    gather_work(no_tasks, node - scopes as u16, state, gathered, output)
+}
+
+/// Gathers the line of a group, and after the groups that of a task.
+fn gather_work<W: Write, B: Allocator>(
+    no_tasks: bool,
+    number: u16,
+    state: &State<B>,
+    gathered: &mut Gathered,
+    output: &mut W,
+) -> Result<(), RunFault>
+    ensures told { OnOk result (Told (own_work no_tasks state.now number) gathered.old.items
+        gathered.new.items (W.contents output.old) (W.contents output.new)) }
+    ensures cut { OnErr result
+        (WritesPart (W.contents output.old) (W.contents output.new) gathered.old.items) }
+    ensures fault { IfErr result (λ fault. fault ≡ RunFault.Output) }
+{
+    if no_tasks {
+        return gather_counted(number, state, gathered, output);
+    }
+    gather_row(work_row(number, state), gathered, output)
+}
+
+/// Gathers the line of a group with its tasks by phase.
+fn gather_counted<W: Write, B: Allocator>(
+    number: u16,
+    state: &State<B>,
+    gathered: &mut Gathered,
+    output: &mut W,
+) -> Result<(), RunFault>
+    ensures told { OnOk result (Told (group_counted state.now number) gathered.old.items
+        gathered.new.items (W.contents output.old) (W.contents output.new)) }
+    ensures cut { OnErr result
+        (WritesPart (W.contents output.old) (W.contents output.new) gathered.old.items) }
+    ensures fault { IfErr result (λ fault. fault ≡ RunFault.Output) }
+{
+    make_entry_room(gathered, output)?;
+    push_counted(number, state, gathered);
+    Ok(())
+}
+
+/// Gathers it when there is room.
+fn push_counted<B: Allocator>(number: u16, state: &State<B>, gathered: &mut Gathered)
+    requires { array_vec_len gathered.old + LONGEST_SUMMARY ≤ 8192 }
+    ensures { gathered.new.items ≡ gathered.old.items ++ group_counted state.now number }
+{
+    if let Some(group) = state.group(number) {
+        let phases = phases_of(number, state);
+        gather_tree_group(number, &group, &phases, gathered);
+    }
 }
 
 /// Gathers the line of a scope.
@@ -188,13 +259,16 @@ fn work_row<B: Allocator>(number: u16, state: &State<B>) -> Option<Row>
 }
 
 /// Appends the parent of each node.
-fn push_parents<B: Allocator>(state: &State<B>, parents: &mut Parents)
+fn push_parents<B: Allocator>(no_tasks: bool, state: &State<B>, parents: &mut Parents)
     requires { parents.old.items ≡ [] }
-    ensures { parents.new.items ≡ parents_of state.now }
+    ensures { parents.new.items ≡ nodes_of no_tasks state.now }
 {
     let _rules = state.count();
     push_scopes(state, parents);
     push_groups(state, parents);
+    if no_tasks {
+        return;
+    }
     push_tasks(state, parents);
 }
 

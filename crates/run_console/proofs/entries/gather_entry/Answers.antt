@@ -5,7 +5,7 @@ use Rattle.run_console.proofs.entries.gather_entry.Goals as goal
 
 pub returns-in-Some-clause-told : goal.returns-in-Some-clause-told
 returns-in-Some-clause-told g c = rw c.in-Some.is (
-    told_more (listed_entry c.args.number (Some c.in-Some.entry)) c.args.gathered.now.items
+    told_more (listed_entry c.args.place (Some c.in-Some.entry)) c.args.gathered.now.items
     c.make_entry_room.new.gathered.items c.gather_next.new.out.items
     (g.W.Write.contents c.args.output.now) (g.W.Write.contents c.make_entry_room.new.output)
     c.in_ok-make_entry_room.ensures.told c.gather_next.ensures.items)

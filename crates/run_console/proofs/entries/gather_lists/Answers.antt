@@ -2,7 +2,7 @@ use Rattle.std.specs.Prelude.{◌++◌, codes}
 use Rattle.std.proofs.lemmas.Result.{err_from_is_err_and, on_err_weaker, on_ok_weaker}
 use Rattle.run_console.specs.Entries.{from_groups, items_text}
 use Rattle.run_console.specs.declared.inspects.Rows.TheVariants.{Scopes}
-use Rattle.run_console.proofs.EntryTexts.{first_cut, second_cut}
+use Rattle.run_console.proofs.EntryTexts.{first_cut, second_cut, word_of}
 use Rattle.run_console.proofs.Inspecting.{told_then}
 use Rattle.run_console.proofs.entries.gather_lists.Goals as goal
 
@@ -11,7 +11,7 @@ returns-in_err-gather_list-clause-cut g c =
     let list = codes ",\n\"scopes\":[" ++ items_text Scopes c.args.state.now in
     let p = err_from_is_err_and c.from_residual.result c.from_residual.ensures.1 in
     rw p.1 (
-    first_cut list (from_groups c.args.state.now)
+    first_cut list (from_groups (word_of c.args.phase) (word_of c.args.group) c.args.state.now)
     c.args.gathered.now.items (g.W.Write.contents c.args.output.now)
     (g.W.Write.contents c.gather_list.new.output) c.in_err-gather_list.ensures.cut)
 
@@ -19,7 +19,7 @@ pub returns-clause-told : goal.returns-clause-told
 returns-clause-told g c =
     let list = codes ",\n\"scopes\":[" ++ items_text Scopes c.args.state.now in
     on_ok_weaker c.gather_work.result
-    (told_then list (from_groups c.args.state.now)
+    (told_then list (from_groups (word_of c.args.phase) (word_of c.args.group) c.args.state.now)
     c.args.gathered.now.items c.gather_list.new.gathered.items c.gather_work.new.gathered.items
     (g.W.Write.contents c.args.output.now) (g.W.Write.contents c.gather_list.new.output)
     (g.W.Write.contents c.gather_work.new.output) c.in_ok-gather_list.ensures.told)
@@ -29,7 +29,7 @@ pub returns-clause-cut : goal.returns-clause-cut
 returns-clause-cut g c =
     let list = codes ",\n\"scopes\":[" ++ items_text Scopes c.args.state.now in
     on_err_weaker c.gather_work.result
-    (second_cut list (from_groups c.args.state.now)
+    (second_cut list (from_groups (word_of c.args.phase) (word_of c.args.group) c.args.state.now)
     c.args.gathered.now.items c.gather_list.new.gathered.items
     (g.W.Write.contents c.args.output.now) (g.W.Write.contents c.gather_list.new.output)
     (g.W.Write.contents c.gather_work.new.output) c.in_ok-gather_list.ensures.told)

@@ -1,7 +1,8 @@
-use Rattle.std.specs.Prelude.{◌≡◌, ◌<◌, ℕ, List, length, option_map}
+use Rattle.std.specs.Prelude.{◌≡◌, ◌<◌, ℕ, Option, length, option_map}
 use Rattle.std.proofs.Common.{[], append-nil, arith, subst, sym}
 use Rattle.std.proofs.lemmas.Result.{err_from_is_err_and}
-use Rattle.console_lines.specs.Inspected.{lines_below}
+use Rattle.console_lines.specs.declared.rows.Row.{Row}
+use Rattle.console_lines.specs.Inspected.{lines_below, seen_line}
 use Rattle.console_lines.specs.Listed.{listed_line}
 use Rattle.run_console.specs.Progress.{Told}
 use Rattle.run_console.proofs.Inspecting.{line_cut, line_told, told_first}
@@ -39,7 +40,7 @@ loop-number-preserved g c =
     let k = c.gather_row.new.gathered.items in
     let w1 = g.W.Write.contents c.loop-number.output in
     let w2 = g.W.Write.contents c.gather_row.new.output in
-    let P : List ℕ → Type 0 = λ t. Told t h k w1 w2 in
+    let P : Option Row → Type 0 = λ row. Told (seen_line row) h k w1 w2 in
     let line = listed_line (option_map (λ word. word.now) c.args.phase)
     (option_map (λ word. word.now) c.args.group) c.args.state.now in
     line_told line c.loop-number.number

@@ -6,7 +6,7 @@ use Rattle.run_console.proofs.trees.gather_nodes.Given as goal
 -- The lines of the first nodes were told, and the next is known.
 abbrev pub invariant-loop-next : goal.invariant-loop-next
 invariant-loop-next g l =
-    IsDrawnTo l.state l.next l.above.items l.initial.gathered.items l.gathered.items
+    IsDrawnTo l.no_tasks l.state l.next l.above.items l.initial.gathered.items l.gathered.items
     (g.W.Write.contents l.initial.output) (g.W.Write.contents l.output)
 
 abbrev pub decreases-loop-next : goal.decreases-loop-next

@@ -1,6 +1,6 @@
 use Rattle.std.specs.Prelude.{[]}
 use Rattle.std.proofs.lemmas.Result.{err_from_is_err_and, on_err_weaker, on_ok_weaker}
-use Rattle.console_lines.specs.Trees.{tree_text}
+use Rattle.console_lines.specs.Branches.{tree_text}
 use Rattle.run_console.proofs.Drawing.{head_of, head_told, nodes_text}
 use Rattle.run_console.proofs.Ends.{told_cut}
 use Rattle.run_console.proofs.EntryTexts.{second_cut}
@@ -18,7 +18,7 @@ returns-in_err-gather_nodes-clause-cut g c =
     c.clock.ensures c.layout.ensures.tree c.scope_count.ensures.len c.group_count.ensures.len
     c.task_count.ensures.len c.new-gathered.ensures c.gather_tree_head.ensures.items in
     rw p.1 (
-    second_cut (head_of s) (nodes_text s) [] h w0 w0
+    second_cut (head_of s) (nodes_text c.args.no_tasks s) [] h w0 w0
     (g.W.Write.contents c.gather_nodes.new.output) head c.in_err-gather_nodes.ensures.cut)
 
 pub returns-clause-whole : goal.returns-clause-whole
@@ -33,8 +33,8 @@ returns-clause-whole g c =
     c.clock.ensures c.layout.ensures.tree c.scope_count.ensures.len c.group_count.ensures.len
     c.task_count.ensures.len c.new-gathered.ensures c.gather_tree_head.ensures.items in
     on_ok_weaker c.write_gathered.result
-    (told_written (tree_text s) k w0 w1 (g.W.Write.contents c.write_gathered.new.output)
-    (told_then (head_of s) (nodes_text s) [] h k w0 w0 w1 head c.in_ok-gather_nodes.ensures.told))
+    (told_written (tree_text c.args.no_tasks s) k w0 w1 (g.W.Write.contents c.write_gathered.new.output)
+    (told_then (head_of s) (nodes_text c.args.no_tasks s) [] h k w0 w0 w1 head c.in_ok-gather_nodes.ensures.told))
     c.write_gathered.ensures.whole
 
 pub returns-clause-cut : goal.returns-clause-cut
@@ -49,6 +49,6 @@ returns-clause-cut g c =
     c.clock.ensures c.layout.ensures.tree c.scope_count.ensures.len c.group_count.ensures.len
     c.task_count.ensures.len c.new-gathered.ensures c.gather_tree_head.ensures.items in
     on_err_weaker c.write_gathered.result
-    (told_cut (tree_text s) [] k w0 w1 (g.W.Write.contents c.write_gathered.new.output)
-    (told_then (head_of s) (nodes_text s) [] h k w0 w0 w1 head c.in_ok-gather_nodes.ensures.told))
+    (told_cut (tree_text c.args.no_tasks s) [] k w0 w1 (g.W.Write.contents c.write_gathered.new.output)
+    (told_then (head_of s) (nodes_text c.args.no_tasks s) [] h k w0 w0 w1 head c.in_ok-gather_nodes.ensures.told))
     c.write_gathered.ensures.cut

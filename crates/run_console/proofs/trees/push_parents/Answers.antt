@@ -1,4 +1,4 @@
-use Rattle.run_console.proofs.Drawing.{groups_fit, parents_are, scopes_fit, tasks_fit}
+use Rattle.run_console.proofs.Drawing.{branches_are, groups_fit, parents_are, scopes_fit, tasks_fit}
 use Rattle.run_console.proofs.trees.push_parents.Goals as goal
 
 pub push_scopes-requires : goal.push_scopes-requires
@@ -16,8 +16,15 @@ push_tasks-requires g c =
     c.push_groups.new.parents.items c.count-rules.ensures.rules c.requires c.push_scopes.ensures
     c.push_groups.ensures
 
+pub returns-then-no_tasks : goal.returns-then-no_tasks
+returns-then-no_tasks g c =
+    rw c.if-no_tasks.true (
+    branches_are c.args.state.now c.args.parents.now.items c.push_scopes.new.parents.items
+    c.push_groups.new.parents.items c.requires c.push_scopes.ensures c.push_groups.ensures)
+
 pub returns : goal.returns
 returns g c =
+    rw c.if-no_tasks.false (
     parents_are c.args.state.now c.args.parents.now.items c.push_scopes.new.parents.items
     c.push_groups.new.parents.items c.push_tasks.new.parents.items c.requires
-    c.push_scopes.ensures c.push_groups.ensures c.push_tasks.ensures
+    c.push_scopes.ensures c.push_groups.ensures c.push_tasks.ensures)
