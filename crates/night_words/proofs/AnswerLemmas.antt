@@ -17,7 +17,8 @@ use Rattle.night_words.specs.declared.asked.Asked.TheVariants.{Demo, Format, Scr
 use Rattle.night_words.specs.declared.asked.Asked.TheVariants.{Crew, Migrate, Renew, RenewInPlace}
 use Rattle.night_words.specs.declared.asked.WordsFault.{WordsFault}
 use Rattle.night_words.specs.declared.asked.WordsFault.TheVariants.{Mistake, NotText, Memory}
-use Rattle.night_words.specs.declared.asked.WordsFault.TheVariants.{Phase, Place, SameStores}
+use Rattle.night_words.specs.declared.asked.WordsFault.TheVariants.{NoTree, Phase, Place}
+use Rattle.night_words.specs.declared.asked.WordsFault.TheVariants.{SameStores}
 use Rattle.night_words.specs.declared.asked.WordsFault.TheVariants.{Views, Workers}
 
 -- the parser's statements on simple commands are about `night`
@@ -52,6 +53,7 @@ shown_is_answer kind kinds (Err (Mistake text)) (inr among) shown = (kind, among
 shown_is_answer kind kinds (Err SameStores) found shown = absurd shown
 shown_is_answer kind kinds (Err Workers) found shown = absurd shown
 shown_is_answer kind kinds (Err Views) found shown = absurd shown
+shown_is_answer kind kinds (Err NoTree) found shown = absurd shown
 shown_is_answer kind kinds (Err Phase) found shown = absurd shown
 shown_is_answer kind kinds (Err Place) found shown = absurd shown
 shown_is_answer kind kinds (Err NotText) found shown = absurd shown
@@ -88,6 +90,7 @@ error_is_no_clash kind words (Err (Mistake text)) shown = tt
 error_is_no_clash kind words (Err SameStores) shown = absurd shown
 error_is_no_clash kind words (Err Workers) shown = absurd shown
 error_is_no_clash kind words (Err Views) shown = absurd shown
+error_is_no_clash kind words (Err NoTree) shown = absurd shown
 error_is_no_clash kind words (Err Phase) shown = absurd shown
 error_is_no_clash kind words (Err Place) shown = absurd shown
 error_is_no_clash kind words (Err NotText) shown = absurd shown
@@ -148,6 +151,7 @@ module _ (a : App) (words : List Text) (m : ArgMatches) (is_night : a ≡ night)
   command_is_answer (Err SameStores) asks = finds_nothing
   command_is_answer (Err Workers) asks = finds_nothing
   command_is_answer (Err Views) asks = finds_nothing
+  command_is_answer (Err NoTree) asks = finds_nothing
   command_is_answer (Err Phase) asks = finds_nothing
   command_is_answer (Err Place) asks = finds_nothing
   command_is_answer (Err (Mistake text)) asks = absurd asks

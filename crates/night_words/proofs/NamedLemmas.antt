@@ -27,7 +27,8 @@ use Rattle.night_words.specs.declared.asked.Asked.TheVariants.{Crew, Migrate, Re
 use Rattle.night_words.specs.declared.asked.View.{View}
 use Rattle.night_words.specs.declared.asked.WordsFault.{WordsFault}
 use Rattle.night_words.specs.declared.asked.WordsFault.TheVariants.{Memory, Mistake, NotText}
-use Rattle.night_words.specs.declared.asked.WordsFault.TheVariants.{Phase, Place, SameStores}
+use Rattle.night_words.specs.declared.asked.WordsFault.TheVariants.{NoTree, Phase, Place}
+use Rattle.night_words.specs.declared.asked.WordsFault.TheVariants.{SameStores}
 use Rattle.night_words.specs.declared.asked.WordsFault.TheVariants.{Views, Workers}
 use Rattle.night_words.proofs.PairLemmas.{migrate, renew}
 use Rattle.night_words.proofs.TakenLemmas.{crew, demo, format, inspect, script}
@@ -207,6 +208,7 @@ crew_here m command inner store count workers known r name rows is read whole gi
     go (Err Workers) made =
         (store, (known, (which, stored, ap (λ o. workers_of o) working ∙ made, knowing)))
     go (Err Views) made = absurd made
+    go (Err NoTree) made = absurd made
     go (Err Phase) made = absurd made
     go (Err Place) made = absurd made
     go (Err NotText) made = absurd made
@@ -252,6 +254,7 @@ inspect_here m command inner store r name rows is stored made = go r made
     go (Err SameStores) made = absurd made
     go (Err Workers) made = absurd made
     go (Err Views) made = (store, seen (Err Views) made)
+    go (Err NoTree) made = (store, seen (Err NoTree) made)
     go (Err Phase) made = (store, seen (Err Phase) made)
     go (Err Place) made = absurd made
     go (Err NotText) made = absurd made
@@ -302,6 +305,7 @@ renewal_here m command inner store new is_new in_place r name rows is stored rea
     )
     go (Err Workers) made = absurd made
     go (Err Views) made = absurd made
+    go (Err NoTree) made = absurd made
     go (Err Phase) made = absurd made
     go (Err Place) made = (
       store,
@@ -425,6 +429,7 @@ migration_here m command inner store given is_new r name rows is stored read any
     go (Err SameStores) made = (store, (is_new, inl (finds store store is_new refl made refl)))
     go (Err Workers) made = absurd made
     go (Err Views) made = absurd made
+    go (Err NoTree) made = absurd made
     go (Err Phase) made = absurd made
     go (Err Place) made = absurd made
     go (Err (Mistake text)) made = absurd made

@@ -2,7 +2,7 @@
 -- mark `--`.
 use Rattle.std.proofs.Common.{◌≡◌, ◌∙◌, ◌∷◌, ◌++◌, ◌⊎◌, ℕ, Bool, List, Option, Some, None, [], ap}
 use Rattle.std.proofs.Common.{false, inl, inr, refl, subst, sym, true}
-use Rattle.std.specs.Prelude.{◌||◌, codes, if◌then◌else◌, not}
+use Rattle.std.specs.Prelude.{◌&&◌, ◌||◌, codes, if◌then◌else◌, not}
 use Rattle.std.specs.List.{slice_index_or}
 use Rattle.std.specs.Option.{option_map_or}
 use Rattle.clap.specs.Faults.{check_fault, level_fault, settle_fault, step_fault, turn_fault}
@@ -71,7 +71,10 @@ formed inspects = record {
             is_flag (codes "json") refl,
             (
               is_flag (codes "tree") refl,
-              (is_flag (codes "summary") refl, (is_help refl, tt)),
+              (
+                is_flag (codes "no-tasks") refl,
+                (is_flag (codes "summary") refl, (is_help refl, tt)),
+              ),
             ),
           ),
         ),
@@ -85,13 +88,16 @@ abbrev pub IsUnset : Command → (word : Text → Option Text) → Type 0
 IsUnset formats word = is_true (word (codes "new")) ≡ false
 IsUnset scripts word = (is_true (word (codes "strict")) ≡ false)
     × (is_true (word (codes "now")) ≡ false)
-IsUnset inspects word = AsksViews false false false false word
+IsUnset inspects word = AsksViews false false false false false word
 
--- neither of three
-none_of : (a b c : Bool) → a || (b || c) ≡ false → (a ≡ false) × (b ≡ false) × (c ≡ false)
-none_of true b c e = cc
-none_of false true c e = cc
-none_of false false c e = (refl, refl, e)
+-- neither of three, where a fourth isn't
+none_of : (a b c j : Bool) → a || ((b || c) && not j) ≡ false → j ≡ false
+    → (a ≡ false) × (b ≡ false) × (c ≡ false)
+none_of true b c j e not_j = cc
+none_of false b c true e not_j = cc
+none_of false true c false e not_j = cc
+none_of false false true false e not_j = cc
+none_of false false false false e not_j = (refl, refl, refl)
 
 quiet : (c : Command) (rows : List Row) → IsUnset c (λ id. first_of id rows)
     → IsQuiet (shape c) rows
@@ -105,7 +111,7 @@ quiet scripts rows unset = (
   ),
 )
 quiet inspects rows unset =
-    let no = none_of _ _ _ unset.0 in (
+    let no = none_of _ _ _ _ unset.0 unset.1 in (
       λ named shown. cc,
       (
         λ named shown. apart _ no.0 shown,
@@ -117,7 +123,10 @@ quiet inspects rows unset =
               λ named shown. apart _ unset.1 shown,
               (
                 λ named shown. apart _ unset.2 shown,
-                (λ named shown. apart _ unset.3 shown, (λ named shown. cc, tt)),
+                (
+                  λ named shown. apart _ unset.4 shown,
+                  (λ named shown. apart _ unset.3 shown, (λ named shown. cc, tt)),
+                ),
               ),
             ),
           ),
@@ -306,7 +315,7 @@ ReadsAlone c x w = (store_of c w ≡ Some x) × IsUnsetAt c w
 reads_alone : (c : Command) (x : Text) (t : Bool) → ReadsAlone c x (stands [] (stored x) 2 t)
 reads_alone formats x t = (refl, refl)
 reads_alone scripts x t = (refl, (refl, refl))
-reads_alone inspects x t = (refl, (refl, refl, refl, refl))
+reads_alone inspects x t = (refl, (refl, refl, refl, refl, refl))
 
 marks : (c : Command) (r : List Row) (p : Option (Text × List Text)) (q : Waiting) (n : ℕ)
     → walked (shape c).rules [] (standing r p q n false) mark ≡ standing r p q n true
@@ -340,7 +349,10 @@ leave_out inspects = (
           λ named values t none. cc,
           (
             λ named values t none. cc,
-            (λ named values t none. cc, (λ named values t none. cc, tt)),
+            (
+              λ named values t none. cc,
+              (λ named values t none. cc, (λ named values t none. cc, tt)),
+            ),
           ),
         ),
       ),

@@ -27,7 +27,8 @@ use Rattle.night_words.specs.declared.asked.Asked.TheVariants.{Demo, Format, Scr
 use Rattle.night_words.specs.declared.asked.Asked.TheVariants.{Crew, Migrate, Renew, RenewInPlace}
 use Rattle.night_words.specs.declared.asked.WordsFault.{WordsFault}
 use Rattle.night_words.specs.declared.asked.WordsFault.TheVariants.{Memory, Mistake, NotText}
-use Rattle.night_words.specs.declared.asked.WordsFault.TheVariants.{Phase, Place, SameStores}
+use Rattle.night_words.specs.declared.asked.WordsFault.TheVariants.{NoTree, Phase, Place}
+use Rattle.night_words.specs.declared.asked.WordsFault.TheVariants.{SameStores}
 use Rattle.night_words.specs.declared.asked.WordsFault.TheVariants.{Views, Workers}
 use Rattle.night_words.proofs.DemoLemmas.{demo_alone}
 use Rattle.night_words.proofs.LevelLemmas.{first_passes, lower_passes, rest_passes, start}
@@ -37,7 +38,7 @@ use Rattle.night_words.proofs.StoreLemmas.{Command, IsUnset, NamesAlone, Passes,
 use Rattle.night_words.proofs.StoreLemmas.{formats, inspects, names_alone, scripts, shape, word_of}
 use Rattle.night_words.proofs.TurnLemmas.{above, above_is_strict, first_none, mark}
 use Rattle.night_words.proofs.TurnLemmas.{mark_or_value, second_none}
-use Rattle.night_words.proofs.ViewLemmas.{asks_alike}
+use Rattle.night_words.proofs.ViewLemmas.{views_alike}
 
 -- the names that the parser knows
 abbrev names : Names
@@ -243,12 +244,8 @@ unset_alike scripts a b same u = (
   ap is_true (sym (same (codes "strict"))) ∙ u.0,
   ap is_true (sym (same (codes "now"))) ∙ u.1,
 )
-unset_alike inspects a b same u = (
-  asks_alike b a (λ id. sym (same id)) ∙ u.0,
-  ap is_true (sym (same (codes "json"))) ∙ u.1,
-  ap is_true (sym (same (codes "tree"))) ∙ u.2,
-  ap is_true (sym (same (codes "summary"))) ∙ u.3,
-)
+unset_alike inspects a b same u =
+    views_alike b a (λ id. sym (same id)) false false false false false u
 
 -- where the walk meets a command over a store, and what the parser enters there
 meets : (c : Command) (rest : List Text) → stop (word_of c ∷ rest) ≡ Some (word_of c, rest)
@@ -511,6 +508,8 @@ taken_fails words entered Workers same t is =
     (is.0, (is.1.0, subst (NamesCrew is.0 None is.1.0) same is.1.1))
 taken_fails words entered Views same t is =
     (is.0, subst (NamesInspect is.0 (Err Views)) same is.1)
+taken_fails words entered NoTree same t is =
+    (is.0, subst (NamesInspect is.0 (Err NoTree)) same is.1)
 taken_fails words entered Phase same t is =
     (is.0, subst (NamesInspect is.0 (Err Phase)) same is.1)
 taken_fails words entered Place same t (store, (new, (is_new, (in_place, wrong, is)))) = (

@@ -3,6 +3,7 @@ use Rattle.std.specs.Prelude.{◌≡◌, ◌≢◌, ◌⊎◌, ◌∷◌, ◌++�
 use Rattle.std.specs.Prelude.{Result, Ok, Err, ◌&&◌, ◌||◌, ◌-◌, codes, if◌then◌else◌, is_some}
 use Rattle.std.specs.Prelude.{nat_le, not}
 use Rattle.std.specs.Prelude.{option_and_then, option_map, Bool, false, true, unwrap_or}
+use Rattle.std.specs.Borrow.{Bor}
 use Rattle.std.specs.List.{list_any}
 use Rattle.std.specs.Option.{option_map_or}
 use Rattle.std.specs.Str.{bytes_eq}
@@ -23,7 +24,8 @@ use Rattle.night_words.specs.declared.asked.View.TheVariants.{Whole, Tasks, Json
 use Rattle.night_words.specs.declared.asked.View.TheVariants.{Summary}
 use Rattle.night_words.specs.declared.asked.WordsFault.{WordsFault}
 use Rattle.night_words.specs.declared.asked.WordsFault.TheVariants.{Mistake, NotText, Memory}
-use Rattle.night_words.specs.declared.asked.WordsFault.TheVariants.{Phase, Place, SameStores}
+use Rattle.night_words.specs.declared.asked.WordsFault.TheVariants.{NoTree, Phase, Place}
+use Rattle.night_words.specs.declared.asked.WordsFault.TheVariants.{SameStores}
 use Rattle.night_words.specs.declared.asked.WordsFault.TheVariants.{Views, Workers}
 
 -- ---- the command line
@@ -65,10 +67,11 @@ script_line = with_rule
 abbrev pub value_option : Text → Rule
 value_option id = record (new_rule id) { long = Some id; action = Some Set; value_names = 1 }
 
--- one that takes four flags, and may be given a phase and a group
+-- one that takes five flags, and may be given a phase and a group
 abbrev pub inspect_line : App
 inspect_line =
     with_rule
+    (with_rule
     (with_rule
     (with_rule
     (with_rule
@@ -78,6 +81,7 @@ inspect_line =
     (value_option (codes "group")))
     (flag (codes "json")))
     (flag (codes "tree")))
+    (flag (codes "no-tasks")))
     (flag (codes "summary"))
 
 -- one that takes the names of two stores, the old one first, and a flag
@@ -201,36 +205,57 @@ phases = codes "held" ∷ codes "ready" ∷ codes "running" ∷ codes "success" 
 abbrev pub names_phase : Option Text → Bool
 names_phase word = option_map_or (λ text. list_any (bytes_eq text) phases) word true
 
--- the lines of tasks alone are asked for, by the flag or by one of the two options; here and below
--- `word` gives the word that was found for an argument
+-- tasks in a phase or of a group are asked for, by one of the two options; here and below `word`
+-- gives the word that was found for an argument
+abbrev pub asks_some : (word : Text → Option Text) → Bool
+asks_some word = is_some (word (codes "phase")) || is_some (word (codes "group"))
+
+-- the lines of tasks alone are asked for, by the flag, or by one of the two options where JSON isn't
 abbrev pub asks_tasks : (word : Text → Option Text) → Bool
 asks_tasks word = is_true (word (codes "tasks"))
-    || (is_some (word (codes "phase")) || is_some (word (codes "group")))
+    || (asks_some word && not (is_true (word (codes "json"))))
 
--- these views are asked for, and no others: that of tasks, JSON, the tree and the summary
-abbrev pub AsksViews : (tasks json tree summary : Bool) (word : Text → Option Text) → Type 0
-AsksViews tasks json tree summary word = (asks_tasks word ≡ tasks)
+-- these views are asked for, and no others: that of tasks, JSON, the tree and the summary; and a
+-- tree without tasks is or isn't
+abbrev pub AsksViews :
+    (tasks json tree summary no_tasks : Bool) (word : Text → Option Text) → Type 0
+AsksViews tasks json tree summary no_tasks word = (asks_tasks word ≡ tasks)
     × (is_true (word (codes "json")) ≡ json) × (is_true (word (codes "tree")) ≡ tree)
     × (is_true (word (codes "summary")) ≡ summary)
+    × (is_true (word (codes "no-tasks")) ≡ no_tasks)
+
+-- a tree without tasks is asked for, but no tree
+abbrev pub lacks_tree : (word : Text → Option Text) → Bool
+lacks_tree word = is_true (word (codes "no-tasks")) && not (is_true (word (codes "tree")))
+
+-- these are the phase and the group that are asked for, and the phase is given by its word
+abbrev pub AsksSome :
+    (phase group : Option (Bor Text)) (word : Text → Option Text) → Type 0
+AsksSome phase group word = (word (codes "phase") ≡ option_map (λ text. text.now) phase)
+    × (word (codes "group") ≡ option_map (λ text. text.now) group)
+    × (names_phase (word (codes "phase")) ≡ true)
 
 -- two of four are true, or more
 abbrev pub are_two : (a b c d : Bool) → Bool
 are_two a b c d = (a && b) || ((c && d) || ((a || b) && (c || d)))
 
--- one view is asked for, or none and all is shown; the two options go with the view of tasks, and
--- the phase is given by its word. More than one view is a mistake, and so is another word
+-- one view is asked for, or none and all is shown; the two options go with the view of tasks and
+-- with JSON. A tree without tasks that is no tree is a mistake, else more than one view is, and else
+-- a word that names no phase
 abbrev pub IsView : (word : Text → Option Text) → Result View WordsFault → Type 0
-IsView word (Ok Whole) = AsksViews false false false false word
-IsView word (Ok (Tasks phase group)) = AsksViews true false false false word
-    × (word (codes "phase") ≡ option_map (λ text. text.now) phase)
-    × (word (codes "group") ≡ option_map (λ text. text.now) group)
-    × (names_phase (word (codes "phase")) ≡ true)
-IsView word (Ok Json) = AsksViews false true false false word
-IsView word (Ok Tree) = AsksViews false false true false word
-IsView word (Ok Summary) = AsksViews false false false true word
-IsView word (Err Views) = are_two (asks_tasks word) (is_true (word (codes "json")))
-    (is_true (word (codes "tree"))) (is_true (word (codes "summary"))) ≡ true
-IsView word (Err Phase) = AsksViews true false false false word
+IsView word (Ok Whole) = AsksViews false false false false false word
+IsView word (Ok (Tasks phase group)) =
+    AsksViews true false false false false word × AsksSome phase group word
+IsView word (Ok (Json phase group)) =
+    AsksViews false true false false false word × AsksSome phase group word
+IsView word (Ok (Tree no_tasks)) = AsksViews false false true false no_tasks word
+IsView word (Ok Summary) = AsksViews false false false true false word
+IsView word (Err NoTree) = lacks_tree word ≡ true
+IsView word (Err Views) = (lacks_tree word ≡ false)
+    × (are_two (asks_tasks word) (is_true (word (codes "json")))
+    (is_true (word (codes "tree"))) (is_true (word (codes "summary"))) ≡ true)
+IsView word (Err Phase) =
+    (AsksViews true false false false false word ⊎ AsksViews false true false false false word)
     × (names_phase (word (codes "phase")) ≡ false)
 IsView word (Err why) = ⊥
 
@@ -329,9 +354,10 @@ AsksFor (Help text) words = Unit {0}
 
 -- the words lead to this fault: to that of equal names if a migration or a renewal is asked for
 -- from a store to itself, to that of the workers if a crew of none, of more than 8 or of no number
--- is, to that of the views if more than one is, to that of the phase if the tasks in one are that
--- has no such word, and to that of the place if a renewal is asked for with neither a new store nor
--- `--in-place`, or with both, or in place with `--new`; `IsAnswer` defines the others
+-- is, to that of the views if more than one is, to that of no tree if a tree without tasks is that
+-- is no tree, to that of the phase if the tasks in one are that has no such word, and to that of the
+-- place if a renewal is asked for with neither a new store nor `--in-place`, or with both, or in
+-- place with `--new`; `IsAnswer` defines the others
 abbrev pub IsCausedBy : WordsFault → List Text → Type 0
 IsCausedBy SameStores words = (store : Text) × ((is_new : Bool)
     × (AsksForMigration store store is_new words ⊎ AsksForRenewal store store is_new words))
@@ -339,6 +365,8 @@ IsCausedBy Workers words = (store : Text) × ((known : Bool)
     × NamesCrew store None known (subcommand_of night words))
 IsCausedBy Views words = (store : Text)
     × NamesInspect store (Err Views) (subcommand_of night words)
+IsCausedBy NoTree words = (store : Text)
+    × NamesInspect store (Err NoTree) (subcommand_of night words)
 IsCausedBy Phase words = (store : Text)
     × NamesInspect store (Err Phase) (subcommand_of night words)
 IsCausedBy Place words = (store : Text) × ((new : Option Text) × ((is_new : Bool)
@@ -357,7 +385,7 @@ abbrev pub IsMistake : ErrorKind → Type 0
 IsMistake kind = (kind ≢ DisplayHelp) × (kind ≢ DisplayVersion) × (kind ≢ OutOfMemory)
 
 -- what is returned when the parser may find these: a command exactly if it finds nothing, but for
--- equal names, a wrong number of workers, several views, a wrong phase and a wrong place
+-- equal names, a wrong number of workers, several views or no tree, a wrong phase and a wrong place
 abbrev pub IsAnswer : Kinds → Result Asked WordsFault → Type 0
 IsAnswer kinds (Ok (Help text)) = (kind : ErrorKind) × IsAmong kind kinds × IsHelp kind
 IsAnswer kinds (Ok command) = kinds ≡ []
@@ -365,6 +393,7 @@ IsAnswer kinds (Err (Mistake text)) = (kind : ErrorKind) × IsAmong kind kinds �
 IsAnswer kinds (Err SameStores) = kinds ≡ []
 IsAnswer kinds (Err Workers) = kinds ≡ []
 IsAnswer kinds (Err Views) = kinds ≡ []
+IsAnswer kinds (Err NoTree) = kinds ≡ []
 IsAnswer kinds (Err Phase) = kinds ≡ []
 IsAnswer kinds (Err Place) = kinds ≡ []
 IsAnswer kinds (Err NotText) = ⊥
@@ -376,6 +405,7 @@ IsOfSystem (Mistake text) = ⊥
 IsOfSystem SameStores = ⊥
 IsOfSystem Workers = ⊥
 IsOfSystem Views = ⊥
+IsOfSystem NoTree = ⊥
 IsOfSystem Phase = ⊥
 IsOfSystem Place = ⊥
 IsOfSystem NotText = Unit {0}
@@ -388,7 +418,8 @@ fault_text SameStores = codes "error: OLD and NEW name the same file\n"
 fault_text Workers = codes "error: --workers takes a number from 1 to 8\n"
 fault_text Views =
     codes "error: inspect takes one of --tasks (or --phase, --group), --json and --tree\n"
-    ++ codes "or --summary alone\n"
+    ++ codes "or --summary alone; --json takes --phase and --group, too\n"
+fault_text NoTree = codes "error: --no-tasks goes with --tree\n"
 fault_text Phase =
     codes "error: --phase takes held, ready, running, success, error or interrupted\n"
 fault_text Place = codes "error: renew takes one of NEW and --in-place\n"
@@ -405,6 +436,7 @@ IsShown kind (Err (Mistake text)) = IsMistake kind
 IsShown kind (Err SameStores) = ⊥
 IsShown kind (Err Workers) = ⊥
 IsShown kind (Err Views) = ⊥
+IsShown kind (Err NoTree) = ⊥
 IsShown kind (Err Phase) = ⊥
 IsShown kind (Err Place) = ⊥
 IsShown kind (Err NotText) = ⊥
@@ -455,6 +487,7 @@ Asks entered (Err SameStores) = (store : Text) × ((is_new : Bool)
 Asks entered (Err Workers) = (store : Text) × ((known : Bool)
     × NamesCrew store None known entered)
 Asks entered (Err Views) = (store : Text) × NamesInspect store (Err Views) entered
+Asks entered (Err NoTree) = (store : Text) × NamesInspect store (Err NoTree) entered
 Asks entered (Err Phase) = (store : Text) × NamesInspect store (Err Phase) entered
 Asks entered (Err Place) = (store : Text) × ((new_one : Option Text)
     × ((is_new : Bool) × ((in_place : Bool) × (is_misplaced new_one is_new in_place ≡ true)
@@ -480,19 +513,21 @@ IsCrew store workers known (Ok asked) = ⊥
 IsCrew store workers known (Err Workers) = workers_of workers ≡ None
 IsCrew store workers known (Err why) = ⊥
 
--- what a view shows of this store, or the fault of several views or of a wrong phase
+-- what a view shows of this store, or the fault of several views, of no tree or of a wrong phase
 abbrev pub IsInspect : Text → (word : Text → Option Text) → Result Asked WordsFault → Type 0
 IsInspect store word (Ok (Inspect s v)) = (s.now ≡ store) × IsView word (Ok v)
 IsInspect store word (Ok asked) = ⊥
 IsInspect store word (Err why) = IsView word (Err why)
 
--- the tasks in this phase and of this group, or the fault of a wrong phase
-abbrev pub IsTasks : (phase group : Option Text) → Result View WordsFault → Type 0
-IsTasks phase group (Ok (Tasks p g)) = (phase ≡ option_map (λ text. text.now) p)
-    × (group ≡ option_map (λ text. text.now) g) × (names_phase phase ≡ true)
-IsTasks phase group (Ok view) = ⊥
-IsTasks phase group (Err Phase) = names_phase phase ≡ false
-IsTasks phase group (Err why) = ⊥
+-- the tasks in this phase and of this group, in JSON or alone, or the fault of a wrong phase
+abbrev pub IsTasks : (phase group : Option Text) → (json : Bool) → Result View WordsFault → Type 0
+IsTasks phase group json (Ok (Tasks p g)) = (phase ≡ option_map (λ text. text.now) p)
+    × (group ≡ option_map (λ text. text.now) g) × (names_phase phase ≡ true) × (json ≡ false)
+IsTasks phase group json (Ok (Json p g)) = (phase ≡ option_map (λ text. text.now) p)
+    × (group ≡ option_map (λ text. text.now) g) × (names_phase phase ≡ true) × (json ≡ true)
+IsTasks phase group json (Ok view) = ⊥
+IsTasks phase group json (Err Phase) = names_phase phase ≡ false
+IsTasks phase group json (Err why) = ⊥
 
 -- a renewal or a migration between two names that differ, to a new file or to any, or the fault of
 -- equal ones

@@ -70,10 +70,17 @@ pub enum View<'a> {
         phase: Option<&'a str>,
         group: Option<&'a str>,
     },
-    /// `--json`: all that it holds, as one object of JSON.
-    Json,
-    /// `--tree`: its scopes as a tree, with their groups and tasks.
-    Tree,
+    /// `--json`: all that it holds, as one object of JSON; with `--phase` and `--group` no other
+    /// tasks than these two name, as above.
+    Json {
+        phase: Option<&'a str>,
+        group: Option<&'a str>,
+    },
+    /// `--tree`: its scopes as a tree, with their groups and tasks; with `--no-tasks` without the
+    /// tasks, of which each group says how many are in each phase.
+    Tree {
+        no_tasks: bool,
+    },
     /// `--summary`: how full it is, a line for each group, and one for each scope that is done.
     Summary,
 }
@@ -91,6 +98,8 @@ pub enum WordsFault {
     Workers,
     /// More than one view of a store is asked for.
     Views,
+    /// No tasks are asked for, but no tree.
+    NoTree,
     /// The tasks of a store in a phase are asked for, but by a word that names no phase.
     Phase,
     /// A renewal is asked for, but with neither NEW nor `--in-place`, or with both, or in place
@@ -112,8 +121,9 @@ impl fmt::Display for WordsFault {
             WordsFault::Workers => f.write_str("error: --workers takes a number from 1 to 8\n"),
             WordsFault::Views => f.write_str(
                 "error: inspect takes one of --tasks (or --phase, --group), --json and --tree\n\
-                or --summary alone\n",
+                or --summary alone; --json takes --phase and --group, too\n",
             ),
+            WordsFault::NoTree => f.write_str("error: --no-tasks goes with --tree\n"),
             WordsFault::Phase => f.write_str(
                 "error: --phase takes held, ready, running, success, error or interrupted\n",
             ),

@@ -209,7 +209,11 @@ fn inspect_command<'a>(alloc: Global) -> Result<Command<'a>, AllocError>
     );
     let json = with_word(
         group,
-        flag_word(alloc, "json", "Prints all of it as one object of JSON"),
+        flag_word(
+            alloc,
+            "json",
+            "Prints all of it as one object of JSON, of its tasks those alone that are asked for",
+        ),
     );
     let tree = with_word(
         json,
@@ -219,8 +223,16 @@ fn inspect_command<'a>(alloc: Global) -> Result<Command<'a>, AllocError>
             "Draws its scopes as a tree, with their groups and tasks",
         ),
     );
-    with_word(
+    let no_tasks = with_word(
         tree,
+        flag_word(
+            alloc,
+            "no-tasks",
+            "Draws a tree without tasks: a group has how many are in each phase",
+        ),
+    );
+    with_word(
+        no_tasks,
         flag_word(
             alloc,
             "summary",

@@ -12,8 +12,9 @@ ghost use Rattle.night_words.specs.Commands.{AsksForRenewalInPlace, AsksForScrip
 ghost use Rattle.night_words.specs.Commands.{NamesRenewal, faults_of, night};
 ghost use Rattle.night_words.specs.declared.asked.View.TheVariants.{Json, Summary, Tasks, Tree};
 ghost use Rattle.night_words.specs.declared.asked.View.TheVariants.{Whole};
-ghost use Rattle.night_words.specs.declared.asked.WordsFault.TheVariants.{Phase, Place, SameStores};
-ghost use Rattle.night_words.specs.declared.asked.WordsFault.TheVariants.{Views, Workers};
+ghost use Rattle.night_words.specs.declared.asked.WordsFault.TheVariants.{NoTree, Phase, Place};
+ghost use Rattle.night_words.specs.declared.asked.WordsFault.TheVariants.{SameStores, Views};
+ghost use Rattle.night_words.specs.declared.asked.WordsFault.TheVariants.{Workers};
 
 /// `demo` is a command, and the mark after which no flag stands is no word of it.
 pub fn demo_is_a_command()
@@ -108,14 +109,30 @@ pub fn some_tasks_may_be_inspected()
         (name ∷ codes "inspect" ∷ codes "--phase=Held" ∷ codes "a" ∷ []) }
 {}
 
+/// Or they are those that are printed as JSON.
+pub fn some_tasks_may_be_printed_as_json()
+    ensures phase { (name : List ℕ) (held : Bor (List ℕ)) → held.now ≡ codes "held"
+        → AsksForInspect (codes "a") (Json (Some held) None)
+        (name ∷ codes "inspect" ∷ codes "--phase=held" ∷ codes "--json" ∷ codes "a" ∷ []) }
+    ensures group { (name : List ℕ) (group : Bor (List ℕ)) → group.now ≡ codes "g"
+        → AsksForInspect (codes "a") (Json None (Some group))
+        (name ∷ codes "inspect" ∷ codes "--json" ∷ codes "a" ∷ codes "--group" ∷ codes "g"
+        ∷ []) }
+    ensures other { (name : List ℕ) → IsCausedBy Phase
+        (name ∷ codes "inspect" ∷ codes "--json" ∷ codes "--phase=done" ∷ codes "a" ∷ []) }
+    ensures tasks_too { (name : List ℕ) → IsCausedBy Views
+        (name ∷ codes "inspect" ∷ codes "--json" ∷ codes "--tasks" ∷ codes "--phase=held"
+        ∷ codes "a" ∷ []) }
+{}
+
 /// With another flag it prints all of it as JSON, with others as a tree and a summary, and two
 /// views are a mistake.
 pub fn other_views_may_be_printed()
-    ensures json { (name : List ℕ) → AsksForInspect (codes "a") Json
+    ensures json { (name : List ℕ) → AsksForInspect (codes "a") (Json None None)
         (name ∷ codes "inspect" ∷ codes "--json" ∷ codes "a" ∷ []) }
-    ensures json_behind { (name : List ℕ) → AsksForInspect (codes "a") Json
+    ensures json_behind { (name : List ℕ) → AsksForInspect (codes "a") (Json None None)
         (name ∷ codes "inspect" ∷ codes "a" ∷ codes "--json" ∷ []) }
-    ensures tree { (name : List ℕ) → AsksForInspect (codes "a") Tree
+    ensures tree { (name : List ℕ) → AsksForInspect (codes "a") (Tree false)
         (name ∷ codes "inspect" ∷ codes "--tree" ∷ codes "a" ∷ []) }
     ensures summary { (name : List ℕ) → AsksForInspect (codes "a") Summary
         (name ∷ codes "inspect" ∷ codes "--summary" ∷ codes "a" ∷ []) }
@@ -127,6 +144,23 @@ pub fn other_views_may_be_printed()
         (name ∷ codes "inspect" ∷ codes "--json" ∷ codes "a" ∷ codes "--tree" ∷ []) }
     ensures group_too { (name : List ℕ) → IsCausedBy Views
         (name ∷ codes "inspect" ∷ codes "--group=g" ∷ codes "--tree" ∷ codes "a" ∷ []) }
+{}
+
+/// A tree may be without tasks, and nothing else may.
+pub fn a_tree_may_be_without_tasks()
+    ensures before { (name : List ℕ) → AsksForInspect (codes "a") (Tree true)
+        (name ∷ codes "inspect" ∷ codes "--no-tasks" ∷ codes "--tree" ∷ codes "a" ∷ []) }
+    ensures behind { (name : List ℕ) → AsksForInspect (codes "a") (Tree true)
+        (name ∷ codes "inspect" ∷ codes "--tree" ∷ codes "a" ∷ codes "--no-tasks" ∷ []) }
+    ensures alone { (name : List ℕ) → IsCausedBy NoTree
+        (name ∷ codes "inspect" ∷ codes "--no-tasks" ∷ codes "a" ∷ []) }
+    ensures json { (name : List ℕ) → IsCausedBy NoTree
+        (name ∷ codes "inspect" ∷ codes "--json" ∷ codes "--no-tasks" ∷ codes "a" ∷ []) }
+    ensures json_too { (name : List ℕ) → IsCausedBy Views
+        (name ∷ codes "inspect" ∷ codes "--json" ∷ codes "--tree" ∷ codes "--no-tasks"
+        ∷ codes "a" ∷ []) }
+    ensures taken { (name : List ℕ) → faults_of
+        (name ∷ codes "inspect" ∷ codes "--tree" ∷ codes "--no-tasks" ∷ codes "a" ∷ []) ≡ [] }
 {}
 
 /// The words of all of them are taken.

@@ -8,7 +8,8 @@ ghost use Rattle.std.specs.declared.io.ErrorKind.TheVariants as system;
 ghost use Rattle.clap.specs.Words.{first_value, found_of, kind_of, subcommand_rows_of};
 ghost use Rattle.night_words.specs.Commands.{Asks, AsksFor, IsAnswer, IsCausedBy, IsCrew};
 ghost use Rattle.night_words.specs.Commands.{IsForTwo, IsInspect, IsNamed, IsOfSystem, IsRenewal};
-ghost use Rattle.night_words.specs.Commands.{IsShown, IsTasks, IsView, faults_of, is_true};
+ghost use Rattle.night_words.specs.Commands.{IsShown, IsTasks, IsView, asks_tasks, faults_of};
+ghost use Rattle.night_words.specs.Commands.{is_true};
 ghost use Rattle.night_words.specs.Commands.{named_by, names_phase, new_by, workers_of};
 
 use crate::asked::{Asked, View, WordsFault};
@@ -143,31 +144,51 @@ fn inspect<'a>(store: &'a str, inner: &ArgMatches<'a>) -> Result<Asked<'a>, Word
     }
 }
 
-/// Which view the words ask for. More than one is a mistake.
+/// Which view the words ask for. More than one is a mistake, and so are no tasks of no tree.
 fn view_of<'a>(inner: &ArgMatches<'a>) -> Result<View<'a>, WordsFault>
     ensures { IsView (first_value (found_of inner.now)) result }
 {
     let phase = inner.get_str("phase");
     let group = inner.get_str("group");
-    let lists = is_set(inner, "tasks") || phase.is_some() || group.is_some();
+    let lists = asks_tasks(inner);
+    let json = is_set(inner, "json");
+    let tree = is_set(inner, "tree");
     let sums = is_set(inner, "summary");
-    match (lists, is_set(inner, "json"), is_set(inner, "tree"), sums) {
+    let no_tasks = is_set(inner, "no-tasks");
+    if no_tasks && !tree {
+        return Err(WordsFault::NoTree);
+    }
+    match (lists, json, tree, sums) {
         (false, false, false, false) => Ok(View::Whole),
-        (true, false, false, false) => tasks(phase, group),
-        (false, true, false, false) => Ok(View::Json),
-        (false, false, true, false) => Ok(View::Tree),
+        (true, false, false, false) => tasks(phase, group, false),
+        (false, true, false, false) => tasks(phase, group, true),
+        (false, false, true, false) => Ok(View::Tree { no_tasks }),
         (false, false, false, true) => Ok(View::Summary),
         _ => Err(WordsFault::Views),
     }
 }
 
-/// The lines of tasks alone. A word that names no phase is a mistake.
-fn tasks<'a>(phase: Option<&'a str>, group: Option<&'a str>) -> Result<View<'a>, WordsFault>
+/// Returns whether the lines of tasks alone are asked for: by their flag, or by a phase or a group
+/// without JSON.
+fn asks_tasks(inner: &ArgMatches) -> bool
+    ensures { result ≡ asks_tasks (first_value (found_of inner.now)) }
+{
+    let some = inner.get_str("phase").is_some() || inner.get_str("group").is_some();
+    is_set(inner, "tasks") || (some && !is_set(inner, "json"))
+}
+
+/// The lines of tasks alone, or JSON with these tasks. A word that names no phase is a mistake.
+fn tasks<'a>(
+    phase: Option<&'a str>,
+    group: Option<&'a str>,
+    json: bool,
+) -> Result<View<'a>, WordsFault>
     ensures { IsTasks (option_map (λ word. word.now) phase.entry)
-        (option_map (λ word. word.now) group.entry) result }
+        (option_map (λ word. word.now) group.entry) json result }
 {
     match phase {
         Some(word) if !is_phase(word) => Err(WordsFault::Phase),
+        _ if json => Ok(View::Json { phase, group }),
         _ => Ok(View::Tasks { phase, group }),
     }
 }

@@ -12,4 +12,6 @@ returns c =
     c.flag_word-2.ensures.rule group in
     let tree = c.with_word-tree.ensures _ _ c.flag_word-3.ensures.local
     c.flag_word-3.ensures.rule json in
-    c.with_word.ensures _ _ c.flag_word-4.ensures.local c.flag_word-4.ensures.rule tree
+    let no_tasks = c.with_word-no_tasks.ensures _ _ c.flag_word-4.ensures.local
+    c.flag_word-4.ensures.rule tree in
+    c.with_word.ensures _ _ c.flag_word-5.ensures.local c.flag_word-5.ensures.rule no_tasks

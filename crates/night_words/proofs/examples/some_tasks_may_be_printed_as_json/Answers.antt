@@ -1,0 +1,21 @@
+use Rattle.std.proofs.Common.{Some, ap, codes, inr, refl, sym}
+use Rattle.clap.proofs.OnLiterals.{clap_on_literals}
+use Rattle.night_words.proofs.examples.some_tasks_may_be_printed_as_json.Goals as goal
+
+pub returns-clause-phase : goal.returns-clause-phase
+unfolding clap_on_literals
+returns-clause-phase c =
+    λ name held is. (refl, refl, ((refl, refl, refl, refl, refl), (ap Some (sym is), refl, refl)))
+
+pub returns-clause-group : goal.returns-clause-group
+unfolding clap_on_literals
+returns-clause-group c =
+    λ name group is. (refl, refl, ((refl, refl, refl, refl, refl), (refl, ap Some (sym is), refl)))
+
+pub returns-clause-other : goal.returns-clause-other
+unfolding clap_on_literals
+returns-clause-other c = λ name. (codes "a", (refl, refl, (inr (refl, refl, refl, refl, refl), refl)))
+
+pub returns-clause-tasks_too : goal.returns-clause-tasks_too
+unfolding clap_on_literals
+returns-clause-tasks_too c = λ name. (codes "a", (refl, refl, (refl, refl)))
