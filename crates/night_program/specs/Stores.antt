@@ -16,12 +16,12 @@ use Rattle.run_book.specs.Renewals.{Renews}
 use Rattle.console_lines.specs.declared.faults.RunFault.{RunFault}
 use Rattle.console_lines.specs.declared.faults.RunFault.TheVariants.{Output}
 use Rattle.console_lines.specs.declared.strays.StrayLine.{StrayLine}
+use Rattle.console_lines.specs.Branches.{tree_text}
 use Rattle.console_lines.specs.Entries.{json_text}
 use Rattle.console_lines.specs.Inspected.{inspected}
 use Rattle.console_lines.specs.Listed.{listed}
 use Rattle.console_lines.specs.Progress.{WritesPart}
 use Rattle.console_lines.specs.Summaries.{summary_text}
-use Rattle.console_lines.specs.Trees.{tree_text}
 use Rattle.run_console.specs.Progress.{BeginsScript, Lasts, RunEnds, RunStops}
 use Rattle.run_console.specs.Troubles.{stopped}
 use Rattle.run_console.specs.declared.untils.Until.{Until}
@@ -112,13 +112,15 @@ Shows text state old answer new w0 w1 =
     × (w1 ≡ w0))
 
 -- What a view shows of a state: all that it holds, the lines of its tasks alone, or of those in a
--- phase and of a group, all of it as one object of JSON, as a tree, or its summary.
+-- phase and of a group, all of it as one object of JSON, with these tasks, as a tree, without tasks
+-- or with them, or its summary.
 abbrev pub view_text : View → State → List ℕ
 view_text Whole p = inspected p
 view_text (Tasks phase group) p =
     listed (option_map (λ word. word.now) phase) (option_map (λ word. word.now) group) p
-view_text Json p = json_text p
-view_text Tree p = tree_text p
+view_text (Json phase group) p =
+    json_text (option_map (λ word. word.now) phase) (option_map (λ word. word.now) group) p
+view_text (Tree no_tasks) p = tree_text no_tasks p
 view_text Summary p = summary_text p
 
 -- What the view shows of it was printed.

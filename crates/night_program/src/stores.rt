@@ -92,8 +92,8 @@ fn show<W: Write, B: Allocator>(
     match view {
         View::Whole => run_console::inspect(state, output),
         View::Tasks { phase, group } => list_tasks(state, phase, group, output),
-        View::Json => print_json(state, output),
-        View::Tree => print_tree(state, output),
+        View::Json { phase, group } => print_json(state, phase, group, output),
+        View::Tree { no_tasks } => print_tree(state, no_tasks, output),
         View::Summary => print_summary(state, output),
     }
 }

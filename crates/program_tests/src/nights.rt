@@ -28,7 +28,7 @@ const INSPECTED: &str = "events 6; clock 0\n\
 const TASKS: &str = "task 0 g copy a running\ntask 1 g copy b held\n";
 
 /// All of it as one object of JSON.
-const JSON: &str = "{\"count\":6,\"clock\":0,\"layout\":\"small\",\
+const JSON: &str = "{\"version\":1,\"count\":6,\"clock\":0,\"layout\":\"small\",\
      \"room\":{\"scopes\":1024,\"groups\":128,\"tasks\":2048},\n\
      \"scopes\":[\n\
      {\"number\":0,\"name\":\"root\",\"parent\":null,\"kind\":\"root\",\"key\":null,\
@@ -39,10 +39,32 @@ const JSON: &str = "{\"count\":6,\"clock\":0,\"layout\":\"small\",\
      {\"number\":0,\"name\":\"g\",\"scope\":1,\"limit\":1,\"waited\":false,\
      \"unfinished\":2,\"error\":null}],\n\
      \"tasks\":[\n\
-     {\"number\":0,\"group\":0,\"job\":\"copy\",\"argument\":\"a\",\"phase\":\"running\",\
-     \"error\":null,\"retry_of\":null},\n\
-     {\"number\":1,\"group\":0,\"job\":\"copy\",\"argument\":\"b\",\"phase\":\"held\",\
-     \"error\":null,\"retry_of\":null}]}\n";
+     {\"number\":0,\"group\":0,\"group_name\":\"g\",\"job\":\"copy\",\"argument\":\"a\",\
+     \"phase\":\"running\",\"error\":null,\"retry_of\":null},\n\
+     {\"number\":1,\"group\":0,\"group_name\":\"g\",\"job\":\"copy\",\"argument\":\"b\",\
+     \"phase\":\"held\",\"error\":null,\"retry_of\":null}]}\n";
+
+/// Of its tasks the one that is held.
+const HELD: &str = "{\"version\":1,\"count\":6,\"clock\":0,\"layout\":\"small\",\
+     \"room\":{\"scopes\":1024,\"groups\":128,\"tasks\":2048},\n\
+     \"scopes\":[\n\
+     {\"number\":0,\"name\":\"root\",\"parent\":null,\"kind\":\"root\",\"key\":null,\
+     \"value\":null,\"deadline\":null,\"done\":false,\"reason\":null,\"cause\":null},\n\
+     {\"number\":1,\"name\":\"g\",\"parent\":0,\"kind\":\"group\",\"key\":null,\
+     \"value\":null,\"deadline\":null,\"done\":false,\"reason\":null,\"cause\":null}],\n\
+     \"groups\":[\n\
+     {\"number\":0,\"name\":\"g\",\"scope\":1,\"limit\":1,\"waited\":false,\
+     \"unfinished\":2,\"error\":null}],\n\
+     \"tasks\":[\n\
+     {\"number\":1,\"group\":0,\"group_name\":\"g\",\"job\":\"copy\",\"argument\":\"b\",\
+     \"phase\":\"held\",\"error\":null,\"retry_of\":null}]}\n";
+
+/// A tree without its tasks.
+const BRANCHES: &str = "events 6; clock 0; scopes 2 of 1024; groups 1 of 128; tasks 2 of 2048\n\
+     scope 0 root root; live; deadline none\n\
+     \u{2514}\u{2500}scope 1 g group; live; deadline none\n\
+     \x20 \u{2514}\u{2500}group 0 g unfinished 2; limit 1; waited no; error none; \
+     tasks held 1, ready 0, running 1, success 0, error 0, interrupted 0\n";
 
 /// Its summary.
 const SUMMARY: &str = "events 6; clock 0; scopes 2 of 1024; groups 1 of 128; tasks 2 of 2048\n\
@@ -69,12 +91,22 @@ fn assert_over<R: Threads + Wait + Sync + Abort>(rt: &R, alloc: Global, is_used:
     assert_run(rt, alloc, row.0, &mut shelf, row.1, &row.2);
 }
 
-static VIEWS: [Over; 6] = [
+static VIEWS: [Over; 8] = [
     (&["inspect", "jobs.store"], "", (0, INSPECTED, "")),
     (&["inspect", "--tasks", "jobs.store"], "", (0, TASKS, "")),
     (&["inspect", "jobs.store", "--tasks"], "", (0, TASKS, "")),
     (&["inspect", "--json", "jobs.store"], "", (0, JSON, "")),
     (&["inspect", "jobs.store", "--json"], "", (0, JSON, "")),
+    (
+        &["inspect", "--json", "--phase=held", "jobs.store"],
+        "",
+        (0, HELD, ""),
+    ),
+    (
+        &["inspect", "--tree", "--no-tasks", "jobs.store"],
+        "",
+        (0, BRANCHES, ""),
+    ),
     (
         &["inspect", "--summary", "jobs.store"],
         "",

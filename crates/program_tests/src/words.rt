@@ -20,7 +20,7 @@ const NO_FILE: &str = "night: fault 2 DiskFailed\nnight: none: no such file\n";
 const NO_SIZE: &str = "night: fault 4 WrongSize\n\
      night: a: not the size of a store: 1,572,864 or 6,291,456 bytes\n";
 
-static CASES: [Case; 39] = [
+static CASES: [Case; 40] = [
     (&[], 2, "", "Usage: night <COMMAND>"),
     (&[""], 2, "", "unrecognized subcommand ''"),
     (&["work", "a"], 2, "", "unrecognized subcommand 'work'"),
@@ -36,7 +36,13 @@ static CASES: [Case; 39] = [
         2,
         "",
         "error: inspect takes one of --tasks (or --phase, --group), --json and --tree\n\
-         or --summary alone\n",
+         or --summary alone; --json takes --phase and --group, too\n",
+    ),
+    (
+        &["inspect", "--no-tasks", "a"],
+        2,
+        "",
+        "error: --no-tasks goes with --tree\n",
     ),
     (
         &["crew", "--help"],

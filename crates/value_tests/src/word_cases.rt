@@ -12,6 +12,8 @@ pub enum Told {
     Script(&'static str, bool, bool),
     /// They ask for the tasks of this store, in this phase and of this group.
     Tasks(&'static str, Option<&'static str>, Option<&'static str>),
+    /// They ask for JSON of this store, with its tasks in this phase and of this group.
+    Json(&'static str, Option<&'static str>, Option<&'static str>),
     /// They ask for this view of this store.
     Inspect(&'static str, View<'static>),
     /// They ask for a migration from this store to that one, in a new file alone or in any.
@@ -32,6 +34,8 @@ pub enum Told {
     Workers,
     /// More than one view.
     Views,
+    /// No tasks, but no tree.
+    NoTree,
     /// A word that is no phase.
     Phase,
     /// A renewal with neither a new store nor a place, or with both, or with a new file in place.
@@ -134,8 +138,13 @@ const TASKS: View<'static> = View::Tasks {
     group: None,
 };
 
+/// A tree, with its tasks and without them.
+const TREE: View<'static> = View::Tree { no_tasks: false };
+
+const BRANCHES: View<'static> = View::Tree { no_tasks: true };
+
 /// The flags of a view, one alone; after `--` each is the name of a store.
-pub static VIEWS: [Case; 16] = [
+pub static VIEWS: [Case; 19] = [
     (&["inspect", "--tasks", "a"], Told::Inspect("a", TASKS)),
     (&["inspect", "a", "--tasks"], Told::Inspect("a", TASKS)),
     (
@@ -146,17 +155,29 @@ pub static VIEWS: [Case; 16] = [
         &["inspect", "--", "--tasks"],
         Told::Inspect("--tasks", View::Whole),
     ),
-    (&["inspect", "--json", "a"], Told::Inspect("a", View::Json)),
-    (&["inspect", "a", "--json"], Told::Inspect("a", View::Json)),
+    (&["inspect", "--json", "a"], Told::Json("a", None, None)),
+    (&["inspect", "a", "--json"], Told::Json("a", None, None)),
     (
         &["inspect", "--json", "--", "--tasks"],
-        Told::Inspect("--tasks", View::Json),
+        Told::Json("--tasks", None, None),
     ),
-    (&["inspect", "--tree", "a"], Told::Inspect("a", View::Tree)),
-    (&["inspect", "a", "--tree"], Told::Inspect("a", View::Tree)),
+    (&["inspect", "--tree", "a"], Told::Inspect("a", TREE)),
+    (&["inspect", "a", "--tree"], Told::Inspect("a", TREE)),
     (
         &["inspect", "--tree", "--", "--json"],
-        Told::Inspect("--json", View::Tree),
+        Told::Inspect("--json", TREE),
+    ),
+    (
+        &["inspect", "--no-tasks", "a", "--tree"],
+        Told::Inspect("a", BRANCHES),
+    ),
+    (
+        &["inspect", "--tree", "--no-tasks", "--", "--tasks"],
+        Told::Inspect("--tasks", BRANCHES),
+    ),
+    (
+        &["inspect", "--tree", "--", "--no-tasks"],
+        Told::Inspect("--no-tasks", TREE),
     ),
     (
         &["inspect", "--", "--tree"],
@@ -178,14 +199,11 @@ pub static VIEWS: [Case; 16] = [
         &["inspect", "--", "--phase"],
         Told::Inspect("--phase", View::Whole),
     ),
-    (
-        &["inspect", "a", "--tree", "--"],
-        Told::Inspect("a", View::Tree),
-    ),
+    (&["inspect", "a", "--tree", "--"], Told::Inspect("a", TREE)),
 ];
 
 /// More than one view.
-pub static TWO_VIEWS: [Case; 13] = [
+pub static TWO_VIEWS: [Case; 14] = [
     (&["inspect", "--json", "--tasks", "a"], Told::Views),
     (&["inspect", "--tasks", "a", "--json"], Told::Views),
     (&["inspect", "--tasks", "--tree", "a"], Told::Views),
@@ -194,11 +212,18 @@ pub static TWO_VIEWS: [Case; 13] = [
         &["inspect", "--tree", "--json", "--tasks", "a"],
         Told::Views,
     ),
-    (&["inspect", "--phase", "held", "--json", "a"], Told::Views),
+    (
+        &["inspect", "--json", "a", "--tasks", "--phase=x"],
+        Told::Views,
+    ),
     (&["inspect", "--tree", "a", "--phase=held"], Told::Views),
     (&["inspect", "--group", "g", "a", "--tree"], Told::Views),
     (
-        &["inspect", "--json", "--group=g", "--phase=x", "a"],
+        &["inspect", "--json", "--group=g", "--tree", "a"],
+        Told::Views,
+    ),
+    (
+        &["inspect", "--tree", "--no-tasks", "--summary", "a"],
         Told::Views,
     ),
     (&["inspect", "--summary", "--tree", "a"], Told::Views),
@@ -271,6 +296,34 @@ pub static SOME_TASKS: [Case; 18] = [
     ),
     (&["inspect", "--tasks", "--phase=held ", "a"], Told::Phase),
     (&["inspect", "--phase", "error no", "a"], Told::Phase),
+];
+
+/// The tasks of a phase or of a group as JSON, and a tree's tasks that aren't wanted, but no tree.
+pub static JSON_TASKS: [Case; 9] = [
+    (
+        &["inspect", "--phase", "held", "--json", "a"],
+        Told::Json("a", Some("held"), None),
+    ),
+    (
+        &["inspect", "a", "--json", "--group", "No Group"],
+        Told::Json("a", None, Some("No Group")),
+    ),
+    (
+        &["inspect", "--group=g", "--json", "--phase=error", "a"],
+        Told::Json("a", Some("error"), Some("g")),
+    ),
+    (&["inspect", "--json", "--phase=Held", "a"], Told::Phase),
+    (
+        &["inspect", "--json", "--group=g", "--phase=x", "a"],
+        Told::Phase,
+    ),
+    (&["inspect", "--no-tasks", "a"], Told::NoTree),
+    (&["inspect", "a", "--json", "--no-tasks"], Told::NoTree),
+    (&["inspect", "--no-tasks", "--phase=x", "a"], Told::NoTree),
+    (
+        &["inspect", "--no-tasks", "--tasks", "--summary", "a"],
+        Told::NoTree,
+    ),
 ];
 
 pub static MIGRATIONS: [Case; 13] = [

@@ -2,8 +2,8 @@
 
 use crate::asserts::{done, given, holds};
 use crate::word_cases::{
-    CREWS, Case, DEMO, FLAGS, HELP, MIGRATIONS, RENEWALS, RENEWALS_IN_PLACE, RUNS, SOME_TASKS,
-    STORES, TWO_VIEWS, Told, VERSION, VIEWS,
+    CREWS, Case, DEMO, FLAGS, HELP, JSON_TASKS, MIGRATIONS, RENEWALS, RENEWALS_IN_PLACE, RUNS,
+    SOME_TASKS, STORES, TWO_VIEWS, Told, VERSION, VIEWS,
 };
 use crate::word_mistakes::{MISTAKES, STRAY_FLAGS};
 use console_lines::Row;
@@ -79,8 +79,10 @@ fn is_view(view: View, other: View) -> bool {
         (View::Tasks { phase, group }, View::Tasks { phase: p, group: g }) => {
             phase == p && group == g
         }
-        (View::Json, View::Json) => true,
-        (View::Tree, View::Tree) => true,
+        (View::Json { phase, group }, View::Json { phase: p, group: g }) => {
+            phase == p && group == g
+        }
+        (View::Tree { no_tasks }, View::Tree { no_tasks: n }) => no_tasks == n,
         (View::Summary, View::Summary) => true,
         _ => false,
     }
@@ -92,6 +94,13 @@ fn is_inspect(told: &Told, store: &str, view: View) -> bool {
         Told::Inspect(name, its) => *name == store && is_view(*its, view),
         Told::Tasks(name, phase, group) => {
             let its = View::Tasks {
+                phase: *phase,
+                group: *group,
+            };
+            *name == store && is_view(its, view)
+        }
+        Told::Json(name, phase, group) => {
+            let its = View::Json {
                 phase: *phase,
                 group: *group,
             };
@@ -184,6 +193,7 @@ fn is_mistake(alloc: Global, fault: &WordsFault, told: &Told) -> Result<bool, Al
         (WordsFault::SameStores, Told::SameStores) => Ok(true),
         (WordsFault::Workers, Told::Workers) => Ok(true),
         (WordsFault::Views, Told::Views) => Ok(true),
+        (WordsFault::NoTree, Told::NoTree) => Ok(true),
         (WordsFault::Phase, Told::Phase) => Ok(true),
         (WordsFault::Place, Told::Place) => Ok(true),
         (WordsFault::Mistake(_), Told::Mistake(part)) => {
@@ -235,6 +245,7 @@ fn a_view_may_be_asked_for(rt: HostRuntime) {
 #[test]
 fn some_tasks_may_be_asked_for(rt: HostRuntime) {
     assert_told(&rt, rt.alloc(), &SOME_TASKS);
+    assert_told(&rt, rt.alloc(), &JSON_TASKS);
 }
 
 #[test]
