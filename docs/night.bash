@@ -14,7 +14,7 @@ _night() {
         format) flags="--new --help" ;;
         script) flags="--strict --now --help" ;;
         crew) flags="--workers --known --help" ;;
-        inspect) flags="--tasks --phase --group --json --tree --summary --help" ;;
+        inspect) flags="--tasks --phase --group --json --tree --no-tasks --summary --help" ;;
         migrate) flags="--new --help" ;;
         renew) flags="--new --in-place --help" ;;
         help) mapfile -t COMPREPLY < <(compgen -W "$words" -- "$current") && return ;;
