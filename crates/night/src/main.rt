@@ -18,7 +18,7 @@ use night_words::own_words;
 use run_crew::Job;
 use std::process::ExitCode;
 use std::thread::Builder;
-use system_files::{Complaint, Complaints, Heard, SystemFiles};
+use system_files::{Complaint, Complaints, Errors, Heard, SystemFiles};
 
 /// The most workers that the words can ask for.
 const MOST_WORKERS: usize = 8;
@@ -62,7 +62,7 @@ fn main(rt: HostRuntime) -> ExitCode {
             input: &why_input,
             output: &why_output,
         };
-        let mut errors = rt.stderr();
+        let mut errors = Errors::new(rt.stderr());
         let ended = night(
             &rt,
             alloc,

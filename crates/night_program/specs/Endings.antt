@@ -2,12 +2,12 @@
 use Rattle.std.specs.Prelude.{◌≡◌, ◌∷◌, ◌++◌, [], ℕ, Bool, true, List, Option, Result, Ok, Err}
 use Rattle.std.specs.Prelude.{IfSome, codes}
 use Rattle.std.specs.Fmt.{decimal}
-use Rattle.std.specs.Io.KnownBytes.{Appends}
 use Rattle.std.specs.Option.{option_map_or}
 use Rattle.console_lines.specs.declared.faults.RunFault.{RunFault}
 use Rattle.console_lines.specs.declared.faults.RunFault.TheVariants as fault
 use Rattle.console_lines.specs.Faults.{stop_text}
 use Rattle.console_lines.specs.Strict.{stray_text}
+use Rattle.store_files.specs.Tells.{TellState, Tells}
 use Rattle.night_words.specs.declared.asked.WordsFault.{WordsFault}
 use Rattle.night_words.specs.declared.asked.WordsFault.TheVariants as words
 use Rattle.night_words.specs.Commands.{fault_text}
@@ -33,10 +33,6 @@ words_status _ = 2
 abbrev pub fault_line : RunFault → List ℕ
 fault_line why = codes "night: " ++ stop_text why ++ 10 ∷ []
 
--- Where all was told, this text was written.
-abbrev pub Tells : Bool → List ℕ → (e0 e1 : Option (List ℕ)) → Type 0
-Tells told text e0 e1 = told ≡ true → Appends e0 e1 text
-
 -- The exit status where no fault ended the program.
 abbrev pub done_status : Done → ℕ
 done_status Well = 0
@@ -54,7 +50,7 @@ unknown_line unknown =
 -- What standard error is told where no fault ended the program: nothing, but of a line at which a
 -- strict run ended, as in `night: line 7: bad line`, and of a job that a crew doesn't know. An
 -- audit that strayed tells itself on standard output.
-abbrev pub TellsDone : Done → Bool → (e0 e1 : Option (List ℕ)) → Type 0
+abbrev pub TellsDone : Done → Bool → (e0 e1 : TellState) → Type 0
 TellsDone (Stray line) told e0 e1 =
     Tells told (codes "night: " ++ (stray_text line ++ codes "\n")) e0 e1
 TellsDone (Unknown unknown) told e0 e1 = Tells told (unknown_line unknown) e0 e1
@@ -77,7 +73,7 @@ failure_lines failure stream =
     fault_line failure.fault ++ (blamed_line failure.file ++ blamed_line stream)
 
 -- What the words asked for came to this, or a fault ended it; and it is told.
-abbrev pub EndsBy : Result Done Failure → Ended → (e0 e1 : Option (List ℕ)) → Type 0
+abbrev pub EndsBy : Result Done Failure → Ended → (e0 e1 : TellState) → Type 0
 EndsBy (Ok done) ended e0 e1 =
     (ended.status ≡ done_status done) × TellsDone done ended.told e0 e1
 EndsBy (Err failure) ended e0 e1 =
@@ -86,6 +82,6 @@ EndsBy (Err failure) ended e0 e1 =
     × Tells ended.told (failure_lines failure stream) e0 e1)
 
 -- The words asked for nothing, and it is told why.
-abbrev pub Refuses : WordsFault → Ended → (e0 e1 : Option (List ℕ)) → Type 0
+abbrev pub Refuses : WordsFault → Ended → (e0 e1 : TellState) → Type 0
 Refuses why ended e0 e1 =
     (ended.status ≡ words_status why) × Tells ended.told (fault_text why) e0 e1

@@ -34,6 +34,7 @@ use Rattle.night_program.specs.Stores.{AnswersMade, DoesPrint, FormatEnds, Inspe
 use Rattle.night_program.specs.Stores.{MigratesRead, Remakes, ScriptEnds, migrated_line}
 use Rattle.night_program.specs.Stores.{renewed_line, until_of}
 use Rattle.night_program.specs.Timed.{DoesTimed}
+use Rattle.store_files.specs.Tells.{TellState}
 use Rattle.store_files.specs.Files.{FilesView, Holds, HoldsAlone, IsNotMade, IsSettled, Makes}
 
 -- whether a crew's night was asked for
@@ -280,7 +281,7 @@ IsUntouched f0 f1 r0 r1 w0 w1 = (f1 ≡ f0) × (r1 ≡ r0) × (w1 ≡ w0)
 
 -- The words ask for nothing, and nothing was done but to tell why.
 abbrev pub IsRefused : {F : Type 0} → WordsFault → Ended → (f0 f1 : F)
-    → (r0 r1 w0 w1 e0 e1 : Option (List ℕ)) → Type 0
+    → (r0 r1 w0 w1 : Option (List ℕ)) → (e0 e1 : TellState) → Type 0
 IsRefused why ended f0 f1 r0 r1 w0 w1 e0 e1 =
     Refuses why ended e0 e1 × IsUntouched f0 f1 r0 r1 w0 w1
 
@@ -288,7 +289,7 @@ module _ {F D : Type 0} (state : D → DiskState) (seen : FilesView F D) where
   -- What was read of the words was done, with so many lists of jobs and a clock that tells these
   -- moments, and told where it failed.
   abbrev pub Obeys : Result Asked WordsFault → (lists : ℕ) → (moments : Option (List ℕ)) → Ended
-      → (f0 f1 : F) → (r0 r1 w0 w1 e0 e1 : Option (List ℕ)) → Type 0
+      → (f0 f1 : F) → (r0 r1 w0 w1 : Option (List ℕ)) → (e0 e1 : TellState) → Type 0
   Obeys (Ok asked) lists moments ended f0 f1 r0 r1 w0 w1 e0 e1 =
       (answer : Result Done Failure) × Does state seen asked lists moments answer f0 f1 r0 r1 w0 w1
       × EndsBy answer ended e0 e1
@@ -297,7 +298,7 @@ module _ {F D : Type 0} (state : D → DiskState) (seen : FilesView F D) where
 
   -- The words were read, and what they ask for was done.
   abbrev pub RunsWords : List (List ℕ) → (lists : ℕ) → (moments : Option (List ℕ)) → Ended
-      → (f0 f1 : F) → (r0 r1 w0 w1 e0 e1 : Option (List ℕ)) → Type 0
+      → (f0 f1 : F) → (r0 r1 w0 w1 : Option (List ℕ)) → (e0 e1 : TellState) → Type 0
   RunsWords words lists moments ended f0 f1 r0 r1 w0 w1 e0 e1 =
       (read : Result Asked WordsFault) × IsAnswer (faults_of words) read
       × IfOk read (λ asked. AsksFor asked words) × IfErr read (λ why. IsCausedBy why words)

@@ -1,17 +1,17 @@
 //! How the program ends: its exit status, and what it prints on standard error.
 
 ghost use Rattle.std.specs.Prelude.{◌≡◌};
-ghost use Rattle.night_program.specs.Endings.{EndsBy, Refuses, Tells, TellsDone, done_status};
+ghost use Rattle.night_program.specs.Endings.{EndsBy, Refuses, TellsDone, done_status};
 ghost use Rattle.night_program.specs.Endings.{blamed_line, failure_lines, fault_status, file_line};
 ghost use Rattle.night_program.specs.Endings.{unknown_line, words_status};
+ghost use Rattle.store_files.specs.Tells.{Tells};
 
 use crate::failures::{Failure, FileFailure};
 use crate::known::UnknownJob;
 use crate::streams::Streams;
 use console_lines::{RunFault, StrayLine};
 use night_words::WordsFault;
-use std::io::Write;
-use store_files::Why;
+use store_files::{Tell, Why};
 
 /// How the program ended.
 #[derive(Clone, Copy, Debug, PartialEq, Eq)]
@@ -20,7 +20,8 @@ pub struct Ended {
     /// bad or refused, 2 for words that ask for nothing, 3 if the store, the input or the output
     /// failed, an audit strayed or a crew doesn't know a job, 4 for want of memory.
     pub status: u8,
-    /// Whether all that there was to print was written on standard error.
+    /// Whether all that there was to print was written on standard error; if not, a call of it
+    /// failed.
     pub told: bool,
 }
 
@@ -41,12 +42,12 @@ pub enum Done {
 /// and in another which file or stream is to blame and why, as in `night: jobs.store: not a store`;
 /// so is a line at which a strict run ended, as in `night: line 7: bad line`. What strays in an
 /// audit is printed by its own line.
-pub fn end<E: Write, Y: Why + Drop>(
+pub fn end<E: Tell, Y: Why + Drop>(
     answer: &Result<Done, Failure<'_>>,
     streams: &Streams<Y>,
     errors: &mut E,
 ) -> Ended
-    ensures { EndsBy answer.now result (E.contents errors.old) (E.contents errors.new) }
+    ensures { EndsBy answer.now result (E.state errors.old) (E.state errors.new) }
 {
     match answer {
         Ok(done) => Ended {
@@ -64,12 +65,12 @@ pub fn end<E: Write, Y: Why + Drop>(
 }
 
 /// Ends a program whose words ask for nothing, and prints why.
-pub fn refuse<E: Write>(fault: WordsFault, errors: &mut E) -> Ended
-    ensures { Refuses fault result (E.contents errors.old) (E.contents errors.new) }
+pub fn refuse<E: Tell>(fault: WordsFault, errors: &mut E) -> Ended
+    ensures { Refuses fault result (E.state errors.old) (E.state errors.new) }
 {
     Ended {
         status: refusal_status(&fault),
-        told: write!(errors, "{fault}").is_ok(),
+        told: errors.tell(fault),
     }
 }
 
@@ -106,34 +107,35 @@ fn refusal_status(fault: &WordsFault) -> u8
 
 /// Writes what there is to print if no fault ended the program, and returns whether all of it was
 /// written.
-fn tell_done<E: Write>(done: &Done, errors: &mut E) -> bool
-    ensures { TellsDone done.now result (E.contents errors.old) (E.contents errors.new) }
+fn tell_done<E: Tell>(done: &Done, errors: &mut E) -> bool
+    ensures { TellsDone done.now result (E.state errors.old) (E.state errors.new) }
 {
     match done {
         Done::Well | Done::Strayed => true,
-        Done::Stray(line) => writeln!(errors, "night: {line}").is_ok(),
+        Done::Stray(line) => errors.tell(format_args!("night: {line}\n")),
         Done::Unknown(unknown) => tell_unknown(unknown, errors),
     }
 }
 
 /// Writes which job a crew doesn't know, and of how many tasks.
-fn tell_unknown<E: Write>(unknown: &UnknownJob, errors: &mut E) -> bool
+fn tell_unknown<E: Tell>(unknown: &UnknownJob, errors: &mut E) -> bool
     ensures { Tells result (unknown_line unknown.now)
-        (E.contents errors.old) (E.contents errors.new) }
+        (E.state errors.old) (E.state errors.new) }
 {
     let job = &unknown.job;
     let tasks = unknown.tasks;
-    writeln!(errors, "night: unknown job {job}; tasks {tasks}").is_ok()
+    errors.tell(format_args!("night: unknown job {job}; tasks {tasks}\n"))
 }
 
 /// Writes the line of a fault, and those of the file and of the stream that are to blame after it,
 /// and returns whether all was written.
-fn tell<E: Write>(failure: &Failure<'_>, stream: &Option<FileFailure<'_>>, errors: &mut E) -> bool
+fn tell<E: Tell>(failure: &Failure<'_>, stream: &Option<FileFailure<'_>>, errors: &mut E) -> bool
     ensures { Tells result (failure_lines failure.now stream.now)
-        (E.contents errors.old) (E.contents errors.new) }
+        (E.state errors.old) (E.state errors.new) }
 {
-    let line = failure.fault;
-    if writeln!(errors, "night: {line}").is_err() {
+    let fault = failure.fault;
+    let is_told = errors.tell(format_args!("night: {fault}\n"));
+    if !is_told {
         return false;
     }
     if !tell_blamed(&failure.file, errors) {
@@ -143,8 +145,8 @@ fn tell<E: Write>(failure: &Failure<'_>, stream: &Option<FileFailure<'_>>, error
 }
 
 /// Writes which file is to blame, if one is, and for what.
-fn tell_blamed<E: Write>(file: &Option<FileFailure<'_>>, errors: &mut E) -> bool
-    ensures { Tells result (blamed_line file.now) (E.contents errors.old) (E.contents errors.new) }
+fn tell_blamed<E: Tell>(file: &Option<FileFailure<'_>>, errors: &mut E) -> bool
+    ensures { Tells result (blamed_line file.now) (E.state errors.old) (E.state errors.new) }
 {
     match file {
         Some(file) => tell_file(file, errors),
@@ -153,10 +155,10 @@ fn tell_blamed<E: Write>(file: &Option<FileFailure<'_>>, errors: &mut E) -> bool
 }
 
 /// Writes which file is to blame, and for what.
-fn tell_file<E: Write>(file: &FileFailure<'_>, errors: &mut E) -> bool
-    ensures { Tells result (file_line file.now) (E.contents errors.old) (E.contents errors.new) }
+fn tell_file<E: Tell>(file: &FileFailure<'_>, errors: &mut E) -> bool
+    ensures { Tells result (file_line file.now) (E.state errors.old) (E.state errors.new) }
 {
     let name = &file.name;
     let wrong = &file.wrong;
-    writeln!(errors, "night: {name}: {wrong}").is_ok()
+    errors.tell(format_args!("night: {name}: {wrong}\n"))
 }

@@ -30,7 +30,7 @@ use std::alloc::Global;
 use std::io::{Read, Write};
 use std::sync::Wait;
 use std::thread::Threads;
-use store_files::{Files, Made, Opened, Reason, Why};
+use store_files::{Files, Made, Opened, Reason, Tell, Why};
 use timed_input::MachineTime;
 
 /// Does what the words ask for, the program's own name first. They come as the system gave them, or
@@ -56,7 +56,7 @@ pub fn night<
     C: MachineTime,
     I: Read,
     O: Write,
-    E: Write,
+    E: Tell,
     Y: Why + Drop,
     R: Threads + Wait + Sync,
 >(
@@ -74,13 +74,13 @@ pub fn night<
     ensures refused { IfErr words (λ why. IsRefused why result files.old files.new
         (I.remaining input.old) (I.remaining input.new)
         (O.contents output.old) (O.contents output.new)
-        (E.contents errors.old) (E.contents errors.new)) }
+        (E.state errors.old) (E.state errors.new)) }
     ensures runs { IfOk words (λ words. RunsWords F.Disk.state F.seen
         (map string_bytes words.items) (vec_len jobs) (C.moments clock.old) result
         files.old files.new
         (I.remaining input.old) (I.remaining input.new)
         (O.contents output.old) (O.contents output.new)
-        (E.contents errors.old) (E.contents errors.new)) }
+        (E.state errors.old) (E.state errors.new)) }
 {
     let words = match words {
         Ok(words) => words,

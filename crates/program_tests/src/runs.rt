@@ -1,6 +1,6 @@
 //! Runs of the program, and what each printed.
 
-use crate::asserts::done;
+use crate::asserts::{done, holds};
 use crate::shelves::{Shelf, said};
 use night_program::{CopyJob, Ended, FailJob, SpinJob, Streams, night};
 use night_words::WordsFault;
@@ -12,6 +12,7 @@ use std::process::Abort;
 use std::sync::Wait;
 use std::thread::Threads;
 use store_files::{Reason, Why};
+use system_files::Errors;
 
 /// How many lists of jobs each run has.
 const LISTS: usize = 2;
@@ -89,7 +90,7 @@ impl Why for Said {
 }
 
 /// Runs the program with what the system gave for its words, by a clock that tells these moments,
-/// over one file and these streams.
+/// over one file and these streams, and asserts that it says whether a write of the errors failed.
 pub fn run_over<R: Threads + Wait + Sync + Abort, I: Read, O: Write, E: Write>(
     rt: &R,
     alloc: Global,
@@ -106,9 +107,21 @@ pub fn run_over<R: Threads + Wait + Sync + Abort, I: Read, O: Write, E: Write>(
         input: Said("nobody writes"),
         output: Said("nobody reads"),
     };
-    night(
-        rt, alloc, words, jobs, shelf, &mut clock, input, output, &streams, errors,
-    )
+    let mut errors = Errors::new(errors);
+    let ended = night(
+        rt,
+        alloc,
+        words,
+        jobs,
+        shelf,
+        &mut clock,
+        input,
+        output,
+        &streams,
+        &mut errors,
+    );
+    holds(rt, ended.told == (errors.failures() == 0), "told", 0);
+    ended
 }
 
 /// So does [`run_over`], and gives what was printed.

@@ -11,5 +11,5 @@ mod system;
 
 pub use complaints::Complaint;
 pub use disks::SystemDisk;
-pub use streams::Heard;
+pub use streams::{Errors, Heard};
 pub use system::{Complaints, SystemFiles};

@@ -1,10 +1,13 @@
-//! A [`Heard`] is a stream of the system, of which the first call that fails is noted.
+//! A [`Heard`] is a stream of the system, of which the first call that fails is noted; [`Errors`]
+//! are one that is told texts.
 
 ghost use Rattle.std.specs.Prelude.{◌≡◌};
 
 use crate::complaints::Complaint;
+use std::fmt::Display;
 use std::io;
 use std::io::{ErrorKind, Read, Write};
+use store_files::Tell;
 
 /// A stream that notes why the first of its calls that failed did. A call that was interrupted is
 /// made again by its caller, and not noted.
@@ -52,5 +55,45 @@ fn note<T>(done: &io::Result<T>, why: &Complaint) {
         && error.kind() != ErrorKind::Interrupted
     {
         why.note(error);
+    }
+}
+
+/// A stream that is told texts, and counts those of which a call failed.
+#[derive(Drop)]
+pub struct Errors<T> {
+    stream: T,
+    failures: u64,
+}
+
+impl<T: Write> Errors<T> {
+    pub fn new(stream: T) -> Errors<T>
+        ensures { (⟦<Errors<T> as Tell>⟧.state result).failures ≡ 0 }
+    {
+        Errors {
+            stream,
+            failures: 0,
+        }
+    }
+
+    /// Returns of how many texts a call failed.
+    pub fn failures(&self) -> u64
+        ensures { result ≡ (⟦<Errors<T> as Tell>⟧.state self.now).failures }
+    {
+        self.failures
+    }
+}
+
+impl<T: Write> Tell for Errors<T> {
+    ghost use Rattle.store_files.specs.Tells.{TellState};
+
+    ghost state = { λ errors.
+        record { contents = T.contents errors.stream; failures = errors.failures } };
+
+    fn tell<D: Display + Drop>(&mut self, text: D) -> bool {
+        let is_told = self.stream.write_fmt(text).is_ok();
+        if !is_told {
+            self.failures = self.failures.wrapping_add(1);
+        }
+        is_told
     }
 }
