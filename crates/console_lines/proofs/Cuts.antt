@@ -1,16 +1,20 @@
 -- A line is replied as what is kept of it is: one that is cut is a bad line either way.
-use Rattle.std.specs.Prelude.{◌≡◌, ◌<◌, ℕ, List, length}
-use Rattle.std.proofs.Common.{inl, inr, arith, ap, ◌∙◌, sym}
+use Rattle.std.specs.Prelude.{◌≡◌, ◌<◌, ℕ, false, List, length, Option, Some, None}
+use Rattle.std.specs.Prelude.{if◌then◌else◌}
+use Rattle.std.proofs.Common.{inl, inr, arith, ap, refl, ◌∙◌, sym}
 use Rattle.std.proofs.lemmas.Bool.{cases_lt}
 use Rattle.std.proofs.lemmas.Bool.Decides.{nat_tests}
 use Rattle.std.proofs.lemmas.Grind.{common_steps}
 use Rattle.std.proofs.lemmas.List.{length-take-le, take_all}
 use Rattle.run_model.specs.Session.{Session}
 use Rattle.console_lines.specs.declared.asked.Asked.TheVariants.{BadLine}
+use Rattle.console_lines.specs.declared.strays.Stray.{Stray}
+use Rattle.console_lines.specs.declared.strays.Stray.TheVariants as stray
 use Rattle.console_lines.specs.Asked.{asked_of}
 use Rattle.console_lines.specs.Progress.{kept}
 use Rattle.console_lines.specs.Replies.{reply_lines}
 use Rattle.console_lines.specs.Script.{reply, after_line, replies_to, after_asked}
+use Rattle.console_lines.specs.Strict.{ends_in_return, stray_by}
 
 pub asked_of_long : (line : List ℕ) → 256 < length line → asked_of line ≡ BadLine
 asked_of_long line h = grind (arith, nat_tests, common_steps, h)
@@ -31,3 +35,24 @@ pub after_line_kept :
     (s : Session) (line : List ℕ) → after_line s (kept line) ≡ after_line s line
 unfolding after_line
 after_line_kept s line = ap (λ a. after_asked s a) (asked_of_kept line)
+
+long_ends : (line : List ℕ) → 256 < length line → ends_in_return line ≡ false
+long_ends line h = grind (arith, nat_tests, common_steps, h)
+
+-- What is kept of a line ends with a carriage return where the line does.
+pub ends_kept : (line : List ℕ) → ends_in_return (kept line) ≡ ends_in_return line
+ends_kept line = elim (cases_lt 256 (length line)) [
+  | inl long ↦
+      let len : length (kept line) ≡ 257 = length-take-le 257 line (omega (arith, long)) in
+      long_ends (kept line) (omega (arith, len)) ∙ sym (long_ends line long)
+  | inr short ↦ ap ends_in_return (take_all 257 line (omega (arith, short)))
+]
+
+-- Lines that end alike stray alike.
+pub strays_alike : (why : Option Stray) (xs ys : List ℕ)
+    → ends_in_return xs ≡ ends_in_return ys → stray_by why xs ≡ stray_by why ys
+strays_alike None xs ys e = refl
+strays_alike (Some stray.BadLine) xs ys e =
+    ap (λ b. if b then Some stray.CarriageReturn else Some stray.BadLine) e
+strays_alike (Some stray.CarriageReturn) xs ys e = refl
+strays_alike (Some (stray.Refused why)) xs ys e = refl

@@ -1,10 +1,11 @@
 -- A strict run of lines: it ends after the first line that strays.
-use Rattle.std.specs.Prelude.{ℕ, ◌+◌, if◌then◌else◌, List, [], ◌∷◌, ◌++◌, codes, Option, Some}
-use Rattle.std.specs.Prelude.{None, is_some}
+use Rattle.std.specs.Prelude.{ℕ, ◌+◌, ◌-◌, ◌==◌, ◌&&◌, nat_le, Bool, if◌then◌else◌, List, [], ◌∷◌}
+use Rattle.std.specs.Prelude.{◌++◌, length, slice_index, codes, Option, Some, None, is_some}
 use Rattle.std.specs.Fmt.{decimal}
 use Rattle.std.specs.Option.{option_map_or, option_or}
 use Rattle.run_model.specs.declared.answers.Reply.TheVariants as told
 use Rattle.run_model.specs.Session.{Session}
+use Rattle.console_lines.specs.declared.lines.TheConstants.{LONGEST_LINE}
 use Rattle.console_lines.specs.declared.replies.Reply.{Reply}
 use Rattle.console_lines.specs.declared.replies.Reply.TheVariants as said
 use Rattle.console_lines.specs.declared.strays.Stray.{Stray}
@@ -27,9 +28,23 @@ abbrev pub stray_among : List Reply → Option Stray
 stray_among [] = None
 stray_among (reply ∷ replies) = option_or (stray_of reply) (stray_among replies)
 
+-- Whether the last byte of a line is a carriage return. Of a line that is too long it isn't known.
+abbrev pub ends_in_return : List ℕ → Bool
+ends_in_return line =
+    nat_le (length line) LONGEST_LINE && (slice_index line (length line - 1) == 13)
+
+-- Why a line strays by why one of its replies does: of a bad line a carriage return at its end is
+-- told, too.
+abbrev pub stray_by : Option Stray → List ℕ → Option Stray
+stray_by None line = None
+stray_by (Some stray.BadLine) line =
+    if ends_in_return line then Some stray.CarriageReturn else Some stray.BadLine
+stray_by (Some stray.CarriageReturn) line = Some stray.CarriageReturn
+stray_by (Some (stray.Refused why)) line = Some (stray.Refused why)
+
 -- A line strays if one of its replies does.
 unfoldable pub stray_at : Session → List ℕ → Option Stray
-stray_at s line = stray_among (replies_to s (asked_of line))
+stray_at s line = stray_by (stray_among (replies_to s (asked_of line))) line
 
 -- The first of these lines that strays, and its number, when the first of them has this number. An
 -- empty line counts, too.
@@ -62,6 +77,7 @@ strict_script s bytes =
 -- The reply to a line that strays.
 abbrev pub stray_reply : Stray → Reply
 stray_reply stray.BadLine = said.BadLine
+stray_reply stray.CarriageReturn = said.BadLine
 stray_reply (stray.Refused why) = said.Refused why
 
 -- A line that strays is shown as its number and its reply, as in `line 7: refused 12 AlreadyDone`.

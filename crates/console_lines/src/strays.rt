@@ -1,8 +1,9 @@
 //! A line that strays: it is a bad line or is refused, and a strict run ends after it.
 
 ghost use Rattle.std.specs.Prelude.{◌≡◌, Some};
-ghost use Rattle.console_lines.specs.Strict.{stray_of, stray_text};
+ghost use Rattle.console_lines.specs.Strict.{ends_in_return, stray_by, stray_of, stray_text};
 
+use crate::lines::LONGEST_LINE;
 use crate::replies::Reply;
 use run_model::Refusal;
 use std::fmt;
@@ -12,6 +13,8 @@ use std::fmt;
 pub enum Stray {
     /// It is not a line of the console.
     BadLine,
+    /// Nor is it, and it ends with a carriage return.
+    CarriageReturn,
     /// It was refused.
     Refused(Refusal),
 }
@@ -28,6 +31,26 @@ impl Stray {
             }
             _ => None,
         }
+    }
+
+    /// Why a line strays, by why one of its replies does, and by how it ends.
+    pub fn by(why: Option<Stray>, line: &[u8]) -> Option<Stray>
+        ensures { result ≡ stray_by why line.now }
+    {
+        match why {
+            Some(Stray::BadLine) if ends_in_return(line) => Some(Stray::CarriageReturn),
+            _ => why,
+        }
+    }
+}
+
+/// Returns whether a line that isn't too long ends with a carriage return.
+fn ends_in_return(line: &[u8]) -> bool
+    ensures { result ≡ ends_in_return line.now }
+{
+    match line.last() {
+        Some(last) => line.len() <= LONGEST_LINE && *last == b'\r',
+        None => false,
     }
 }
 
@@ -47,7 +70,7 @@ impl fmt::Display for StrayLine {
     fn fmt<W: fmt::Write>(&self, f: &mut fmt::Formatter<W>) -> fmt::Result {
         let number = self.number;
         match self.why {
-            Stray::BadLine => write!(f, "line {number}: bad line"),
+            Stray::BadLine | Stray::CarriageReturn => write!(f, "line {number}: bad line"),
             Stray::Refused(refusal) => write!(f, "line {number}: {refusal}"),
         }
     }

@@ -3,7 +3,7 @@
 //! Each function has an empty body, and its clauses are the example, as in
 //! [`nights`](crate::nights).
 
-ghost use Rattle.std.specs.Prelude.{◌≡◌, [], codes, Some, None};
+ghost use Rattle.std.specs.Prelude.{◌≡◌, ◌∷◌, ◌++◌, [], codes, Some, None};
 ghost use Rattle.run_model.specs.declared.layouts.Layout.TheVariants.{Small};
 ghost use Rattle.run_model.specs.Session.{opened};
 ghost use Rattle.console_lines.specs.Strict.{stray_in, stray_text, strict_script};
@@ -47,9 +47,19 @@ pub fn the_last_line_strays_too()
         ≡ Some (record { number = 2; why = Stray.BadLine }) }
 {}
 
+/// A carriage return at the end of a bad line is told, whatever comes after that line.
+pub fn a_carriage_return_strays()
+    ensures printed { strict_script (opened Small) (codes "flush\nflush" ++ 13 ∷ codes "\nup")
+        ≡ codes "acked 1\nbad line\nacked 1\n" }
+    ensures stray { stray_in (opened Small) (codes "flush\nflush" ++ 13 ∷ codes "\nup")
+        ≡ Some (record { number = 2; why = Stray.CarriageReturn }) }
+{}
+
 /// A line that strays is shown as its number and its reply.
 pub fn a_stray_line_is_told()
     ensures bad { stray_text (record { number = 7; why = Stray.BadLine })
+        ≡ codes "line 7: bad line" }
+    ensures returned { stray_text (record { number = 7; why = Stray.CarriageReturn })
         ≡ codes "line 7: bad line" }
     ensures refused { stray_text (record { number = 7; why = Stray.Refused Refusal.AlreadyDone })
         ≡ codes "line 7: refused 12 AlreadyDone" }

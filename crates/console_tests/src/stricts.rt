@@ -22,7 +22,7 @@ fn line(stray: Option<(u64, Stray)>) -> Option<StrayLine> {
     }
 }
 
-static ROWS: [Row; 12] = [
+static ROWS: [Row; 14] = [
     (b"", b"acked 1\n", None, 1),
     (b"\n\n", b"acked 1\n", None, 1),
     (
@@ -80,6 +80,18 @@ static ROWS: [Row; 12] = [
         b"task 0\ngroup g root\n",
         b"refused 3 NoSuchTask\nacked 1\n",
         Some((1, Stray::Refused(Refusal::NoSuchTask))),
+        1,
+    ),
+    (
+        b"flush\r\nup\n",
+        b"bad line\nacked 1\n",
+        Some((1, Stray::CarriageReturn)),
+        1,
+    ),
+    (
+        b"scope root\nflush\r",
+        b"live; deadline none\nbad line\nacked 1\n",
+        Some((2, Stray::CarriageReturn)),
         1,
     ),
     (

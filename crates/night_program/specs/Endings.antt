@@ -6,6 +6,9 @@ use Rattle.std.specs.Option.{option_map_or}
 use Rattle.console_lines.specs.declared.faults.RunFault.{RunFault}
 use Rattle.console_lines.specs.declared.faults.RunFault.TheVariants as fault
 use Rattle.console_lines.specs.Faults.{stop_text}
+use Rattle.console_lines.specs.declared.strays.Stray as strays
+use Rattle.console_lines.specs.declared.strays.Stray.TheVariants.{CarriageReturn}
+use Rattle.console_lines.specs.declared.strays.StrayLine.{StrayLine}
 use Rattle.console_lines.specs.Strict.{stray_text}
 use Rattle.store_files.specs.Tells.{TellState, Tells}
 use Rattle.night_words.specs.declared.asked.WordsFault.{WordsFault}
@@ -47,12 +50,27 @@ unknown_line unknown =
     codes "night: unknown job "
     ++ (unknown.job ++ (codes "; tasks " ++ (decimal unknown.tasks ++ codes "\n")))
 
+-- What standard error is told of a line at which a strict run ended, as in `night: line 7: bad
+-- line`.
+abbrev pub stray_line : StrayLine → List ℕ
+stray_line line = codes "night: " ++ (stray_text line ++ codes "\n")
+
+-- What it is told of how the line of this number ends, where it strays for this reason, as in
+-- `night: line 7: it ends with a carriage return`.
+abbrev pub return_line : strays.Stray → (number : ℕ) → List ℕ
+return_line CarriageReturn number =
+    codes "night: line " ++ (decimal number ++ codes ": it ends with a carriage return\n")
+return_line _ number = []
+
+-- It is told both.
+abbrev pub stray_lines : StrayLine → List ℕ
+stray_lines line = stray_line line ++ return_line line.why line.number
+
 -- What standard error is told where no fault ended the program: nothing, but of a line at which a
--- strict run ended, as in `night: line 7: bad line`, and of a job that a crew doesn't know. An
--- audit that strayed tells itself on standard output.
+-- strict run ended, and of a job that a crew doesn't know. An audit that strayed tells itself on
+-- standard output.
 abbrev pub TellsDone : Done → Bool → (e0 e1 : TellState) → Type 0
-TellsDone (Stray line) told e0 e1 =
-    Tells told (codes "night: " ++ (stray_text line ++ codes "\n")) e0 e1
+TellsDone (Stray line) told e0 e1 = Tells told (stray_lines line) e0 e1
 TellsDone (Unknown unknown) told e0 e1 = Tells told (unknown_line unknown) e0 e1
 TellsDone _ told e0 e1 = (told ≡ true) × (e1 ≡ e0)
 

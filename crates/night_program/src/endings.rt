@@ -3,13 +3,14 @@
 ghost use Rattle.std.specs.Prelude.{◌≡◌};
 ghost use Rattle.night_program.specs.Endings.{EndsBy, Refuses, TellsDone, done_status};
 ghost use Rattle.night_program.specs.Endings.{blamed_line, failure_lines, fault_status, file_line};
-ghost use Rattle.night_program.specs.Endings.{unknown_line, words_status};
+ghost use Rattle.night_program.specs.Endings.{return_line, stray_lines, unknown_line};
+ghost use Rattle.night_program.specs.Endings.{words_status};
 ghost use Rattle.store_files.specs.Tells.{Tells};
 
 use crate::failures::{Failure, FileFailure};
 use crate::known::UnknownJob;
 use crate::streams::Streams;
-use console_lines::{RunFault, StrayLine};
+use console_lines::{RunFault, Stray, StrayLine};
 use night_words::WordsFault;
 use store_files::{Tell, Why};
 
@@ -40,8 +41,8 @@ pub enum Done {
 
 /// Ends what the words asked for. A fault is printed in one line, as in `night: fault 3 NotAStore`,
 /// and in another which file or stream is to blame and why, as in `night: jobs.store: not a store`;
-/// so is a line at which a strict run ended, as in `night: line 7: bad line`. What strays in an
-/// audit is printed by its own line.
+/// so is a line at which a strict run ended, as in `night: line 7: bad line`, and in another that it
+/// ends with a carriage return. What strays in an audit is printed by its own line.
 pub fn end<E: Tell, Y: Why + Drop>(
     answer: &Result<Done, Failure<'_>>,
     streams: &Streams<Y>,
@@ -112,8 +113,30 @@ fn tell_done<E: Tell>(done: &Done, errors: &mut E) -> bool
 {
     match done {
         Done::Well | Done::Strayed => true,
-        Done::Stray(line) => errors.tell(format_args!("night: {line}\n")),
+        Done::Stray(line) => tell_stray(line, errors),
         Done::Unknown(unknown) => tell_unknown(unknown, errors),
+    }
+}
+
+/// Writes at which line a strict run ended, and why; and whether it ends with a carriage return.
+fn tell_stray<E: Tell>(line: &StrayLine, errors: &mut E) -> bool
+    ensures { Tells result (stray_lines line.now) (E.state errors.old) (E.state errors.new) }
+{
+    if !errors.tell(format_args!("night: {line}\n")) {
+        return false;
+    }
+    tell_return(line.why, line.number, errors)
+}
+
+/// Writes that the line of this number ends with a carriage return, if that is why it strays.
+fn tell_return<E: Tell>(why: Stray, number: u64, errors: &mut E) -> bool
+    ensures { Tells result (return_line why number) (E.state errors.old) (E.state errors.new) }
+{
+    match why {
+        Stray::CarriageReturn => errors.tell(format_args!(
+            "night: line {number}: it ends with a carriage return\n"
+        )),
+        Stray::BadLine | Stray::Refused(_) => true,
     }
 }
 

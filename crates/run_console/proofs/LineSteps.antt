@@ -1,24 +1,29 @@
 -- One line: from what it asks for to what is written.
 use Rattle.std.specs.Prelude.{◌≡◌, ℕ, true, List, map, Result, Ok, Err, IfErr, OnErr, OnOk}
-use Rattle.std.specs.Prelude.{Option, Some, None}
-use Rattle.std.specs.Option.{option_or}
+use Rattle.std.specs.Prelude.{Option, Some, None, [], ◌∷◌}
+use Rattle.std.specs.Option.{option_and_then, option_map_or, option_or}
 use Rattle.std.proofs.Common.{ap, sym, subst, refl, arith, ◌∙◌, append-nil}
+use Rattle.run_model.specs.declared.answers.Look.{Look}
 use Rattle.run_model.specs.declared.answers.Reply.TheVariants as told
 use Rattle.run_model.specs.declared.commands.Step.TheVariants as step
+use Rattle.run_model.specs.declared.refusals.Refusal.TheVariants as refusal
+use Rattle.run_model.specs.Questions.{look_of}
+use Rattle.run_model.specs.State.{State, scope_named}
 use Rattle.run_model.specs.Session.{Session}
 use Rattle.console_lines.specs.declared.asked.Asked.{Asked}
 use Rattle.console_lines.specs.declared.replies.Reply.{Reply}
 use Rattle.console_lines.specs.declared.replies.Reply.TheVariants as said
 use Rattle.console_lines.specs.Asked.{asked_of}
 use Rattle.console_lines.specs.Replies.{reply_line, reply_lines}
-use Rattle.console_lines.specs.Script.{closing, reply, replies_to, after_asked, after_line}
-use Rattle.console_lines.specs.Strict.{stray_among, stray_at}
+use Rattle.console_lines.specs.Script.{closing, reply, replies_to, scope_reply, after_asked}
+use Rattle.console_lines.specs.Script.{after_line}
+use Rattle.console_lines.specs.Strict.{ends_in_return, stray_among, stray_at, stray_by}
 use Rattle.console_lines.specs.declared.strays.Stray.{Stray}
 use Rattle.console_lines.proofs.StrayLemmas.{tallies_stay}
 use Rattle.console_lines.specs.Tallies.{tallies_of}
 use Rattle.console_lines.specs.declared.asked.Asked.TheVariants as asked
 use Rattle.console_lines.specs.Progress.{kept}
-use Rattle.console_lines.proofs.Cuts.{asked_of_kept}
+use Rattle.console_lines.proofs.Cuts.{asked_of_kept, ends_kept, strays_alike}
 use Rattle.run_console.specs.SessionLines.{IsSaving, is_tally}
 
 -- What a line asks for was run.
@@ -76,13 +81,32 @@ unfolding closing
 closing_is s r is =
     ap reply_lines is ∙ append-nil (reply_line (said.Step (told.Acked s.state.count)))
 
--- Why a line strays, by its replies.
-pub line_strays : (s : Session) (line : List ℕ) (a : Asked) (r : List Reply)
+-- Why a line strays, by its replies, and by bytes that end as it does.
+pub line_strays : (s : Session) (line bytes : List ℕ) (a : Asked) (r : List Reply)
+    (why : Option Stray)
     → a ≡ asked_of line
     → r ≡ replies_to s a
-    → stray_among r ≡ stray_at s line
+    → why ≡ stray_among r
+    → ends_in_return line ≡ ends_in_return bytes
+    → stray_by why bytes ≡ stray_at s line
 unfolding stray_at
-line_strays s line a r read h = ap stray_among (h ∙ ap (replies_to s) read)
+line_strays s line bytes a r why read h is e =
+    strays_alike why bytes line (sym e)
+    ∙ ap (λ x. stray_by x line) (is ∙ ap stray_among (h ∙ ap (replies_to s) read))
+
+-- A scope's reply is no bad line.
+look_strays : (look : Option Look) (line : List ℕ)
+    → stray_by (stray_among (option_map_or (λ x. said.Scope x) look
+    (said.Refused refusal.NoSuchScope) ∷ [])) line
+    ≡ stray_among (option_map_or (λ x. said.Scope x) look (said.Refused refusal.NoSuchScope) ∷ [])
+look_strays None line = refl
+look_strays (Some look) line = refl
+
+pub scope_strays : (p : State) (name line : List ℕ)
+    → stray_by (stray_among (scope_reply p name ∷ [])) line
+    ≡ stray_among (scope_reply p name ∷ [])
+scope_strays p name line =
+    look_strays (option_and_then (λ s. look_of p s) (scope_named p.tree name)) line
 
 -- A tally doesn't stray.
 pub tally_stays : (s : Session) (line : List ℕ) (a : Asked)
@@ -90,9 +114,9 @@ pub tally_stays : (s : Session) (line : List ℕ) (a : Asked)
     → is_tally a ≡ true
     → None ≡ stray_at s line
 tally_stays s line a read tally =
-    sym (tallies_stay (tallies_of s.state.work.tasks))
-    ∙ line_strays s line asked.Tally (map said.Tally (tallies_of s.state.work.tasks))
+    line_strays s line line asked.Tally (map said.Tally (tallies_of s.state.work.tasks)) None
     (sym (tally_asked line a read tally)) refl
+    (sym (tallies_stay (tallies_of s.state.work.tasks))) refl
 
 -- The only reply tells why.
 pub only_stray : (why : Option Stray) → why ≡ option_or why None
@@ -146,3 +170,8 @@ saves_no_tally line a X read tally saving =
 pub same_asked : (line begun last : List ℕ) → last ≡ begun → begun ≡ kept line
     → asked_of line ≡ asked_of last
 same_asked line begun last e k = sym (ap asked_of (e ∙ k) ∙ asked_of_kept line)
+
+-- And ends with a carriage return where the line does.
+pub same_end : (line begun last : List ℕ) → last ≡ begun → begun ≡ kept line
+    → ends_in_return line ≡ ends_in_return last
+same_end line begun last e k = sym (ap ends_in_return (e ∙ k) ∙ ends_kept line)

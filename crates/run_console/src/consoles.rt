@@ -12,7 +12,7 @@ ghost use Rattle.console_lines.specs.Asked.{asked_of};
 ghost use Rattle.console_lines.specs.Replies.{reply_lines};
 ghost use Rattle.console_lines.specs.Script.{closing, scope_reply};
 ghost use Rattle.console_lines.specs.declared.gathers.TheConstants.{LONGEST_REPLY};
-ghost use Rattle.console_lines.specs.Strict.{stray_among, stray_at};
+ghost use Rattle.console_lines.specs.Strict.{ends_in_return, stray_among, stray_at};
 ghost use Rattle.run_console.specs.Progress.{Closes, Cut, EndStops, Lasts};
 ghost use Rattle.run_console.specs.Progress.{LineRuns, LineStops, Ran};
 ghost use Rattle.run_console.specs.Rows.{Tries};
@@ -106,6 +106,7 @@ pub fn gather_line<A: Allocator + Copy, W: Write, D: RunDisk, B: Allocator>(
         → IfErr result (λ fault. Cut D.state fault (line ∷ []) book.old book.new
         gathered.old.items (W.contents output.old) (W.contents output.new)) }
     ensures strays { (line : List ℕ) → asked_of line ≡ asked_of bytes.now
+        → ends_in_return line ≡ ends_in_return bytes.now
         → IfOk result (λ why. why ≡ stray_at book.old.session line) }
     ensures sound { OnOk result (book.new.journal.broken ≡ false) }
     ensures saved { IsSaving (asked_of bytes.now)
@@ -122,7 +123,7 @@ pub fn gather_line<A: Allocator + Copy, W: Write, D: RunDisk, B: Allocator>(
     }
     match reply_to(&asked, book) {
         Ok(reply) => {
-            let why = stray_of(&reply);
+            let why = Stray::by(stray_of(&reply), bytes);
             gather_reply(reply, gathered);
             Ok(why)
         }

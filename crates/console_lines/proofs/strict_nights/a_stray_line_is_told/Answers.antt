@@ -6,6 +6,10 @@ pub returns-clause-bad : goal.returns-clause-bad
 unfolding digits
 returns-clause-bad c = refl
 
+pub returns-clause-returned : goal.returns-clause-returned
+unfolding digits
+returns-clause-returned c = refl
+
 pub returns-clause-refused : goal.returns-clause-refused
 unfolding digits
 returns-clause-refused c = refl

@@ -10,13 +10,15 @@ use Rattle.run_state.proofs.Staying.{stays_same}
 use Rattle.console_lines.specs.Asked.{asked_of}
 use Rattle.console_lines.specs.Replies.{reply_lines}
 use Rattle.console_lines.specs.Script.{reply, scope_reply}
+use Rattle.console_lines.specs.Strict.{stray_among}
 use Rattle.console_lines.specs.Tallies.{tallies_of}
 use Rattle.console_lines.specs.declared.replies.Reply.TheVariants as said
 use Rattle.run_console.specs.Progress.{Told, Untold}
 use Rattle.run_console.specs.SessionLines.{IsSaving, is_tally}
 use Rattle.run_console.proofs.Ends.{cut_stopped, told_more}
 use Rattle.run_console.proofs.LineSteps.{line_obeyed, line_replies, line_strays, line_tally}
-use Rattle.run_console.proofs.LineSteps.{saves_no_tally, tally_asked, tally_leaves, tally_stays}
+use Rattle.run_console.proofs.LineSteps.{saves_no_tally, scope_strays, tally_asked, tally_leaves}
+use Rattle.run_console.proofs.LineSteps.{tally_stays}
 use Rattle.run_console.proofs.Looks.{looks}
 use Rattle.run_console.proofs.Lines.{cut_before, cut_untold, ran_line}
 use Rattle.book_model.specs.Steps.{StepsOn, reply_of_save}
@@ -51,7 +53,7 @@ returns-then-is_tally-clause-ran g c = λ line e.
     c.in_ok-gather_tally.ensures.told)
 
 pub returns-then-is_tally-clause-strays : goal.returns-then-is_tally-clause-strays
-returns-then-is_tally-clause-strays g c = λ line e.
+returns-then-is_tally-clause-strays g c = λ line e ends.
     tally_stays c.args.book.now.session line c.read_line-asked.result
     (c.read_line-asked.ensures ∙ sym e) (sym c.is_tally.ensures ∙ c.if-is_tally.true)
 
@@ -114,15 +116,16 @@ returns-in-Scope-clause-ran g c = λ line e.
     ∙ ap (λ t. m ++ t) (line_replies b.session line a said read does.replied)))
 
 pub returns-in-Scope-clause-strays : goal.returns-in-Scope-clause-strays
-returns-in-Scope-clause-strays g c = λ line e.
+returns-in-Scope-clause-strays g c = λ line e ends.
     let b = c.args.book.now in
     let p = c.state-in-Scope.result.now in
+    let said = scope_reply p c.in-Scope.name ∷ [] in
     let does = looks g.D.RunDisk.state b p c.in-Scope.name c.requires.sound
     c.state-in-Scope.ensures.state in
     c.gather_look.ensures.strays
-    ∙ line_strays b.session line (asked.Scope c.in-Scope.name)
-    (scope_reply p c.in-Scope.name ∷ [])
-    (sym c.in-Scope.is ∙ c.read_line-asked.ensures ∙ sym e) does.replied
+    ∙ sym (scope_strays p c.in-Scope.name line)
+    ∙ line_strays b.session line line (asked.Scope c.in-Scope.name) said (stray_among said)
+    (sym c.in-Scope.is ∙ c.read_line-asked.ensures ∙ sym e) does.replied refl refl
 
 pub returns-in-Scope-clause-saved : goal.returns-in-Scope-clause-saved
 returns-in-Scope-clause-saved g c = λ saving.
@@ -163,10 +166,11 @@ returns-in-Ok-clause-ran g c = λ line e.
     (line_replies b.session line a (option_to_list c.in-Ok.reply) read does.replied)))
 
 pub returns-in-Ok-clause-strays : goal.returns-in-Ok-clause-strays
-returns-in-Ok-clause-strays g c = λ line e.
-    c.stray_of-why.ensures
-    ∙ line_strays c.args.book.now.session line c.read_line-asked.result
-    (option_to_list c.in-Ok.reply) (c.read_line-asked.ensures ∙ sym e) c.in-Ok.ensures.does.replied
+returns-in-Ok-clause-strays g c = λ line e ends.
+    c.by-why.ensures
+    ∙ line_strays c.args.book.now.session line c.args.bytes.now c.read_line-asked.result
+    (option_to_list c.in-Ok.reply) c.stray_of.result (c.read_line-asked.ensures ∙ sym e)
+    c.in-Ok.ensures.does.replied c.stray_of.ensures ends
 
 pub returns-in-Ok-clause-saved : goal.returns-in-Ok-clause-saved
 returns-in-Ok-clause-saved g c = λ saving.

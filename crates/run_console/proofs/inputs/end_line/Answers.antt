@@ -1,6 +1,6 @@
 use Rattle.std.proofs.Common.{◌++◌}
 use Rattle.std.proofs.lemmas.Result.{err_from_is_err_and}
-use Rattle.run_console.proofs.LineSteps.{same_asked}
+use Rattle.run_console.proofs.LineSteps.{same_asked, same_end}
 use Rattle.run_console.proofs.Quiet.{kept_longer}
 use Rattle.run_console.proofs.inputs.end_line.Goals as goal
 
@@ -18,8 +18,10 @@ pub returns-clause-ran : goal.returns-clause-ran
 returns-clause-ran g c = λ begun e.
     let end = c.args.end.now in
     let tail = c.keep.new.tail.items in
-    let asks = same_asked (begun ++ end) tail c.as_slice.result.now c.as_slice.ensures.value
-    (kept_longer begun end c.args.tail.now.items tail e c.keep.ensures) in (
+    let last = c.as_slice.result.now in
+    let is_kept = kept_longer begun end c.args.tail.now.items tail e c.keep.ensures in
+    let asks = same_asked (begun ++ end) tail last c.as_slice.ensures.value is_kept in (
       c.in_ok-why.ensures.ran (begun ++ end) asks,
-      c.in_ok-why.ensures.strays (begun ++ end) asks,
+      c.in_ok-why.ensures.strays (begun ++ end) asks
+          (same_end (begun ++ end) tail last c.as_slice.ensures.value is_kept),
     )
