@@ -16,6 +16,7 @@ use crate::clock::SystemClock;
 use night_program::{CopyJob, FailJob, SpinJob, Streams, night};
 use night_words::own_words;
 use run_crew::Job;
+use std::io::IsTerminal;
 use std::process::ExitCode;
 use std::thread::Builder;
 use system_files::{Complaint, Complaints, Errors, Heard, SystemFiles};
@@ -61,6 +62,7 @@ fn main(rt: HostRuntime) -> ExitCode {
         let streams = Streams {
             input: &why_input,
             output: &why_output,
+            is_terminal: rt.stdin().is_terminal(),
         };
         let mut errors = Errors::new(rt.stderr());
         let ended = night(

@@ -2,6 +2,7 @@ pub mod Crews
 pub mod Demos
 pub mod Endings
 pub mod Failures
+pub mod Hints
 pub mod Jobs
 pub mod Known
 pub mod Lasting

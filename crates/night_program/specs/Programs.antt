@@ -1,5 +1,5 @@
 -- What the program does by its words.
-use Rattle.std.specs.Prelude.{◌≡◌, ◌⊎◌, ◌<◌, ℕ, Bool, true, false, List, Option, Some, None, ⊤}
+use Rattle.std.specs.Prelude.{◌≡◌, ◌⊎◌, ◌<◌, ◌&&◌, ℕ, Bool, true, false, List, Option, Some, None, ⊤}
 use Rattle.std.specs.Prelude.{Result, Ok, Err, IfErr, IfOk}
 use Rattle.std.specs.String.{string_bytes}
 use Rattle.run_model.specs.declared.faults.Fault.{Fault}
@@ -27,6 +27,7 @@ use Rattle.night_program.specs.Demos.{DemoEnds}
 use Rattle.night_program.specs.Endings.{EndsBy, Refuses}
 use Rattle.night_program.specs.Failures.{AnswersAlone, AnswersOver, AnswersStrict, HasNoFile}
 use Rattle.night_program.specs.Failures.{FailsBy, Names, NamesSource}
+use Rattle.night_program.specs.Hints.{Hints, reads_lines}
 use Rattle.night_program.specs.Looks.{LookEnds}
 use Rattle.night_program.specs.Replacements.{DoesRenewInPlace}
 use Rattle.night_program.specs.Sources.{Serves, ServesNot, migrated_layout}
@@ -287,19 +288,22 @@ IsRefused why ended f0 f1 r0 r1 w0 w1 e0 e1 =
 
 module _ {F D : Type 0} (state : D → DiskState) (seen : FilesView F D) where
   -- What was read of the words was done, with so many lists of jobs and a clock that tells these
-  -- moments, and told where it failed.
-  abbrev pub Obeys : Result Asked WordsFault → (lists : ℕ) → (moments : Option (List ℕ)) → Ended
+  -- moments, and told where it failed. A hint was told before it, where a terminal is the input.
+  abbrev pub Obeys : Result Asked WordsFault → (lists : ℕ) → (moments : Option (List ℕ))
+      → (is_terminal : Bool) → Ended
       → (f0 f1 : F) → (r0 r1 w0 w1 : Option (List ℕ)) → (e0 e1 : TellState) → Type 0
-  Obeys (Ok asked) lists moments ended f0 f1 r0 r1 w0 w1 e0 e1 =
+  Obeys (Ok asked) lists moments is_terminal ended f0 f1 r0 r1 w0 w1 e0 e1 =
       (answer : Result Done Failure) × Does state seen asked lists moments answer f0 f1 r0 r1 w0 w1
-      × EndsBy answer ended e0 e1
-  Obeys (Err why) lists moments ended f0 f1 r0 r1 w0 w1 e0 e1 =
+      × ((e : TellState) × Hints (is_terminal && reads_lines asked) e0 e
+      × EndsBy answer ended e e1)
+  Obeys (Err why) lists moments is_terminal ended f0 f1 r0 r1 w0 w1 e0 e1 =
       IsRefused why ended f0 f1 r0 r1 w0 w1 e0 e1
 
   -- The words were read, and what they ask for was done.
-  abbrev pub RunsWords : List (List ℕ) → (lists : ℕ) → (moments : Option (List ℕ)) → Ended
+  abbrev pub RunsWords : List (List ℕ) → (lists : ℕ) → (moments : Option (List ℕ))
+      → (is_terminal : Bool) → Ended
       → (f0 f1 : F) → (r0 r1 w0 w1 : Option (List ℕ)) → (e0 e1 : TellState) → Type 0
-  RunsWords words lists moments ended f0 f1 r0 r1 w0 w1 e0 e1 =
+  RunsWords words lists moments is_terminal ended f0 f1 r0 r1 w0 w1 e0 e1 =
       (read : Result Asked WordsFault) × IsAnswer (faults_of words) read
       × IfOk read (λ asked. AsksFor asked words) × IfErr read (λ why. IsCausedBy why words)
-      × Obeys read lists moments ended f0 f1 r0 r1 w0 w1 e0 e1
+      × Obeys read lists moments is_terminal ended f0 f1 r0 r1 w0 w1 e0 e1

@@ -10,6 +10,7 @@ mod crews;
 mod demos;
 mod endings;
 mod failures;
+mod hints;
 mod jobs;
 mod known;
 mod lasting;

@@ -13,6 +13,7 @@ use crate::endings::{Done, Ended, end, refuse};
 use crate::failures::{
     Failure, done_alone, done_over, failed_source, no_file, strict_alone, strict_over,
 };
+use crate::hints::hint;
 use crate::looks::look;
 use crate::migrations::{migrate, migrated};
 use crate::renewals::{renew, renewed};
@@ -49,8 +50,9 @@ use timed_input::MachineTime;
 /// place. Help and the version go to the output. Why words ask for nothing, and a fault that ended
 /// the rest, go to `errors`: any call of a file that fails is printed as `fault 2 DiskFailed`, and
 /// after a fault which file it was, and why; so is why a call of a stream failed, if `streams` tell
-/// it. A file that was made for a store which then isn't made is taken away again. A crew with
-/// fewer lists than it has workers is want of memory.
+/// it. If a terminal is the input, how lines are typed goes there before `demo` and `script`. A
+/// file that was made for a store which then isn't made is taken away again. A crew with fewer
+/// lists than it has workers is want of memory.
 pub fn night<
     F: Files,
     C: MachineTime,
@@ -76,7 +78,8 @@ pub fn night<
         (O.contents output.old) (O.contents output.new)
         (E.state errors.old) (E.state errors.new)) }
     ensures runs { IfOk words (λ words. RunsWords F.Disk.state F.seen
-        (map string_bytes words.items) (vec_len jobs) (C.moments clock.old) result
+        (map string_bytes words.items) (vec_len jobs) (C.moments clock.old)
+        streams.now.is_terminal result
         files.old files.new
         (I.remaining input.old) (I.remaining input.new)
         (O.contents output.old) (O.contents output.new)
@@ -88,6 +91,7 @@ pub fn night<
     };
     match read_words(alloc, words.as_slice()) {
         Ok(asked) => {
+            hint(&asked, streams.is_terminal, errors);
             let answer = answer(rt, alloc, &asked, jobs, files, clock, input, output);
             end(&answer, streams, errors)
         }

@@ -7,11 +7,13 @@ use crate::failures::{FileFailure, FileName, of_call};
 use console_lines::RunFault;
 use store_files::Why;
 
-/// What tells why calls of the standard input failed, and of the standard output.
+/// What tells why calls of the standard input failed, and of the standard output; and whether a
+/// terminal is the input.
 #[derive(Drop)]
 pub struct Streams<Y: Drop> {
     pub input: Y,
     pub output: Y,
+    pub is_terminal: bool,
 }
 
 impl<Y: Why + Drop> Streams<Y> {

@@ -106,6 +106,7 @@ pub fn run_over<R: Threads + Wait + Sync + Abort, I: Read, O: Write, E: Write>(
     let streams = Streams {
         input: Said("nobody writes"),
         output: Said("nobody reads"),
+        is_terminal: false,
     };
     let mut errors = Errors::new(errors);
     let ended = night(
