@@ -5,7 +5,7 @@
 //! many events are left.
 
 use crate::asserts::{done, holds_at};
-use crate::stores::{copied, formatted};
+use crate::stores::{copied, formatted, kept};
 use night_program::{Until, script};
 use run_book::Book;
 use run_disk::{Fuse, MemoryDisk, RunDisk};
@@ -56,7 +56,7 @@ fn run_lines<D: RunDisk>(alloc: Global, disk: D, lines: &str) -> (D, bool, Vec<u
 
 /// The disk of the night, one of whose syncs has failed.
 fn failed(rt: &impl Abort, alloc: Global, failure: &Failure) -> ForgetfulSync {
-    let bytes = formatted(rt, alloc, "jobs.store").bytes;
+    let bytes = kept(rt, &formatted(rt, alloc, "jobs.store"), "jobs.store");
     let disk = done(rt, ForgetfulSync::new(alloc, bytes, failure.0), "memory");
     let (disk, ran, output) = run_lines(alloc, disk, NIGHT);
     let is_told = !ran && disk.has_failed() && output.as_slice() == failure.1.as_bytes();

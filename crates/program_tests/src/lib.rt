@@ -33,8 +33,7 @@ mod nights;
 mod runs;
 #[cfg(test)]
 mod seated;
-#[cfg(test)]
-mod shelves;
+pub mod shelves;
 #[cfg(test)]
 mod slow_syncs;
 #[cfg(test)]

@@ -3,7 +3,7 @@
 use crate::asserts::{done, holds};
 use crate::runs::{End, Printed, assert_run, run_words};
 use crate::shelves::Shelf;
-use crate::stores::{SIZES, copied, left, scripted, typed, zeros};
+use crate::stores::{SIZES, copied, kept, left, scripted, shelved, typed, zeros};
 use night_program::migrate;
 use run_disk::MemoryDisk;
 use std::alloc::Global;
@@ -156,7 +156,7 @@ fn migrated(rt: &impl Abort, alloc: Global, small: &[u8]) -> (Shelf, u64, Vec<u8
     let mut old = done(rt, MemoryDisk::from_bytes(alloc, bytes), "disk");
     let (answer, new) = migrate(alloc, &mut old, zeros(rt, alloc, SIZES.1));
     let count = done(rt, answer, "migration");
-    let large = Shelf::new(alloc, "new.store", left(rt, alloc, &new));
+    let large = shelved(rt, alloc, "new.store", new);
     (large, count, left(rt, alloc, &old))
 }
 
@@ -169,14 +169,10 @@ static MIGRATED: [Over; 2] = [
 #[test]
 fn a_stopped_night_is_migrated(rt: HostRuntime) {
     let small = scripted(&rt, rt.alloc(), STOPPED.0);
-    let (mut large, count, old) = migrated(&rt, rt.alloc(), small.bytes.as_slice());
+    let small = kept(&rt, &small, "jobs.store");
+    let (mut large, count, old) = migrated(&rt, rt.alloc(), small.as_slice());
     holds(&rt, count == 6, "count", 0);
-    holds(
-        &rt,
-        old.as_slice() == small.bytes.as_slice(),
-        "old store",
-        0,
-    );
+    holds(&rt, old.as_slice() == small.as_slice(), "old store", 0);
     for row in MIGRATED.iter() {
         assert_run(&rt, rt.alloc(), row.0, &mut large, row.1, &row.2);
     }
@@ -231,8 +227,7 @@ fn assert_unserved<R: Threads + Wait + Sync + Abort>(
     n: usize,
     row: &Unserved,
 ) {
-    let bytes = done(rt, vec![in alloc; 0u8; row.1], "zeros");
-    let mut shelf = Shelf::new(alloc, "a", bytes);
+    let mut shelf = shelved(rt, alloc, "a", zeros(rt, alloc, row.1));
     assert_spared(rt, alloc, n, &mut shelf, row.0, &row.2);
 }
 
@@ -286,6 +281,12 @@ static SPARED: [Sparing; 6] = [
     ),
 ];
 
+/// A store of these bytes.
+fn stored_again(rt: &impl Abort, alloc: Global, stored: &[u8]) -> Shelf {
+    let disk = MemoryDisk::from_bytes(alloc, copied(rt, alloc, stored));
+    shelved(rt, alloc, "jobs.store", done(rt, disk, "disk"))
+}
+
 /// Asserts that these words leave the files as they are.
 fn assert_sparing<R: Threads + Wait + Sync + Abort>(
     rt: &R,
@@ -294,8 +295,11 @@ fn assert_sparing<R: Threads + Wait + Sync + Abort>(
     n: usize,
     row: &Sparing,
 ) {
-    let mut shelf = Shelf::new(alloc, "jobs.store", copied(rt, alloc, stored));
-    shelf.other = row.1;
+    let mut shelf = stored_again(rt, alloc, stored);
+    if let Some(other) = row.1 {
+        let laid = shelf.lay(other, zeros(rt, alloc, 0));
+        done(rt, laid, "other file");
+    }
     shelf.passes = row.2;
     assert_spared(rt, alloc, n, &mut shelf, row.0, &(3, "", row.3));
 }
@@ -303,8 +307,9 @@ fn assert_sparing<R: Threads + Wait + Sync + Abort>(
 #[test]
 fn a_file_that_is_there_is_spared(rt: HostRuntime) {
     let stored = scripted(&rt, rt.alloc(), STOPPED.0);
+    let stored = kept(&rt, &stored, "jobs.store");
     for (n, row) in SPARED.iter().enumerate() {
-        assert_sparing(&rt, rt.alloc(), stored.bytes.as_slice(), n, row);
+        assert_sparing(&rt, rt.alloc(), stored.as_slice(), n, row);
     }
 }
 
@@ -466,21 +471,23 @@ fn assert_unrenewed<R: Threads + Wait + Sync + Abort>(
     n: usize,
     row: &Unrenewed,
 ) {
-    let mut shelf = Shelf::new(alloc, "jobs.store", copied(rt, alloc, stored));
+    let mut shelf = stored_again(rt, alloc, stored);
     shelf.passes = row.0;
     shelf.is_kept = row.1;
     let words = ["renew", "--in-place", "jobs.store"];
     let printed = run_words(rt, alloc, &words, &mut shelf, "");
     holds(rt, is_untaken(&printed, row.2), "words", n);
-    let is_left = shelf.has_removed && shelf.bytes.as_slice() == stored;
-    holds(rt, is_left, "files", n);
+    holds(rt, shelf.has_removed, "file beside", n);
+    let left = kept(rt, &shelf, "jobs.store");
+    holds(rt, left.as_slice() == stored, "store", n);
 }
 
 #[test]
 fn a_store_that_is_not_renewed_in_place_stays(rt: HostRuntime) {
     let stored = scripted(&rt, rt.alloc(), ENDED);
+    let stored = kept(&rt, &stored, "jobs.store");
     for (n, row) in UNRENEWED.iter().enumerate() {
-        assert_unrenewed(&rt, rt.alloc(), stored.bytes.as_slice(), n, row);
+        assert_unrenewed(&rt, rt.alloc(), stored.as_slice(), n, row);
     }
 }
 
@@ -501,7 +508,7 @@ static MAKING: [Making; 5] = [
 
 /// Asserts what is told of a file that is made in vain, and what is left of it.
 fn assert_unmade<R: Threads + Wait + Sync + Abort>(rt: &R, alloc: Global, n: usize, row: &Making) {
-    let mut shelf = Shelf::new(alloc, row.1, Vec::new(alloc));
+    let mut shelf = shelved(rt, alloc, row.1, zeros(rt, alloc, 0));
     shelf.passes = row.2;
     assert_run(rt, alloc, row.0, &mut shelf, "", &(3, "", BROKEN));
     holds(rt, shelf.has_removed == row.3, "file", n);
@@ -511,6 +518,27 @@ fn assert_unmade<R: Threads + Wait + Sync + Abort>(rt: &R, alloc: Global, n: usi
 fn a_new_file_of_no_store_is_taken_away(rt: HostRuntime) {
     for (n, row) in MAKING.iter().enumerate() {
         assert_unmade(&rt, rt.alloc(), n, row);
+    }
+}
+
+/// What is printed when the same is typed once more.
+const GOES_FURTHER: &str = "task 0 interrupted\n\
+     task 1 ready\n\
+     unfinished 1; limit 1; waited no; error interrupted\n\
+     done; deadline none; err context canceled; cause interrupted\n\
+     acked 8\n";
+
+/// Runs over the stopped night, one after the other.
+static IN_A_ROW: [Over; 2] = [
+    (&["script", "jobs.store"], AGAIN, (0, GOES_ON, "")),
+    (&["script", "jobs.store"], AGAIN, (0, GOES_FURTHER, "")),
+];
+
+#[test]
+fn each_run_finds_what_the_one_before_it_left(rt: HostRuntime) {
+    let mut shelf = scripted(&rt, rt.alloc(), STOPPED.0);
+    for row in IN_A_ROW.iter() {
+        assert_run(&rt, rt.alloc(), row.0, &mut shelf, row.1, &row.2);
     }
 }
 

@@ -1,28 +1,48 @@
-//! Files in memory.
+//! Files in memory, which keep what is written.
 
-ghost use Rattle.std.specs.Prelude.{◌≡◌, ℕ, List, ⊤, IfOk};
-ghost use Rattle.run_journal.specs.Pairs.{AreZeros};
-ghost use Rattle.store_files.specs.Files.{FilesView, IsSettled};
+ghost use Rattle.std.specs.Prelude.{◌≡◌, ◌≢◌, IfNone, IfOk, IfSome, OnErr, OnOk};
+ghost use Rattle.std.specs.Bool.{OnFalse, OnTrue};
+ghost use Rattle.std.specs.String.{string_bytes};
+ghost use Rattle.run_disk.specs.Disk.{IsAtRest};
+ghost use Rattle.program_tests.specs.Zeros.{IsOfZeros};
 
 use arrayvec::ArrayString;
 use run_disk::{DiskFailed, Fuse, MemoryDisk, RunDisk, Torn};
 use std::alloc::Global;
 use store_files::{Files, Made, Opened, Reason, Why};
 
-/// One file in memory. An opening gives a copy of it, and a file that is made anew isn't kept,
-/// unless it is put in its place.
+const NO_FILE: &str = "no such file";
+
+/// What a place of a shelf has.
+#[derive(Drop)]
+pub enum Kept {
+    /// No file.
+    Gone,
+    /// A file that is open for writing.
+    Open,
+    /// A file, as the disk that it was when it was given back.
+    File(MemoryDisk),
+}
+
+/// A place of a shelf, for the file of this name.
+#[derive(Drop)]
+pub struct Place {
+    pub name: String,
+    pub kept: Kept,
+}
+
+/// Files in memory: one that is there, and one of another name, which may be made. An opening
+/// gives a copy of what a file has, at rest, and what is given back stays.
 #[derive(Drop)]
 pub struct Shelf {
     pub alloc: Global,
-    pub name: &'static str,
-    /// Another file that is there, whose bytes aren't kept.
-    pub other: Option<&'static str>,
-    pub bytes: Vec<u8>,
-    /// Whether another program has it open.
+    pub first: Place,
+    pub second: Place,
+    /// Whether another program has them open.
     pub is_used: bool,
     /// So many calls of each disk pass, and then each fails.
     pub passes: u64,
-    /// Whether its file can't be replaced.
+    /// Whether no file can be replaced.
     pub is_kept: bool,
     /// Whether a file was made or emptied.
     pub has_made: bool,
@@ -30,41 +50,109 @@ pub struct Shelf {
     pub has_removed: bool,
 }
 
+impl Kept {
+    ghost use Rattle.program_tests.specs.Shelves.{Lies, Nothing, spot_of};
+
+    /// The bytes of a file that is not open.
+    fn bytes(&self, alloc: Global) -> Result<Vec<u8>, Reason>
+        ensures had { IfOk result (λ bytes. spot_of self.now ≡ Lies bytes.items) }
+    {
+        match self {
+            Kept::File(disk) => bytes_of(alloc, disk),
+            Kept::Open => Err(Reason::InUse),
+            Kept::Gone => Err(said(NO_FILE)),
+        }
+    }
+
+    /// Says whether there is a file.
+    fn is_there(&self) -> bool
+        ensures none { OnFalse result (spot_of self.now ≡ Nothing) }
+    {
+        !matches!(self, Kept::Gone)
+    }
+}
+
+impl Place {
+    /// Says whether it is for the file of this name.
+    fn is_of(&self, name: &str) -> bool
+        ensures named { OnTrue result (name.now ≡ string_bytes self.now.name) }
+        ensures other { OnFalse result (name.now ≢ string_bytes self.now.name) }
+    {
+        name == self.name.as_str()
+    }
+}
+
 impl Shelf {
-    /// A file that nobody uses, and whose disks are whole.
-    pub fn new(alloc: Global, name: &'static str, bytes: Vec<u8>) -> Shelf {
-        Shelf {
+    ghost use Rattle.program_tests.specs.Shelves.{Gets, IsElsewhereSame, Lies, Nothing};
+    ghost use Rattle.program_tests.specs.Shelves.{spot_at, spot_of};
+
+    /// A shelf with this disk as the file of this name, which nobody uses, and whose disks are
+    /// whole.
+    pub fn new(alloc: Global, name: &str, disk: MemoryDisk) -> Result<Shelf, Reason>
+        ensures has { IfOk result (λ shelf. spot_at shelf name.now
+            ≡ Lies (⟦<MemoryDisk as RunDisk>⟧.state disk).now) }
+    {
+        let Ok(name) = String::from_str(alloc, name) else {
+            return Err(Reason::NoMemory);
+        };
+        let kept = Kept::File(disk);
+        Ok(Shelf {
             alloc,
-            name,
-            other: None,
-            bytes,
+            first: Place { name, kept },
+            second: Place {
+                name: String::new(alloc),
+                kept: Kept::Gone,
+            },
             is_used: false,
             passes: u64::MAX,
             is_kept: false,
             has_made: false,
             has_removed: false,
+        })
+    }
+
+    /// What the place of this name has, if there is one.
+    fn kept_at(&self, name: &str) -> Option<&Kept>
+        ensures has { IfSome result (λ kept. spot_at self.now name.now ≡ spot_of kept.now) }
+        ensures none { IfNone result (spot_at self.now name.now ≡ Nothing) }
+    {
+        if self.first.is_of(name) {
+            return Some(&self.first.kept);
+        }
+        if self.second.is_of(name) {
+            return Some(&self.second.kept);
+        }
+        None
+    }
+
+    /// The bytes of the file of this name, if it is there and not open.
+    pub fn bytes(&self, name: &str) -> Result<Vec<u8>, Reason>
+        ensures had { IfOk result (λ bytes. spot_at self.now name.now ≡ Lies bytes.items) }
+    {
+        match self.kept_at(name) {
+            Some(kept) => Ok(kept.bytes(self.alloc)?),
+            None => Err(said(NO_FILE)),
         }
     }
 
     /// Says whether there is a file of this name.
-    fn has(&self, name: &str) -> bool {
-        match self.other {
-            Some(other) => name == other || name == self.name,
-            None => name == self.name,
+    fn has(&self, name: &str) -> bool
+        ensures none { OnFalse result (spot_at self.now name.now ≡ Nothing) }
+    {
+        match self.kept_at(name) {
+            Some(kept) => kept.is_there(),
+            None => false,
         }
     }
 
+    /// A copy of the file of this name, as a disk at rest.
     fn opened(&self, name: &str) -> Result<Opened<Fuse<MemoryDisk>, Broken>, Reason>
-        ensures settled { IfOk result (λ opened.
-            IsSettled (⟦<Fuse<MemoryDisk> as RunDisk>⟧.state opened.disk)) }
+        ensures had { IfOk result (λ opened. spot_at self.now name.now
+            ≡ Lies (⟦<Fuse<MemoryDisk> as RunDisk>⟧.state opened.disk).now) }
+        ensures rest { IfOk result (λ opened.
+            IsAtRest (⟦<Fuse<MemoryDisk> as RunDisk>⟧.state opened.disk)) }
     {
-        if name != self.name {
-            return Err(said("no such file"));
-        }
-        let Ok(bytes) = Vec::from_slice(self.alloc, self.bytes.as_slice()) else {
-            return Err(said("no memory"));
-        };
-        match MemoryDisk::from_bytes(self.alloc, bytes) {
+        match MemoryDisk::from_bytes(self.alloc, self.bytes(name)?) {
             Ok(disk) => Ok(Opened {
                 disk: Fuse::new(disk, self.passes),
                 why: Broken(self.passes),
@@ -73,60 +161,123 @@ impl Shelf {
         }
     }
 
-    /// Keeps what a disk holds as the file of this name.
-    fn replaced(&mut self, disk: MemoryDisk, name: &str) -> Result<(), Reason> {
-        if name != self.name || self.is_kept {
-            return Err(Reason::InUse);
+    /// Puts something into the place of this name, if there is one.
+    fn put(&mut self, name: &str, kept: Kept)
+        ensures { Gets self.old name.now (spot_of kept) self.new }
+    {
+        if self.first.is_of(name) {
+            self.first.kept = kept;
+            return;
         }
-        match disk.image(self.alloc, disk.calls(), Torn::Take) {
-            Ok(bytes) => {
-                self.bytes = bytes;
-                Ok(())
-            }
-            Err(_) => Err(said("no memory")),
+        if !self.second.is_of(name) {
+            return;
         }
+        self.second.kept = kept;
     }
 
-    fn made(&self, size: u64, is_new: bool) -> Result<Made<Fuse<MemoryDisk>, Broken>, Reason>
-        ensures size { IfOk result (λ made.
-            (⟦<Fuse<MemoryDisk> as RunDisk>⟧.state made.disk).size ≡ size) }
-        ensures zeros { IfOk result (λ made. (x : List ℕ)
-            → (⟦<Fuse<MemoryDisk> as RunDisk>⟧.state made.disk).images x → AreZeros x) }
-        ensures settled { IfOk result (λ made.
-            IsSettled (⟦<Fuse<MemoryDisk> as RunDisk>⟧.state made.disk)) }
-        ensures new { IfOk result (λ made. made.is_new ≡ is_new) }
+    /// Puts a disk there as the file of this name. If no place is for it, the second one is taken,
+    /// if that is free.
+    pub fn lay(&mut self, name: &str, disk: MemoryDisk) -> Result<(), Reason>
+        ensures laid { OnOk result (spot_at self.new name.now
+            ≡ Lies (⟦<MemoryDisk as RunDisk>⟧.state disk).now) }
+        ensures elsewhere { OnOk result (IsElsewhereSame name.now self.old self.new) }
+        ensures same { OnErr result (self.new ≡ self.old) }
     {
-        match MemoryDisk::new(self.alloc, size as usize) {
-            Ok(disk) => Ok(Made {
-                disk: Fuse::new(disk, self.passes),
-                why: Broken(self.passes),
-                is_new,
-            }),
-            Err(_) => Err(said("no memory")),
+        if self.first.is_of(name) {
+            self.first.kept = Kept::File(disk);
+            return Ok(());
         }
+        if self.second.is_of(name) {
+            self.second.kept = Kept::File(disk);
+            return Ok(());
+        }
+        if self.second.kept.is_there() {
+            return Err(said("no place"));
+        }
+        let Ok(name) = String::from_str(self.alloc, name) else {
+            return Err(Reason::NoMemory);
+        };
+        let kept = Kept::File(disk);
+        self.second = Place { name, kept };
+        Ok(())
+    }
+
+    /// Makes a file of so many zeros.
+    fn make(
+        &mut self,
+        name: &str,
+        size: u64,
+        is_new: bool,
+    ) -> Result<Made<Fuse<MemoryDisk>, Broken>, Reason>
+        ensures laid { IfOk result (λ made. spot_at self.new name.now
+            ≡ Lies (⟦<Fuse<MemoryDisk> as RunDisk>⟧.state made.disk).now) }
+        ensures elsewhere { OnOk result (IsElsewhereSame name.now self.old self.new) }
+        ensures made { IfOk result (λ made.
+            IsOfZeros size (⟦<Fuse<MemoryDisk> as RunDisk>⟧.state made.disk)) }
+        ensures new { IfOk result (λ made. made.is_new ≡ is_new) }
+        ensures same { OnErr result (self.new ≡ self.old) }
+    {
+        let disk = zeros(self.alloc, size)?;
+        let laid = copied(self.alloc, &disk)?;
+        self.lay(name, laid)?;
+        self.has_made = true;
+        Ok(Made {
+            disk: Fuse::new(disk, self.passes),
+            why: Broken(self.passes),
+            is_new,
+        })
+    }
+}
+
+/// The bytes of a disk in memory.
+fn bytes_of(alloc: Global, disk: &MemoryDisk) -> Result<Vec<u8>, Reason>
+    ensures whole { IfOk result (λ bytes.
+        bytes.items ≡ (⟦<MemoryDisk as RunDisk>⟧.state disk.now).now) }
+{
+    match disk.image(alloc, disk.calls(), Torn::Take) {
+        Ok(bytes) => Ok(bytes),
+        Err(_) => Err(said("no memory")),
+    }
+}
+
+/// A disk with the bytes of this one.
+fn copied(alloc: Global, disk: &MemoryDisk) -> Result<MemoryDisk, Reason>
+    ensures same { IfOk result (λ copy. (⟦<MemoryDisk as RunDisk>⟧.state copy).now
+        ≡ (⟦<MemoryDisk as RunDisk>⟧.state disk.now).now) }
+{
+    match MemoryDisk::from_bytes(alloc, bytes_of(alloc, disk)?) {
+        Ok(copy) => Ok(copy),
+        Err(_) => Err(said("no memory")),
+    }
+}
+
+/// A disk at rest with so many zeros.
+fn zeros(alloc: Global, size: u64) -> Result<MemoryDisk, Reason>
+    ensures made { IfOk result (λ disk.
+        IsOfZeros size (⟦<MemoryDisk as RunDisk>⟧.state disk)) }
+{
+    match MemoryDisk::new(alloc, size as usize) {
+        Ok(disk) => Ok(disk),
+        Err(_) => Err(said("no memory")),
     }
 }
 
 impl Files for Shelf {
+    ghost use Rattle.program_tests.specs.Shelves.{shelf_view};
+
     type Disk = Fuse<MemoryDisk>;
 
     type Why = Broken;
 
-    ghost seen = { record {
-      opens = λ shelf name disk after. ⊤;
-      shows = λ shelf name disk after. ⊤;
-      lacks = λ shelf name. ⊤;
-      puts = λ shelf name disk after. ⊤;
-      removes = λ shelf name after. ⊤;
-      remakes = λ shelf name after. ⊤;
-      gives = λ disk bytes left. ⊤;
-    } };
+    ghost seen = { shelf_view (⟦<Fuse<MemoryDisk> as RunDisk>⟧.state) };
 
     fn open(&mut self, name: &str) -> Result<Opened<Fuse<MemoryDisk>, Broken>, Reason> {
         if self.is_used {
             return Err(Reason::InUse);
         }
-        self.opened(name)
+        let opened = self.opened(name)?;
+        self.put(name, Kept::Open);
+        Ok(opened)
     }
 
     fn open_to_read(&mut self, name: &str) -> Result<Opened<Fuse<MemoryDisk>, Broken>, Reason> {
@@ -140,7 +291,9 @@ impl Files for Shelf {
         self.opened(name)
     }
 
-    fn close(&mut self, _name: &str, _disk: Fuse<MemoryDisk>) {}
+    fn close(&mut self, name: &str, disk: Fuse<MemoryDisk>) {
+        self.put(name, Kept::File(disk.into_inner()));
+    }
 
     fn pause(&self) {}
 
@@ -149,8 +302,8 @@ impl Files for Shelf {
     }
 
     fn create(&mut self, name: &str, size: u64) -> Result<Made<Fuse<MemoryDisk>, Broken>, Reason> {
-        self.has_made = true;
-        self.made(size, !self.has(name))
+        let is_new = !self.has(name);
+        self.make(name, size, is_new)
     }
 
     fn create_new(
@@ -162,22 +315,29 @@ impl Files for Shelf {
         if self.has(name) {
             return Err(said("there is one"));
         }
-        self.has_made = true;
-        self.made(size, true)
+        self.make(name, size, true)
     }
 
     fn replace(
         &mut self,
         disk: Fuse<MemoryDisk>,
-        _over: Fuse<MemoryDisk>,
-        _from: &str,
+        over: Fuse<MemoryDisk>,
+        from: &str,
         to: &str,
     ) -> Result<(), Reason> {
-        self.replaced(disk.into_inner(), to)
+        if self.is_kept {
+            self.close(from, disk);
+            self.close(to, over);
+            return Err(Reason::InUse);
+        }
+        self.put(from, Kept::Gone);
+        self.close(to, disk);
+        Ok(())
     }
 
-    fn remove(&mut self, _name: &str) {
+    fn remove(&mut self, name: &str) {
         self.has_removed = true;
+        self.put(name, Kept::Gone);
     }
 }
 

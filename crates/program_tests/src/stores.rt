@@ -26,6 +26,16 @@ pub fn copied(rt: &impl Abort, alloc: Global, bytes: &[u8]) -> Vec<u8> {
     done(rt, Vec::from_slice(alloc, bytes), "copy")
 }
 
+/// A shelf with this disk as the file of this name.
+pub fn shelved(rt: &impl Abort, alloc: Global, name: &str, disk: MemoryDisk) -> Shelf {
+    done(rt, Shelf::new(alloc, name, disk), "shelf")
+}
+
+/// What the file of this name has.
+pub fn kept(rt: &impl Abort, shelf: &Shelf, name: &str) -> Vec<u8> {
+    done(rt, shelf.bytes(name), "file")
+}
+
 /// A small store that was just formatted.
 fn small(rt: &impl Abort, alloc: Global, output: &mut Vec<u8>) -> MemoryDisk {
     let (made, disk) = format(zeros(rt, alloc, SIZES.0), output);
@@ -34,9 +44,9 @@ fn small(rt: &impl Abort, alloc: Global, output: &mut Vec<u8>) -> MemoryDisk {
 }
 
 /// The file of a small store that was just formatted.
-pub fn formatted(rt: &impl Abort, alloc: Global, name: &'static str) -> Shelf {
+pub fn formatted(rt: &impl Abort, alloc: Global, name: &str) -> Shelf {
     let disk = small(rt, alloc, &mut Vec::new(alloc));
-    Shelf::new(alloc, name, left(rt, alloc, &disk))
+    shelved(rt, alloc, name, disk)
 }
 
 /// A small store over which these lines were run, and what was printed.
@@ -45,8 +55,7 @@ pub fn typed(rt: &impl Abort, alloc: Global, lines: &str) -> (Shelf, Vec<u8>) {
     let disk = small(rt, alloc, &mut output);
     let (ran, disk) = script(alloc, disk, Until::End, &mut lines.as_bytes(), &mut output);
     done(rt, ran, "night");
-    let shelf = Shelf::new(alloc, "jobs.store", left(rt, alloc, &disk));
-    (shelf, output)
+    (shelved(rt, alloc, "jobs.store", disk), output)
 }
 
 /// A small store over which these lines were run.

@@ -4,6 +4,7 @@ use crate::asserts::holds;
 use crate::closed::Closed;
 use crate::runs::{assert_given, no_times, run_over, run_words, words_of};
 use crate::shelves::Shelf;
+use crate::stores::{shelved, zeros};
 use night_words::WordsFault;
 use std::alloc::Global;
 use std::process::Abort;
@@ -130,8 +131,8 @@ static CASES: [Case; 40] = [
 ];
 
 /// A file of no bytes, which is no store.
-fn empty_file(alloc: Global) -> Shelf {
-    Shelf::new(alloc, "a", Vec::new(alloc))
+fn empty_file(rt: &impl Abort, alloc: Global) -> Shelf {
+    shelved(rt, alloc, "a", zeros(rt, alloc, 0))
 }
 
 /// Nothing is printed where nothing is wanted.
@@ -141,7 +142,7 @@ fn is_shown(part: &str, printed: &str) -> bool {
 
 /// Asserts what the words of a case come to, and that all of it was told.
 fn assert_case<R: Threads + Wait + Sync + Abort>(rt: &R, alloc: Global, case: &Case) {
-    let mut shelf = empty_file(alloc);
+    let mut shelf = empty_file(rt, alloc);
     let words = case.0;
     let printed = run_words(rt, alloc, words, &mut shelf, "derive a root cause\n");
     let is_printed = printed.ended.status == case.1
@@ -172,7 +173,7 @@ fn words_that_the_system_did_not_give_are_told(rt: HostRuntime) {
             &rt,
             rt.alloc(),
             Err(fault),
-            &mut empty_file(rt.alloc()),
+            &mut empty_file(&rt, rt.alloc()),
             &end,
         );
     }
@@ -197,7 +198,7 @@ fn assert_untaken<R: Threads + Wait + Sync + Abort>(
     printing: &Printing,
 ) {
     let mut errors = Vec::new(alloc);
-    let mut shelf = empty_file(alloc);
+    let mut shelf = empty_file(rt, alloc);
     let ended = run_over(
         rt,
         alloc,
@@ -230,7 +231,7 @@ fn an_input_that_fails_is_told(rt: HostRuntime) {
         rt.alloc(),
         Ok(words_of(&rt, rt.alloc(), &["demo"])),
         no_times(),
-        &mut empty_file(rt.alloc()),
+        &mut empty_file(&rt, rt.alloc()),
         &mut Closed,
         &mut output,
         &mut errors,
@@ -259,7 +260,7 @@ fn assert_untold<R: Threads + Wait + Sync + Abort>(
         alloc,
         Ok(words_of(rt, alloc, telling.0)),
         no_times(),
-        &mut empty_file(alloc),
+        &mut empty_file(rt, alloc),
         &mut b"".as_slice(),
         &mut output,
         &mut Closed,

@@ -1,21 +1,18 @@
--- Nothing is known of the files of a shelf.
-use Rattle.std.specs.Prelude.{OnErr, OnOk, Result, Ok, Err}
-use Rattle.std.proofs.Common.{inl}
+use Rattle.std.proofs.Common.{inl, refl}
+use Rattle.program_tests.proofs.ShelfLemmas.{gets_none}
 use Rattle.program_tests.proofs.shelves.ShelfFiles.replace.Goals as goal
 
-on_ok : {T E P : Type 0} (r : Result T E) → P → OnOk r P
-on_ok (Ok done) p = p
-on_ok (Err why) p = tt
-
-on_err : {T E P : Type 0} (r : Result T E) → P → OnErr r P
-on_err (Ok done) p = tt
-on_err (Err why) p = p
+pub returns-then-self-clause-left : goal.returns-then-self-clause-left
+returns-then-self-clause-left c = inl (record {
+  first = c.close.new.self;
+  new = c.close.ensures;
+  old = c.close-then-self.ensures;
+})
 
 pub returns-clause-done : goal.returns-clause-done
-returns-clause-done c =
-    on_ok c.replaced.result (record { bare = c.args.self.now; gone = tt; put = tt })
-
-pub returns-clause-left : goal.returns-clause-left
-returns-clause-left c =
-    on_err c.replaced.result
-    (inl (record { first = c.args.self.now; new = tt; old = tt }))
+returns-clause-done c = record {
+  bare = c.put.new.self;
+  gone = gets_none c.args.self.now c.args.self.now c.put.new.self c.args.from.now refl refl
+      c.put.ensures;
+  put = c.close-2.ensures;
+}
