@@ -1,1 +1,2 @@
+pub mod KeptRuns
 pub mod ShelfLemmas

@@ -25,6 +25,7 @@ mod forgetful;
 mod gates;
 #[cfg(test)]
 mod jobs;
+pub mod keeping;
 #[cfg(test)]
 mod locks;
 #[cfg(test)]
