@@ -35,6 +35,8 @@ PATIENCE, OF_CANCELS = 3.0, 60.0
 SIZE = re.compile(r"^size ([0-9]+)$", re.M)
 HOLDER = re.compile(r"^process (\S+) ([0-9]+) ([0-9]+)$", re.M)
 A_CANCEL = "a cancel"
+# So many seconds a look at a store may take to sync it.
+LOOK = 0.3
 
 
 class Files:
@@ -87,8 +89,12 @@ class Files:
             raise Mistake(f"{self.shown}: it has {found.st_size} bytes, and so is no store")
 
     def is_marked(self) -> bool:
-        """Whether a sync of the store has failed; the next opening by `night` mends it."""
-        return os.path.exists(f"{self.path}.failed")
+        """Whether a sync of the store has failed; the next opening by `night` mends it. The mark
+        under which a look makes its own sync is soon gone."""
+        mark = f"{self.path}.failed"
+        if os.path.exists(mark):
+            time.sleep(LOOK)
+        return os.path.exists(mark)
 
     def forget_pages(self) -> None:
         """Lets the system forget what it holds of the store in memory: after a failed sync that may

@@ -363,7 +363,7 @@ class Run:
         """The state of the store. One whose sync failed is mended by an opening first."""
         if self.files.is_marked():
             self.files.forget_pages()
-            note(f"{self.files.shown}: a sync of it has failed; `night` mends it")
+            note(f"{self.files.shown}.failed is there, as after a failed sync; `night` sees to it")
             ran("script", self.files.path, seconds=RENEWAL_SECONDS)
         return inspected(self.files)
 
