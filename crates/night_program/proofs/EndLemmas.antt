@@ -36,8 +36,7 @@ pub ran : {D : Type 0} (state : D → DiskState) (until : Until)
 ran state until (Ok stray) r0 r1 w0 w1 b c runs stops = runs
 ran state until (Err why) r0 r1 w0 w1 b c runs stops = (
   stops,
-  λ whole. stops_begin state why b c r0 r1 w0 w1
-      (subst (λ u. RunStops state u why b c r0 r1 w0 w1) whole stops),
+  λ whole. stops_begin (subst (λ u. RunStops state u why b c r0 r1 w0 w1) whole stops),
 )
 
 -- So of a run over a book in memory that was just opened.
