@@ -334,7 +334,7 @@ fn assert_blamed<R: Threads + Wait + Sync + Abort>(
     n: usize,
     row: &Blaming,
 ) {
-    let mut shelf = Shelf::new(alloc, "jobs.store", copied(rt, alloc, stored));
+    let mut shelf = stored_again(rt, alloc, stored);
     shelf.passes = row.1;
     assert_run(rt, alloc, row.0, &mut shelf, "", &(3, "", row.2));
     holds(rt, shelf.has_removed, "file", n);
@@ -343,8 +343,9 @@ fn assert_blamed<R: Threads + Wait + Sync + Abort>(
 #[test]
 fn the_file_of_two_that_fails_is_named(rt: HostRuntime) {
     let stored = scripted(&rt, rt.alloc(), STOPPED.0);
+    let stored = kept(&rt, &stored, "jobs.store");
     for (n, row) in BLAMING.iter().enumerate() {
-        assert_blamed(&rt, rt.alloc(), stored.bytes.as_slice(), n, row);
+        assert_blamed(&rt, rt.alloc(), stored.as_slice(), n, row);
     }
 }
 
