@@ -20,19 +20,36 @@ _night() {
         help) mapfile -t COMPREPLY < <(compgen -W "$words" -- "$current") && return ;;
         *) return ;;
     esac
+    # (bash takes an option, `=` and a value for three words)
+    if [[ $current == "=" ]]; then
+        current=""
+    elif [[ $before == "=" ]]; then
+        before=${COMP_WORDS[COMP_CWORD - 2]}
+    fi
     if [[ $before == --workers ]]; then
         mapfile -t COMPREPLY < <(compgen -W "1 2 3 4 5 6 7 8" -- "$current")
     elif [[ $before == --phase ]]; then
         mapfile -t COMPREPLY < <(
             compgen -W "held ready running success error interrupted" -- "$current")
     elif [[ $before == --group ]]; then
-        return
+        mapfile -t COMPREPLY < <(compgen -W "$(_night_groups)" -- "$current")
     elif [[ $current == -* ]]; then
         mapfile -t COMPREPLY < <(compgen -W "$flags" -- "$current")
     elif [[ ${COMP_WORDS[1]} != demo ]]; then
         compopt -o filenames 2> /dev/null
         mapfile -t COMPREPLY < <(compgen -f -- "$current")
     fi
+}
+
+# The groups of the store that the line names, by asking it.
+_night_groups() {
+    local it
+    for it in "${COMP_WORDS[@]:2}"; do
+        if [[ -f $it ]]; then
+            "${COMP_WORDS[0]}" inspect "$it" 2> /dev/null | sed -n 's/^group [0-9]* \([^ ]*\) .*/\1/p'
+            return
+        fi
+    done
 }
 
 _night_run() {
