@@ -11,8 +11,8 @@ abbrev pub joined : List String → List ℕ
 joined [] = []
 joined (text ∷ texts) = codes text ++ joined texts
 
--- After a night these texts, one after the other, are printed as JSON, where tasks in this phase and
--- of this group are asked for.
+-- After a night these texts, one after the other, are printed as JSON, where tasks in this phase
+-- and of this group are asked for.
 abbrev pub IsShown : (phase group : Option (List ℕ)) → Night → List String → Type 0
 IsShown phase group night texts =
     json_text phase group (session_of night).state ≡ joined texts

@@ -17,8 +17,8 @@ pub fn groups_and_tasks_are_shown()
     ensures { IsShownOf None None tasks_shown }
 {}
 
-/// Of the tasks those alone that are in a phase, of a group, or both; the first of them has no comma
-/// before it.
+/// Of the tasks those alone that are in a phase, of a group, or both; the first of them has no
+/// comma before it.
 pub fn some_tasks_are_shown()
     ensures phase { IsShownOf (Some (codes "error")) None
         ("\n" ∷ (failed_one ++ "]}\n" ∷ [])) }

@@ -41,8 +41,8 @@ pub enum Done {
 
 /// Ends what the words asked for. A fault is printed in one line, as in `night: fault 3 NotAStore`,
 /// and in another which file or stream is to blame and why, as in `night: jobs.store: not a store`;
-/// so is a line at which a strict run ended, as in `night: line 7: bad line`, and in another that it
-/// ends with a carriage return. What strays in an audit is printed by its own line.
+/// so is a line at which a strict run ended, as in `night: line 7: bad line`, and in another that
+/// it ends with a carriage return. What strays in an audit is printed by its own line.
 pub fn end<E: Tell, Y: Why + Drop>(
     answer: &Result<Done, Failure<'_>>,
     streams: &Streams<Y>,

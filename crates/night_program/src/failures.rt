@@ -5,7 +5,8 @@ ghost use Rattle.run_model.specs.declared.faults.Trouble.{Trouble as TroubleOf};
 ghost use Rattle.console_lines.specs.declared.faults.RunFault.TheVariants.{Store};
 ghost use Rattle.night_program.specs.Failures.{AnswersAlone, AnswersOver, AnswersStrict};
 ghost use Rattle.night_program.specs.Failures.{IsNoFile, IsUnput, Names, NamesBy, NamesOf};
-ghost use Rattle.night_program.specs.Failures.{NamesSource, blamed, fault_of, name_text, unmigrated};
+ghost use Rattle.night_program.specs.Failures.{NamesSource, blamed, fault_of, name_text};
+ghost use Rattle.night_program.specs.Failures.{unmigrated};
 
 use crate::endings::Done;
 use crate::wrongs::Wrong;
@@ -157,8 +158,8 @@ pub fn failed_source<'a, Y: Why>(
     )
 }
 
-/// Why no store was made in the new file of what is in the old one: whichever of the two is to blame
-/// is named.
+/// Why no store was made in the new file of what is in the old one: whichever of the two is to
+/// blame is named.
 pub fn failed_of<'a, Y: Why>(
     fault: MigrateFault,
     old: FileName<'a>,

@@ -210,7 +210,7 @@ names_phase word = option_map_or (λ text. list_any (bytes_eq text) phases) word
 abbrev pub asks_some : (word : Text → Option Text) → Bool
 asks_some word = is_some (word (codes "phase")) || is_some (word (codes "group"))
 
--- the lines of tasks alone are asked for, by the flag, or by one of the two options where JSON isn't
+-- the lines of tasks alone are asked for, by the flag, or by an option of the two without JSON
 abbrev pub asks_tasks : (word : Text → Option Text) → Bool
 asks_tasks word = is_true (word (codes "tasks"))
     || (asks_some word && not (is_true (word (codes "json"))))
@@ -240,8 +240,8 @@ abbrev pub are_two : (a b c d : Bool) → Bool
 are_two a b c d = (a && b) || ((c && d) || ((a || b) && (c || d)))
 
 -- one view is asked for, or none and all is shown; the two options go with the view of tasks and
--- with JSON. A tree without tasks that is no tree is a mistake, else more than one view is, and else
--- a word that names no phase
+-- with JSON. A tree without tasks that is no tree is a mistake, else more than one view is, and
+-- else a word that names no phase
 abbrev pub IsView : (word : Text → Option Text) → Result View WordsFault → Type 0
 IsView word (Ok Whole) = AsksViews false false false false false word
 IsView word (Ok (Tasks phase group)) =
@@ -355,9 +355,9 @@ AsksFor (Help text) words = Unit {0}
 -- the words lead to this fault: to that of equal names if a migration or a renewal is asked for
 -- from a store to itself, to that of the workers if a crew of none, of more than 8 or of no number
 -- is, to that of the views if more than one is, to that of no tree if a tree without tasks is that
--- is no tree, to that of the phase if the tasks in one are that has no such word, and to that of the
--- place if a renewal is asked for with neither a new store nor `--in-place`, or with both, or in
--- place with `--new`; `IsAnswer` defines the others
+-- is no tree, to that of the phase if the tasks in one are that has no such word, and to that of
+-- the place if a renewal is asked for with neither a new store nor `--in-place`, or with both, or
+-- in place with `--new`; `IsAnswer` defines the others
 abbrev pub IsCausedBy : WordsFault → List Text → Type 0
 IsCausedBy SameStores words = (store : Text) × ((is_new : Bool)
     × (AsksForMigration store store is_new words ⊎ AsksForRenewal store store is_new words))

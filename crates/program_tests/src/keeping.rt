@@ -22,9 +22,12 @@ fn honest_disks_are_kept<D: RunDisk>()
 /// read, and a store over which lines were run up to their end, are left as
 /// `many_runs_lose_nothing_acknowledged` takes them.
 pub fn a_shelf_keeps_what_is_left()
-    ensures found { KeepsWhatIsLeft (⟦<Fuse<MemoryDisk> as RunDisk>⟧.state) (⟦<Shelf as Files>⟧.seen) }
-    ensures readings { ReadingsAreRuns (⟦<Fuse<MemoryDisk> as RunDisk>⟧.state) (⟦<Shelf as Files>⟧.seen) }
-    ensures scripts { ScriptsAreRuns (⟦<Fuse<MemoryDisk> as RunDisk>⟧.state) (⟦<Shelf as Files>⟧.seen) }
+    ensures found { KeepsWhatIsLeft (⟦<Fuse<MemoryDisk> as RunDisk>⟧.state)
+        (⟦<Shelf as Files>⟧.seen) }
+    ensures readings { ReadingsAreRuns (⟦<Fuse<MemoryDisk> as RunDisk>⟧.state)
+        (⟦<Shelf as Files>⟧.seen) }
+    ensures scripts { ScriptsAreRuns (⟦<Fuse<MemoryDisk> as RunDisk>⟧.state)
+        (⟦<Shelf as Files>⟧.seen) }
 {
     honest_disks_are_kept::<Fuse<MemoryDisk>>();
 }

@@ -149,8 +149,8 @@ fn a_migration_goes_by_its_words(rt: HostRuntime) {
     assert_over(&rt, rt.alloc(), false, &LATER[2]);
 }
 
-/// The large store that a small one is migrated to; and how many events were read in it, and what is
-/// left of the small one.
+/// The large store that a small one is migrated to; and how many events were read in it, and what
+/// is left of the small one.
 fn migrated(rt: &impl Abort, alloc: Global, small: &[u8]) -> (Shelf, u64, Vec<u8>) {
     let bytes = copied(rt, alloc, small);
     let mut old = done(rt, MemoryDisk::from_bytes(alloc, bytes), "disk");
@@ -313,8 +313,8 @@ fn a_file_that_is_there_is_spared(rt: HostRuntime) {
     }
 }
 
-/// Words that make a store of the stopped night, how many calls of each disk pass, and which file is
-/// to blame.
+/// Words that make a store of the stopped night, how many calls of each disk pass, and which file
+/// is to blame.
 type Blaming = (&'static [&'static str], u64, &'static str);
 
 const NEW_FAILS: &str = "night: fault 2 DiskFailed\nnight: new.store: broken\n";

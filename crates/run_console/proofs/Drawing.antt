@@ -74,7 +74,8 @@ drawn_more b p n next above other g h k w0 w1 w2 to one e at =
       drawn_is = to.drawn_is ∙ ap (λ x. to.done ++ x) e
           ∙ sym (append_assoc to.done (n ∷ []) rest);
       told = subst (λ t. Told t g k w0 w2) (one_more (node_line b p) to.done n)
-          (told_then (flat_map (node_line b p) to.done) (node_line b p n) g h k w0 w1 w2 to.told one);
+          (told_then (flat_map (node_line b p) to.done) (node_line b p n) g h k w0 w1 w2
+          to.told one);
       at = at;
     }
 
@@ -93,8 +94,8 @@ drawn_cut b p n above g h w0 w1 w2 to cut =
     let text : nodes_text b p ≡ (flat_map f to.done ++ f n) ++ flat_map f rest =
     ap (flat_map f) nodes ∙ flat_map-append f (to.done ++ n ∷ []) rest
     ∙ ap (λ x. x ++ flat_map f rest) (sym (one_more f to.done n)) in
-    told_part (flat_map f to.done) (f n) (flat_map f rest) (nodes_text b p) g h w0 w1 w2 text to.told
-    cut
+    told_part (flat_map f to.done) (f n) (flat_map f rest) (nodes_text b p) g h w0 w1 w2 text
+    to.told cut
 
 -- All were told.
 pub drawn_all : (b : Bool) (p : State) (above g h : List ℕ) (w0 w1 : Option (List ℕ))

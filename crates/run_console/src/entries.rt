@@ -21,10 +21,10 @@ use std::alloc::Allocator;
 use std::io::Write;
 
 /// Prints a state as one object of JSON: how many events there were, the clock, the layout and how
-/// much there can be, and a list of the scopes, one of the groups and one of those tasks that are in
-/// this phase, by its word, and of the group of this name. If one of the two is left out, each
-/// task's is as it should be. It takes no memory. If a write fails or takes nothing (`Output`),
-/// what was written is a prefix, and not all.
+/// much there can be, and a list of the scopes, one of the groups and one of those tasks that are
+/// in this phase, by its word, and of the group of this name. If one of the two is left out, tasks
+/// of any are listed. It takes no memory. If a write fails or takes nothing (`Output`), what was
+/// written is a prefix, and not all.
 pub fn print_json<W: Write, B: Allocator>(
     state: &State<B>,
     phase: Option<&str>,

@@ -47,8 +47,8 @@ impl<'a, S: fs::Files<File = File>> Mark<'a, S> {
         }
     }
 
-    /// Takes the mark away. A file of this name that isn't empty is somebody's, such as a store, and
-    /// stays.
+    /// Takes the mark away. A file of this name that isn't empty is somebody's, such as a store,
+    /// and stays.
     pub fn remove(&self) {
         let found = fs::symlink_metadata(self.system, self.name.as_str());
         if !found.is_ok_and(|it| it.is_file() && it.len() > 0) {

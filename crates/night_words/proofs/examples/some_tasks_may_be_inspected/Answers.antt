@@ -20,8 +20,10 @@ returns-clause-both c =
 
 pub returns-clause-other : goal.returns-clause-other
 unfolding clap_on_literals
-returns-clause-other c = λ name. (codes "a", (refl, refl, (inl (refl, refl, refl, refl, refl), refl)))
+returns-clause-other c = λ name.
+    (codes "a", (refl, refl, (inl (refl, refl, refl, refl, refl), refl)))
 
 pub returns-clause-large : goal.returns-clause-large
 unfolding clap_on_literals
-returns-clause-large c = λ name. (codes "a", (refl, refl, (inl (refl, refl, refl, refl, refl), refl)))
+returns-clause-large c = λ name.
+    (codes "a", (refl, refl, (inl (refl, refl, refl, refl, refl), refl)))

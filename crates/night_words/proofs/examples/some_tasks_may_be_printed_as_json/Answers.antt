@@ -14,7 +14,8 @@ returns-clause-group c =
 
 pub returns-clause-other : goal.returns-clause-other
 unfolding clap_on_literals
-returns-clause-other c = λ name. (codes "a", (refl, refl, (inr (refl, refl, refl, refl, refl), refl)))
+returns-clause-other c = λ name.
+    (codes "a", (refl, refl, (inr (refl, refl, refl, refl, refl), refl)))
 
 pub returns-clause-tasks_too : goal.returns-clause-tasks_too
 unfolding clap_on_literals

@@ -11,4 +11,5 @@ invariant-loop-number g l =
     Told (lines_below (task_item (word_of l.phase) (word_of l.group) l.state) l.number)
     l.initial.gathered.items l.gathered.items
     (g.W.Write.contents l.initial.output) (g.W.Write.contents l.output)
-    × (l.place ≡ place_of (word_of l.phase) (word_of l.group) l.state l.number) × (l.place ≤ l.number)
+    × (l.place ≡ place_of (word_of l.phase) (word_of l.group) l.state l.number)
+    × (l.place ≤ l.number)

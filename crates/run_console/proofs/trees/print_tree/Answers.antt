@@ -33,8 +33,10 @@ returns-clause-whole g c =
     c.clock.ensures c.layout.ensures.tree c.scope_count.ensures.len c.group_count.ensures.len
     c.task_count.ensures.len c.new-gathered.ensures c.gather_tree_head.ensures.items in
     on_ok_weaker c.write_gathered.result
-    (told_written (tree_text c.args.no_tasks s) k w0 w1 (g.W.Write.contents c.write_gathered.new.output)
-    (told_then (head_of s) (nodes_text c.args.no_tasks s) [] h k w0 w0 w1 head c.in_ok-gather_nodes.ensures.told))
+    (told_written (tree_text c.args.no_tasks s) k w0 w1
+    (g.W.Write.contents c.write_gathered.new.output)
+    (told_then (head_of s) (nodes_text c.args.no_tasks s) [] h k w0 w0 w1 head
+    c.in_ok-gather_nodes.ensures.told))
     c.write_gathered.ensures.whole
 
 pub returns-clause-cut : goal.returns-clause-cut
@@ -49,6 +51,8 @@ returns-clause-cut g c =
     c.clock.ensures c.layout.ensures.tree c.scope_count.ensures.len c.group_count.ensures.len
     c.task_count.ensures.len c.new-gathered.ensures c.gather_tree_head.ensures.items in
     on_err_weaker c.write_gathered.result
-    (told_cut (tree_text c.args.no_tasks s) [] k w0 w1 (g.W.Write.contents c.write_gathered.new.output)
-    (told_then (head_of s) (nodes_text c.args.no_tasks s) [] h k w0 w0 w1 head c.in_ok-gather_nodes.ensures.told))
+    (told_cut (tree_text c.args.no_tasks s) [] k w0 w1
+    (g.W.Write.contents c.write_gathered.new.output)
+    (told_then (head_of s) (nodes_text c.args.no_tasks s) [] h k w0 w0 w1 head
+    c.in_ok-gather_nodes.ensures.told))
     c.write_gathered.ensures.cut

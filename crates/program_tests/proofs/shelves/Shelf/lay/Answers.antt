@@ -1,5 +1,6 @@
 use Rattle.std.proofs.Common.{refl, sym}
-use Rattle.program_tests.proofs.ShelfLemmas.{first_elsewhere, first_is, second_elsewhere, second_is, taken_elsewhere}
+use Rattle.program_tests.proofs.ShelfLemmas.{first_elsewhere, first_is, second_elsewhere}
+use Rattle.program_tests.proofs.ShelfLemmas.{second_is, taken_elsewhere}
 use Rattle.program_tests.proofs.shelves.Shelf.lay.Goals as goal
 
 pub returns-then-is_of-clause-laid : goal.returns-then-is_of-clause-laid
