@@ -1,6 +1,6 @@
 -- Runs of the program, one after another: what they leave of a store.
 use Rattle.std.proofs.Common.{◌≡◌, ◌⊎◌, ◌≤◌, ◌+◌, ◌-◌, ◌∙◌, ◌∷◌, [], ℕ, List, ap, arith, inl, inr}
-use Rattle.std.proofs.Common.{refl, subst, sym, Option, None, Some, Ok, Err, true, false, length}
+use Rattle.std.proofs.Common.{refl, subst, sym, Option, None, Some, Ok, Err, true, length}
 use Rattle.std.specs.List.{list_all}
 use Rattle.std.proofs.lemmas.List.{take_all}
 use Rattle.std.specs.Prelude.{Bool, Result, ⊤, unwrap_or}

@@ -21,7 +21,7 @@ use Rattle.run_console.specs.Rows.{TakesAll, TriesLine, first_steps}
 use Rattle.run_console.proofs.Rows.{takes_none, took_nothing, tried_nothing}
 use Rattle.run_console.specs.SessionLines.{IsSaving}
 use Rattle.run_console.specs.Progress.{Cut, EndStops, IsOfLine, IsStopped, LineRuns, LineStops}
-use Rattle.run_console.specs.Progress.{Ran, Told, Troubled, Untold, WritesTrouble, Wrote}
+use Rattle.run_console.specs.Progress.{Ran, Told, Troubled, WritesTrouble, Wrote}
 use Rattle.run_console.proofs.Lines.{cut_then, cut_troubled, part_behind, trouble_behind}
 
 -- ---- texts

@@ -5,7 +5,7 @@ use Rattle.std.specs.Option.{option_map}
 use Rattle.std.specs.Io.KnownBytes.{Appends, Consumes, IsAtEnd}
 use Rattle.std.proofs.Common.{arith, inl, inr, refl, sym, ap, ◌∙◌, subst, append_assoc, append-nil}
 use Rattle.std.proofs.Common.{length-append}
-use Rattle.std.proofs.lemmas.List.{length-take, length-take-le, take-append-le}
+use Rattle.std.proofs.lemmas.List.{length-take, length-take-le}
 use Rattle.run_model.specs.Session.{Session}
 use Rattle.run_disk.specs.Disk.{DiskState}
 use Rattle.book_model.specs.Books.{BookView}
@@ -15,7 +15,7 @@ use Rattle.console_lines.specs.declared.faults.RunFault.TheVariants as fault
 use Rattle.console_lines.specs.declared.strays.Stray.{Stray}
 use Rattle.console_lines.specs.declared.strays.StrayLine.{StrayLine}
 use Rattle.console_lines.specs.Lines.{whole_lines, open_line, lines_of}
-use Rattle.console_lines.specs.Script.{after_lines, closing, replies, steps_of}
+use Rattle.console_lines.specs.Script.{after_lines, closing, replies}
 use Rattle.console_lines.specs.Strict.{stray_at}
 use Rattle.console_lines.specs.Progress.{WritesPart}
 use Rattle.console_lines.proofs.Splits.{whole_lines-append, open_line-append}
@@ -23,7 +23,7 @@ use Rattle.console_lines.proofs.Written.{appends_then, consumes_then}
 use Rattle.run_model.specs.declared.commands.Step.{Step}
 use Rattle.run_model.specs.declared.commands.Step.TheVariants as step
 use Rattle.run_console.specs.declared.untils.Until.{Until}
-use Rattle.run_console.specs.Rows.{TakesAll, Tries, next_steps}
+use Rattle.run_console.specs.Rows.{Tries, next_steps}
 use Rattle.run_console.specs.Progress.{Closes, Cut, EndStops, Found, Halts, IsOfLine, IsReached}
 use Rattle.run_console.specs.Progress.{IsRunStopped}
 use Rattle.run_console.specs.Progress.{IsStopped, IsWritten, PartCut, PartRan, PartRuns, PartStrays}

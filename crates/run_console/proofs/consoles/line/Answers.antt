@@ -1,8 +1,8 @@
-use Rattle.std.proofs.Common.{[], ◌∷◌, refl, subst}
+use Rattle.std.proofs.Common.{refl}
 use Rattle.std.proofs.lemmas.Result.{err_from_is_err_and, on_ok_weaker}
 use Rattle.console_lines.specs.declared.faults.RunFault.{RunFault}
 use Rattle.console_lines.specs.declared.faults.RunFault.TheVariants as fault
-use Rattle.run_console.specs.Progress.{Cut, LineStops, Ran}
+use Rattle.run_console.specs.Progress.{LineStops}
 use Rattle.run_console.proofs.Carrying.{cut_carries, ran_carries}
 use Rattle.run_console.proofs.Ends.{line_runs, line_stops}
 use Rattle.run_console.proofs.LineSteps.{fault_known}

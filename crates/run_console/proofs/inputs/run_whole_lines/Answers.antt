@@ -3,7 +3,6 @@ use Rattle.std.proofs.Common.{append-nil}
 use Rattle.std.proofs.lemmas.List.{length-take, take-append-le}
 use Rattle.std.proofs.lemmas.Result.{err_from_is_err_and}
 use Rattle.std.specs.Io.KnownBytes.{Consumes}
-use Rattle.console_lines.specs.declared.faults.RunFault.TheVariants as fault
 use Rattle.console_lines.specs.Lines.{open_line}
 use Rattle.console_lines.proofs.Written.{consumes_kept, consumes_nothing, consumes_then}
 use Rattle.run_console.proofs.Parts.{part_begins, part_then, part_written}

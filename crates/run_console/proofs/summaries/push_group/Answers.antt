@@ -1,4 +1,4 @@
-use Rattle.std.proofs.Common.{◌++◌, ◌∙◌, List, Option, Some, [], ap, ℕ}
+use Rattle.std.proofs.Common.{◌++◌, ◌∙◌, List, Option, [], ap, ℕ}
 use Rattle.std.specs.Option.{option_map_or}
 use Rattle.run_model.specs.declared.answers.GroupLook.{GroupLook}
 use Rattle.run_model.specs.declared.answers.Look.{Look}
