@@ -8,11 +8,10 @@ ghost use Rattle.night_program.specs.Stores.{view_text};
 
 use console_lines::{RunFault, StrayLine};
 use night_words::View;
-use run_console::{
-    Book, Until, list_tasks, print_json, print_summary, print_tree, run_until, stopped, write_whole,
-};
+use run_console::{Book, Until, run_until, stopped};
 use run_disk::RunDisk;
 use run_state::State;
+use state_views::{list_tasks, print_json, print_summary, print_tree, write_whole};
 use std::alloc::{Allocator, Global};
 use std::io::{Read, Write};
 
@@ -90,7 +89,7 @@ fn show<W: Write, B: Allocator>(
     ensures fault { IfErr result (λ fault. fault ≡ RunFault.Output) }
 {
     match view {
-        View::Whole => run_console::inspect(state, output),
+        View::Whole => state_views::inspect(state, output),
         View::Tasks { phase, group } => list_tasks(state, phase, group, output),
         View::Json { phase, group } => print_json(state, phase, group, output),
         View::Tree { no_tasks } => print_tree(state, no_tasks, output),

@@ -2,7 +2,7 @@
 use Rattle.std.specs.Prelude.{◌≡◌, ◌≢◌, ◌⊎◌, ℕ, List, [], ◌∷◌, ◌++◌, Option, length}
 use Rattle.std.specs.Prelude.{Result, Ok, Err, OnOk, OnErr}
 use Rattle.std.specs.Io.KnownBytes.{Appends}
-use Rattle.std.proofs.Common.{inl, inr, arith, refl, sym, ap, ◌∙◌, subst, append_assoc, append-nil}
+use Rattle.std.proofs.Common.{inl, inr, arith, refl, sym, ap, ◌∙◌, subst, append-nil}
 use Rattle.std.proofs.Common.{length-append}
 use Rattle.run_model.specs.declared.faults.Trouble.{Trouble}
 use Rattle.run_state.proofs.Staying.{stays_same}
@@ -15,50 +15,16 @@ use Rattle.console_lines.specs.Progress.{WritesPart}
 use Rattle.console_lines.specs.declared.replies.Reply.TheVariants as said
 use Rattle.console_lines.specs.Replies.{reply_line}
 use Rattle.console_lines.specs.Script.{replies, reply, steps_of, after_line, after_lines}
-use Rattle.console_lines.proofs.Written.{appends_nothing, appends_then}
+use Rattle.console_lines.proofs.Written.{appends_then}
 use Rattle.book_model.specs.Steps.{StepsOn, reply_of_save}
 use Rattle.run_console.specs.Rows.{TakesAll, TriesLine, first_steps}
 use Rattle.run_console.proofs.Rows.{takes_none, took_nothing, tried_nothing}
 use Rattle.run_console.specs.SessionLines.{IsSaving}
 use Rattle.run_console.specs.Progress.{Cut, EndStops, IsOfLine, IsStopped, LineRuns, LineStops}
-use Rattle.run_console.specs.Progress.{Ran, Told, Troubled, WritesTrouble, Wrote}
-use Rattle.run_console.proofs.Lines.{cut_then, cut_troubled, part_behind, trouble_behind}
-
--- ---- texts
-
--- A text is gathered once room was made for it.
-pub told_more : (text g m h : List ℕ) (w0 w1 : Option (List ℕ))
-    → Told [] g m w0 w1
-    → h ≡ m ++ text
-    → Told text g h w0 w1
-told_more text g m h w0 w1 room e = record {
-  out = room.out;
-  written = room.written;
-  told =
-      ap (λ t. t ++ text) (sym (append-nil g) ∙ room.told)
-      ∙ append_assoc room.out m text
-      ∙ ap (λ t. room.out ++ t) (sym e);
-}
-
--- And then it is written.
-pub told_written : (text g h : List ℕ) (w0 w1 w2 : Option (List ℕ))
-    → Told text g h w0 w1
-    → Appends w1 w2 h
-    → Told text g [] w0 w2
-told_written text g h w0 w1 w2 told all = record {
-  out = told.out ++ h;
-  written = appends_then w0 w1 w2 told.out h told.written all;
-  told = told.told ∙ sym (append-nil (told.out ++ h));
-}
-
--- Or a part of it is.
-pub told_cut : (text g h : List ℕ) (w0 w1 w2 : Option (List ℕ))
-    → Told text g h w0 w1
-    → WritesPart w1 w2 h
-    → WritesPart w0 w2 (g ++ text)
-told_cut text g h w0 w1 w2 told cut =
-    let P : List ℕ → Type 0 = λ t. WritesPart w0 w2 t in
-    subst P (sym told.told) (part_behind told.out h w0 w1 w2 told.written cut)
+use Rattle.run_console.specs.Progress.{Ran, Troubled, WritesTrouble, Wrote}
+use Rattle.state_views.specs.Told.{Told}
+use Rattle.run_console.proofs.Lines.{cut_then, cut_troubled, trouble_behind}
+use Rattle.state_views.proofs.Told.{part_behind}
 
 -- Making room is no line.
 ran_told : {D : Type 0} {state : D → DiskState} {b : BookView D} {g m : List ℕ}
@@ -239,18 +205,3 @@ trouble_told (Ok x) why g t w0 w1 w2 h e whole cut =
     (t, ([], sym e ∙ sym (append-nil t)), appends_then w0 w1 w2 g t h whole)
 trouble_told (Err x) why g t w0 w1 w2 h e whole cut =
     (cut.0, (cut.1.0, sym e ∙ cut.1.1), appends_then w0 w1 w2 g cut.0 h cut.2)
-
--- ---- texts without a reply
-
--- There was room for the text.
-pub told_here : (text g h : List ℕ) (w : Option (List ℕ)) → h ≡ g ++ text → Told text g h w w
-told_here text g h w e = record { out = []; written = appends_nothing w; told = sym e }
-
--- All was written, the text too.
-pub told_whole : (text g h : List ℕ) (w0 w1 w2 : Option (List ℕ))
-    → Appends w0 w1 g → Appends w1 w2 text → h ≡ [] → Told text g h w0 w2
-told_whole text g h w0 w1 w2 first next none = record {
-  out = g ++ text;
-  written = appends_then w0 w1 w2 g text first next;
-  told = sym (append-nil (g ++ text)) ∙ ap (λ t. (g ++ text) ++ t) (sym none);
-}

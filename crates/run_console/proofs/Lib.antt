@@ -2,11 +2,8 @@ pub mod Accounting
 pub mod Carrying
 pub mod Counting
 pub mod Doing
-pub mod Drawing
 pub mod Ends
-pub mod EntryTexts
 pub mod Fronts
-pub mod Inspecting
 pub mod LineSteps
 pub mod Lines
 pub mod Looks

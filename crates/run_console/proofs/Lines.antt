@@ -15,9 +15,11 @@ use Rattle.console_lines.specs.Asked.{asked_of}
 use Rattle.console_lines.specs.Script.{after_lines, replies, reply, steps_of, after_line}
 use Rattle.console_lines.specs.Progress.{WritesPart}
 use Rattle.console_lines.proofs.Steps.{replies-append}
-use Rattle.console_lines.proofs.Written.{appends_nothing, appends_then, front_behind, front_more}
+use Rattle.console_lines.proofs.Written.{appends_nothing, appends_then}
+use Rattle.state_views.proofs.Told.{part_behind}
 use Rattle.run_console.specs.SessionLines.{IsSaving}
-use Rattle.run_console.specs.Progress.{Cut, IsStopped, Lasts, Ran, Told, Troubled, Untold, Wrote}
+use Rattle.run_console.specs.Progress.{Cut, IsStopped, Lasts, Ran, Troubled, Untold, Wrote}
+use Rattle.state_views.specs.Told.{Told}
 use Rattle.run_console.specs.Progress.{WritesTrouble}
 use Rattle.run_console.specs.Rows.{TakesAll, TriesLine}
 use Rattle.run_console.proofs.Rows.{takes_lines, takes_none, takes_tally}
@@ -52,20 +54,6 @@ lasts_same : (b c : Session) → c ≡ b → Lasts b c
 lasts_same b c same = subst (λ (s : Session). Lasts b s) (sym same) (stays_same b.state)
 
 -- ---- what is written after what was written
-
--- Of some text that goes on what was written, a front was written, and not all.
-pub part_behind :
-    (x g : List ℕ) (w0 w1 w2 : Option (List ℕ))
-    → Appends w0 w1 x
-    → WritesPart w1 w2 g
-    → WritesPart w0 w2 (x ++ g)
-part_behind x g w0 w1 w2 h k =
-    (x ++ k.0, front_behind k.0 x g k.1, appends_then w0 w1 w2 x k.0 h k.2)
-
--- A front of the first of two texts is one of both.
-pub part_more : (x y : List ℕ) (w0 w1 : Option (List ℕ))
-    → WritesPart w0 w1 x → WritesPart w0 w1 (x ++ y)
-part_more x y w0 w1 k = (k.0, front_more k.0 x y k.1, k.2)
 
 pub trouble_behind :
     (why : Trouble) (x g : List ℕ) (w0 w1 w2 : Option (List ℕ))

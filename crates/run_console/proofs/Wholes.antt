@@ -27,11 +27,13 @@ use Rattle.run_console.specs.Rows.{Tries, next_steps}
 use Rattle.run_console.specs.Progress.{Closes, Cut, EndStops, Found, Halts, IsOfLine, IsReached}
 use Rattle.run_console.specs.Progress.{IsRunStopped}
 use Rattle.run_console.specs.Progress.{IsStopped, IsWritten, PartCut, PartRan, PartRuns, PartStrays}
-use Rattle.run_console.specs.Progress.{Ran, RanLines, Reads, ReadsAll, RunEnds, RunStops, Told}
+use Rattle.run_console.specs.Progress.{Ran, RanLines, Reads, ReadsAll, RunEnds, RunStops}
+use Rattle.state_views.specs.Told.{Told}
 use Rattle.run_console.specs.Progress.{WritesTrouble, Wrote, lines_to, untried}
 use Rattle.run_console.specs.Until.{IsReadFor, ends_at, lines_until}
 use Rattle.run_console.proofs.Rows.{takes_join, tries_more, tries_next}
-use Rattle.run_console.proofs.Lines.{cut_then, cut_written, part_behind, ran_then, stopped_more}
+use Rattle.run_console.proofs.Lines.{cut_then, cut_written, ran_then, stopped_more}
+use Rattle.state_views.proofs.Told.{part_behind}
 use Rattle.run_console.proofs.Lines.{trouble_behind}
 use Rattle.run_console.proofs.Parts.{part_then}
 use Rattle.run_console.proofs.RunLines.{at_end, ends_first, found_then, last_lines, last_stray}

@@ -1,9 +1,6 @@
 pub mod Crews
-pub mod Entries
-pub mod Inspecting
 pub mod Progress
 pub mod Rows
 pub mod SessionLines
-pub mod Summing
 pub mod Troubles
 pub mod Until

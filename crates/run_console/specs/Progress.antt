@@ -23,6 +23,7 @@ use Rattle.console_lines.specs.Progress.{IsFront, WritesPart, kept}
 use Rattle.console_lines.specs.Replies.{reply_line}
 use Rattle.console_lines.specs.Script.{after_lines, closing, replies, replies_to, reply, script}
 use Rattle.console_lines.specs.Script.{steps_of, after_line, after_lines}
+use Rattle.state_views.specs.Told.{Told}
 use Rattle.run_console.specs.Rows.{TakesAll, TriesLine, first_steps, next_steps, steps_asked}
 use Rattle.run_console.specs.SessionLines.{IsSaving}
 use Rattle.run_console.specs.Until.{IsReadFor, lines_until, stray_until}
@@ -241,13 +242,6 @@ pub record Cut {D : Type 0} (state : D → DiskState)
   pub session : c.session ≡ after_lines b.session ran
   pub tried : TriesLine state b why ran (first_steps left) c
   pub lasts : Lasts b.session c.session
-
--- A text was appended to what was gathered before: the first bytes were written, and the rest is
--- gathered.
-pub record Told (text before gathered : List ℕ) (w0 w1 : Option (List ℕ)) : Type 0 where
-  pub out : List ℕ
-  pub written : Appends w0 w1 out
-  pub told : before ++ text ≡ out ++ gathered
 
 -- The text was not appended. If memory was wanting for it, what was gathered before was written; if
 -- the writer failed, a prefix of both.

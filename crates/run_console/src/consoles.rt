@@ -20,12 +20,13 @@ ghost use Rattle.run_console.specs.SessionLines.{IsSaving, is_tally};
 
 use crate::answers::{reply_to, step_reply};
 use crate::tallies::gather_tally;
-use crate::writings::{Gathered, gather_reply, make_room, stop, write_gathered};
+use crate::writings::{gather_reply, stop};
 use console_lines::{Asked, Reply, RunFault, Stray, gather_scope, read_line};
 use run_book::Book;
 use run_disk::RunDisk;
 use run_model::{Name, Refusal, Step, Trouble};
 use run_state::{LookView, State};
+use state_views::{Gathered, make_room, write_gathered};
 use std::alloc::Allocator;
 use std::io::Write;
 

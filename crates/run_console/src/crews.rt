@@ -12,13 +12,13 @@ ghost use Rattle.run_console.specs.Crews.{CrewEnds, IsTold, IsWorked, WasLeft, a
 ghost use Rattle.run_console.specs.Crews.{flush_line, numbers_line, told_of};
 
 use crate::faults::{of_device, stopped};
-use crate::writings::{Gathered, write_gathered};
 use console_lines::{Reply, RunFault};
 use itoa::Buffer;
 use run_book::Book;
 use run_crew::{Desk, Gate, Job, Opening, Strayed, audit, run_night};
 use run_disk::RunDisk;
 use run_model::{Fault, Trouble};
+use state_views::{Gathered, write_gathered};
 use std::alloc::Global;
 use std::io::Write;
 use std::marker::Brand;

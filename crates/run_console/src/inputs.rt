@@ -13,12 +13,12 @@ ghost use Rattle.run_console.specs.Progress.{Cut, Halts, PartCut, PartRuns, Ran,
 
 use crate::consoles::gather_line;
 use crate::untils::Until;
-use crate::writings::{Gathered, write_gathered};
 use arrayvec::ArrayVec;
 use console_lines::{LONGEST_INPUT, LONGEST_LINE, RunFault, Stray, StrayLine};
 use memchr::memchr;
 use run_book::Book;
 use run_disk::RunDisk;
+use state_views::{Gathered, write_gathered};
 use std::alloc::Allocator;
 use std::io::{Read, Write};
 

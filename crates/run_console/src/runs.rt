@@ -11,11 +11,11 @@ ghost use Rattle.run_console.specs.Progress.{RunStops};
 use crate::consoles::{close, gather_line};
 use crate::inputs::{OpenLine, run_whole_lines};
 use crate::untils::Until;
-use crate::writings::Gathered;
 use console_lines::{RunFault, StrayLine};
 use run_book::Book;
 use run_disk::RunDisk;
 use run_model::{Refusal, Trouble};
+use state_views::Gathered;
 use std::alloc::Allocator;
 use std::io::{Read, Write};
 

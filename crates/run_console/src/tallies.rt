@@ -8,11 +8,12 @@ ghost use Rattle.std.specs.String.{string_bytes};
 ghost use Rattle.console_lines.specs.Replies.{reply_lines};
 ghost use Rattle.console_lines.specs.Tallies.{tallies_of};
 ghost use Rattle.console_lines.specs.declared.replies.Reply.TheVariants as said;
-ghost use Rattle.run_console.specs.Progress.{Told, Untold};
+ghost use Rattle.run_console.specs.Progress.{Untold};
+ghost use Rattle.state_views.specs.Told.{Told};
 
-use crate::writings::{Gathered, gather_bytes, write_gathered};
 use console_lines::{RunFault, Tallies};
 use run_state::State;
+use state_views::{Gathered, gather_bytes, write_gathered};
 use std::alloc::{AllocError, Allocator};
 use std::io::Write;
 

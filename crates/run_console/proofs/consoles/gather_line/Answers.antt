@@ -13,9 +13,11 @@ use Rattle.console_lines.specs.Script.{reply, scope_reply}
 use Rattle.console_lines.specs.Strict.{stray_among}
 use Rattle.console_lines.specs.Tallies.{tallies_of}
 use Rattle.console_lines.specs.declared.replies.Reply.TheVariants as said
-use Rattle.run_console.specs.Progress.{Told, Untold}
+use Rattle.run_console.specs.Progress.{Untold}
+use Rattle.state_views.specs.Told.{Told}
 use Rattle.run_console.specs.SessionLines.{IsSaving, is_tally}
-use Rattle.run_console.proofs.Ends.{cut_stopped, told_more}
+use Rattle.run_console.proofs.Ends.{cut_stopped}
+use Rattle.state_views.proofs.Told.{told_more}
 use Rattle.run_console.proofs.LineSteps.{line_obeyed, line_replies, line_strays, line_tally}
 use Rattle.run_console.proofs.LineSteps.{saves_no_tally, scope_strays, tally_asked, tally_leaves}
 use Rattle.run_console.proofs.LineSteps.{tally_stays}

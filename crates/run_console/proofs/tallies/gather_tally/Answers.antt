@@ -3,7 +3,7 @@ use Rattle.std.proofs.lemmas.Result.{err_from_is_err_and}
 use Rattle.console_lines.specs.Replies.{reply_lines}
 use Rattle.console_lines.specs.Tallies.{tallies_of}
 use Rattle.console_lines.specs.declared.replies.Reply.TheVariants as said
-use Rattle.run_console.proofs.Lines.{part_more}
+use Rattle.state_views.proofs.Told.{part_more}
 use Rattle.run_console.proofs.tallies.gather_tally.Goals as goal
 
 pub returns-in_err-write_gathered-clause-untold :

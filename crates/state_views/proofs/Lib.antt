@@ -1,0 +1,4 @@
+pub mod Drawing
+pub mod EntryTexts
+pub mod Inspecting
+pub mod Told

@@ -1,0 +1,68 @@
+-- Texts that are written in part, or gathered and then written.
+use Rattle.std.specs.Prelude.{◌≡◌, ℕ, List, [], ◌++◌, Option}
+use Rattle.std.specs.Io.KnownBytes.{Appends}
+use Rattle.std.proofs.Common.{sym, ap, ◌∙◌, subst, append_assoc, append-nil}
+use Rattle.console_lines.specs.Progress.{WritesPart}
+use Rattle.console_lines.proofs.Written.{appends_then, front_behind, front_more}
+use Rattle.state_views.specs.Told.{Told}
+
+-- ---- a part
+
+-- Of some text that goes on what was written, a front was written, and not all.
+pub part_behind :
+    (x g : List ℕ) (w0 w1 w2 : Option (List ℕ))
+    → Appends w0 w1 x
+    → WritesPart w1 w2 g
+    → WritesPart w0 w2 (x ++ g)
+part_behind x g w0 w1 w2 h k =
+    (x ++ k.0, front_behind k.0 x g k.1, appends_then w0 w1 w2 x k.0 h k.2)
+
+-- A front of the first of two texts is one of both.
+pub part_more : (x y : List ℕ) (w0 w1 : Option (List ℕ))
+    → WritesPart w0 w1 x → WritesPart w0 w1 (x ++ y)
+part_more x y w0 w1 k = (k.0, front_more k.0 x y k.1, k.2)
+
+-- ---- texts
+
+-- A text is gathered once room was made for it.
+pub told_more : (text g m h : List ℕ) (w0 w1 : Option (List ℕ))
+    → Told [] g m w0 w1
+    → h ≡ m ++ text
+    → Told text g h w0 w1
+told_more text g m h w0 w1 room e = record {
+  out = room.out;
+  written = room.written;
+  told =
+      ap (λ t. t ++ text) (sym (append-nil g) ∙ room.told)
+      ∙ append_assoc room.out m text
+      ∙ ap (λ t. room.out ++ t) (sym e);
+}
+
+-- And then it is written.
+pub told_written : (text g h : List ℕ) (w0 w1 w2 : Option (List ℕ))
+    → Told text g h w0 w1
+    → Appends w1 w2 h
+    → Told text g [] w0 w2
+told_written text g h w0 w1 w2 told all = record {
+  out = told.out ++ h;
+  written = appends_then w0 w1 w2 told.out h told.written all;
+  told = told.told ∙ sym (append-nil (told.out ++ h));
+}
+
+-- Or a part of it is.
+pub told_cut : (text g h : List ℕ) (w0 w1 w2 : Option (List ℕ))
+    → Told text g h w0 w1
+    → WritesPart w1 w2 h
+    → WritesPart w0 w2 (g ++ text)
+told_cut text g h w0 w1 w2 told cut =
+    let P : List ℕ → Type 0 = λ t. WritesPart w0 w2 t in
+    subst P (sym told.told) (part_behind told.out h w0 w1 w2 told.written cut)
+
+-- All was written, the text too.
+pub told_whole : (text g h : List ℕ) (w0 w1 w2 : Option (List ℕ))
+    → Appends w0 w1 g → Appends w1 w2 text → h ≡ [] → Told text g h w0 w2
+told_whole text g h w0 w1 w2 first next none = record {
+  out = g ++ text;
+  written = appends_then w0 w1 w2 g text first next;
+  told = sym (append-nil (g ++ text)) ∙ ap (λ t. (g ++ text) ++ t) (sym none);
+}

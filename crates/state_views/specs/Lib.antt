@@ -1,0 +1,4 @@
+pub mod Entries
+pub mod Inspecting
+pub mod Summing
+pub mod Told
