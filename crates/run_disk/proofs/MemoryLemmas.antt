@@ -1,11 +1,11 @@
 -- What each call does to a disk in memory.
 use Rattle.std.proofs.Common.{◌≡◌, ◌⊎◌, ◌<◌, ◌≤◌, ◌+◌, ◌-◌, ℕ, false, List, [], ◌∷◌, ◌++◌, Ok}
 use Rattle.std.proofs.Common.{Err, length, get_or, take, drop, refl, sym, ◌∙◌, ap, subst, inl}
-use Rattle.std.proofs.Common.{inr, arith, nat_le, unwrap_or, ◌^◌}
+use Rattle.std.proofs.Common.{inr, arith, nat_le, replicate, unwrap_or, ◌^◌}
 use Rattle.std.specs.List.{All}
 use Rattle.std.proofs.lemmas.Bool.{cases_lt, le-ltb, lt-leb}
 use Rattle.std.proofs.lemmas.List.{get_or_past, length-take-le, length-drop, get_or-take}
-use Rattle.std.proofs.lemmas.List.{ext_get_or, get_or-drop}
+use Rattle.std.proofs.lemmas.List.{append-nil, ext_get_or, get_or-drop, take_all}
 use Rattle.std.proofs.lemmas.List.Folds.{list_any-append}
 use Rattle.std.proofs.lemmas.List.Elements.{All-nil, All-weaker, All-push}
 use borrow.Rule.Slice.PartMut.{put_mid}
@@ -13,7 +13,7 @@ use Rattle.run_disk.specs.declared.tears.Torn.TheVariants.{Take}
 use Rattle.run_disk.specs.Contents.{SameOutside, Puts, Follows}
 use Rattle.run_disk.specs.Disk.{Begins, last_moment}
 use Rattle.run_disk.specs.Calls.{Calls, Reads, Writes, Syncs}
-use Rattle.run_disk.specs.Writes.{Write, History, and_write, and_sync, beginning}
+use Rattle.run_disk.specs.Writes.{Write, History, and_write, and_sync, beginning, filled_up}
 use Rattle.run_disk.specs.History.{IsImage, IsLeftSince, byte_put, byte_after, is_unsynced, covers}
 use Rattle.run_disk.specs.Memory.{IsKept, memory_state}
 use Rattle.run_disk.proofs.ContentsLemmas.{same_all}
@@ -23,6 +23,13 @@ use Rattle.run_disk.proofs.MomentLemmas.{and_false, byte_whole, tears, byte_afte
 use Rattle.run_disk.proofs.MomentLemmas.{is_unsynced-quiet, byte_after-later_write}
 use Rattle.run_disk.proofs.MomentLemmas.{is_unsynced-later_write, byte_after-later_sync}
 use Rattle.run_disk.proofs.MomentLemmas.{is_unsynced-later_sync, is_unsynced-synced}
+
+-- Bytes of the disk's size are filled up by nothing.
+pub filled_whole : (size : ℕ) (bytes : List ℕ) → size ≡ length bytes → filled_up size bytes ≡ bytes
+filled_whole size bytes is =
+    let none : size - length bytes ≡ 0 = omega (arith, is) in
+    ap (λ n. take size bytes ++ replicate n 0) none ∙ append-nil (take size bytes)
+    ∙ take_all size bytes (omega (arith, is))
 
 -- Each of the new contents is one of the old.
 abbrev Within : (List ℕ → Type 0) → (List ℕ → Type 0) → Type 0

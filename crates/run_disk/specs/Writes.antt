@@ -1,5 +1,5 @@
 -- What a disk in memory keeps of its calls.
-use Rattle.std.specs.Prelude.{ℕ, List, [], ◌∷◌, ◌++◌}
+use Rattle.std.specs.Prelude.{ℕ, ◌-◌, List, [], ◌∷◌, ◌++◌, length, replicate, take}
 
 -- A write that succeeded: its moment, which is the number of calls that were made before it, its
 -- place and its bytes.
@@ -14,6 +14,10 @@ pub record History : Type 0 where
   pub first : List ℕ
   pub writes : List Write
   pub syncs : List ℕ
+
+-- The first so many of these bytes, with zeros after them where there are fewer.
+abbrev pub filled_up : ℕ → List ℕ → List ℕ
+filled_up size bytes = take size bytes ++ replicate (size - length bytes) 0
 
 -- The history of a disk with these bytes before its first call.
 abbrev pub beginning : List ℕ → History

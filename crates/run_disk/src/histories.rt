@@ -7,7 +7,7 @@ ghost use Rattle.std.specs.Prelude.{IfOk, OnErr, OnOk};
 ghost use Rattle.std.specs.List.{All};
 ghost use Rattle.run_disk.specs.History.{IsTornImage, is_synced, left_of, newest, torn_bytes};
 ghost use Rattle.run_disk.specs.Contents.{Puts};
-ghost use Rattle.run_disk.specs.Writes.{and_sync, and_write, beginning};
+ghost use Rattle.run_disk.specs.Writes.{and_sync, and_write, beginning, filled_up};
 
 use crate::tears::Torn;
 use std::alloc::{AllocError, Allocator};
@@ -70,21 +70,24 @@ fn tear(image: &mut [u8], at: usize, bytes: &[u8], torn: Torn)
     }
 }
 
-/// What a disk in memory keeps: its first bytes, and the writes and syncs that succeeded.
+/// What a disk in memory keeps: its first bytes, and the writes and syncs that succeeded. Zeros at
+/// the end of the first bytes need no memory.
 #[derive(Drop)]
 pub struct History<A: Allocator> {
+    // zeros fill them up to the disk's size
     first: Vec<u8, A>,
+    size: usize,
     writes: Vec<Written<A>, A>,
     syncs: Vec<u64, A>,
 }
 
 impl<A: Allocator> Model for History<A> {
-    ghost use Rattle.run_disk.specs.Writes.{History};
+    ghost use Rattle.run_disk.specs.Writes.{History, filled_up};
 
     ghost Value = { History };
 
     ghost view = { λ h. record {
-      first = h.first.items;
+      first = filled_up h.size h.first.items;
       writes = h.writes.items;
       syncs = h.syncs.items;
     } };
@@ -109,14 +112,16 @@ fn leave_all<A: Allocator>(
 }
 
 impl<A: Allocator> History<A> {
-    /// The history of a disk with these bytes, before its first call.
-    pub fn new(alloc: A, first: Vec<u8, A>) -> History<A>
+    /// The history of a disk of this size before its first call. It begins with these bytes, and
+    /// zeros after them.
+    pub fn new(alloc: A, first: Vec<u8, A>, size: usize) -> History<A>
     where
         A: Copy,
-        ensures { result ≡ beginning first.items }
+        ensures { result ≡ beginning (filled_up size first.items) }
     {
         History {
             first,
+            size,
             writes: Vec::new(alloc),
             syncs: Vec::new(alloc),
         }
@@ -154,6 +159,7 @@ impl<A: Allocator> History<A> {
         ensures { IfOk result (λ image. IsTornImage torn self.now calls image.items) }
     {
         let mut image = Vec::from_slice(alloc, &self.first)?;
+        image.resize(self.size, 0)?;
         leave_all(&self.writes, &mut image, &self.syncs, calls, torn);
         Ok(image)
     }

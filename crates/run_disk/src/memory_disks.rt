@@ -46,7 +46,11 @@ impl<A: Allocator + Copy> MemoryDisk<A> {
         let Ok(bytes) = vec![in alloc; 0; size] else {
             return Err(Fault::Memory);
         };
-        MemoryDisk::from_bytes(alloc, bytes)
+        Ok(MemoryDisk {
+            history: History::new(alloc, Vec::new(alloc), size),
+            bytes,
+            tally: Tally::new(),
+        })
     }
 
     /// Makes a disk at rest with these bytes.
@@ -59,8 +63,9 @@ impl<A: Allocator + Copy> MemoryDisk<A> {
         let Ok(first) = Vec::from_slice(alloc, &bytes) else {
             return Err(Fault::Memory);
         };
+        let size = first.len();
         Ok(MemoryDisk {
-            history: History::new(alloc, first),
+            history: History::new(alloc, first, size),
             bytes,
             tally: Tally::new(),
         })

@@ -267,9 +267,9 @@ fn shows_each_stop_of_forty_calls(rt: HostRuntime) {
 /// Says whether these bytes are left, by a write that was made and synced or by none.
 fn is_left(image: &[u8], whole: bool) -> bool {
     if whole {
-        image == b"\0\0\x05\x06\x07\0\0\0".as_slice()
+        image == b"\0\0\x05\x06\x07\0\0\0\0\0\0\0\0\0\0\0\0\0\0\0\0\0\0\0".as_slice()
     } else {
-        image == [0; 8].as_slice()
+        image == [0; 24].as_slice()
     }
 }
 
@@ -291,7 +291,8 @@ fn leaves<'h>(
 /// Says for which there was no room: a disk over this heap, a write, a sync, what a crash leaves.
 /// Asserts what the disk has.
 fn lacks_of(rt: &impl Abort, heap: &LocalHeap) -> [bool; 4] {
-    let mut disk = match MemoryDisk::new(heap, 8) {
+    // (the least heap has room for 16 bytes)
+    let mut disk = match MemoryDisk::new(heap, 24) {
         Ok(disk) => disk,
         Err(fault) => {
             holds(rt, fault == Fault::Memory, "a disk", 0);
