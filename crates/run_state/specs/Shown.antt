@@ -1,7 +1,7 @@
 -- What a state shows of itself, and of a scope in it.
 use Rattle.std.specs.Borrow.{Bor}
 use Rattle.std.specs.Option.{option_map}
-use Rattle.std.specs.Prelude.{ℕ, List, Option}
+use Rattle.std.specs.Prelude.{◌+◌, ◌*◌, ◌-◌, ℕ, List, Option, length}
 use Rattle.run_model.specs.State.{State, TreeState, WorkState}
 use Rattle.run_model.specs.declared.scopes.Reason.{Reason}
 use Rattle.run_state.specs.declared.questions.LookView.{LookView}
@@ -9,6 +9,12 @@ use Rattle.run_state.specs.declared.questions.LookView.{LookView}
 -- The state that a count, a tree and groups show.
 abbrev pub shown : ℕ → TreeState → WorkState → State
 shown count tree work = record { count = count; tree = tree; work = work }
+
+-- The most bytes of an image with so many rows, each at its longest: a head has 23, a scope's row
+-- 192, a group's 103 and a task's 136.
+abbrev pub image_room : State → ℕ
+image_room p =
+    23 + 192 * (length p.tree.scopes - 1) + 103 * length p.work.groups + 136 * length p.work.tasks
 
 -- Why a scope is done, and with which cause, from a view that lends the cause.
 abbrev pub ending_of : Reason × Bor (List ℕ) → Reason × List ℕ

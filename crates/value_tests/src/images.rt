@@ -1,9 +1,5 @@
 //! Images put together from pieces, and what a new state makes of them.
 
-ghost use Rattle.std.specs.Prelude.{◌≡◌};
-ghost use Rattle.record_view.specs.declared.heads.ImageVersion.TheVariants.{Two};
-ghost use Rattle.record_view.specs.Image.{greatest_image};
-
 use crate::asserts::{done, holds};
 use record_view::ImageVersion;
 use run_model::{Fault, Layout};
@@ -63,16 +59,6 @@ pub fn image(rt: &impl Abort, alloc: Global, head: Head, pieces: &[&[u8]]) -> Ve
     done(rt, joined(alloc, head, pieces), "memory")
 }
 
-/// The length of the greatest image in a store of this layout.
-pub fn greatest_len(layout: Layout) -> usize
-    ensures { result ≡ greatest_image Two layout }
-{
-    match layout {
-        Layout::Small => 488_151,
-        Layout::Large => 1_913_559,
-    }
-}
-
 /// What is read as an image in a new store of this layout.
 pub fn read(alloc: Global, layout: Layout, image: &[u8]) -> Result<(State, ImageVersion), Fault> {
     State::new(alloc, layout)?.read_image(image)
@@ -80,7 +66,7 @@ pub fn read(alloc: Global, layout: Layout, image: &[u8]) -> Result<(State, Image
 
 /// Says whether these bytes are what a state writes, over bytes of 0xEE.
 fn is_written(state: &State, out: &mut [u8], again: &[u8]) -> bool {
-    if 1 << 63 <= state.count() || out.len() < greatest_len(state.layout()) {
+    if 1 << 63 <= state.count() || out.len() < state.image_room() {
         return false;
     }
     let len = state.write_image(out);
