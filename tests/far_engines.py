@@ -7,11 +7,13 @@ comes.
     ssh     a client, and a server whose session ends some time after the connection has gone; it
             ends no command
     slurm   `sbatch -W`, `squeue`, `scancel` and the record of ended jobs, with names of which one
-            job runs at a time; a job runs on whatever becomes of its client
+            job runs at a time; a job runs on whatever becomes of its client, and also where it is
+            forgotten, as by a slurmctld that is killed
 
 All of them are this file, whose first word is the program. An engine's folder is ENGINE. There
 `down` makes the programs of slurm fail, and `lag` has how many seconds ssh's server needs to see
-that a connection has gone.
+that a connection has gone. `forget` says what becomes of the jobs that run: they are `gone`, they
+begin `again`, or they have ended, as with `NODE_FAIL`.
 """
 
 from __future__ import annotations
@@ -152,12 +154,13 @@ def session(line: socket.socket) -> None:
 # --- slurm
 
 def sbatch(words: list[str]) -> None:
-    """Submits a job, and waits for its end."""
+    """Submits a job, a script with three words or what `--wrap` has, and waits for its end."""
     if text(here("down")):
         sys.exit("sbatch: error: Unable to contact slurm controller (connect failure)")
     job = here(f"jobs/{time.time_ns()}")
-    write(f"{job}.job", json.dumps([word_after(words, "-J"), words[-1], os.getcwd(),
-                                    word_after(words, "--wckey")]))
+    command = ["sh", "-c", words[-1]] if "--wrap" in words else words[-4:]
+    write(f"{job}.job", json.dumps([word_after(words, "-J"), command, os.getcwd(),
+                                    word_after(words, "--wckey"), dict(os.environ)]))
     print("Submitted batch job", os.path.basename(job), flush=True)
     while not (end := text(f"{job}.end")):
         time.sleep(TICK)
@@ -191,9 +194,16 @@ def scancel(words: list[str]) -> None:
 def slurmctld() -> None:
     """Runs jobs, one of a name at a time."""
     running: dict[str, tuple[str, subprocess.Popen[bytes]]] = {}
+    forgotten = []
     write(here("jobs.txt"), "")
     while True:
         time.sleep(TICK)
+        if how := text(here("forget")):
+            os.remove(here("forget"))
+            for job, (name, it) in running.items():
+                forgotten.append(it)
+                forget(job, name, how)
+            running.clear()
         for job, (name, it) in list(running.items()):
             if text(f"{job}.cancel"):
                 with contextlib.suppress(ProcessLookupError):
@@ -203,23 +213,31 @@ def slurmctld() -> None:
                 record(job, name, it.returncode)
         ended, names = set(jobs(".end")), {name for name, _ in running.values()}
         for job in jobs(".job"):
-            name, command, folder, _ = json.loads(text(f"{job}.job"))
+            name, command, folder, _, given = json.loads(text(f"{job}.job"))
             if job in ended or job in running or name in names:
                 continue
             if text(f"{job}.cancel"):
                 record(job, name, 0)
                 continue
             names.add(name)
-            running[job] = name, subprocess.Popen(["sh", "-c", command], cwd=folder,
+            running[job] = name, subprocess.Popen(command, cwd=folder, env=given,
                                                   stdin=subprocess.DEVNULL, start_new_session=True,
                                                   stdout=subprocess.DEVNULL,
                                                   stderr=subprocess.DEVNULL)
 
 
-def record(job: str, name: str, status: int) -> None:
+def forget(job: str, name: str, how: str) -> None:
+    """Forgets a job, or that it runs; its command runs on."""
+    if how == "gone":
+        write(f"{job}.end", "0")
+    elif how != "again":
+        record(job, name, 0, how)
+
+
+def record(job: str, name: str, status: int, state: str = "") -> None:
     """The record of an ended job, as jobcomp/filetxt writes it, and then its end."""
     was_canceled = bool(text(f"{job}.cancel"))
-    state = "CANCELLED" if was_canceled else "COMPLETED" if not status else "FAILED"
+    state = state or ("CANCELLED" if was_canceled else "COMPLETED" if not status else "FAILED")
     code = f"{max(status, 0)}:{max(-status, 0)}"
     wckey = json.loads(text(f"{job}.job"))[3]
     with open(here("jobs.txt"), "a", encoding="utf-8") as file:

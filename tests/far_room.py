@@ -15,7 +15,7 @@ from collections.abc import Iterator, Sequence
 from contextlib import contextmanager
 
 from driver_room import Room, Shared, children, kill, nights_in
-from far_daemons import SCRIPTS, Engine
+from far_daemons import Engine
 from running import HERE, bytes_of
 
 PAGE = f"{HERE}/../docs/far.md"
@@ -63,8 +63,9 @@ class FarRoom(Room):
             for it in PROGRAMS}
         for it, text in (self.real.programs if self.real else stands_in).items():
             self.program(f"bin/{it}", text)
-        for name in os.listdir(SCRIPTS):
-            shutil.copy(f"{SCRIPTS}/{name}", self.engine if name == "guard" else self.path)
+        scripts = f"{os.path.dirname(tries.driver)}/far"
+        for name in os.listdir(scripts):
+            shutil.copy(f"{scripts}/{name}", self.engine if name == "guard" else self.path)
         self.program("job", JOB)
         self.given = {"ENGINE": self.engine, "PATH": f"{self.path}/bin:{os.environ['PATH']}",
                       "JOBS": f"{self.engine}/jobs.txt", **(self.real.given if self.real else {})}
@@ -81,6 +82,12 @@ class FarRoom(Room):
             self.real.is_down(is_so)
         with open(f"{self.engine}/down", "w", encoding="utf-8") as file:
             file.write("1" if is_so else "")
+
+    def forgets(self, how: str) -> None:
+        """Lets the stand-in for Slurm forget what it runs."""
+        self.write("forget", how)
+        os.rename(f"{self.path}/forget", f"{self.engine}/forget")
+        self.until(lambda: not os.path.exists(f"{self.engine}/forget"))
 
     def lag(self, seconds: float) -> None:
         with open(f"{self.engine}/lag", "w", encoding="utf-8") as file:
