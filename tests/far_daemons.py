@@ -4,7 +4,7 @@ its own, which end with it:
     ssh          sshd, behind a line that can be cut as a power failure cuts it: the far side isn't
                  told that the near one has gone
     sbatch       munged, slurmctld and a slurmd for each of the nodes n1 and n2
-    systemd-run  the manager of this user, if one runs
+    systemd-run  a user's manager
 
 The daemons listen on 127.0.0.1 alone, at ports that were free.
 """
@@ -342,19 +342,41 @@ class Slurm(Engine):
 
 
 class Systemd(Engine):
-    """The manager that this user has. None is begun: where its group of processes is the machine's
-    root one, a manager takes all of them into a group of its own."""
+    """A manager of its own, in a group of processes of its own: where it began in the machine's
+    root one, it would take all of them."""
 
-    needs = ("systemd-run", "systemctl")
+    needs = ("systemd-run", "systemctl", "unshare")
     about = ("systemctl", "--version")
+    groups: tuple[str, ...] = ()
+    # (it begins only where the system seems to be booted by systemd)
+    manager = """for it; do echo $$ > "$it/cgroup.procs" || exit; done
+mount -t tmpfs none /run/systemd && mkdir /run/systemd/system || exit
+exec /lib/systemd/systemd --user --log-target=console
+"""
 
-    @classmethod
-    def lacks(cls) -> str:
-        state = ""
-        with contextlib.suppress(OSError):
-            state = subprocess.run(["systemctl", "--user", "is-system-running"], text=True,
-                                   capture_output=True).stdout.strip()
-        return "" if state in ("running", "degraded") else "systemctl --user: no manager runs"
+    def start(self) -> None:
+        with open("/proc/mounts", encoding="utf-8") as file:
+            mounts = [it.split() for it in file]
+        self.groups = tuple(f"{it[1]}/{os.path.basename(self.folder)}" for it in mounts
+                            if it[2] == "cgroup2" or "name=systemd" in it[3])
+        self.given["XDG_RUNTIME_DIR"] = f"{self.folder}/run"
+        os.mkdir(f"{self.folder}/run", 0o700)
+        for it in self.groups:
+            os.mkdir(it)
+        self.begin("manager", "unshare", "-m", "sh", "-c", self.manager, "sh", *self.groups)
+        assert until(self.is_up, 20), "systemd doesn't answer"
+
+    def is_up(self) -> bool:
+        told = subprocess.run(["systemctl", "--user", "is-active", "default.target"],
+                              capture_output=True, text=True, env=self.environment())
+        return told.stdout == "active\n"
+
+    def close(self) -> None:
+        super().close()
+        for top in self.groups:
+            for it, _, _ in os.walk(top, topdown=False):
+                with contextlib.suppress(OSError):
+                    os.rmdir(it)
 
 
 PATH = f"{os.environ['PATH']}:/usr/sbin:/sbin"
