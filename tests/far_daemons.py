@@ -326,12 +326,24 @@ class Slurm(Engine):
                            capture_output=True, env=self.environment())
 
     def hits(self) -> list[str]:
-        return ["slurmctld", "n1", "n2"]
+        return ["slurmctld", "n1", "n2", "alone"]
 
     def hit(self, what: str, chance: random.Random) -> None:
+        if what == "alone":
+            kill(chance.sample(scripts := self.scripts(), min(1, len(scripts))))
+            return
         self.end(what)
         time.sleep(chance.choice((0, chance.uniform(0, 3))))
         self.begin(what)
+
+    def scripts(self) -> list[int]:
+        """The scripts of jobs that run."""
+        found = []
+        for it in its_processes(self.folder):
+            with contextlib.suppress(OSError), open(f"/proc/{it}/cmdline", "rb") as file:
+                if b"/slurm_script\0" in file.read():
+                    found.append(it)
+        return found
 
     def close(self) -> None:
         # (what runs is ended before, or a node waits for it)

@@ -9,7 +9,8 @@ key, its try, its process, the moment and its status. They are compared with the
 - no try of a key ran while another one of it did, by a lock that a command holds, and by the times;
 - an end `ok` or `exit N` that the store has is that of a run of its key, each of another one (but
   after a kill of slurmctld a failure may be that of what it has forgotten);
-- what a look into the store showed as ended stays so, and a key that was ok doesn't begin again;
+- what a look into the store showed as ended stays so, and a key that was ok doesn't begin again (by
+  ssh a try before it may);
 - a key of a group that was canceled didn't begin later;
 - in the end each key has an end, and the log has those of the store.
 """
@@ -42,13 +43,13 @@ exit $3
 # canceled, and those that have a deadline.
 GROUPS = {"g": 130, "r": 30, "c": 20, "d": 20}
 AT_ONCE = 30
-# So many kills of one night.
+# So many kills of one night, each kind of them once at least.
 KILLS = 14
-OTHERS = ("driver", "driver", "all", "all", "client", "client", "night", "SIGTERM")
+OTHERS = ("driver", "all", "client", "night", "SIGTERM")
 # What a driver prints last where the night has ended.
 LAST = re.compile(r"nothing to do: .*|\d+ commands: (?!.* left).*")
 LONGEST = 900
-# What a client says that was killed; and the failures of what a killed slurmctld has forgotten.
+# How what was killed ends; and the failures of what a killed slurmctld has forgotten.
 OF_CLIENTS = re.compile(r"exit 255|signal 9")
 OF_SLURM = re.compile(r"CANCELLED|NODE_FAIL|exit 1")
 # So many seconds may lie between the clocks' times of an end and of a beginning.
@@ -74,7 +75,7 @@ class Told:
     done: collections.Counter[str] = field(default_factory=collections.Counter)
     canceled: float = 0.0
     statuses: list[int] = field(default_factory=list)
-    given_up: int = 0
+    given_up: collections.Counter[str] = field(default_factory=collections.Counter)
 
 
 def lines_of(way: str, is_wrong: bool) -> list[str]:
@@ -116,6 +117,9 @@ class Night:
     def __init__(self, tries: Shared, room: FarRoom, kind: str, chance: random.Random) -> None:
         self.tries, self.room, self.kind, self.chance = tries, room, kind, chance
         self.told = Told()
+        kinds = [*OTHERS, *(room.real.hits() if room.real else [])]
+        self.kills = kinds + chance.choices(kinds, k=KILLS - len(kinds))
+        chance.shuffle(self.kills)
 
     def start(self) -> None:
         self.run = self.room.start("s", "JOBS", "-j", str(AT_ONCE), "--grace", "2")
@@ -123,7 +127,7 @@ class Night:
     def play(self) -> None:
         """Plays it to its end."""
         self.start()
-        kills, last, end = KILLS, "", time.monotonic() + LONGEST
+        last, end = "", time.monotonic() + LONGEST
         while time.monotonic() < end and not LAST.fullmatch(last):
             time.sleep(self.chance.uniform(0.5, 4))
             if self.run.poll() is not None:
@@ -131,9 +135,8 @@ class Night:
                 self.told.statuses.append(self.run.returncode)
                 if not LAST.fullmatch(last):
                     self.start()
-            elif kills:
-                kills -= 1
-                self.hit()
+            elif self.kills:
+                self.hit(self.kills.pop())
             if self.room.real:
                 self.room.real.tend()
         self.tries.holds(f"{self.kind}: it ends", self.room.path, LAST.fullmatch(last),
@@ -155,10 +158,8 @@ class Night:
         listed = self.room.run("s", "JOBS", "--list", errors="errors3")[1]
         return not re.search(r"interrupted|running|would|not begun yet", dry + listed)
 
-    def hit(self) -> None:
+    def hit(self, what: str) -> None:
         """Kills something, or asks the driver to end."""
-        engine = self.room.real
-        what = self.chance.choice([*OTHERS, *(engine.hits() * 2 if engine else [])])
         if not self.told.canceled and self.chance.random() < 0.3:
             self.told.canceled = time.time()
             self.room.run("s", "--cancel", "c", "not", "now", errors="errors2")
@@ -174,8 +175,8 @@ class Night:
             kill(self.chance.sample(clients, min(1, len(clients))))
         elif what == "SIGTERM":
             kill([self.run.pid], which=signal.SIGTERM)
-        elif engine:
-            engine.hit(what, self.chance)
+        elif self.room.real:
+            self.room.real.hit(what, self.chance)
         self.look()
 
     def look(self) -> None:
@@ -223,7 +224,7 @@ class Night:
         for end in ends:
             status = end.removeprefix("exit ")
             if OF_SLURM.fullmatch(end) and status not in left and self.told.done["slurmctld"]:
-                self.told.given_up += 1
+                self.told.given_up[end] += 1
             elif status.isdigit() and status != "255":
                 tries.holds(f"{kind}: an end of the store is that of a run", about,
                             status in left, end)
@@ -234,9 +235,10 @@ class Night:
             else:
                 tries.holds(f"{kind}: an end that nobody brought about", about, False, end)
         if key in self.told.oks:
-            # (an earlier try that was on its way as the power failed may begin later)
+            # (by ssh an earlier try that was on its way as the power failed may begin later)
             when = self.told.oks[key] + SLACK
             last = max((int(it.tried) for it in ran if it.began <= when), default=0)
+            last = last if kind.startswith("ssh") else 0
             tries.holds(f"{kind}: what is acked as ok doesn't run again", about,
                         all(it.began <= when or int(it.tried) < last for it in ran))
         if key[0] == "c" and self.told.canceled:
@@ -244,9 +246,10 @@ class Night:
                         not ran or ran[-1].began <= self.told.canceled + 3)
 
     def is_client(self) -> bool:
-        """Whether a client, or what it speaks with, was killed, and nobody can be asked."""
-        return "ask" not in "".join(it.split()[1] for it in self.room.jobs if ": ask" in it) \
-            and bool(self.told.done["client"] + self.told.done["sshd's child"])
+        """Whether what was killed has no other end: a client where nobody can be asked, or what it
+        speaks with; the command, which systemd's client becomes; the script of a job."""
+        its = {"ssh": ("client", "sshd's child"), "systemd-run": ("client",), "sbatch": ("alone",)}
+        return any(self.told.done[it] for it in its[self.kind.partition(":")[0]])
 
 
 def night(tries: Shared, way: str, seed: int, is_wrong: bool) -> None:
@@ -262,8 +265,10 @@ def night(tries: Shared, way: str, seed: int, is_wrong: bool) -> None:
         it.play()
         it.judge()
         runs = sum(len(its) for its in ran_of(room).values())
+        nodes = collections.Counter(re.findall(r" NodeList=(n\d) ", "\n".join(room.record())))
         print(f"{kind}, seed {seed}: {runs} runs of {sum(GROUPS.values())} commands in"
               f" {time.monotonic() - began:.0f} s; "
               f"{', '.join(f'{count} {what}' for what, count in sorted(it.told.done.items()))}"
-              f"; {it.told.given_up} failed by what slurmctld forgot",
+              f"; failed by what slurmctld forgot: {dict(it.told.given_up)}"
+              f"; jobs by node: {dict(sorted(nodes.items()))}",
               flush=True)
