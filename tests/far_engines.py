@@ -185,9 +185,10 @@ def squeue(words: list[str]) -> None:
 def scancel(words: list[str]) -> None:
     if text(here("down")):
         sys.exit("scancel: error: Unable to contact slurm controller (connect failure)")
-    ended = set(jobs(".end"))
+    ended, wckey = set(jobs(".end")), word_after(words, "--wckey") if "--wckey" in words else ""
     for it in jobs(".job"):
-        if it not in ended and json.loads(text(f"{it}.job"))[0] == word_after(words, "-n"):
+        name, _, _, its, _ = json.loads(text(f"{it}.job"))
+        if it not in ended and name == word_after(words, "-n") and wckey in ("", its):
             write(f"{it}.cancel", "1")
 
 
