@@ -15,6 +15,7 @@ pub mod ListedNights
 pub mod Nights
 pub mod Progress
 pub mod Replies
+pub mod ScopeLines
 pub mod Script
 pub mod Strict
 pub mod StrictNights

@@ -23,6 +23,7 @@ mod listings;
 pub mod nights;
 mod replies;
 mod rows;
+mod scope_lines;
 mod strays;
 pub mod strict_nights;
 mod summaries;
@@ -43,6 +44,7 @@ pub use job_tallies::Tallies;
 pub use lines::{LONGEST_INPUT, LONGEST_LINE, read_line};
 pub use replies::Reply;
 pub use rows::{LONGEST_ROW, Row};
+pub use scope_lines::scope_word;
 pub use strays::{Stray, StrayLine};
 pub use summaries::{
     LONGEST_SUMMARY, Phases, gather_group_summary, gather_scope_summary, gather_tree_group,

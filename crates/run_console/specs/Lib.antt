@@ -1,4 +1,5 @@
 pub mod Crews
+pub mod Looks
 pub mod Progress
 pub mod Rows
 pub mod SessionLines

@@ -1,18 +1,16 @@
 //! A line over a book: it is run and replied to.
 
-ghost use Rattle.std.specs.Prelude.{◌≡◌, ◌∷◌, ◌+◌, ◌++◌, ◌≤◌, [], Err, List, ℕ, true, false};
-ghost use Rattle.std.specs.Prelude.{OnOk, IfErr, IfOk};
+ghost use Rattle.std.specs.Prelude.{◌≡◌, ◌∷◌, [], Err, List, ℕ, true, false};
+ghost use Rattle.std.specs.Prelude.{OnOk, IfErr, IfOk, IfSome};
 ghost use Rattle.std.specs.Option.{option_to_list};
-ghost use Rattle.arrayvec.specs.ArrayVec.{array_vec_len};
 ghost use Rattle.book_model.specs.Books.{CarriesOn};
 ghost use Rattle.run_model.specs.declared.commands.Step.TheVariants as step;
 ghost use Rattle.run_model.specs.declared.faults.Trouble.TheVariants.{Refused};
 ghost use Rattle.run_model.specs.declared.refusals.Refusal.TheVariants.{Broken};
 ghost use Rattle.console_lines.specs.Asked.{asked_of};
-ghost use Rattle.console_lines.specs.Replies.{reply_lines};
-ghost use Rattle.console_lines.specs.Script.{closing, scope_reply};
-ghost use Rattle.console_lines.specs.declared.gathers.TheConstants.{LONGEST_REPLY};
+ghost use Rattle.console_lines.specs.Script.{closing};
 ghost use Rattle.console_lines.specs.Strict.{ends_in_return, stray_among, stray_at};
+ghost use Rattle.run_console.specs.Looks.{IsAsked};
 ghost use Rattle.run_console.specs.Progress.{Closes, Cut, EndStops, Lasts};
 ghost use Rattle.run_console.specs.Progress.{LineRuns, LineStops, Ran};
 ghost use Rattle.run_console.specs.Rows.{Tries};
@@ -21,10 +19,10 @@ ghost use Rattle.run_console.specs.SessionLines.{IsSaving, is_tally};
 use crate::answers::{reply_to, step_reply};
 use crate::tallies::gather_tally;
 use crate::writings::{gather_reply, stop};
-use console_lines::{Asked, Reply, RunFault, Stray, gather_scope, read_line};
+use console_lines::{Asked, Reply, RunFault, Stray, gather_scope, read_line, scope_word};
 use run_book::Book;
 use run_disk::RunDisk;
-use run_model::{Name, Refusal, Step, Trouble};
+use run_model::{Refusal, Step, Trouble};
 use run_state::{LookView, State};
 use state_views::{Gathered, make_room, write_gathered};
 use std::alloc::Allocator;
@@ -113,15 +111,17 @@ pub fn gather_line<A: Allocator + Copy, W: Write, D: RunDisk, B: Allocator>(
     ensures saved { IsSaving (asked_of bytes.now)
         → OnOk result (book.new.durable ≡ book.new.session.state.count) }
 {
+    if let Some(LookView { done, deadline }) = look_asked(bytes, book.state()) {
+        make_room(gathered, output)?;
+        gather_scope(done, deadline, gathered);
+        return Ok(None);
+    }
     let asked = read_line(bytes);
     if is_tally(&asked) {
         gather_tally(alloc, book.state(), gathered, output)?;
         return Ok(None);
     }
     make_room(gathered, output)?;
-    if let Asked::Scope(name) = &asked {
-        return Ok(gather_look(name, book.state(), gathered));
-    }
     match reply_to(&asked, book) {
         Ok(reply) => {
             let why = Stray::by(stray_of(&reply), bytes);
@@ -132,31 +132,13 @@ pub fn gather_line<A: Allocator + Copy, W: Write, D: RunDisk, B: Allocator>(
     }
 }
 
-/// Gathers how the scope of this name is. Its cause is lent by the state, since this is what is
-/// asked most often. It returns why the line strays, if it does.
-fn gather_look<B: Allocator>(
-    name: &Name,
-    state: &State<B>,
-    gathered: &mut Gathered,
-) -> Option<Stray>
-    requires { array_vec_len gathered.old + LONGEST_REPLY ≤ 8192 }
-    ensures told { gathered.new.items
-        ≡ gathered.old.items ++ reply_lines (scope_reply state.now name.now ∷ []) }
-    ensures strays { result ≡ stray_among (scope_reply state.now name.now ∷ []) }
+/// How the scope is of which a line asks this, lent by the state, if there is one: this is what is
+/// asked most often, so neither the name nor the cause is copied.
+fn look_asked<'a, B: Allocator>(line: &[u8], state: &'a State<B>) -> Option<LookView<'a>>
+    ensures { IfSome result (λ view. IsAsked state.now line.now view) }
 {
-    match state
-        .find_scope(name)
-        .and_then(|scope| state.look_view(scope))
-    {
-        Some(LookView { done, deadline }) => {
-            gather_scope(done, deadline, gathered);
-            None
-        }
-        None => {
-            Reply::Refused(Refusal::NoSuchScope).gather(gathered);
-            Some(Stray::Refused(Refusal::NoSuchScope))
-        }
-    }
+    let scope = state.find_bytes(scope_word(line)?)?;
+    state.look_view(scope)
 }
 
 /// Why a line of this reply strays, if it does.

@@ -21,7 +21,7 @@ use Rattle.state_views.proofs.Told.{told_more}
 use Rattle.run_console.proofs.LineSteps.{line_obeyed, line_replies, line_strays, line_tally}
 use Rattle.run_console.proofs.LineSteps.{saves_no_tally, scope_strays, tally_asked, tally_leaves}
 use Rattle.run_console.proofs.LineSteps.{tally_stays}
-use Rattle.run_console.proofs.Looks.{looks}
+use Rattle.run_console.proofs.Looks.{asked_reply, looks, view_line}
 use Rattle.run_console.proofs.Lines.{cut_before, cut_untold, ran_line}
 use Rattle.book_model.specs.Steps.{StepsOn, reply_of_save}
 use Rattle.run_console.specs.Rows.{TakesAll, steps_asked}
@@ -51,7 +51,8 @@ returns-then-is_tally-clause-ran g c = λ line e.
     (g.W.Write.contents c.args.output.now) (g.W.Write.contents c.gather_tally.new.output) in
     ran_line (tally_leaves s line a read tally)
     (takes_tally g.D.RunDisk.state line (tally_asked line a read tally)) (stays_same s.state)
-    (subst P (tallied s c.state.result.now line a c.state.ensures.state read tally)
+    (subst P (tallied s c.state-then-is_tally.result.now line a
+    c.state-then-is_tally.ensures.state read tally)
     c.in_ok-gather_tally.ensures.told)
 
 pub returns-then-is_tally-clause-strays : goal.returns-then-is_tally-clause-strays
@@ -61,7 +62,8 @@ returns-then-is_tally-clause-strays g c = λ line e ends.
 
 pub returns-in_err-gather_tally-clause-cut : goal.returns-in_err-gather_tally-clause-cut
 returns-in_err-gather_tally-clause-cut g c = λ line e.
-    let p = err_from_is_err_and c.from_residual.result c.from_residual.ensures.1 in
+    let p = err_from_is_err_and c.from_residual-in_err-gather_tally.result
+    c.from_residual-in_err-gather_tally.ensures.1 in
     let s = c.args.book.now.session in
     let a = c.read_line-asked.result in
     let why = c.in_err-gather_tally.field-0.0 in
@@ -72,7 +74,8 @@ returns-in_err-gather_tally-clause-cut g c = λ line e.
     (g.W.Write.contents c.gather_tally.new.output) in
     rw (p.1, p.2) (
     cut_untold why (tally_asked line a read tally) (tally_leaves s line a read tally)
-    (subst P (tallied s c.state.result.now line a c.state.ensures.state read tally)
+    (subst P (tallied s c.state-then-is_tally.result.now line a
+    c.state-then-is_tally.ensures.state read tally)
     c.in_err-gather_tally.ensures.untold))
 
 pub returns-then-is_tally-clause-saved : goal.returns-then-is_tally-clause-saved
@@ -84,8 +87,8 @@ returns-then-is_tally-clause-saved g c = λ saving.
 
 pub returns-in_err-make_room-clause-cut : goal.returns-in_err-make_room-clause-cut
 returns-in_err-make_room-clause-cut g c = λ line e.
-    let p = err_from_is_err_and c.from_residual-in_err-make_room.result
-    c.from_residual-in_err-make_room.ensures.1 in
+    let p = err_from_is_err_and c.from_residual.result
+    c.from_residual.ensures.1 in
     rw (p.1, p.2, c.in_err-make_room.ensures.fault) (
     cut_before refl (record {
       middle = c.args.book.now;
@@ -93,45 +96,50 @@ returns-in_err-make_room-clause-cut g c = λ line e.
       tried = inl refl;
     }) c.in_err-make_room.ensures.cut)
 
+pub returns-in_err-make_room-2-clause-cut : goal.returns-in_err-make_room-2-clause-cut
+returns-in_err-make_room-2-clause-cut g c = λ line e.
+    let p = err_from_is_err_and c.from_residual-in_err-make_room-2.result
+    c.from_residual-in_err-make_room-2.ensures.1 in
+    rw (p.1, p.2, c.in_err-make_room-2.ensures.fault) (
+    cut_before refl (record {
+      middle = c.args.book.now;
+      taken = takes_none g.D.RunDisk.state;
+      tried = inl refl;
+    }) c.in_err-make_room-2.ensures.cut)
+
 -- ---- a look
 
-pub gather_look-requires : goal.gather_look-requires
-gather_look-requires g c = omega (arith, c.in_ok-make_room.ensures.room)
-
-pub returns-in-Scope-clause-ran : goal.returns-in-Scope-clause-ran
-returns-in-Scope-clause-ran g c = λ line e.
+pub returns-in-Some-clause-ran : goal.returns-in-Some-clause-ran
+returns-in-Some-clause-ran g c = λ line e.
     let b = c.args.book.now in
     let m = c.make_room.new.gathered.items in
-    let a = asked.Scope c.in-Scope.name in
-    let p = c.state-in-Scope.result.now in
-    let said = scope_reply p c.in-Scope.name ∷ [] in
-    let read : a ≡ asked_of line = sym c.in-Scope.is ∙ c.read_line-asked.ensures ∙ sym e in
-    let does = looks g.D.RunDisk.state b p c.in-Scope.name c.requires.sound
-    c.state-in-Scope.ensures.state in
+    let p = c.state.result.now in
+    let it = c.in-Some.ensures in
+    let a = asked.Scope it.name in
+    let said = scope_reply p it.name ∷ [] in
+    let read : a ≡ asked_of line = sym it.asks ∙ sym e in
+    let does = looks g.D.RunDisk.state b p it.name c.requires.sound c.state.ensures.state in
     ran_line (line_obeyed b.session b.session line a read refl)
     (subst (λ (q : Asked). TakesAll g.D.RunDisk.state b (steps_asked q) b) read does.taken)
     does.lasts
     (told_more (reply b.session line) c.args.gathered.now.items m
-    c.gather_look.new.gathered.items (g.W.Write.contents c.args.output.now)
+    c.gather_scope.new.out.items (g.W.Write.contents c.args.output.now)
     (g.W.Write.contents c.make_room.new.output) c.in_ok-make_room.ensures.told
-    (c.gather_look.ensures.told
+    (c.gather_scope.ensures.items
+    ∙ ap (λ t. m ++ t) (view_line p c.args.bytes.now c.in-Some.field-0 it)
     ∙ ap (λ t. m ++ t) (line_replies b.session line a said read does.replied)))
 
-pub returns-in-Scope-clause-strays : goal.returns-in-Scope-clause-strays
-returns-in-Scope-clause-strays g c = λ line e ends.
+pub returns-in-Some-clause-strays : goal.returns-in-Some-clause-strays
+returns-in-Some-clause-strays g c = λ line e ends.
     let b = c.args.book.now in
-    let p = c.state-in-Scope.result.now in
-    let said = scope_reply p c.in-Scope.name ∷ [] in
-    let does = looks g.D.RunDisk.state b p c.in-Scope.name c.requires.sound
-    c.state-in-Scope.ensures.state in
-    c.gather_look.ensures.strays
-    ∙ sym (scope_strays p c.in-Scope.name line)
-    ∙ line_strays b.session line line (asked.Scope c.in-Scope.name) said (stray_among said)
-    (sym c.in-Scope.is ∙ c.read_line-asked.ensures ∙ sym e) does.replied refl refl
-
-pub returns-in-Scope-clause-saved : goal.returns-in-Scope-clause-saved
-returns-in-Scope-clause-saved g c = λ saving.
-    absurd (subst IsSaving (sym c.read_line-asked.ensures ∙ c.in-Scope.is) saving)
+    let p = c.state.result.now in
+    let it = c.in-Some.ensures in
+    let said = scope_reply p it.name ∷ [] in
+    let does = looks g.D.RunDisk.state b p it.name c.requires.sound c.state.ensures.state in
+    sym (ap (λ r. stray_among (r ∷ [])) (asked_reply p c.args.bytes.now c.in-Some.field-0 it))
+    ∙ sym (scope_strays p it.name line)
+    ∙ line_strays b.session line line (asked.Scope it.name) said (stray_among said)
+    (sym it.asks ∙ sym e) does.replied refl refl
 
 -- ---- a trouble
 
@@ -142,18 +150,18 @@ returns-in-Err-clause-cut g c = λ line e.
     cut_stopped c.in-Err.trouble (subst IsSaving read fails.saving) fails.kept
     (subst (λ (a : Asked). StepsOn g.D.RunDisk.state c.args.book.now (steps_asked a)
     (reply_of_save (Err c.in-Err.trouble) ∷ []) c.reply_to.new.book) read fails.tried)
-    c.in_ok-make_room.ensures.told c.stop.ensures
+    c.in_ok-make_room-2.ensures.told c.stop.ensures
 
 -- ---- a reply
 
 pub gather_reply-requires : goal.gather_reply-requires
-gather_reply-requires g c = omega (arith, c.in_ok-make_room.ensures.room)
+gather_reply-requires g c = omega (arith, c.in_ok-make_room-2.ensures.room)
 
 pub returns-in-Ok-clause-ran : goal.returns-in-Ok-clause-ran
 returns-in-Ok-clause-ran g c = λ line e.
     let b = c.args.book.now in
     let d = c.reply_to.new.book in
-    let m = c.make_room.new.gathered.items in
+    let m = c.make_room-2.new.gathered.items in
     let a = c.read_line-asked.result in
     let does = c.in-Ok.ensures.does in
     let read = c.read_line-asked.ensures ∙ sym e in
@@ -162,7 +170,7 @@ returns-in-Ok-clause-ran g c = λ line e.
     does.lasts
     (told_more (reply b.session line) c.args.gathered.now.items m
     c.gather_reply.new.gathered.items (g.W.Write.contents c.args.output.now)
-    (g.W.Write.contents c.make_room.new.output) c.in_ok-make_room.ensures.told
+    (g.W.Write.contents c.make_room-2.new.output) c.in_ok-make_room-2.ensures.told
     (c.gather_reply.ensures
     ∙ ap (λ t. m ++ t)
     (line_replies b.session line a (option_to_list c.in-Ok.reply) read does.replied)))
