@@ -86,6 +86,7 @@ fn write_large<E: RunDisk, A: Allocator>(
     ensures failed { OnErr result (HasFailedWrite state.now (E.state new.old) (E.state new.new)) }
     ensures fault { IfErr result (λ fault. fault ≡ why.New DiskFailed) }
 {
+    // that the image fits into the buffer
     let _room = state.image_room();
     let count = fill(state, body);
     match Journal::format(new, &mut body[..HEAD + count]) {
