@@ -3,7 +3,7 @@ use Rattle.std.proofs.Common.{◌≡◌, ◌≤◌, ◌<◌, ℕ, ◌+◌, ◌-�
 use Rattle.std.proofs.Common.{◌++◌, length, drop, Some, None, refl, sym, ap, ◌∙◌, arith}
 use Rattle.std.proofs.Common.{append_assoc, length-append, length-drop, subst}
 use Rattle.std.specs.List.{flat_map, AllByRecursion}
-use Rattle.std.specs.Prelude.{IsTrue, ◌==◌, Option, Result, Ok, Err, IfErr}
+use Rattle.std.specs.Prelude.{IsTrue, ◌==◌, Result, Ok, Err, IfErr}
 use Rattle.std.proofs.lemmas.Bool.{lt-ltb, le-leb}
 use Rattle.std.proofs.lemmas.Option.{none-some, slice_get_within}
 use Rattle.run_model.specs.declared.bounds.TheConstants.{MOST_GROUPS, GREATEST_MOMENT}
@@ -13,7 +13,6 @@ use Rattle.run_model.specs.Rows.{root}
 use Rattle.run_model.specs.Rules.{IsConsistent}
 use Rattle.run_model.specs.State.{State, TreeState, WorkState, new_work}
 use Rattle.record_view.specs.declared.heads.ImageHead.{ImageHead}
-use Rattle.record_view.specs.declared.heads.ImageVersion.{ImageVersion}
 use Rattle.record_view.specs.declared.heads.ImageVersion.TheVariants.{Two}
 use Rattle.record_view.specs.Between.{fits_between}
 use Rattle.record_view.specs.Image.{group_bytes, head_bytes, head_of, image, is_kept_group}
@@ -35,11 +34,6 @@ use Rattle.record_view.proofs.WorkReads.{nothing_read, work_again}
 pub if_err : {T E : Type 0} (r : Result T E) (P : Type 0) → P → IfErr r (λ _. P)
 if_err (Ok x) P p = tt
 if_err (Err e) P p = p
-
--- Whatever begins with this head, and goes on by these bytes, is read as this.
-abbrev pub Reads : Layout → ImageHead → List ℕ → Option (ImageVersion × State) → Type 0
-Reads layout head rest read = (image : List ℕ) → head_at layout image ≡ Some (head, rest)
-    → image_at layout image ≡ read
 
 -- Where nothing is read, the bytes are the image of no state.
 pub no_image : (layout : Layout) (bytes : List ℕ) → image_at layout bytes ≡ None → (p : State)

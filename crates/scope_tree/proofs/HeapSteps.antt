@@ -40,16 +40,6 @@ module _ (k k' : ℕ → ℕ) (len i p : ℕ) (above : IsParent p i) (swapped : 
         ];
   }
 
-pub up_end : (k : ℕ → ℕ) (len i p : ℕ) → IsParent p i → k p ≤ k i → UpTo k len i → IsHeap k len
-up_end k len i p above le h q j pair lt = elim (cases_eq j i) [
-  | inl e ↦ (let same : q ≡ p = omega arith in let a : k q ≡ k p = ap k same in let b : k j ≡ k i =
-      ap k e in omega arith)
-  | inr ne ↦ h.rest q j pair lt ne
-]
-
-pub up_top : (k : ℕ → ℕ) (len : ℕ) → UpTo k len 0 → IsHeap k len
-up_top k len h q j pair lt = h.rest q j pair lt (λ e. omega arith)
-
 module _ (k k' : ℕ → ℕ) (len i c : ℕ) (below : IsParent i c) (swapped : Swapped k k' i c) where
   pub down_step : c < len → k c < k i → ((j : ℕ) → IsParent i j → j < len → k c ≤ k j)
       → DownFrom k len i → DownFrom k' len c
@@ -76,14 +66,6 @@ module _ (k k' : ℕ → ℕ) (len i c : ℕ) (below : IsParent i c) (swapped : 
         let b : k' j ≡ k j = swapped.other j (λ f. omega arith) (λ f. omega arith) in
         let d : k c ≤ k j = h.rest c j pair lt (λ f. omega arith) in omega arith;
   }
-
-pub down_end : (k : ℕ → ℕ) (len i : ℕ) → ((j : ℕ) → IsParent i j → j < len → k i ≤ k j)
-    → DownFrom k len i → IsHeap k len
-down_end k len i least h q j pair lt = elim (cases_eq q i) [
-  | inl e ↦ (let a : k q ≡ k i = ap k e in let b : k i ≤ k j =
-      least j (subst (λ (n : ℕ). IsParent n j) e pair) lt in omega arith)
-  | inr ne ↦ h.rest q j pair lt ne
-]
 
 -- The first entry has the least key.
 pub heap_least : (k : ℕ → ℕ) (len most j : ℕ) → j < most → IsHeap k len → j < len → k 0 ≤ k j

@@ -13,11 +13,8 @@ use Rattle.run_model.specs.declared.scopes.Scope.{Scope}
 use Rattle.run_model.specs.declared.bounds.TheConstants.{MOST_SCOPES}
 use Rattle.scope_tree.specs.Deadlines.{key, key_at, IsParent, IsHeap, UpTo, DownFrom, Among}
 use Rattle.scope_tree.specs.Deadlines.{SameNumbers, AreKnown, IsLesser, IsDueHeap, TakesFirst}
-use Rattle.scope_tree.proofs.HeapSteps.{Swapped, up_step, up_end, up_top, down_step, down_end}
+use Rattle.scope_tree.proofs.HeapSteps.{Swapped, up_step, down_step}
 use Rattle.scope_tree.proofs.HeapSteps.{heap_least}
-
-pub same_refl : (xs : List ℕ) → SameNumbers xs xs
-same_refl xs = record { size = refl; there = λ n h. h; back = λ n h. h }
 
 pub same_trans : (xs ys zs : List ℕ) → SameNumbers xs ys → SameNumbers ys zs → SameNumbers xs zs
 same_trans xs ys zs h k = record {
@@ -107,15 +104,6 @@ rises rows old new next i p h above less is =
           }) h.inside less h.up);
     }
 
-pub risen : (rows : List Scope) (old new : List ℕ) (i p : ℕ) → Rising rows old new i → IsParent p i
-    → key_at rows new p ≤ key_at rows new i → IsHeap (key_at rows new) (length new)
-risen rows old new i p h above le = up_end (key_at rows new) (length new) i p above le h.up
-
-pub risen_top : (rows : List Scope) (old new : List ℕ) (i : ℕ) → Rising rows old new i → i ≡ 0
-    → IsHeap (key_at rows new) (length new)
-risen_top rows old new i h e = up_top (key_at rows new) (length new)
-    (subst (UpTo (key_at rows new) (length new)) e h.up)
-
 -- An entry that sinks to its place.
 pub record Sinking (rows : List Scope) (old new : List ℕ) (i : ℕ) : Type 0 where
   pub inside : i < length new
@@ -151,15 +139,6 @@ module _ (rows : List Scope) (old new : List ℕ) (i c : ℕ) (h : Sinking rows 
               (λ j below lt. (lesser.least j below lt).1) h.down);
         })
   ]
-
-  pub sunk_last : c ≡ i → IsHeap (key_at rows new) (length new)
-  sunk_last e = down_end (key_at rows new) (length new) i
-      (λ j below lt. (let two = lesser.least j below lt in let pair : IsParent i c = two.0 in
-      absurd (omega (arith, pair.0, e)))) h.down
-
-  pub sunk : key_at rows new i ≤ key_at rows new c → IsHeap (key_at rows new) (length new)
-  sunk le = down_end (key_at rows new) (length new) i (λ j below lt. (let two =
-      lesser.least j below lt in omega (arith, le, two.1))) h.down
 
 -- ---- the ends of the list
 

@@ -18,8 +18,6 @@ use Rattle.run_model.specs.TreeChanges.{with_hit, hit_due, tick, new_hit}
 use Rattle.run_model.proofs.RowLemmas.{at_row_cases, push_cases, map_cases}
 use Rattle.run_model.proofs.RowLemmas.{slice_get-at_row_other, slice_get-push_left}
 use Rattle.run_model.specs.declared.scopes.Reason.TheVariants.{Canceled, DeadlineExceeded}
-use Rattle.model_laws.proofs.Follows.{ticked}
-use Rattle.model_laws.proofs.WellFormed.{ordered_follow}
 use Rattle.scope_tree.specs.Checks.{is_derived_kind}
 use Rattle.scope_tree.specs.Sound.{AreRooted, IsPastHit, ArePastHits}
 
@@ -33,11 +31,6 @@ ordered_hit hit s rows ordered n row found below_root =
       | inr it ↦ subst (λ r. r.parent < n) (sym it.changed)
           (ordered n it.old it.found (ap (λ r. is_root r.kind) (sym it.changed) ∙ below_root))
     ]
-
-pub ordered_ticked : (e now : ℕ) (rows : List Scope) → AreOrdered rows
-    → AreOrdered (map (tick e now) rows)
-ordered_ticked e now rows ordered =
-    ordered_follow e now rows (map (tick e now) rows) (ticked e now rows) ordered
 
 -- ---- root
 

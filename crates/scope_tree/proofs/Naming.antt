@@ -9,7 +9,7 @@ use Rattle.std.specs.Str.{bytes_eq}
 use Rattle.std.proofs.lemmas.Bool.{cases_lt, cases_eq, lt-ltb, le-ltb}
 use Rattle.std.proofs.lemmas.List.{length-map, map-append}
 use Rattle.std.proofs.lemmas.List.Sums.{position_or_len_is}
-use Rattle.std.proofs.lemmas.Option.{none-some, same_Some, slice_get_within, slice_get-get_or}
+use Rattle.std.proofs.lemmas.Option.{same_Some, slice_get_within, slice_get-get_or}
 use Rattle.std.proofs.lemmas.Option.{slice_get-map, get_or_from_slice_get}
 use Rattle.std.proofs.lemmas.Slice.Eq.{bytes_eq-Decides}
 use Rattle.run_model.specs.declared.scopes.Scope.{Scope}
@@ -253,19 +253,4 @@ found_pushed rows rows' room room' row names links names' links' were free rows_
           ∙ sym (map-append link_of rows (row ∷ []));
       name_room = ap (λ (p : Places). p.room) names_are ∙ were.name_room;
       link_room = ap (λ (p : Places). p.room) links_are ∙ were.link_room;
-    })
-
--- No row.
-pub found_none : (rows : List Scope) (room : ℕ) (names links : Places) → rows ≡ []
-    → names ≡ record { room = room; keys = [] } → links ≡ record { room = room; keys = [] }
-    → AreFound rows room names links
-found_none rows room names links rows_are names_are links_are = rw (rows_are, names_are, links_are)
-    (record {
-      named = record {
-        distinct = λ s t a b found_a found_b same. absurd (none-some a found_a);
-        homes = refl;
-      };
-      linked = refl;
-      name_room = refl;
-      link_room = refl;
     })

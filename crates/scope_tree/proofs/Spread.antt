@@ -243,9 +243,6 @@ walk_starts links marks work s at first last here = record {
 module _ (links : List (Option ℕ)) (marks marks' : List (Option ℕ)) (work work' : List ℕ)
     (s at c : ℕ) (next : Option ℕ) (linked : (key : ℕ) → slice_get links c ≡ Some (Some key)
     → IsLast links key c next) (walk : Walk links marks marks' work work' s at (Some c)) where
-  pub at_child : (c < walk.k) × (slice_get links c ≡ Some (Some s))
-  at_child = (walk.last.0, walk.last.1)
-
   gap : (t : ℕ) → c < t → t < walk.k → Child links t s → ⊥
   gap t lt below child = walk.last.2 t lt below child
 
@@ -289,12 +286,6 @@ walk_ends links marks marks' work work' s at walk before was h =
     step_end links before marks' at work' s walk.k (walk.spread before was h)
     (λ t lt child. walk.last t lt child)
 
--- The links go down.
-pub left_less : (links : List (Option ℕ)) (p c : ℕ) (o : Option ℕ) → IsLast links p c o
-    → left o < c + 1
-left_less links p c None h = omega arith
-left_less links p c (Some n) h = let lt : n < c = h.0 in omega arith
-
 -- ---- the work list
 
 -- What holds between two turns.
@@ -302,49 +293,6 @@ pub record Turns (links : List (Option ℕ)) (marks marks' : List (Option ℕ)) 
     (at : ℕ) : Type 0 where
   pub spread : Spreading links marks marks' at work 0 0
   pub room : length work + unmarked marks' ≤ unmarked marks
-
-pub turns_start : (links : List (Option ℕ)) (marks : List (Option ℕ)) (at : ℕ)
-    → length marks ≡ length links → at < length links → mark_of marks at ≡ None
-    → Turns links marks (set marks at (Some at)) (at ∷ []) at
-turns_start links marks at same within free = record {
-  spread = record {
-    same = length-set marks at (Some at);
-    here = some_is _ at here;
-    kept = λ t n was. get_or-set_other marks at t (Some at) None
-        (λ e. no_some n (mark_of marks at) free (subst (λ (m : ℕ). mark_of marks m ≡ Some n) e
-        was)) ∙ was;
-    fresh = λ t was. elim (cases_eq t at) [
-      | inl e ↦ inr (subst
-          (λ (n : ℕ). mark_of (set marks at (Some at)) n ≡ Some at) (sym e) here)
-      | inr ne ↦ inl
-          (get_or-set_other marks at t (Some at) None ne ∙ was)
-    ];
-    below = λ t since. elim (cases_eq t at) [
-      | inl e ↦ inl e
-      | inr ne ↦ no_some at
-          (mark_of marks t) since.was (sym (get_or-set_other marks at t (Some at) None ne)
-          ∙ since.is)
-    ];
-    listed = λ p in-work. elim in-work [
-      | inl e ↦ (
-        omega (arith, e, same, within),
-        subst (λ (n : ℕ). Since marks (set marks at (Some at)) at n) (sym e)
-            (record { was = free; is = here }),
-      )
-      | inr none ↦ absurd none
-    ];
-    down = λ t p child since. elim (cases_eq p at) [
-      | inl e ↦ inr (inl (inl e))
-      | inr ne ↦
-          no_some at (mark_of marks p) since.was
-          (sym (get_or-set_other marks at p (Some at) None ne) ∙ since.is)
-    ];
-  };
-  room = omega (arith, one_less marks at at (omega (arith, same, within)) free);
-}
-  where
-    here : mark_of (set marks at (Some at)) at ≡ Some at
-    here = get_or-set_same marks at (Some at) None (omega (arith, same, within))
 
 module _ (links : List (Option ℕ)) (marks marks' : List (Option ℕ)) (work : List ℕ) (at s : ℕ)
     (turns : Turns links marks marks' (work ++ s ∷ []) at) where
@@ -362,11 +310,6 @@ module _ (links : List (Option ℕ)) (marks marks' : List (Option ℕ)) (work : 
         (λ t p child. slice_get_within links t (Some p) child));
     room = omega (arith, room, turns.room, length-append work (s ∷ []));
   }
-
-  pub less_left : (marks'' : List (Option ℕ)) (work'' : List ℕ)
-      → length work'' + unmarked marks'' ≡ length work + unmarked marks'
-      → length work'' + unmarked marks'' < length (work ++ s ∷ []) + unmarked marks'
-  less_left marks'' work'' room = omega (arith, room, length-append work (s ∷ []))
 
 pub not_some : (o : Option ℕ) (test : Bool) → is_some o ≡ not test → test ≡ true → o ≡ None
 not_some None test is holds = refl

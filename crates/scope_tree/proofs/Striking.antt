@@ -29,17 +29,6 @@ joined_none : (up : Option (ℕ × Hit)) (s : ℕ) (own : Option Hit) → joined
 joined_none up s None is = (is, refl)
 joined_none up s (Some h) is = absurd (none-some _ (sym is))
 
--- A link, from the kind.
-pub link_none : (row : Scope) → link_of row ≡ None
-    → (is_root row.kind ≡ true) ⊎ (is_detached row.kind ≡ true)
-link_none row is = by_kinds (is_root row.kind) (is_detached row.kind) is
-  where
-    by_kinds : (r d : Bool) → cond (r || d) None (Some row.parent) ≡ None
-        → (r ≡ true) ⊎ (d ≡ true)
-    by_kinds true d is = inl refl
-    by_kinds false true is = inr refl
-    by_kinds false false is = absurd (none-some row.parent (sym is))
-
 there : (rows : List Scope) (s : ℕ) → s < length rows
     → (row : Scope) × (slice_get rows s ≡ Some row)
 there [] s known = absurd (omega (arith, known))

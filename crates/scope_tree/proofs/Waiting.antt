@@ -335,16 +335,3 @@ waiting_pushed rows row due due' was noted = record {
         (subst (λ k. own_hit (rows ++ row ∷ []) k ≡ None) last none)))
   ];
 }
-
--- No row, and no deadline.
-pub waiting_none : (rows : List Scope) (due : List ℕ) → rows ≡ [] → due ≡ [] → AreWaiting rows due
-waiting_none rows due rows_are due_are = rw (rows_are, due_are) (record {
-  heap = record {
-    known = λ n among. absurd (omega (arith, among.1));
-    few = omega arith;
-    heap = λ p j pair less. absurd (omega (arith, less));
-  };
-  fits = omega arith;
-  dues = λ n among. absurd (omega (arith, among.1));
-  waits = λ n some none. absurd (false≢true some);
-})

@@ -1,11 +1,11 @@
 -- Flags of the scopes in which groups live, group by group.
-use Rattle.std.proofs.Common.{◌≡◌, ◌⊎◌, ◌<◌, ◌≤◌, ◌+◌, ◌==◌, ◌&&◌, ◌||◌, ℕ, Bool, true, false, not}
+use Rattle.std.proofs.Common.{◌≡◌, ◌⊎◌, ◌<◌, ◌+◌, ◌==◌, ◌&&◌, ◌||◌, ℕ, Bool, true, false, not}
 use Rattle.std.proofs.Common.{List, length, take, Some, slice_get, inl, inr, refl, sym}
 use Rattle.std.proofs.Common.{ap, ◌∙◌, arith}
 use Rattle.std.specs.List.{list_any}
 use Rattle.std.specs.Prelude.{slice_set}
 use Rattle.std.proofs.lemmas.Bool.{cases_eq, eq-eqb, ne_eqb}
-use Rattle.std.proofs.lemmas.List.{get_or-set_same, get_or-set_other, length-set, take_all}
+use Rattle.std.proofs.lemmas.List.{get_or-set_same, get_or-set_other, length-set}
 use Rattle.std.proofs.lemmas.List.Folds.{list_any_more}
 use Rattle.std.proofs.lemmas.Option.{get_or_from_slice_get, slice_get_within}
 use Rattle.run_model.specs.declared.groups.Group.{Group}
@@ -29,10 +29,6 @@ or_false false = refl
 or_true : (b : Bool) → (b || true) ≡ true
 or_true true = refl
 or_true false = refl
-
-pub hosts_first : (groups : List Group) (before : List Bool) → AreHosts groups before 0 before
-hosts_first groups before =
-    record { size = refl; say = λ s. sym (or_false (is_flagged before s)) }
 
 -- One more group passes the test where it does, or one before it did.
 one_more : (groups : List Group) (k s : ℕ) (row : Group) (b : Bool)
@@ -106,10 +102,3 @@ hosts_more groups before k flags row so found is known = record {
         ∙ not_there groups before k s row found
         (other_none row.waited (row.scope == s)
         (ne_eqb row.scope s (λ same. apart (sym same))))
-
-pub hosts_all : (groups : List Group) (before : List Bool) (k : ℕ) (flags : List Bool)
-    → AreHosts groups before k flags → length groups ≤ k → (s : ℕ)
-    → is_flagged flags s ≡ (is_flagged before s || list_any (lives_in s) groups)
-hosts_all groups before k flags so all s =
-    so.say s
-    ∙ ap (λ rows. is_flagged before s || list_any (lives_in s) rows) (take_all k groups all)

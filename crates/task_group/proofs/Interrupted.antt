@@ -75,11 +75,6 @@ to_here zero rows = refl
 to_here (suc n) [] = refl
 to_here (suc n) (row ∷ rows) = to_here n rows
 
-pub to_length : (n : ℕ) (rows : List Task) → length (interrupted_to n rows) ≡ length rows
-to_length zero rows = refl
-to_length (suc n) [] = refl
-to_length (suc n) (row ∷ rows) = ap suc (to_length n rows)
-
 -- One more is interrupted.
 pub to_next : (n : ℕ) (rows : List Task) (t : Task) → slice_get rows n ≡ Some t
     → is_running t.stage ≡ true

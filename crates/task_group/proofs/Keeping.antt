@@ -2,16 +2,14 @@
 use Rattle.std.proofs.Common.{◌≡◌, ◌+◌, ◌-◌, ◌<◌, ◌≤◌, ◌++◌, ◌∷◌, [], ℕ, Bool, true, false, List}
 use Rattle.std.proofs.Common.{length}
 use Rattle.std.proofs.Common.{Option, Some, slice_get, refl, sym, ap, ◌∙◌, arith}
-use Rattle.std.specs.Prelude.{slice_set, replicate}
+use Rattle.std.specs.Prelude.{slice_set}
 use Rattle.std.specs.Option.{IfSome, option_map_or}
 use Rattle.std.proofs.lemmas.Option.{slice_get_within}
 use Rattle.run_model.specs.declared.bounds.TheConstants.{MOST_GROUPS}
 use Rattle.run_model.specs.declared.groups.Group.{Group}
-use Rattle.run_model.specs.declared.layouts.Layout.{Layout}
 use Rattle.run_model.specs.declared.tasks.Stage.TheVariants as stage
 use Rattle.run_model.specs.declared.tasks.Task.{Task}
 use Rattle.run_model.specs.Layouts.{most_tasks}
-use Rattle.run_model.specs.State.{new_work}
 use Rattle.run_model.specs.Tasks.{is_running}
 use Rattle.run_model.specs.WorkChanges.{after_wait}
 use Rattle.task_group.specs.declared.seats.Seats.{Seats}
@@ -25,36 +23,16 @@ use Rattle.run_model.specs.Rows.{at_row}
 use Rattle.task_group.proofs.Words.{End, finished, group_of, limited, made, stage_after, started}
 use Rattle.task_group.proofs.Words.{submitted, has_stage}
 use Rattle.task_group.proofs.Admitting.{end_admits}
-use Rattle.task_group.proofs.Flaggings.{flagged_none, flagged_pushed, flagged_staged, running_less}
+use Rattle.task_group.proofs.Flaggings.{flagged_pushed, flagged_staged, running_less}
 use Rattle.task_group.proofs.Flaggings.{running_more, running_pushed, ended_rests, fresh_rests}
 use Rattle.task_group.proofs.Leaves.{start_kept, end_kept}
 use Rattle.task_group.proofs.Limits.{limit_kept, limit_stays}
 use Rattle.task_group.proofs.Makes.{make_kept, made_stays}
 use Rattle.task_group.proofs.Moves.{go_kept}
-use Rattle.task_group.proofs.Queued.{queued_none, queued_same, queued_go, queued_start, queued_end}
+use Rattle.task_group.proofs.Queued.{queued_same, queued_go, queued_start, queued_end}
 use Rattle.task_group.proofs.Rooms.{its_end, lets_in, row_found}
 use Rattle.task_group.proofs.Starts.{Starts, finish_sound, groups_length}
 use Rattle.task_group.proofs.Waits.{wait_kept, wait_stays}
-
-pub new_keeps : (layout : Layout)
-    → AreKept (new_work layout) [] [] (replicate (most_tasks layout) false) 0 []
-new_keeps layout = record {
-  seated = record {
-    sound = record {
-      few_groups = omega arith;
-      few_tasks = omega arith;
-      grouped = λ n t found. absurd cc;
-      admitted = λ n t found run. absurd cc;
-    };
-    as_groups = refl;
-    as_tasks = refl;
-    right = λ g s found. absurd cc;
-    links = λ g n r held found. absurd cc;
-  };
-  queued = queued_none layout;
-  running = refl;
-  flagged = flagged_none;
-}
 
 pub make_keeps : (w : Work) (row : Group) (seats : List Seats) (next : List (Option ℕ))
     (ready : List Bool) (count : ℕ) (flags : List Bool) → length w.groups < MOST_GROUPS

@@ -2,16 +2,14 @@
 use Rattle.std.proofs.Common.{◌≡◌, ◌≢◌, ◌+◌, ◌<◌, ◌≤◌, ◌∷◌, [], ℕ, Bool, true, false, List}
 use Rattle.std.proofs.Common.{length, Option}
 use Rattle.std.proofs.Common.{Some, None, inl, inr, refl, sym, ap, subst, ◌∙◌, arith}
-use Rattle.std.specs.Prelude.{slice_set, replicate}
+use Rattle.std.specs.Prelude.{slice_set}
 use Rattle.std.proofs.lemmas.Bool.{cases_eq, cases_lt}
 use Rattle.std.proofs.lemmas.List.{get_or-set_same, get_or-set_other}
-use Rattle.std.proofs.lemmas.List.{length-set, length-append, length-replicate}
-use Rattle.std.proofs.lemmas.Option.{slice_get_within, slice_get_past}
-use Rattle.run_model.specs.declared.layouts.Layout.{Layout}
+use Rattle.std.proofs.lemmas.List.{length-set, length-append}
+use Rattle.std.proofs.lemmas.Option.{slice_get_within}
 use Rattle.run_model.specs.declared.tasks.Stage.{Stage}
 use Rattle.run_model.specs.declared.tasks.Task.{Task}
 use Rattle.run_model.specs.Layouts.{most_tasks}
-use Rattle.run_model.specs.State.{new_work}
 use Rattle.task_group.specs.declared.seats.Seats.{Seats}
 use Rattle.task_group.specs.Kept.{IsNext, SeatsOf}
 use Rattle.task_group.specs.Sound.{AreQueued}
@@ -20,9 +18,8 @@ use Rattle.task_group.proofs.Words.{unfinished_in}
 use Rattle.task_group.proofs.Words.{first_ready}
 use Rattle.task_group.specs.Trees.{is_up, with_flag}
 use Rattle.task_group.proofs.Words.{submitted, started, fresh_task}
-use Rattle.task_group.proofs.Admits.{held_is, ready_none}
+use Rattle.task_group.proofs.Admits.{held_is}
 use Rattle.task_group.proofs.Bridges.{ready_same}
-use Rattle.task_group.proofs.Trees.{down_new}
 use Rattle.task_group.proofs.Ends.{Ends, oldest_admitted}
 use Rattle.task_group.proofs.Leaves.{calm_stays, oldest_stays, calm_from, oldest_from}
 use Rattle.task_group.proofs.Moves.{none_past}
@@ -91,17 +88,6 @@ first_is w flags (Some n) q least =
     (omega arith)
 
 -- ---- each change
-
-pub queued_none : (layout : Layout)
-    → AreQueued (new_work layout) (replicate (most_tasks layout) false)
-queued_none layout =
-    queued_by (new_work layout) (replicate (most_tasks layout) false)
-    (length-replicate (most_tasks layout) false)
-    (λ n.
-    down_new (most_tasks layout) n
-    ∙ sym
-    (ready_none (new_work layout) n
-    (slice_get_past (new_work layout).tasks n (omega arith))))
 
 pub queued_go : (w : Work) (g : ℕ) (job argument : List ℕ) (tried : Option ℕ) (flags : List Bool)
     (b : Bool) → length w.tasks < most_tasks w.layout

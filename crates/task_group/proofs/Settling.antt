@@ -40,7 +40,3 @@ passes_end test k rows all = ap (each_passes test k) (drop_all k rows all)
 pub is_new : {X : Type 0} (o : Option X) → is_some o ≡ false → is_none o ≡ true
 is_new None e = refl
 is_new (Some x) e = absurd (cc)
-
-pub is_old : {X : Type 0} (o : Option X) → is_some o ≡ true → is_none o ≡ false
-is_old None e = absurd (cc)
-is_old (Some x) e = refl

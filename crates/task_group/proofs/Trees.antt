@@ -156,18 +156,6 @@ way_goes_on leaves node nodes t w less = by w.levels w.from w.to w.none
     by zero from to none = absurd (omega arith)
     by (suc h) from to none = by_left h from to none (is_up nodes (node + node)) refl
 
-pub way_more : (nodes : List Bool) (node : ℕ) → 1 ≤ node → node < way_down nodes node
-way_more nodes node low = by (is_up nodes (node + node))
-  where
-    by : (b : Bool) → node < cond b (node + node) (node + node + 1)
-    by true = omega arith
-    by false = omega arith
-
-pub way_within : (leaves node : ℕ) (nodes : List Bool) → IsOnWay leaves node nodes
-    → node < leaves + leaves
-way_within leaves node nodes w =
-    (let more = last_more w.levels node in let to = w.to in omega arith)
-
 -- The way ends at the least leaf.
 pub way_ends : (leaves node : ℕ) (nodes : List Bool) → IsOnWay leaves node nodes → leaves ≤ node
     → (n : ℕ) → leaves + n ≡ node → IsNext (is_up (drop leaves nodes)) 0 (Some n)
@@ -260,18 +248,6 @@ one_up leaves node p nodes b t low high above e = record {
 
     not_right : (k : ℕ) → k ≢ p → k + k + 1 ≢ node
     not_right k apart q = elim above [ inl l ↦ absurd (omega arith) | inr r ↦ apart (omega arith) ]
-
-pub all_mended : (leaves node : ℕ) (old nodes : List Bool) → IsTree leaves old
-    → IsTreeBut leaves node nodes → node ≤ 1 → IsTree leaves nodes
-all_mended leaves node old nodes t but top = record {
-  few = t.few;
-  size = but.size;
-  levels = t.levels;
-  even = t.even;
-  right =
-      λ k low high. but.right k low high (λ e. omega (arith, e, low, top))
-      (λ e. omega (arith, e, low, top));
-}
 
 -- The number above a node is half of its own.
 pub halved : (n : ℕ) → (n / 2 + n / 2 ≡ n) ⊎ (n / 2 + n / 2 + 1 ≡ n)
