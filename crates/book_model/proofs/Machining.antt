@@ -1,18 +1,15 @@
 -- A book over a disk makes the moves of the machine that it is.
-use Rattle.std.proofs.Common.{◌≡◌, ◌∷◌, [], ℕ, Bool, true, false, List}
-use Rattle.std.proofs.Common.{length, Option, Some, None, Ok, if◌then◌else◌, inl, inr}
-use Rattle.std.proofs.Common.{refl, sym, ap, subst, ◌∙◌, arith}
-use Rattle.std.specs.Prelude.{unwrap_or}
+use Rattle.run_model.proofs.Common.{◌≡◌, ◌∷◌, [], ℕ, Bool, true, false, List, length, Option, Some}
+use Rattle.run_model.proofs.Common.{None, Ok, if◌then◌else◌, inl, inr, refl, sym, ap, subst, ◌∙◌}
+use Rattle.run_model.proofs.Common.{arith, unwrap_or, IsFront, run, Session, State}
 use Rattle.run_model.specs.declared.answers.Reply.{Reply}
 use Rattle.run_model.specs.declared.commands.Step.{Step}
-use Rattle.run_model.specs.Allowed.{IsFront, run}
-use Rattle.run_model.specs.Session.{Session, is_ack}
-use Rattle.run_model.specs.State.{State}
+use Rattle.run_model.specs.Session.{is_ack}
 use Rattle.run_disk.specs.Disk.{DiskState, IsAtRest, IsDisk}
 use Rattle.model_laws.proofs.RunLemmas.{run_counts}
 use Rattle.book_model.specs.Books.{BookView, CarriesOn, IsOpened, IsReached, acked}
-use Rattle.book_model.specs.Machines.{Goes, Machine, Move, Open, OpenInVain, Running}
-use Rattle.book_model.specs.Machines.{Runs, Stop, Stored, Take, TakesAll, opened_at, took}
+use Rattle.book_model.specs.Machines.{Goes, Machine, Move, Open, OpenInVain, Running, Runs, Stop}
+use Rattle.book_model.specs.Machines.{Stored, Take, TakesAll, opened_at, took}
 use Rattle.book_model.specs.Openings.{Opens}
 use Rattle.book_model.specs.Plays.{IsReply, IsReplyWhere, Playing, acked_of, behind}
 use Rattle.book_model.specs.Standing.{Closed, CutsOpening, CutsSteps, Does, DoesAll, GoesAs}

@@ -1,23 +1,17 @@
 -- Many nights of the machine: what they lead to.
-use Rattle.std.proofs.Common.{◌≡◌, ◌+◌, ◌-◌, ◌≤◌, ◌++◌, ◌∷◌, [], ℕ, Bool, true, false}
-use Rattle.std.proofs.Common.{List, length, take, drop, map, Option, Some, None, if◌then◌else◌}
-use Rattle.std.proofs.Common.{refl, sym, ap, subst, ◌∙◌, arith, append_assoc}
-use Rattle.std.proofs.Common.{length-append}
-use Rattle.std.specs.Prelude.{unwrap_or}
-use Rattle.std.specs.List.{flat_map}
-use Rattle.std.proofs.lemmas.List.{take-append-drop}
+use Rattle.run_model.proofs.Common.{◌≡◌, ◌+◌, ◌-◌, ◌≤◌, ◌++◌, ◌∷◌, [], ℕ, Bool, true, false, List}
+use Rattle.run_model.proofs.Common.{length, take, drop, map, Option, Some, None, if◌then◌else◌}
+use Rattle.run_model.proofs.Common.{refl, sym, ap, subst, ◌∙◌, arith, append_assoc, length-append}
+use Rattle.run_model.proofs.Common.{unwrap_or, flat_map, take-append-drop, run, Event, Session}
+use Rattle.run_model.proofs.Common.{accepted, acknowledged, event_of_step, session_after}
+use Rattle.run_model.proofs.Common.{with_event, State}
 use Rattle.run_model.specs.declared.answers.Reply.{Reply}
 use Rattle.run_model.specs.declared.commands.Step.{Step}
-use Rattle.run_model.specs.Allowed.{run}
-use Rattle.run_model.specs.Event.{Event}
-use Rattle.run_model.specs.Session.{Session, accepted, acknowledged, event_of_step, is_ack}
-use Rattle.run_model.specs.Session.{session_after, with_event}
-use Rattle.run_model.specs.State.{State}
+use Rattle.run_model.specs.Session.{is_ack}
 use Rattle.run_disk.specs.Disk.{DiskState, IsDisk}
 use Rattle.model_laws.proofs.Stepping.{accepted_history, accepted_start}
-use Rattle.book_model.specs.Machines.{GoesOn, Machine, Move, Running}
-use Rattle.book_model.specs.Machines.{Runs, Stop, StopsAt, Stored, Take, TakesAll, opened_at}
-use Rattle.book_model.specs.Machines.{took}
+use Rattle.book_model.specs.Machines.{GoesOn, Machine, Move, Running, Runs, Stop, StopsAt, Stored}
+use Rattle.book_model.specs.Machines.{Take, TakesAll, opened_at, took}
 use Rattle.book_model.specs.ManyNights.{LeadOver, Leads, LeadsOver, Night, InVain, Spent}
 use Rattle.book_model.specs.ManyNights.{StoresBehindNights, answers_of, moves_of, steps_of}
 use Rattle.book_model.specs.Nights.{opened_from}

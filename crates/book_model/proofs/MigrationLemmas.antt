@@ -1,10 +1,8 @@
 -- What migrations answer and leave, fault by fault.
-use Rattle.std.proofs.Common.{◌≡◌, ◌⊎◌, inl, inr, ◌<◌, ◌^◌, Ok, Err, refl, sym, ap}
-use Rattle.std.proofs.Common.{subst, arith}
-use Rattle.std.specs.Prelude.{MatchResult, Result}
+use Rattle.run_model.proofs.Common.{◌≡◌, ◌⊎◌, inl, inr, ◌<◌, ◌^◌, Ok, Err, refl, sym, ap, subst}
+use Rattle.run_model.proofs.Common.{arith, MatchResult, Result, State}
 use Rattle.run_model.specs.declared.faults.Fault.{Fault}
 use Rattle.run_model.specs.declared.faults.Fault.TheVariants as fault
-use Rattle.run_model.specs.State.{State}
 use Rattle.run_disk.specs.Disk.{DiskState, IsDisk}
 use Rattle.run_disk.specs.Runs.{OnlyReads}
 use Rattle.run_disk.proofs.RunLemmas.{reads_leave_only, reads_none}

@@ -1,8 +1,10 @@
 -- No session answers a step as Broken: that is a fact of the book.
-use Rattle.std.proofs.Common.{◌≡◌, ℕ, Bool, true, false, ◌||◌, if◌then◌else◌, List, [], ◌∷◌}
-use Rattle.std.proofs.Common.{Option, Some, None, Result, Ok, Err, refl}
-use Rattle.std.specs.List.{list_any}
-use Rattle.std.specs.Option.{ok_or, option_and_then}
+use Rattle.run_model.proofs.Common.{◌≡◌, ℕ, Bool, true, false, ◌||◌, if◌then◌else◌, List, [], ◌∷◌}
+use Rattle.run_model.proofs.Common.{Option, Some, None, Result, Ok, Err, refl, list_any, ok_or}
+use Rattle.run_model.proofs.Common.{option_and_then, Event, State, first_ready, refusals, unless}
+use Rattle.run_model.proofs.Common.{if_room, is_full, is_repeated, and_then, decided, decide}
+use Rattle.run_model.proofs.Common.{decide_start, decide_finish, event_of, started_of, Session}
+use Rattle.run_model.proofs.Common.{replied, reply_of_step}
 use Rattle.run_model.specs.declared.commands.Command.{Command}
 use Rattle.run_model.specs.declared.commands.Step.{Step}
 use Rattle.run_model.specs.declared.commands.Step.TheVariants as step
@@ -10,14 +12,7 @@ use Rattle.run_model.specs.declared.answers.Reply.{Reply}
 use Rattle.run_model.specs.declared.answers.Reply.TheVariants as reply
 use Rattle.run_model.specs.declared.refusals.Refusal.{Refusal}
 use Rattle.run_model.specs.declared.refusals.Refusal.TheVariants as refusal
-use Rattle.run_model.specs.Event.{Event}
 use Rattle.run_model.specs.Event as event
-use Rattle.run_model.specs.State.{State}
-use Rattle.run_model.specs.Tasks.{first_ready}
-use Rattle.run_model.specs.Allowed.{refusals, unless}
-use Rattle.run_model.specs.Replies.{if_room, is_full, is_repeated, and_then, decided, decide}
-use Rattle.run_model.specs.Replies.{decide_start, decide_finish, event_of, started_of}
-use Rattle.run_model.specs.Session.{Session, replied, reply_of_step}
 use Rattle.model_laws.proofs.StartingReplies.{start_of}
 use Rattle.book_model.specs.Plays.{is_broken, is_broken_reply}
 

@@ -1,14 +1,10 @@
 -- A task whose start was acknowledged is started in no later night.
-use Rattle.std.proofs.Common.{◌≡◌, ℕ, false, List, [], ◌∷◌, ◌++◌, Some, sym, subst, inl, inr}
-use Rattle.std.proofs.lemmas.Option.{cond_some, option_and_then_some}
+use Rattle.run_model.proofs.Common.{◌≡◌, ℕ, false, List, [], ◌∷◌, ◌++◌, Some, sym, subst, inl, inr}
+use Rattle.run_model.proofs.Common.{cond_some, option_and_then_some, allowed, after, run, Event}
+use Rattle.run_model.proofs.Common.{acknowledged, State, step}
 use Rattle.run_model.specs.declared.answers.Reply.{Reply}
 use Rattle.run_model.specs.declared.commands.Step.{Step}
-use Rattle.run_model.specs.Allowed.{allowed, after, run}
-use Rattle.run_model.specs.Event.{Event}
 use Rattle.run_model.specs.Event as event
-use Rattle.run_model.specs.Session.{acknowledged}
-use Rattle.run_model.specs.State.{State}
-use Rattle.run_model.specs.Step.{step}
 use Rattle.model_laws.proofs.StartedOnce.{Begun, begun_by, never_again, starts, still}
 use Rattle.book_model.specs.ManyNights.{LeadOver, Leads, Night, InVain, Spent, answers_of}
 use Rattle.book_model.specs.ManyNights.{steps_of}

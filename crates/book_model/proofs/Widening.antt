@@ -1,13 +1,10 @@
 -- A state of the small layout, in the large one: it meets the rules, and its image is the same.
-use Rattle.std.proofs.Common.{◌<◌, ◌≤◌, ◌+◌, ℕ, [], length, refl, subst, arith}
-use Rattle.std.specs.Prelude.{IsTrue}
-use Rattle.std.proofs.lemmas.Bool.{lt-ltb, ltb-true}
+use Rattle.run_model.proofs.Common.{◌<◌, ◌≤◌, ◌+◌, ℕ, [], length, refl, subst, arith, IsTrue}
+use Rattle.run_model.proofs.Common.{lt-ltb, ltb-true, most_scopes, most_tasks, AreAdmitted}
+use Rattle.run_model.proofs.Common.{AreDeadlines, AreErrors, AreGroupScopes, AreHits, AreLinked}
+use Rattle.run_model.proofs.Common.{AreNumbered, HasLayout, IsConsistent, Owns, State}
 use Rattle.run_model.specs.declared.groups.Group.{Group}
 use Rattle.run_model.specs.declared.layouts.Layout.TheVariants.{Small, Large}
-use Rattle.run_model.specs.Layouts.{most_scopes, most_tasks}
-use Rattle.run_model.specs.Rules.{AreAdmitted, AreDeadlines, AreErrors, AreGroupScopes, AreHits}
-use Rattle.run_model.specs.Rules.{AreLinked, AreNumbered, HasLayout, IsConsistent, Owns}
-use Rattle.run_model.specs.State.{State}
 use Rattle.record_view.specs.declared.heads.ImageHead.{ImageHead}
 use Rattle.record_view.specs.declared.heads.ImageVersion.TheVariants.{Two}
 use Rattle.record_view.specs.Image.{head_of, image, is_kept_head}

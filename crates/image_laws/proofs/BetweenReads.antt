@@ -1,20 +1,13 @@
 -- The test of both row lists tells whether the rules between them hold.
-use Rattle.std.proofs.Common.{◌≡◌, ◌<◌, ◌⊎◌, ℕ, zero, suc, [], ◌∷◌, arith, ◌||◌, Bool, true, false}
-use Rattle.std.proofs.Common.{List, length}
-use Rattle.std.proofs.Common.{Option, Some, None, slice_get, inl, inr, refl, sym, ap, ◌∙◌}
-use Rattle.std.specs.Prelude.{◌↔◌, IsTrue, IsSome, is_some}
-use Rattle.std.specs.List.{list_any}
-use Rattle.std.specs.Option.{option_and_then, option_map_or}
-use Rattle.std.proofs.lemmas.Bool.{eqb-true, eq-eqb, false≢true}
-use Rattle.std.proofs.lemmas.Option.{same_Some, slice_get_within}
-use Rattle.std.proofs.lemmas.Slice.Eq.{bytes_eq-Decides}
+use Rattle.run_model.proofs.Common.{◌≡◌, ◌<◌, ◌⊎◌, ℕ, zero, suc, [], ◌∷◌, arith, ◌||◌, Bool, true}
+use Rattle.run_model.proofs.Common.{false, List, length, Option, Some, None, slice_get, inl, inr}
+use Rattle.run_model.proofs.Common.{refl, sym, ap, ◌∙◌, ◌↔◌, IsTrue, IsSome, is_some, list_any}
+use Rattle.run_model.proofs.Common.{option_and_then, option_map_or, eqb-true, eq-eqb, false≢true}
+use Rattle.run_model.proofs.Common.{same_Some, slice_get_within, bytes_eq-Decides, has_kind, Owns}
+use Rattle.run_model.proofs.Common.{own_hit, is_group_kind, State}
 use Rattle.run_model.specs.declared.scopes.Scope.{Scope}
 use Rattle.run_model.specs.declared.groups.Group.{Group}
-use Rattle.run_model.specs.Allowed.{has_kind}
 use Rattle.run_model.specs.RuleParts.{AreWorkRules, AreCrossRules}
-use Rattle.run_model.specs.Rules.{Owns}
-use Rattle.run_model.specs.Scopes.{own_hit, is_group_kind}
-use Rattle.run_model.specs.State.{State}
 use Rattle.record_view.proofs.Codecs.{both_true, first_true, second_true}
 use Rattle.record_view.specs.Between.{belongs, fits_scope, lives_in, has_group, fits_between}
 use Rattle.record_view.proofs.Checked.{all_pass, pass_all}

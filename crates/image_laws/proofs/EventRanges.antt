@@ -1,12 +1,17 @@
 -- Each event whose own fields are in range leaves each row typed.
-use Rattle.std.proofs.Common.{◌≡◌, ℕ, ◌+◌, ◌∷◌, [], ◌++◌, Bool, true, false, List, fold, Option}
-use Rattle.std.proofs.Common.{Some, None}
-use Rattle.std.proofs.Common.{slice_get, refl, subst, length}
-use Rattle.std.specs.List.{list_all}
-use Rattle.std.specs.Option.{option_map_or}
-use Rattle.std.specs.Prelude.{IsTrue}
-use Rattle.std.proofs.lemmas.Bool.{and_parts}
-use Rattle.std.proofs.lemmas.Option.{same_Some, cond_some, option_and_then_some}
+use Rattle.run_model.proofs.Common.{◌≡◌, ℕ, ◌+◌, ◌∷◌, [], ◌++◌, Bool, true, false, List, fold}
+use Rattle.run_model.proofs.Common.{Option, Some, None, slice_get, refl, subst, length, list_all}
+use Rattle.run_model.proofs.Common.{option_map_or, IsTrue, and_parts, same_Some, cond_some}
+use Rattle.run_model.proofs.Common.{option_and_then_some, allowed, after, run, Event, reason_text}
+use Rattle.run_model.proofs.Common.{is_moment, is_optional_text, is_outcome, is_recorded_kind}
+use Rattle.run_model.proofs.Common.{is_row_number, is_limit, new_scope, new_group, new_task}
+use Rattle.run_model.proofs.Common.{at_row, is_root, State, TreeState, WorkState, step, own_scope}
+use Rattle.run_model.proofs.Common.{after_task_end, running_tasks, is_name, after_derive}
+use Rattle.run_model.proofs.Common.{after_cancel, after_advance, with_hit, tick, new_hit}
+use Rattle.run_model.proofs.Common.{after_make, after_limit, after_end, retried_row}
+use Rattle.run_model.proofs.Common.{after_interrupt, after_wait, groups_after, with_limit}
+use Rattle.run_model.proofs.Common.{with_wait, with_stage, with_error, stage_of, error_of}
+use Rattle.run_model.proofs.Common.{group_of_task, interruption}
 use Rattle.run_model.specs.declared.scopes.Kind.{Kind}
 use Rattle.run_model.specs.declared.scopes.Kind.TheVariants as kind
 use Rattle.run_model.specs.declared.scopes.Reason.TheVariants.{Canceled}
@@ -15,30 +20,12 @@ use Rattle.run_model.specs.declared.tasks.Outcome.TheVariants as outcome
 use Rattle.run_model.specs.declared.tasks.Stage.{Stage}
 use Rattle.run_model.specs.declared.tasks.Stage.TheVariants as stage
 use Rattle.run_model.specs.declared.tasks.Task.{Task}
-use Rattle.run_model.specs.Allowed.{allowed, after, run}
-use Rattle.run_model.specs.Event.{Event}
 use Rattle.run_model.specs.Event as event
-use Rattle.run_model.specs.Reasons.{reason_text}
-use Rattle.run_model.specs.Records.{is_moment, is_optional_text, is_outcome}
-use Rattle.run_model.specs.Records.{is_recorded_kind, is_row_number, is_limit}
-use Rattle.run_model.specs.Rows.{new_scope, new_group, new_task, at_row}
-use Rattle.run_model.specs.Scopes.{is_root}
-use Rattle.run_model.specs.State.{State, TreeState, WorkState}
-use Rattle.run_model.specs.Step.{step, own_scope, after_task_end}
-use Rattle.run_model.specs.Tasks.{running_tasks}
-use Rattle.run_model.specs.Texts.{is_name}
-use Rattle.run_model.specs.TreeChanges.{after_derive, after_cancel, after_advance}
-use Rattle.run_model.specs.TreeChanges.{with_hit, tick, new_hit}
-use Rattle.run_model.specs.WorkChanges.{after_make, after_limit, after_end, retried_row}
-use Rattle.run_model.specs.WorkChanges.{after_interrupt, after_wait, groups_after}
-use Rattle.run_model.specs.WorkChanges.{with_limit, with_wait, with_stage, with_error, stage_of}
-use Rattle.run_model.specs.WorkChanges.{error_of, group_of_task, interruption}
 use Rattle.record_view.specs.Image.{is_kept_kind, is_kept_stage}
 use Rattle.image_laws.specs.Ranges.{has_ranges, HaveRanges}
-use Rattle.image_laws.proofs.RowRanges.{IsTypedScope, IsTypedGroup, IsTypedTask, Each}
-use Rattle.image_laws.proofs.RowRanges.{each_pushed, each_at, each_mapped, hit_typed}
-use Rattle.image_laws.proofs.RowRanges.{tick_typed}
-use Rattle.image_laws.proofs.RowRanges.{text_typed, reason_typed, error_typed, stage_typed}
+use Rattle.image_laws.proofs.RowRanges.{IsTypedScope, IsTypedGroup, IsTypedTask, Each, each_pushed}
+use Rattle.image_laws.proofs.RowRanges.{each_at, each_mapped, hit_typed, tick_typed, text_typed}
+use Rattle.image_laws.proofs.RowRanges.{reason_typed, error_typed, stage_typed}
 
 pub record IsTypedTree (t : TreeState) : Type 0 where
   pub clock : IsTrue (is_moment t.clock)

@@ -1,12 +1,8 @@
 -- The states that events lead to, and their images.
-use Rattle.std.proofs.Common.{◌≡◌, ◌≤◌, List, length, Some, refl}
-use Rattle.std.specs.Prelude.{IsTrue, nat_lt, ◌^◌}
+use Rattle.run_model.proofs.Common.{◌≡◌, ◌≤◌, List, length, Some, refl, IsTrue, nat_lt, ◌^◌, after}
+use Rattle.run_model.proofs.Common.{run, Event, HasLayout, IsConsistent, State, formatted}
 use Rattle.run_model.specs.declared.layouts.Layout.{Layout}
 use Rattle.run_model.specs.declared.layouts.Layout.TheVariants.{Small, Large}
-use Rattle.run_model.specs.Allowed.{after, run}
-use Rattle.run_model.specs.Event.{Event}
-use Rattle.run_model.specs.Rules.{HasLayout, IsConsistent}
-use Rattle.run_model.specs.State.{State, formatted}
 use Rattle.record_view.specs.declared.heads.ImageVersion.{ImageVersion}
 use Rattle.record_view.specs.declared.heads.ImageVersion.TheVariants.{Two}
 use Rattle.record_view.specs.Image.{image, head_of, is_kept_head, greatest_image}

@@ -1,14 +1,10 @@
 -- The seven rules by parts.
-use Rattle.std.proofs.Common.{◌≡◌, ◌≤◌, ℕ, List, Option, Some, None, slice_get, refl, ap, ◌∙◌}
-use Rattle.std.specs.Prelude.{IsSome, is_some}
-use Rattle.std.specs.Option.{option_and_then}
-use Rattle.std.proofs.lemmas.Option.{option_and_then_some}
+use Rattle.run_model.proofs.Common.{◌≡◌, ◌≤◌, ℕ, List, Option, Some, None, slice_get, refl, ap}
+use Rattle.run_model.proofs.Common.{◌∙◌, IsSome, is_some, option_and_then, option_and_then_some}
+use Rattle.run_model.proofs.Common.{IsConsistent, own_hit, State}
 use Rattle.run_model.specs.declared.scopes.Hit.{Hit}
 use Rattle.run_model.specs.declared.scopes.Scope.{Scope}
 use Rattle.run_model.specs.RuleParts.{AreScopeRules, AreTreeRules, AreWorkRules, AreCrossRules}
-use Rattle.run_model.specs.Rules.{IsConsistent}
-use Rattle.run_model.specs.Scopes.{own_hit}
-use Rattle.run_model.specs.State.{State}
 
 own_there : (rows : List Scope) (s : ℕ) (row : Scope) (hit : Hit) → slice_get rows s ≡ Some row
     → row.hit ≡ Some hit → own_hit rows s ≡ Some hit

@@ -1,11 +1,11 @@
 -- What the types of fields say of a row, and what each change of a row keeps of it.
-use Rattle.std.proofs.Common.{◌≡◌, ℕ, true, false, Bool, List, [], ◌∷◌, ◌++◌, map, Option, Some}
-use Rattle.std.proofs.Common.{None}
-use Rattle.std.proofs.Common.{slice_get, inl, inr, refl, sym, subst}
-use Rattle.std.specs.Option.{option_map_or, option_or}
-use Rattle.std.specs.Prelude.{IsTrue, nat_le, unwrap_or, if◌then◌else◌}
-use Rattle.std.proofs.lemmas.Bool.{and_parts}
-use Rattle.std.proofs.lemmas.Option.{same_Some}
+use Rattle.run_model.proofs.Common.{◌≡◌, ℕ, true, false, Bool, List, [], ◌∷◌, ◌++◌, map, Option}
+use Rattle.run_model.proofs.Common.{Some, None, slice_get, inl, inr, refl, sym, subst}
+use Rattle.run_model.proofs.Common.{option_map_or, option_or, IsTrue, nat_le, unwrap_or}
+use Rattle.run_model.proofs.Common.{if◌then◌else◌, and_parts, same_Some, reason_text, is_limit}
+use Rattle.run_model.proofs.Common.{is_optional_text, at_row, is_root, is_name, is_text, with_hit}
+use Rattle.run_model.proofs.Common.{tick, hit_due, new_hit, with_stage, with_error, push_cases}
+use Rattle.run_model.proofs.Common.{at_row_cases, map_cases}
 use Rattle.run_model.specs.declared.scopes.Kind.{Kind}
 use Rattle.run_model.specs.declared.scopes.Kind.TheVariants as kind
 use Rattle.run_model.specs.declared.scopes.Reason.{Reason}
@@ -15,14 +15,6 @@ use Rattle.run_model.specs.declared.scopes.Scope.{Scope}
 use Rattle.run_model.specs.declared.groups.Group.{Group}
 use Rattle.run_model.specs.declared.tasks.Stage.{Stage}
 use Rattle.run_model.specs.declared.tasks.Task.{Task}
-use Rattle.run_model.specs.Reasons.{reason_text}
-use Rattle.run_model.specs.Records.{is_limit, is_optional_text}
-use Rattle.run_model.specs.Rows.{at_row}
-use Rattle.run_model.specs.Scopes.{is_root}
-use Rattle.run_model.specs.Texts.{is_name, is_text}
-use Rattle.run_model.specs.TreeChanges.{with_hit, tick, hit_due, new_hit}
-use Rattle.run_model.specs.WorkChanges.{with_stage, with_error}
-use Rattle.run_model.proofs.RowLemmas.{push_cases, at_row_cases, map_cases}
 use Rattle.record_view.specs.Image.{is_kept_kind, is_kept_stage}
 
 -- ---- one row

@@ -1,25 +1,18 @@
 -- A state's fields are in range where its rows are typed and keep the rules, and the other way.
-use Rattle.std.proofs.Common.{◌≡◌, ◌≤◌, ℕ, zero, suc, ◌+◌, ◌-◌, ◌^◌, true, false}
-use Rattle.std.proofs.Common.{List, [], ◌∷◌, length, drop, Option, Some, None, slice_get}
-use Rattle.std.proofs.Common.{refl, sym, ◌∙◌, subst, arith, length-drop}
-use Rattle.std.specs.List.{AllByRecursion}
-use Rattle.std.specs.Prelude.{IsTrue, nat_lt}
-use Rattle.std.proofs.lemmas.Bool.{both_ways, ltb-true, lt-ltb, leb-true, le-leb}
-use Rattle.std.proofs.lemmas.Bool.{false_from_ne_true}
-use Rattle.std.proofs.lemmas.Option.{none-some, same_Some, slice_get_within}
+use Rattle.run_model.proofs.Common.{◌≡◌, ◌≤◌, ℕ, zero, suc, ◌+◌, ◌-◌, ◌^◌, true, false, List, []}
+use Rattle.run_model.proofs.Common.{◌∷◌, length, drop, Option, Some, None, slice_get, refl, sym}
+use Rattle.run_model.proofs.Common.{◌∙◌, subst, arith, length-drop, AllByRecursion, IsTrue, nat_lt}
+use Rattle.run_model.proofs.Common.{both_ways, ltb-true, lt-ltb, leb-true, le-leb}
+use Rattle.run_model.proofs.Common.{false_from_ne_true, none-some, same_Some, slice_get_within}
+use Rattle.run_model.proofs.Common.{most_scopes, most_tasks, root, IsConsistent, HasLayout, HasRow}
+use Rattle.run_model.proofs.Common.{is_root, own_hit, State, is_text, most_scopes_most}
+use Rattle.run_model.proofs.Common.{most_tasks_most}
 use Rattle.run_model.specs.declared.bounds.TheConstants.{MOST_GROUPS, GREATEST_MOMENT}
 use Rattle.run_model.specs.declared.layouts.Layout.{Layout}
 use Rattle.run_model.specs.declared.scopes.Hit.{Hit}
 use Rattle.run_model.specs.declared.scopes.Scope.{Scope}
 use Rattle.run_model.specs.declared.groups.Group.{Group}
 use Rattle.run_model.specs.declared.tasks.Task.{Task}
-use Rattle.run_model.specs.Layouts.{most_scopes, most_tasks}
-use Rattle.run_model.specs.Rows.{root}
-use Rattle.run_model.specs.Rules.{IsConsistent, HasLayout, HasRow}
-use Rattle.run_model.specs.Scopes.{is_root, own_hit}
-use Rattle.run_model.specs.State.{State}
-use Rattle.run_model.specs.Texts.{is_text}
-use Rattle.run_model.proofs.LayoutLemmas.{most_scopes_most, most_tasks_most}
 use Rattle.record_view.specs.declared.heads.ImageVersion.{ImageVersion}
 use Rattle.record_view.specs.declared.heads.ImageVersion.TheVariants.{Two}
 use Rattle.record_view.specs.Image.{head_of, is_kept_head, is_kept_scope, is_kept_group}

@@ -1,15 +1,10 @@
 -- An image is read whole by its parts, and what is read so is an image.
-use Rattle.std.proofs.Common.{◌≡◌, ◌<◌, ℕ, ◌==◌, ◌&&◌, List, [], ◌++◌, length, drop}
-use Rattle.std.proofs.Common.{Some, refl, sym, ap, ◌∙◌, subst, arith, append_assoc}
-use Rattle.std.proofs.Common.{length-drop}
-use Rattle.std.specs.Prelude.{IsTrue}
-use Rattle.std.specs.List.{flat_map}
-use Rattle.std.proofs.lemmas.Bool.{eqb-true}
-use Rattle.std.proofs.lemmas.List.{append-nil, nil_from_length}
-use Rattle.std.proofs.lemmas.Option.{cond_some, slice_get_within}
+use Rattle.run_model.proofs.Common.{◌≡◌, ◌<◌, ℕ, ◌==◌, ◌&&◌, List, [], ◌++◌, length, drop, Some}
+use Rattle.run_model.proofs.Common.{refl, sym, ap, ◌∙◌, subst, arith, append_assoc, length-drop}
+use Rattle.run_model.proofs.Common.{IsTrue, flat_map, eqb-true, append-nil, cond_some}
+use Rattle.run_model.proofs.Common.{slice_get_within, root, State, TreeState, WorkState}
+use Rattle.std.proofs.lemmas.List.{nil_from_length}
 use Rattle.run_model.specs.declared.layouts.Layout.{Layout}
-use Rattle.run_model.specs.Rows.{root}
-use Rattle.run_model.specs.State.{State, TreeState, WorkState}
 use Rattle.record_view.specs.declared.heads.ImageHead.{ImageHead}
 use Rattle.record_view.specs.declared.heads.ImageVersion.{ImageVersion}
 use Rattle.record_view.specs.Reading.{◌>>=◌}

@@ -1,26 +1,19 @@
 -- Running tasks stay admitted, and groups that were waited for stay idle.
-use Rattle.std.proofs.Common.{◌≡◌, ◌≢◌, ◌<◌, ◌≤◌, ◌+◌, ◌==◌, ◌&&◌, ℕ, zero, suc, Bool, true, false}
-use Rattle.std.proofs.Common.{List, [], ◌∷◌, ◌++◌, length, take, Option, Some, None, slice_get, inl}
-use Rattle.std.proofs.Common.{inr, refl, sym, ap, ◌∙◌, arith}
-use Rattle.std.specs.Option.{option_and_then}
-use Rattle.std.specs.Prelude.{count_by, if◌then◌else◌}
-use Rattle.std.proofs.lemmas.Bool.{and_parts, and_from, both_ways, ltb-true, lt-ltb, cases_eq}
-use Rattle.std.proofs.lemmas.Bool.{eq-eqb, ne_eqb, and_left}
-use Rattle.std.proofs.lemmas.List.{take-append-le}
-use Rattle.std.proofs.lemmas.List.Sums.{sum_by-cons}
-use Rattle.std.proofs.lemmas.Option.{none-some, same_Some, slice_get_within}
+use Rattle.run_model.proofs.Common.{◌≡◌, ◌≢◌, ◌<◌, ◌≤◌, ◌+◌, ◌==◌, ◌&&◌, ℕ, zero, suc, Bool, true}
+use Rattle.run_model.proofs.Common.{false, List, [], ◌∷◌, ◌++◌, length, take, Option, Some, None}
+use Rattle.run_model.proofs.Common.{slice_get, inl, inr, refl, sym, ap, ◌∙◌, arith}
+use Rattle.run_model.proofs.Common.{option_and_then, count_by, if◌then◌else◌, and_parts, and_from}
+use Rattle.run_model.proofs.Common.{both_ways, ltb-true, lt-ltb, cases_eq, eq-eqb, ne_eqb}
+use Rattle.run_model.proofs.Common.{and_left, take-append-le, sum_by-cons, none-some, same_Some}
+use Rattle.run_model.proofs.Common.{slice_get_within, at_row, AreAdmitted, HasRow, WorkState}
+use Rattle.run_model.proofs.Common.{is_running, is_unfinished, unfinished_in, admits, limit_of}
+use Rattle.run_model.proofs.Common.{is_admitted, with_stage, with_limit, with_wait, after_limit}
+use Rattle.run_model.proofs.Common.{after_wait, at_row_cases, push_cases, slice_get-push_left}
+use Rattle.run_model.proofs.Common.{slice_get-at_row_other}
 use Rattle.run_model.specs.declared.groups.Group.{Group}
 use Rattle.run_model.specs.declared.tasks.Stage.{Stage}
 use Rattle.run_model.specs.declared.tasks.Stage.TheVariants as stage
 use Rattle.run_model.specs.declared.tasks.Task.{Task}
-use Rattle.run_model.specs.Rows.{at_row}
-use Rattle.run_model.specs.Rules.{AreAdmitted, HasRow}
-use Rattle.run_model.specs.State.{WorkState}
-use Rattle.run_model.specs.Tasks.{is_running, is_unfinished, unfinished_in, admits, limit_of}
-use Rattle.run_model.specs.Tasks.{is_admitted}
-use Rattle.run_model.specs.WorkChanges.{with_stage, with_limit, with_wait, after_limit, after_wait}
-use Rattle.run_model.proofs.RowLemmas.{at_row_cases, push_cases, slice_get-push_left}
-use Rattle.run_model.proofs.RowLemmas.{slice_get-at_row_other}
 use Rattle.model_laws.proofs.Shapes.{AreAlike, alike_at}
 
 -- ---- counting rows

@@ -1,17 +1,11 @@
 -- What is decided is allowed.
-use Rattle.std.proofs.Common.{◌≡◌, ℕ, true, Some, Ok, refl, sym, ap, ◌∙◌}
-use Rattle.std.proofs.lemmas.Bool.{and_from}
+use Rattle.run_model.proofs.Common.{◌≡◌, ℕ, true, Some, Ok, refl, sym, ap, ◌∙◌, and_from, Event}
+use Rattle.run_model.proofs.Common.{State, allowed, refusals, decide, event_of, kind_made, is_root}
+use Rattle.run_model.proofs.Common.{is_group_kind, not, ◌&&◌, list_all}
 use Rattle.run_model.specs.declared.commands.Command.{Command}
 use Rattle.run_model.specs.declared.commands.Command.TheVariants as command
 use Rattle.run_model.specs.declared.commands.Wish.{Wish}
 use Rattle.run_model.specs.declared.commands.Wish.TheVariants as wish
-use Rattle.run_model.specs.Event.{Event}
-use Rattle.run_model.specs.State.{State}
-use Rattle.run_model.specs.Allowed.{allowed, refusals}
-use Rattle.run_model.specs.Replies.{decide, event_of, kind_made}
-use Rattle.run_model.specs.Scopes.{is_root, is_group_kind}
-use Rattle.std.specs.Prelude.{not, ◌&&◌}
-use Rattle.std.specs.List.{list_all}
 use Rattle.model_laws.proofs.Passing.{Leads, command_leads}
 
 made_derivable : (clock : ℕ) (wish : Wish)

@@ -1,23 +1,16 @@
 -- What an accepted call leaves.
-use Rattle.std.proofs.Common.{◌≡◌, ℕ, Bool, true, false, if◌then◌else◌, Option, Some, None, Result}
-use Rattle.std.proofs.Common.{Ok, Err, refl, sym, ap, ◌∙◌}
+use Rattle.run_model.proofs.Common.{◌≡◌, ℕ, Bool, true, false, if◌then◌else◌, Option, Some, None}
+use Rattle.run_model.proofs.Common.{Result, Ok, Err, refl, sym, ap, ◌∙◌, Event, State, refusals}
+use Rattle.run_model.proofs.Common.{decide, is_repeated, is_full, if_room, and_then, event_of}
+use Rattle.run_model.proofs.Common.{answer_of, state_after, Session, with_event, replied}
+use Rattle.run_model.proofs.Common.{unless_Ok, result_unwrap_or, not, list_all}
 use Rattle.run_model.specs.declared.answers.Answer.{Answer}
 use Rattle.run_model.specs.declared.answers.Reply.TheVariants as reply
 use Rattle.run_model.specs.declared.commands.Command.{Command}
 use Rattle.run_model.specs.declared.refusals.Refusal.{Refusal}
 use Rattle.run_model.specs.declared.refusals.Refusal.TheVariants as refusal
-use Rattle.run_model.specs.Event.{Event}
-use Rattle.run_model.specs.State.{State}
 use Rattle.run_model.specs.Step as change
-use Rattle.run_model.specs.Allowed.{refusals}
-use Rattle.run_model.specs.Replies.{decide, is_repeated, is_full, if_room, and_then}
-use Rattle.run_model.specs.Replies.{event_of, answer_of, state_after}
-use Rattle.run_model.specs.Session.{Session, with_event, replied}
 use Rattle.model_laws.specs.Answers.{Answered}
-use Rattle.run_model.proofs.RefusalLemmas.{unless_Ok}
-use Rattle.std.specs.Result.{result_unwrap_or}
-use Rattle.std.specs.Prelude.{not}
-use Rattle.std.specs.List.{list_all}
 use Rattle.model_laws.proofs.Passing.{new_decide, repeated_decide}
 
 -- ---- the decision that an answer comes from

@@ -1,15 +1,12 @@
 -- Which kinds of scope a command cancels, and which take a cause.
-use Rattle.std.proofs.Common.{◌≡◌, ℕ, true, false, List, Option, Some, None, IsSomeAnd, slice_get}
-use Rattle.std.proofs.Common.{inl, inr, refl, ap}
-use Rattle.std.specs.Option.{option_map, option_map_or}
-use Rattle.std.proofs.lemmas.Bool.{not-false}
+use Rattle.run_model.proofs.Common.{◌≡◌, ℕ, true, false, List, Option, Some, None, slice_get, inl}
+use Rattle.run_model.proofs.Common.{inr, refl, ap, option_map, option_map_or, not-false, State}
+use Rattle.run_model.proofs.Common.{allowed, is_cancellable, refusals, takes_cause, each_fails}
+use Rattle.std.proofs.Common.{IsSomeAnd}
 use Rattle.run_model.specs.declared.scopes.Kind.{Kind}
 use Rattle.run_model.specs.declared.scopes.Kind.TheVariants as kind
 use Rattle.run_model.specs.declared.scopes.Scope.{Scope}
 use Rattle.run_model.specs.Event as event
-use Rattle.run_model.specs.State.{State}
-use Rattle.run_model.specs.Allowed.{allowed, is_cancellable, refusals, takes_cause}
-use Rattle.run_model.proofs.RefusalLemmas.{each_fails}
 use Rattle.model_laws.specs.Decided.{scope_kind, IsCancelledByCommand}
 
 only_cause : (k : Kind) → takes_cause k ≡ true → k ≡ kind.Cause

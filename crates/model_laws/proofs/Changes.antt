@@ -1,14 +1,10 @@
 -- Rows that stay at their places: what is left to show of the rules.
-use Rattle.std.proofs.Common.{◌≡◌, ◌≤◌, ℕ, true, false, Some, slice_get, refl}
-use Rattle.std.proofs.lemmas.Bool.{both_ways}
+use Rattle.run_model.proofs.Common.{◌≡◌, ◌≤◌, ℕ, true, false, Some, slice_get, refl, both_ways}
+use Rattle.run_model.proofs.Common.{root, at_row, IsConsistent, AreAdmitted, AreErrors, HasRow}
+use Rattle.run_model.proofs.Common.{State, TreeState, WorkState, is_running, is_unfinished}
+use Rattle.run_model.proofs.Common.{is_interrupted, ended_in_error, is_admitted, with_stage}
 use Rattle.run_model.specs.declared.tasks.Stage.{Stage}
 use Rattle.run_model.specs.declared.tasks.Task.{Task}
-use Rattle.run_model.specs.Rows.{root, at_row}
-use Rattle.run_model.specs.Rules.{IsConsistent, AreAdmitted, AreErrors, HasRow}
-use Rattle.run_model.specs.State.{State, TreeState, WorkState}
-use Rattle.run_model.specs.Tasks.{is_running, is_unfinished, is_interrupted, ended_in_error}
-use Rattle.run_model.specs.Tasks.{is_admitted}
-use Rattle.run_model.specs.WorkChanges.{with_stage}
 use Rattle.model_laws.proofs.Admission.{IsSameTerms, terms_same, admitted_stage}
 use Rattle.model_laws.proofs.FirstErrors.{AreHitsKept, errors_alike, IsSameEnd, end_same, lost_at}
 use Rattle.model_laws.proofs.FirstErrors.{errors_tree}
@@ -17,8 +13,8 @@ use Rattle.model_laws.proofs.Owners.{owners_kept}
 use Rattle.model_laws.proofs.RightHits.{AreRight, are_right, later_right, hits_right}
 use Rattle.model_laws.proofs.RightHits.{deadlines_right}
 use Rattle.model_laws.proofs.Shapes.{AreAlike, alike_same, alike_at, IsSameScope, scope_same}
-use Rattle.model_laws.proofs.Links.{links_kept}
 use Rattle.model_laws.proofs.Shapes.{IsSameGroup, group_same, IsSameTask, task_same, stage_same}
+use Rattle.model_laws.proofs.Links.{links_kept}
 
 -- The second tree is the first one with hits that came with event e.
 pub record IsHit (e : ℕ) (t u : TreeState) : Type 0 where

@@ -1,10 +1,7 @@
 -- What a command's event is not.
-use Rattle.std.proofs.Common.{◌≡◌, false, refl}
+use Rattle.run_model.proofs.Common.{◌≡◌, false, refl, Event, event_of, State}
 use Rattle.run_model.specs.declared.commands.Command.{Command}
 use Rattle.run_model.specs.declared.commands.Command.TheVariants as command
-use Rattle.run_model.specs.Event.{Event}
-use Rattle.run_model.specs.Replies.{event_of}
-use Rattle.run_model.specs.State.{State}
 use Rattle.model_laws.specs.Kinds.{is_finish, is_restart, is_start}
 
 -- It is one that a command can ask for.

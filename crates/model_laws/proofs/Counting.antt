@@ -1,9 +1,7 @@
 -- How many rows pass a test.
-use Rattle.std.proofs.Common.{◌≡◌, ◌+◌, ℕ, zero, suc, Bool, true, false, cond, List, [], ◌∷◌, Some}
-use Rattle.std.proofs.Common.{slice_get, count_by, ap, ◌∙◌, arith}
-use Rattle.std.proofs.lemmas.Option.{none-some, same_Some}
-use Rattle.std.proofs.lemmas.List.Sums.{sum_by-cons}
-use Rattle.run_model.specs.Rows.{at_row}
+use Rattle.run_model.proofs.Common.{◌≡◌, ◌+◌, ℕ, zero, suc, Bool, true, false, cond, List, [], ◌∷◌}
+use Rattle.run_model.proofs.Common.{Some, slice_get, count_by, ap, ◌∙◌, arith, none-some}
+use Rattle.run_model.proofs.Common.{same_Some, sum_by-cons, at_row}
 
 one_if : Bool → ℕ
 one_if b = cond b 1 0

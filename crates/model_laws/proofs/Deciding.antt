@@ -1,9 +1,11 @@
 -- What is allowed is decided, where names are distinct and the log has room.
-use Rattle.std.specs.Prelude.{◌&&◌}
-use Rattle.std.proofs.Common.{◌≡◌, ℕ, true, false, not, Option, Some, None, slice_get, refl}
-use Rattle.std.proofs.Common.{ap, ◌∙◌, le_trans}
-use Rattle.std.specs.Option.{option_map_or}
-use Rattle.std.proofs.lemmas.Bool.{and_parts, not-false, not-true}
+use Rattle.run_model.proofs.Common.{◌&&◌, ◌≡◌, ℕ, true, false, not, Option, Some, None, slice_get}
+use Rattle.run_model.proofs.Common.{refl, ap, ◌∙◌, le_trans, option_map_or, and_parts, not-false}
+use Rattle.run_model.proofs.Common.{Event, State, WorkState, AreNumbered, is_recorded, allowed}
+use Rattle.run_model.proofs.Common.{is_open, refusals, decided, event_of, is_full, is_repeated}
+use Rattle.run_model.proofs.Common.{kind_made, most_tasks_most, each_fails, is_root, is_group_kind}
+use Rattle.run_model.proofs.Common.{list_all}
+use Rattle.std.proofs.lemmas.Bool.{not-true}
 use Rattle.run_model.specs.declared.groups.Group.{Group}
 use Rattle.run_model.specs.declared.scopes.Kind.{Kind}
 use Rattle.run_model.specs.declared.scopes.Kind.TheVariants as kind
@@ -11,17 +13,9 @@ use Rattle.run_model.specs.declared.commands.Command.{Command}
 use Rattle.run_model.specs.declared.commands.Command.TheVariants as command
 use Rattle.run_model.specs.declared.commands.Wish.{Wish}
 use Rattle.run_model.specs.declared.commands.Wish.TheVariants as wish
-use Rattle.run_model.specs.Event.{Event}
 use Rattle.run_model.specs.Event as event
-use Rattle.run_model.specs.State.{State, WorkState}
-use Rattle.run_model.specs.Rules.{AreNumbered}
-use Rattle.run_model.specs.Records.{is_recorded}
-use Rattle.run_model.specs.Allowed.{allowed, is_open, refusals}
-use Rattle.run_model.specs.Replies.{decided, event_of, has_waited, is_full, is_repeated, kind_made}
-use Rattle.run_model.proofs.LayoutLemmas.{most_tasks_most}
-use Rattle.run_model.proofs.RefusalLemmas.{each_fails, unless_none}
-use Rattle.run_model.specs.Scopes.{is_root, is_group_kind}
-use Rattle.std.specs.List.{list_all}
+use Rattle.run_model.specs.Replies.{has_waited}
+use Rattle.run_model.proofs.RefusalLemmas.{unless_none}
 use Rattle.model_laws.specs.Decided.{IsDecided, by_command, by_start, by_finish}
 use Rattle.model_laws.proofs.Allowing.{decided_allowed}
 use Rattle.model_laws.proofs.Names.{name_of_group, name_of_scope}

@@ -1,19 +1,13 @@
 -- A group that has ended cancels nothing more.
-use Rattle.std.proofs.Common.{◌≡◌, ◌⊎◌, ℕ, zero, suc, Bool, true, false, List, [], ◌∷◌, Option}
-use Rattle.std.proofs.Common.{Some, None, slice_get, refl, sym, ap, subst, ◌∙◌}
-use Rattle.std.specs.Option.{option_map, option_map_or, option_and_then, option_or}
-use Rattle.std.specs.Prelude.{IsSome}
-use Rattle.std.proofs.lemmas.Bool.{both_ways}
-use Rattle.std.proofs.lemmas.Option.{same_Some}
+use Rattle.run_model.proofs.Common.{◌≡◌, ◌⊎◌, ℕ, zero, suc, Bool, true, false, List, [], ◌∷◌}
+use Rattle.run_model.proofs.Common.{Option, Some, None, slice_get, refl, sym, ap, subst, ◌∙◌}
+use Rattle.run_model.proofs.Common.{option_map, option_map_or, option_and_then, option_or, IsSome}
+use Rattle.run_model.proofs.Common.{both_ways, same_Some, at_row, own_hit, State, TreeState, step}
+use Rattle.run_model.proofs.Common.{own_scope, after_group_cancel, with_hit, after_cancel, new_hit}
 use Rattle.run_model.specs.declared.groups.Group.{Group}
 use Rattle.run_model.specs.declared.scopes.Hit.{Hit}
 use Rattle.run_model.specs.declared.scopes.Scope.{Scope}
 use Rattle.run_model.specs.Event as event
-use Rattle.run_model.specs.Rows.{at_row}
-use Rattle.run_model.specs.Scopes.{own_hit}
-use Rattle.run_model.specs.State.{State, TreeState}
-use Rattle.run_model.specs.Step.{step, own_scope, after_group_cancel}
-use Rattle.run_model.specs.TreeChanges.{with_hit, after_cancel, new_hit}
 use Rattle.run_model.specs.declared.scopes.Reason.TheVariants.{Canceled}
 use Rattle.model_laws.specs.GroupEnds.{HasGroupEnded}
 use Rattle.model_laws.specs.Restarts.{hosts_running, hit_restarted, restart_hit, scope_restarted}

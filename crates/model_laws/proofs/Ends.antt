@@ -1,28 +1,20 @@
 -- A scope is hit by a cancel, or because a group of it ended.
-use Rattle.std.proofs.Common.{◌≡◌, ◌≢◌, ◌≤◌, ◌==◌, ◌&&◌, ℕ, Bool, true, false, List, length, Option}
-use Rattle.std.proofs.Common.{Some, None, slice_get, refl, sym, ap, subst, ◌∙◌}
-use Rattle.std.specs.List.{list_any}
-use Rattle.std.specs.Option.{option_map, option_map_or, option_and_then}
-use Rattle.std.specs.Prelude.{IsSome, if◌then◌else◌}
-use Rattle.std.proofs.lemmas.Bool.{both_ways, and_left, and_from, ne_eqb, eq-eqb}
-use Rattle.std.proofs.lemmas.Option.{none-some, same_Some}
+use Rattle.run_model.proofs.Common.{◌≡◌, ◌≢◌, ◌≤◌, ◌==◌, ◌&&◌, ℕ, Bool, true, false, List, length}
+use Rattle.run_model.proofs.Common.{Option, Some, None, slice_get, refl, sym, ap, subst, ◌∙◌}
+use Rattle.run_model.proofs.Common.{list_any, option_map, option_map_or, option_and_then, IsSome}
+use Rattle.run_model.proofs.Common.{if◌then◌else◌, both_ways, and_left, and_from, ne_eqb, eq-eqb}
+use Rattle.run_model.proofs.Common.{none-some, same_Some, has_kind, root, at_row, IsConsistent}
+use Rattle.run_model.proofs.Common.{Owns, AreGroupScopes, can_be_hit, has_task_error, HasRow}
+use Rattle.run_model.proofs.Common.{own_hit, is_group_kind, State, TreeState, WorkState, own_scope}
+use Rattle.run_model.proofs.Common.{after_group_cancel, after_task_end, is_running, is_unfinished}
+use Rattle.run_model.proofs.Common.{is_interrupted, ended_in_error, unfinished_in, with_hit}
+use Rattle.run_model.proofs.Common.{after_cancel, new_hit, with_stage, with_error, with_wait}
+use Rattle.run_model.proofs.Common.{group_of_task, after_end, after_wait, slice_get-at_row_same}
+use Rattle.run_model.proofs.Common.{slice_get-at_row_other}
 use Rattle.run_model.specs.declared.groups.Group.{Group}
 use Rattle.run_model.specs.declared.scopes.Scope.{Scope}
 use Rattle.run_model.specs.declared.tasks.Stage.{Stage}
 use Rattle.run_model.specs.declared.tasks.Task.{Task}
-use Rattle.run_model.specs.Allowed.{has_kind}
-use Rattle.run_model.specs.Rows.{root, at_row}
-use Rattle.run_model.specs.Rules.{IsConsistent, Owns, AreGroupScopes, can_be_hit}
-use Rattle.run_model.specs.Rules.{has_task_error, HasRow}
-use Rattle.run_model.specs.Scopes.{own_hit, is_group_kind}
-use Rattle.run_model.specs.State.{State, TreeState, WorkState}
-use Rattle.run_model.specs.Step.{own_scope, after_group_cancel, after_task_end}
-use Rattle.run_model.specs.Tasks.{is_running, is_unfinished, is_interrupted, ended_in_error}
-use Rattle.run_model.specs.Tasks.{unfinished_in}
-use Rattle.run_model.specs.TreeChanges.{with_hit, after_cancel, new_hit}
-use Rattle.run_model.specs.WorkChanges.{with_stage, with_error, with_wait, group_of_task, after_end}
-use Rattle.run_model.specs.WorkChanges.{after_wait}
-use Rattle.run_model.proofs.RowLemmas.{slice_get-at_row_same, slice_get-at_row_other}
 use Rattle.run_model.specs.declared.scopes.Reason.TheVariants.{Canceled}
 use Rattle.model_laws.proofs.Admission.{IsSameTerms, terms_same, admitted_stage, admitted_wait}
 use Rattle.model_laws.proofs.Changes.{IsHit, hit_none, rows_change}

@@ -1,24 +1,18 @@
 -- A group keeps an error exactly where a task of it was lost, and where it ended its scope is hit.
-use Rattle.std.proofs.Common.{◌≡◌, ◌≢◌, ◌↔◌, ◌<◌, ◌==◌, ◌&&◌, ◌||◌, ℕ, zero, suc, Bool, true, false}
-use Rattle.std.proofs.Common.{List, [], ◌∷◌, ◌++◌, length, Option, Some, None, slice_get, inl, inr}
-use Rattle.std.proofs.Common.{refl, sym, ap, ◌∙◌, arith}
-use Rattle.std.specs.List.{list_any}
-use Rattle.std.specs.Option.{option_and_then}
-use Rattle.std.specs.Prelude.{is_some, IsSome, IsTrue}
-use Rattle.std.proofs.lemmas.Bool.{and_parts, and_right, both_ways, eqb-true, or_cases}
-use Rattle.std.proofs.lemmas.Option.{none-some, same_Some, slice_get_within}
+use Rattle.run_model.proofs.Common.{◌≡◌, ◌≢◌, ◌↔◌, ◌<◌, ◌==◌, ◌&&◌, ◌||◌, ℕ, zero, suc, Bool, true}
+use Rattle.run_model.proofs.Common.{false, List, [], ◌∷◌, ◌++◌, length, Option, Some, None}
+use Rattle.run_model.proofs.Common.{slice_get, inl, inr, refl, sym, ap, ◌∙◌, arith, list_any}
+use Rattle.run_model.proofs.Common.{option_and_then, is_some, IsSome, IsTrue, and_parts, both_ways}
+use Rattle.run_model.proofs.Common.{eqb-true, or_cases, none-some, same_Some, slice_get_within}
+use Rattle.run_model.proofs.Common.{at_row, AreErrors, Owns, has_task_error, HasRow, own_hit}
+use Rattle.run_model.proofs.Common.{State, TreeState, WorkState, ended_in_error, with_hit}
+use Rattle.run_model.proofs.Common.{after_cancel, new_hit, with_stage, at_row_cases, push_cases}
+use Rattle.run_model.proofs.Common.{slice_get-push_left}
+use Rattle.std.proofs.lemmas.Bool.{and_right}
 use Rattle.run_model.specs.declared.groups.Group.{Group}
 use Rattle.run_model.specs.declared.scopes.Scope.{Scope}
 use Rattle.run_model.specs.declared.tasks.Stage.{Stage}
 use Rattle.run_model.specs.declared.tasks.Task.{Task}
-use Rattle.run_model.specs.Rows.{at_row}
-use Rattle.run_model.specs.Rules.{AreErrors, Owns, has_task_error, HasRow}
-use Rattle.run_model.specs.Scopes.{own_hit}
-use Rattle.run_model.specs.State.{State, TreeState, WorkState}
-use Rattle.run_model.specs.Tasks.{ended_in_error}
-use Rattle.run_model.specs.TreeChanges.{with_hit, after_cancel, new_hit}
-use Rattle.run_model.specs.WorkChanges.{with_stage}
-use Rattle.run_model.proofs.RowLemmas.{at_row_cases, push_cases, slice_get-push_left}
 use Rattle.run_model.specs.declared.scopes.Reason.TheVariants.{Canceled}
 use Rattle.model_laws.proofs.RightHits.{own_hit_of, or_else_some}
 use Rattle.model_laws.proofs.Shapes.{AreAlike, alike_at, IsSameGroup}

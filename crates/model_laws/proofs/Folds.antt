@@ -1,13 +1,10 @@
 -- Rows that are changed one after another, each by the same change.
-use Rattle.std.proofs.Common.{◌≡◌, ◌<◌, ◌≤◌, ◌+◌, ◌==◌, ◌&&◌, ◌||◌, ℕ, zero, suc, Bool, true, false}
-use Rattle.std.proofs.Common.{List, [], ◌∷◌, length, filter, fold, Option, Some, None, slice_get}
-use Rattle.std.proofs.Common.{if◌then◌else◌, inl, inr, refl, sym, ap, ◌∙◌, arith}
-use Rattle.std.specs.List.{list_any, range_with_len}
-use Rattle.std.specs.Option.{option_map, option_map_or}
-use Rattle.std.proofs.lemmas.Bool.{cases_eq, eq-eqb, ne_eqb}
-use Rattle.std.proofs.lemmas.Option.{none-some, same_Some}
-use Rattle.run_model.specs.Rows.{at_row}
-use Rattle.run_model.proofs.RowLemmas.{slice_get-at_row_same, slice_get-at_row_other}
+use Rattle.run_model.proofs.Common.{◌≡◌, ◌<◌, ◌≤◌, ◌+◌, ◌==◌, ◌&&◌, ◌||◌, ℕ, zero, suc, Bool, true}
+use Rattle.run_model.proofs.Common.{false, List, [], ◌∷◌, length, filter, fold, Option, Some, None}
+use Rattle.run_model.proofs.Common.{slice_get, if◌then◌else◌, inl, inr, refl, sym, ap, ◌∙◌, arith}
+use Rattle.run_model.proofs.Common.{list_any, range_with_len, option_map, option_map_or, cases_eq}
+use Rattle.run_model.proofs.Common.{eq-eqb, ne_eqb, none-some, same_Some, at_row}
+use Rattle.run_model.proofs.Common.{slice_get-at_row_same, slice_get-at_row_other}
 
 -- The row of this number is changed, where there is a number.
 abbrev pub at_key : {X : Type 0} → (X → X) → Option ℕ → List X → List X

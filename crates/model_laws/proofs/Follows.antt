@@ -1,22 +1,17 @@
 -- What any event leaves of a tree: the rows that were there, perhaps with a hit of this event more,
 -- and perhaps a row more at the end.
-use Rattle.std.proofs.Common.{◌≡◌, ◌⊎◌, ◌<◌, ◌≤◌, ℕ, nat_le, List, [], ◌∷◌, ◌++◌, length, map}
-use Rattle.std.proofs.Common.{Option, Some, None, slice_get, inl, inr, refl, sym, subst, ap, ◌∙◌}
-use Rattle.std.proofs.Common.{arith}
-use Rattle.std.specs.Option.{option_map, option_map_or, option_or}
-use Rattle.std.proofs.lemmas.Bool.{leb-true, cases_eq}
-use Rattle.std.proofs.lemmas.Option.{same_Some, none-some, cond_some, slice_get-map}
-use Rattle.std.proofs.lemmas.Option.{slice_get_within}
+use Rattle.run_model.proofs.Common.{◌≡◌, ◌⊎◌, ◌<◌, ◌≤◌, ℕ, nat_le, List, [], ◌∷◌, ◌++◌, length}
+use Rattle.run_model.proofs.Common.{map, Option, Some, None, slice_get, inl, inr, refl, sym, subst}
+use Rattle.run_model.proofs.Common.{ap, ◌∙◌, arith, option_map, option_map_or, option_or, leb-true}
+use Rattle.run_model.proofs.Common.{cases_eq, same_Some, none-some, cond_some, slice_get-map}
+use Rattle.run_model.proofs.Common.{slice_get_within, new_scope, at_row, TreeState, with_hit}
+use Rattle.run_model.proofs.Common.{hit_due, tick, after_derive, after_cancel, after_advance}
+use Rattle.run_model.proofs.Common.{new_hit, slice_get-at_row_same, slice_get-at_row_other}
+use Rattle.run_model.proofs.Common.{at_row_cases, slice_get-push_left, push_cases, map_cases}
 use Rattle.run_model.specs.declared.scopes.Hit.{Hit}
 use Rattle.run_model.specs.declared.scopes.Kind.{Kind}
 use Rattle.run_model.specs.declared.scopes.Kind.TheVariants as kind
 use Rattle.run_model.specs.declared.scopes.Scope.{Scope}
-use Rattle.run_model.specs.Rows.{new_scope, at_row}
-use Rattle.run_model.specs.State.{TreeState}
-use Rattle.run_model.specs.TreeChanges.{with_hit, hit_due, tick, after_derive}
-use Rattle.run_model.specs.TreeChanges.{after_cancel, after_advance, new_hit}
-use Rattle.run_model.proofs.RowLemmas.{slice_get-at_row_same, slice_get-at_row_other, at_row_cases}
-use Rattle.run_model.proofs.RowLemmas.{slice_get-push_left, push_cases, map_cases}
 use Rattle.run_model.specs.declared.scopes.Reason.TheVariants.{Canceled, DeadlineExceeded}
 
 -- ---- hits

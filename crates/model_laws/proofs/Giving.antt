@@ -1,21 +1,17 @@
 -- What is decided as an event that has a record is a command that can be given.
-use Rattle.std.proofs.Common.{◌≡◌, ◌<◌, ◌≤◌, ◌+◌, ◌^◌, ℕ, Bool, true, not, ◌&&◌, nat_lt, List}
-use Rattle.std.proofs.Common.{Some, Ok, refl, sym, ap, ◌∙◌, arith, leb-true, lt-ltb, lit<}
-use Rattle.std.proofs.lemmas.Bool.{and_parts, and_from}
+use Rattle.run_model.proofs.Common.{◌≡◌, ◌<◌, ◌≤◌, ◌+◌, ◌^◌, ℕ, Bool, true, not, ◌&&◌, nat_lt}
+use Rattle.run_model.proofs.Common.{List, Some, Ok, refl, sym, ap, ◌∙◌, arith, leb-true, lt-ltb}
+use Rattle.run_model.proofs.Common.{and_parts, and_from, Event, State, is_name, is_recorded}
+use Rattle.run_model.proofs.Common.{is_recorded_kind, is_row_number, is_moment, refusals, has_row}
+use Rattle.run_model.proofs.Common.{decide, event_of, kind_made, scope_of, group_of, is_first}
+use Rattle.run_model.proofs.Common.{list_all}
+use Rattle.std.proofs.Common.{lit<}
 use Rattle.run_model.specs.declared.bounds.TheConstants.{GREATEST_MOMENT}
 use Rattle.run_model.specs.declared.commands.Command.{Command}
 use Rattle.run_model.specs.declared.commands.Command.TheVariants as command
 use Rattle.run_model.specs.declared.commands.Wish.{Wish}
 use Rattle.run_model.specs.declared.commands.Wish.TheVariants as wish
-use Rattle.run_model.specs.Event.{Event}
-use Rattle.run_model.specs.State.{State}
-use Rattle.run_model.specs.Texts.{is_name}
-use Rattle.run_model.specs.Records.{is_recorded, is_recorded_kind, is_row_number, is_moment}
-use Rattle.run_model.specs.Allowed.{refusals, has_row}
-use Rattle.run_model.specs.Replies.{decide, event_of, kind_made, scope_of, group_of}
 use Rattle.model_laws.specs.Decided.{is_wish, is_command, AreNamed}
-use Rattle.run_model.proofs.RefusalLemmas.{is_first}
-use Rattle.std.specs.List.{list_all}
 use Rattle.model_laws.proofs.Passing.{command_leads}
 use Rattle.model_laws.proofs.Names.{named_scope, named_group}
 

@@ -1,27 +1,19 @@
 -- The events of groups keep the rules.
-use Rattle.std.proofs.Common.{◌≡◌, ℕ, true, false, List, length, Option, refl, ◌+◌, [], ◌∷◌, ◌++◌}
-use Rattle.std.proofs.Common.{arith}
-use Rattle.std.proofs.lemmas.Bool.{ltb-true}
+use Rattle.run_model.proofs.Common.{◌≡◌, ℕ, true, false, List, length, Option, refl, ◌+◌, [], ◌∷◌}
+use Rattle.run_model.proofs.Common.{◌++◌, arith, ltb-true, most_scopes, has_row, has_room}
+use Rattle.run_model.proofs.Common.{new_scope, new_group, IsConsistent, State, TreeState}
+use Rattle.run_model.proofs.Common.{WorkState, scope_named, group_named, step, unfinished_in}
+use Rattle.run_model.proofs.Common.{with_limit, after_limit, name_is_free, is_none}
 use Rattle.std.proofs.lemmas.List.{length_push}
 use Rattle.run_model.specs.declared.bounds.TheConstants.{MOST_GROUPS}
-use Rattle.run_model.specs.Layouts.{most_scopes}
 use Rattle.model_laws.proofs.Links.{links_beside}
 use Rattle.run_model.specs.declared.scopes.Kind.TheVariants as kind
-use Rattle.run_model.specs.Allowed.{has_row, has_room}
 use Rattle.run_model.specs.Event as event
-use Rattle.run_model.specs.Rows.{new_scope, new_group}
-use Rattle.run_model.specs.Rules.{IsConsistent}
-use Rattle.run_model.specs.State.{State, TreeState, WorkState, scope_named, group_named}
-use Rattle.run_model.specs.Step.{step}
-use Rattle.run_model.specs.Tasks.{unfinished_in}
-use Rattle.run_model.specs.WorkChanges.{with_limit, after_limit}
 use Rattle.model_laws.proofs.Admission.{admitted_group, admitted_limit}
 use Rattle.model_laws.proofs.Changes.{right_now, hit_now, rows_change}
 use Rattle.model_laws.proofs.FirstErrors.{errors_alike, IsSameEnd, end_same, hits_pushed}
 use Rattle.model_laws.proofs.FirstErrors.{errors_group}
 use Rattle.model_laws.proofs.Numbering.{numbered_scope, numbered_group}
-use Rattle.run_model.proofs.NameLemmas.{name_is_free}
-use Rattle.std.specs.Prelude.{is_none}
 use Rattle.model_laws.proofs.Owners.{owners_bare, owners_made}
 use Rattle.model_laws.proofs.RightHits.{AreRight, hits_right, deadlines_right, right_pushed}
 use Rattle.model_laws.proofs.Shapes.{alike_same, alike_at, IsSameGroup, group_same, IsSameTask}

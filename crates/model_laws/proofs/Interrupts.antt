@@ -1,10 +1,13 @@
 -- What a restart makes of the rows.
-use Rattle.std.proofs.Common.{◌≡◌, ◌+◌, ◌==◌, ◌&&◌, ℕ, Bool, true, false, List, [], ◌∷◌, length}
-use Rattle.std.proofs.Common.{map, fold, Option, Some, None, slice_get, refl, sym, ap, ◌∙◌, arith}
-use Rattle.std.specs.List.{list_any}
-use Rattle.std.specs.Option.{option_map, option_map_or, option_and_then, option_or}
-use Rattle.std.specs.Prelude.{not, if◌then◌else◌}
-use Rattle.std.proofs.lemmas.Option.{slice_get-map, slice_get_within}
+use Rattle.run_model.proofs.Common.{◌≡◌, ◌+◌, ◌==◌, ◌&&◌, ℕ, Bool, true, false, List, [], ◌∷◌}
+use Rattle.run_model.proofs.Common.{length, map, fold, Option, Some, None, slice_get, refl, sym}
+use Rattle.run_model.proofs.Common.{ap, ◌∙◌, arith, list_any, option_map, option_map_or}
+use Rattle.run_model.proofs.Common.{option_and_then, option_or, not, if◌then◌else◌, slice_get-map}
+use Rattle.run_model.proofs.Common.{slice_get_within, at_row, State, TreeState, WorkState, step}
+use Rattle.run_model.proofs.Common.{own_scope, after_task_end, is_running, running_tasks}
+use Rattle.run_model.proofs.Common.{has_stage, with_hit, after_cancel, new_hit, with_stage}
+use Rattle.run_model.proofs.Common.{with_error, group_of_task, after_interrupt, interruption}
+use Rattle.run_model.proofs.Common.{length-at_row}
 use Rattle.run_model.specs.declared.groups.Group.{Group}
 use Rattle.run_model.specs.declared.scopes.Hit.{Hit}
 use Rattle.run_model.specs.declared.scopes.Scope.{Scope}
@@ -12,20 +15,12 @@ use Rattle.run_model.specs.declared.tasks.Stage.{Stage}
 use Rattle.run_model.specs.declared.tasks.Stage.TheVariants as stage
 use Rattle.run_model.specs.declared.tasks.Task.{Task}
 use Rattle.run_model.specs.Event as event
-use Rattle.run_model.specs.Rows.{at_row}
-use Rattle.run_model.specs.State.{State, TreeState, WorkState}
-use Rattle.run_model.specs.Step.{step, own_scope, after_task_end}
-use Rattle.run_model.specs.Tasks.{is_running, running_tasks, has_stage}
-use Rattle.run_model.specs.TreeChanges.{with_hit, after_cancel, new_hit}
-use Rattle.run_model.specs.WorkChanges.{with_stage, with_error, group_of_task, after_interrupt}
-use Rattle.run_model.specs.WorkChanges.{interruption}
-use Rattle.run_model.proofs.RowLemmas.{length-at_row}
 use Rattle.run_model.specs.declared.scopes.Reason.TheVariants.{Canceled}
 use Rattle.model_laws.specs.Restarts.{IsRestart, has_running, lives_in, hosts_running}
 use Rattle.model_laws.specs.Restarts.{stage_restarted, error_restarted, hit_restarted}
 use Rattle.model_laws.specs.Restarts.{task_restarted, group_restarted, scope_restarted}
-use Rattle.model_laws.proofs.Folds.{same_rows, at_key, at_key_reads, is_key, changed_if, fold_reads}
-use Rattle.model_laws.proofs.Folds.{any_picked, number_picked}
+use Rattle.model_laws.proofs.Folds.{same_rows, at_key, at_key_reads, is_key, changed_if}
+use Rattle.model_laws.proofs.Folds.{fold_reads, any_picked, number_picked}
 use Rattle.model_laws.proofs.LayoutStays.{tree_stays, work_stays}
 
 -- ---- the folds of a restart, each over one list of rows

@@ -1,17 +1,12 @@
 -- A hit of the same event as others, and equal to them: what was done stays as it ended.
-use Rattle.std.proofs.Common.{◌≡◌, ◌⊎◌, ◌<◌, ℕ, Bool, true, false, cond, List, Option, Some, None}
-use Rattle.std.proofs.Common.{slice_get, inl, inr, refl, sym, ap, ◌∙◌, arith}
-use Rattle.std.proofs.Common.{◌≢◌}
-use Rattle.std.specs.Option.{option_map, option_and_then, IfSome, option_or}
-use Rattle.std.proofs.lemmas.Bool.{cases_eq}
-use Rattle.std.proofs.lemmas.Option.{none-some}
+use Rattle.run_model.proofs.Common.{◌≡◌, ◌⊎◌, ◌<◌, ℕ, Bool, true, false, cond, List, Option, Some}
+use Rattle.run_model.proofs.Common.{None, slice_get, inl, inr, refl, sym, ap, ◌∙◌, arith, ◌≢◌}
+use Rattle.run_model.proofs.Common.{option_map, option_and_then, IfSome, option_or, cases_eq}
+use Rattle.run_model.proofs.Common.{none-some, at_row, with_hit, comes_before, first_hit, ending}
+use Rattle.run_model.proofs.Common.{AreOrdered, slice_get-at_row_same, slice_get-at_row_other}
 use Rattle.run_model.specs.declared.scopes.Hit.{Hit}
 use Rattle.run_model.specs.declared.scopes.Scope.{Scope}
-use Rattle.run_model.specs.Rows.{at_row}
-use Rattle.run_model.specs.TreeChanges.{with_hit}
-use Rattle.run_model.specs.Scopes.{comes_before, first_of, first_hit, ending}
-use Rattle.run_model.specs.Scopes.{AreOrdered}
-use Rattle.run_model.proofs.RowLemmas.{slice_get-at_row_same, slice_get-at_row_other}
+use Rattle.run_model.specs.Scopes.{first_of}
 use Rattle.model_laws.specs.Searches.{joined}
 use Rattle.model_laws.specs.Endings.{AreLevel, EndingsStay}
 use Rattle.model_laws.proofs.Follows.{IsOf, cancelled}

@@ -1,16 +1,15 @@
 -- Each search of ancestors, in one step from the parent.
-use Rattle.std.proofs.Common.{◌≡◌, ◌<◌, ℕ, zero, suc, Bool, true, false, cond, List, [], ◌∷◌}
-use Rattle.std.proofs.Common.{Option, Some, None, slice_get, refl, ap, ◌∙◌, arith}
-use Rattle.std.specs.List.{filter_map, cons_option}
-use Rattle.std.specs.Option.{option_map}
+use Rattle.run_model.proofs.Common.{◌≡◌, ◌<◌, ℕ, zero, suc, Bool, true, false, cond, List, [], ◌∷◌}
+use Rattle.run_model.proofs.Common.{Option, Some, None, slice_get, refl, ap, ◌∙◌, arith}
+use Rattle.run_model.proofs.Common.{filter_map, cons_option, option_map, is_root, is_detached}
+use Rattle.run_model.proofs.Common.{upwards, line_within, line, before_detached, chain, hit_at}
+use Rattle.run_model.proofs.Common.{least_hit, first_hit, own_deadline, deadline_of, text_under}
+use Rattle.run_model.proofs.Common.{value_of, AreOrdered}
 use Rattle.run_model.specs.declared.scopes.Hit.{Hit}
 use Rattle.run_model.specs.declared.scopes.Scope.{Scope}
-use Rattle.run_model.specs.Scopes.{is_root, is_detached, upwards, line_within, line}
-use Rattle.run_model.specs.Scopes.{before_detached, chain, hit_at, least_hit, first_hit}
-use Rattle.run_model.specs.Scopes.{own_deadline, least_moment, deadline_of, text_under}
-use Rattle.run_model.specs.Scopes.{value_of, AreOrdered}
-use Rattle.model_laws.specs.Searches.{above, line_from, chain_from, joined, first_hit_from, earlier}
-use Rattle.model_laws.specs.Searches.{deadline_from, nearest, value_from}
+use Rattle.run_model.specs.Scopes.{least_moment}
+use Rattle.model_laws.specs.Searches.{above, line_from, chain_from, joined, first_hit_from}
+use Rattle.model_laws.specs.Searches.{earlier, deadline_from, nearest, value_from}
 
 -- ---- the line
 

@@ -1,14 +1,10 @@
 -- A task that is a retry names an interrupted task of a lesser number, and stays the only one.
-use Rattle.std.proofs.Common.{◌≡◌, ℕ, true, false, [], ◌∷◌, ◌++◌, length, Some, slice_get}
-use Rattle.std.proofs.Common.{inl, inr, refl, sym, ap, subst, ◌∙◌, ◌==◌}
-use Rattle.std.specs.Option.{option_map_or}
-use Rattle.std.proofs.lemmas.Bool.{both_ways, eq-eqb}
-use Rattle.std.proofs.lemmas.Option.{slice_get_within}
+use Rattle.run_model.proofs.Common.{◌≡◌, ℕ, true, false, [], ◌∷◌, ◌++◌, length, Some, slice_get}
+use Rattle.run_model.proofs.Common.{inl, inr, refl, sym, ap, subst, ◌∙◌, ◌==◌, option_map_or}
+use Rattle.run_model.proofs.Common.{both_ways, eq-eqb, slice_get_within, AreLinked, IsRetry}
+use Rattle.run_model.proofs.Common.{HasRow, WorkState, is_retried, is_retry_of, push_cases}
+use Rattle.run_model.proofs.Common.{slice_get-push_left}
 use Rattle.run_model.specs.declared.tasks.Task.{Task}
-use Rattle.run_model.specs.Rules.{AreLinked, IsRetry, HasRow}
-use Rattle.run_model.specs.State.{WorkState}
-use Rattle.run_model.specs.Tasks.{is_retried, is_retry_of}
-use Rattle.run_model.proofs.RowLemmas.{push_cases, slice_get-push_left}
 use Rattle.model_laws.proofs.FirstErrors.{any_found}
 use Rattle.model_laws.proofs.Shapes.{AreAlike, alike_same, IsSameTask, task_same}
 

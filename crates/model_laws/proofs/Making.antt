@@ -1,10 +1,12 @@
 -- What is made is seen: scopes, groups and tasks.
-use Rattle.std.proofs.Common.{◌≡◌, ◌+◌, ℕ, Bool, true, false, List, [], ◌∷◌, ◌++◌, length, Option}
-use Rattle.std.proofs.Common.{Some, None, slice_get, unwrap_or, IsSomeAnd, refl, sym, ap, subst}
-use Rattle.std.proofs.Common.{◌∙◌}
-use Rattle.std.specs.Option.{option_map_or}
-use Rattle.std.proofs.Math.Seq.{take-append_seam}
-use Rattle.std.proofs.lemmas.Bool.{not-false}
+use Rattle.run_model.proofs.Common.{◌≡◌, ◌+◌, ℕ, Bool, true, false, List, [], ◌∷◌, ◌++◌, length}
+use Rattle.run_model.proofs.Common.{Option, Some, None, slice_get, unwrap_or, refl, sym, ap, subst}
+use Rattle.run_model.proofs.Common.{◌∙◌, option_map_or, take-append_seam, not-false, State}
+use Rattle.run_model.proofs.Common.{WorkState, new_scope, new_group, new_task, with_hit, hit_due}
+use Rattle.run_model.proofs.Common.{tick, retried_row, is_admitted, phase_by, phase_of, admits}
+use Rattle.run_model.proofs.Common.{limit_of, unfinished_in, refusals, task_look_of, kind_made}
+use Rattle.run_model.proofs.Common.{scope_of, group_of, Session, each_fails, HasRow}
+use Rattle.std.proofs.Common.{IsSomeAnd}
 use Rattle.run_model.specs.declared.scopes.Kind.TheVariants as kind
 use Rattle.run_model.specs.declared.scopes.Hit.{Hit}
 use Rattle.run_model.specs.declared.scopes.Scope.{Scope}
@@ -17,17 +19,8 @@ use Rattle.run_model.specs.declared.answers.Answer.TheVariants as answer
 use Rattle.run_model.specs.declared.commands.Command.TheVariants as command
 use Rattle.run_model.specs.declared.commands.Wish.{Wish}
 use Rattle.run_model.specs.Event as event
-use Rattle.run_model.specs.State.{State, WorkState}
-use Rattle.run_model.specs.Rows.{new_scope, new_group, new_task}
-use Rattle.run_model.specs.TreeChanges.{with_hit, hit_due, tick}
-use Rattle.run_model.specs.WorkChanges.{after_go, retried_row}
-use Rattle.run_model.specs.Tasks.{is_admitted, phase_by, phase_of, admits, limit_of, unfinished_in}
-use Rattle.run_model.specs.Allowed.{refusals}
-use Rattle.run_model.specs.Questions.{task_look_of}
-use Rattle.run_model.specs.Replies.{submission, kind_made, scope_of, group_of}
-use Rattle.run_model.specs.Session.{Session}
-use Rattle.run_model.proofs.RefusalLemmas.{each_fails}
-use Rattle.run_model.specs.Rules.{HasRow}
+use Rattle.run_model.specs.WorkChanges.{after_go}
+use Rattle.run_model.specs.Replies.{submission}
 use Rattle.model_laws.specs.Answers.{Answered, SeesGroup, seen_name, task_seen}
 use Rattle.model_laws.proofs.Answering.{carried_out}
 use Rattle.model_laws.proofs.Places.{pushed_row}

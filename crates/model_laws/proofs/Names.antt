@@ -1,15 +1,11 @@
 -- The row of a name, and the name of a row.
-use Rattle.std.proofs.Common.{position, ◌≡◌, ◌<◌, ◌&&◌, not, ℕ, Bool, true, List, length, Option}
-use Rattle.std.proofs.Common.{Some, None, slice_get, unwrap_or, bytes_eq, refl, sym, ap, arith}
-use Rattle.std.proofs.Common.{ltb-true}
-use Rattle.std.proofs.lemmas.Slice.Eq.{bytes_eq-Decides}
+use Rattle.run_model.proofs.Common.{position, ◌≡◌, ◌<◌, ◌&&◌, not, ℕ, Bool, true, List, length}
+use Rattle.run_model.proofs.Common.{Option, Some, None, slice_get, unwrap_or, refl, sym, ap, arith}
+use Rattle.run_model.proofs.Common.{ltb-true, bytes_eq-Decides, State, has_row, scope_of, group_of}
+use Rattle.run_model.proofs.Common.{AreNumbered, is_first}
+use Rattle.std.proofs.Common.{bytes_eq}
 use Rattle.run_model.specs.declared.scopes.Scope.{Scope}
 use Rattle.run_model.specs.declared.groups.Group.{Group}
-use Rattle.run_model.specs.State.{State}
-use Rattle.run_model.specs.Allowed.{has_row}
-use Rattle.run_model.specs.Replies.{scope_of, group_of}
-use Rattle.run_model.specs.Rules.{AreNumbered}
-use Rattle.run_model.proofs.RefusalLemmas.{is_first}
 use Rattle.model_laws.proofs.Places.{row_there, row_at_place, place_of_row}
 
 -- ---- rows with names

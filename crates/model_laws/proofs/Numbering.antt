@@ -1,20 +1,14 @@
 -- Rows stay within the limits, names distinct, and what a row names exists.
-use Rattle.std.proofs.Common.{◌≡◌, ◌<◌, ℕ, false, [], ◌∷◌, ◌++◌, length}
-use Rattle.std.proofs.Common.{Some, slice_get, inl, inr, sym, ◌∙◌, arith}
-use Rattle.std.proofs.lemmas.Bool.{both_ways}
+use Rattle.run_model.proofs.Common.{◌≡◌, ◌<◌, ℕ, false, [], ◌∷◌, ◌++◌, length, Some, slice_get}
+use Rattle.run_model.proofs.Common.{inl, inr, sym, ◌∙◌, arith, both_ways, slice_get_within}
+use Rattle.run_model.proofs.Common.{most_scopes, most_tasks, root, AreNumbered, is_root, State}
+use Rattle.run_model.proofs.Common.{push_cases, slice_get-push_left}
 use Rattle.std.proofs.lemmas.List.{length_push}
-use Rattle.std.proofs.lemmas.Option.{slice_get_within}
 use Rattle.run_model.specs.declared.bounds.TheConstants.{MOST_GROUPS}
 use Rattle.run_model.specs.declared.groups.Group.{Group}
 use Rattle.run_model.specs.declared.scopes.Scope.{Scope}
 use Rattle.run_model.specs.declared.tasks.Task.{Task}
-use Rattle.run_model.specs.Layouts.{most_scopes, most_tasks}
-use Rattle.run_model.specs.Rows.{root}
-use Rattle.run_model.specs.Rules.{AreNumbered}
-use Rattle.run_model.specs.Scopes.{is_root}
-use Rattle.run_model.specs.State.{State}
 use Rattle.run_model.proofs.NameLemmas.{names_pushed}
-use Rattle.run_model.proofs.RowLemmas.{push_cases, slice_get-push_left}
 use Rattle.model_laws.proofs.Shapes.{AreAlike, IsSameScope, IsSameGroup, IsSameTask}
 
 -- Rows that keep their names and what they name stay numbered.

@@ -1,17 +1,12 @@
 -- Each group scope stays that of exactly one group, and each group but a bare one keeps its scope.
-use Rattle.std.proofs.Common.{◌≡◌, ◌⊎◌, ◌<◌, ℕ, Bool, true, false, [], ◌∷◌, ◌++◌, length}
-use Rattle.std.proofs.Common.{slice_get, inl, inr, sym, ap, ◌∙◌, arith}
-use Rattle.std.specs.Option.{option_map_or}
-use Rattle.std.proofs.lemmas.Bool.{both_ways}
-use Rattle.std.proofs.lemmas.Option.{slice_get_within}
+use Rattle.run_model.proofs.Common.{◌≡◌, ◌⊎◌, ◌<◌, ℕ, Bool, true, false, [], ◌∷◌, ◌++◌, length}
+use Rattle.run_model.proofs.Common.{slice_get, inl, inr, sym, ap, ◌∙◌, arith, option_map_or}
+use Rattle.run_model.proofs.Common.{both_ways, slice_get_within, has_kind, is_group_kind}
+use Rattle.run_model.proofs.Common.{AreGroupScopes, Owns, HasRow, State, TreeState, WorkState}
+use Rattle.run_model.proofs.Common.{push_cases, slice_get-push_left, slice_get-push_last}
 use Rattle.run_model.specs.declared.groups.Group.{Group}
 use Rattle.run_model.specs.declared.scopes.Kind.{Kind}
 use Rattle.run_model.specs.declared.scopes.Scope.{Scope}
-use Rattle.run_model.specs.Allowed.{has_kind}
-use Rattle.run_model.specs.Scopes.{is_group_kind}
-use Rattle.run_model.specs.Rules.{AreGroupScopes, Owns, HasRow}
-use Rattle.run_model.specs.State.{State, TreeState, WorkState}
-use Rattle.run_model.proofs.RowLemmas.{push_cases, slice_get-push_left, slice_get-push_last}
 use Rattle.model_laws.proofs.Tests.{passing}
 use Rattle.model_laws.proofs.Shapes.{AreAlike, IsSameScope, IsSameGroup}
 

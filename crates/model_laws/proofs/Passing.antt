@@ -1,17 +1,12 @@
 -- What is decided passes each test, and what passes each test is decided.
-use Rattle.std.proofs.Common.{◌≡◌, ℕ, Bool, true, false, if◌then◌else◌, Some, None}
-use Rattle.std.proofs.Common.{Result, Ok, Err, refl, sym, ap, ◌∙◌}
+use Rattle.run_model.proofs.Common.{◌≡◌, ℕ, Bool, true, false, if◌then◌else◌, Some, None, Result}
+use Rattle.run_model.proofs.Common.{Ok, Err, refl, sym, ap, ◌∙◌, Event, State, refusals, and_then}
+use Rattle.run_model.proofs.Common.{is_repeated, is_full, if_room, event_of, decided, decide}
+use Rattle.run_model.proofs.Common.{unless_Ok, not, list_all}
 use Rattle.run_model.specs.declared.refusals.Refusal.{Refusal}
 use Rattle.run_model.specs.declared.refusals.Refusal.TheVariants as refusal
 use Rattle.run_model.specs.declared.commands.Command.{Command}
-use Rattle.run_model.specs.Event.{Event}
-use Rattle.run_model.specs.State.{State}
-use Rattle.run_model.specs.Allowed.{refusals}
-use Rattle.run_model.specs.Replies.{and_then, is_repeated, is_full, if_room, event_of, decided}
-use Rattle.run_model.specs.Replies.{decide}
-use Rattle.run_model.proofs.RefusalLemmas.{unless_Ok, unless_none}
-use Rattle.std.specs.Prelude.{not}
-use Rattle.std.specs.List.{list_all}
+use Rattle.run_model.proofs.RefusalLemmas.{unless_none}
 
 pub and_then_Ok :
     {X Y : Type 0} (r : Result X Refusal) (f : X → Result Y Refusal) (y : Y)

@@ -1,17 +1,15 @@
 -- The first row that passes a test: where it is, and what it is.
-use Rattle.std.proofs.Common.{◌++◌, ◌≡◌, ◌<◌, ℕ, zero, suc, Bool, true, false, List, [], ◌∷◌}
-use Rattle.std.proofs.Common.{length, get_or, Some, None, slice_get, position, cond, refl}
-use Rattle.std.proofs.Common.{ap, ◌∙◌, arith, lt-ltb, ltb}
-use Rattle.std.proofs.lemmas.Option.{none-some, slice_get_within, slice_get-get_or}
-use Rattle.std.proofs.lemmas.Option.{get_or_from_slice_get}
-use Rattle.std.proofs.lemmas.Bool.{false_from_ne_true, cond-true}
+use Rattle.run_model.proofs.Common.{◌++◌, ◌≡◌, ◌<◌, ℕ, zero, suc, Bool, true, false, List, [], ◌∷◌}
+use Rattle.run_model.proofs.Common.{length, get_or, Some, None, slice_get, position, cond, refl}
+use Rattle.run_model.proofs.Common.{ap, ◌∙◌, arith, lt-ltb, ltb, none-some, slice_get_within}
+use Rattle.run_model.proofs.Common.{slice_get-get_or, get_or_from_slice_get, false_from_ne_true}
+use Rattle.run_model.proofs.Common.{option_map, option_map_or, at_row, slice_get-push_last}
+use Rattle.run_model.proofs.Common.{slice_get-at_row_same}
+use Rattle.std.proofs.lemmas.Bool.{cond-true}
 use Rattle.std.proofs.lemmas.List.Quantifiers.{position-Some}
 use Rattle.std.proofs.lemmas.List.Sums.{position_or_len_is}
 use Rattle.std.specs.List.{position_or_len}
-use Rattle.std.specs.Option.{option_map, option_map_or}
-use Rattle.run_model.specs.Rows.{at_row}
 use Rattle.model_laws.proofs.Tests.{passing}
-use Rattle.run_model.proofs.RowLemmas.{slice_get-push_last, slice_get-at_row_same}
 
 -- ---- a row that passes a test
 

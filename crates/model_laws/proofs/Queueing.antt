@@ -1,16 +1,13 @@
 -- The admitted tasks of a group are its first ones.
-use Rattle.std.proofs.Common.{◌≡◌, ◌<◌, ◌≤◌, ◌+◌, ◌-◌, ℕ, zero, suc, Bool, true, false, ◌&&◌, ◌==◌}
-use Rattle.std.proofs.Common.{cond, nat_lt, List, [], ◌∷◌, length, take, Option, Some, None}
-use Rattle.std.proofs.Common.{slice_get, filter, get_or, refl, sym, ap, ◌∙◌, arith, ltb-true}
-use Rattle.std.proofs.Common.{ltb-false, eqb-true}
-use Rattle.std.specs.List.{range_with_len}
-use Rattle.std.specs.Option.{option_map_or}
+use Rattle.run_model.proofs.Common.{◌≡◌, ◌<◌, ◌≤◌, ◌+◌, ◌-◌, ℕ, zero, suc, Bool, true, false, ◌&&◌}
+use Rattle.run_model.proofs.Common.{◌==◌, cond, nat_lt, List, [], ◌∷◌, length, take, Option, Some}
+use Rattle.run_model.proofs.Common.{None, slice_get, filter, get_or, refl, sym, ap, ◌∙◌, arith}
+use Rattle.run_model.proofs.Common.{ltb-true, ltb-false, eqb-true, range_with_len, option_map_or}
+use Rattle.run_model.proofs.Common.{get_or_from_slice_get, WorkState, is_unfinished, unfinished_in}
+use Rattle.run_model.proofs.Common.{admits, limit_of, is_admitted}
 use Rattle.std.proofs.Math.Bool.{and-true}
-use Rattle.std.proofs.lemmas.Option.{get_or_from_slice_get}
 use Rattle.std.proofs.lemmas.List.Sums.{count_by_more_yes, count_by_more_no}
 use Rattle.run_model.specs.declared.tasks.Task.{Task}
-use Rattle.run_model.specs.State.{WorkState}
-use Rattle.run_model.specs.Tasks.{is_unfinished, unfinished_in, admits, limit_of, is_admitted}
 use Rattle.model_laws.specs.Queues.{is_unfinished_of, is_admitted_of, unfinished_tasks}
 use Rattle.model_laws.specs.Queues.{admitted_tasks}
 use Rattle.model_laws.proofs.Places.{row_there}

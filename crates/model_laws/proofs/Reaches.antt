@@ -1,23 +1,20 @@
 -- How far a hit reaches, over the rows of a line.
-use Rattle.std.proofs.Common.{◌≡◌, ℕ, zero, suc, Bool, true, false, not, cond, ◌==◌, ◌&&◌, ◌||◌}
-use Rattle.std.proofs.Common.{List, [], ◌∷◌, Option, Some, None, is_some, IsSome, slice_get, refl}
-use Rattle.std.proofs.Common.{sym, ap, ◌∙◌}
-use Rattle.std.specs.List.{filter_map, cons_option, list_any, AllByRecursion}
-use Rattle.std.specs.Option.{option_map, option_map_or, option_and_then}
+use Rattle.run_model.proofs.Common.{◌≡◌, ℕ, zero, suc, Bool, true, false, not, cond, ◌==◌, ◌&&◌}
+use Rattle.run_model.proofs.Common.{◌||◌, List, [], ◌∷◌, Option, Some, None, is_some, IsSome}
+use Rattle.run_model.proofs.Common.{slice_get, refl, sym, ap, ◌∙◌, filter_map, cons_option}
+use Rattle.run_model.proofs.Common.{list_any, AllByRecursion, option_map, option_map_or}
+use Rattle.run_model.proofs.Common.{option_and_then, eqb-true, false≢true, State, is_root}
+use Rattle.run_model.proofs.Common.{is_detached, upwards, line_within, line, before_detached}
+use Rattle.run_model.proofs.Common.{chain, own_hit, hit_at, least_hit, first_hit, is_done}
+use Rattle.run_model.proofs.Common.{IsConsistent, can_be_hit}
 use Rattle.std.proofs.Math.Bool.{or-true, and-false}
-use Rattle.std.proofs.lemmas.Bool.{eqb-true, false≢true}
 use Rattle.run_model.specs.declared.scopes.Hit.{Hit}
 use Rattle.run_model.specs.declared.scopes.Kind.{Kind}
 use Rattle.run_model.specs.declared.scopes.Kind.TheVariants as kind
 use Rattle.run_model.specs.declared.scopes.Scope.{Scope}
-use Rattle.run_model.specs.State.{State}
-use Rattle.run_model.specs.Scopes.{is_root, is_detached, upwards, line_within, line}
-use Rattle.run_model.specs.Scopes.{before_detached, chain, own_hit, hit_at, least_hit, first_hit}
-use Rattle.run_model.specs.Scopes.{is_done}
-use Rattle.run_model.specs.Rules.{IsConsistent, can_be_hit}
 use Rattle.model_laws.specs.Hits.{is_on, below, has_detached, has_hit, is_detached_at, is_cut_off}
-use Rattle.model_laws.specs.Hits.{EndsBelow, IsOnChains, EndsAllButCutOff}
-use Rattle.model_laws.specs.Hits.{HitsReachDown, IsAttached}
+use Rattle.model_laws.specs.Hits.{EndsBelow, IsOnChains, EndsAllButCutOff, HitsReachDown}
+use Rattle.model_laws.specs.Hits.{IsAttached}
 
 -- ---- the rows of a line
 

@@ -1,7 +1,10 @@
 -- What a refused step leaves.
-use Rattle.std.proofs.Common.{◌≡◌, ◌+◌, ℕ, [], ◌∷◌, Option, Some, None, Result, Ok, Err, slice_get}
-use Rattle.std.proofs.Common.{refl, sym, ap, ◌∙◌}
-use Rattle.std.specs.Option.{option_map, option_and_then, ok_or}
+use Rattle.run_model.proofs.Common.{◌≡◌, ◌+◌, ℕ, [], ◌∷◌, Option, Some, None, Result, Ok, Err}
+use Rattle.run_model.proofs.Common.{slice_get, refl, sym, ap, ◌∙◌, option_map, option_and_then}
+use Rattle.run_model.proofs.Common.{ok_or, Event, State, first_ready, decide, decide_start}
+use Rattle.run_model.proofs.Common.{decide_finish, and_then, started_of, answer_of, state_after}
+use Rattle.run_model.proofs.Common.{Session, event_of_step, with_event, session_after, replied}
+use Rattle.run_model.proofs.Common.{reply_of_step, result_unwrap_or}
 use Rattle.run_model.specs.declared.tasks.Task.{Task}
 use Rattle.run_model.specs.declared.answers.Reply.{Reply}
 use Rattle.run_model.specs.declared.answers.Reply.TheVariants as reply
@@ -10,14 +13,7 @@ use Rattle.run_model.specs.declared.commands.Step.{Step}
 use Rattle.run_model.specs.declared.commands.Step.TheVariants as step
 use Rattle.run_model.specs.declared.refusals.Refusal.{Refusal}
 use Rattle.run_model.specs.declared.refusals.Refusal.TheVariants as refusal
-use Rattle.run_model.specs.Event.{Event}
-use Rattle.run_model.specs.State.{State}
-use Rattle.run_model.specs.Tasks.{first_ready}
-use Rattle.run_model.specs.Replies.{decide, decide_start, decide_finish, and_then, started_of}
-use Rattle.run_model.specs.Replies.{answer_of, state_after, is_task_done}
-use Rattle.run_model.specs.Session.{Session, event_of_step, with_event, session_after}
-use Rattle.run_model.specs.Session.{replied, reply_of_step}
-use Rattle.std.specs.Result.{result_unwrap_or}
+use Rattle.run_model.specs.Replies.{is_task_done}
 use Rattle.model_laws.proofs.Places.{row_there}
 use Rattle.model_laws.proofs.Searching.{first_is_least, ready_within}
 use Rattle.model_laws.proofs.StartingReplies.{start_first}

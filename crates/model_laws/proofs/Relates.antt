@@ -1,18 +1,16 @@
 -- The first hits of two lists of rows that differ in hits alone: what relates their own hits, and
 -- is kept where own hits join those from above, relates their first hits.
-use Rattle.std.proofs.Common.{◌≡◌, ◌<◌, ℕ, zero, suc, Bool, true, false, cond, List, length}
-use Rattle.std.proofs.Common.{get_or, Option, Some, None, slice_get, refl, sym, subst, ap, ◌∙◌}
-use Rattle.std.proofs.Common.{arith}
-use Rattle.std.specs.List.{filter_map}
-use Rattle.std.specs.Ordering.{nat_cmp, ordering_then, is_lt}
+use Rattle.run_model.proofs.Common.{◌≡◌, ◌<◌, ℕ, zero, suc, Bool, true, false, cond, List, length}
+use Rattle.run_model.proofs.Common.{get_or, Option, Some, None, slice_get, refl, sym, subst, ap}
+use Rattle.run_model.proofs.Common.{◌∙◌, arith, filter_map, ordering_then, is_lt, Less, Greater}
+use Rattle.run_model.proofs.Common.{none-some, slice_get-get_or, slice_get_within, is_root}
+use Rattle.run_model.proofs.Common.{is_detached, upwards, line_within, before_detached, hit_at}
+use Rattle.run_model.proofs.Common.{comes_before, least_hit, first_hit, AreOrdered}
+use Rattle.std.specs.Ordering.{nat_cmp}
 use Rattle.std.specs.Cmp.{nat_cmp_is}
-use Rattle.std.proofs.Common.{Less, Greater}
-use Rattle.std.proofs.lemmas.Option.{none-some, slice_get-get_or, slice_get_within}
 use Rattle.run_model.specs.declared.scopes.Hit.{Hit}
 use Rattle.run_model.specs.declared.scopes.Kind.{Kind}
 use Rattle.run_model.specs.declared.scopes.Scope.{Scope}
-use Rattle.run_model.specs.Scopes.{is_root, is_detached, upwards, line_within, before_detached}
-use Rattle.run_model.specs.Scopes.{hit_at, comes_before, least_hit, first_hit, AreOrdered}
 use Rattle.model_laws.specs.Searches.{above, joined, first_hit_from}
 use Rattle.model_laws.proofs.Lines.{first_hit_up}
 

@@ -1,25 +1,16 @@
 -- A task that was retried is not retried again.
-use Rattle.std.proofs.Common.{◌≡◌, ℕ, true, false, List, [], ◌∷◌, ◌++◌, length}
-use Rattle.std.proofs.Common.{Option}
-use Rattle.std.proofs.Common.{Some, None, slice_get, refl, ap, subst, ◌∙◌}
-use Rattle.std.specs.Option.{option_map, option_map_or}
-use Rattle.std.proofs.lemmas.Bool.{both_ways, false_from_ne_true, not-false}
-use Rattle.std.proofs.lemmas.Option.{same_Some, slice_get_within, slice_get-map, cond_some}
-use Rattle.std.proofs.lemmas.Option.{option_and_then_some}
+use Rattle.run_model.proofs.Common.{◌≡◌, ℕ, true, false, List, [], ◌∷◌, ◌++◌, length, Option, Some}
+use Rattle.run_model.proofs.Common.{None, slice_get, refl, ap, subst, ◌∙◌, option_map}
+use Rattle.run_model.proofs.Common.{option_map_or, both_ways, false_from_ne_true, not-false}
+use Rattle.run_model.proofs.Common.{same_Some, slice_get_within, slice_get-map, cond_some}
+use Rattle.run_model.proofs.Common.{option_and_then_some, allowed, after, refusals, run, Event}
+use Rattle.run_model.proofs.Common.{at_row, State, WorkState, step, is_interrupted, is_retried}
+use Rattle.run_model.proofs.Common.{with_stage, stage_of, retried_row, each_fails}
+use Rattle.run_model.proofs.Common.{slice_get-push_left, slice_get-push_last, HasRow}
 use Rattle.run_model.specs.declared.tasks.Stage.{Stage}
 use Rattle.run_model.specs.declared.tasks.Stage.TheVariants as stage
 use Rattle.run_model.specs.declared.tasks.Task.{Task}
-use Rattle.run_model.specs.Allowed.{allowed, after, refusals, run}
-use Rattle.run_model.specs.Event.{Event}
 use Rattle.run_model.specs.Event as event
-use Rattle.run_model.specs.Rows.{at_row}
-use Rattle.run_model.specs.State.{State, WorkState}
-use Rattle.run_model.specs.Step.{step}
-use Rattle.run_model.specs.Tasks.{is_interrupted, is_retried}
-use Rattle.run_model.specs.WorkChanges.{with_stage, stage_of, retried_row}
-use Rattle.run_model.proofs.RefusalLemmas.{each_fails}
-use Rattle.run_model.proofs.RowLemmas.{slice_get-push_left, slice_get-push_last}
-use Rattle.run_model.specs.Rules.{HasRow}
 use Rattle.model_laws.specs.Restarts.{task_restarted}
 use Rattle.model_laws.specs.Retries.{IsTriedAnew, KeepsLink}
 use Rattle.model_laws.proofs.Interrupts.{restarted}

@@ -1,22 +1,17 @@
 -- Hits stay on scopes that can be cancelled, of the past, and as deadlines want them.
-use Rattle.std.proofs.Common.{◌≡◌, ◌≤◌, ℕ, Bool, true, false, List, Option, Some, None, slice_get}
-use Rattle.std.proofs.Common.{inl, inr, refl, sym, ap, ◌∙◌, arith}
-use Rattle.std.specs.Option.{option_map_or, option_and_then, option_or}
-use Rattle.std.specs.Prelude.{is_some, nat_le, IsSome, if◌then◌else◌}
-use Rattle.std.proofs.lemmas.Bool.{leb-true, le-leb, both_ways}
-use Rattle.std.proofs.lemmas.Option.{none-some, same_Some}
+use Rattle.run_model.proofs.Common.{◌≡◌, ◌≤◌, ℕ, Bool, true, false, List, Option, Some, None}
+use Rattle.run_model.proofs.Common.{slice_get, inl, inr, refl, sym, ap, ◌∙◌, arith, option_map_or}
+use Rattle.run_model.proofs.Common.{option_and_then, option_or, is_some, nat_le, IsSome}
+use Rattle.run_model.proofs.Common.{if◌then◌else◌, leb-true, le-leb, both_ways, none-some}
+use Rattle.run_model.proofs.Common.{same_Some, at_row, new_scope, AreHits, AreDeadlines}
+use Rattle.run_model.proofs.Common.{can_be_hit, HasRow, own_hit, own_deadline, State, TreeState}
+use Rattle.run_model.proofs.Common.{WorkState, with_hit, tick, hit_due, after_derive}
+use Rattle.run_model.proofs.Common.{after_advance, new_hit, push_cases, at_row_cases, map_cases}
 use Rattle.run_model.specs.declared.scopes.Hit.{Hit}
 use Rattle.run_model.specs.declared.scopes.Kind.{Kind}
 use Rattle.run_model.specs.declared.scopes.Kind.TheVariants as kind
 use Rattle.run_model.specs.declared.scopes.Reason.TheVariants.{Canceled, DeadlineExceeded}
 use Rattle.run_model.specs.declared.scopes.Scope.{Scope}
-use Rattle.run_model.specs.Rows.{at_row, new_scope}
-use Rattle.run_model.specs.Rules.{AreHits, AreDeadlines, can_be_hit, HasRow}
-use Rattle.run_model.specs.Scopes.{own_hit, own_deadline}
-use Rattle.run_model.specs.State.{State, TreeState, WorkState}
-use Rattle.run_model.specs.TreeChanges.{with_hit, tick, hit_due, after_derive}
-use Rattle.run_model.specs.TreeChanges.{after_advance, new_hit}
-use Rattle.run_model.proofs.RowLemmas.{push_cases, at_row_cases, map_cases}
 
 -- A hit that a row of this kind can have after n events, at this clock.
 pub record IsRightHit (n clock : ℕ) (of : Kind) (hit : Hit) : Type 0 where

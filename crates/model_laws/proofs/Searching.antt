@@ -1,12 +1,9 @@
 -- The least number that passes a test, and the least ready task.
-use Rattle.std.proofs.Common.{◌≡◌, ◌<◌, ◌≤◌, ◌+◌, ℕ, zero, suc, Bool, true, false, ◌&&◌, length}
-use Rattle.std.proofs.Common.{Option, Some, None, find, cond, inl, inr, refl, sym, ap, subst, ◌∙◌}
-use Rattle.std.proofs.Common.{arith}
-use Rattle.std.specs.List.{range_with_len}
-use Rattle.std.proofs.lemmas.Option.{none-some, same_Some}
-use Rattle.std.proofs.lemmas.Bool.{cases_lt, both_ways, false_from_ne_true}
-use Rattle.run_model.specs.State.{WorkState}
-use Rattle.run_model.specs.Tasks.{is_fresh, is_admitted, is_ready, first_ready}
+use Rattle.run_model.proofs.Common.{◌≡◌, ◌<◌, ◌≤◌, ◌+◌, ℕ, zero, suc, Bool, true, false, ◌&&◌}
+use Rattle.run_model.proofs.Common.{length, Option, Some, None, find, cond, inl, inr, refl, sym}
+use Rattle.run_model.proofs.Common.{ap, subst, ◌∙◌, arith, range_with_len, none-some, same_Some}
+use Rattle.run_model.proofs.Common.{cases_lt, both_ways, false_from_ne_true, WorkState, is_fresh}
+use Rattle.run_model.proofs.Common.{is_admitted, is_ready, first_ready}
 use Rattle.model_laws.specs.Queues.{IsLeastReady}
 use Rattle.model_laws.proofs.Places.{passing_within}
 

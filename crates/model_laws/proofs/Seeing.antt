@@ -1,12 +1,9 @@
 -- What a question says of a row.
-use Rattle.std.proofs.Common.{◌≡◌, ℕ, Some, slice_get, refl}
-use Rattle.std.specs.Option.{option_map}
+use Rattle.run_model.proofs.Common.{◌≡◌, ℕ, Some, slice_get, refl, option_map, State, is_admitted}
+use Rattle.run_model.proofs.Common.{phase_by, group_look_of, task_look_of}
 use Rattle.run_model.specs.declared.scopes.Scope.{Scope}
 use Rattle.run_model.specs.declared.groups.Group.{Group}
 use Rattle.run_model.specs.declared.tasks.Task.{Task}
-use Rattle.run_model.specs.State.{State}
-use Rattle.run_model.specs.Tasks.{is_admitted, phase_by}
-use Rattle.run_model.specs.Questions.{group_look_of, task_look_of}
 use Rattle.model_laws.specs.Answers.{seen_name, task_seen}
 
 pub scope_seen : (q : State) (s : ℕ) (row : Scope) → slice_get q.tree.scopes s ≡ Some row

@@ -1,26 +1,18 @@
 -- A task that was started is not started again.
-use Rattle.std.proofs.Common.{◌≡◌, ℕ, true, false, List, [], ◌∷◌, ◌++◌}
-use Rattle.std.proofs.Common.{Option}
-use Rattle.std.proofs.Common.{Some, None, slice_get, refl, sym, ap, subst, ◌∙◌, ◌&&◌}
-use Rattle.std.specs.Option.{option_map, option_map_or}
-use Rattle.std.proofs.lemmas.Bool.{and_parts, both_ways, false_from_ne_true, not-false}
-use Rattle.std.proofs.lemmas.Option.{same_Some, slice_get_within, slice_get-map, cond_some}
-use Rattle.std.proofs.lemmas.Option.{option_and_then_some}
+use Rattle.run_model.proofs.Common.{◌≡◌, ℕ, true, false, List, [], ◌∷◌, ◌++◌, Option, Some, None}
+use Rattle.run_model.proofs.Common.{slice_get, refl, sym, ap, subst, ◌∙◌, ◌&&◌, option_map}
+use Rattle.run_model.proofs.Common.{option_map_or, and_parts, both_ways, false_from_ne_true}
+use Rattle.run_model.proofs.Common.{not-false, same_Some, slice_get_within, slice_get-map}
+use Rattle.run_model.proofs.Common.{cond_some, option_and_then_some, allowed, after, refusals, run}
+use Rattle.run_model.proofs.Common.{Event, at_row, State, WorkState, step, is_admitted, is_fresh}
+use Rattle.run_model.proofs.Common.{with_stage, stage_of, retried_row, each_fails}
+use Rattle.run_model.proofs.Common.{slice_get-push_left, slice_get-at_row_same}
 use Rattle.run_model.specs.declared.tasks.Outcome.{Outcome}
 use Rattle.run_model.specs.declared.tasks.Outcome.TheVariants as outcome
 use Rattle.run_model.specs.declared.tasks.Stage.{Stage}
 use Rattle.run_model.specs.declared.tasks.Stage.TheVariants as stage
 use Rattle.run_model.specs.declared.tasks.Task.{Task}
-use Rattle.run_model.specs.Allowed.{allowed, after, refusals, run}
-use Rattle.run_model.specs.Event.{Event}
 use Rattle.run_model.specs.Event as event
-use Rattle.run_model.specs.Rows.{at_row}
-use Rattle.run_model.specs.State.{State, WorkState}
-use Rattle.run_model.specs.Step.{step}
-use Rattle.run_model.specs.Tasks.{is_admitted, is_fresh}
-use Rattle.run_model.specs.WorkChanges.{with_stage, stage_of, retried_row}
-use Rattle.run_model.proofs.RefusalLemmas.{each_fails}
-use Rattle.run_model.proofs.RowLemmas.{slice_get-push_left, slice_get-at_row_same}
 use Rattle.model_laws.specs.Restarts.{stage_restarted, task_restarted}
 use Rattle.model_laws.proofs.Interrupts.{restarted}
 use Rattle.model_laws.proofs.Shapes.{alike_at}

@@ -1,17 +1,12 @@
 -- The state of a store that was formatted: root alone.
-use Rattle.std.proofs.Common.{◌≡◌, ◌≤◌, ℕ, [], inl, inr, refl, sym, ap, ◌∙◌, arith}
-use Rattle.std.proofs.lemmas.Bool.{both_ways}
-use Rattle.std.proofs.lemmas.Option.{none-some}
+use Rattle.run_model.proofs.Common.{◌≡◌, ◌≤◌, ℕ, [], inl, inr, refl, sym, ap, ◌∙◌, arith}
+use Rattle.run_model.proofs.Common.{both_ways, none-some, most_scopes, root, IsConsistent, HasRow}
+use Rattle.run_model.proofs.Common.{is_root, own_deadline, is_group_kind, formatted, new_tree}
+use Rattle.run_model.proofs.Common.{new_work, push_cases}
 use Rattle.run_model.specs.declared.groups.Group.{Group}
 use Rattle.run_model.specs.declared.scopes.Scope.{Scope}
 use Rattle.run_model.specs.declared.layouts.Layout.{Layout}
 use Rattle.run_model.specs.declared.layouts.Layout.TheVariants.{Small, Large}
-use Rattle.run_model.specs.Layouts.{most_scopes}
-use Rattle.run_model.specs.Rows.{root}
-use Rattle.run_model.specs.Rules.{IsConsistent, HasRow}
-use Rattle.run_model.specs.Scopes.{is_root, own_deadline, is_group_kind}
-use Rattle.run_model.specs.State.{formatted, new_tree, new_work}
-use Rattle.run_model.proofs.RowLemmas.{push_cases}
 use Rattle.model_laws.proofs.RightHits.{AreRight, hits_right, deadlines_right}
 
 -- The one scope is root.

@@ -1,18 +1,14 @@
 -- What a start and a finish lead to.
-use Rattle.std.proofs.Common.{◌≡◌, ◌==◌, ℕ, true, false, length, Option, Some, None, Ok}
-use Rattle.std.proofs.Common.{sym, ap, ◌∙◌, eqb-true, lt-ltb, unwrap_or}
-use Rattle.std.specs.Option.{option_map_or, ok_or}
-use Rattle.std.proofs.lemmas.Bool.{not-false, not_from_true}
+use Rattle.run_model.proofs.Common.{◌≡◌, ◌==◌, ℕ, true, false, length, Option, Some, None, Ok, sym}
+use Rattle.run_model.proofs.Common.{ap, ◌∙◌, eqb-true, lt-ltb, unwrap_or, option_map_or, ok_or}
+use Rattle.run_model.proofs.Common.{not-false, Event, State, first_ready, is_running, has_stage}
+use Rattle.run_model.proofs.Common.{allowed, refusals, decide_finish, decide_start, decided}
+use Rattle.run_model.proofs.Common.{if_room, is_full, each_fails, is_first, unless_Ok}
+use Rattle.std.proofs.lemmas.Bool.{not_from_true}
 use Rattle.run_model.specs.declared.tasks.Outcome.{Outcome}
 use Rattle.run_model.specs.declared.refusals.Refusal.{Refusal}
-use Rattle.run_model.specs.Event.{Event}
 use Rattle.run_model.specs.Event as event
-use Rattle.run_model.specs.State.{State}
-use Rattle.run_model.specs.Tasks.{first_ready, is_running, has_stage}
-use Rattle.run_model.specs.Allowed.{allowed, refusals}
-use Rattle.run_model.specs.Replies.{decide_finish, decide_start, decided, if_room}
-use Rattle.run_model.specs.Replies.{is_full}
-use Rattle.run_model.proofs.RefusalLemmas.{each_fails, is_first, none_holds, unless_none, unless_Ok}
+use Rattle.run_model.proofs.RefusalLemmas.{none_holds, unless_none}
 use Rattle.model_laws.specs.Queues.{IsLeastReady}
 use Rattle.model_laws.proofs.Passing.{decided_leads, fits_decided}
 use Rattle.model_laws.proofs.Places.{passing_within}

@@ -1,16 +1,10 @@
 -- Each event that is allowed keeps the rules, and so does a run of them.
-use Rattle.std.proofs.Common.{◌≡◌, true, List, Some, subst, ◌+◌, [], ◌∷◌, arith}
-use Rattle.std.proofs.lemmas.Bool.{and_parts, eqb-true, leb-false, not-false}
-use Rattle.std.proofs.lemmas.Option.{same_Some, cond_some, option_and_then_some}
+use Rattle.run_model.proofs.Common.{◌≡◌, true, List, Some, subst, ◌+◌, [], ◌∷◌, arith, and_parts}
+use Rattle.run_model.proofs.Common.{eqb-true, leb-false, not-false, same_Some, cond_some}
+use Rattle.run_model.proofs.Common.{option_and_then_some, after, allowed, refusals, run, Event}
+use Rattle.run_model.proofs.Common.{IsConsistent, State, step, unfinished_in, each_fails, is_first}
 use Rattle.run_model.specs.declared.tasks.Outcome.TheVariants as outcome
-use Rattle.run_model.specs.Allowed.{after, allowed, refusals, run}
-use Rattle.run_model.specs.Event.{Event}
 use Rattle.run_model.specs.Event as event
-use Rattle.run_model.specs.Rules.{IsConsistent}
-use Rattle.run_model.specs.State.{State}
-use Rattle.run_model.specs.Step.{step}
-use Rattle.run_model.specs.Tasks.{unfinished_in}
-use Rattle.run_model.proofs.RefusalLemmas.{each_fails, is_first}
 use Rattle.model_laws.proofs.Ends.{consistent_wait}
 use Rattle.model_laws.proofs.GroupEvents.{made, made_bare, limited}
 use Rattle.model_laws.proofs.Reopening.{reopened}

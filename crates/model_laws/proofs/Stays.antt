@@ -1,24 +1,20 @@
 -- The hit that ended a scope stays, since every later hit is of a later event.
-use Rattle.std.proofs.Common.{◌≡◌, ◌+◌, ◌<◌, ℕ, Bool, true, false, cond, List, length, Option, Some}
-use Rattle.std.proofs.Common.{None, inl, inr, refl, subst, ap, ◌∙◌, arith}
-use Rattle.std.specs.Option.{option_map, option_and_then, IfSome}
-use Rattle.std.proofs.lemmas.Option.{none-some}
+use Rattle.run_model.proofs.Common.{◌≡◌, ◌+◌, ◌<◌, ℕ, Bool, true, false, cond, List, length}
+use Rattle.run_model.proofs.Common.{Option, Some, None, inl, inr, refl, subst, ap, ◌∙◌, arith}
+use Rattle.run_model.proofs.Common.{option_map, option_and_then, IfSome, none-some, Event, State}
+use Rattle.run_model.proofs.Common.{TreeState, comes_before, first_hit, ending, AreOrdered}
+use Rattle.run_model.proofs.Common.{after_derive, after_cancel, after_advance, step, allowed}
+use Rattle.run_model.proofs.Common.{after, run}
 use Rattle.run_model.specs.declared.scopes.Hit.{Hit}
 use Rattle.run_model.specs.declared.scopes.Reason.{Reason}
 use Rattle.run_model.specs.declared.scopes.Scope.{Scope}
-use Rattle.run_model.specs.Event.{Event}
-use Rattle.run_model.specs.State.{State, TreeState}
-use Rattle.run_model.specs.Scopes.{cause_of, comes_before, first_hit, ending, reason_of, AreOrdered}
+use Rattle.run_model.specs.Scopes.{cause_of, reason_of}
 use Rattle.run_model.specs.declared.scopes.Kind.{Kind}
-use Rattle.run_model.specs.TreeChanges.{after_derive, after_cancel, after_advance}
-use Rattle.run_model.specs.Step.{step}
-use Rattle.run_model.specs.Allowed.{allowed, after, run}
 use Rattle.run_model.specs.Rules.{ArePast, IsWellFormed}
 use Rattle.model_laws.specs.Searches.{joined}
 use Rattle.model_laws.specs.Endings.{AreEarlier, EndingsStay, KeepsEndings}
 pub use Rattle.model_laws.proofs.Relates.{earlier_comes_before, later_comes_behind}
-use Rattle.model_laws.proofs.Relates.{IsKept}
-use Rattle.model_laws.proofs.Relates.{RowsRelate, first_hits_relate}
+use Rattle.model_laws.proofs.Relates.{IsKept, RowsRelate, first_hits_relate}
 use Rattle.model_laws.proofs.RunLemmas.{after_allowed, after_step, run_keeps}
 use Rattle.model_laws.proofs.Follows.{HitFollows, RowsFollow, derived, ticked, cancel_follows}
 use Rattle.model_laws.proofs.Steps.{event_follows}

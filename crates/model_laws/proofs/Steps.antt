@@ -1,19 +1,14 @@
 -- What each event leaves of the tree follows from what was there.
-use Rattle.std.proofs.Common.{◌≡◌, ◌<◌, ℕ, Bool, true, ◌&&◌, List, [], ◌∷◌, length, Option}
-use Rattle.std.proofs.Common.{Some, None, not, arith}
+use Rattle.run_model.proofs.Common.{◌≡◌, ◌<◌, ℕ, Bool, true, ◌&&◌, List, [], ◌∷◌, length, Option}
+use Rattle.run_model.proofs.Common.{Some, None, not, arith, option_map_or, and_parts, leb-false}
+use Rattle.run_model.proofs.Common.{ltb-true, Event, State, TreeState, WorkState, running_tasks}
+use Rattle.run_model.proofs.Common.{after_cancel, group_of_task, error_of, interruption, own_scope}
+use Rattle.run_model.proofs.Common.{after_group_cancel, after_task_end, allowed, refusals, has_row}
+use Rattle.run_model.proofs.Common.{each_fails, is_first}
 use Rattle.std.specs.List.{fold}
-use Rattle.std.specs.Option.{option_map_or}
-use Rattle.std.proofs.lemmas.Bool.{and_parts, leb-false, ltb-true}
 use Rattle.run_model.specs.declared.scopes.Kind.TheVariants as kind
-use Rattle.run_model.specs.Event.{Event}
 use Rattle.run_model.specs.Event as event
-use Rattle.run_model.specs.State.{State, TreeState, WorkState}
-use Rattle.run_model.specs.Tasks.{running_tasks}
-use Rattle.run_model.specs.TreeChanges.{after_cancel}
-use Rattle.run_model.specs.WorkChanges.{group_of_task, error_of, interruption}
-use Rattle.run_model.specs.Step.{own_scope, after_group_cancel, after_task_end, tree_after}
-use Rattle.run_model.specs.Allowed.{allowed, refusals, has_row}
-use Rattle.run_model.proofs.RefusalLemmas.{each_fails, is_first}
+use Rattle.run_model.specs.Step.{tree_after}
 use Rattle.model_laws.proofs.Follows.{TreeFollows, tree_same, tree_joins, derive_follows}
 use Rattle.model_laws.proofs.Follows.{cancel_follows, advance_follows}
 

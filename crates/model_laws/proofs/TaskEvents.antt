@@ -1,23 +1,18 @@
 -- The events of tasks keep the rules.
-use Rattle.std.proofs.Common.{◌≡◌, ◌&&◌, ℕ, true, false, List, length, slice_get, refl, sym, ap}
-use Rattle.std.proofs.Common.{None, subst, ◌∙◌, ◌+◌, not, [], ◌∷◌, ◌++◌, arith}
-use Rattle.std.proofs.lemmas.Bool.{both_ways, and_parts, ltb-true, not-true}
-use Rattle.std.specs.Option.{option_map_or}
-use Rattle.std.proofs.lemmas.Option.{none-some, same_Some, slice_get_within}
-use Rattle.run_model.specs.Layouts.{most_tasks}
+use Rattle.run_model.proofs.Common.{◌≡◌, ◌&&◌, ℕ, true, false, List, length, slice_get, refl, sym}
+use Rattle.run_model.proofs.Common.{ap, None, subst, ◌∙◌, ◌+◌, not, [], ◌∷◌, ◌++◌, arith}
+use Rattle.run_model.proofs.Common.{both_ways, and_parts, ltb-true, option_map_or, none-some}
+use Rattle.run_model.proofs.Common.{same_Some, slice_get_within, most_tasks, is_open, has_room}
+use Rattle.run_model.proofs.Common.{new_task, IsConsistent, AreLinked, IsRetry, HasRow, State}
+use Rattle.run_model.proofs.Common.{WorkState, step, is_running, is_unfinished, ended_in_error}
+use Rattle.run_model.proofs.Common.{is_admitted, is_fresh, is_interrupted, is_retried, has_stage}
+use Rattle.run_model.proofs.Common.{first_ready, group_of_task, retried_row, ◌==◌}
+use Rattle.std.proofs.lemmas.Bool.{not-true}
 use Rattle.run_model.specs.declared.tasks.Outcome.TheVariants as outcome
 use Rattle.run_model.specs.declared.tasks.Stage.TheVariants as stage
 use Rattle.run_model.specs.declared.tasks.Task.{Task}
-use Rattle.run_model.specs.Allowed.{is_open, has_room}
 use Rattle.run_model.specs.Event as event
-use Rattle.run_model.specs.Rows.{new_task}
-use Rattle.run_model.specs.Rules.{IsConsistent, AreLinked, IsRetry, HasRow}
-use Rattle.run_model.specs.State.{State, WorkState}
-use Rattle.run_model.specs.Step.{step}
-use Rattle.run_model.specs.Tasks.{is_running, is_unfinished, ended_in_error, is_admitted, is_fresh}
-use Rattle.run_model.specs.Tasks.{is_interrupted, is_retried, has_stage, first_ready}
-use Rattle.run_model.specs.WorkChanges.{after_retry, group_of_task, retried_row}
-use Rattle.std.specs.Prelude.{◌==◌}
+use Rattle.run_model.specs.WorkChanges.{after_retry}
 use Rattle.model_laws.proofs.Admission.{admitted_task}
 use Rattle.model_laws.proofs.Changes.{right_now, stage_changed}
 use Rattle.model_laws.proofs.Ends.{consistent_lost}

@@ -1,30 +1,19 @@
 -- The events of the tree keep the rules.
-use Rattle.std.proofs.Common.{refl, ◌≡◌, ℕ, true, List, length, Option, Some, None, ap, ◌∙◌, ◌<◌}
-use Rattle.std.proofs.Common.{◌+◌}
-use Rattle.std.proofs.Common.{arith}
-use Rattle.std.specs.Option.{option_map, option_map_or}
-use Rattle.std.specs.Prelude.{IsSome, is_none, not, ◌&&◌}
-use Rattle.std.proofs.lemmas.Bool.{ltb-true}
-use Rattle.std.proofs.lemmas.Option.{slice_get-map}
-use Rattle.run_model.specs.Layouts.{most_scopes}
+use Rattle.run_model.proofs.Common.{refl, ◌≡◌, ℕ, true, List, length, Option, Some, None, ap, ◌∙◌}
+use Rattle.run_model.proofs.Common.{◌<◌, ◌+◌, arith, option_map, option_map_or, IsSome, is_none}
+use Rattle.run_model.proofs.Common.{not, ◌&&◌, ltb-true, slice_get-map, most_scopes, has_kind}
+use Rattle.run_model.proofs.Common.{is_cancellable, has_row, has_room, new_scope, IsConsistent}
+use Rattle.run_model.proofs.Common.{can_be_hit, State, scope_named, step, with_hit, after_cancel}
+use Rattle.run_model.proofs.Common.{hit_due, tick, after_derive, after_advance, name_is_free}
+use Rattle.run_model.proofs.Common.{is_root, is_group_kind}
 use Rattle.run_model.specs.declared.scopes.Hit.{Hit}
 use Rattle.run_model.specs.declared.scopes.Kind.{Kind}
 use Rattle.run_model.specs.declared.scopes.Scope.{Scope}
-use Rattle.run_model.specs.Allowed.{has_kind, is_cancellable}
-use Rattle.run_model.specs.Allowed.{has_row, has_room}
 use Rattle.run_model.specs.Event as event
-use Rattle.run_model.specs.Rows.{new_scope}
-use Rattle.run_model.specs.Rules.{IsConsistent, can_be_hit}
-use Rattle.run_model.specs.State.{State, scope_named}
-use Rattle.run_model.specs.Step.{step}
-use Rattle.run_model.specs.TreeChanges.{with_hit, after_cancel, hit_due, tick, after_derive}
-use Rattle.run_model.specs.TreeChanges.{after_advance}
 use Rattle.model_laws.proofs.Changes.{right_now, hits_change}
 use Rattle.model_laws.proofs.Ends.{hit_cancelled}
 use Rattle.model_laws.proofs.FirstErrors.{hits_alike, hits_pushed, errors_tree}
 use Rattle.model_laws.proofs.Numbering.{numbered_scope}
-use Rattle.run_model.proofs.NameLemmas.{name_is_free}
-use Rattle.run_model.specs.Scopes.{is_root, is_group_kind}
 use Rattle.model_laws.proofs.Owners.{kind_row, row_kind, owners_scope}
 use Rattle.model_laws.proofs.RightHits.{AreRight, are_right, hits_right, deadlines_right}
 use Rattle.model_laws.proofs.RightHits.{or_else_some, right_pushed, right_advanced}

@@ -1,8 +1,10 @@
 -- What is waited for and what is started is seen.
-use Rattle.std.proofs.Common.{◌≡◌, ◌+◌, ℕ, Bool, true, false, List, Option, Some, None, Result, Ok}
-use Rattle.std.proofs.Common.{Err, slice_get, refl, sym, ap, subst, ◌∙◌}
-use Rattle.std.specs.Option.{option_map, option_and_then, ok_or}
-use Rattle.std.proofs.lemmas.Option.{none-some, same_Some}
+use Rattle.run_model.proofs.Common.{◌≡◌, ◌+◌, ℕ, Bool, true, false, List, Option, Some, None}
+use Rattle.run_model.proofs.Common.{Result, Ok, Err, slice_get, refl, sym, ap, subst, ◌∙◌}
+use Rattle.run_model.proofs.Common.{option_map, option_and_then, ok_or, none-some, same_Some}
+use Rattle.run_model.proofs.Common.{State, with_wait, with_stage, first_ready, state_after}
+use Rattle.run_model.proofs.Common.{started_of, reply_start, decide_start, group_of, Session}
+use Rattle.run_model.proofs.Common.{replied, is_first}
 use Rattle.run_model.specs.declared.groups.Group.{Group}
 use Rattle.run_model.specs.declared.tasks.Task.{Task}
 use Rattle.run_model.specs.declared.tasks.Stage.TheVariants as stage
@@ -14,14 +16,8 @@ use Rattle.run_model.specs.declared.commands.Step.TheVariants as step
 use Rattle.run_model.specs.declared.refusals.Refusal.{Refusal}
 use Rattle.run_model.specs.declared.refusals.Refusal.TheVariants as refusal
 use Rattle.run_model.specs.Event as event
-use Rattle.run_model.specs.State.{State}
 use Rattle.run_model.specs.Step as change
-use Rattle.run_model.specs.WorkChanges.{with_wait, with_stage}
-use Rattle.run_model.specs.Tasks.{first_ready}
-use Rattle.run_model.specs.Replies.{state_after, is_task_done, started_of, reply_start}
-use Rattle.run_model.specs.Replies.{decide_start, has_waited, group_of}
-use Rattle.run_model.specs.Session.{Session, replied}
-use Rattle.run_model.proofs.RefusalLemmas.{is_first}
+use Rattle.run_model.specs.Replies.{is_task_done, has_waited}
 use Rattle.model_laws.specs.Answers.{Replied, Answered, SeesStart, SeesWait}
 use Rattle.model_laws.proofs.Answering.{carried_out, repeated_out, room_made, decided_state}
 use Rattle.model_laws.proofs.Names.{named_group}

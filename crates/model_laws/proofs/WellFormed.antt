@@ -1,19 +1,13 @@
 -- Every event keeps a state well formed.
-use Rattle.std.proofs.Common.{◌≡◌, ◌⊎◌, ◌+◌, ◌<◌, ℕ, zero, suc, true, false, List, [], ◌∷◌, Some}
-use Rattle.std.proofs.Common.{slice_get, inl, inr, sym, subst, ap, ◌∙◌, arith}
-use Rattle.std.specs.Option.{option_and_then}
-use Rattle.std.proofs.lemmas.Option.{same_Some, none-some, option_and_then_some}
-use Rattle.std.proofs.lemmas.Bool.{true≢false}
+use Rattle.run_model.proofs.Common.{◌≡◌, ◌⊎◌, ◌+◌, ◌<◌, ℕ, zero, suc, true, false, List, [], ◌∷◌}
+use Rattle.run_model.proofs.Common.{Some, slice_get, inl, inr, sym, subst, ap, ◌∙◌, arith}
+use Rattle.run_model.proofs.Common.{option_and_then, same_Some, none-some, option_and_then_some}
+use Rattle.run_model.proofs.Common.{true≢false, Event, root, State, TreeState, formatted, is_root}
+use Rattle.run_model.proofs.Common.{own_hit, AreOrdered, step, allowed, after, run, IsConsistent}
 use Rattle.run_model.specs.declared.layouts.Layout.{Layout}
 use Rattle.run_model.specs.declared.scopes.Hit.{Hit}
 use Rattle.run_model.specs.declared.scopes.Scope.{Scope}
-use Rattle.run_model.specs.Event.{Event}
-use Rattle.run_model.specs.Rows.{root}
-use Rattle.run_model.specs.State.{State, TreeState, formatted}
-use Rattle.run_model.specs.Scopes.{is_root, own_hit, AreOrdered}
-use Rattle.run_model.specs.Step.{step}
-use Rattle.run_model.specs.Allowed.{allowed, after, run}
-use Rattle.run_model.specs.Rules.{ArePast, IsWellFormed, IsConsistent}
+use Rattle.run_model.specs.Rules.{ArePast, IsWellFormed}
 use Rattle.model_laws.proofs.RunLemmas.{after_allowed, after_step, run_keeps}
 use Rattle.model_laws.proofs.Follows.{IsOf, RowFollows, IsNewRow, RowsFollow, TreeFollows}
 use Rattle.model_laws.proofs.Steps.{event_follows}

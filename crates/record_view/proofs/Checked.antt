@@ -1,11 +1,9 @@
 -- Rows that are tested as they come.
-use Rattle.std.proofs.Common.{◌≡◌, ℕ, zero, suc, ◌+◌, cond, Bool, true, false, List, []}
-use Rattle.std.proofs.Common.{◌∷◌, ◌++◌, length, take, Option, Some, None, slice_get, refl, sym}
-use Rattle.std.proofs.Common.{ap, ◌∙◌, subst, arith, append_assoc, zero-add}
-use Rattle.std.specs.Prelude.{IsTrue}
-use Rattle.std.specs.List.{flat_map, AllByRecursion}
-use Rattle.std.proofs.lemmas.List.{append-nil}
-use Rattle.std.proofs.lemmas.Option.{same_Some, none-some}
+use Rattle.run_model.proofs.Common.{◌≡◌, ℕ, zero, suc, ◌+◌, cond, Bool, true, false, List, [], ◌∷◌}
+use Rattle.run_model.proofs.Common.{◌++◌, length, take, Option, Some, None, slice_get, refl, sym}
+use Rattle.run_model.proofs.Common.{ap, ◌∙◌, subst, arith, append_assoc, IsTrue, flat_map}
+use Rattle.run_model.proofs.Common.{AllByRecursion, append-nil, same_Some, none-some}
+use Rattle.std.proofs.Common.{zero-add}
 use Rattle.record_view.specs.Reading.{Reader}
 use Rattle.record_view.proofs.Codecs.{Codec, through, both_true, first_true, second_true}
 use Rattle.record_view.specs.WorkRows.{more_at, each_passes}

@@ -1,19 +1,14 @@
 -- An image has no more bytes than the greatest of its version and layout.
-use Rattle.std.proofs.Common.{◌≡◌, ℕ, suc, true, ◌+◌, ◌*◌, ◌-◌, ◌≤◌, List, [], ◌∷◌, ◌++◌, length}
-use Rattle.std.proofs.Common.{drop}
-use Rattle.std.proofs.Common.{Some, slice_get, refl, ap, ◌∙◌, subst, arith, length-append}
-use Rattle.std.proofs.Common.{length-drop}
-use Rattle.std.specs.Prelude.{IsTrue, is_some}
-use Rattle.std.specs.List.{flat_map, AllByRecursion}
+use Rattle.run_model.proofs.Common.{◌≡◌, ℕ, suc, true, ◌+◌, ◌*◌, ◌-◌, ◌≤◌, List, [], ◌∷◌, ◌++◌}
+use Rattle.run_model.proofs.Common.{length, drop, Some, slice_get, refl, ap, ◌∙◌, subst, arith}
+use Rattle.run_model.proofs.Common.{length-append, length-drop, IsTrue, is_some, flat_map}
+use Rattle.run_model.proofs.Common.{AllByRecursion, none-some, most_scopes, most_tasks, can_be_hit}
+use Rattle.run_model.proofs.Common.{State}
 use Rattle.std.proofs.Math.Nat.{mul-suc, mul-zero}
-use Rattle.std.proofs.lemmas.Option.{none-some}
 use Rattle.run_model.specs.declared.bounds.TheConstants.{MOST_GROUPS}
 use Rattle.run_model.specs.declared.layouts.Layout.{Layout}
 use Rattle.run_model.specs.declared.scopes.Hit.{Hit}
 use Rattle.run_model.specs.declared.scopes.Scope.{Scope}
-use Rattle.run_model.specs.Layouts.{most_scopes, most_tasks}
-use Rattle.run_model.specs.Rules.{can_be_hit}
-use Rattle.run_model.specs.State.{State}
 use Rattle.record_view.specs.declared.heads.ImageHead.{ImageHead}
 use Rattle.record_view.specs.declared.heads.ImageVersion.{ImageVersion}
 use Rattle.record_view.specs.declared.heads.ImageVersion.TheVariants.{One, Two}

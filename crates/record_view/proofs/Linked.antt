@@ -1,17 +1,10 @@
 -- Tests of truth, rows before a place, and links that are tested as they come.
-use Rattle.std.proofs.Common.{◌≡◌, ℕ, zero, suc, ◌<◌, ◌==◌, ◌&&◌, ◌||◌, not, Bool, true, false}
-use Rattle.std.proofs.Common.{List}
-use Rattle.std.proofs.Common.{[], ◌∷◌, take, Option, Some, None, slice_get, refl, sym}
-use Rattle.std.proofs.Common.{ap, ◌∙◌, arith}
-use Rattle.std.specs.Prelude.{◌↔◌}
-use Rattle.std.specs.List.{list_any}
-use Rattle.std.specs.Option.{option_map_or}
-use Rattle.std.proofs.lemmas.Bool.{eqb-true, eq-eqb}
-use Rattle.std.proofs.lemmas.Option.{none-some, same_Some}
-use Rattle.std.proofs.lemmas.Slice.Eq.{bytes_eq-Decides}
+use Rattle.run_model.proofs.Common.{◌≡◌, ℕ, zero, suc, ◌<◌, ◌==◌, ◌&&◌, ◌||◌, not, Bool, true}
+use Rattle.run_model.proofs.Common.{false, List, [], ◌∷◌, take, Option, Some, None, slice_get}
+use Rattle.run_model.proofs.Common.{refl, sym, ap, ◌∙◌, arith, ◌↔◌, list_any, option_map_or}
+use Rattle.run_model.proofs.Common.{eqb-true, eq-eqb, none-some, same_Some, bytes_eq-Decides}
+use Rattle.run_model.proofs.Common.{IsRetry, is_retry_of}
 use Rattle.run_model.specs.declared.tasks.Task.{Task}
-use Rattle.run_model.specs.Rules.{IsRetry}
-use Rattle.run_model.specs.Tasks.{is_retry_of}
 use Rattle.record_view.proofs.Codecs.{both_true, first_true, second_true}
 use Rattle.record_view.specs.WorkRows.{both_or_neither, can_retry, is_linked}
 

@@ -1,7 +1,6 @@
 -- Four, five and six fields in a row.
-use Rattle.std.proofs.Common.{◌≡◌, ℕ, Bool, List, ◌++◌, Some, sym, ap, ◌∙◌}
-use Rattle.std.proofs.Common.{append_assoc}
-use Rattle.std.specs.Prelude.{IsTrue}
+use Rattle.run_model.proofs.Common.{◌≡◌, ℕ, Bool, List, ◌++◌, Some, sym, ap, ◌∙◌, append_assoc}
+use Rattle.run_model.proofs.Common.{IsTrue}
 use Rattle.record_view.specs.Reading.{Reader, ◌>>=◌, three}
 use Rattle.record_view.specs.RowReading.{four, five, six}
 use Rattle.record_view.proofs.Codecs.{Codec, through, three_takes}

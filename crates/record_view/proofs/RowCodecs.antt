@@ -1,32 +1,26 @@
 -- Rows of groups and tasks, and heads, are read exactly where they are spelled.
-use Rattle.std.proofs.Common.{◌≡◌, ℕ, zero, suc, ◌<◌, ◌==◌, ◌^◌, nat_lt, cond, Bool, true, false}
-use Rattle.std.proofs.Common.{List}
-use Rattle.std.proofs.Common.{[], ◌∷◌, ◌++◌, ◌+◌, ◌≤◌, length, Option, Some, None, refl, ap, ◌∙◌}
-use Rattle.std.proofs.Common.{subst}
-use Rattle.std.proofs.Common.{arith, append_assoc}
-use Rattle.std.specs.Prelude.{IsTrue, is_none}
-use Rattle.std.specs.Int.{w16, to_be_bytes, w64}
-use Rattle.std.specs.List.{flat_map, AllByRecursion}
-use Rattle.std.proofs.lemmas.Option.{same_Some, none-some, cond_some}
-use Rattle.std.proofs.lemmas.Bool.{cond-true, ltb-true, lt-ltb, eqb-true, ne_eqb, eqb-false}
-use Rattle.run_model.specs.Records.{is_row_number}
+use Rattle.run_model.proofs.Common.{◌≡◌, ℕ, zero, suc, ◌<◌, ◌==◌, ◌^◌, nat_lt, cond, Bool, true}
+use Rattle.run_model.proofs.Common.{false, List, [], ◌∷◌, ◌++◌, ◌+◌, ◌≤◌, length, Option, Some}
+use Rattle.run_model.proofs.Common.{None, refl, ap, ◌∙◌, subst, arith, append_assoc, IsTrue}
+use Rattle.run_model.proofs.Common.{is_none, w16, to_be_bytes, w64, flat_map, AllByRecursion}
+use Rattle.run_model.proofs.Common.{same_Some, none-some, cond_some, ltb-true, lt-ltb, eqb-true}
+use Rattle.run_model.proofs.Common.{ne_eqb, is_row_number, most_scopes, most_tasks}
+use Rattle.run_model.proofs.Common.{most_scopes_most, most_tasks_most, is_name, is_text}
+use Rattle.std.proofs.lemmas.Bool.{cond-true, eqb-false}
 use Rattle.run_model.specs.declared.bounds.TheConstants.{MOST_GROUPS}
 use Rattle.run_model.specs.declared.layouts.Layout.{Layout}
-use Rattle.run_model.specs.Layouts.{most_scopes, most_tasks}
-use Rattle.run_model.proofs.LayoutLemmas.{most_scopes_most, most_tasks_most}
 use Rattle.record_view.specs.declared.heads.ImageVersion.{ImageVersion}
 use Rattle.record_view.specs.declared.heads.ImageVersion.TheVariants.{One, Two}
 use Rattle.run_model.specs.declared.tasks.Stage.{Stage}
 use Rattle.run_model.specs.declared.tasks.Stage.TheVariants as stage
-use Rattle.run_model.specs.Texts.{is_name, is_text}
 use Rattle.record_view.specs.Reading.{Reader, ◌>>=◌, number_at}
 use Rattle.record_view.specs.Image.{flag_bytes, stage_bytes, group_bytes, task_bytes, is_kept_link}
-use Rattle.record_view.specs.Image.{link_bytes, version_bytes}
-use Rattle.record_view.specs.Image.{head_bytes, is_kept_stage, is_kept_group, is_kept_task}
-use Rattle.record_view.specs.Image.{is_kept_head}
+use Rattle.record_view.specs.Image.{link_bytes, version_bytes, head_bytes, is_kept_stage}
+use Rattle.record_view.specs.Image.{is_kept_group, is_kept_task, is_kept_head}
 use Rattle.record_view.specs.RowReading.{flag_at, flag_by, stage_at, stage_by, group_row_at}
 use Rattle.record_view.specs.RowReading.{group_made, task_at, task_made, count_at, version_at}
-use Rattle.record_view.specs.RowReading.{head_at, head_made, version_by, fewer_at, link_at, link_by}
+use Rattle.record_view.specs.RowReading.{head_at, head_made, version_by, fewer_at, link_at}
+use Rattle.record_view.specs.RowReading.{link_by}
 use Rattle.record_view.proofs.Codecs.{Takes, Codec, same_takes, through, chosen, both_true}
 use Rattle.record_view.proofs.Codecs.{first_true, second_true, one_takes, one_again}
 use Rattle.record_view.proofs.Fields.{row_number, moment, text_field, optional_field, limit_field}

@@ -1,15 +1,13 @@
 -- How many bytes a row has at most.
-use Rattle.std.proofs.Common.{◌≡◌, ℕ, ◌+◌, ◌≤◌, Bool, true, false, length, Option, Some, None, refl}
-use Rattle.std.proofs.Common.{arith}
-use Rattle.std.specs.Prelude.{IsTrue}
+use Rattle.run_model.proofs.Common.{◌≡◌, ℕ, ◌+◌, ◌≤◌, Bool, true, false, length, Option, Some}
+use Rattle.run_model.proofs.Common.{None, refl, arith, IsTrue, can_be_hit, is_moment, text_bytes}
+use Rattle.run_model.proofs.Common.{optional_bytes, kind_bytes, to_be_bytes, w16, w64}
 use Rattle.run_model.specs.declared.scopes.Kind.{Kind}
 use Rattle.run_model.specs.declared.scopes.Kind.TheVariants as kind
 use Rattle.run_model.specs.declared.scopes.Reason.{Reason}
 use Rattle.run_model.specs.declared.scopes.Reason.TheVariants.{Canceled, DeadlineExceeded}
 use Rattle.run_model.specs.declared.scopes.Hit.{Hit}
 use Rattle.run_model.specs.declared.scopes.Scope.{Scope}
-use Rattle.run_model.specs.Rules.{can_be_hit}
-use Rattle.run_model.specs.Records.{is_moment}
 use Rattle.run_model.specs.Lengths.{optional_len}
 use Rattle.run_model.specs.declared.groups.Group.{Group}
 use Rattle.run_model.specs.declared.tasks.Stage.{Stage}
@@ -17,16 +15,14 @@ use Rattle.run_model.specs.declared.tasks.Stage.TheVariants as stage
 use Rattle.run_model.specs.declared.tasks.Task.{Task}
 use Rattle.record_view.specs.declared.heads.ImageVersion.{ImageVersion}
 use Rattle.record_view.specs.declared.heads.ImageVersion.TheVariants.{One, Two}
-use Rattle.run_model.specs.Spelling.{text_bytes, optional_bytes}
-use Rattle.run_model.specs.Spelling.{limit_bytes, kind_bytes}
-use Rattle.record_view.specs.Image.{reason_bytes, hit_bytes, scope_bytes}
-use Rattle.record_view.specs.Image.{flag_bytes, stage_bytes, link_bytes, group_bytes, task_bytes}
-use Rattle.record_view.specs.Image.{task_most, is_kept_group, is_kept_stage, is_kept_task}
-use Rattle.record_view.specs.Image.{is_kept_kind, is_kept_hit, is_kept_scope}
+use Rattle.run_model.specs.Spelling.{limit_bytes}
+use Rattle.record_view.specs.Image.{reason_bytes, hit_bytes, scope_bytes, flag_bytes, stage_bytes}
+use Rattle.record_view.specs.Image.{link_bytes, group_bytes, task_bytes, task_most, is_kept_group}
+use Rattle.record_view.specs.Image.{is_kept_stage, is_kept_task, is_kept_kind, is_kept_hit}
+use Rattle.record_view.specs.Image.{is_kept_scope}
 use Rattle.record_view.proofs.Codecs.{first_true, second_true}
 use Rattle.record_view.proofs.Lengths.{name_len, text_len, optional_len_most, kind_len_most}
 use Rattle.run_model.proofs.Lengths.{length-kind_bytes, length-optional_bytes}
-use Rattle.std.specs.Int.{to_be_bytes, w16, w64}
 use Rattle.record_view.proofs.RowJoins.{length_four, length_five, length_six}
 
 reason_len : (reason : Reason) → length (reason_bytes reason) ≡ 1

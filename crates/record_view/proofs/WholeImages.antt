@@ -1,15 +1,11 @@
 -- An image has one version and one state, and its bytes are few.
-use Rattle.std.proofs.Common.{◌≡◌, ℕ, List, [], ◌∷◌, ◌++◌, drop, Option}
-use Rattle.std.proofs.Common.{Some, slice_get, sym, ap, ◌∙◌, append_assoc}
-use Rattle.std.specs.List.{flat_map}
-use Rattle.std.proofs.lemmas.Option.{same_Some, none-some}
-use Rattle.std.proofs.lemmas.List.{append-nil}
+use Rattle.run_model.proofs.Common.{◌≡◌, ℕ, List, [], ◌∷◌, ◌++◌, drop, Option, Some, slice_get}
+use Rattle.run_model.proofs.Common.{sym, ap, ◌∙◌, append_assoc, flat_map, same_Some, none-some}
+use Rattle.run_model.proofs.Common.{append-nil, root, State}
 use Rattle.run_model.specs.declared.layouts.Layout.{Layout}
 use Rattle.run_model.specs.declared.scopes.Scope.{Scope}
 use Rattle.run_model.specs.declared.groups.Group.{Group}
 use Rattle.run_model.specs.declared.tasks.Task.{Task}
-use Rattle.run_model.specs.Rows.{root}
-use Rattle.run_model.specs.State.{State}
 use Rattle.record_view.specs.declared.heads.ImageHead.{ImageHead}
 use Rattle.record_view.specs.declared.heads.ImageVersion.{ImageVersion}
 use Rattle.record_view.specs.Reading.{◌>>=◌}

@@ -1,26 +1,19 @@
 -- The work that is read is the one whose rows the bytes begin with.
-use Rattle.std.proofs.Common.{◌≡◌, ℕ, zero, suc, ◌<◌, ◌≤◌, ◌&&◌, nat_le}
-use Rattle.std.proofs.Common.{true, List, [], ◌∷◌, ◌++◌, length, take, Option, Some, None}
-use Rattle.std.proofs.Common.{slice_get, inl, inr, refl, sym, ap, ◌∙◌, subst, arith}
-use Rattle.std.specs.Prelude.{IsTrue, is_some}
-use Rattle.std.specs.List.{flat_map, list_any, AllByRecursion}
-use Rattle.std.specs.Str.{bytes_eq}
-use Rattle.std.proofs.lemmas.Bool.{ltb-true, lt-ltb, leb-true, le-leb, eqb-true, eq-eqb, both_ways}
-use Rattle.std.proofs.lemmas.Bool.{cases_lt, false_from_ne_true}
-use Rattle.std.proofs.lemmas.List.{length-take-le}
-use Rattle.std.proofs.lemmas.Option.{same_Some, none-some, slice_get_within}
-use Rattle.std.proofs.lemmas.Slice.Eq.{bytes_eq-Decides}
+use Rattle.run_model.proofs.Common.{◌≡◌, ℕ, zero, suc, ◌<◌, ◌≤◌, ◌&&◌, nat_le, true, List, [], ◌∷◌}
+use Rattle.run_model.proofs.Common.{◌++◌, length, take, Option, Some, None, slice_get, inl, inr}
+use Rattle.run_model.proofs.Common.{refl, sym, ap, ◌∙◌, subst, arith, IsTrue, is_some, flat_map}
+use Rattle.run_model.proofs.Common.{list_any, AllByRecursion, bytes_eq, ltb-true, lt-ltb, leb-true}
+use Rattle.run_model.proofs.Common.{le-leb, eqb-true, eq-eqb, both_ways, cases_lt}
+use Rattle.run_model.proofs.Common.{false_from_ne_true, length-take-le, same_Some, none-some}
+use Rattle.run_model.proofs.Common.{slice_get_within, bytes_eq-Decides, most_tasks, AreLinked}
+use Rattle.run_model.proofs.Common.{has_task_error, WorkState, is_running, is_admitted}
+use Rattle.run_model.proofs.Common.{is_unfinished, unfinished_in, admits, limit_of, is_retry_of}
 use Rattle.run_model.specs.declared.bounds.TheConstants.{MOST_GROUPS}
 use Rattle.run_model.specs.declared.layouts.Layout.{Layout}
 use Rattle.run_model.specs.declared.groups.Group.{Group}
 use Rattle.run_model.specs.declared.tasks.Task.{Task}
-use Rattle.run_model.specs.Layouts.{most_tasks}
 use Rattle.run_model.specs.RuleParts.{AreWorkRules}
-use Rattle.run_model.specs.Rules.{AreLinked, has_task_error}
 use Rattle.run_model.proofs.NameLemmas.{unfound, unpassed}
-use Rattle.run_model.specs.State.{WorkState}
-use Rattle.run_model.specs.Tasks.{is_running, is_admitted, is_unfinished, unfinished_in, admits}
-use Rattle.run_model.specs.Tasks.{limit_of, is_retry_of}
 use Rattle.record_view.specs.Reading.{◌>>=◌}
 use Rattle.record_view.specs.declared.heads.ImageHead.{ImageHead}
 use Rattle.record_view.specs.declared.heads.ImageVersion.{ImageVersion}
@@ -28,11 +21,11 @@ use Rattle.record_view.specs.Image.{group_bytes, task_bytes, is_kept_group, is_k
 use Rattle.record_view.specs.RowReading.{group_row_at, task_at}
 use Rattle.record_view.proofs.Codecs.{through, both_true, first_true, second_true}
 use Rattle.record_view.proofs.RowCodecs.{group_row, task_row}
-use Rattle.record_view.specs.WorkRows.{more_at, each_passes, has_new_name, can_come}
-use Rattle.record_view.specs.WorkRows.{is_settled, is_linked, work_made, settled_at}
-use Rattle.record_view.specs.WorkRows.{has_work_room, work_rows_at, work_at, AreWorkRows}
-use Rattle.record_view.proofs.Checked.{ArePassed, more_take, more_again, all_pass}
-use Rattle.record_view.proofs.Checked.{pass_all, cond_some_by}
+use Rattle.record_view.specs.WorkRows.{more_at, each_passes, has_new_name, can_come, is_settled}
+use Rattle.record_view.specs.WorkRows.{is_linked, work_made, settled_at, has_work_room}
+use Rattle.record_view.specs.WorkRows.{work_rows_at, work_at, AreWorkRows}
+use Rattle.record_view.proofs.Checked.{ArePassed, more_take, more_again, all_pass, pass_all}
+use Rattle.record_view.proofs.Checked.{cond_some_by}
 use Rattle.record_view.proofs.Linked.{or_right, or_from, both_iff, iff_both, taken, untaken}
 use Rattle.record_view.proofs.Linked.{any_at, some_at, link_right, link_from, retry_facts}
 use Rattle.record_view.proofs.Linked.{retry_test, names_it, is_named}

@@ -1,17 +1,12 @@
 -- The image of a state, piece by piece.
-use Rattle.std.proofs.Common.{◌≡◌, ◌≤◌, ◌<◌, ℕ, ◌+◌, ◌-◌, ◌^◌, ◌&&◌, true, false, List}
-use Rattle.std.proofs.Common.{◌++◌, length, drop, Some, None, refl, sym, ap, ◌∙◌, arith}
-use Rattle.std.proofs.Common.{append_assoc, length-append, length-drop, subst}
-use Rattle.std.specs.List.{flat_map, AllByRecursion}
-use Rattle.std.specs.Prelude.{IsTrue, ◌==◌, Result, Ok, Err, IfErr}
-use Rattle.std.proofs.lemmas.Bool.{lt-ltb, le-leb}
-use Rattle.std.proofs.lemmas.Option.{none-some, slice_get_within}
+use Rattle.run_model.proofs.Common.{◌≡◌, ◌≤◌, ◌<◌, ℕ, ◌+◌, ◌-◌, ◌^◌, ◌&&◌, true, false, List, ◌++◌}
+use Rattle.run_model.proofs.Common.{length, drop, Some, None, refl, sym, ap, ◌∙◌, arith}
+use Rattle.run_model.proofs.Common.{append_assoc, length-append, length-drop, subst, flat_map}
+use Rattle.run_model.proofs.Common.{AllByRecursion, IsTrue, ◌==◌, Result, Ok, Err, IfErr, lt-ltb}
+use Rattle.run_model.proofs.Common.{le-leb, none-some, slice_get_within, most_scopes, most_tasks}
+use Rattle.run_model.proofs.Common.{root, IsConsistent, State, TreeState, WorkState, new_work}
 use Rattle.run_model.specs.declared.bounds.TheConstants.{MOST_GROUPS, GREATEST_MOMENT}
 use Rattle.run_model.specs.declared.layouts.Layout.{Layout}
-use Rattle.run_model.specs.Layouts.{most_scopes, most_tasks}
-use Rattle.run_model.specs.Rows.{root}
-use Rattle.run_model.specs.Rules.{IsConsistent}
-use Rattle.run_model.specs.State.{State, TreeState, WorkState, new_work}
 use Rattle.record_view.specs.declared.heads.ImageHead.{ImageHead}
 use Rattle.record_view.specs.declared.heads.ImageVersion.TheVariants.{Two}
 use Rattle.record_view.specs.Between.{fits_between}

@@ -1,21 +1,14 @@
 -- What the rules say of the rows of a state that is renewed.
-use Rattle.std.proofs.Common.{◌≡◌, ◌<◌, ◌≤◌, ◌-◌, ◌^◌, ℕ, suc, Bool, true, false, List}
-use Rattle.std.proofs.Common.{[], ◌∷◌, drop, take, length, Option, Some, None, slice_get, refl, sym}
-use Rattle.std.proofs.Common.{ap, subst, ◌∙◌, arith, length-drop}
-use Rattle.std.specs.List.{AllByRecursion}
-use Rattle.std.specs.Option.{IfSome}
-use Rattle.std.specs.Prelude.{IsSome, IsTrue}
-use Rattle.std.proofs.lemmas.List.{take_all}
-use Rattle.std.proofs.lemmas.Option.{none-some, slice_get_within}
+use Rattle.run_model.proofs.Common.{◌≡◌, ◌<◌, ◌≤◌, ◌-◌, ◌^◌, ℕ, suc, Bool, true, false, List, []}
+use Rattle.run_model.proofs.Common.{◌∷◌, drop, take, length, Option, Some, None, slice_get, refl}
+use Rattle.run_model.proofs.Common.{sym, ap, subst, ◌∙◌, arith, length-drop, AllByRecursion}
+use Rattle.run_model.proofs.Common.{IfSome, IsSome, IsTrue, take_all, none-some, slice_get_within}
+use Rattle.run_model.proofs.Common.{most_scopes, most_tasks, IsConsistent, HasRow, is_root, root}
+use Rattle.run_model.proofs.Common.{State, TreeState, WorkState}
 use Rattle.run_model.specs.declared.bounds.TheConstants.{MOST_GROUPS, GREATEST_MOMENT}
 use Rattle.run_model.specs.declared.layouts.Layout.{Layout}
 use Rattle.run_model.specs.declared.scopes.Scope.{Scope}
 use Rattle.run_model.specs.declared.tasks.Task.{Task}
-use Rattle.run_model.specs.Layouts.{most_scopes, most_tasks}
-use Rattle.run_model.specs.Rules.{IsConsistent, HasRow}
-use Rattle.run_model.specs.Scopes.{is_root}
-use Rattle.run_model.specs.Rows.{root}
-use Rattle.run_model.specs.State.{State, TreeState, WorkState}
 use Rattle.record_view.specs.declared.heads.ImageHead.{ImageHead}
 use Rattle.record_view.specs.declared.heads.ImageVersion.TheVariants.{Two}
 use Rattle.record_view.specs.Image.{head_of, image, is_kept_group, is_kept_scope, is_kept_task}

@@ -1,27 +1,20 @@
 -- A hit beside others of the same event: what ended a scope stays, as hits that are alike end it
 -- alike.
-use Rattle.std.proofs.Common.{◌≡◌, ◌⊎◌, ◌<◌, ℕ, Bool, true, false, cond, List}
-use Rattle.std.proofs.Common.{Option, Some, None, slice_get, Less, Equal, Greater, inl}
-use Rattle.std.proofs.Common.{inr, refl}
-use Rattle.std.proofs.Common.{sym, subst, ap, ◌∙◌, arith}
-use Rattle.std.specs.Option.{option_map, option_and_then, IsSome, IfSome, unwrap_or, option_or}
-use Rattle.std.specs.Ordering.{nat_cmp, ordering_then, is_lt}
+use Rattle.run_model.proofs.Common.{◌≡◌, ◌⊎◌, ◌<◌, ℕ, Bool, true, false, cond, List, Option, Some}
+use Rattle.run_model.proofs.Common.{None, slice_get, Less, Greater, inl, inr, refl, sym, subst, ap}
+use Rattle.run_model.proofs.Common.{◌∙◌, arith, option_map, option_and_then, IfSome, option_or}
+use Rattle.run_model.proofs.Common.{ordering_then, is_lt, cases_lt, cases_eq, false≢true}
+use Rattle.run_model.proofs.Common.{none-some, option_and_then_some, reason_text, at_row, own_hit}
+use Rattle.run_model.proofs.Common.{comes_before, first_hit, ending, is_group_kind, AreOrdered}
+use Rattle.run_model.proofs.Common.{has_kind, can_be_hit, TreeState, with_hit, new_hit}
+use Rattle.run_model.proofs.Common.{slice_get-at_row_same, slice_get-at_row_other}
+use Rattle.std.proofs.Common.{Equal}
+use Rattle.std.specs.Option.{IsSome, unwrap_or}
+use Rattle.std.specs.Ordering.{nat_cmp}
 use Rattle.std.specs.Cmp.{nat_cmp_is}
-use Rattle.std.proofs.lemmas.Bool.{cases_lt, cases_eq, false≢true}
-use Rattle.std.proofs.lemmas.Option.{none-some}
-use Rattle.std.proofs.lemmas.Option.{option_and_then_some}
 use Rattle.run_model.specs.declared.scopes.Hit.{Hit}
 use Rattle.run_model.specs.declared.scopes.Reason.TheVariants.{Canceled}
 use Rattle.run_model.specs.declared.scopes.Scope.{Scope}
-use Rattle.run_model.specs.Reasons.{reason_text}
-use Rattle.run_model.specs.Rows.{at_row}
-use Rattle.run_model.specs.Scopes.{own_hit, comes_before, first_hit, ending, is_group_kind}
-use Rattle.run_model.specs.Scopes.{AreOrdered}
-use Rattle.run_model.specs.Allowed.{has_kind}
-use Rattle.run_model.specs.Rules.{can_be_hit}
-use Rattle.run_model.specs.State.{TreeState}
-use Rattle.run_model.specs.TreeChanges.{with_hit, new_hit}
-use Rattle.run_model.proofs.RowLemmas.{slice_get-at_row_same, slice_get-at_row_other}
 use Rattle.model_laws.specs.Endings.{EndingsStay}
 use Rattle.model_laws.specs.Searches.{joined}
 use Rattle.model_laws.proofs.Relates.{IsKept, RowsRelate, first_hits_relate}

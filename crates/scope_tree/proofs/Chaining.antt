@@ -1,15 +1,14 @@
 -- Chains that grow by a place.
-use Rattle.std.proofs.Common.{◌≡◌, ◌≢◌, ◌<◌, ◌≤◌, ℕ, List, [], ◌∷◌, ◌++◌, length, Option, Some}
-use Rattle.std.proofs.Common.{None}
-use Rattle.std.proofs.Common.{slice_get, get_or, set, inl, inr, refl, sym, subst, ap, ◌∙◌, arith}
-use Rattle.std.proofs.Common.{length-append, length-set, get_or-set_same, get_or-set_other}
-use Rattle.std.specs.Prelude.{IfSome, replicate}
-use Rattle.std.proofs.lemmas.Bool.{cases_lt, cases_eq}
-use Rattle.std.proofs.lemmas.List.{get_or_append_left, get_or_push, get_or-replicate, get_or_past}
-use Rattle.std.proofs.lemmas.List.{length-replicate}
-use Rattle.std.proofs.lemmas.Option.{none-some, same_Some, slice_get_within}
+use Rattle.run_model.proofs.Common.{◌≡◌, ◌≢◌, ◌<◌, ◌≤◌, ℕ, List, [], ◌∷◌, ◌++◌, length, Option}
+use Rattle.run_model.proofs.Common.{Some, None, slice_get, get_or, set, inl, inr, refl, sym, subst}
+use Rattle.run_model.proofs.Common.{ap, ◌∙◌, arith, length-append, length-set, get_or-set_same}
+use Rattle.run_model.proofs.Common.{get_or-set_other, replicate, cases_lt, cases_eq}
+use Rattle.run_model.proofs.Common.{get_or_append_left, get_or_push, get_or_past, length-replicate}
+use Rattle.run_model.proofs.Common.{none-some, same_Some, slice_get_within, slice_get-push_left}
+use Rattle.run_model.proofs.Common.{slice_get-push_last, push_cases}
+use Rattle.std.specs.Prelude.{IfSome}
+use Rattle.std.proofs.lemmas.List.{get_or-replicate}
 use Rattle.run_model.specs.declared.bounds.TheConstants.{MOST_SCOPES}
-use Rattle.run_model.proofs.RowLemmas.{slice_get-push_left, slice_get-push_last, push_cases}
 use Rattle.scope_tree.specs.declared.chains.TheConstants.{CHAINS}
 use Rattle.scope_tree.specs.Chains.{Places, IsLast, IsChained, head_of, hung}
 

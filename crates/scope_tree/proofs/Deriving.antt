@@ -1,14 +1,10 @@
 -- A tree with a scope more is sound.
-use Rattle.std.proofs.Common.{◌≡◌, ◌<◌, ℕ, false, List, [], ◌∷◌, ◌++◌, length, Option}
-use Rattle.std.proofs.Common.{Some, inl, inr, sym, subst, ap, ◌∙◌}
-use Rattle.std.proofs.lemmas.Option.{none-some}
+use Rattle.run_model.proofs.Common.{◌≡◌, ◌<◌, ℕ, false, List, [], ◌∷◌, ◌++◌, length, Option, Some}
+use Rattle.run_model.proofs.Common.{inl, inr, sym, subst, ap, ◌∙◌, none-some, new_scope, is_root}
+use Rattle.run_model.proofs.Common.{AreOrdered, TreeState, tick, after_derive}
 use Rattle.run_model.specs.declared.scopes.Hit.{Hit}
 use Rattle.run_model.specs.declared.scopes.Kind.{Kind}
 use Rattle.run_model.specs.declared.scopes.Scope.{Scope}
-use Rattle.run_model.specs.Rows.{new_scope}
-use Rattle.run_model.specs.Scopes.{is_root, AreOrdered}
-use Rattle.run_model.specs.State.{TreeState}
-use Rattle.run_model.specs.TreeChanges.{tick, after_derive}
 use Rattle.model_laws.specs.Endings.{AreEarlier}
 use Rattle.model_laws.proofs.Follows.{tick_follows}
 use Rattle.scope_tree.specs.Chains.{Places}

@@ -1,21 +1,16 @@
 -- After a change of event e, each hit came with event e or an earlier one.
-use Rattle.std.proofs.Common.{◌≡◌, ◌⊎◌, ◌<◌, ◌+◌, ℕ, Bool, true, false, List, Option, Some, None}
-use Rattle.std.proofs.Common.{slice_get, inl, inr}
-use Rattle.std.proofs.Common.{refl, sym, subst, ap, ◌∙◌, arith}
-use Rattle.std.specs.Option.{option_and_then, option_map, option_map_or, unwrap_or, option_or}
-use Rattle.std.proofs.lemmas.Bool.{cases_eq}
-use Rattle.std.proofs.lemmas.Option.{same_Some, option_and_then_some}
+use Rattle.run_model.proofs.Common.{◌≡◌, ◌⊎◌, ◌<◌, ◌+◌, ℕ, Bool, true, false, List, Option, Some}
+use Rattle.run_model.proofs.Common.{None, slice_get, inl, inr, refl, sym, subst, ap, ◌∙◌, arith}
+use Rattle.run_model.proofs.Common.{option_and_then, option_map, option_map_or, option_or}
+use Rattle.run_model.proofs.Common.{cases_eq, same_Some, option_and_then_some, has_kind}
+use Rattle.run_model.proofs.Common.{reason_text, at_row, is_group_kind, TreeState, with_hit}
+use Rattle.run_model.proofs.Common.{after_cancel, new_hit, at_row_cases, slice_get-at_row_same}
+use Rattle.run_model.proofs.Common.{slice_get-at_row_other}
+use Rattle.std.specs.Option.{unwrap_or}
 use Rattle.run_model.specs.declared.scopes.Hit.{Hit}
 use Rattle.run_model.specs.declared.scopes.Kind.{Kind}
 use Rattle.run_model.specs.declared.scopes.Reason.TheVariants.{Canceled}
 use Rattle.run_model.specs.declared.scopes.Scope.{Scope}
-use Rattle.run_model.specs.Allowed.{has_kind}
-use Rattle.run_model.specs.Reasons.{reason_text}
-use Rattle.run_model.specs.Rows.{at_row}
-use Rattle.run_model.specs.Scopes.{is_group_kind}
-use Rattle.run_model.specs.State.{TreeState}
-use Rattle.run_model.specs.TreeChanges.{with_hit, after_cancel, new_hit}
-use Rattle.run_model.proofs.RowLemmas.{at_row_cases, slice_get-at_row_same, slice_get-at_row_other}
 use Rattle.model_laws.specs.Endings.{AreEarlier}
 use Rattle.model_laws.proofs.Follows.{RowsFollow}
 use Rattle.model_laws.proofs.WellFormed.{own_hit_follows}

@@ -1,36 +1,31 @@
 -- One advance: deadlines that pass, the soonest first, each after the hits before it.
-use Rattle.std.proofs.Common.{◌≡◌, ◌≢◌, ◌⊎◌, ◌+◌, ◌*◌, ◌<◌, ◌≤◌, ℕ, zero, suc, true, false, List}
-use Rattle.std.proofs.Common.{[]}
-use Rattle.std.proofs.Common.{◌∷◌, length, map, Option, Some, None, slice_get, unwrap_or}
-use Rattle.std.proofs.Common.{inl, inr, refl, sym, ap, ◌∙◌, subst, arith}
-use Rattle.std.specs.Option.{option_and_then, option_map, option_map_or, IsSome, option_or}
+use Rattle.run_model.proofs.Common.{◌≡◌, ◌≢◌, ◌⊎◌, ◌+◌, ◌*◌, ◌<◌, ◌≤◌, ℕ, zero, suc, true, false}
+use Rattle.run_model.proofs.Common.{List, [], ◌∷◌, length, map, Option, Some, None, slice_get}
+use Rattle.run_model.proofs.Common.{unwrap_or, inl, inr, refl, sym, ap, ◌∙◌, subst, arith}
+use Rattle.run_model.proofs.Common.{option_and_then, option_map, option_map_or, option_or}
+use Rattle.run_model.proofs.Common.{cases_lt, cases_eq, length-map, none-some, same_Some}
+use Rattle.run_model.proofs.Common.{slice_get_within, at_row, own_hit, own_deadline, is_detached}
+use Rattle.run_model.proofs.Common.{comes_before, ending, AreOrdered, with_hit, tick, hit_due}
+use Rattle.run_model.proofs.Common.{length-at_row, slice_get-at_row_same, map_cases}
+use Rattle.run_model.proofs.Common.{slice_get-at_row_other}
+use Rattle.std.specs.Option.{IsSome}
 use Rattle.std.specs.Cmp.{nat_cmp_is}
 use Rattle.std.specs.declared.cmp.Ordering.TheVariants.{Less, Equal, Greater}
-use Rattle.std.proofs.lemmas.Bool.{cases_lt, cases_eq}
-use Rattle.std.proofs.lemmas.List.{length-map}
-use Rattle.std.proofs.lemmas.Option.{none-some, same_Some, slice_get_within}
 use Rattle.run_model.specs.declared.bounds.TheConstants.{MOST_SCOPES}
 use Rattle.run_model.specs.declared.scopes.Hit.{Hit}
 use Rattle.run_model.specs.declared.scopes.Scope.{Scope}
-use Rattle.run_model.specs.Rows.{at_row}
-use Rattle.run_model.specs.Scopes.{own_hit, own_deadline, is_detached, comes_before, ending}
-use Rattle.run_model.specs.Scopes.{AreOrdered}
-use Rattle.run_model.specs.TreeChanges.{with_hit, tick, hit_due}
-use Rattle.run_model.proofs.RowLemmas.{length-at_row, slice_get-at_row_same, map_cases, map-at_row}
-use Rattle.run_model.proofs.RowLemmas.{slice_get-at_row_other}
+use Rattle.run_model.proofs.RowLemmas.{map-at_row}
 use Rattle.model_laws.specs.Endings.{AreEarlier}
 use Rattle.model_laws.proofs.Follows.{tick_follows}
 use Rattle.model_laws.proofs.Stays.{earlier_comes_before, later_comes_behind}
-use Rattle.scope_tree.specs.Deadlines.{deadline_at, due_at, key, Among, TakesFirst}
-use Rattle.scope_tree.specs.Deadlines.{AreWaiting}
+use Rattle.scope_tree.specs.Deadlines.{deadline_at, due_at, key, Among, TakesFirst, AreWaiting}
 use Rattle.scope_tree.specs.Links.{link_of, links_of}
 use Rattle.scope_tree.specs.Marks.{AreMarked, Struck}
 use Rattle.scope_tree.proofs.Keeping.{ordered_hit}
 use Rattle.scope_tree.proofs.Latest.{IsLatest, latest_stays}
 use Rattle.scope_tree.proofs.Marking.{own_hit_within}
 use Rattle.scope_tree.proofs.Waiting.{HasDeadline, HasCome, has_deadline, has_come, key_is, due_is}
-use Rattle.scope_tree.proofs.Waiting.{undue, deadline_hit, own_cases, own_kept}
-use Rattle.scope_tree.proofs.Waiting.{heap_over}
+use Rattle.scope_tree.proofs.Waiting.{undue, deadline_hit, own_cases, own_kept, heap_over}
 
 -- The hits of this event come no later than the deadlines that wait.
 abbrev pub ComeBefore : List Scope → List ℕ → ℕ → Type 0

@@ -1,33 +1,25 @@
 -- A row that can follow keeps the rules, and the rows of a tree that keeps them can follow.
-use Rattle.std.proofs.Common.{◌≡◌, ◌<◌, ◌≤◌, ℕ, zero, suc, ◌==◌, nat_le, not, cond, Bool}
-use Rattle.std.proofs.Common.{true, false, List, [], ◌∷◌, ◌++◌, length, Option, Some, None}
-use Rattle.std.proofs.Common.{slice_get}
-use Rattle.std.proofs.Common.{inl, inr, refl, sym, ap, ◌∙◌, subst, arith, append_assoc}
-use Rattle.std.proofs.Common.{length-append}
-use Rattle.std.specs.Prelude.{IsTrue, IsSome}
-use Rattle.std.specs.List.{flat_map, AllByRecursion}
-use Rattle.std.specs.Option.{option_map_or}
-use Rattle.std.specs.Str.{bytes_eq}
-use Rattle.std.proofs.lemmas.Option.{same_Some, none-some, slice_get_within}
-use Rattle.std.proofs.lemmas.Bool.{ltb-true, lt-ltb, leb-true, le-leb, eqb-true, eq-eqb}
-use Rattle.std.proofs.lemmas.Bool.{both_ways}
-use Rattle.std.proofs.lemmas.Slice.Eq.{bytes_eq-Decides}
+use Rattle.run_model.proofs.Common.{◌≡◌, ◌<◌, ◌≤◌, ℕ, zero, suc, ◌==◌, nat_le, not, cond, Bool}
+use Rattle.run_model.proofs.Common.{true, false, List, [], ◌∷◌, ◌++◌, length, Option, Some, None}
+use Rattle.run_model.proofs.Common.{slice_get, inl, inr, refl, sym, ap, ◌∙◌, subst, arith}
+use Rattle.run_model.proofs.Common.{append_assoc, length-append, IsTrue, IsSome, flat_map}
+use Rattle.run_model.proofs.Common.{AllByRecursion, option_map_or, bytes_eq, same_Some, none-some}
+use Rattle.run_model.proofs.Common.{slice_get_within, ltb-true, lt-ltb, leb-true, le-leb, eqb-true}
+use Rattle.run_model.proofs.Common.{eq-eqb, both_ways, bytes_eq-Decides, root, is_root}
+use Rattle.run_model.proofs.Common.{own_deadline, AreOrdered, name_is_free, push_cases}
+use Rattle.run_model.proofs.Common.{slice_get-push_left, append-nil}
 use Rattle.run_model.specs.declared.scopes.Kind.{Kind}
 use Rattle.run_model.specs.declared.scopes.Kind.TheVariants as kinds
 use Rattle.run_model.specs.declared.scopes.Reason.{Reason}
 use Rattle.run_model.specs.declared.scopes.Reason.TheVariants.{Canceled, DeadlineExceeded}
 use Rattle.run_model.specs.declared.scopes.Hit.{Hit}
 use Rattle.run_model.specs.declared.scopes.Scope.{Scope}
-use Rattle.run_model.specs.Rows.{root}
 use Rattle.run_model.specs.RuleParts.{HitFits, AreScopeRules}
-use Rattle.run_model.specs.Scopes.{is_root, own_deadline, AreOrdered}
-use Rattle.run_model.proofs.NameLemmas.{names_pushed, name_is_free, unpassed}
-use Rattle.run_model.proofs.RowLemmas.{push_cases, slice_get-push_left}
+use Rattle.run_model.proofs.NameLemmas.{names_pushed, unpassed}
 use Rattle.record_view.specs.Image.{is_kept_kind, is_kept_scope, scope_bytes}
 use Rattle.record_view.specs.RowReading.{scope_at}
 use Rattle.record_view.proofs.Codecs.{both_true, first_true, second_true, through}
 use Rattle.record_view.proofs.RowFields.{scope_row}
-use Rattle.std.proofs.lemmas.List.{append-nil}
 use Rattle.scope_tree.specs.TreeRows.{can_follow, hit_fits, reason_fits, more_rows_at}
 
 -- ---- hits

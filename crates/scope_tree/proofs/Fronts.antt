@@ -1,8 +1,7 @@
 -- Lists that are changed at one place, or from the front on.
-use Rattle.std.proofs.Common.{◌≡◌, ◌<◌, ℕ, zero, suc, List, [], ◌∷◌, length, get_or}
-use Rattle.std.proofs.Common.{ap, arith}
+use Rattle.run_model.proofs.Common.{◌≡◌, ◌<◌, ℕ, zero, suc, List, [], ◌∷◌, length, get_or, ap}
+use Rattle.run_model.proofs.Common.{arith, at_row}
 use Rattle.std.proofs.Math.ListN.{set}
-use Rattle.run_model.specs.Rows.{at_row}
 
 -- A row that is read, changed and written back is changed at its place.
 pub set_is_at_row : {X : Type 0} (change : X → X) (n : ℕ) (rows : List X) (row : X)

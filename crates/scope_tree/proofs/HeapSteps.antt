@@ -1,7 +1,6 @@
 -- Steps up and down a heap.
-use Rattle.std.proofs.Common.{◌≡◌, ◌≢◌, ℕ, zero, suc, ◌/◌, ◌<◌, ◌≤◌, inl, inr, ap, subst, ◌∙◌}
-use Rattle.std.proofs.Common.{arith}
-use Rattle.std.proofs.lemmas.Bool.{cases_eq}
+use Rattle.run_model.proofs.Common.{◌≡◌, ◌≢◌, ℕ, zero, suc, ◌/◌, ◌<◌, ◌≤◌, inl, inr, ap, subst}
+use Rattle.run_model.proofs.Common.{◌∙◌, arith, cases_eq}
 use Rattle.scope_tree.specs.Deadlines.{IsParent, IsHeap, UpTo, DownFrom}
 
 -- Two keys change places.

@@ -1,20 +1,18 @@
 -- The loops of the heap.
-use Rattle.std.proofs.Common.{◌≡◌, ◌≢◌, ℕ, suc, ◌+◌, ◌-◌, ◌<◌, ◌≤◌, List, [], ◌∷◌, ◌++◌, length}
-use Rattle.std.proofs.Common.{get_or, inl, inr, refl, sym, ap, subst, ◌∙◌, arith}
-use Rattle.std.specs.Prelude.{◌⊎◌}
-use Rattle.std.proofs.lemmas.Bool.{cases_lt, cases_eq}
+use Rattle.run_model.proofs.Common.{◌≡◌, ◌≢◌, ℕ, suc, ◌+◌, ◌-◌, ◌<◌, ◌≤◌, List, [], ◌∷◌, ◌++◌}
+use Rattle.run_model.proofs.Common.{length, get_or, inl, inr, refl, sym, ap, subst, ◌∙◌, arith}
+use Rattle.run_model.proofs.Common.{◌⊎◌, cases_lt, cases_eq, take, set, get_or_append_left}
+use Rattle.run_model.proofs.Common.{get_or_push, get_or_default, length-append, length-set}
+use Rattle.run_model.proofs.Common.{length-take-le, get_or-take, get_or-set_same, get_or-set_other}
+use Rattle.run_model.proofs.Common.{take_all, append-nil}
 use Rattle.std.specs.List.{swap, swap_remove, refill}
-use Rattle.std.proofs.Common.{take, set}
-use Rattle.std.proofs.lemmas.List.{get_or_append_left, get_or_push, get_or_default, length-append}
-use Rattle.std.proofs.lemmas.List.{length-set, length-take-le, get_or-take, get_or-set_same}
-use Rattle.std.proofs.lemmas.List.{get_or-set_other, drop_all, take_all, append-nil}
+use Rattle.std.proofs.lemmas.List.{drop_all}
 use Rattle.std.proofs.lemmas.List.Edits.{swapped_from_swap, length-swap}
 use Rattle.run_model.specs.declared.scopes.Scope.{Scope}
 use Rattle.run_model.specs.declared.bounds.TheConstants.{MOST_SCOPES}
 use Rattle.scope_tree.specs.Deadlines.{key, key_at, IsParent, IsHeap, UpTo, DownFrom, Among}
 use Rattle.scope_tree.specs.Deadlines.{SameNumbers, AreKnown, IsLesser, IsDueHeap, TakesFirst}
-use Rattle.scope_tree.proofs.HeapSteps.{Swapped, up_step, down_step}
-use Rattle.scope_tree.proofs.HeapSteps.{heap_least}
+use Rattle.scope_tree.proofs.HeapSteps.{Swapped, up_step, down_step, heap_least}
 
 pub same_trans : (xs ys zs : List ℕ) → SameNumbers xs ys → SameNumbers ys zs → SameNumbers xs zs
 same_trans xs ys zs h k = record {

@@ -1,22 +1,16 @@
 -- What the changes keep of the rows: parents have lesser numbers, and hits are of the past.
-use Rattle.std.proofs.Common.{◌≡◌, ◌<◌, ◌≤◌, ℕ, zero, suc, true, false, nat_le, List, [], ◌∷◌, ◌++◌}
-use Rattle.std.proofs.Common.{map}
-use Rattle.std.proofs.Common.{Option, Some, None, slice_get, inl, inr, refl, sym, subst, ap, ◌∙◌}
-use Rattle.std.proofs.Common.{arith}
-use Rattle.std.specs.Option.{option_map, option_map_or, option_or}
-use Rattle.std.proofs.lemmas.Bool.{false≢true, leb-true}
-use Rattle.std.proofs.lemmas.Option.{none-some, same_Some, cond_some, slice_get_within}
+use Rattle.run_model.proofs.Common.{◌≡◌, ◌<◌, ◌≤◌, ℕ, zero, suc, true, false, nat_le, List, []}
+use Rattle.run_model.proofs.Common.{◌∷◌, ◌++◌, map, Option, Some, None, slice_get, inl, inr, refl}
+use Rattle.run_model.proofs.Common.{sym, subst, ap, ◌∙◌, arith, option_map, option_map_or}
+use Rattle.run_model.proofs.Common.{option_or, false≢true, leb-true, none-some, same_Some}
+use Rattle.run_model.proofs.Common.{cond_some, slice_get_within, is_cancellable, root, new_scope}
+use Rattle.run_model.proofs.Common.{at_row, can_be_hit, is_root, AreOrdered, is_group_kind}
+use Rattle.run_model.proofs.Common.{with_hit, hit_due, tick, new_hit, at_row_cases, push_cases}
+use Rattle.run_model.proofs.Common.{map_cases, slice_get-at_row_other, slice_get-push_left}
 use Rattle.run_model.specs.declared.scopes.Hit.{Hit}
 use Rattle.run_model.specs.declared.scopes.Kind.{Kind}
 use Rattle.run_model.specs.declared.scopes.Kind.TheVariants as kinds
 use Rattle.run_model.specs.declared.scopes.Scope.{Scope}
-use Rattle.run_model.specs.Allowed.{is_cancellable}
-use Rattle.run_model.specs.Rows.{root, new_scope, at_row}
-use Rattle.run_model.specs.Rules.{can_be_hit}
-use Rattle.run_model.specs.Scopes.{is_root, AreOrdered, is_group_kind}
-use Rattle.run_model.specs.TreeChanges.{with_hit, hit_due, tick, new_hit}
-use Rattle.run_model.proofs.RowLemmas.{at_row_cases, push_cases, map_cases}
-use Rattle.run_model.proofs.RowLemmas.{slice_get-at_row_other, slice_get-push_left}
 use Rattle.run_model.specs.declared.scopes.Reason.TheVariants.{Canceled, DeadlineExceeded}
 use Rattle.scope_tree.specs.Checks.{is_derived_kind}
 use Rattle.scope_tree.specs.Sound.{AreRooted, IsPastHit, ArePastHits}

@@ -1,18 +1,12 @@
 -- A hit that comes after all others ends no scope that was done.
-use Rattle.std.proofs.Common.{◌≡◌, ◌≢◌, ◌⊎◌, ◌<◌, ℕ, zero, suc, Bool, true, false, cond, List, []}
-use Rattle.std.proofs.Common.{◌∷◌, length}
-use Rattle.std.proofs.Common.{Option, Some, None, slice_get, inl, inr, refl, sym, ap, subst}
-use Rattle.std.proofs.Common.{◌∙◌, arith}
-use Rattle.std.specs.Option.{option_map, option_and_then, option_or}
-use Rattle.std.proofs.lemmas.Bool.{cases_eq}
-use Rattle.std.proofs.lemmas.Option.{none-some}
+use Rattle.run_model.proofs.Common.{◌≡◌, ◌≢◌, ◌⊎◌, ◌<◌, ℕ, zero, suc, Bool, true, false, cond}
+use Rattle.run_model.proofs.Common.{List, [], ◌∷◌, length, Option, Some, None, slice_get, inl, inr}
+use Rattle.run_model.proofs.Common.{refl, sym, ap, subst, ◌∙◌, arith, option_map, option_and_then}
+use Rattle.run_model.proofs.Common.{option_or, cases_eq, none-some, at_row, is_root, is_detached}
+use Rattle.run_model.proofs.Common.{own_hit, comes_before, first_hit, ending, AreOrdered, with_hit}
+use Rattle.run_model.proofs.Common.{slice_get-at_row_same, slice_get-at_row_other}
 use Rattle.run_model.specs.declared.scopes.Hit.{Hit}
 use Rattle.run_model.specs.declared.scopes.Scope.{Scope}
-use Rattle.run_model.specs.Rows.{at_row}
-use Rattle.run_model.specs.Scopes.{is_root, is_detached, own_hit, comes_before, first_hit, ending}
-use Rattle.run_model.specs.Scopes.{AreOrdered}
-use Rattle.run_model.specs.TreeChanges.{with_hit}
-use Rattle.run_model.proofs.RowLemmas.{slice_get-at_row_same, slice_get-at_row_other}
 use Rattle.model_laws.specs.Searches.{above, joined, first_hit_from}
 use Rattle.model_laws.proofs.Lines.{first_hit_up}
 use Rattle.model_laws.proofs.Least.{first_hit_least}

@@ -1,16 +1,12 @@
 -- The mark of a scope, from its parent's and its own hit.
-use Rattle.std.proofs.Common.{◌≡◌, ◌<◌, ℕ, zero, suc, Bool, true, false, cond, List, [], ◌∷◌}
-use Rattle.std.proofs.Common.{◌+◌, ◌++◌, length, Option, Some, None, inl, inr}
-use Rattle.std.proofs.Common.{slice_get, refl, sym, subst, ap, ◌∙◌, arith}
-use Rattle.std.specs.Option.{option_map, option_map_or, IfSome}
-use Rattle.std.proofs.lemmas.Bool.{cases_lt}
-use Rattle.std.proofs.lemmas.List.{get_or_append_left, get_or_push}
-use Rattle.std.proofs.lemmas.Option.{none-some, slice_get_within, option_and_then_some}
+use Rattle.run_model.proofs.Common.{◌≡◌, ◌<◌, ℕ, zero, suc, Bool, true, false, cond, List, [], ◌∷◌}
+use Rattle.run_model.proofs.Common.{◌+◌, ◌++◌, length, Option, Some, None, inl, inr, slice_get}
+use Rattle.run_model.proofs.Common.{refl, sym, subst, ap, ◌∙◌, arith, option_map, option_map_or}
+use Rattle.run_model.proofs.Common.{IfSome, cases_lt, get_or_append_left, get_or_push, none-some}
+use Rattle.run_model.proofs.Common.{slice_get_within, option_and_then_some, root, is_root}
+use Rattle.run_model.proofs.Common.{is_detached, own_hit, comes_before, first_hit, AreOrdered}
 use Rattle.run_model.specs.declared.scopes.Hit.{Hit}
 use Rattle.run_model.specs.declared.scopes.Scope.{Scope}
-use Rattle.run_model.specs.Rows.{root}
-use Rattle.run_model.specs.Scopes.{is_root, is_detached, own_hit, comes_before, first_hit}
-use Rattle.run_model.specs.Scopes.{AreOrdered}
 use Rattle.model_laws.specs.Searches.{above, joined}
 use Rattle.model_laws.proofs.Lines.{first_hit_up}
 use Rattle.model_laws.proofs.Least.{first_hit_least}

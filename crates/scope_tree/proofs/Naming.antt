@@ -1,25 +1,20 @@
 -- The scope of a name, along its chain.
-use Rattle.std.proofs.Common.{◌≡◌, ◌≢◌, ◌<◌, ◌≤◌, ℕ, Bool, true, false, cond, List, [], ◌∷◌, ◌++◌}
-use Rattle.std.proofs.Common.{length, map, Option, Some, None, slice_get, get_or, inl, inr, refl}
-use Rattle.std.proofs.Common.{sym, subst, ap, ◌∙◌, arith, nat_lt}
-use Rattle.std.specs.Prelude.{is_none}
+use Rattle.run_model.proofs.Common.{◌≡◌, ◌≢◌, ◌<◌, ◌≤◌, ℕ, Bool, true, false, cond, List, [], ◌∷◌}
+use Rattle.run_model.proofs.Common.{◌++◌, length, map, Option, Some, None, slice_get, get_or, inl}
+use Rattle.run_model.proofs.Common.{inr, refl, sym, subst, ap, ◌∙◌, arith, nat_lt, is_none}
+use Rattle.run_model.proofs.Common.{option_map, option_map_or, bytes_eq, cases_lt, cases_eq}
+use Rattle.run_model.proofs.Common.{lt-ltb, le-ltb, length-map, same_Some, slice_get_within}
+use Rattle.run_model.proofs.Common.{slice_get-get_or, slice_get-map, get_or_from_slice_get}
+use Rattle.run_model.proofs.Common.{bytes_eq-Decides, at_row, with_hit, tick, hit_due}
+use Rattle.run_model.proofs.Common.{name_is_free, map_cases}
 use Rattle.std.specs.List.{position}
-use Rattle.std.specs.Option.{option_map, option_map_or}
-use Rattle.std.specs.Str.{bytes_eq}
-use Rattle.std.proofs.lemmas.Bool.{cases_lt, cases_eq, lt-ltb, le-ltb}
-use Rattle.std.proofs.lemmas.List.{length-map, map-append}
+use Rattle.std.proofs.lemmas.List.{map-append}
 use Rattle.std.proofs.lemmas.List.Sums.{position_or_len_is}
-use Rattle.std.proofs.lemmas.Option.{same_Some, slice_get_within, slice_get-get_or}
-use Rattle.std.proofs.lemmas.Option.{slice_get-map, get_or_from_slice_get}
-use Rattle.std.proofs.lemmas.Slice.Eq.{bytes_eq-Decides}
 use Rattle.run_model.specs.declared.scopes.Scope.{Scope}
 use Rattle.run_model.specs.declared.scopes.Hit.{Hit}
-use Rattle.run_model.specs.Rows.{at_row}
-use Rattle.run_model.specs.TreeChanges.{with_hit, tick, hit_due}
-use Rattle.run_model.proofs.NameLemmas.{names_pushed, name_is_free}
-use Rattle.run_model.proofs.RowLemmas.{map_cases, map-at_row}
-use Rattle.scope_tree.specs.Chains.{IsLast}
-use Rattle.scope_tree.specs.Chains.{Places}
+use Rattle.run_model.proofs.NameLemmas.{names_pushed}
+use Rattle.run_model.proofs.RowLemmas.{map-at_row}
+use Rattle.scope_tree.specs.Chains.{IsLast, Places}
 use Rattle.scope_tree.specs.Links.{link_of, links_of, AreFound}
 use Rattle.scope_tree.specs.Names.{home, names_of, homes_of, AreDistinct, AreNamed}
 

@@ -1,18 +1,14 @@
 -- The reach of a scope, from its parent's, and what no change of the rows takes from it.
-use Rattle.std.proofs.Common.{◌≡◌, ◌<◌, ℕ, zero, suc, Bool, true, false, cond, List, length}
-use Rattle.std.proofs.Common.{Option, Some, None, slice_get, get_or, refl, sym, ap, ◌∙◌, arith}
-use Rattle.std.proofs.Common.{[], ◌∷◌, ◌++◌, inl, inr}
-use Rattle.std.proofs.lemmas.Bool.{false≢true}
-use Rattle.std.proofs.lemmas.Option.{none-some, slice_get_within, slice_get-get_or, same_Some}
-use Rattle.std.proofs.lemmas.Option.{slice_get_read}
-use Rattle.run_model.proofs.RowLemmas.{push_cases}
+use Rattle.run_model.proofs.Common.{◌≡◌, ◌<◌, ℕ, zero, suc, Bool, true, false, cond, List, length}
+use Rattle.run_model.proofs.Common.{Option, Some, None, slice_get, get_or, refl, sym, ap, ◌∙◌}
+use Rattle.run_model.proofs.Common.{arith, [], ◌∷◌, ◌++◌, inl, inr, false≢true, none-some}
+use Rattle.run_model.proofs.Common.{slice_get_within, slice_get-get_or, same_Some, slice_get_read}
+use Rattle.run_model.proofs.Common.{push_cases, root, is_root, is_detached, own_deadline}
+use Rattle.run_model.proofs.Common.{deadline_of, text_under, value_of, AreOrdered}
 use Rattle.model_laws.proofs.Follows.{RowsFollow}
 use Rattle.run_model.specs.declared.scopes.Kind.{Kind}
 use Rattle.run_model.specs.declared.scopes.Kind.TheVariants as kinds
 use Rattle.run_model.specs.declared.scopes.Scope.{Scope}
-use Rattle.run_model.specs.Rows.{root}
-use Rattle.run_model.specs.Scopes.{is_root, is_detached, own_deadline, deadline_of, text_under}
-use Rattle.run_model.specs.Scopes.{value_of, AreOrdered}
 use Rattle.model_laws.specs.Searches.{above, earlier, nearest}
 use Rattle.model_laws.proofs.Lines.{deadline_up, value_up}
 use Rattle.scope_tree.specs.Reaches.{is_holder, IsReach, AreReaches, AreReached}

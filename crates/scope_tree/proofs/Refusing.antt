@@ -1,18 +1,14 @@
 -- What the test of a cancel answers, by what it finds.
-use Rattle.std.proofs.Common.{◌<◌, if◌then◌else◌, is_none, None, Ok, Err, Some}
-use Rattle.std.proofs.Common.{◌≡◌, ◌&&◌, ◌∙◌, ℕ, Bool, true, false, not, List, [], ◌∷◌, length}
-use Rattle.std.proofs.Common.{Option, Some, Result, is_some, slice_get, get_or, ltb}
-use Rattle.std.proofs.Common.{refl, sym, ap, subst}
-use Rattle.std.specs.Option.{option_map_or}
-use Rattle.std.proofs.lemmas.Bool.{lt-ltb, ltb-true}
-use Rattle.std.proofs.lemmas.Option.{slice_get_read}
+use Rattle.run_model.proofs.Common.{◌<◌, if◌then◌else◌, is_none, None, Ok, Err, Some, ◌≡◌, ◌&&◌}
+use Rattle.run_model.proofs.Common.{◌∙◌, ℕ, Bool, true, false, not, List, [], ◌∷◌, length, Option}
+use Rattle.run_model.proofs.Common.{Result, is_some, slice_get, get_or, ltb, refl, sym, ap, subst}
+use Rattle.run_model.proofs.Common.{option_map_or, lt-ltb, ltb-true, slice_get_read, has_row}
+use Rattle.run_model.proofs.Common.{is_cancellable, takes_cause, tested, is_done, TreeState}
+use Rattle.run_model.proofs.Common.{scope_named}
 use Rattle.run_model.specs.declared.scopes.Scope.{Scope}
 use Rattle.run_model.specs.declared.refusals.Refusal.{Refusal}
 use Rattle.run_model.specs.declared.refusals.Refusal.TheVariants as refusal
-use Rattle.run_model.specs.Allowed.{has_row, is_cancellable, takes_cause, tested}
 use Rattle.run_model.specs.Event.{Cancel}
-use Rattle.run_model.specs.Scopes.{is_done}
-use Rattle.run_model.specs.State.{TreeState, scope_named}
 use Rattle.scope_tree.specs.Checks.{Answers}
 
 -- the answer of one test

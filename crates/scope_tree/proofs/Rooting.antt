@@ -1,13 +1,11 @@
 -- A new tree: root alone.
-use Rattle.std.proofs.Common.{◌≡◌, ◌<◌, ◌≤◌, ℕ, Option, zero, suc, List, [], ◌∷◌, ◌++◌, Some, None}
-use Rattle.std.proofs.Common.{slice_get, refl, arith}
-use Rattle.std.proofs.lemmas.Option.{none-some, same_Some}
+use Rattle.run_model.proofs.Common.{◌≡◌, ◌<◌, ◌≤◌, ℕ, Option, zero, suc, List, [], ◌∷◌, ◌++◌, Some}
+use Rattle.run_model.proofs.Common.{None, slice_get, refl, arith, none-some, same_Some}
+use Rattle.run_model.proofs.Common.{most_scopes, root, new_scope}
 use Rattle.run_model.specs.declared.layouts.Layout.{Layout}
 use Rattle.run_model.specs.declared.layouts.Layout.TheVariants.{Small, Large}
 use Rattle.run_model.specs.declared.scopes.Scope.{Scope}
 use Rattle.run_model.specs.declared.scopes.Kind.TheVariants as kind
-use Rattle.run_model.specs.Layouts.{most_scopes}
-use Rattle.run_model.specs.Rows.{root, new_scope}
 use Rattle.scope_tree.specs.Chains.{Places}
 use Rattle.scope_tree.specs.Deadlines.{AreWaiting}
 use Rattle.scope_tree.specs.Links.{AreFound}

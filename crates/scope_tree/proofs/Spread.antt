@@ -1,11 +1,10 @@
 -- Marks that go down from one scope.
-use Rattle.std.proofs.Common.{◌≡◌, ◌≢◌, ◌⊎◌, ℕ, zero, suc, ◌+◌, ◌<◌, ◌≤◌, Bool, true, cond}
-use Rattle.std.proofs.Common.{List, [], ◌∷◌, ◌++◌, length, Option, Some, None, set, inl, inr}
-use Rattle.std.proofs.Common.{refl, sym, ap, subst, ◌∙◌, arith, is_some, is_none, slice_get, not}
-use Rattle.std.proofs.lemmas.Bool.{cases_lt, cases_eq, false≢true}
-use Rattle.std.proofs.lemmas.List.{get_or-set_same, get_or-set_other, length-set, length-append}
+use Rattle.run_model.proofs.Common.{◌≡◌, ◌≢◌, ◌⊎◌, ℕ, zero, suc, ◌+◌, ◌<◌, ◌≤◌, Bool, true, cond}
+use Rattle.run_model.proofs.Common.{List, [], ◌∷◌, ◌++◌, length, Option, Some, None, set, inl, inr}
+use Rattle.run_model.proofs.Common.{refl, sym, ap, subst, ◌∙◌, arith, is_some, is_none, slice_get}
+use Rattle.run_model.proofs.Common.{not, cases_lt, cases_eq, false≢true, get_or-set_same}
+use Rattle.run_model.proofs.Common.{get_or-set_other, length-set, length-append, slice_get_within}
 use Rattle.std.proofs.lemmas.List.Sums.{sum_by-set}
-use Rattle.std.proofs.lemmas.Option.{slice_get_within}
 use Rattle.scope_tree.specs.Chains.{IsLast}
 use Rattle.scope_tree.specs.Marks.{mark_of}
 use Rattle.scope_tree.specs.Spread.{In, Child, Since, Spreading, unmarked}

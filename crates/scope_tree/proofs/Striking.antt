@@ -1,17 +1,14 @@
 -- The marks, when one more scope has a hit and the marks have gone down from it.
-use Rattle.std.proofs.Common.{◌≡◌, ◌≢◌, ◌⊎◌, ℕ, zero, suc, ◌<◌, ◌≤◌, Bool, true, false, cond, List}
-use Rattle.std.proofs.Common.{[], ◌∷◌, ◌||◌, length, Option, Some, None, inl, inr, refl, sym}
-use Rattle.std.proofs.Common.{ap, subst, ◌∙◌, arith, is_some, slice_get}
-use Rattle.std.specs.Option.{option_map, option_and_then, option_or}
-use Rattle.std.proofs.lemmas.Bool.{cases_eq, false≢true}
-use Rattle.std.proofs.lemmas.Option.{none-some, same_Some, slice_get-map, slice_get_within}
+use Rattle.run_model.proofs.Common.{◌≡◌, ◌≢◌, ◌⊎◌, ℕ, zero, suc, ◌<◌, ◌≤◌, Bool, true, false, cond}
+use Rattle.run_model.proofs.Common.{List, [], ◌∷◌, ◌||◌, length, Option, Some, None, inl, inr}
+use Rattle.run_model.proofs.Common.{refl, sym, ap, subst, ◌∙◌, arith, is_some, slice_get}
+use Rattle.run_model.proofs.Common.{option_map, option_and_then, option_or, cases_eq, false≢true}
+use Rattle.run_model.proofs.Common.{none-some, same_Some, slice_get-map, slice_get_within, at_row}
+use Rattle.run_model.proofs.Common.{is_root, is_detached, own_hit, first_hit, ending, AreOrdered}
+use Rattle.run_model.proofs.Common.{with_hit, length-at_row, slice_get-at_row_same}
+use Rattle.run_model.proofs.Common.{slice_get-at_row_other}
 use Rattle.run_model.specs.declared.scopes.Hit.{Hit}
 use Rattle.run_model.specs.declared.scopes.Scope.{Scope}
-use Rattle.run_model.specs.Rows.{at_row}
-use Rattle.run_model.specs.Scopes.{is_root, is_detached, own_hit, first_hit, ending, AreOrdered}
-use Rattle.run_model.specs.TreeChanges.{with_hit}
-use Rattle.run_model.proofs.RowLemmas.{length-at_row, slice_get-at_row_same}
-use Rattle.run_model.proofs.RowLemmas.{slice_get-at_row_other}
 use Rattle.model_laws.specs.Searches.{above, joined}
 use Rattle.model_laws.proofs.Lines.{first_hit_up}
 use Rattle.scope_tree.specs.Links.{link_of, links_of}

@@ -1,36 +1,29 @@
 -- The tree that is read, and the rows of a tree that can be written.
-use Rattle.std.proofs.Common.{◌≡◌, ◌<◌, ◌≤◌, ◌-◌, ℕ, suc, ◌+◌, ◌&&◌, nat_lt, cond, Bool, true}
-use Rattle.std.proofs.Common.{false, List, []}
-use Rattle.std.proofs.Common.{◌∷◌, ◌++◌, length, take, drop, Some, None, slice_get, refl, sym, ap}
-use Rattle.std.proofs.Common.{◌∙◌, subst, arith, length-append, length-drop}
-use Rattle.std.specs.List.{flat_map}
-use Rattle.std.proofs.lemmas.Bool.{lt-ltb, le-ltb, le-leb, leb-true, ltb-true, false_from_ne_true}
+use Rattle.run_model.proofs.Common.{◌≡◌, ◌<◌, ◌≤◌, ◌-◌, ℕ, suc, ◌+◌, ◌&&◌, nat_lt, cond, Bool}
+use Rattle.run_model.proofs.Common.{true, false, List, [], ◌∷◌, ◌++◌, length, take, drop, Some}
+use Rattle.run_model.proofs.Common.{None, slice_get, refl, sym, ap, ◌∙◌, subst, arith}
+use Rattle.run_model.proofs.Common.{length-append, length-drop, flat_map, lt-ltb, le-ltb, le-leb}
+use Rattle.run_model.proofs.Common.{leb-true, ltb-true, false_from_ne_true, take_all, none-some}
+use Rattle.run_model.proofs.Common.{same_Some, most_scopes, is_moment, root, is_root, own_deadline}
+use Rattle.run_model.proofs.Common.{is_group_kind, TreeState}
 use Rattle.run_model.specs.declared.bounds.TheConstants.{GREATEST_MOMENT}
-use Rattle.std.proofs.lemmas.List.{take_all}
-use Rattle.std.proofs.lemmas.Option.{none-some, same_Some}
 use Rattle.run_model.specs.declared.layouts.Layout.{Layout}
 use Rattle.run_model.specs.declared.scopes.Kind.{Kind}
 use Rattle.run_model.specs.declared.scopes.Kind.TheVariants as kinds
 use Rattle.run_model.specs.declared.scopes.Reason.{Reason}
 use Rattle.run_model.specs.declared.scopes.Reason.TheVariants.{Canceled, DeadlineExceeded}
 use Rattle.run_model.specs.declared.scopes.Scope.{Scope}
-use Rattle.run_model.specs.Layouts.{most_scopes}
-use Rattle.run_model.specs.Records.{is_moment}
 use Rattle.run_model.specs.RuleParts.{AreScopeRules}
-use Rattle.run_model.specs.Rows.{root}
-use Rattle.run_model.specs.Scopes.{is_root, own_deadline, is_group_kind}
-use Rattle.run_model.specs.State.{TreeState}
 use Rattle.record_view.specs.Reading.{one}
 use Rattle.record_view.specs.declared.heads.ImageHead.{ImageHead}
 use Rattle.record_view.specs.Image.{scope_bytes}
 use Rattle.record_view.proofs.Codecs.{through, first_true, second_true}
 use Rattle.record_view.proofs.WholeImages.{rooted_list}
 use Rattle.scope_tree.specs.Sound.{AreRooted, ArePastHits}
-use Rattle.scope_tree.specs.TreeRows.{AreWritable, more_rows_at, tree_at, tree_made}
-use Rattle.scope_tree.specs.TreeRows.{has_tree_room}
+use Rattle.scope_tree.specs.TreeRows.{AreWritable, more_rows_at, tree_at, tree_made, has_tree_room}
 use Rattle.scope_tree.specs.TreeRules.{AreTreeRows}
-use Rattle.scope_tree.proofs.Followers.{more_are, rules_at_first, more_again}
-use Rattle.scope_tree.proofs.Followers.{AreAllKept, cond_some_by}
+use Rattle.scope_tree.proofs.Followers.{more_are, rules_at_first, more_again, AreAllKept}
+use Rattle.scope_tree.proofs.Followers.{cond_some_by}
 use Rattle.scope_tree.proofs.Sounding.{AreSound, tree_of}
 
 -- ---- writing

@@ -1,24 +1,20 @@
 -- Deadlines that wait, beside rows that change.
-use Rattle.std.proofs.Common.{◌≡◌, ◌⊎◌, ◌+◌, ◌*◌, ◌<◌, ◌≤◌, ℕ, suc, Bool, true, false, cond}
-use Rattle.std.proofs.Common.{nat_le}
-use Rattle.std.proofs.Common.{List, [], ◌∷◌, ◌++◌, length, Option, Some, None, slice_get, get_or}
-use Rattle.std.proofs.Common.{is_some, is_none, ◌&&◌, unwrap_or, inl, inr, refl, sym, ap, ◌∙◌}
-use Rattle.std.proofs.Common.{arith}
-use Rattle.std.proofs.Common.{subst, length-append}
-use Rattle.std.specs.Option.{option_and_then, option_map, IsSome, option_or}
-use Rattle.std.proofs.lemmas.Bool.{cases_eq, cases_lt, false≢true, leb-false, lt-leb}
-use Rattle.std.proofs.lemmas.List.{get_or_append_left, get_or_push}
-use Rattle.std.proofs.lemmas.Option.{none-some, same_Some, cond_some, slice_get_within}
+use Rattle.run_model.proofs.Common.{◌≡◌, ◌⊎◌, ◌+◌, ◌*◌, ◌<◌, ◌≤◌, ℕ, suc, Bool, true, false, cond}
+use Rattle.run_model.proofs.Common.{nat_le, List, [], ◌∷◌, ◌++◌, length, Option, Some, None}
+use Rattle.run_model.proofs.Common.{slice_get, get_or, is_some, is_none, ◌&&◌, unwrap_or, inl, inr}
+use Rattle.run_model.proofs.Common.{refl, sym, ap, ◌∙◌, arith, subst, length-append}
+use Rattle.run_model.proofs.Common.{option_and_then, option_map, option_or, cases_eq, cases_lt}
+use Rattle.run_model.proofs.Common.{false≢true, leb-false, lt-leb, get_or_append_left, get_or_push}
+use Rattle.run_model.proofs.Common.{none-some, same_Some, cond_some, slice_get_within, at_row}
+use Rattle.run_model.proofs.Common.{own_deadline, own_hit, is_detached, with_hit, hit_due, new_hit}
+use Rattle.run_model.proofs.Common.{length-at_row, slice_get-at_row_same, slice_get-at_row_other}
+use Rattle.run_model.proofs.Common.{slice_get-push_left}
+use Rattle.std.specs.Option.{IsSome}
 use Rattle.run_model.specs.declared.bounds.TheConstants.{MOST_SCOPES}
 use Rattle.run_model.specs.declared.scopes.Hit.{Hit}
 use Rattle.run_model.specs.declared.scopes.Kind.{Kind}
 use Rattle.run_model.specs.declared.scopes.Kind.TheVariants as kinds
 use Rattle.run_model.specs.declared.scopes.Scope.{Scope}
-use Rattle.run_model.specs.Rows.{at_row}
-use Rattle.run_model.specs.Scopes.{own_deadline, own_hit, is_detached}
-use Rattle.run_model.specs.TreeChanges.{with_hit, hit_due, new_hit}
-use Rattle.run_model.proofs.RowLemmas.{length-at_row, slice_get-at_row_same}
-use Rattle.run_model.proofs.RowLemmas.{slice_get-at_row_other, slice_get-push_left}
 use Rattle.run_model.specs.declared.scopes.Reason.TheVariants.{DeadlineExceeded}
 use Rattle.scope_tree.specs.Deadlines.{deadline_at, due_at, key, key_at, Among, IsDueHeap, Noted}
 use Rattle.scope_tree.specs.Deadlines.{SameNumbers, AreWaiting}

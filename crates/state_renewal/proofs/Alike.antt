@@ -1,8 +1,9 @@
 -- What goes on is answered as it is in the old store.
-use Rattle.std.proofs.Common.{◌≡◌, ℕ, true, List, Option, Some, None, slice_get, refl, sym, ap}
-use Rattle.std.proofs.Common.{◌∙◌}
-use Rattle.std.specs.List.{filter_map}
-use Rattle.std.specs.Option.{option_map}
+use Rattle.run_model.proofs.Common.{◌≡◌, ℕ, true, List, Option, Some, None, slice_get, refl, sym}
+use Rattle.run_model.proofs.Common.{ap, ◌∙◌, filter_map, option_map, group_look_of, look_of}
+use Rattle.run_model.proofs.Common.{task_look_of, IsConsistent, AreOrdered, deadline_of, ending}
+use Rattle.run_model.proofs.Common.{line_within, text_under, upwards, value_of, State, is_admitted}
+use Rattle.run_model.proofs.Common.{phase_by, unfinished_in}
 use Rattle.run_model.specs.declared.answers.GroupLook.{GroupLook}
 use Rattle.run_model.specs.declared.answers.Look.{Look}
 use Rattle.run_model.specs.declared.answers.TaskLook.{TaskLook}
@@ -11,12 +12,6 @@ use Rattle.run_model.specs.declared.scopes.Hit.{Hit}
 use Rattle.run_model.specs.declared.scopes.Scope.{Scope}
 use Rattle.run_model.specs.declared.tasks.Phase.{Phase}
 use Rattle.run_model.specs.declared.tasks.Task.{Task}
-use Rattle.run_model.specs.Questions.{group_look_of, look_of, task_look_of}
-use Rattle.run_model.specs.Rules.{IsConsistent}
-use Rattle.run_model.specs.Scopes.{AreOrdered, deadline_of, ending, line_within, text_under}
-use Rattle.run_model.specs.Scopes.{upwards, value_of}
-use Rattle.run_model.specs.State.{State}
-use Rattle.run_model.specs.Tasks.{is_admitted, phase_by, unfinished_in}
 use Rattle.state_renewal.specs.Renewed.{new_number, Part, group_anew, scope_anew, state_anew}
 use Rattle.state_renewal.specs.Renewed.{task_anew}
 use Rattle.state_renewal.specs.Alike.{GoOnAlike, group_look_anew, task_look_anew}

@@ -1,13 +1,9 @@
 -- What goes on of a state as it is renewed is the renewed state.
-use Rattle.std.proofs.Common.{◌≡◌, ◌<◌, ◌≤◌, ℕ, Bool, List, length, map, Option, Some, None}
-use Rattle.std.proofs.Common.{slice_get, false, true, refl, sym, ap, ◌∙◌, arith}
-use Rattle.std.specs.Option.{option_map}
-use Rattle.std.proofs.lemmas.Option.{slice_get_within, same_Some}
+use Rattle.run_model.proofs.Common.{◌≡◌, ◌<◌, ◌≤◌, ℕ, Bool, List, length, map, Option, Some, None}
+use Rattle.run_model.proofs.Common.{slice_get, false, true, refl, sym, ap, ◌∙◌, arith, option_map}
+use Rattle.run_model.proofs.Common.{slice_get_within, same_Some, root, IsConsistent, HasRow}
+use Rattle.run_model.proofs.Common.{is_root, State}
 use Rattle.run_model.specs.declared.scopes.Scope.{Scope}
-use Rattle.run_model.specs.Rows.{root}
-use Rattle.run_model.specs.Rules.{IsConsistent, HasRow}
-use Rattle.run_model.specs.Scopes.{is_root}
-use Rattle.run_model.specs.State.{State}
 use Rattle.state_renewal.specs.Renewed.{group_told, keeps_group, keeps_scope, keeps_task, kept}
 use Rattle.state_renewal.specs.Renewed.{new_number, renewed, scope_told, task_told, group_anew}
 use Rattle.state_renewal.specs.Renewed.{rows_anew, scope_anew, state_anew, task_anew}

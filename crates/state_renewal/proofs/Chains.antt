@@ -1,21 +1,18 @@
 -- What is asked of a scope that goes on is answered alike.
-use Rattle.std.proofs.Common.{◌≡◌, ◌<◌, ◌==◌, ℕ, zero, suc, Bool, true, false, cond, List, [], ◌∷◌}
-use Rattle.std.proofs.Common.{map, Option, Some, None, slice_get, refl, sym, ap, subst, ◌∙◌, arith}
-use Rattle.std.proofs.Common.{Less, Equal, Greater}
-use Rattle.std.specs.List.{filter_map, cons_option, AllByRecursion}
-use Rattle.std.specs.Option.{option_map}
-use Rattle.std.specs.Ordering.{nat_cmp, ordering_then, is_lt}
-use Rattle.std.specs.Prelude.{is_some, nat_lt}
+use Rattle.run_model.proofs.Common.{◌≡◌, ◌<◌, ◌==◌, ℕ, zero, suc, Bool, true, false, cond, List}
+use Rattle.run_model.proofs.Common.{[], ◌∷◌, map, Option, Some, None, slice_get, refl, sym, ap}
+use Rattle.run_model.proofs.Common.{subst, ◌∙◌, arith, Less, Greater, filter_map, cons_option}
+use Rattle.run_model.proofs.Common.{AllByRecursion, option_map, ordering_then, is_lt, is_some}
+use Rattle.run_model.proofs.Common.{nat_lt, has_kind, is_root, is_detached, line, before_detached}
+use Rattle.run_model.proofs.Common.{chain, hit_at, comes_before, least_hit, first_hit, ending}
+use Rattle.run_model.proofs.Common.{own_deadline, deadline_of, text_under, value_of, AreOrdered}
+use Rattle.run_model.proofs.Common.{is_done, line_within, upwards, State, TreeState, HasRow}
+use Rattle.std.proofs.Common.{Equal}
+use Rattle.std.specs.Ordering.{nat_cmp}
 use Rattle.run_model.specs.declared.scopes.Hit.{Hit}
 use Rattle.run_model.specs.declared.scopes.Kind.{Kind}
 use Rattle.run_model.specs.declared.scopes.Scope.{Scope}
-use Rattle.run_model.specs.Allowed.{has_kind}
-use Rattle.run_model.specs.Scopes.{is_root, is_detached, line, before_detached, chain}
-use Rattle.run_model.specs.Scopes.{hit_at, comes_before, first_of, least_hit, first_hit, ending}
-use Rattle.run_model.specs.Scopes.{own_deadline, least_moment, deadline_of, text_under, value_of}
-use Rattle.run_model.specs.Scopes.{AreOrdered, is_done, line_within, upwards}
-use Rattle.run_model.specs.State.{State, TreeState}
-use Rattle.run_model.specs.Rules.{HasRow}
+use Rattle.run_model.specs.Scopes.{first_of, least_moment}
 use Rattle.model_laws.proofs.Lines.{line_up}
 use Rattle.state_renewal.specs.Renewed.{new_number, Part, rows_anew, scope_anew, state_anew}
 use Rattle.state_renewal.specs.Renewed.{tree_anew}

@@ -1,26 +1,19 @@
 -- An event that names what goes on is decided alike by both stores.
-use Rattle.std.proofs.Common.{◌≡◌, ◌&&◌, ◌+◌, ◌*◌, ℕ, Bool, true, false, not, List, [], ◌∷◌}
-use Rattle.std.proofs.Common.{Option, Some, refl, sym, ap, ◌∙◌}
-use Rattle.std.specs.Prelude.{Result, Ok, Err, if◌then◌else◌, nat_lt}
-use Rattle.std.proofs.lemmas.Bool.{both_ways, false_from_ne_true}
+use Rattle.run_model.proofs.Common.{◌≡◌, ◌&&◌, ◌+◌, ◌*◌, ℕ, Bool, true, false, not, List, [], ◌∷◌}
+use Rattle.run_model.proofs.Common.{Option, Some, refl, sym, ap, ◌∙◌, Result, Ok, Err}
+use Rattle.run_model.proofs.Common.{if◌then◌else◌, nat_lt, both_ways, false_from_ne_true, allowed}
+use Rattle.run_model.proofs.Common.{refusals, unless, Event, body_len, record_len, and_then}
+use Rattle.run_model.proofs.Common.{decided, if_room, group_of, is_full, is_repeated, IsConsistent}
+use Rattle.run_model.proofs.Common.{State, step, is_running, is_unfinished, running_count}
+use Rattle.run_model.proofs.Common.{list_all}
 use Rattle.run_model.specs.declared.bounds.TheConstants.{FINISH_ROOM, SESSION_LEN}
 use Rattle.run_model.specs.declared.commands.Command.{Command}
 use Rattle.run_model.specs.declared.commands.Command.TheVariants as command
 use Rattle.run_model.specs.declared.refusals.Refusal.{Refusal}
 use Rattle.run_model.specs.declared.refusals.Refusal.TheVariants as refusal
-use Rattle.run_model.specs.Allowed.{allowed, refusals, unless}
-use Rattle.run_model.specs.Event.{Event}
 use Rattle.run_model.specs.Event as event
-use Rattle.run_model.specs.Lengths.{body_len}
-use Rattle.run_model.specs.Spelling.{record_len}
 use Rattle.run_model.proofs.Lengths.{record_len_is}
-use Rattle.run_model.specs.Replies.{and_then, decided, if_room, group_of, has_waited, is_full}
-use Rattle.run_model.specs.Replies.{is_repeated}
-use Rattle.run_model.specs.Rules.{IsConsistent}
-use Rattle.run_model.specs.State.{State}
-use Rattle.run_model.specs.Step.{step}
-use Rattle.run_model.specs.Tasks.{is_running, is_unfinished, running_count}
-use Rattle.std.specs.List.{list_all}
+use Rattle.run_model.specs.Replies.{has_waited}
 use Rattle.state_renewal.specs.Renewed.{Part, group_anew, state_anew, task_anew, work_anew}
 use Rattle.state_renewal.specs.Told.{event_anew, has_place, names_part}
 use Rattle.state_renewal.specs.Answered.{reply_anew, calls_part, command_anew}

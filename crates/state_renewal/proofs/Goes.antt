@@ -1,14 +1,11 @@
 -- What goes on hangs together, and all that is made later goes on. So it is at a renewal.
-use Rattle.std.proofs.Common.{◌≡◌, ◌<◌, ◌≤◌, ◌||◌, ℕ, Bool, true, List, length, Some, slice_get}
-use Rattle.std.proofs.Common.{sym, ap, ◌∙◌}
-use Rattle.std.specs.Prelude.{nat_le}
-use Rattle.std.proofs.lemmas.Bool.{le-leb, lt-leb, or_left, or_right}
-use Rattle.std.proofs.lemmas.Option.{slice_get_within}
+use Rattle.run_model.proofs.Common.{◌≡◌, ◌<◌, ◌≤◌, ◌||◌, ℕ, Bool, true, List, length, Some}
+use Rattle.run_model.proofs.Common.{slice_get, sym, ap, ◌∙◌, nat_le, le-leb, lt-leb}
+use Rattle.run_model.proofs.Common.{slice_get_within, IsConsistent, State, WorkState}
+use Rattle.std.proofs.lemmas.Bool.{or_left, or_right}
 use Rattle.run_model.specs.declared.groups.Group.{Group}
 use Rattle.run_model.specs.declared.scopes.Scope.{Scope}
 use Rattle.run_model.specs.declared.tasks.Task.{Task}
-use Rattle.run_model.specs.Rules.{IsConsistent}
-use Rattle.run_model.specs.State.{State, WorkState}
 use Rattle.state_renewal.specs.Renewed.{kept_part, keeps_group, keeps_scope, keeps_task, Part}
 use Rattle.state_renewal.proofs.Hangs.{EachRow, Hangs, kept_hangs, WithGroup, WithParent}
 use Rattle.state_renewal.proofs.Hangs.{WithScope}

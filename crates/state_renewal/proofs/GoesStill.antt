@@ -1,11 +1,16 @@
 -- What goes on hangs together after each event that names what goes on.
-use Rattle.std.proofs.Common.{◌≡◌, ◌+◌, ℕ, Bool, true, false, List, [], ◌∷◌, ◌++◌, length, map}
-use Rattle.std.proofs.Common.{Option, Some, None, slice_get, inl, inr, refl, sym, subst, ◌∙◌}
-use Rattle.std.proofs.Common.{arith}
+use Rattle.run_model.proofs.Common.{◌≡◌, ◌+◌, ℕ, Bool, true, false, List, [], ◌∷◌, ◌++◌, length}
+use Rattle.run_model.proofs.Common.{map, Option, Some, None, slice_get, inl, inr, refl, sym, subst}
+use Rattle.run_model.proofs.Common.{◌∙◌, arith, option_map_or, both_ways, length-map, Event}
+use Rattle.run_model.proofs.Common.{at_row, new_group, new_scope, new_task, State, TreeState}
+use Rattle.run_model.proofs.Common.{WorkState, after_group_cancel, after_task_end, own_scope, step}
+use Rattle.run_model.proofs.Common.{running_tasks, after_cancel, hit_due, tick, with_hit, new_hit}
+use Rattle.run_model.proofs.Common.{after_end, after_interrupt, error_of, retried_row}
+use Rattle.run_model.proofs.Common.{group_of_task, groups_after, interruption, stage_of}
+use Rattle.run_model.proofs.Common.{with_error, with_limit, with_stage, with_wait, at_row_cases}
+use Rattle.run_model.proofs.Common.{length-at_row, map_cases, push_cases}
 use Rattle.std.specs.List.{fold}
-use Rattle.std.specs.Option.{option_map_or}
-use Rattle.std.proofs.lemmas.Bool.{both_ways}
-use Rattle.std.proofs.lemmas.List.{length-map, length_push}
+use Rattle.std.proofs.lemmas.List.{length_push}
 use Rattle.run_model.specs.declared.groups.Group.{Group}
 use Rattle.run_model.specs.declared.scopes.Hit.{Hit}
 use Rattle.run_model.specs.declared.scopes.Kind.{Kind}
@@ -14,18 +19,8 @@ use Rattle.run_model.specs.declared.scopes.Scope.{Scope}
 use Rattle.run_model.specs.declared.tasks.Stage.{Stage}
 use Rattle.run_model.specs.declared.tasks.Stage.TheVariants as stage
 use Rattle.run_model.specs.declared.tasks.Task.{Task}
-use Rattle.run_model.specs.Event.{Event}
 use Rattle.run_model.specs.Event as event
-use Rattle.run_model.specs.Rows.{at_row, new_group, new_scope, new_task}
-use Rattle.run_model.specs.State.{State, TreeState, WorkState}
-use Rattle.run_model.specs.Step.{after_group_cancel, after_task_end, own_scope, step}
-use Rattle.run_model.specs.Tasks.{running_tasks}
-use Rattle.run_model.specs.TreeChanges.{after_cancel, hit_due, tick, with_hit, new_hit}
-use Rattle.run_model.specs.WorkChanges.{after_end, after_interrupt, after_retry, error_of}
-use Rattle.run_model.specs.WorkChanges.{retried_row}
-use Rattle.run_model.specs.WorkChanges.{group_of_task, groups_after, interruption}
-use Rattle.run_model.specs.WorkChanges.{stage_of, with_error, with_limit, with_stage, with_wait}
-use Rattle.run_model.proofs.RowLemmas.{at_row_cases, length-at_row, map_cases, push_cases}
+use Rattle.run_model.specs.WorkChanges.{after_retry}
 use Rattle.run_model.specs.declared.scopes.Reason.TheVariants.{Canceled}
 use Rattle.state_renewal.specs.Renewed.{Part}
 use Rattle.state_renewal.specs.Told.{names_part}

@@ -1,13 +1,10 @@
 -- A part that hangs together: each scope with its parent, each group with its scope, each task with
 -- its group; and of the groups that aren't of it each was waited for. So it is of what is kept.
-use Rattle.std.proofs.Common.{◌≡◌, ℕ, true, false, List, Some, slice_get}
-use Rattle.std.proofs.lemmas.Bool.{both_ways, true_from_ne_false}
+use Rattle.run_model.proofs.Common.{◌≡◌, ℕ, true, false, List, Some, slice_get, both_ways}
+use Rattle.run_model.proofs.Common.{true_from_ne_false, IsConsistent, is_root, State, WorkState}
 use Rattle.run_model.specs.declared.groups.Group.{Group}
 use Rattle.run_model.specs.declared.scopes.Scope.{Scope}
 use Rattle.run_model.specs.declared.tasks.Task.{Task}
-use Rattle.run_model.specs.Rules.{IsConsistent}
-use Rattle.run_model.specs.Scopes.{is_root}
-use Rattle.run_model.specs.State.{State, WorkState}
 use Rattle.state_renewal.specs.Renewed.{Part, keeps_group, kept_part, state_anew}
 use Rattle.state_renewal.proofs.Keeps.{owner_kept, parent_kept, scope_kept, task_is_kept}
 use Rattle.state_renewal.proofs.Keeps.{unwaited_kept}

@@ -1,13 +1,10 @@
 -- Flags of the scopes in which groups live, group by group.
-use Rattle.std.proofs.Common.{◌≡◌, ◌⊎◌, ◌<◌, ◌+◌, ◌==◌, ◌&&◌, ◌||◌, ℕ, Bool, true, false, not}
-use Rattle.std.proofs.Common.{List, length, take, Some, slice_get, inl, inr, refl, sym}
-use Rattle.std.proofs.Common.{ap, ◌∙◌, arith}
-use Rattle.std.specs.List.{list_any}
-use Rattle.std.specs.Prelude.{slice_set}
-use Rattle.std.proofs.lemmas.Bool.{cases_eq, eq-eqb, ne_eqb}
-use Rattle.std.proofs.lemmas.List.{get_or-set_same, get_or-set_other, length-set}
+use Rattle.run_model.proofs.Common.{◌≡◌, ◌⊎◌, ◌<◌, ◌+◌, ◌==◌, ◌&&◌, ◌||◌, ℕ, Bool, true, false}
+use Rattle.run_model.proofs.Common.{not, List, length, take, Some, slice_get, inl, inr, refl, sym}
+use Rattle.run_model.proofs.Common.{ap, ◌∙◌, arith, list_any, slice_set, cases_eq, eq-eqb, ne_eqb}
+use Rattle.run_model.proofs.Common.{get_or-set_same, get_or-set_other, length-set}
+use Rattle.run_model.proofs.Common.{get_or_from_slice_get, slice_get_within}
 use Rattle.std.proofs.lemmas.List.Folds.{list_any_more}
-use Rattle.std.proofs.lemmas.Option.{get_or_from_slice_get, slice_get_within}
 use Rattle.run_model.specs.declared.groups.Group.{Group}
 use Rattle.state_renewal.specs.Marks.{is_flagged}
 

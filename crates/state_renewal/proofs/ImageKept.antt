@@ -1,28 +1,21 @@
 -- The image of a renewed state: each field of its rows is in range, where the old ones were.
-use Rattle.std.proofs.Common.{◌≡◌, ◌<◌, ◌≤◌, ◌+◌, ◌^◌, ◌&&◌, ℕ, zero, suc, Bool, true, List, []}
-use Rattle.std.proofs.Common.{◌∷◌, length, drop, Option, Some, None, slice_get, refl, sym, ap}
-use Rattle.std.proofs.Common.{subst, ◌∙◌, arith}
-use Rattle.std.specs.List.{AllByRecursion}
-use Rattle.std.specs.Option.{option_map}
-use Rattle.std.specs.Prelude.{IsTrue, nat_lt}
-use Rattle.std.proofs.lemmas.Bool.{and_parts, and_from, ltb-true, lt-ltb, false≢true}
-use Rattle.std.proofs.lemmas.List.{length-drop}
-use Rattle.std.proofs.lemmas.Option.{slice_get_within}
+use Rattle.run_model.proofs.Common.{◌≡◌, ◌<◌, ◌≤◌, ◌+◌, ◌^◌, ◌&&◌, ℕ, zero, suc, Bool, true, List}
+use Rattle.run_model.proofs.Common.{[], ◌∷◌, length, drop, Option, Some, None, slice_get, refl}
+use Rattle.run_model.proofs.Common.{sym, ap, subst, ◌∙◌, arith, AllByRecursion, option_map, IsTrue}
+use Rattle.run_model.proofs.Common.{nat_lt, and_parts, and_from, ltb-true, lt-ltb, false≢true}
+use Rattle.run_model.proofs.Common.{length-drop, slice_get_within, most_scopes, most_tasks}
+use Rattle.run_model.proofs.Common.{is_row_number, is_moment, is_limit, is_optional_text}
+use Rattle.run_model.proofs.Common.{IsConsistent, HasLayout, AreNumbered, State, is_name}
 use Rattle.run_model.specs.declared.bounds.TheConstants.{MOST_GROUPS}
 use Rattle.run_model.specs.declared.groups.Group.{Group}
 use Rattle.run_model.specs.declared.layouts.Layout.{Layout}
 use Rattle.run_model.specs.declared.scopes.Scope.{Scope}
 use Rattle.run_model.specs.declared.tasks.Task.{Task}
-use Rattle.run_model.specs.Layouts.{most_scopes, most_tasks}
-use Rattle.run_model.specs.Records.{is_row_number, is_moment, is_limit, is_optional_text}
-use Rattle.run_model.specs.Rules.{IsConsistent, HasLayout, AreNumbered}
-use Rattle.run_model.specs.State.{State}
-use Rattle.run_model.specs.Texts.{is_name}
 use Rattle.record_view.specs.declared.heads.ImageVersion.{ImageVersion}
 use Rattle.record_view.specs.declared.heads.ImageVersion.TheVariants.{One, Two}
-use Rattle.record_view.specs.Image.{image, head_of, is_kept_head, is_kept_scope}
-use Rattle.record_view.specs.Image.{is_kept_group, is_kept_task, is_kept_kind, is_kept_hit}
-use Rattle.record_view.specs.Image.{is_kept_stage, is_kept_link}
+use Rattle.record_view.specs.Image.{image, head_of, is_kept_head, is_kept_scope, is_kept_group}
+use Rattle.record_view.specs.Image.{is_kept_task, is_kept_kind, is_kept_hit, is_kept_stage}
+use Rattle.record_view.specs.Image.{is_kept_link}
 use Rattle.record_view.specs.Keeping.{IsImage}
 use Rattle.model_laws.proofs.Tests.{all_four, all_five}
 use Rattle.state_renewal.specs.Renewed.{new_number, keeps_scope, keeps_group, keeps_task}

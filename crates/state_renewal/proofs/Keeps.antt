@@ -1,20 +1,16 @@
 -- What is kept: what is above a kept scope, the scope of a kept group, and what isn't finished.
-use Rattle.std.proofs.Common.{◌≡◌, ◌⊎◌, ◌<◌, ◌+◌, ◌==◌, ◌&&◌, ◌||◌, ℕ, zero, suc, Bool, true}
-use Rattle.std.proofs.Common.{false, not, cond, List, [], ◌∷◌, length, Option, Some, None}
-use Rattle.std.proofs.Common.{slice_get, inl, inr, refl, sym, ap, subst, ◌∙◌, is_some, arith}
-use Rattle.std.specs.List.{range_with_len, filter_map, AllByRecursion}
-use Rattle.std.specs.Option.{option_map, option_map_or}
-use Rattle.std.proofs.lemmas.Bool.{and_parts, and_from, or_cases, or_left, or_right, eq-eqb}
-use Rattle.std.proofs.lemmas.Bool.{eqb-true, false≢true}
-use Rattle.std.proofs.lemmas.Option.{same_Some, slice_get_within, none-some}
+use Rattle.run_model.proofs.Common.{◌≡◌, ◌⊎◌, ◌<◌, ◌+◌, ◌==◌, ◌&&◌, ◌||◌, ℕ, zero, suc, Bool, true}
+use Rattle.run_model.proofs.Common.{false, not, cond, List, [], ◌∷◌, length, Option, Some, None}
+use Rattle.run_model.proofs.Common.{slice_get, inl, inr, refl, sym, ap, subst, ◌∙◌, is_some, arith}
+use Rattle.run_model.proofs.Common.{range_with_len, filter_map, AllByRecursion, option_map}
+use Rattle.run_model.proofs.Common.{option_map_or, and_parts, and_from, or_cases, eq-eqb, eqb-true}
+use Rattle.run_model.proofs.Common.{false≢true, same_Some, slice_get_within, none-some, root}
+use Rattle.run_model.proofs.Common.{HasRow, is_root, upwards, line_within, line, before_detached}
+use Rattle.run_model.proofs.Common.{hit_at, least_hit, is_done, AreOrdered, State}
+use Rattle.std.proofs.lemmas.Bool.{or_left, or_right}
 use Rattle.run_model.specs.declared.groups.Group.{Group}
 use Rattle.run_model.specs.declared.scopes.Scope.{Scope}
 use Rattle.run_model.specs.declared.tasks.Task.{Task}
-use Rattle.run_model.specs.Rows.{root}
-use Rattle.run_model.specs.Rules.{HasRow}
-use Rattle.run_model.specs.Scopes.{is_root, upwards, line_within, line, before_detached, hit_at}
-use Rattle.run_model.specs.Scopes.{least_hit, is_done, AreOrdered}
-use Rattle.run_model.specs.State.{State}
 use Rattle.model_laws.specs.Hits.{is_on}
 use Rattle.model_laws.specs.Searches.{above}
 use Rattle.model_laws.proofs.Lines.{line_up}

@@ -1,13 +1,10 @@
 -- A renewed state in another layout: it meets the rules, where there is room for its rows.
-use Rattle.std.proofs.Common.{◌≡◌, ℕ, true, length, refl}
-use Rattle.std.specs.Prelude.{nat_le}
-use Rattle.std.proofs.lemmas.Bool.{and_parts, leb-true}
+use Rattle.run_model.proofs.Common.{◌≡◌, ℕ, true, length, refl, nat_le, and_parts, leb-true}
+use Rattle.run_model.proofs.Common.{most_scopes, most_tasks, AreAdmitted, AreDeadlines, AreErrors}
+use Rattle.run_model.proofs.Common.{AreGroupScopes, AreHits, AreLinked, AreNumbered, IsConsistent}
+use Rattle.run_model.proofs.Common.{Owns, State}
 use Rattle.run_model.specs.declared.groups.Group.{Group}
 use Rattle.run_model.specs.declared.layouts.Layout.{Layout}
-use Rattle.run_model.specs.Layouts.{most_scopes, most_tasks}
-use Rattle.run_model.specs.Rules.{AreAdmitted, AreDeadlines, AreErrors, AreGroupScopes, AreHits}
-use Rattle.run_model.specs.Rules.{AreLinked, AreNumbered, IsConsistent, Owns}
-use Rattle.run_model.specs.State.{State}
 use Rattle.state_renewal.specs.Renewed.{fits_in, renewed, renewed_in}
 use Rattle.state_renewal.proofs.RulesKept.{rules_kept}
 

@@ -1,11 +1,9 @@
 -- Rows that are kept, and put so far: the loop goes over the old rows, and those that are put are
 -- the first of the new ones.
-use Rattle.std.proofs.Common.{◌≡◌, ◌≤◌, ◌+◌, ◌*◌, ℕ, Bool, true, false, List, length}
-use Rattle.std.proofs.Common.{Some, slice_get, sym, ap, subst, ◌∙◌, arith, add-one}
-use Rattle.std.specs.List.{flat_map, AllByRecursion}
-use Rattle.std.specs.Prelude.{IsTrue}
-use Rattle.std.proofs.lemmas.List.{length-map}
-use Rattle.std.proofs.lemmas.Option.{get_or_from_slice_get, slice_get_within}
+use Rattle.run_model.proofs.Common.{◌≡◌, ◌≤◌, ◌+◌, ◌*◌, ℕ, Bool, true, false, List, length, Some}
+use Rattle.run_model.proofs.Common.{slice_get, sym, ap, subst, ◌∙◌, arith, add-one, flat_map}
+use Rattle.run_model.proofs.Common.{AllByRecursion, IsTrue, length-map, get_or_from_slice_get}
+use Rattle.run_model.proofs.Common.{slice_get_within}
 use Rattle.record_view.specs.Writing.{put_at}
 use Rattle.state_renewal.specs.Marks.{is_flagged, rows_left}
 use Rattle.state_renewal.specs.Renewed.{kept, new_number, one_more_if}

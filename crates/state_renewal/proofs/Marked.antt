@@ -1,14 +1,10 @@
 -- Rows that are flagged where they are kept: what is left by the flags is the renewed state.
-use Rattle.std.proofs.Common.{◌≡◌, ◌&&◌, ◌||◌, ℕ, Bool, true, false, not, List, [], ◌∷◌}
-use Rattle.std.proofs.Common.{length, drop, map, slice_get, refl, sym, ap, ◌∙◌}
-use Rattle.std.specs.Option.{option_map, option_map_or}
-use Rattle.std.proofs.lemmas.Bool.{true≢false}
-use Rattle.std.proofs.lemmas.List.{length-map}
-use Rattle.std.proofs.lemmas.Option.{slice_get_past}
+use Rattle.run_model.proofs.Common.{◌≡◌, ◌&&◌, ◌||◌, ℕ, Bool, true, false, not, List, [], ◌∷◌}
+use Rattle.run_model.proofs.Common.{length, drop, map, slice_get, refl, sym, ap, ◌∙◌, option_map}
+use Rattle.run_model.proofs.Common.{option_map_or, true≢false, length-map, slice_get_past, State}
 use Rattle.run_model.specs.declared.groups.Group.{Group}
 use Rattle.run_model.specs.declared.scopes.Scope.{Scope}
 use Rattle.run_model.specs.declared.tasks.Task.{Task}
-use Rattle.run_model.specs.State.{State}
 use Rattle.state_renewal.specs.Marks.{AreFlags, AreMarks, is_flagged, group_by, group_stays_at}
 use Rattle.state_renewal.specs.Marks.{rows_left, scope_by, task_by, task_stays_at}
 use Rattle.state_renewal.specs.Renewed.{kept, keeps_group, keeps_scope, keeps_task, new_number}

@@ -1,14 +1,10 @@
 -- Commands that name what goes on ask both stores for the same event.
-use Rattle.std.proofs.Common.{◌≡◌, ℕ, Bool, true, false, List, length, refl, sym, subst, ap, ◌∙◌}
-use Rattle.std.specs.Option.{option_map, option_map_or}
-use Rattle.std.specs.Prelude.{position, unwrap_or}
-use Rattle.std.specs.Str.{bytes_eq}
+use Rattle.run_model.proofs.Common.{◌≡◌, ℕ, Bool, true, false, List, length, refl, sym, subst, ap}
+use Rattle.run_model.proofs.Common.{◌∙◌, option_map, option_map_or, position, unwrap_or, bytes_eq}
+use Rattle.run_model.proofs.Common.{event_of, group_of, kind_made, scope_of, IsConsistent, State}
 use Rattle.run_model.specs.declared.commands.Command.{Command}
 use Rattle.run_model.specs.declared.commands.Command.TheVariants as command
 use Rattle.run_model.specs.Event as event
-use Rattle.run_model.specs.Replies.{event_of, group_of, kind_made, scope_of}
-use Rattle.run_model.specs.Rules.{IsConsistent}
-use Rattle.run_model.specs.State.{State}
 use Rattle.model_laws.proofs.Names.{AreDistinct, named_row, place_of_name}
 use Rattle.model_laws.proofs.Tests.{passing}
 use Rattle.state_renewal.specs.Renewed.{Part, group_anew, new_number, rows_anew, scope_anew}

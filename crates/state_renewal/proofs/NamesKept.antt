@@ -1,10 +1,6 @@
 -- The names and the room that are taken are those of what is kept.
-use Rattle.std.proofs.Common.{◌≡◌, ◌≢◌, ℕ, List, Option, Some, None, slice_get, refl, sym, ap, ◌∙◌}
-use Rattle.std.specs.Prelude.{position}
-use Rattle.std.specs.Str.{bytes_eq}
-use Rattle.std.proofs.lemmas.List.{length-map}
-use Rattle.run_model.specs.Rules.{IsConsistent}
-use Rattle.run_model.specs.State.{State}
+use Rattle.run_model.proofs.Common.{◌≡◌, ◌≢◌, ℕ, List, Option, Some, None, slice_get, refl, sym}
+use Rattle.run_model.proofs.Common.{ap, ◌∙◌, position, bytes_eq, length-map, IsConsistent, State}
 use Rattle.model_laws.proofs.Names.{named_row, place_of_name}
 use Rattle.state_renewal.specs.Kept.{AreNamesKept, IsRoomKept}
 use Rattle.state_renewal.specs.Renewed.{new_number, keeps_scope, keeps_group, keeps_task, kept}

@@ -1,9 +1,7 @@
 -- Flags of the scopes that are needed, raised to those above: the flags of those that are kept.
-use Rattle.std.proofs.Common.{◌≡◌, ◌<◌, ◌≤◌, ◌+◌, ◌&&◌, ◌||◌, ℕ, zero, suc, Bool, List, length, not}
-use Rattle.std.proofs.Common.{refl, ap, ◌∙◌, arith}
-use Rattle.std.specs.List.{list_any, range_with_len}
-use Rattle.run_model.specs.Scopes.{line, is_done}
-use Rattle.run_model.specs.State.{State}
+use Rattle.run_model.proofs.Common.{◌≡◌, ◌<◌, ◌≤◌, ◌+◌, ◌&&◌, ◌||◌, ℕ, zero, suc, Bool, List}
+use Rattle.run_model.proofs.Common.{length, not, refl, ap, ◌∙◌, arith, list_any, range_with_len}
+use Rattle.run_model.proofs.Common.{line, is_done, State}
 use Rattle.model_laws.specs.Hits.{is_on}
 use Rattle.state_renewal.specs.Marks.{AreFlags, is_flagged, is_above_flagged}
 use Rattle.state_renewal.specs.Renewed.{hosts_unwaited, is_needed, keeps_scope}

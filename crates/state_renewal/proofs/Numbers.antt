@@ -1,13 +1,10 @@
 -- Rows that are kept and told anew: where each comes from, and where it goes.
-use Rattle.std.proofs.Common.{◌≡◌, ◌⊎◌, ◌<◌, ◌≤◌, ◌==◌, ℕ, zero, suc, Bool, true, false, List, []}
-use Rattle.std.proofs.Common.{◌∷◌, length, map, Some, slice_get, inl, inr, refl, sym, ap, subst}
-use Rattle.std.proofs.Common.{◌∙◌, arith}
-use Rattle.std.specs.Option.{option_map}
-use Rattle.std.specs.Prelude.{nat_lt}
-use Rattle.std.proofs.lemmas.Bool.{cases_eq, cases_lt, cases_order, eq-eqb, le-ltb, lt-ltb, ne_eqb}
-use Rattle.std.proofs.lemmas.List.{length-map}
-use Rattle.std.proofs.lemmas.Option.{none-some, slice_get-map}
-use Rattle.run_model.proofs.RowLemmas.{map_cases}
+use Rattle.run_model.proofs.Common.{◌≡◌, ◌⊎◌, ◌<◌, ◌≤◌, ◌==◌, ℕ, zero, suc, Bool, true, false}
+use Rattle.run_model.proofs.Common.{List, [], ◌∷◌, length, map, Some, slice_get, inl, inr, refl}
+use Rattle.run_model.proofs.Common.{sym, ap, subst, ◌∙◌, arith, option_map, nat_lt, cases_eq}
+use Rattle.run_model.proofs.Common.{cases_lt, eq-eqb, le-ltb, lt-ltb, ne_eqb, length-map}
+use Rattle.run_model.proofs.Common.{none-some, slice_get-map, map_cases}
+use Rattle.std.proofs.lemmas.Bool.{cases_order}
 use Rattle.state_renewal.specs.Renewed.{one_more_if, new_number, in_front_if, kept}
 
 -- ---- new numbers

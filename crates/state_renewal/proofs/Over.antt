@@ -1,13 +1,9 @@
 -- What holds of a store that goes on, and of the renewed one, at any time since the renewal.
-use Rattle.std.proofs.Common.{◌≡◌, ◌⊎◌, ◌<◌, ◌≤◌, ℕ, true, false, List, length, Option, Some, None}
-use Rattle.std.proofs.Common.{inl, inr, refl, sym, ap, subst, ◌∙◌}
-use Rattle.std.specs.Prelude.{is_some}
-use Rattle.std.proofs.lemmas.Bool.{both_ways, cases_lt, false≢true, true_from_ne_false}
+use Rattle.run_model.proofs.Common.{◌≡◌, ◌⊎◌, ◌<◌, ◌≤◌, ℕ, true, false, List, length, Option, Some}
+use Rattle.run_model.proofs.Common.{None, inl, inr, refl, sym, ap, subst, ◌∙◌, is_some, both_ways}
+use Rattle.run_model.proofs.Common.{cases_lt, false≢true, true_from_ne_false, Event, IsConsistent}
+use Rattle.run_model.proofs.Common.{ending, is_done, State}
 use Rattle.run_model.specs.declared.scopes.Hit.{Hit}
-use Rattle.run_model.specs.Event.{Event}
-use Rattle.run_model.specs.Rules.{IsConsistent}
-use Rattle.run_model.specs.Scopes.{ending, is_done}
-use Rattle.run_model.specs.State.{State}
 use Rattle.model_laws.proofs.Stays.{endings_run}
 use Rattle.model_laws.proofs.WellFormed.{well_formed_consistent}
 use Rattle.state_renewal.specs.Renewed.{keeps_scope}

@@ -1,11 +1,10 @@
 -- The numbers of rows that pass a test, and how many rows pass it: those that go on alone.
-use Rattle.std.proofs.Common.{◌≡◌, ◌+◌, ◌<◌, ◌||◌, ℕ, zero, suc, Bool, true, false, cond, List, []}
-use Rattle.std.proofs.Common.{◌∷◌, ◌++◌, length, map, take, Option, Some, None, slice_get, refl}
-use Rattle.std.proofs.Common.{sym, ap, ◌∙◌, arith}
-use Rattle.std.specs.List.{filter, find, list_any, range_with_len}
-use Rattle.std.specs.Option.{option_map, option_or}
-use Rattle.std.specs.Prelude.{count_by, if◌then◌else◌, is_some}
-use Rattle.std.proofs.lemmas.List.{take_all}
+use Rattle.run_model.proofs.Common.{◌≡◌, ◌+◌, ◌<◌, ◌||◌, ℕ, zero, suc, Bool, true, false, cond}
+use Rattle.run_model.proofs.Common.{List, [], ◌∷◌, ◌++◌, length, map, take, Option, Some, None}
+use Rattle.run_model.proofs.Common.{slice_get, refl, sym, ap, ◌∙◌, arith, list_any, range_with_len}
+use Rattle.run_model.proofs.Common.{option_map, option_or, count_by, if◌then◌else◌, is_some}
+use Rattle.run_model.proofs.Common.{take_all}
+use Rattle.std.specs.List.{filter, find}
 use Rattle.std.proofs.lemmas.List.Elements.{filter-append}
 use Rattle.std.proofs.lemmas.List.Folds.{find-append}
 use Rattle.state_renewal.specs.Renewed.{in_front_if, kept, new_number, one_more_if, rows_anew}

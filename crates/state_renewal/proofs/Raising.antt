@@ -1,14 +1,12 @@
 -- Flags that are raised from scopes to those above them, from the last scope to root.
-use Rattle.std.proofs.Common.{◌≡◌, ◌⊎◌, ◌<◌, ◌≤◌, ◌+◌, ◌==◌, ◌&&◌, ℕ, zero, suc, Bool, true, false}
-use Rattle.std.proofs.Common.{cond, List, [], length, Option, Some, None, slice_get, inl, inr}
-use Rattle.std.proofs.Common.{refl, sym, ap, subst, ◌∙◌, arith}
-use Rattle.std.specs.List.{range_with_len}
-use Rattle.std.specs.Prelude.{slice_set}
-use Rattle.std.proofs.lemmas.Bool.{and_parts, and_from, or_cases, eqb-true, false≢true, cases_eq}
-use Rattle.std.proofs.lemmas.List.{get_or-set_same, get_or-set_other, get_or_past, length-set}
-use Rattle.std.proofs.lemmas.Option.{slice_get_within, same_Some}
+use Rattle.run_model.proofs.Common.{◌≡◌, ◌⊎◌, ◌<◌, ◌≤◌, ◌+◌, ◌==◌, ◌&&◌, ℕ, zero, suc, Bool, true}
+use Rattle.run_model.proofs.Common.{false, cond, List, [], length, Option, Some, None, slice_get}
+use Rattle.run_model.proofs.Common.{inl, inr, refl, sym, ap, subst, ◌∙◌, arith, range_with_len}
+use Rattle.run_model.proofs.Common.{slice_set, and_parts, and_from, or_cases, eqb-true, false≢true}
+use Rattle.run_model.proofs.Common.{cases_eq, get_or-set_same, get_or-set_other, get_or_past}
+use Rattle.run_model.proofs.Common.{length-set, slice_get_within, same_Some, is_root, upwards}
+use Rattle.run_model.proofs.Common.{line_within, line, AreOrdered}
 use Rattle.run_model.specs.declared.scopes.Scope.{Scope}
-use Rattle.run_model.specs.Scopes.{is_root, upwards, line_within, line, AreOrdered}
 use Rattle.model_laws.specs.Hits.{is_on}
 use Rattle.model_laws.specs.Searches.{above}
 use Rattle.model_laws.proofs.Lines.{line_up}

@@ -1,28 +1,18 @@
 -- An event that names only what goes on is refused alike in both states, but for names and room.
-use Rattle.std.proofs.Common.{◌≡◌, ◌&&◌, ◌==◌, ℕ, Bool, true, false, List, [], length, Option}
-use Rattle.std.proofs.Common.{Some, None, refl, sym, ap, ◌∙◌, arith}
-use Rattle.std.specs.Option.{option_map, option_map_or}
-use Rattle.std.specs.Prelude.{is_none, nat_lt, position, not}
-use Rattle.std.specs.Str.{bytes_eq}
+use Rattle.run_model.proofs.Common.{◌≡◌, ◌&&◌, ◌==◌, ℕ, Bool, true, false, List, [], length}
+use Rattle.run_model.proofs.Common.{Option, Some, None, refl, sym, ap, ◌∙◌, arith, option_map}
+use Rattle.run_model.proofs.Common.{option_map_or, is_none, nat_lt, position, not, bytes_eq}
+use Rattle.run_model.proofs.Common.{and_from, and_parts, both_ways, false_from_ne_true, lt-ltb}
+use Rattle.run_model.proofs.Common.{ltb-true, not-false, bytes_eq-Decides, name_is_free}
+use Rattle.run_model.proofs.Common.{each_fails, allowed, is_cancellable, refusals, takes_cause}
+use Rattle.run_model.proofs.Common.{has_room, Event, most_scopes, most_tasks, new_group, root}
+use Rattle.run_model.proofs.Common.{IsConsistent, State, TreeState, WorkState, scope_named}
+use Rattle.run_model.proofs.Common.{group_named, first_ready, is_interrupted, is_ready, is_running}
+use Rattle.run_model.proofs.Common.{is_root, is_group_kind, range_with_len, list_all}
 use Rattle.std.proofs.Math.Bool.{and-true, and-false}
-use Rattle.std.proofs.lemmas.Bool.{and_from, and_parts, both_ways, false_from_ne_true, lt-ltb}
-use Rattle.std.proofs.lemmas.Bool.{ltb-true, not-false}
-use Rattle.std.proofs.lemmas.Slice.Eq.{bytes_eq-Decides}
-use Rattle.run_model.proofs.NameLemmas.{name_is_free, unpassed}
-use Rattle.run_model.proofs.RefusalLemmas.{each_fails}
+use Rattle.run_model.proofs.NameLemmas.{unpassed}
 use Rattle.run_model.specs.declared.bounds.TheConstants.{MOST_GROUPS}
-use Rattle.run_model.specs.Allowed.{allowed}
-use Rattle.run_model.specs.Allowed.{is_cancellable}
-use Rattle.run_model.specs.Allowed.{refusals, takes_cause, has_room}
-use Rattle.run_model.specs.Event.{Event}
 use Rattle.run_model.specs.Event as event
-use Rattle.run_model.specs.Layouts.{most_scopes, most_tasks}
-use Rattle.run_model.specs.Rows.{new_group, root}
-use Rattle.run_model.specs.Rules.{IsConsistent}
-use Rattle.run_model.specs.State.{State, TreeState, WorkState, scope_named, group_named}
-use Rattle.run_model.specs.Tasks.{first_ready, is_interrupted, is_ready, is_running}
-use Rattle.run_model.specs.Scopes.{is_root, is_group_kind}
-use Rattle.std.specs.List.{range_with_len, list_all}
 use Rattle.model_laws.proofs.Tests.{found_passes}
 use Rattle.state_renewal.specs.Renewed.{Part, group_anew, kept_part, new_number, renewed}
 use Rattle.state_renewal.specs.Renewed.{rows_anew, scope_anew, state_anew, task_anew, tree_anew}

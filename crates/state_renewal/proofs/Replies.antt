@@ -1,8 +1,12 @@
 -- A command, a start or a finish that names what goes on is answered alike by both stores.
-use Rattle.std.proofs.Common.{◌≡◌, ◌+◌, ℕ, Bool, true, false, length, Option, Some, None}
-use Rattle.std.proofs.Common.{slice_get, refl, sym, ap, ◌∙◌, arith}
-use Rattle.std.specs.Option.{ok_or, option_and_then, option_map, option_map_or}
-use Rattle.std.specs.Prelude.{if◌then◌else◌, Result, Ok, Err, unwrap_or}
+use Rattle.run_model.proofs.Common.{◌≡◌, ◌+◌, ℕ, Bool, true, false, length, Option, Some, None}
+use Rattle.run_model.proofs.Common.{slice_get, refl, sym, ap, ◌∙◌, arith, ok_or, option_and_then}
+use Rattle.run_model.proofs.Common.{option_map, option_map_or, if◌then◌else◌, Result, Ok, Err}
+use Rattle.run_model.proofs.Common.{unwrap_or, Event, refusals, unless, decided, and_then}
+use Rattle.run_model.proofs.Common.{answer_of, event_of, group_of, is_repeated, reply_finish}
+use Rattle.run_model.proofs.Common.{reply_start, started_of, state_after, IsConsistent, is_done}
+use Rattle.run_model.proofs.Common.{State, WorkState, step, first_ready, is_ready, phase_of}
+use Rattle.run_model.proofs.Common.{range_with_len}
 use Rattle.run_model.specs.declared.answers.Answer.{Answer}
 use Rattle.run_model.specs.declared.answers.Answer.TheVariants as answer
 use Rattle.run_model.specs.declared.answers.Started.{Started}
@@ -13,18 +17,8 @@ use Rattle.run_model.specs.declared.refusals.Refusal.TheVariants as refusal
 use Rattle.run_model.specs.declared.tasks.Outcome.{Outcome}
 use Rattle.run_model.specs.declared.tasks.Phase.TheVariants as phase
 use Rattle.run_model.specs.declared.tasks.Task.{Task}
-use Rattle.run_model.specs.Event.{Event}
 use Rattle.run_model.specs.Event as event
-use Rattle.run_model.specs.Allowed.{refusals, unless}
-use Rattle.run_model.specs.Replies.{decided, and_then, answer_of, event_of, group_of, is_repeated}
-use Rattle.run_model.specs.Replies.{is_task_done, reply, reply_finish, reply_start, started_of}
-use Rattle.run_model.specs.Replies.{state_after, submission}
-use Rattle.run_model.specs.Rules.{IsConsistent}
-use Rattle.run_model.specs.Scopes.{is_done}
-use Rattle.run_model.specs.State.{State, WorkState}
-use Rattle.run_model.specs.Step.{step}
-use Rattle.run_model.specs.Tasks.{first_ready, is_ready, phase_of}
-use Rattle.std.specs.List.{range_with_len}
+use Rattle.run_model.specs.Replies.{is_task_done, reply, submission}
 use Rattle.model_laws.proofs.Allowing.{unrefused_allowed}
 use Rattle.model_laws.proofs.Tests.{found_passes}
 use Rattle.state_renewal.specs.Renewed.{new_number, Part, group_anew, scope_anew, state_anew}

@@ -1,11 +1,8 @@
 -- Rows of which some go on, told anew: what is done to the rows is done to those that go on.
-use Rattle.std.proofs.Common.{◌≡◌, ◌<◌, ℕ, zero, suc, Bool, true, false, List, [], ◌∷◌, ◌++◌}
-use Rattle.std.proofs.Common.{length, map, Some, slice_get, refl, sym, ap, ◌∙◌, arith, Option}
-use Rattle.std.proofs.Common.{None}
-use Rattle.std.specs.Option.{option_map, option_map_or}
-use Rattle.std.proofs.lemmas.List.{length-map}
-use Rattle.std.proofs.lemmas.Option.{slice_get-map}
-use Rattle.run_model.specs.Rows.{at_row}
+use Rattle.run_model.proofs.Common.{◌≡◌, ◌<◌, ℕ, zero, suc, Bool, true, false, List, [], ◌∷◌, ◌++◌}
+use Rattle.run_model.proofs.Common.{length, map, Some, slice_get, refl, sym, ap, ◌∙◌, arith}
+use Rattle.run_model.proofs.Common.{Option, None, option_map, option_map_or, length-map}
+use Rattle.run_model.proofs.Common.{slice_get-map, at_row}
 use Rattle.state_renewal.specs.Renewed.{in_front_if, kept, new_number, one_more_if, rows_anew}
 use Rattle.state_renewal.proofs.Numbers.{length-kept, number_behind, kept_get}
 

@@ -1,21 +1,16 @@
 -- A consistent state is consistent when it is renewed.
-use Rattle.std.proofs.Common.{◌≡◌, ◌⊎◌, ◌<◌, ℕ, Bool, true, false, length, Option, Some, None}
-use Rattle.std.proofs.Common.{slice_get, refl, sym, ap, subst, ◌∙◌, arith}
-use Rattle.std.specs.Option.{option_map, option_and_then}
-use Rattle.std.specs.Prelude.{IsSome, IsTrue, is_some}
-use Rattle.std.proofs.lemmas.Option.{none-some, same_Some, slice_get_within, option_and_then_some}
+use Rattle.run_model.proofs.Common.{◌≡◌, ◌⊎◌, ◌<◌, ℕ, Bool, true, false, length, Option, Some}
+use Rattle.run_model.proofs.Common.{None, slice_get, refl, sym, ap, subst, ◌∙◌, arith, option_map}
+use Rattle.run_model.proofs.Common.{option_and_then, IsSome, IsTrue, is_some, none-some, same_Some}
+use Rattle.run_model.proofs.Common.{slice_get_within, option_and_then_some, has_kind, root}
+use Rattle.run_model.proofs.Common.{IsConsistent, AreNumbered, AreHits, AreDeadlines}
+use Rattle.run_model.proofs.Common.{AreGroupScopes, AreAdmitted, AreErrors, AreLinked, IsRetry}
+use Rattle.run_model.proofs.Common.{Owns, has_task_error, HasRow, is_root, own_hit, AreOrdered}
+use Rattle.run_model.proofs.Common.{is_group_kind, State, is_running, unfinished_in, is_admitted}
 use Rattle.run_model.specs.declared.groups.Group.{Group}
 use Rattle.run_model.specs.declared.scopes.Hit.{Hit}
 use Rattle.run_model.specs.declared.scopes.Scope.{Scope}
 use Rattle.run_model.specs.declared.tasks.Task.{Task}
-use Rattle.run_model.specs.Allowed.{has_kind}
-use Rattle.run_model.specs.Rows.{root}
-use Rattle.run_model.specs.Rules.{IsConsistent, AreNumbered, AreHits, AreDeadlines, AreGroupScopes}
-use Rattle.run_model.specs.Rules.{AreAdmitted, AreErrors, AreLinked, IsRetry, Owns}
-use Rattle.run_model.specs.Rules.{has_task_error, HasRow}
-use Rattle.run_model.specs.Scopes.{is_root, own_hit, AreOrdered, is_group_kind}
-use Rattle.run_model.specs.State.{State}
-use Rattle.run_model.specs.Tasks.{is_running, unfinished_in, is_admitted}
 use Rattle.state_renewal.specs.Renewed.{new_number, keeps_scope, keeps_group, keeps_task}
 use Rattle.state_renewal.specs.Renewed.{scope_told, group_told, task_told, kept_part, renewed}
 use Rattle.state_renewal.proofs.Numbers.{are_told, number_less, number_same, IsOf}

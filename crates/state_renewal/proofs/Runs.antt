@@ -1,15 +1,8 @@
 -- Events that name what goes on lead both stores the same way.
-use Rattle.std.proofs.Common.{◌≡◌, Bool, true, false, List, [], ◌∷◌, map, Some, None, refl, ap}
-use Rattle.std.proofs.Common.{subst, ◌∙◌}
-use Rattle.std.specs.Option.{option_and_then}
-use Rattle.std.specs.Prelude.{if◌then◌else◌}
-use Rattle.std.proofs.lemmas.Bool.{and_parts}
-use Rattle.std.proofs.lemmas.Option.{none-some, same_Some}
-use Rattle.run_model.specs.Allowed.{allowed, run}
-use Rattle.run_model.specs.Event.{Event}
-use Rattle.run_model.specs.Rules.{IsConsistent}
-use Rattle.run_model.specs.State.{State}
-use Rattle.run_model.specs.Step.{step}
+use Rattle.run_model.proofs.Common.{◌≡◌, Bool, true, false, List, [], ◌∷◌, map, Some, None, refl}
+use Rattle.run_model.proofs.Common.{ap, subst, ◌∙◌, option_and_then, if◌then◌else◌, and_parts}
+use Rattle.run_model.proofs.Common.{none-some, same_Some, allowed, run, Event, IsConsistent, State}
+use Rattle.run_model.proofs.Common.{step}
 use Rattle.model_laws.proofs.StateSteps.{kept_by}
 use Rattle.state_renewal.specs.Renewed.{Part, state_anew}
 use Rattle.state_renewal.specs.GoingOn.{all_name_part}

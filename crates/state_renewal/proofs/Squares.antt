@@ -1,23 +1,20 @@
 -- What a change makes of what goes on is what goes on of what it makes.
-use Rattle.std.proofs.Common.{◌≡◌, ℕ, Bool, true, false, List, [], ◌∷◌, ◌++◌, length, Option, Some}
-use Rattle.std.proofs.Common.{None, slice_get, refl, sym, ap, ◌∙◌, arith}
-use Rattle.std.specs.Option.{option_and_then, option_map, option_map_or}
-use Rattle.std.specs.Prelude.{if◌then◌else◌}
+use Rattle.run_model.proofs.Common.{◌≡◌, ℕ, Bool, true, false, List, [], ◌∷◌, ◌++◌, length, Option}
+use Rattle.run_model.proofs.Common.{Some, None, slice_get, refl, sym, ap, ◌∙◌, arith}
+use Rattle.run_model.proofs.Common.{option_and_then, option_map, option_map_or, if◌then◌else◌}
+use Rattle.run_model.proofs.Common.{at_row, new_group, new_scope, new_task, TreeState, WorkState}
+use Rattle.run_model.proofs.Common.{after_group_cancel, after_task_end, own_scope, after_advance}
+use Rattle.run_model.proofs.Common.{after_cancel, after_derive, hit_due, tick, with_hit, new_hit}
+use Rattle.run_model.proofs.Common.{after_end, after_limit, after_make, retried_row, after_wait}
+use Rattle.run_model.proofs.Common.{group_of_task, groups_after, with_error, with_limit}
+use Rattle.run_model.proofs.Common.{with_stage, with_wait}
 use Rattle.run_model.specs.declared.groups.Group.{Group}
 use Rattle.run_model.specs.declared.scopes.Hit.{Hit}
 use Rattle.run_model.specs.declared.scopes.Kind.{Kind}
 use Rattle.run_model.specs.declared.scopes.Scope.{Scope}
 use Rattle.run_model.specs.declared.tasks.Stage.{Stage}
 use Rattle.run_model.specs.declared.tasks.Task.{Task}
-use Rattle.run_model.specs.Rows.{at_row, new_group, new_scope, new_task}
-use Rattle.run_model.specs.State.{TreeState, WorkState}
-use Rattle.run_model.specs.Step.{after_group_cancel, after_task_end, own_scope}
-use Rattle.run_model.specs.TreeChanges.{after_advance, after_cancel, after_derive}
-use Rattle.run_model.specs.TreeChanges.{hit_due, tick, with_hit, new_hit}
-use Rattle.run_model.specs.WorkChanges.{after_end, after_go, after_limit, after_make, after_retry}
-use Rattle.run_model.specs.WorkChanges.{retried_row}
-use Rattle.run_model.specs.WorkChanges.{after_wait, group_of_task, groups_after}
-use Rattle.run_model.specs.WorkChanges.{with_error, with_limit, with_stage, with_wait}
+use Rattle.run_model.specs.WorkChanges.{after_go, after_retry}
 use Rattle.run_model.specs.declared.scopes.Reason.TheVariants.{Canceled}
 use Rattle.model_laws.proofs.Ends.{owner_found}
 use Rattle.state_renewal.specs.Renewed.{new_number, Part, group_anew, rows_anew, scope_anew}

@@ -1,12 +1,9 @@
 -- What is kept is as it was.
-use Rattle.std.proofs.Common.{◌≡◌, ℕ, true, is_some, ap}
-use Rattle.std.specs.Option.{option_map}
+use Rattle.run_model.proofs.Common.{◌≡◌, ℕ, true, is_some, ap, option_map, IsConsistent, HasRow}
+use Rattle.run_model.proofs.Common.{State, first_ready}
 use Rattle.run_model.specs.declared.groups.Group.{Group}
 use Rattle.run_model.specs.declared.scopes.Scope.{Scope}
 use Rattle.run_model.specs.declared.tasks.Task.{Task}
-use Rattle.run_model.specs.Rules.{IsConsistent, HasRow}
-use Rattle.run_model.specs.State.{State}
-use Rattle.run_model.specs.Tasks.{first_ready}
 use Rattle.state_renewal.specs.Kept.{AnswersAlike, ScopeStays, GroupStays, TaskStays}
 use Rattle.state_renewal.specs.Kept.{KeepsUnfinished}
 use Rattle.state_renewal.specs.Renewed.{new_number, keeps_scope, keeps_group, keeps_task}

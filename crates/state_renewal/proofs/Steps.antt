@@ -1,17 +1,14 @@
 -- What an event makes of what goes on is what goes on of what it makes.
-use Rattle.std.proofs.Common.{◌≡◌, ◌+◌, ℕ, true, false, List, [], ◌∷◌, length, map, Some, None}
-use Rattle.std.proofs.Common.{refl, ap, ◌∙◌, arith}
-use Rattle.std.specs.List.{AllByRecursion, fold}
+use Rattle.run_model.proofs.Common.{◌≡◌, ◌+◌, ℕ, true, false, List, [], ◌∷◌, length, map, Some}
+use Rattle.run_model.proofs.Common.{None, refl, ap, ◌∙◌, arith, AllByRecursion, Event}
+use Rattle.run_model.proofs.Common.{IsConsistent, State, TreeState, WorkState, after_task_end}
+use Rattle.run_model.proofs.Common.{step, running_tasks, after_interrupt, after_make, error_of}
+use Rattle.run_model.proofs.Common.{interruption, stage_of}
+use Rattle.std.specs.List.{fold}
 use Rattle.run_model.specs.declared.scopes.Kind.TheVariants as kind
 use Rattle.run_model.specs.declared.tasks.Stage.TheVariants as stage
-use Rattle.run_model.specs.Event.{Event}
 use Rattle.run_model.specs.Event as event
-use Rattle.run_model.specs.Rules.{IsConsistent}
-use Rattle.run_model.specs.State.{State, TreeState, WorkState}
-use Rattle.run_model.specs.Step.{after_task_end, step, tree_after, work_after}
-use Rattle.run_model.specs.Tasks.{running_tasks}
-use Rattle.run_model.specs.WorkChanges.{after_interrupt, after_make, error_of, interruption}
-use Rattle.run_model.specs.WorkChanges.{stage_of}
+use Rattle.run_model.specs.Step.{tree_after, work_after}
 use Rattle.state_renewal.specs.Renewed.{new_number, Part, scope_anew, state_anew, tree_anew}
 use Rattle.state_renewal.specs.Renewed.{work_anew}
 use Rattle.state_renewal.specs.Told.{event_anew, names_part}

@@ -1,16 +1,14 @@
 -- What a renewal leaves of a store that was renewed before is what it leaves of the old one.
-use Rattle.std.proofs.Common.{◌≡◌, ◌==◌, ◌&&◌, ◌||◌, ℕ, zero, suc, Bool, true, false, not, List}
-use Rattle.std.proofs.Common.{[], ◌∷◌, length, map, Option, Some, None, slice_get, inl, inr, refl}
-use Rattle.std.proofs.Common.{sym, ap, ◌∙◌}
-use Rattle.std.specs.Option.{option_map, option_map_or}
-use Rattle.std.proofs.lemmas.Bool.{and_left, and_parts, both_ways, eqb-true, false_from_ne_true}
-use Rattle.std.proofs.lemmas.Bool.{false≢true, not-true, or_cases, true_from_ne_false}
+use Rattle.run_model.proofs.Common.{◌≡◌, ◌==◌, ◌&&◌, ◌||◌, ℕ, zero, suc, Bool, true, false, not}
+use Rattle.run_model.proofs.Common.{List, [], ◌∷◌, length, map, Option, Some, None, slice_get, inl}
+use Rattle.run_model.proofs.Common.{inr, refl, sym, ap, ◌∙◌, option_map, option_map_or, and_left}
+use Rattle.run_model.proofs.Common.{and_parts, both_ways, eqb-true, false_from_ne_true, false≢true}
+use Rattle.run_model.proofs.Common.{or_cases, true_from_ne_false, IsConsistent, HasRow, is_done}
+use Rattle.run_model.proofs.Common.{line, line_within, upwards, State, list_any, range_with_len}
+use Rattle.std.proofs.lemmas.Bool.{not-true}
 use Rattle.run_model.specs.declared.groups.Group.{Group}
 use Rattle.run_model.specs.declared.scopes.Scope.{Scope}
 use Rattle.run_model.specs.declared.tasks.Task.{Task}
-use Rattle.run_model.specs.Rules.{IsConsistent, HasRow}
-use Rattle.run_model.specs.Scopes.{is_done, line, line_within, upwards}
-use Rattle.run_model.specs.State.{State}
 use Rattle.model_laws.specs.Hits.{is_on}
 use Rattle.model_laws.proofs.Tests.{passing}
 use Rattle.state_renewal.specs.Renewed.{group_told, hosts_unwaited, in_front_if, is_needed, kept}
@@ -25,7 +23,6 @@ use Rattle.state_renewal.proofs.Stays.{kept_both}
 use Rattle.state_renewal.proofs.Chains.{AllGo, both_lines, done_anew, told_at}
 use Rattle.state_renewal.proofs.PassAnew.{any_anew, some_anew}
 use Rattle.state_renewal.proofs.RowsAnew.{anew_get, kept_map, length-anew}
-use Rattle.std.specs.List.{list_any, range_with_len}
 use Rattle.model_laws.proofs.Places.{row_there}
 use Rattle.model_laws.proofs.FirstErrors.{found_any}
 

@@ -1,23 +1,19 @@
 -- What is asked of groups and tasks that go on is answered alike.
-use Rattle.std.proofs.Common.{◌≡◌, ◌==◌, ◌&&◌, ℕ, Bool, true, false, not, List, [], ◌∷◌, cond}
-use Rattle.std.proofs.Common.{length, map, take, Option, Some, None, slice_get, refl, sym, ap, ◌∙◌}
-use Rattle.std.proofs.Common.{arith}
-use Rattle.std.specs.List.{AllByRecursion, filter, find, range_with_len}
-use Rattle.std.specs.Option.{option_and_then, option_map, option_map_or}
-use Rattle.std.proofs.lemmas.Bool.{and_from, and_left, and_parts, both_ways, eq-eqb, eqb-true}
-use Rattle.std.proofs.lemmas.Bool.{false_from_ne_true, true_from_ne_false}
-use Rattle.std.proofs.lemmas.Option.{slice_get_past}
+use Rattle.run_model.proofs.Common.{◌≡◌, ◌==◌, ◌&&◌, ℕ, Bool, true, false, not, List, [], ◌∷◌}
+use Rattle.run_model.proofs.Common.{cond, length, map, take, Option, Some, None, slice_get, refl}
+use Rattle.run_model.proofs.Common.{sym, ap, ◌∙◌, arith, AllByRecursion, range_with_len}
+use Rattle.run_model.proofs.Common.{option_and_then, option_map, option_map_or, and_from, and_left}
+use Rattle.run_model.proofs.Common.{and_parts, both_ways, eq-eqb, eqb-true, false_from_ne_true}
+use Rattle.run_model.proofs.Common.{true_from_ne_false, slice_get_past, is_open, IsConsistent}
+use Rattle.run_model.proofs.Common.{has_task_error, HasRow, State, WorkState, admits, first_ready}
+use Rattle.run_model.proofs.Common.{is_admitted, is_fresh, is_ready, is_retried, is_retry_of}
+use Rattle.run_model.proofs.Common.{is_running, is_unfinished, ended_in_error, limit_of, phase_by}
+use Rattle.run_model.proofs.Common.{phase_of, running_tasks, unfinished_in, has_stage}
+use Rattle.run_model.proofs.Common.{group_of_task}
+use Rattle.std.specs.List.{filter, find}
 use Rattle.run_model.specs.declared.groups.Group.{Group}
 use Rattle.run_model.specs.declared.tasks.Stage.{Stage}
 use Rattle.run_model.specs.declared.tasks.Task.{Task}
-use Rattle.run_model.specs.Allowed.{is_open}
-use Rattle.run_model.specs.Rules.{IsConsistent, has_task_error, HasRow}
-use Rattle.run_model.specs.State.{State, WorkState}
-use Rattle.run_model.specs.Tasks.{admits, first_ready, is_admitted, is_fresh, is_ready, is_retried}
-use Rattle.run_model.specs.Tasks.{is_retry_of, is_running, is_unfinished}
-use Rattle.run_model.specs.Tasks.{ended_in_error, limit_of, phase_by, phase_of, running_tasks}
-use Rattle.run_model.specs.Tasks.{unfinished_in, has_stage}
-use Rattle.run_model.specs.WorkChanges.{group_of_task}
 use Rattle.state_renewal.specs.Renewed.{new_number, Part, group_anew, task_anew, work_anew}
 use Rattle.state_renewal.specs.Renewed.{keeps_group, keeps_task, group_told, task_told, renewed}
 use Rattle.model_laws.proofs.Admission.{count_found, running_unfinished}

@@ -1,21 +1,18 @@
 -- An end admits the oldest held task of its group, in the words of the phases.
-use Rattle.std.proofs.Common.{◌≡◌, ◌≢◌, ◌<◌, ◌&&◌, List, ℕ, Bool, true, false}
-use Rattle.std.proofs.Common.{cond, length, Option}
-use Rattle.std.proofs.Common.{Some, None, slice_get, refl, sym, ap, subst, ◌∙◌, arith}
-use Rattle.std.specs.Option.{option_map, option_map_or}
+use Rattle.run_model.proofs.Common.{◌≡◌, ◌≢◌, ◌<◌, ◌&&◌, List, ℕ, Bool, true, false, cond, length}
+use Rattle.run_model.proofs.Common.{Option, Some, None, slice_get, refl, sym, ap, subst, ◌∙◌}
+use Rattle.run_model.proofs.Common.{arith, option_map, option_map_or, phase_by, group_of_task}
+use Rattle.run_model.proofs.Common.{is_fresh}
 use Rattle.run_model.specs.declared.tasks.Phase.{Phase}
 use Rattle.run_model.specs.declared.tasks.Phase.TheVariants as phase
 use Rattle.run_model.specs.declared.tasks.Stage.{Stage}
 use Rattle.run_model.specs.declared.tasks.Stage.TheVariants as stage
 use Rattle.run_model.specs.declared.tasks.Task.{Task}
-use Rattle.run_model.specs.Tasks.{phase_by}
 use Rattle.run_model.specs.Tasks as model
-use Rattle.run_model.specs.WorkChanges.{group_of_task}
 use Rattle.task_group.specs.declared.seats.Seats.{Seats}
 use Rattle.task_group.specs.Admitting.{AdmitsOldest, IsOldestHeld, phase_new}
 use Rattle.task_group.specs.Kept.{IsNext, SeatsOf}
-use Rattle.task_group.proofs.Words.{Work, is_admitted, is_fresh, is_held}
-use Rattle.task_group.proofs.Words.{fresh_task, submitted}
+use Rattle.task_group.proofs.Words.{Work, is_admitted, is_held, fresh_task, submitted}
 use Rattle.task_group.proofs.Admits.{held_is, is_held_from, ready_at}
 use Rattle.task_group.proofs.Bridges.{phase_same}
 use Rattle.task_group.proofs.Ends.{Ends, Stays, oldest_admitted, task_there}

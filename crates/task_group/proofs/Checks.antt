@@ -1,16 +1,11 @@
 -- What the tests of a change found of a group's row, and what two of them answer in a row.
-use Rattle.std.proofs.Common.{◌≡◌, ◌<◌, ℕ, Bool, true, false, ltb, List, [], ◌∷◌, ◌++◌, length}
-use Rattle.std.proofs.Common.{get_or, if◌then◌else◌, Option, Result, Ok, Err, refl, sym, ap, ◌∙◌}
-use Rattle.std.specs.Prelude.{not}
-use Rattle.std.specs.Option.{option_map_or}
+use Rattle.run_model.proofs.Common.{◌≡◌, ◌<◌, ℕ, Bool, true, false, ltb, List, [], ◌∷◌, ◌++◌}
+use Rattle.run_model.proofs.Common.{length, get_or, if◌then◌else◌, Option, Result, Ok, Err, refl}
+use Rattle.run_model.proofs.Common.{sym, ap, ◌∙◌, not, option_map_or, has_row, is_open, tested}
+use Rattle.run_model.proofs.Common.{and_then, WorkState, has_stage, is_running, lt-ltb}
 use Rattle.run_model.specs.declared.groups.Group.{Group}
 use Rattle.run_model.specs.declared.refusals.Refusal.{Refusal}
 use Rattle.run_model.specs.declared.refusals.Refusal.TheVariants as refusal
-use Rattle.run_model.specs.Allowed.{has_row, is_open, tested}
-use Rattle.run_model.specs.Replies.{and_then}
-use Rattle.run_model.specs.State.{WorkState}
-use Rattle.run_model.specs.Tasks.{has_stage, is_running}
-use Rattle.std.proofs.lemmas.Bool.{lt-ltb}
 use Rattle.task_group.proofs.RowReads.{row_read}
 
 -- Whether a group can be changed.

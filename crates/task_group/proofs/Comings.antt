@@ -1,18 +1,16 @@
 -- A task of any stage comes in, as it is read from an image.
-use Rattle.std.proofs.Common.{◌≡◌, ◌+◌, ◌<◌, ◌≤◌, ◌++◌, ◌∷◌, [], ℕ, Bool, true, false, cond, List}
-use Rattle.std.proofs.Common.{length, Option, Some, None, inl, inr, slice_get, refl, sym, ap, subst}
-use Rattle.std.proofs.Common.{◌∙◌, arith, zero-add}
-use Rattle.std.specs.Prelude.{◌==◌, count_by, slice_set}
-use Rattle.std.specs.Option.{IfSome}
-use Rattle.std.proofs.lemmas.Bool.{cases_eq, cases_lt}
-use Rattle.std.proofs.lemmas.List.{length-append, take-append-le}
-use Rattle.std.proofs.lemmas.List.Sums.{sum_by-append}
+use Rattle.run_model.proofs.Common.{◌≡◌, ◌+◌, ◌<◌, ◌≤◌, ◌++◌, ◌∷◌, [], ℕ, Bool, true, false, cond}
+use Rattle.run_model.proofs.Common.{List, length, Option, Some, None, inl, inr, slice_get, refl}
+use Rattle.run_model.proofs.Common.{sym, ap, subst, ◌∙◌, arith, ◌==◌, count_by, slice_set, IfSome}
+use Rattle.run_model.proofs.Common.{cases_eq, cases_lt, length-append, take-append-le}
+use Rattle.run_model.proofs.Common.{sum_by-append, most_tasks, new_task, admits, at_row, is_fresh}
+use Rattle.run_model.proofs.Common.{is_running, is_unfinished, running_count, unfinished_in}
+use Rattle.run_model.proofs.Common.{with_stage}
+use Rattle.std.proofs.Common.{zero-add}
 use Rattle.run_model.specs.declared.groups.Group.{Group}
 use Rattle.run_model.specs.declared.tasks.Stage.{Stage}
 use Rattle.run_model.specs.declared.tasks.Stage.TheVariants as stage
 use Rattle.run_model.specs.declared.tasks.Task.{Task}
-use Rattle.run_model.specs.Layouts.{most_tasks}
-use Rattle.run_model.specs.Rows.{new_task}
 use Rattle.task_group.specs.declared.seats.Seats.{Seats}
 use Rattle.task_group.specs.Flags.{AreFlagged, flags_after}
 use Rattle.task_group.specs.Held.{fits_limit}
@@ -28,9 +26,7 @@ use Rattle.task_group.proofs.Queued.{queued_same}
 use Rattle.task_group.proofs.Ranks.{rank, at_row_length}
 use Rattle.task_group.proofs.Starts.{slice_get_left, slice_get_end, pushed_row, changed_row}
 use Rattle.task_group.proofs.Tests.{next_same, last_same}
-use Rattle.task_group.proofs.Words.{Work, IsSound, admits, at_row, is_fresh, is_held}
-use Rattle.task_group.proofs.Words.{is_running, is_unfinished, limit_of, running_count}
-use Rattle.task_group.proofs.Words.{unfinished_in, with_stage}
+use Rattle.task_group.proofs.Words.{Work, IsSound, is_held, limit_of}
 
 abbrev pub with_task : Task → Work → Work
 with_task x w = record w { tasks = w.tasks ++ x ∷ [] }

@@ -1,17 +1,12 @@
 -- The rows of tasks of which the first so many are those after a restart.
-use Rattle.std.proofs.Common.{◌≡◌, ◌<◌, ◌≤◌, ◌+◌, ◌∷◌, [], ◌&&◌, ◌||◌, ℕ, zero, suc, cond, Bool}
-use Rattle.std.proofs.Common.{true, false, List, length, take, Some, slice_get, refl, sym, ap}
-use Rattle.std.proofs.Common.{◌∙◌, arith}
-use Rattle.std.specs.Prelude.{◌==◌}
-use Rattle.std.specs.List.{list_any}
-use Rattle.std.specs.Option.{option_map}
-use Rattle.std.proofs.lemmas.List.Sums.{sum_by-cons}
+use Rattle.run_model.proofs.Common.{◌≡◌, ◌<◌, ◌≤◌, ◌+◌, ◌∷◌, [], ◌&&◌, ◌||◌, ℕ, zero, suc, cond}
+use Rattle.run_model.proofs.Common.{Bool, true, false, List, length, take, Some, slice_get, refl}
+use Rattle.run_model.proofs.Common.{sym, ap, ◌∙◌, arith, ◌==◌, list_any, option_map, sum_by-cons}
+use Rattle.run_model.proofs.Common.{at_row, is_fresh, is_running, is_unfinished, running_count}
+use Rattle.run_model.proofs.Common.{with_stage}
 use Rattle.run_model.specs.declared.tasks.Stage.{Stage}
 use Rattle.run_model.specs.declared.tasks.Stage.TheVariants as stage
 use Rattle.run_model.specs.declared.tasks.Task.{Task}
-use Rattle.run_model.specs.Rows.{at_row}
-use Rattle.run_model.specs.Tasks.{is_fresh, is_running, is_unfinished, running_count}
-use Rattle.run_model.specs.WorkChanges.{with_stage}
 use Rattle.task_group.proofs.Ranks.{rank, rank_cons}
 
 -- ---- one row

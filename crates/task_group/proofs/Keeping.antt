@@ -1,30 +1,24 @@
 -- What each call keeps: the counters, lists, queue and flags say what the rows say.
-use Rattle.std.proofs.Common.{◌≡◌, ◌+◌, ◌-◌, ◌<◌, ◌≤◌, ◌++◌, ◌∷◌, [], ℕ, Bool, true, false, List}
-use Rattle.std.proofs.Common.{length}
-use Rattle.std.proofs.Common.{Option, Some, slice_get, refl, sym, ap, ◌∙◌, arith}
-use Rattle.std.specs.Prelude.{slice_set}
-use Rattle.std.specs.Option.{IfSome, option_map_or}
-use Rattle.std.proofs.lemmas.Option.{slice_get_within}
+use Rattle.run_model.proofs.Common.{◌≡◌, ◌+◌, ◌-◌, ◌<◌, ◌≤◌, ◌++◌, ◌∷◌, [], ℕ, Bool, true, false}
+use Rattle.run_model.proofs.Common.{List, length, Option, Some, slice_get, refl, sym, ap, ◌∙◌}
+use Rattle.run_model.proofs.Common.{arith, slice_set, IfSome, option_map_or, slice_get_within}
+use Rattle.run_model.proofs.Common.{most_tasks, is_running, after_wait, admits, unfinished_in}
+use Rattle.run_model.proofs.Common.{at_row, has_stage}
 use Rattle.run_model.specs.declared.bounds.TheConstants.{MOST_GROUPS}
 use Rattle.run_model.specs.declared.groups.Group.{Group}
 use Rattle.run_model.specs.declared.tasks.Stage.TheVariants as stage
 use Rattle.run_model.specs.declared.tasks.Task.{Task}
-use Rattle.run_model.specs.Layouts.{most_tasks}
-use Rattle.run_model.specs.Tasks.{is_running}
-use Rattle.run_model.specs.WorkChanges.{after_wait}
 use Rattle.task_group.specs.declared.seats.Seats.{Seats}
 use Rattle.task_group.specs.Admitting.{AdmitsOldest}
 use Rattle.task_group.specs.Flags.{flags_after}
 use Rattle.task_group.specs.Kept.{Kept, entered, linked, left, no_seats}
 use Rattle.task_group.specs.Sound.{AreKept}
-use Rattle.task_group.proofs.Words.{Work, admits, unfinished_in}
+use Rattle.task_group.proofs.Words.{Work, End, finished, group_of, limited, made, stage_after}
+use Rattle.task_group.proofs.Words.{started, submitted}
 use Rattle.task_group.specs.Trees.{with_flag}
-use Rattle.run_model.specs.Rows.{at_row}
-use Rattle.task_group.proofs.Words.{End, finished, group_of, limited, made, stage_after, started}
-use Rattle.task_group.proofs.Words.{submitted, has_stage}
 use Rattle.task_group.proofs.Admitting.{end_admits}
-use Rattle.task_group.proofs.Flaggings.{flagged_pushed, flagged_staged, running_less}
-use Rattle.task_group.proofs.Flaggings.{running_more, running_pushed, ended_rests, fresh_rests}
+use Rattle.task_group.proofs.Flaggings.{flagged_pushed, flagged_staged, running_less, running_more}
+use Rattle.task_group.proofs.Flaggings.{running_pushed, ended_rests, fresh_rests}
 use Rattle.task_group.proofs.Leaves.{start_kept, end_kept}
 use Rattle.task_group.proofs.Limits.{limit_kept, limit_stays}
 use Rattle.task_group.proofs.Makes.{make_kept, made_stays}

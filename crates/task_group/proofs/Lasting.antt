@@ -1,19 +1,13 @@
 -- No change undoes the end of a task or the first error of a group.
-use Rattle.std.proofs.Common.{◌≡◌, ◌++◌, ◌∷◌, [], ℕ, true, false, List, Option}
-use Rattle.std.proofs.Common.{Some}
-use Rattle.std.proofs.Common.{None, slice_get, inl, inr, refl, sym, ap, ◌∙◌}
-use Rattle.std.specs.Option.{option_and_then, option_map, option_or}
-use Rattle.std.proofs.lemmas.Bool.{cases_eq}
-use Rattle.std.proofs.lemmas.Option.{slice_get_within}
+use Rattle.run_model.proofs.Common.{◌≡◌, ◌++◌, ◌∷◌, [], ℕ, true, false, List, Option, Some, None}
+use Rattle.run_model.proofs.Common.{slice_get, inl, inr, refl, sym, ap, ◌∙◌, option_and_then}
+use Rattle.run_model.proofs.Common.{option_map, option_or, cases_eq, slice_get_within, at_row}
+use Rattle.run_model.proofs.Common.{WorkState, is_running, is_unfinished, after_wait, groups_after}
+use Rattle.run_model.proofs.Common.{with_error, with_stage, with_wait}
 use Rattle.run_model.specs.declared.groups.Group.{Group}
 use Rattle.run_model.specs.declared.tasks.Stage.{Stage}
 use Rattle.run_model.specs.declared.tasks.Stage.TheVariants as stage
 use Rattle.run_model.specs.declared.tasks.Task.{Task}
-use Rattle.run_model.specs.Rows.{at_row}
-use Rattle.run_model.specs.State.{WorkState}
-use Rattle.run_model.specs.Tasks.{is_running, is_unfinished}
-use Rattle.run_model.specs.WorkChanges.{after_wait, groups_after, with_error, with_stage}
-use Rattle.run_model.specs.WorkChanges.{with_wait}
 use Rattle.task_group.specs.Lasting.{EndsStay}
 use Rattle.task_group.proofs.Words.{End, finished, limited, made, started, submitted, fresh_task}
 use Rattle.task_group.proofs.Words.{group_of}

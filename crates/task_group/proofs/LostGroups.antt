@@ -1,17 +1,13 @@
 -- Groups that one of the first tasks is an error of.
-use Rattle.std.proofs.Common.{◌≡◌, ◌<◌, ◌≤◌, ℕ, ◌+◌, Bool, true, false, ◌||◌, ◌&&◌, List, [], ◌∷◌}
-use Rattle.std.proofs.Common.{◌++◌}
-use Rattle.std.proofs.Common.{length, take, get_or, refl, sym, ap, ◌∙◌, add-one, inl, inr}
-use Rattle.std.specs.Prelude.{◌==◌, slice_index_or, slice_set, replicate}
-use Rattle.std.specs.List.{list_any}
+use Rattle.run_model.proofs.Common.{◌≡◌, ◌<◌, ◌≤◌, ℕ, ◌+◌, Bool, true, false, ◌||◌, ◌&&◌, List, []}
+use Rattle.run_model.proofs.Common.{◌∷◌, ◌++◌, length, take, get_or, refl, sym, ap, ◌∙◌, add-one}
+use Rattle.run_model.proofs.Common.{inl, inr, ◌==◌, slice_index_or, slice_set, replicate, list_any}
+use Rattle.run_model.proofs.Common.{cases_eq, get_or-set_same, get_or-set_other, length-set}
+use Rattle.run_model.proofs.Common.{length-replicate, take_all, list_any-append, ended_in_error}
 use Rattle.std.proofs.Math.Seq.{take-suc}
-use Rattle.std.proofs.lemmas.Bool.{cases_eq}
-use Rattle.std.proofs.lemmas.List.{get_or-set_same, get_or-set_other, length-set}
-use Rattle.std.proofs.lemmas.List.{get_or-replicate, length-replicate, take_all}
-use Rattle.std.proofs.lemmas.List.Folds.{list_any-append}
+use Rattle.std.proofs.lemmas.List.{get_or-replicate}
 use Rattle.run_model.specs.declared.bounds.TheConstants.{MOST_GROUPS}
 use Rattle.run_model.specs.declared.tasks.Task.{Task}
-use Rattle.run_model.specs.Tasks.{ended_in_error}
 use Rattle.task_group.proofs.Admits.{eqb_same, eqb_apart}
 use Rattle.task_group.proofs.Ends.{and_false}
 

@@ -1,8 +1,7 @@
 -- A task that ends with an error, or without one, ends with the outcome of it.
-use Rattle.std.proofs.Common.{◌≡◌, ℕ, List, Option, Some, None, ap}
+use Rattle.run_model.proofs.Common.{◌≡◌, ℕ, List, Option, Some, None, ap, WorkState, after_end}
+use Rattle.run_model.proofs.Common.{stage_of, error_of}
 use Rattle.run_model.specs.declared.tasks.Stage.{Stage}
-use Rattle.run_model.specs.State.{WorkState}
-use Rattle.run_model.specs.WorkChanges.{after_end, stage_of, error_of}
 use Rattle.task_group.specs.Outcomes.{outcome_with}
 
 pub ends_with : (n : ℕ) (error : Option (List ℕ)) (s : Stage) (w : WorkState)

@@ -1,13 +1,11 @@
 -- Rows that were put so far, one after the other, each of at most so many bytes.
-use Rattle.std.proofs.Common.{◌≡◌, ◌<◌, ◌≤◌, ℕ, zero, suc, ◌+◌, ◌*◌, List, [], ◌∷◌, ◌++◌, length}
-use Rattle.std.proofs.Common.{take, drop, Bool}
-use Rattle.std.proofs.Common.{get_or, refl, sym, ap, ◌∙◌, subst, arith, length-append, add-one}
-use Rattle.std.specs.Prelude.{IsTrue}
-use Rattle.std.specs.List.{flat_map, AllByRecursion}
+use Rattle.run_model.proofs.Common.{◌≡◌, ◌<◌, ◌≤◌, ℕ, zero, suc, ◌+◌, ◌*◌, List, [], ◌∷◌, ◌++◌}
+use Rattle.run_model.proofs.Common.{length, take, drop, Bool, get_or, refl, sym, ap, ◌∙◌, subst}
+use Rattle.run_model.proofs.Common.{arith, length-append, add-one, IsTrue, flat_map}
+use Rattle.run_model.proofs.Common.{AllByRecursion, flat_map-append, append-nil, take-append-drop}
+use Rattle.run_model.proofs.Common.{take_all}
 use Rattle.std.proofs.Math.Nat.{mul-le-mul_left}
 use Rattle.std.proofs.Math.Seq.{take-suc}
-use Rattle.std.proofs.lemmas.Grind.{flat_map-append}
-use Rattle.std.proofs.lemmas.List.{append-nil, take-append-drop, take_all}
 use Rattle.record_view.specs.Writing.{put_at}
 use Rattle.record_view.proofs.Joins.{put_then}
 

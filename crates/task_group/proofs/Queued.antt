@@ -1,23 +1,17 @@
 -- The queue has the ready tasks, through every change.
-use Rattle.std.proofs.Common.{◌≡◌, ◌≢◌, ◌+◌, ◌<◌, ◌≤◌, ◌∷◌, [], ℕ, Bool, true, false, List}
-use Rattle.std.proofs.Common.{length, Option}
-use Rattle.std.proofs.Common.{Some, None, inl, inr, refl, sym, ap, subst, ◌∙◌, arith}
-use Rattle.std.specs.Prelude.{slice_set}
-use Rattle.std.proofs.lemmas.Bool.{cases_eq, cases_lt}
-use Rattle.std.proofs.lemmas.List.{get_or-set_same, get_or-set_other}
-use Rattle.std.proofs.lemmas.List.{length-set, length-append}
-use Rattle.std.proofs.lemmas.Option.{slice_get_within}
+use Rattle.run_model.proofs.Common.{◌≡◌, ◌≢◌, ◌+◌, ◌<◌, ◌≤◌, ◌∷◌, [], ℕ, Bool, true, false, List}
+use Rattle.run_model.proofs.Common.{length, Option, Some, None, inl, inr, refl, sym, ap, subst}
+use Rattle.run_model.proofs.Common.{◌∙◌, arith, slice_set, cases_eq, cases_lt, get_or-set_same}
+use Rattle.run_model.proofs.Common.{get_or-set_other, length-set, length-append, slice_get_within}
+use Rattle.run_model.proofs.Common.{most_tasks, admits, unfinished_in}
 use Rattle.run_model.specs.declared.tasks.Stage.{Stage}
 use Rattle.run_model.specs.declared.tasks.Task.{Task}
-use Rattle.run_model.specs.Layouts.{most_tasks}
 use Rattle.task_group.specs.declared.seats.Seats.{Seats}
 use Rattle.task_group.specs.Kept.{IsNext, SeatsOf}
 use Rattle.task_group.specs.Sound.{AreQueued}
-use Rattle.task_group.proofs.Words.{Work, is_ready, is_held, admits, limit_of}
-use Rattle.task_group.proofs.Words.{unfinished_in}
-use Rattle.task_group.proofs.Words.{first_ready}
+use Rattle.task_group.proofs.Words.{Work, is_ready, is_held, limit_of, first_ready, submitted}
+use Rattle.task_group.proofs.Words.{started, fresh_task}
 use Rattle.task_group.specs.Trees.{is_up, with_flag}
-use Rattle.task_group.proofs.Words.{submitted, started, fresh_task}
 use Rattle.task_group.proofs.Admits.{held_is}
 use Rattle.task_group.proofs.Bridges.{ready_same}
 use Rattle.task_group.proofs.Ends.{Ends, oldest_admitted}

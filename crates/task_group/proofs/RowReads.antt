@@ -1,9 +1,8 @@
 -- A row that code read at a number, and what a test says of it.
-use Rattle.std.proofs.Common.{◌≡◌, ◌<◌, ℕ, Bool, true, false, ltb, List, length, get_or, Option}
-use Rattle.std.proofs.Common.{Some, None, slice_get, refl, sym, ap, ◌∙◌}
-use Rattle.std.specs.Option.{option_map_or}
-use Rattle.std.proofs.lemmas.Bool.{ltb-true, ltb-false}
-use Rattle.std.proofs.lemmas.Option.{slice_get_past, slice_get_read, slice_get_within}
+use Rattle.run_model.proofs.Common.{◌≡◌, ◌<◌, ℕ, Bool, true, false, ltb, List, length, get_or}
+use Rattle.run_model.proofs.Common.{Option, Some, None, slice_get, refl, sym, ap, ◌∙◌}
+use Rattle.run_model.proofs.Common.{option_map_or, ltb-true, ltb-false, slice_get_past}
+use Rattle.run_model.proofs.Common.{slice_get_read, slice_get_within}
 
 -- A row that was found in a copy of the list is in the list.
 pub row_read : {X : Type 0} (rows read : List X) (n : ℕ) (row : X) → read ≡ rows

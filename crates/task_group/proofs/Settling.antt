@@ -1,10 +1,8 @@
 -- Rows that are tested one by one, with their numbers.
-use Rattle.std.proofs.Common.{◌≡◌, ◌≤◌, ℕ, zero, suc, ◌+◌, Bool, true, false, ◌&&◌, List, [], ◌∷◌}
-use Rattle.std.proofs.Common.{length, drop, Option, Some, None, slice_get, refl, sym, ap, ◌∙◌}
-use Rattle.std.proofs.Common.{add-one}
-use Rattle.std.specs.Prelude.{is_none, is_some}
+use Rattle.run_model.proofs.Common.{◌≡◌, ◌≤◌, ℕ, zero, suc, ◌+◌, Bool, true, false, ◌&&◌, List, []}
+use Rattle.run_model.proofs.Common.{◌∷◌, length, drop, Option, Some, None, slice_get, refl, sym}
+use Rattle.run_model.proofs.Common.{ap, ◌∙◌, add-one, is_none, is_some, same_Some, none-some}
 use Rattle.std.proofs.lemmas.List.{drop_all}
-use Rattle.std.proofs.lemmas.Option.{same_Some, none-some}
 use Rattle.record_view.specs.WorkRows.{each_passes}
 
 passes_from : {X : Type 0} (test : ℕ → X → Bool) (n k : ℕ) (rows : List X) (row : X)

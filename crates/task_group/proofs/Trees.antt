@@ -1,16 +1,13 @@
 -- A tree of flags: the least leaf is found on the way down, and a change is mended on the way up.
-use Rattle.std.proofs.Common.{◌≡◌, ◌≢◌, ◌<◌, ◌≤◌, ℕ, zero, suc, ◌+◌, ◌-◌, ◌/◌, ◌%◌, Bool, true}
-use Rattle.std.proofs.Common.{false, ◌||◌, List}
-use Rattle.std.proofs.Common.{length, drop, cond, Some, None, inl, inr, refl, sym, ap}
-use Rattle.std.proofs.Common.{◌∙◌, arith}
-use Rattle.std.specs.Prelude.{◌⊎◌, replicate, slice_set}
-use Rattle.std.proofs.lemmas.Bool.{cases_eq, cases_lt}
-use Rattle.std.proofs.lemmas.List.{get_or-drop, get_or_past, get_or-set_same, get_or-set_other}
-use Rattle.std.proofs.lemmas.List.{drop-replicate, get_or-replicate, length-replicate, length-set}
+use Rattle.run_model.proofs.Common.{◌≡◌, ◌≢◌, ◌<◌, ◌≤◌, ℕ, zero, suc, ◌+◌, ◌-◌, ◌/◌, ◌%◌, Bool}
+use Rattle.run_model.proofs.Common.{true, false, ◌||◌, List, length, drop, cond, Some, None, inl}
+use Rattle.run_model.proofs.Common.{inr, refl, sym, ap, ◌∙◌, arith, ◌⊎◌, replicate, slice_set}
+use Rattle.run_model.proofs.Common.{cases_eq, cases_lt, get_or-drop, get_or_past, get_or-set_same}
+use Rattle.run_model.proofs.Common.{get_or-set_other, length-replicate, length-set, most_tasks}
+use Rattle.run_model.proofs.Common.{most_tasks_most}
+use Rattle.std.proofs.lemmas.List.{drop-replicate, get_or-replicate}
 use Rattle.run_model.specs.declared.layouts.Layout.{Layout}
 use Rattle.run_model.specs.declared.layouts.Layout.TheVariants.{Small, Large}
-use Rattle.run_model.specs.Layouts.{most_tasks}
-use Rattle.run_model.proofs.LayoutLemmas.{most_tasks_most}
 use Rattle.task_group.specs.Kept.{IsNext}
 use Rattle.task_group.specs.Trees.{is_up, IsRight, first_leaf, IsTree, way_down}
 

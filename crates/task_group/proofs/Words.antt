@@ -1,15 +1,13 @@
 -- Words that the proofs use beside those of the definitions.
-use Rattle.std.specs.Prelude.{◌≡◌, ◌++◌, ◌∷◌, [], ◌&&◌, ℕ, Bool, false, List, Option}
-use Rattle.std.specs.Prelude.{find, length, slice_get}
-use Rattle.std.specs.List.{range_with_len}
-use Rattle.std.specs.Option.{option_and_then, option_map, option_map_or}
+use Rattle.run_model.proofs.Common.{◌≡◌, ◌++◌, ◌∷◌, [], ◌&&◌, ℕ, Bool, false, List, Option, find}
+use Rattle.run_model.proofs.Common.{length, slice_get, range_with_len, option_and_then, option_map}
+use Rattle.run_model.proofs.Common.{option_map_or, WorkState, after_end}
 use Rattle.run_model.specs.declared.groups.Group.{Group}
 use Rattle.run_model.specs.declared.tasks.Phase.{Phase}
 use Rattle.run_model.specs.declared.tasks.Stage.{Stage}
 use Rattle.run_model.specs.declared.tasks.Stage.TheVariants as stage
 use Rattle.run_model.specs.declared.tasks.Task.{Task}
-use Rattle.run_model.specs.State.{WorkState}
-use Rattle.run_model.specs.WorkChanges.{after_end, groups_after as groups_after_error}
+use Rattle.run_model.specs.WorkChanges.{groups_after as groups_after_error}
 use Rattle.task_group.specs.Held.{fits_limit}
 pub use Rattle.run_model.specs.Rows.{at_row, new_group, new_task}
 pub use Rattle.run_model.specs.Tasks.{admits, has_stage, is_fresh, is_running, is_unfinished}

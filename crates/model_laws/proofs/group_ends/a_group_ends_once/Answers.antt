@@ -1,5 +1,4 @@
-use Rattle.std.proofs.Common.{◌+◌, Some, None}
-use Rattle.run_model.specs.WorkChanges.{group_of_task}
+use Rattle.run_model.proofs.Common.{◌+◌, Some, None, group_of_task}
 use Rattle.model_laws.proofs.group_ends.a_group_ends_once.Goals as goal
 use Rattle.model_laws.proofs.EndedOnce.{ended_once, ended_before}
 

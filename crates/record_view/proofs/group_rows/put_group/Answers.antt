@@ -1,10 +1,8 @@
-use Rattle.std.proofs.Common.{arith}
-use Rattle.std.specs.Option.{option_copied}
-use Rattle.run_model.specs.Spelling.{limit_bytes, optional_bytes, text_bytes}
-use Rattle.std.specs.Int.{to_be_bytes, w16}
+use Rattle.run_model.proofs.Common.{arith, option_copied, optional_bytes, text_bytes, to_be_bytes}
+use Rattle.run_model.proofs.Common.{w16}
+use Rattle.run_model.specs.Spelling.{limit_bytes}
 use Rattle.record_view.specs.Image.{flag_bytes}
-use Rattle.record_view.proofs.RowJoins.{put_six}
-use Rattle.record_view.proofs.RowJoins.{length_six}
+use Rattle.record_view.proofs.RowJoins.{put_six, length_six}
 use Rattle.record_view.proofs.group_rows.put_group.Goals as goal
 
 pub returns-clause-end : goal.returns-clause-end

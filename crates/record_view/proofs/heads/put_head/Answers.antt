@@ -1,5 +1,4 @@
-use Rattle.std.proofs.Common.{arith, [], ◌∷◌}
-use Rattle.std.specs.Int.{to_be_bytes, w16, w64}
+use Rattle.run_model.proofs.Common.{arith, [], ◌∷◌, to_be_bytes, w16, w64}
 use Rattle.record_view.proofs.RowJoins.{put_six}
 use Rattle.record_view.proofs.heads.put_head.Goals as goal
 

@@ -1,9 +1,6 @@
-use Rattle.std.proofs.Common.{arith, [], ◌∷◌}
-use Rattle.run_model.specs.Spelling.{text_bytes}
-use Rattle.std.specs.Int.{to_be_bytes, w64}
+use Rattle.run_model.proofs.Common.{arith, [], ◌∷◌, text_bytes, to_be_bytes, w64}
 use Rattle.record_view.specs.Image.{reason_bytes}
-use Rattle.record_view.proofs.RowJoins.{put_five}
-use Rattle.record_view.proofs.RowJoins.{length_four}
+use Rattle.record_view.proofs.RowJoins.{put_five, length_four}
 use Rattle.record_view.proofs.scope_rows.put_hit_fields.Goals as goal
 
 pub returns-clause-written : goal.returns-clause-written

@@ -1,12 +1,8 @@
-use Rattle.std.proofs.Common.{arith}
-use Rattle.std.specs.Option.{option_map}
-use Rattle.run_model.specs.Spelling.{text_bytes, kind_bytes}
-use Rattle.std.specs.Int.{to_be_bytes, w16}
+use Rattle.run_model.proofs.Common.{arith, option_map, text_bytes, kind_bytes, to_be_bytes, w16}
 use Rattle.record_view.specs.Image.{hit_bytes}
 use Rattle.record_view.specs.RowViews.{hit_of}
 use Rattle.record_view.specs.Views.{kind_of}
-use Rattle.record_view.proofs.RowJoins.{put_four}
-use Rattle.record_view.proofs.RowJoins.{length_four}
+use Rattle.record_view.proofs.RowJoins.{put_four, length_four}
 use Rattle.record_view.proofs.scope_rows.put_scope.Goals as goal
 
 pub returns-clause-end : goal.returns-clause-end

@@ -1,7 +1,5 @@
-use Rattle.std.proofs.Common.{arith}
+use Rattle.run_model.proofs.Common.{arith, text_bytes, to_be_bytes, w16}
 use Rattle.record_view.specs.declared.heads.ImageVersion.TheVariants.{Two}
-use Rattle.run_model.specs.Spelling.{text_bytes}
-use Rattle.std.specs.Int.{to_be_bytes, w16}
 use Rattle.record_view.specs.Image.{link_bytes, stage_bytes}
 use Rattle.record_view.specs.RowViews.{stage_of}
 use Rattle.record_view.proofs.RowJoins.{put_five, length_five}

@@ -1,8 +1,6 @@
-use Rattle.std.proofs.Common.{Some, refl, sym, ap, ◌∙◌, get_or}
+use Rattle.run_model.proofs.Common.{Some, refl, sym, ap, ◌∙◌, get_or, has_kind, is_group_kind}
+use Rattle.run_model.proofs.Common.{after_cancel}
 use Rattle.std.proofs.lemmas.List.Sums.{fold_more}
-use Rattle.run_model.specs.Allowed.{has_kind}
-use Rattle.run_model.specs.Scopes.{is_group_kind}
-use Rattle.run_model.specs.TreeChanges.{after_cancel}
 use Rattle.scope_tree.proofs.Events.{earlier_is_alike, has_kind-after_cancel}
 use Rattle.run_state.proofs.hits.hit_groups.Goals as goal
 

@@ -1,7 +1,5 @@
-use Rattle.std.proofs.Common.{◌≡◌, ℕ, fold, take, Some}
-use Rattle.run_model.specs.Allowed.{has_kind}
-use Rattle.run_model.specs.Scopes.{is_group_kind}
-use Rattle.run_model.specs.TreeChanges.{after_cancel}
+use Rattle.run_model.proofs.Common.{◌≡◌, ℕ, fold, take, Some, has_kind, is_group_kind}
+use Rattle.run_model.proofs.Common.{after_cancel}
 use Rattle.scope_tree.specs.Checks.{AreEarlierOrAlike}
 use Rattle.run_state.proofs.hits.hit_groups.Given as goal
 

@@ -1,7 +1,5 @@
-use Rattle.std.proofs.Common.{refl, sym, ap, ◌∙◌, ◌≡◌, ◌<◌, Some, slice_get, false, arith}
-use Rattle.std.specs.Option.{option_copied}
-use Rattle.std.proofs.lemmas.Option.{slice_get_read}
-use Rattle.run_model.specs.Scopes.{is_root}
+use Rattle.run_model.proofs.Common.{refl, sym, ap, ◌∙◌, ◌≡◌, ◌<◌, Some, slice_get, false, arith}
+use Rattle.run_model.proofs.Common.{option_copied, slice_get_read, is_root}
 use Rattle.scope_tree.proofs.Nearing.{reach_at}
 use Rattle.scope_tree.proofs.Searching.{value_above}
 use Rattle.scope_tree.proofs.ancestors.nearest_value.Goals as goal

@@ -1,5 +1,4 @@
-use Rattle.std.proofs.Common.{◌≡◌, ◌<◌, length}
-use Rattle.run_model.specs.Scopes.{value_of}
+use Rattle.run_model.proofs.Common.{◌≡◌, ◌<◌, length, value_of}
 use Rattle.scope_tree.proofs.ancestors.nearest_value.Given as goal
 
 abbrev pub invariant-loop-text : goal.invariant-loop-text

@@ -1,5 +1,4 @@
-use Rattle.std.proofs.Common.{◌≡◌, ℕ, Option, None, length, ap, ◌∙◌, arith}
-use Rattle.std.specs.Prelude.{replicate}
+use Rattle.run_model.proofs.Common.{◌≡◌, ℕ, Option, None, length, ap, ◌∙◌, arith, replicate}
 use Rattle.scope_tree.specs.declared.chains.TheConstants.{CHAINS}
 use Rattle.scope_tree.proofs.chains.no_heads.Goals as goal
 

@@ -1,5 +1,4 @@
-use Rattle.std.proofs.Common.{◌≡◌, ◌≤◌, ◌-◌, None, length, vec_capacity}
-use Rattle.std.specs.Prelude.{replicate}
+use Rattle.run_model.proofs.Common.{◌≡◌, ◌≤◌, ◌-◌, None, length, vec_capacity, replicate}
 use Rattle.scope_tree.specs.declared.chains.TheConstants.{CHAINS}
 use Rattle.scope_tree.proofs.chains.no_heads.Given as goal
 

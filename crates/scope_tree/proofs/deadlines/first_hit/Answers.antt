@@ -1,7 +1,6 @@
-use Rattle.std.proofs.Common.{◌≡◌, Some, slice_get, refl, sym, ap, ◌∙◌}
-use Rattle.std.proofs.lemmas.Option.{slice_get_read}
+use Rattle.run_model.proofs.Common.{◌≡◌, Some, slice_get, refl, sym, ap, ◌∙◌, slice_get_read}
+use Rattle.run_model.proofs.Common.{hit_due}
 use Rattle.run_model.specs.declared.scopes.Scope.{Scope}
-use Rattle.run_model.specs.TreeChanges.{hit_due}
 use Rattle.scope_tree.proofs.Heaps.{known_at}
 use Rattle.scope_tree.proofs.Waiting.{due_is}
 use Rattle.scope_tree.proofs.deadlines.first_hit.Goals as goal

@@ -1,5 +1,4 @@
-use Rattle.std.proofs.Common.{◌≡◌, Some, slice_get, refl, sym, ◌∙◌}
-use Rattle.std.proofs.lemmas.Option.{slice_get_read}
+use Rattle.run_model.proofs.Common.{◌≡◌, Some, slice_get, refl, sym, ◌∙◌, slice_get_read}
 use Rattle.scope_tree.proofs.Waiting.{noted_pushed, noted_same}
 use Rattle.scope_tree.proofs.deadlines.note.Goals as goal
 

@@ -1,6 +1,5 @@
-use Rattle.std.proofs.Common.{◌≡◌, ℕ, List, length, ap, subst, ◌∙◌, arith}
+use Rattle.run_model.proofs.Common.{◌≡◌, ℕ, List, length, ap, subst, ◌∙◌, arith, get_or_default}
 use Rattle.arrayvec.specs.ArrayVec.{array_vec_len}
-use Rattle.std.proofs.lemmas.List.{get_or_default}
 use Rattle.scope_tree.specs.Deadlines.{SameNumbers}
 use Rattle.scope_tree.proofs.Heaps.{takes, refill_is, back_removed, down_removed}
 use Rattle.scope_tree.proofs.deadlines.take_first.Goals as goal

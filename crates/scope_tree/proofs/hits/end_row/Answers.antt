@@ -1,6 +1,5 @@
-use Rattle.std.proofs.Common.{◌∙◌, ap, sym}
+use Rattle.run_model.proofs.Common.{◌∙◌, ap, sym, with_hit}
 use Rattle.std.proofs.Math.ListN.{set}
-use Rattle.run_model.specs.TreeChanges.{with_hit}
 use Rattle.scope_tree.proofs.Fronts.{set_is_at_row}
 use Rattle.scope_tree.proofs.hits.end_row.Goals as goal
 

@@ -1,5 +1,4 @@
-use Rattle.std.proofs.Common.{not}
-use Rattle.std.proofs.Common.{ap, subst, ◌∙◌}
+use Rattle.run_model.proofs.Common.{not, ap, subst, ◌∙◌}
 use Rattle.scope_tree.specs.Marks.{mark_of}
 use Rattle.scope_tree.proofs.Spread.{Walk, walk_starts, walk_skips, walk_marks, walk_ends}
 use Rattle.scope_tree.proofs.Spread.{not_some, inside}

@@ -1,7 +1,5 @@
-use Rattle.std.proofs.Common.{◌≡◌, ◌<◌, true, false, Some, slice_get, refl, sym, ap, ◌∙◌}
-use Rattle.std.proofs.Common.{arith}
-use Rattle.std.proofs.lemmas.Option.{slice_get_read}
-use Rattle.run_model.specs.Scopes.{is_root, is_detached}
+use Rattle.run_model.proofs.Common.{◌≡◌, ◌<◌, true, false, Some, slice_get, refl, sym, ap, ◌∙◌}
+use Rattle.run_model.proofs.Common.{arith, slice_get_read, is_root, is_detached}
 use Rattle.model_laws.specs.Searches.{earlier}
 use Rattle.scope_tree.specs.Reaches.{IsReach}
 use Rattle.scope_tree.proofs.Nearing.{new_reach_is}

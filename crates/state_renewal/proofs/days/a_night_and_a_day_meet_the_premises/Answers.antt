@@ -1,6 +1,5 @@
-use Rattle.std.proofs.Common.{refl}
+use Rattle.run_model.proofs.Common.{refl, formatted}
 use Rattle.run_model.specs.declared.layouts.Layout.TheVariants.{Small}
-use Rattle.run_model.specs.State.{formatted}
 use Rattle.model_laws.proofs.Starting.{formatted_consistent}
 use Rattle.model_laws.proofs.StateSteps.{run_keeps}
 use Rattle.state_renewal.specs.Days.{first_night}

@@ -1,5 +1,4 @@
-use Rattle.std.proofs.Common.{◌+◌, not, sym, subst, arith}
-use Rattle.run_model.specs.Scopes.{is_done}
+use Rattle.run_model.proofs.Common.{◌+◌, not, sym, subst, arith, is_done}
 use Rattle.state_renewal.specs.Marks.{AreFlags}
 use Rattle.state_renewal.proofs.Flagging.{flags_push}
 use Rattle.state_renewal.proofs.flags.flag_live.Goals as goal

@@ -1,5 +1,4 @@
-use Rattle.std.proofs.Common.{◌≤◌, length, not}
-use Rattle.run_model.specs.Scopes.{is_done}
+use Rattle.run_model.proofs.Common.{◌≤◌, length, not, is_done}
 use Rattle.state_renewal.specs.Marks.{AreFlags}
 use Rattle.state_renewal.proofs.flags.flag_live.Given as goal
 

@@ -1,5 +1,4 @@
-use Rattle.std.proofs.Common.{◌∙◌, ap, map, sym}
-use Rattle.run_model.specs.Allowed.{run}
+use Rattle.run_model.proofs.Common.{◌∙◌, ap, map, sym, run}
 use Rattle.state_renewal.specs.Told.{event_anew}
 use Rattle.state_renewal.specs.GoingOn.{going_on}
 use Rattle.state_renewal.proofs.Begins.{begins}

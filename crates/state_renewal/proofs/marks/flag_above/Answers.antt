@@ -1,13 +1,10 @@
-use Rattle.std.proofs.Common.{length, refl, sym, subst, ◌≡◌, ◌+◌, ◌-◌, ◌∙◌, arith}
-use Rattle.std.proofs.lemmas.Bool.{true≢false}
-use Rattle.std.proofs.lemmas.Option.{slice_get_read}
+use Rattle.run_model.proofs.Common.{length, refl, sym, subst, ◌≡◌, ◌+◌, ◌-◌, ◌∙◌, arith}
+use Rattle.run_model.proofs.Common.{true≢false, slice_get_read}
 use Rattle.state_renewal.proofs.Raising.{AreRaised, raised_first, raised_same, raised_more}
 use Rattle.state_renewal.proofs.Raising.{raised_all}
 use Rattle.state_renewal.proofs.marks.flag_above.Goals.{then-flags-s+then-not-is_root}
 use Rattle.state_renewal.proofs.marks.flag_above.Goals.{else-flags-s}
-use Rattle.state_renewal.proofs.marks.flag_above.Goals.{
-  else-flags-s-via-then-flags-s+else-not-is_root,
-}
+use Rattle.state_renewal.proofs.marks.flag_above.Goals.{else-flags-s-via-then-flags-s+else-not-is_root}
 use Rattle.state_renewal.proofs.marks.flag_above.Goals.{else-flags-s-via-else-flags-s}
 use Rattle.state_renewal.proofs.marks.flag_above.Goals as goal
 

@@ -1,6 +1,4 @@
-use Rattle.std.proofs.Common.{◌<◌, length, subst, arith}
-use Rattle.std.specs.Option.{IfSome}
-use Rattle.std.proofs.lemmas.Bool.{lt-ltb}
+use Rattle.run_model.proofs.Common.{◌<◌, length, subst, arith, IfSome, lt-ltb}
 use Rattle.state_renewal.specs.Marks.{is_flagged}
 use Rattle.state_renewal.proofs.Numbers.{number_at_most}
 use Rattle.state_renewal.proofs.rows.link_anew.Goals as goal

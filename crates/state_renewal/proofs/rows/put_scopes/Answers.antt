@@ -1,5 +1,4 @@
-use Rattle.std.proofs.Common.{◌+◌, length, refl, ap, ◌∙◌, arith}
-use Rattle.std.proofs.lemmas.Option.{slice_get_read}
+use Rattle.run_model.proofs.Common.{◌+◌, length, refl, ap, ◌∙◌, arith, slice_get_read}
 use Rattle.record_view.specs.Image.{scope_bytes, is_kept_scope}
 use Rattle.record_view.specs.Writing.{put_at}
 use Rattle.record_view.proofs.RowLengths.{scope_len_most}

@@ -1,5 +1,4 @@
-use Rattle.std.proofs.Common.{ℕ, Some, sym, ap, ◌∙◌}
-use Rattle.std.proofs.lemmas.Option.{slice_get-get_or}
+use Rattle.run_model.proofs.Common.{ℕ, Some, sym, ap, ◌∙◌, slice_get-get_or}
 use Rattle.run_model.specs.declared.groups.Group.{Group}
 use Rattle.record_view.specs.Between.{fits_scope}
 use Rattle.task_group.proofs.Settling.{passes_on, fails_at, passes_end}

@@ -1,5 +1,4 @@
-use Rattle.std.proofs.Common.{◌+◌, Some, ap, sym, subst, ◌∙◌, arith}
-use Rattle.std.proofs.lemmas.Option.{slice_get-get_or}
+use Rattle.run_model.proofs.Common.{◌+◌, Some, ap, sym, subst, ◌∙◌, arith, slice_get-get_or}
 use Rattle.task_group.proofs.LostGroups.{AreLost, lost_first, lost_same, lost_more, lost_all}
 use Rattle.task_group.proofs.image_rows.lost_groups.Goals.{then-is_error, else-is_error}
 use Rattle.task_group.proofs.image_rows.lost_groups.Goals as goal

@@ -1,5 +1,4 @@
-use Rattle.std.proofs.Common.{◌≡◌, ◌≤◌, ◌-◌, false, length, vec_capacity}
-use Rattle.std.specs.Prelude.{replicate}
+use Rattle.run_model.proofs.Common.{◌≡◌, ◌≤◌, ◌-◌, false, length, vec_capacity, replicate}
 use Rattle.task_group.proofs.queue.all_down.Given as goal
 
 abbrev pub invariant-loop-flags : goal.invariant-loop-flags

@@ -1,5 +1,4 @@
-use Rattle.std.proofs.Common.{◌≡◌, ◌≤◌, ◌<◌, ◌+◌, drop}
-use Rattle.std.specs.Prelude.{slice_set}
+use Rattle.run_model.proofs.Common.{◌≡◌, ◌≤◌, ◌<◌, ◌+◌, drop, slice_set}
 use Rattle.task_group.proofs.Trees.{IsTreeBut}
 use Rattle.task_group.proofs.queue.set_leaf.Given as goal
 

@@ -1,5 +1,4 @@
-use Rattle.std.proofs.Common.{ap, ◌∙◌}
-use Rattle.run_model.specs.Questions.{group_look_of}
+use Rattle.run_model.proofs.Common.{ap, ◌∙◌, group_look_of}
 use Rattle.run_state.specs.Shown.{shown}
 use Rattle.run_state.proofs.states.State.group.Goals as goal
 

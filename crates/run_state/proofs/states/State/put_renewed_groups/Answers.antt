@@ -1,8 +1,6 @@
-use Rattle.std.proofs.Common.{◌+◌, ◌*◌, ◌≤◌, ◌<◌, length, slice_get, sym, ap, subst, ◌∙◌}
-use Rattle.std.specs.List.{flat_map, AllByRecursion}
-use Rattle.std.specs.Prelude.{IsTrue}
+use Rattle.run_model.proofs.Common.{◌+◌, ◌*◌, ◌≤◌, ◌<◌, length, slice_get, sym, ap, subst, ◌∙◌}
+use Rattle.run_model.proofs.Common.{flat_map, AllByRecursion, IsTrue, WorkState}
 use Rattle.run_model.specs.declared.groups.Group.{Group}
-use Rattle.run_model.specs.State.{WorkState}
 use Rattle.record_view.specs.Image.{group_bytes, is_kept_group}
 use Rattle.record_view.specs.Writing.{put_at}
 use Rattle.run_state.proofs.Renewing.{groups_lent}

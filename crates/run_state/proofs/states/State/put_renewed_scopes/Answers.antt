@@ -1,9 +1,7 @@
-use Rattle.std.proofs.Common.{◌≡◌, ◌+◌, ◌-◌, ◌*◌, ◌≤◌, ◌<◌, ℕ, length, Some, slice_get}
-use Rattle.std.proofs.Common.{sym, ap, subst, ◌∙◌, length-drop}
-use Rattle.std.specs.List.{flat_map, AllByRecursion}
-use Rattle.std.specs.Prelude.{IsTrue}
+use Rattle.run_model.proofs.Common.{◌≡◌, ◌+◌, ◌-◌, ◌*◌, ◌≤◌, ◌<◌, ℕ, length, Some, slice_get, sym}
+use Rattle.run_model.proofs.Common.{ap, subst, ◌∙◌, length-drop, flat_map, AllByRecursion, IsTrue}
+use Rattle.run_model.proofs.Common.{TreeState}
 use Rattle.run_model.specs.declared.scopes.Scope.{Scope}
-use Rattle.run_model.specs.State.{TreeState}
 use Rattle.record_view.specs.Image.{is_kept_scope, scope_bytes}
 use Rattle.record_view.specs.Writing.{put_at}
 use Rattle.scope_tree.specs.TreeRows.{AreWritable}

@@ -1,9 +1,6 @@
-use Rattle.std.proofs.Common.{◌+◌, ◌*◌, ◌≤◌, ◌<◌, length, slice_get, sym, ap, subst, ◌∙◌, arith}
-use Rattle.std.specs.List.{flat_map, AllByRecursion}
-use Rattle.std.specs.Option.{IfSome}
-use Rattle.std.specs.Prelude.{IsTrue}
+use Rattle.run_model.proofs.Common.{◌+◌, ◌*◌, ◌≤◌, ◌<◌, length, slice_get, sym, ap, subst, ◌∙◌}
+use Rattle.run_model.proofs.Common.{arith, flat_map, AllByRecursion, IfSome, IsTrue, WorkState}
 use Rattle.run_model.specs.declared.tasks.Task.{Task}
-use Rattle.run_model.specs.State.{WorkState}
 use Rattle.record_view.specs.declared.heads.ImageVersion.TheVariants.{Two}
 use Rattle.record_view.specs.Image.{is_kept_task, task_bytes}
 use Rattle.record_view.specs.Writing.{put_at}

@@ -1,7 +1,5 @@
-use Rattle.std.proofs.Common.{Some, ap, ◌∙◌}
-use Rattle.std.specs.Option.{option_copied, option_map}
+use Rattle.run_model.proofs.Common.{Some, ap, ◌∙◌, option_copied, option_map, ending}
 use Rattle.run_model.specs.declared.scopes.Hit.{Hit}
-use Rattle.run_model.specs.Scopes.{ending}
 use Rattle.scope_tree.proofs.trees.Tree.cause.Goals as goal
 
 pub returns-in_err-hit-clause-cause : goal.returns-in_err-hit-clause-cause

@@ -1,6 +1,4 @@
-use Rattle.std.proofs.Common.{true, false, refl, sym, ap, ◌∙◌}
-use Rattle.std.specs.Option.{option_copied}
-use Rattle.run_model.specs.State.{TreeState}
+use Rattle.run_model.proofs.Common.{true, false, refl, sym, ap, ◌∙◌, option_copied, TreeState}
 use Rattle.model_laws.proofs.Reaches.{done_exactly}
 use Rattle.scope_tree.proofs.Refusing.{cancel_told}
 use Rattle.scope_tree.proofs.trees.Tree.check_cancel.Goals as goal

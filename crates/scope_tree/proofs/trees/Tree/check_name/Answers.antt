@@ -1,5 +1,4 @@
-use Rattle.std.proofs.Common.{is_some, length, true, false, sym, ap, ◌∙◌, arith}
-use Rattle.run_model.specs.State.{TreeState}
+use Rattle.run_model.proofs.Common.{is_some, length, true, false, sym, ap, ◌∙◌, arith, TreeState}
 use Rattle.scope_tree.proofs.Refusing.{name_told}
 use Rattle.scope_tree.proofs.trees.Tree.check_name.Goals as goal
 

@@ -1,5 +1,4 @@
-use Rattle.std.proofs.Common.{not, true, false, ap, arith}
-use Rattle.std.proofs.lemmas.Bool.{le-ltb, lt-ltb}
+use Rattle.run_model.proofs.Common.{not, true, false, ap, arith, le-ltb, lt-ltb}
 use Rattle.scope_tree.proofs.Refusing.{one_told}
 use Rattle.scope_tree.proofs.trees.Tree.check_room.Goals as goal
 

@@ -1,5 +1,4 @@
-use Rattle.std.proofs.Common.{ap}
-use Rattle.run_model.specs.State.{TreeState}
+use Rattle.run_model.proofs.Common.{ap, TreeState}
 use Rattle.scope_tree.proofs.trees.Tree.clock.Goals as goal
 
 pub returns : goal.returns

@@ -1,6 +1,4 @@
-use Rattle.std.proofs.Common.{◌≡◌, ◌<◌, length, ap, subst}
-use Rattle.run_model.specs.Scopes.{deadline_of}
-use Rattle.run_model.specs.State.{TreeState}
+use Rattle.run_model.proofs.Common.{◌≡◌, ◌<◌, length, ap, subst, deadline_of, TreeState}
 use Rattle.scope_tree.proofs.Nearing.{reach_at}
 use Rattle.scope_tree.proofs.trees.Tree.deadline.Goals as goal
 

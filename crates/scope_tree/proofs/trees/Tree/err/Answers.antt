@@ -1,7 +1,5 @@
-use Rattle.std.proofs.Common.{is_some, ap, ◌∙◌}
-use Rattle.std.specs.Option.{option_map}
+use Rattle.run_model.proofs.Common.{is_some, ap, ◌∙◌, option_map, ending}
 use Rattle.run_model.specs.declared.scopes.Hit.{Hit}
-use Rattle.run_model.specs.Scopes.{ending}
 use Rattle.model_laws.proofs.Reaches.{done_exactly}
 use Rattle.scope_tree.proofs.Reaching.{hits_reach_down}
 use Rattle.scope_tree.proofs.trees.Tree.err.Goals as goal

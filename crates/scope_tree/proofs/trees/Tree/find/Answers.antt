@@ -1,7 +1,5 @@
-use Rattle.std.proofs.Common.{◌≡◌, ap, subst, ◌∙◌}
+use Rattle.run_model.proofs.Common.{◌≡◌, ap, subst, ◌∙◌, bytes_eq, TreeState}
 use Rattle.std.specs.List.{position}
-use Rattle.std.specs.Str.{bytes_eq}
-use Rattle.run_model.specs.State.{TreeState}
 use Rattle.scope_tree.proofs.trees.Tree.find.Goals as goal
 
 pub returns : goal.returns

@@ -1,6 +1,4 @@
-use Rattle.std.specs.Option.{option_copied}
-use Rattle.run_model.specs.Scopes.{is_group_kind}
-use Rattle.run_model.specs.Rules.{can_be_hit}
+use Rattle.run_model.proofs.Common.{option_copied, is_group_kind, can_be_hit}
 use Rattle.scope_tree.proofs.Events.{alike_again}
 use Rattle.scope_tree.proofs.Keeping.{group_can}
 use Rattle.scope_tree.proofs.Passing.{kind_implied}

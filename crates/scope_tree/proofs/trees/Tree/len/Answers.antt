@@ -1,6 +1,4 @@
-use Rattle.std.proofs.Common.{length, ap, arith}
-use Rattle.run_model.proofs.LayoutLemmas.{most_scopes_most}
-use Rattle.run_model.specs.State.{TreeState}
+use Rattle.run_model.proofs.Common.{length, ap, arith, most_scopes_most, TreeState}
 use Rattle.scope_tree.proofs.Reaching.{hits_reach_down}
 use Rattle.scope_tree.proofs.trees.Tree.len.Goals as goal
 

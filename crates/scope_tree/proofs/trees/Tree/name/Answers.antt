@@ -1,6 +1,4 @@
-use Rattle.std.proofs.Common.{length, refl, ap, arith}
-use Rattle.std.specs.Option.{option_map}
-use Rattle.std.proofs.lemmas.Option.{slice_get_read}
+use Rattle.run_model.proofs.Common.{length, refl, ap, arith, option_map, slice_get_read}
 use Rattle.run_model.specs.declared.scopes.Scope.{Scope}
 use Rattle.scope_tree.proofs.trees.Tree.name.Goals as goal
 

@@ -1,8 +1,5 @@
-use Rattle.std.proofs.Common.{length, refl, sym, subst, ap, ◌∙◌, arith}
-use Rattle.std.proofs.lemmas.Option.{slice_get_within}
-use Rattle.run_model.specs.Rows.{root}
-use Rattle.run_model.specs.Scopes.{AreOrdered}
-use Rattle.run_model.specs.State.{TreeState}
+use Rattle.run_model.proofs.Common.{length, refl, sym, subst, ap, ◌∙◌, arith, slice_get_within}
+use Rattle.run_model.proofs.Common.{root, AreOrdered, TreeState}
 use Rattle.scope_tree.specs.Links.{AreFound}
 use Rattle.scope_tree.specs.Marks.{AreMarked, AreMarkedBelow}
 use Rattle.scope_tree.specs.Reaches.{AreReaches, AreReached}

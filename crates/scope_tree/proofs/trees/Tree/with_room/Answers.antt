@@ -1,8 +1,6 @@
-use Rattle.std.proofs.Common.{◌≡◌, ◌∷◌, ◌++◌, [], true, is_none, None, refl, sym, subst, ap, ◌∙◌}
+use Rattle.run_model.proofs.Common.{◌≡◌, ◌∷◌, ◌++◌, [], true, is_none, None, refl, sym, subst, ap}
+use Rattle.run_model.proofs.Common.{◌∙◌, bytes_eq, root, AreOrdered}
 use Rattle.std.specs.List.{position}
-use Rattle.std.specs.Str.{bytes_eq}
-use Rattle.run_model.specs.Rows.{root}
-use Rattle.run_model.specs.Scopes.{AreOrdered}
 use Rattle.scope_tree.specs.Links.{AreFound}
 use Rattle.scope_tree.specs.Reaches.{AreReached}
 use Rattle.scope_tree.proofs.Rooting.{none_found, none_wait, root_pushed, root_sound}

@@ -1,5 +1,4 @@
-use Rattle.std.proofs.Common.{◌<◌, ◌≤◌, length, sym, ap, ◌∙◌, arith}
-use Rattle.run_model.specs.State.{WorkState}
+use Rattle.run_model.proofs.Common.{◌<◌, ◌≤◌, length, sym, ap, ◌∙◌, arith, WorkState}
 use Rattle.record_view.specs.WorkRows.{is_settled}
 use Rattle.task_group.proofs.Rooms.{row_found}
 use Rattle.task_group.proofs.Settling.{passes_on, fails_at, passes_end}

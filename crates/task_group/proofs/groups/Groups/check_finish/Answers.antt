@@ -1,5 +1,4 @@
-use Rattle.std.proofs.Common.{true, false, length, sym, ap, ◌∙◌, arith}
-use Rattle.run_model.specs.State.{WorkState}
+use Rattle.run_model.proofs.Common.{true, false, length, sym, ap, ◌∙◌, arith, WorkState}
 use Rattle.task_group.proofs.Checks.{finish_told}
 use Rattle.task_group.proofs.groups.Groups.check_finish.Goals as goal
 

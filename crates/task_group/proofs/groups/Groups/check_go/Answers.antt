@@ -1,9 +1,7 @@
-use Rattle.std.proofs.Common.{◌≡◌, Bool, not, List, [], ◌∷◌, Ok, Err, ◌∙◌, rules}
+use Rattle.run_model.proofs.Common.{◌≡◌, Bool, not, List, [], ◌∷◌, Ok, Err, ◌∙◌, rules, has_room}
+use Rattle.run_model.proofs.Common.{most_tasks, WorkState}
 use Rattle.run_model.specs.declared.refusals.Refusal.{Refusal}
 use Rattle.run_model.specs.declared.refusals.Refusal.TheVariants as refusal
-use Rattle.run_model.specs.Allowed.{has_room}
-use Rattle.run_model.specs.Layouts.{most_tasks}
-use Rattle.run_model.specs.State.{WorkState}
 use Rattle.task_group.proofs.Checks.{opens, tested_then}
 use Rattle.task_group.proofs.groups.Groups.check_go.Goals as goal
 

@@ -1,10 +1,7 @@
-use Rattle.std.proofs.Common.{◌≡◌, ◌==◌, ℕ, Bool, not, List, [], ◌∷◌, Ok, Err, sym, ap}
-use Rattle.std.proofs.Common.{◌∙◌, rules}
+use Rattle.run_model.proofs.Common.{◌≡◌, ◌==◌, ℕ, Bool, not, List, [], ◌∷◌, Ok, Err, sym, ap, ◌∙◌}
+use Rattle.run_model.proofs.Common.{rules, tested, WorkState, unfinished_in}
 use Rattle.run_model.specs.declared.refusals.Refusal.{Refusal}
 use Rattle.run_model.specs.declared.refusals.Refusal.TheVariants as refusal
-use Rattle.run_model.specs.Allowed.{tested}
-use Rattle.run_model.specs.State.{WorkState}
-use Rattle.run_model.specs.Tasks.{unfinished_in}
 use Rattle.task_group.proofs.Admits.{eqb_apart}
 use Rattle.task_group.proofs.Checks.{opens, tested_then}
 use Rattle.task_group.proofs.groups.Groups.check_limit.Goals as goal

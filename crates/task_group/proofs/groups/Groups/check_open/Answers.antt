@@ -1,5 +1,4 @@
-use Rattle.std.proofs.Common.{ap, ◌∙◌}
-use Rattle.run_model.specs.State.{WorkState}
+use Rattle.run_model.proofs.Common.{ap, ◌∙◌, WorkState}
 use Rattle.task_group.proofs.Checks.{opens_missed, opens_found}
 use Rattle.task_group.proofs.RowReads.{row_within}
 use Rattle.task_group.proofs.groups.Groups.check_open.Goals as goal

@@ -1,10 +1,7 @@
-use Rattle.std.proofs.Common.{◌≡◌, true, false, [], Option, length, refl, sym, ap, ◌∙◌, arith}
-use Rattle.std.specs.Option.{option_map_or}
-use Rattle.std.proofs.lemmas.Bool.{lt-ltb}
-use Rattle.std.proofs.lemmas.Option.{slice_get_read}
+use Rattle.run_model.proofs.Common.{◌≡◌, true, false, [], Option, length, refl, sym, ap, ◌∙◌}
+use Rattle.run_model.proofs.Common.{arith, option_map_or, lt-ltb, slice_get_read, has_row}
+use Rattle.run_model.proofs.Common.{is_retried, has_stage, is_interrupted}
 use Rattle.run_model.specs.declared.tasks.Task.{Task}
-use Rattle.run_model.specs.Allowed.{has_row}
-use Rattle.run_model.specs.Tasks.{is_retried, has_stage, is_interrupted}
 use Rattle.task_group.proofs.groups.Groups.check_retry.Goals as goal
 
 pub returns : goal.returns

@@ -1,14 +1,11 @@
-use Rattle.std.proofs.Common.{◌≡◌, ℕ, not, List, [], ◌∷◌, length, Result, Ok, Err, ap, sym}
-use Rattle.std.proofs.Common.{◌∙◌, rules}
-use Rattle.std.proofs.lemmas.Bool.{ltb-true, not-false}
+use Rattle.run_model.proofs.Common.{◌≡◌, ℕ, not, List, [], ◌∷◌, length, Result, Ok, Err, ap, sym}
+use Rattle.run_model.proofs.Common.{◌∙◌, rules, ltb-true, not-false, refusals, tested, and_then}
+use Rattle.run_model.proofs.Common.{TreeState, WorkState, new_tree, each_fails, unless_Ok, admits}
+use Rattle.run_model.proofs.Common.{limit_of, unfinished_in}
 use Rattle.run_model.specs.declared.refusals.Refusal.{Refusal}
 use Rattle.run_model.specs.declared.refusals.Refusal.TheVariants as refusal
-use Rattle.run_model.specs.Allowed.{refusals, tested}
 use Rattle.run_model.specs.Event as event
-use Rattle.run_model.specs.Replies.{and_then}
-use Rattle.run_model.specs.State.{TreeState, WorkState, new_tree}
-use Rattle.run_model.proofs.RefusalLemmas.{each_fails, unless_Ok, unless_tested}
-use Rattle.run_model.specs.Tasks.{admits, limit_of, unfinished_in}
+use Rattle.run_model.proofs.RefusalLemmas.{unless_tested}
 use Rattle.task_group.specs.Checks.{Answers}
 use Rattle.task_group.proofs.groups.Groups.check_try.Goals as goal
 

@@ -1,5 +1,4 @@
-use Rattle.std.proofs.Common.{◌∙◌}
-use Rattle.std.specs.Option.{option_copied}
+use Rattle.run_model.proofs.Common.{◌∙◌, option_copied}
 use Rattle.task_group.proofs.Outcomes.{ends_with}
 use Rattle.task_group.proofs.groups.Groups.finish.Goals as goal
 

@@ -1,5 +1,4 @@
-use Rattle.std.proofs.Common.{length, refl}
-use Rattle.std.proofs.lemmas.Option.{slice_get_read}
+use Rattle.run_model.proofs.Common.{length, refl, slice_get_read}
 use Rattle.task_group.proofs.groups.Groups.group_of.Goals as goal
 
 pub index-requires : goal.index-requires

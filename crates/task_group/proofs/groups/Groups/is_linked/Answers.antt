@@ -1,10 +1,7 @@
-use Rattle.std.proofs.Common.{◌≡◌, ◌<◌, ℕ, Bool, false, true, not, ◌&&◌, List, length, get_or}
-use Rattle.std.proofs.Common.{Some, slice_get, refl, sym, ap, ◌∙◌}
-use Rattle.std.specs.List.{list_any}
-use Rattle.std.specs.Option.{option_map_or}
-use Rattle.std.proofs.lemmas.Option.{get_or_from_slice_get}
+use Rattle.run_model.proofs.Common.{◌≡◌, ◌<◌, ℕ, Bool, false, true, not, ◌&&◌, List, length}
+use Rattle.run_model.proofs.Common.{get_or, Some, slice_get, refl, sym, ap, ◌∙◌, list_any}
+use Rattle.run_model.proofs.Common.{option_map_or, get_or_from_slice_get, is_retry_of}
 use Rattle.run_model.specs.declared.tasks.Task.{Task}
-use Rattle.run_model.specs.Tasks.{is_retry_of}
 use Rattle.record_view.specs.WorkRows.{can_retry, is_linked}
 use Rattle.task_group.specs.Flags.{AreFlagged}
 use Rattle.task_group.proofs.RowReads.{row_within, test_found, test_missed}

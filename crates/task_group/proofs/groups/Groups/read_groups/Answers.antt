@@ -1,7 +1,6 @@
-use Rattle.std.proofs.Common.{◌≡◌, ◌+◌, true, List, Some, sym, ap, subst, ◌∙◌}
-use Rattle.std.specs.Prelude.{is_none}
+use Rattle.run_model.proofs.Common.{◌≡◌, ◌+◌, true, List, Some, sym, ap, subst, ◌∙◌, is_none}
+use Rattle.run_model.proofs.Common.{WorkState}
 use Rattle.run_model.specs.declared.groups.Group.{Group}
-use Rattle.run_model.specs.State.{WorkState}
 use Rattle.record_view.specs.RowReading.{group_row_at}
 use Rattle.record_view.specs.WorkRows.{has_new_name}
 use Rattle.task_group.proofs.ReadLoops.{ReadSoFar, read_next}

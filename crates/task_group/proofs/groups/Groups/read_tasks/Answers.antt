@@ -1,6 +1,5 @@
-use Rattle.std.proofs.Common.{◌+◌, List, Some, sym, ap, subst, ◌∙◌}
+use Rattle.run_model.proofs.Common.{◌+◌, List, Some, sym, ap, subst, ◌∙◌, WorkState}
 use Rattle.run_model.specs.declared.tasks.Task.{Task}
-use Rattle.run_model.specs.State.{WorkState}
 use Rattle.record_view.specs.RowReading.{task_at}
 use Rattle.record_view.specs.WorkRows.{can_come}
 use Rattle.task_group.proofs.ReadLoops.{ReadSoFar, read_next, read_stray_row}

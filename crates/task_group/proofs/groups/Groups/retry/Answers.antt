@@ -1,14 +1,9 @@
-use Rattle.std.proofs.Common.{◌≡◌, ◌<◌, ℕ, true, ◌&&◌, not, Option, Some, length, get_or}
-use Rattle.std.proofs.Common.{slice_get, refl, ap, subst, sym, ◌∙◌}
-use Rattle.std.specs.Option.{option_map_or}
-use Rattle.std.proofs.lemmas.Bool.{and_parts, ltb-true}
-use Rattle.std.proofs.lemmas.Option.{slice_get_read}
+use Rattle.run_model.proofs.Common.{◌≡◌, ◌<◌, ℕ, true, ◌&&◌, not, Option, Some, length, get_or}
+use Rattle.run_model.proofs.Common.{slice_get, refl, ap, subst, sym, ◌∙◌, option_map_or, and_parts}
+use Rattle.run_model.proofs.Common.{ltb-true, slice_get_read, has_room, is_open, most_tasks}
+use Rattle.run_model.proofs.Common.{WorkState, group_of_task, has_stage, is_interrupted}
+use Rattle.run_model.proofs.Common.{is_retried}
 use Rattle.run_model.specs.declared.tasks.Task.{Task}
-use Rattle.run_model.specs.Allowed.{has_room, is_open}
-use Rattle.run_model.specs.Layouts.{most_tasks}
-use Rattle.run_model.specs.State.{WorkState}
-use Rattle.run_model.specs.WorkChanges.{group_of_task}
-use Rattle.run_model.specs.Tasks.{has_stage, is_interrupted, is_retried}
 use Rattle.task_group.specs.Admitting.{phase_new}
 use Rattle.task_group.specs.Sound.{work}
 use Rattle.task_group.proofs.RowReads.{row_known}

@@ -1,5 +1,4 @@
-use Rattle.std.proofs.Common.{◌≡◌, ℕ, List, length, refl, sym, subst, arith}
-use Rattle.std.proofs.lemmas.Option.{slice_get_read}
+use Rattle.run_model.proofs.Common.{◌≡◌, ℕ, List, length, refl, sym, subst, arith, slice_get_read}
 use Rattle.run_model.specs.declared.tasks.Task.{Task}
 use Rattle.task_group.specs.Kept.{IsWithin}
 use Rattle.task_group.specs.Sound.{work, AreKept}

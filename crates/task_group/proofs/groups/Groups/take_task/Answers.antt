@@ -1,17 +1,13 @@
-use Rattle.std.proofs.Common.{◌≡◌, ◌<◌, ℕ, true, false, not, ◌||◌, List, length, take}
-use Rattle.std.proofs.Common.{Option, Some, None, refl, sym, ◌∙◌}
-use Rattle.std.specs.Option.{IfSome}
-use Rattle.std.proofs.lemmas.Bool.{and_parts, ltb-true}
+use Rattle.run_model.proofs.Common.{◌≡◌, ◌<◌, ℕ, true, false, not, ◌||◌, List, length, take}
+use Rattle.run_model.proofs.Common.{Option, Some, None, refl, sym, ◌∙◌, IfSome, and_parts}
+use Rattle.run_model.proofs.Common.{ltb-true, most_tasks, WorkState, is_fresh, is_running}
+use Rattle.run_model.proofs.Common.{is_unfinished, admits, limit_of, is_admitted, unfinished_in}
 use Rattle.std.proofs.Math.Seq.{take-length}
 use Rattle.run_model.specs.declared.groups.Group.{Group}
 use Rattle.run_model.specs.declared.layouts.Layout.{Layout}
 use Rattle.run_model.specs.declared.tasks.Stage.{Stage}
 use Rattle.run_model.specs.declared.tasks.Stage.TheVariants as stage
 use Rattle.run_model.specs.declared.tasks.Task.{Task}
-use Rattle.run_model.specs.Layouts.{most_tasks}
-use Rattle.run_model.specs.State.{WorkState}
-use Rattle.run_model.specs.Tasks.{is_fresh, is_running, is_unfinished, admits, limit_of}
-use Rattle.run_model.specs.Tasks.{is_admitted, unfinished_in}
 use Rattle.record_view.specs.WorkRows.{can_come, can_retry, is_linked, work_made}
 use Rattle.task_group.specs.Rows.{HasPlace}
 use Rattle.task_group.proofs.RowReads.{row_known}

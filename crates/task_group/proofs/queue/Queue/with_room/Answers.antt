@@ -1,6 +1,5 @@
-use Rattle.std.proofs.Common.{◌≡◌, ◌+◌, ◌*◌, ◌∙◌, drop, false, sym, ap, subst, arith}
-use Rattle.std.specs.Prelude.{replicate}
-use Rattle.run_model.specs.Layouts.{most_tasks}
+use Rattle.run_model.proofs.Common.{◌≡◌, ◌+◌, ◌*◌, ◌∙◌, drop, false, sym, ap, subst, arith}
+use Rattle.run_model.proofs.Common.{replicate, most_tasks}
 use Rattle.task_group.specs.Trees.{IsTree}
 use Rattle.task_group.proofs.Trees.{new_flags, new_tree}
 use Rattle.task_group.proofs.queue.Queue.with_room.Goals as goal
