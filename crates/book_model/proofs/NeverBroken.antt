@@ -1,10 +1,10 @@
 -- No session answers a step as Broken: that is a fact of the book.
-use Rattle.run_model.proofs.Common.{◌≡◌, ℕ, Bool, true, false, ◌||◌, if◌then◌else◌, List, [], ◌∷◌}
+use Rattle.run_model.proofs.Common.{◌≡◌, ℕ, Bool, true, false, if◌then◌else◌, List, [], ◌∷◌}
 use Rattle.run_model.proofs.Common.{Option, Some, None, Result, Ok, Err, refl, list_any, ok_or}
 use Rattle.run_model.proofs.Common.{option_and_then, Event, State, first_ready, refusals, unless}
 use Rattle.run_model.proofs.Common.{if_room, is_full, is_repeated, and_then, decided, decide}
 use Rattle.run_model.proofs.Common.{decide_start, decide_finish, event_of, started_of, Session}
-use Rattle.run_model.proofs.Common.{replied, reply_of_step}
+use Rattle.run_model.proofs.Common.{replied, reply_of_step, or_parts}
 use Rattle.run_model.specs.declared.commands.Command.{Command}
 use Rattle.run_model.specs.declared.commands.Step.{Step}
 use Rattle.run_model.specs.declared.commands.Step.TheVariants as step
@@ -21,10 +21,6 @@ abbrev broken_result : {X : Type 0} → Result X Refusal → Bool
 broken_result (Ok x) = false
 broken_result (Err why) = is_broken why
 
-or_false : (a b : Bool) → a || b ≡ false → (a ≡ false) × (b ≡ false)
-or_false true b e = absurd (cc)
-or_false false b e = (refl, e)
-
 chosen_sound : {X : Type 0} (b : Bool) (why : Refusal) (answer : Result X Refusal)
     → is_broken why ≡ false → broken_result answer ≡ false
     → broken_result (if b then Err why else answer) ≡ false
@@ -36,7 +32,7 @@ unless_sound : {X : Type 0} (tests : List (Bool × Refusal)) (answer : Result X 
     → broken_result (unless tests answer) ≡ false
 unless_sound [] answer none sound = sound
 unless_sound (t ∷ tests) answer none sound =
-    let parts = or_false (is_broken t.1) (list_any (λ t. is_broken t.1) tests) none in
+    let parts = or_parts (is_broken t.1) (list_any (λ t. is_broken t.1) tests) none in
     chosen_sound t.0 t.1 (unless tests answer) parts.0 (unless_sound tests answer parts.1 sound)
 
 and_then_sound : {X Y : Type 0} (r : Result X Refusal) (f : X → Result Y Refusal)

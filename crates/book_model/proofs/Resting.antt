@@ -1,6 +1,6 @@
 -- The disk of a book that isn't broken stays at rest.
-use Rattle.std.proofs.Common.{◌≡◌, inl, inr, ◌∷◌, ℕ, Bool, true, false, List, [], Ok, Err}
-use Rattle.std.proofs.Common.{Result, refl, sym, ap, ◌∙◌, subst}
+use Rattle.run_model.proofs.Common.{◌≡◌, inl, inr, ◌∷◌, ℕ, Bool, true, false, List, [], Ok, Err}
+use Rattle.run_model.proofs.Common.{Result, refl, sym, ap, ◌∙◌, subst}
 use Rattle.run_disk.specs.Disk.{DiskState, IsAtRest}
 use Rattle.run_journal.specs.Journals.{JournalView}
 use Rattle.run_model.specs.declared.answers.Reply.{Reply}
@@ -9,10 +9,7 @@ use Rattle.run_model.specs.declared.commands.Step.TheVariants as step
 use Rattle.run_model.specs.declared.faults.Trouble.{Trouble}
 use Rattle.book_model.specs.Books.{BookView, IsSafe, Saves}
 use Rattle.book_model.specs.Steps.{AnswersSound, AnswersStep, AnswersWhere, Refuses, Steps, Takes}
-use Rattle.book_model.proofs.Stepping.{broken_stays}
-
-apart : (b : Bool) → b ≡ true → b ≡ false → ⊥
-apart b is not = cc
+use Rattle.book_model.proofs.Stepping.{broken_stays, true_false}
 
 -- The disk is at rest, and the book keeps its promises.
 pub record IsResting {D : Type 0} (state : D → DiskState) (h : BookView D) : Type 0 where
@@ -45,7 +42,7 @@ module _ {D : Type 0} (state : D → DiskState) where
             (ap (λ (h : BookView D). h.origin) refused.same) is
         | inr (inl spent) ↦ rests_same old new (ap (λ (h : BookView D). h.journal) spent.same)
             (ap (λ (h : BookView D). h.origin) spent.same) is
-        | inr (inr failed) ↦ absurd (apart new.journal.broken failed.broken sound)
+        | inr (inr failed) ↦ absurd (true_false new.journal.broken failed.broken sound)
       ]
 
   rests_taken : (old : BookView D) (x : Step) (r : Reply) (new : BookView D) → Takes old x r new
@@ -92,7 +89,7 @@ module _ {D : Type 0} (state : D → DiskState) where
       by : (k : Bool) → old.journal.broken ≡ k → old.journal.broken ≡ false
       by true broken =
           let stays = broken_stays state old new steps answers broken played in
-          absurd (apart new.journal.broken
+          absurd (true_false new.journal.broken
           (ap (λ (h : BookView D). h.journal.broken) stays ∙ broken) sound)
       by false fine = fine
 

@@ -2,14 +2,14 @@
 use Rattle.run_model.proofs.Common.{◌<◌, ◌≤◌, ◌+◌, ℕ, [], length, refl, subst, arith, IsTrue}
 use Rattle.run_model.proofs.Common.{lt-ltb, ltb-true, most_scopes, most_tasks, AreAdmitted}
 use Rattle.run_model.proofs.Common.{AreDeadlines, AreErrors, AreGroupScopes, AreHits, AreLinked}
-use Rattle.run_model.proofs.Common.{AreNumbered, HasLayout, IsConsistent, Owns, State}
+use Rattle.run_model.proofs.Common.{AreNumbered, HasLayout, IsConsistent, Owns, State, and_from}
 use Rattle.run_model.specs.declared.groups.Group.{Group}
 use Rattle.run_model.specs.declared.layouts.Layout.TheVariants.{Small, Large}
 use Rattle.record_view.specs.declared.heads.ImageHead.{ImageHead}
 use Rattle.record_view.specs.declared.heads.ImageVersion.TheVariants.{Two}
 use Rattle.record_view.specs.Image.{head_of, image, is_kept_head}
 use Rattle.record_view.specs.Keeping.{IsImage, IsInRange}
-use Rattle.record_view.proofs.Codecs.{both_true, first_true, second_true}
+use Rattle.record_view.proofs.Codecs.{first_true, second_true}
 use Rattle.book_model.specs.Meanings.{MeansIn}
 use Rattle.book_model.specs.Migrations.{widened}
 use Rattle.book_model.proofs.Meaning.{fresh_means}
@@ -100,9 +100,9 @@ wide_head head kept =
     ltb-true head.scopes (most_scopes Small) (second_true _ _ but_groups) in
     let tasks : head.tasks < most_tasks Small + 1 =
     ltb-true head.tasks (most_tasks Small + 1) (second_true _ _ kept) in
-    both_true _ _
-    (both_true _ _
-    (both_true _ _ (first_true _ _ but_groups)
+    and_from _ _
+    (and_from _ _
+    (and_from _ _ (first_true _ _ but_groups)
     (lt-ltb head.scopes (most_scopes Large) (omega (arith, scopes))))
     (second_true _ _ but_tasks))
     (lt-ltb head.tasks (most_tasks Large + 1) (omega (arith, tasks)))

@@ -1,17 +1,18 @@
 -- The test of both row lists tells whether the rules between them hold.
-use Rattle.run_model.proofs.Common.{◌≡◌, ◌<◌, ◌⊎◌, ℕ, zero, suc, [], ◌∷◌, arith, ◌||◌, Bool, true}
-use Rattle.run_model.proofs.Common.{false, List, length, Option, Some, None, slice_get, inl, inr}
-use Rattle.run_model.proofs.Common.{refl, sym, ap, ◌∙◌, ◌↔◌, IsTrue, IsSome, is_some, list_any}
-use Rattle.run_model.proofs.Common.{option_and_then, option_map_or, eqb-true, eq-eqb, false≢true}
+use Rattle.run_model.proofs.Common.{◌≡◌, ◌⊎◌, ℕ, ◌||◌, Bool, true, false, List, Option, Some, None}
+use Rattle.run_model.proofs.Common.{slice_get, inl, inr, refl, sym, ap, ◌∙◌, ◌↔◌, IsTrue, IsSome}
+use Rattle.run_model.proofs.Common.{is_some, list_any, option_map_or, eqb-true, eq-eqb, false≢true}
 use Rattle.run_model.proofs.Common.{same_Some, slice_get_within, bytes_eq-Decides, has_kind, Owns}
-use Rattle.run_model.proofs.Common.{own_hit, is_group_kind, State}
+use Rattle.run_model.proofs.Common.{is_group_kind, State, row_there, and_from, not_from_false}
+use Rattle.run_model.proofs.Common.{any_passes_from_place}
 use Rattle.run_model.specs.declared.scopes.Scope.{Scope}
 use Rattle.run_model.specs.declared.groups.Group.{Group}
 use Rattle.run_model.specs.RuleParts.{AreWorkRules, AreCrossRules}
-use Rattle.record_view.proofs.Codecs.{both_true, first_true, second_true}
+use Rattle.record_view.proofs.Codecs.{first_true, second_true}
 use Rattle.record_view.specs.Between.{belongs, fits_scope, lives_in, has_group, fits_between}
 use Rattle.record_view.proofs.Checked.{all_pass, pass_all}
-use Rattle.record_view.proofs.Linked.{or_right, or_from, not_so, so_not, any_at, some_at}
+use Rattle.record_view.proofs.Linked.{or_right, or_from, not_so, some_at}
+use Rattle.model_laws.proofs.RightHits.{own_hit_of}
 
 -- ---- one group and its scope
 
@@ -55,7 +56,7 @@ scope_fits scopes group scope found own =
 lives : (s : ℕ) (group : Group) → group.bare ≡ false → group.scope ≡ s
     → lives_in s group ≡ true
 lives s group not_bare same =
-    both_true _ _ (so_not group.bare not_bare) (eq-eqb group.scope s same)
+    and_from _ _ (not_from_false group.bare not_bare) (eq-eqb group.scope s same)
 
 -- The group has an error or was waited for.
 ended : (group : Group) → IsSome group.error ⊎ (group.waited ≡ true)
@@ -75,10 +76,6 @@ has_ended group ok = by_error (is_some group.error) refl ok
         → IsSome group.error ⊎ (group.waited ≡ true)
     by_error true is ok = inl is
     by_error false is ok = inr ok
-
-own_hit_of : (scopes : List Scope) (s : ℕ) (scope : Scope) → slice_get scopes s ≡ Some scope
-    → own_hit scopes s ≡ scope.hit
-own_hit_of scopes s scope found = ap (option_and_then (λ row. row.hit)) found
 
 -- ---- from the test to the rules
 
@@ -151,12 +148,6 @@ module _ (p : State) (work : AreWorkRules p.work)
 
 -- ---- from the rules to the test
 
-there_is : (scopes : List Scope) (s : ℕ) → s < length scopes
-    → (scope : Scope) × (slice_get scopes s ≡ Some scope)
-there_is [] s less = absurd (omega (arith, less))
-there_is (x ∷ scopes) zero less = (x, refl)
-there_is (x ∷ scopes) (suc s) less = there_is scopes s (omega (arith, less))
-
 module _ (p : State) (rules : AreCrossRules p) where
   belongs_to : (g : ℕ) (group : Group) (scope : Scope) → slice_get p.work.groups g ≡ Some group
       → slice_get p.tree.scopes group.scope ≡ Some scope → group.bare ≡ false
@@ -171,8 +162,8 @@ module _ (p : State) (rules : AreCrossRules p) where
       let place : it.0 ≡ g = rules.owned.once group.scope it.0 g it.1 group it.2 owns in
       let same : it.1 ≡ group = same_Some it.1 group
       (sym it.2.found ∙ ap (slice_get p.work.groups) place ∙ found) in
-      both_true _ _
-      (both_true _ _ kind
+      and_from _ _
+      (and_from _ _ kind
       ((bytes_eq-Decides group.name scope.name).1 (ap (λ r. r.name) (sym same) ∙ it.3)))
       (or_from (is_some group.error || group.waited) (is_some scope.hit)
       (λ end. ap is_some (sym (own_hit_of p.tree.scopes group.scope scope at))
@@ -180,10 +171,10 @@ module _ (p : State) (rules : AreCrossRules p) where
 
   pub between_test : IsTrue (fits_between p.tree.scopes p.work.groups)
   between_test =
-      both_true _ _
+      and_from _ _
       (pass_all (λ g group. fits_scope p.tree.scopes group) p.work.groups
       (λ g group found.
-      let there = there_is p.tree.scopes group.scope (rules.known g group found) in
+      let there = row_there p.tree.scopes group.scope (rules.known g group found) in
       scope_fits p.tree.scopes group there.0 there.1
       (λ not_bare. belongs_to g group there.0 found there.1 not_bare)))
       (pass_all (has_group p.work.groups) p.tree.scopes
@@ -191,7 +182,7 @@ module _ (p : State) (rules : AreCrossRules p) where
       or_from (is_group_kind row.kind) (list_any (lives_in s) p.work.groups)
       (λ kind.
       let it = rules.owned.owned s row found kind in
-      any_at (lives_in s) p.work.groups it.0 it.1 it.2.found
+      any_passes_from_place (lives_in s) p.work.groups it.0 it.1 it.2.found
       (lives s it.1 it.2.not_bare it.2.scope))))
 
 pub between_tested : (p : State) → AreWorkRules p.work

@@ -1,10 +1,11 @@
 -- The seven rules by parts.
-use Rattle.run_model.proofs.Common.{◌≡◌, ◌≤◌, ℕ, List, Option, Some, None, slice_get, refl, ap}
+use Rattle.run_model.proofs.Common.{◌≡◌, ◌≤◌, ℕ, List, Option, Some, slice_get, ap}
 use Rattle.run_model.proofs.Common.{◌∙◌, IsSome, is_some, option_and_then, option_and_then_some}
 use Rattle.run_model.proofs.Common.{IsConsistent, own_hit, State}
 use Rattle.run_model.specs.declared.scopes.Hit.{Hit}
 use Rattle.run_model.specs.declared.scopes.Scope.{Scope}
 use Rattle.run_model.specs.RuleParts.{AreScopeRules, AreTreeRules, AreWorkRules, AreCrossRules}
+use Rattle.model_laws.proofs.RightHits.{some_hit}
 
 own_there : (rows : List Scope) (s : ℕ) (row : Scope) (hit : Hit) → slice_get rows s ≡ Some row
     → row.hit ≡ Some hit → own_hit rows s ≡ Some hit
@@ -12,10 +13,6 @@ own_there rows s row hit found has = ap (option_and_then (λ r. r.hit)) found �
 
 some_is : {X : Type 0} (o : Option X) (x : X) → o ≡ Some x → IsSome o
 some_is o x e = ap is_some e
-
-is_there : {X : Type 0} (o : Option X) → IsSome o → (x : X) × (o ≡ Some x)
-is_there None e = absurd (cc)
-is_there (Some x) e = (x, refl)
 
 pub scope_part : (p : State) → IsConsistent p
     → AreScopeRules p.count p.tree.clock p.tree.scopes
@@ -83,7 +80,7 @@ all_parts p same rules work cross = let tree = rules.rows in record {
   };
   hits = record {
     kinds = λ s row found some.
-        let hit = is_there row.hit some in (tree.hits s row hit.0 found hit.1).can;
+        let hit = some_hit row.hit some in (tree.hits s row hit.0 found hit.1).can;
     counted = λ s hit own. (fits_own p.count p.tree.clock p.tree.scopes tree s hit own).0;
     past = record {
       events = λ s hit own. (fits_own p.count p.tree.clock p.tree.scopes tree s hit own).1;

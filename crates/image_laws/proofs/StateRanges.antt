@@ -6,7 +6,7 @@ use Rattle.run_model.proofs.Common.{both_ways, ltb-true, lt-ltb, leb-true, le-le
 use Rattle.run_model.proofs.Common.{false_from_ne_true, none-some, same_Some, slice_get_within}
 use Rattle.run_model.proofs.Common.{most_scopes, most_tasks, root, IsConsistent, HasLayout, HasRow}
 use Rattle.run_model.proofs.Common.{is_root, own_hit, State, is_text, most_scopes_most}
-use Rattle.run_model.proofs.Common.{most_tasks_most}
+use Rattle.run_model.proofs.Common.{most_tasks_most, and_from}
 use Rattle.run_model.specs.declared.bounds.TheConstants.{MOST_GROUPS, GREATEST_MOMENT}
 use Rattle.run_model.specs.declared.layouts.Layout.{Layout}
 use Rattle.run_model.specs.declared.scopes.Hit.{Hit}
@@ -18,7 +18,7 @@ use Rattle.record_view.specs.declared.heads.ImageVersion.TheVariants.{Two}
 use Rattle.record_view.specs.Image.{head_of, is_kept_head, is_kept_scope, is_kept_group}
 use Rattle.record_view.specs.Image.{is_kept_task, is_kept_hit, is_kept_link}
 use Rattle.record_view.specs.Keeping.{IsInRange}
-use Rattle.record_view.proofs.Codecs.{both_true, first_true, second_true}
+use Rattle.record_view.proofs.Codecs.{first_true, second_true}
 use Rattle.model_laws.proofs.RightHits.{own_hit_of}
 use Rattle.image_laws.proofs.RowRanges.{IsTypedScope, IsTypedGroup, IsTypedTask, Each}
 use Rattle.image_laws.proofs.EventRanges.{IsTyped}
@@ -60,9 +60,9 @@ module _
       let scopes = few_scopes in
       let groups = rules.numbered.few_groups in
       let tasks = few_tasks in
-      both_true _ _
-      (both_true _ _
-      (both_true _ _ (both_true _ _ typed.tree.clock few)
+      and_from _ _
+      (and_from _ _
+      (and_from _ _ (and_from _ _ typed.tree.clock few)
       (lt-ltb (length (drop 1 p.tree.scopes)) (most_scopes layout)
       (omega (arith, some, rest, scopes))))
       (lt-ltb (length p.work.groups) (MOST_GROUPS + 1) (omega (arith, groups))))
@@ -76,9 +76,9 @@ module _
       let past = rules.hits.past.moments s hit own in
       let count = ltb-true p.count (2 ^ 63) few in
       let clock = leb-true p.tree.clock GREATEST_MOMENT typed.tree.clock in
-      both_true _ _
-      (both_true _ _
-      (both_true _ _ (lt-ltb hit.event (2 ^ 64) (omega (arith, known, count)))
+      and_from _ _
+      (and_from _ _
+      (and_from _ _ (lt-ltb hit.event (2 ^ 64) (omega (arith, known, count)))
       (le-leb hit.moment GREATEST_MOMENT (omega (arith, past, clock)))) refl)
       (cause hit refl)
 
@@ -93,9 +93,9 @@ module _
       let within = slice_get_within p.tree.scopes (suc s) row found in
       let scopes = few_scopes in
       let most = most_scopes_most layout in
-      both_true _ _
-      (both_true _ _
-      (both_true _ _ is.name
+      and_from _ _
+      (and_from _ _
+      (and_from _ _ is.name
       (lt-ltb row.parent (2 ^ 16) (omega (arith, above, within, scopes, most))))
       (is.kind other))
       (hit_ranged (suc s) row.hit (own_hit_of p.tree.scopes (suc s) row found) is.cause)
@@ -107,11 +107,11 @@ module _
       let there = rules.numbered.scopes g row found in
       let scopes = few_scopes in
       let most = most_scopes_most layout in
-      both_true _ _
-      (both_true _ _
-      (both_true _ _
-      (both_true _ _
-      (both_true _ _ is.name (lt-ltb row.scope (2 ^ 16) (omega (arith, there, scopes, most))))
+      and_from _ _
+      (and_from _ _
+      (and_from _ _
+      (and_from _ _
+      (and_from _ _ is.name (lt-ltb row.scope (2 ^ 16) (omega (arith, there, scopes, most))))
       refl) is.limit) refl) is.error
 
   link_ranged : (n : ℕ) (row : Task) → slice_get p.work.tasks n ≡ Some row → (o : Option ℕ)
@@ -130,10 +130,10 @@ module _
       let is = typed.work.tasks n row found in
       let there = rules.numbered.groups n row found in
       let groups = rules.numbered.few_groups in
-      both_true _ _
-      (both_true _ _
-      (both_true _ _
-      (both_true _ _ (lt-ltb row.group (2 ^ 16) (omega (arith, there, groups))) is.job)
+      and_from _ _
+      (and_from _ _
+      (and_from _ _
+      (and_from _ _ (lt-ltb row.group (2 ^ 16) (omega (arith, there, groups))) is.job)
       is.argument) is.stage) (link_ranged n row found row.retry_of refl)
 
   pub ranged_of : IsInRange Two layout p

@@ -10,7 +10,7 @@ use Rattle.run_model.proofs.Common.{after_group_cancel, after_task_end, is_runni
 use Rattle.run_model.proofs.Common.{is_interrupted, ended_in_error, unfinished_in, with_hit}
 use Rattle.run_model.proofs.Common.{after_cancel, new_hit, with_stage, with_error, with_wait}
 use Rattle.run_model.proofs.Common.{group_of_task, after_end, after_wait, slice_get-at_row_same}
-use Rattle.run_model.proofs.Common.{slice_get-at_row_other}
+use Rattle.run_model.proofs.Common.{slice_get-at_row_other, any_passes_from_place}
 use Rattle.run_model.specs.declared.groups.Group.{Group}
 use Rattle.run_model.specs.declared.scopes.Scope.{Scope}
 use Rattle.run_model.specs.declared.tasks.Stage.{Stage}
@@ -18,7 +18,7 @@ use Rattle.run_model.specs.declared.tasks.Task.{Task}
 use Rattle.run_model.specs.declared.scopes.Reason.TheVariants.{Canceled}
 use Rattle.model_laws.proofs.Admission.{IsSameTerms, terms_same, admitted_stage, admitted_wait}
 use Rattle.model_laws.proofs.Changes.{IsHit, hit_none, rows_change}
-use Rattle.model_laws.proofs.FirstErrors.{hits_cancelled, errors_changed, any_at, any_found}
+use Rattle.model_laws.proofs.FirstErrors.{hits_cancelled, errors_changed, any_at}
 use Rattle.model_laws.proofs.Owners.{kind_row, row_kind}
 use Rattle.model_laws.proofs.RightHits.{AreRight, are_right, later_right, right_cancelled}
 use Rattle.model_laws.proofs.RightHits.{right_cancellation, own_hit_of, or_else_some}
@@ -143,7 +143,7 @@ lost_here : (w : WorkState) (n g : ℕ) (stage : Stage) (row : Task) → HasRow 
     → list_any (λ task. task.group == g && ended_in_error task.stage)
     (at_row (with_stage stage) n w.tasks) ≡ true
 lost_here w n g stage row found of_group lost =
-    any_found (λ task. task.group == g && ended_in_error task.stage)
+    any_passes_from_place (λ task. task.group == g && ended_in_error task.stage)
     (at_row (with_stage stage) n w.tasks) n (with_stage stage row)
     (slice_get-at_row_same (with_stage stage) n w.tasks
     ∙ ap (option_map (with_stage stage)) found)

@@ -3,11 +3,10 @@ use Rattle.run_model.proofs.Common.{◌≡◌, ◌≢◌, ◌↔◌, ◌<◌, �
 use Rattle.run_model.proofs.Common.{false, List, [], ◌∷◌, ◌++◌, length, Option, Some, None}
 use Rattle.run_model.proofs.Common.{slice_get, inl, inr, refl, sym, ap, ◌∙◌, arith, list_any}
 use Rattle.run_model.proofs.Common.{option_and_then, is_some, IsSome, IsTrue, and_parts, both_ways}
-use Rattle.run_model.proofs.Common.{eqb-true, or_cases, none-some, same_Some, slice_get_within}
-use Rattle.run_model.proofs.Common.{at_row, AreErrors, Owns, has_task_error, HasRow, own_hit}
-use Rattle.run_model.proofs.Common.{State, TreeState, WorkState, ended_in_error, with_hit}
-use Rattle.run_model.proofs.Common.{after_cancel, new_hit, with_stage, at_row_cases, push_cases}
-use Rattle.run_model.proofs.Common.{slice_get-push_left}
+use Rattle.run_model.proofs.Common.{eqb-true, or_cases, slice_get_within, at_row, AreErrors, Owns}
+use Rattle.run_model.proofs.Common.{has_task_error, HasRow, own_hit, State, TreeState, WorkState}
+use Rattle.run_model.proofs.Common.{ended_in_error, with_hit, after_cancel, new_hit, with_stage}
+use Rattle.run_model.proofs.Common.{at_row_cases, push_cases, slice_get-push_left}
 use Rattle.std.proofs.lemmas.Bool.{and_right}
 use Rattle.run_model.specs.declared.groups.Group.{Group}
 use Rattle.run_model.specs.declared.scopes.Scope.{Scope}
@@ -31,22 +30,6 @@ any_pushed : {X : Type 0} (test : X → Bool) (rows : List X) (new : X) → test
     → list_any test (rows ++ new ∷ []) ≡ list_any test rows
 any_pushed test [] new not = ap (λ b. b || false) not
 any_pushed test (row ∷ rows) new not = ap (λ b. test row || b) (any_pushed test rows new not)
-
-or_left : (a b : Bool) → a ≡ true → (a || b) ≡ true
-or_left true b is = refl
-or_left false b is = absurd (both_ways false refl is)
-
-or_right : (a b : Bool) → b ≡ true → (a || b) ≡ true
-or_right true b is = refl
-or_right false b is = is
-
-pub any_found : {X : Type 0} (test : X → Bool) (rows : List X) (n : ℕ) (x : X)
-    → slice_get rows n ≡ Some x → test x ≡ true → list_any test rows ≡ true
-any_found test [] n x found is = absurd (none-some x found)
-any_found test (row ∷ rows) zero x found is =
-    or_left (test row) (list_any test rows) (ap test (same_Some row x found) ∙ is)
-any_found test (row ∷ rows) (suc n) x found is =
-    or_right (test row) (list_any test rows) (any_found test rows n x found is)
 
 pub found_any : {X : Type 0} (test : X → Bool) (rows : List X) → list_any test rows ≡ true
     → (n : ℕ) × (x : X) × (slice_get rows n ≡ Some x) × (test x ≡ true)

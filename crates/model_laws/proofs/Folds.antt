@@ -4,7 +4,7 @@ use Rattle.run_model.proofs.Common.{false, List, [], ◌∷◌, length, filter, 
 use Rattle.run_model.proofs.Common.{slice_get, if◌then◌else◌, inl, inr, refl, sym, ap, ◌∙◌, arith}
 use Rattle.run_model.proofs.Common.{list_any, range_with_len, option_map, option_map_or, cases_eq}
 use Rattle.run_model.proofs.Common.{eq-eqb, ne_eqb, none-some, same_Some, at_row}
-use Rattle.run_model.proofs.Common.{slice_get-at_row_same, slice_get-at_row_other}
+use Rattle.run_model.proofs.Common.{slice_get-at_row_same, slice_get-at_row_other, or-false}
 
 -- The row of this number is changed, where there is a number.
 abbrev pub at_key : {X : Type 0} → (X → X) → Option ℕ → List X → List X
@@ -104,10 +104,6 @@ none_before test m a (suc n) less =
     (ne_eqb a m (omega (arith, less)))
     ∙ none_before test m (a + 1) n (omega (arith, less))
 
-or_false : (b : Bool) → (b || false) ≡ b
-or_false true = refl
-or_false false = refl
-
 -- A number is kept exactly where it passes the test.
 pub number_picked : (test : ℕ → Bool) (m a n : ℕ) → a ≤ m → m < a + n
     → list_any (λ k. k == m) (filter test (range_with_len a n)) ≡ test m
@@ -119,7 +115,7 @@ number_picked test m a (suc n) low high =
           (any_kept (λ k. k == m) m (filter test (range_with_len (m + 1) n)) (test m) true
           (eq-eqb m m refl)
           ∙ ap (λ b. test m || b) (none_before test m (m + 1) n (omega arith))
-          ∙ or_false (test m))
+          ∙ or-false (test m))
       | inr other ↦
           any_kept (λ k. k == m) a (filter test (range_with_len (a + 1) n)) (test a) false
           (ne_eqb a m other)

@@ -106,7 +106,7 @@ error_twice : (text : List ℕ) (row : Group)
     → with_error text (with_error text row) ≡ with_error text row
 error_twice text row = ap (λ error. record row { error = error }) (or_else_twice row.error text)
 
-hit_twice : (hit : Hit) (row : Scope) → with_hit hit (with_hit hit row) ≡ with_hit hit row
+pub hit_twice : (hit : Hit) (row : Scope) → with_hit hit (with_hit hit row) ≡ with_hit hit row
 hit_twice hit row = ap (λ hit. record row { hit = hit }) (or_else_twice row.hit hit)
 
 -- ---- the tasks that a restart goes through

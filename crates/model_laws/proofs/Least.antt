@@ -1,18 +1,17 @@
 -- The first hit of a chain is one of its hits, and none of them comes before it.
-use Rattle.std.proofs.Common.{◌≡◌, ◌⊎◌, ◌<◌, ◌≤◌, ℕ, Bool, true, false, cond, ◌==◌, ◌||◌, List, []}
-use Rattle.std.proofs.Common.{◌∷◌, Option, Some, None, is_some, Ordering, Less, Equal, Greater, inl}
-use Rattle.std.proofs.Common.{inr, refl, sym, subst, ap, ◌∙◌, arith}
-use Rattle.std.specs.List.{filter_map, cons_option, AllByRecursion}
-use Rattle.std.specs.Option.{option_map, option_and_then}
-use Rattle.std.specs.Ordering.{MatchOrdering, ordering_then, is_lt}
+use Rattle.run_model.proofs.Common.{◌≡◌, ◌⊎◌, ◌<◌, ◌≤◌, ℕ, Bool, true, false, cond, ◌==◌, ◌||◌}
+use Rattle.run_model.proofs.Common.{List, [], ◌∷◌, Option, Some, None, is_some, Less, Greater, inl}
+use Rattle.run_model.proofs.Common.{inr, refl, sym, subst, ap, ◌∙◌, arith, filter_map, cons_option}
+use Rattle.run_model.proofs.Common.{AllByRecursion, option_map, option_and_then, ordering_then}
+use Rattle.run_model.proofs.Common.{is_lt, or-true, eqb-true, eq-eqb, true≢false, false≢true}
+use Rattle.run_model.proofs.Common.{or_cases, same_Some, none-some, chain, own_hit, hit_at}
+use Rattle.run_model.proofs.Common.{comes_before, least_hit, first_hit}
+use Rattle.std.proofs.Common.{Ordering, Equal}
+use Rattle.std.specs.Ordering.{MatchOrdering}
 use Rattle.std.specs.Cmp.{ranks}
-use Rattle.std.proofs.Math.Bool.{or-true}
-use Rattle.std.proofs.lemmas.Bool.{eqb-true, eq-eqb, true≢false, false≢true, or_cases}
-use Rattle.std.proofs.lemmas.Option.{same_Some, none-some}
 use Rattle.run_model.specs.declared.scopes.Hit.{Hit}
 use Rattle.run_model.specs.declared.scopes.Scope.{Scope}
-use Rattle.run_model.specs.Scopes.{chain, own_hit, hit_at, comes_before, first_of}
-use Rattle.run_model.specs.Scopes.{least_hit, first_hit}
+use Rattle.run_model.specs.Scopes.{first_of}
 use Rattle.model_laws.specs.Hits.{is_on, has_hit}
 use Rattle.model_laws.specs.Searches.{IsLeastHit}
 use Rattle.model_laws.proofs.Reaches.{IsRow, chain_rows, some_hit, hit_among}

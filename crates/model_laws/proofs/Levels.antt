@@ -156,7 +156,7 @@ rows_level hit s rows level n a at = by_place (cases_eq n s)
       record { kind = refl; parent = refl; hit = level_same hit a.hit own },
     )
 
-ordered_hit : (hit : Hit) (s : ℕ) (rows : List Scope) → AreOrdered rows
+pub ordered_hit : (hit : Hit) (s : ℕ) (rows : List Scope) → AreOrdered rows
     → AreOrdered (at_row (with_hit hit) s rows)
 ordered_hit hit s rows ordered =
     let of : IsOf hit.event hit.moment hit = record { event = refl; moment = omega arith } in

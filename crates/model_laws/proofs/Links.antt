@@ -3,9 +3,8 @@ use Rattle.run_model.proofs.Common.{◌≡◌, ℕ, true, false, [], ◌∷◌, 
 use Rattle.run_model.proofs.Common.{inl, inr, refl, sym, ap, subst, ◌∙◌, ◌==◌, option_map_or}
 use Rattle.run_model.proofs.Common.{both_ways, eq-eqb, slice_get_within, AreLinked, IsRetry}
 use Rattle.run_model.proofs.Common.{HasRow, WorkState, is_retried, is_retry_of, push_cases}
-use Rattle.run_model.proofs.Common.{slice_get-push_left}
+use Rattle.run_model.proofs.Common.{slice_get-push_left, any_passes_from_place}
 use Rattle.run_model.specs.declared.tasks.Task.{Task}
-use Rattle.model_laws.proofs.FirstErrors.{any_found}
 use Rattle.model_laws.proofs.Shapes.{AreAlike, alike_same, IsSameTask, task_same}
 
 pub links_kept : (v w : WorkState) → AreAlike IsSameTask v.tasks w.tasks → AreLinked v
@@ -42,7 +41,7 @@ pub retried_by : (w : WorkState) (n m : ℕ) (row : Task) → HasRow w.tasks n r
     → row.retry_of ≡ Some m
     → is_retried w m ≡ true
 retried_by w n m row found link =
-    any_found (is_retry_of m) w.tasks n row found
+    any_passes_from_place (is_retry_of m) w.tasks n row found
     (ap (λ o. option_map_or (λ k. k == m) o false) link ∙ eq-eqb m m refl)
 
 -- One task more, which may be the retry of a task that was not retried.

@@ -28,7 +28,7 @@ use Rattle.model_laws.proofs.Seeing.{scope_seen, group_called, group_lives, task
 
 -- ---- scopes
 
-ticked_name : (e clock : ℕ) (row : Scope) → (tick e clock row).name ≡ row.name
+pub ticked_name : (e clock : ℕ) (row : Scope) → (tick e clock row).name ≡ row.name
 ticked_name e clock row = go (hit_due e clock row.kind)
   where
     go : (o : Option Hit) → (option_map_or (λ hit. with_hit hit row) o row).name ≡ row.name

@@ -2,11 +2,11 @@
 use Rattle.run_model.proofs.Common.{position, ◌≡◌, ◌<◌, ◌&&◌, not, ℕ, Bool, true, List, length}
 use Rattle.run_model.proofs.Common.{Option, Some, None, slice_get, unwrap_or, refl, sym, ap, arith}
 use Rattle.run_model.proofs.Common.{ltb-true, bytes_eq-Decides, State, has_row, scope_of, group_of}
-use Rattle.run_model.proofs.Common.{AreNumbered, is_first}
+use Rattle.run_model.proofs.Common.{AreNumbered, is_first, row_there}
 use Rattle.std.proofs.Common.{bytes_eq}
 use Rattle.run_model.specs.declared.scopes.Scope.{Scope}
 use Rattle.run_model.specs.declared.groups.Group.{Group}
-use Rattle.model_laws.proofs.Places.{row_there, row_at_place, place_of_row}
+use Rattle.model_laws.proofs.Places.{row_at_place, place_of_row}
 
 -- ---- rows with names
 

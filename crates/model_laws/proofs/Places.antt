@@ -1,11 +1,10 @@
 -- The first row that passes a test: where it is, and what it is.
-use Rattle.run_model.proofs.Common.{◌++◌, ◌≡◌, ◌<◌, ℕ, zero, suc, Bool, true, false, List, [], ◌∷◌}
-use Rattle.run_model.proofs.Common.{length, get_or, Some, None, slice_get, position, cond, refl}
-use Rattle.run_model.proofs.Common.{ap, ◌∙◌, arith, lt-ltb, ltb, none-some, slice_get_within}
-use Rattle.run_model.proofs.Common.{slice_get-get_or, get_or_from_slice_get, false_from_ne_true}
-use Rattle.run_model.proofs.Common.{option_map, option_map_or, at_row, slice_get-push_last}
-use Rattle.run_model.proofs.Common.{slice_get-at_row_same}
-use Rattle.std.proofs.lemmas.Bool.{cond-true}
+use Rattle.run_model.proofs.Common.{◌++◌, ◌≡◌, ◌<◌, ℕ, Bool, true, false, List, [], ◌∷◌, length}
+use Rattle.run_model.proofs.Common.{get_or, Some, None, slice_get, position, cond, ap, ◌∙◌, arith}
+use Rattle.run_model.proofs.Common.{lt-ltb, ltb, none-some, slice_get_within, slice_get-get_or}
+use Rattle.run_model.proofs.Common.{get_or_from_slice_get, false_from_ne_true, option_map}
+use Rattle.run_model.proofs.Common.{option_map_or, at_row, slice_get-push_last}
+use Rattle.run_model.proofs.Common.{slice_get-at_row_same, cond-true}
 use Rattle.std.proofs.lemmas.List.Quantifiers.{position-Some}
 use Rattle.std.proofs.lemmas.List.Sums.{position_or_len_is}
 use Rattle.std.specs.List.{position_or_len}
@@ -21,13 +20,6 @@ passing_within test rows n e =
     slice_get_within rows n row.0 row.1
 
 -- ---- places
-
--- Each number below the length has a row.
-pub row_there : {X : Type 0} (rows : List X) (n : ℕ) → n < length rows
-    → (row : X) × (slice_get rows n ≡ Some row)
-row_there [] n less = absurd (omega (arith, less))
-row_there (r ∷ rows) zero less = (r, refl)
-row_there (r ∷ rows) (suc n) less = row_there rows n (omega (arith, less))
 
 -- The row at the place that is found passes.
 pub row_at_place : {X : Type 0} (test : X → Bool) (rows : List X) (n : ℕ)

@@ -4,13 +4,12 @@ use Rattle.run_model.proofs.Common.{◌==◌, cond, nat_lt, List, [], ◌∷◌,
 use Rattle.run_model.proofs.Common.{None, slice_get, filter, get_or, refl, sym, ap, ◌∙◌, arith}
 use Rattle.run_model.proofs.Common.{ltb-true, ltb-false, eqb-true, range_with_len, option_map_or}
 use Rattle.run_model.proofs.Common.{get_or_from_slice_get, WorkState, is_unfinished, unfinished_in}
-use Rattle.run_model.proofs.Common.{admits, limit_of, is_admitted}
+use Rattle.run_model.proofs.Common.{admits, limit_of, is_admitted, row_there}
 use Rattle.std.proofs.Math.Bool.{and-true}
 use Rattle.std.proofs.lemmas.List.Sums.{count_by_more_yes, count_by_more_no}
 use Rattle.run_model.specs.declared.tasks.Task.{Task}
 use Rattle.model_laws.specs.Queues.{is_unfinished_of, is_admitted_of, unfinished_tasks}
 use Rattle.model_laws.specs.Queues.{admitted_tasks}
-use Rattle.model_laws.proofs.Places.{row_there}
 
 -- ---- ranks
 

@@ -6,8 +6,7 @@ use Rattle.run_model.proofs.Common.{list_any, AllByRecursion, option_map, option
 use Rattle.run_model.proofs.Common.{option_and_then, eqb-true, false≢true, State, is_root}
 use Rattle.run_model.proofs.Common.{is_detached, upwards, line_within, line, before_detached}
 use Rattle.run_model.proofs.Common.{chain, own_hit, hit_at, least_hit, first_hit, is_done}
-use Rattle.run_model.proofs.Common.{IsConsistent, can_be_hit}
-use Rattle.std.proofs.Math.Bool.{or-true, and-false}
+use Rattle.run_model.proofs.Common.{IsConsistent, can_be_hit, or-true, and-false}
 use Rattle.run_model.specs.declared.scopes.Hit.{Hit}
 use Rattle.run_model.specs.declared.scopes.Kind.{Kind}
 use Rattle.run_model.specs.declared.scopes.Kind.TheVariants as kind
@@ -41,7 +40,7 @@ line_rows rows (suc most) s =
     upwards_rows rows (line_within most rows) s (slice_get rows s) refl (line_rows rows most)
 
 -- What holds of all holds of those before the first detached one.
-before_all : (P : (ℕ × Scope) → Type 0) (rows : List (ℕ × Scope)) → AllByRecursion P rows
+pub before_all : (P : (ℕ × Scope) → Type 0) (rows : List (ℕ × Scope)) → AllByRecursion P rows
     → AllByRecursion P (before_detached rows)
 before_all P [] all = tt
 before_all P (r ∷ rows) all = by_detached (is_detached r.1.kind) (before_all P rows all.1)
@@ -152,7 +151,7 @@ ends_all_but_cut_off rows n joins s on off =
 
 -- ---- in a consistent state
 
-can_be_hit_joins : (kind : Kind) → can_be_hit kind ≡ true → is_detached kind ≡ false
+pub can_be_hit_joins : (kind : Kind) → can_be_hit kind ≡ true → is_detached kind ≡ false
 can_be_hit_joins kind.Root e = refl
 can_be_hit_joins kind.Cancel e = refl
 can_be_hit_joins kind.Cause e = refl

@@ -4,7 +4,7 @@ use Rattle.run_model.proofs.Common.{slice_get, refl, sym, ap, ◌∙◌, option_
 use Rattle.run_model.proofs.Common.{ok_or, Event, State, first_ready, decide, decide_start}
 use Rattle.run_model.proofs.Common.{decide_finish, and_then, started_of, answer_of, state_after}
 use Rattle.run_model.proofs.Common.{Session, event_of_step, with_event, session_after, replied}
-use Rattle.run_model.proofs.Common.{reply_of_step, result_unwrap_or}
+use Rattle.run_model.proofs.Common.{reply_of_step, result_unwrap_or, row_there}
 use Rattle.run_model.specs.declared.tasks.Task.{Task}
 use Rattle.run_model.specs.declared.answers.Reply.{Reply}
 use Rattle.run_model.specs.declared.answers.Reply.TheVariants as reply
@@ -14,7 +14,6 @@ use Rattle.run_model.specs.declared.commands.Step.TheVariants as step
 use Rattle.run_model.specs.declared.refusals.Refusal.{Refusal}
 use Rattle.run_model.specs.declared.refusals.Refusal.TheVariants as refusal
 use Rattle.run_model.specs.Replies.{is_task_done}
-use Rattle.model_laws.proofs.Places.{row_there}
 use Rattle.model_laws.proofs.Searching.{first_is_least, ready_within}
 use Rattle.model_laws.proofs.StartingReplies.{start_first}
 

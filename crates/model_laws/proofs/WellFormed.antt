@@ -94,7 +94,7 @@ root_ordered zero row found below_root =
     absurd (true≢false (ap (λ r. is_root r.kind) (same_Some root row found) ∙ below_root))
 root_ordered (suc s) row found below_root = absurd (none-some row found)
 
-root_not_hit : (s : ℕ) (hit : Hit) → own_hit (root ∷ []) s ≡ Some hit → ⊥
+pub root_not_hit : (s : ℕ) (hit : Hit) → own_hit (root ∷ []) s ≡ Some hit → ⊥
 root_not_hit zero hit has = none-some hit has
 root_not_hit (suc s) hit has = none-some hit has
 

@@ -2,10 +2,10 @@
 use Rattle.run_model.proofs.Common.{◌≡◌, ℕ, zero, suc, ◌+◌, cond, Bool, true, false, List, [], ◌∷◌}
 use Rattle.run_model.proofs.Common.{◌++◌, length, take, Option, Some, None, slice_get, refl, sym}
 use Rattle.run_model.proofs.Common.{ap, ◌∙◌, subst, arith, append_assoc, IsTrue, flat_map}
-use Rattle.run_model.proofs.Common.{AllByRecursion, append-nil, same_Some, none-some}
+use Rattle.run_model.proofs.Common.{AllByRecursion, append-nil, same_Some, none-some, and_from}
 use Rattle.std.proofs.Common.{zero-add}
 use Rattle.record_view.specs.Reading.{Reader}
-use Rattle.record_view.proofs.Codecs.{Codec, through, both_true, first_true, second_true}
+use Rattle.record_view.proofs.Codecs.{Codec, through, first_true, second_true}
 use Rattle.record_view.specs.WorkRows.{more_at, each_passes}
 
 pub cond_some_by : {X : Type 0} (b : Bool) (o : Option X) (x : X) → cond b o None ≡ Some x
@@ -109,7 +109,7 @@ pub passes_from : {X : Type 0} (test : ℕ → X → Bool) (n : ℕ) (rows : Lis
 passes_from test n [] all = refl
 passes_from test n (row ∷ rows) all =
     let place : n ≡ n + 0 = omega arith in
-    both_true _ _
+    and_from _ _
     (ap (λ m. test m row) place ∙ all 0 row refl)
     (passes_from test (n + 1) rows
     (λ k x found.

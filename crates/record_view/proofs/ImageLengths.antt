@@ -52,7 +52,7 @@ scopes_short (row ∷ rows) kept right = (
   scopes_short rows kept.1 (λ s r hit found has. right (suc s) r hit found has),
 )
 
-behind_first : (rows : List Scope) (s : ℕ) (row : Scope) → slice_get (drop 1 rows) s ≡ Some row
+pub behind_first : (rows : List Scope) (s : ℕ) (row : Scope) → slice_get (drop 1 rows) s ≡ Some row
     → slice_get rows (suc s) ≡ Some row
 behind_first [] s row found = absurd (none-some row found)
 behind_first (r ∷ rows) s row found = found

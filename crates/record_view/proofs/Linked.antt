@@ -3,9 +3,9 @@ use Rattle.run_model.proofs.Common.{◌≡◌, ℕ, zero, suc, ◌<◌, ◌==◌
 use Rattle.run_model.proofs.Common.{false, List, [], ◌∷◌, take, Option, Some, None, slice_get}
 use Rattle.run_model.proofs.Common.{refl, sym, ap, ◌∙◌, arith, ◌↔◌, list_any, option_map_or}
 use Rattle.run_model.proofs.Common.{eqb-true, eq-eqb, none-some, same_Some, bytes_eq-Decides}
-use Rattle.run_model.proofs.Common.{IsRetry, is_retry_of}
+use Rattle.run_model.proofs.Common.{IsRetry, is_retry_of, and_from, not_from_false}
 use Rattle.run_model.specs.declared.tasks.Task.{Task}
-use Rattle.record_view.proofs.Codecs.{both_true, first_true, second_true}
+use Rattle.record_view.proofs.Codecs.{first_true, second_true}
 use Rattle.record_view.specs.WorkRows.{both_or_neither, can_retry, is_linked}
 
 -- ---- tests of truth
@@ -33,9 +33,6 @@ pub not_so : (b : Bool) → not b ≡ true → b ≡ false
 not_so true e = absurd (cc)
 not_so false e = refl
 
-pub so_not : (b : Bool) → b ≡ false → not b ≡ true
-so_not b e = ap not e
-
 -- ---- rows before a place
 
 pub taken : {X : Type 0} (rows : List X) (k s : ℕ) (x : X) → s < k → slice_get rows s ≡ Some x
@@ -55,17 +52,6 @@ untaken (r ∷ rows) (suc k) (suc s) x found =
     let more = untaken rows k s x found in (omega (arith, more.0), more.1)
 
 -- ---- some row passes
-
-pub any_at : {X : Type 0} (test : X → Bool) (rows : List X) (n : ℕ) (x : X)
-    → slice_get rows n ≡ Some x → test x ≡ true → list_any test rows ≡ true
-any_at test [] n x found ok = absurd (none-some x found)
-any_at test (r ∷ rows) zero x found ok =
-    ap (λ b. b || list_any test rows) (ap test (same_Some r x found) ∙ ok)
-any_at test (r ∷ rows) (suc n) x found ok = or_second (test r) (any_at test rows n x found ok)
-  where
-    or_second : (b : Bool) → list_any test rows ≡ true → (b || list_any test rows) ≡ true
-    or_second true ok = refl
-    or_second false ok = ok
 
 pub some_at : {X : Type 0} (test : X → Bool) (rows : List X) → list_any test rows ≡ true
     → (n : ℕ) × (x : X) × (slice_get rows n ≡ Some x) × (test x ≡ true)
@@ -125,9 +111,9 @@ link_from before row right = by_link row.retry_of right
     by_link None right = refl
     by_link (Some m) right =
         let it = right m refl in
-        both_true _ _
+        and_from _ _
         (ap (λ o. option_map_or (can_retry row) o false) it.found ∙ it.can)
-        (so_not (list_any (is_retry_of m) before) it.first)
+        (not_from_false (list_any (is_retry_of m) before) it.first)
 
 -- The facts of a retry, as a test.
 pub retry_facts : (n m : ℕ) (new old : Task) → m < n → can_retry new old ≡ true
@@ -145,9 +131,9 @@ retry_facts n m new old less ok =
 
 pub retry_test : (n m : ℕ) (new old : Task) → IsRetry n new m old → can_retry new old ≡ true
 retry_test n m new old is =
-    both_true _ _
-    (both_true _ _
-    (both_true _ _ is.interrupted (eq-eqb new.group old.group is.group))
+    and_from _ _
+    (and_from _ _
+    (and_from _ _ is.interrupted (eq-eqb new.group old.group is.group))
     ((bytes_eq-Decides new.job old.job).1 is.job))
     ((bytes_eq-Decides new.argument old.argument).1 is.argument)
 

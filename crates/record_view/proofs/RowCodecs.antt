@@ -21,12 +21,13 @@ use Rattle.record_view.specs.RowReading.{flag_at, flag_by, stage_at, stage_by, g
 use Rattle.record_view.specs.RowReading.{group_made, task_at, task_made, count_at, version_at}
 use Rattle.record_view.specs.RowReading.{head_at, head_made, version_by, fewer_at, link_at}
 use Rattle.record_view.specs.RowReading.{link_by}
-use Rattle.record_view.proofs.Codecs.{Takes, Codec, same_takes, through, chosen, both_true}
+use Rattle.record_view.proofs.Codecs.{Takes, Codec, same_takes, through, chosen}
 use Rattle.record_view.proofs.Codecs.{first_true, second_true, one_takes, one_again}
 use Rattle.record_view.proofs.Fields.{row_number, moment, text_field, optional_field, limit_field}
 use Rattle.record_view.proofs.Fields.{by_byte, is_byte}
 use Rattle.record_view.proofs.LongCodecs.{five_takes, five_again, six_takes, six_again}
 use Rattle.record_view.proofs.RowFields.{bare_value, long_number}
+use Rattle.run_model.proofs.Common.{and_from}
 
 -- ---- flags
 
@@ -166,7 +167,7 @@ group_row = record {
       group_made (λ y rest. Takes group_bytes is_kept_group bytes (y, rest)) bytes x
       (λ name scope bare limit waited error rest spelled p q r s t u. record {
         spelled = spelled;
-        tested = both_true _ _ (both_true _ _ (both_true _ _ (both_true _ _ (both_true _ _ p q) r)
+        tested = and_from _ _ (and_from _ _ (and_from _ _ (and_from _ _ (and_from _ _ p q) r)
             s) t) u;
       }) e;
   again = λ row rest ok.
@@ -190,7 +191,7 @@ task_row version = record {
       (λ y rest. Takes (task_bytes version) (is_kept_task version) bytes (y, rest)) bytes x
       (λ group job argument made link rest spelled p q r s t. record {
         spelled = spelled;
-        tested = both_true _ _ (both_true _ _ (both_true _ _ (both_true _ _ p q) r) s) t;
+        tested = and_from _ _ (and_from _ _ (and_from _ _ (and_from _ _ p q) r) s) t;
       }) e;
   again = λ row rest ok.
       five_again row_number (text_field is_name) (text_field is_name) stage_field
@@ -287,7 +288,7 @@ head_field layout = record {
       (λ y rest. Takes head_bytes (is_kept_head layout) bytes (y, rest)) bytes x
       (λ v clock count scopes groups tasks rest spelled p q r s t u. record {
         spelled = spelled;
-        tested = both_true _ _ (both_true _ _ (both_true _ _ (both_true _ _ q r) s) t) u;
+        tested = and_from _ _ (and_from _ _ (and_from _ _ (and_from _ _ q r) s) t) u;
       }) e;
   again = λ head rest ok.
       six_again version_field moment count_field scopes_field groups_field tasks_field head_made

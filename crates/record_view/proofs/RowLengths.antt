@@ -22,7 +22,7 @@ use Rattle.record_view.specs.Image.{is_kept_stage, is_kept_task, is_kept_kind, i
 use Rattle.record_view.specs.Image.{is_kept_scope}
 use Rattle.record_view.proofs.Codecs.{first_true, second_true}
 use Rattle.record_view.proofs.Lengths.{name_len, text_len, optional_len_most, kind_len_most}
-use Rattle.run_model.proofs.Lengths.{length-kind_bytes, length-optional_bytes}
+use Rattle.run_model.proofs.Lengths.{length-kind_bytes, length-optional_bytes, length-limit_bytes}
 use Rattle.record_view.proofs.RowJoins.{length_four, length_five, length_six}
 
 reason_len : (reason : Reason) → length (reason_bytes reason) ≡ 1
@@ -43,10 +43,6 @@ hit_len (Some hit) ok =
 flag_len : (flag : Bool) → length (flag_bytes flag) ≡ 1
 flag_len true = refl
 flag_len false = refl
-
-limit_len : (limit : Option ℕ) → length (limit_bytes limit) ≡ 1
-limit_len None = refl
-limit_len (Some most) = refl
 
 stage_len : (made : Stage) → is_kept_stage made ≡ true → length (stage_bytes made) ≤ 66
 stage_len stage.Fresh ok = omega arith
@@ -129,7 +125,7 @@ group_len_most row ok =
     omega (
       arith,
       flag_len row.bare,
-      limit_len row.limit,
+      length-limit_bytes row.limit,
       flag_len row.waited,
       length-optional_bytes row.error,
       length_six (text_bytes row.name) (to_be_bytes w16 row.scope) (flag_bytes row.bare)

@@ -8,6 +8,7 @@ use Rattle.run_model.proofs.Common.{false_from_ne_true, length-take-le, same_Som
 use Rattle.run_model.proofs.Common.{slice_get_within, bytes_eq-Decides, most_tasks, AreLinked}
 use Rattle.run_model.proofs.Common.{has_task_error, WorkState, is_running, is_admitted}
 use Rattle.run_model.proofs.Common.{is_unfinished, unfinished_in, admits, limit_of, is_retry_of}
+use Rattle.run_model.proofs.Common.{and_from, any_passes_from_place}
 use Rattle.run_model.specs.declared.bounds.TheConstants.{MOST_GROUPS}
 use Rattle.run_model.specs.declared.layouts.Layout.{Layout}
 use Rattle.run_model.specs.declared.groups.Group.{Group}
@@ -19,7 +20,7 @@ use Rattle.record_view.specs.declared.heads.ImageHead.{ImageHead}
 use Rattle.record_view.specs.declared.heads.ImageVersion.{ImageVersion}
 use Rattle.record_view.specs.Image.{group_bytes, task_bytes, is_kept_group, is_kept_task}
 use Rattle.record_view.specs.RowReading.{group_row_at, task_at}
-use Rattle.record_view.proofs.Codecs.{through, both_true, first_true, second_true}
+use Rattle.record_view.proofs.Codecs.{through, first_true, second_true}
 use Rattle.record_view.proofs.RowCodecs.{group_row, task_row}
 use Rattle.record_view.specs.WorkRows.{more_at, each_passes, has_new_name, can_come, is_settled}
 use Rattle.record_view.specs.WorkRows.{is_linked, work_made, settled_at, has_work_room}
@@ -27,8 +28,8 @@ use Rattle.record_view.specs.WorkRows.{work_rows_at, work_at, AreWorkRows}
 use Rattle.record_view.proofs.Checked.{ArePassed, more_take, more_again, all_pass, pass_all}
 use Rattle.record_view.proofs.Checked.{cond_some_by}
 use Rattle.record_view.proofs.Linked.{or_right, or_from, both_iff, iff_both, taken, untaken}
-use Rattle.record_view.proofs.Linked.{any_at, some_at, link_right, link_from, retry_facts}
-use Rattle.record_view.proofs.Linked.{retry_test, names_it, is_named}
+use Rattle.record_view.proofs.Linked.{some_at, link_right, link_from, retry_facts, retry_test}
+use Rattle.record_view.proofs.Linked.{names_it, is_named}
 
 -- ---- names
 
@@ -100,7 +101,7 @@ not_twice : (layout : Layout) (groups : List Group) (tasks : List Task) → AreP
 not_twice layout groups tasks passed n k m a b found_a found_b link_a link_b less =
     let right = link_right (take k tasks) b m (passed k b found_b) link_b in
     both_ways (list_any (is_retry_of m) (take k tasks)) right.first
-    (any_at (is_retry_of m) (take k tasks) n a (taken tasks k n a less found_a)
+    (any_passes_from_place (is_retry_of m) (take k tasks) n a (taken tasks k n a less found_a)
     (names_it m a link_a))
 
 links_from : (layout : Layout) (groups : List Group) (tasks : List Task) → ArePassedLinks tasks
@@ -177,8 +178,8 @@ rules_from layout version groups tasks few_g few_t named come settled =
 passed_tasks : (version : ImageVersion) (w : WorkState) → AreWorkRules w
     → ArePassed (task_row version) (can_come w.layout w.groups) [] w.tasks
 passed_tasks version w rules n row found =
-    both_true _ _
-    (both_true _ _
+    and_from _ _
+    (and_from _ _
     (lt-ltb row.group (length w.groups) (rules.known n row found))
     (or_from (is_running row.stage) _
     (λ is. admitted_there w.layout w.groups w.tasks n row found
@@ -189,7 +190,7 @@ settled_groups : (w : WorkState) → AreWorkRules w → each_passes (is_settled 
 settled_groups w rules =
     pass_all (is_settled w) w.groups
     (λ g row found.
-    both_true _ _
+    and_from _ _
     (or_from row.waited _
     (λ is. eq-eqb (unfinished_in g w.tasks) 0 (rules.admitted.waited g row found is)))
     (iff_both (is_some row.error) (has_task_error w g) (rules.exact g row found)))
@@ -202,7 +203,7 @@ work_again layout head bytes w rest are =
     let version = head.version in
     let tasks = flat_map (task_bytes version) w.tasks ++ rest in
     let few : has_work_room w.layout head ≡ true =
-    both_true _ _
+    and_from _ _
     (subst (λ n. nat_le n MOST_GROUPS ≡ true) are.groups
     (le-leb (length w.groups) MOST_GROUPS are.rules.few_groups))
     (subst (λ n. nat_le n (most_tasks w.layout) ≡ true) are.tasks

@@ -6,11 +6,13 @@ pub use Rattle.std.proofs.Common.{lit≤, ltb, map, nat_le, not, refl, rules, se
 pub use Rattle.std.proofs.Common.{slice_range, subst, suc, sym, take, true, vec_capacity, vec_len}
 pub use Rattle.std.proofs.Common.{zero, ℕ, ◌%◌, ◌&&◌, ◌*◌, ◌++◌, ◌+◌, ◌-◌, ◌/◌, ◌<◌, ◌==◌, ◌^◌}
 pub use Rattle.std.proofs.Common.{◌||◌, ◌↔◌, ◌∙◌, ◌∷◌, ◌≡◌, ◌≢◌, ◌≤◌, ◌⊎◌}
+pub use Rattle.std.proofs.Math.Bool.{and-false, or-false, or-true}
 pub use Rattle.std.proofs.Math.Seq.{drop-append_seam, take-append_seam}
 pub use Rattle.std.proofs.lemmas.Bool.{and_from, and_left, and_parts, both_ways, cases_eq}
-pub use Rattle.std.proofs.lemmas.Bool.{cases_lt, eq-eqb, eqb-true, false_from_ne_true, false≢true}
-pub use Rattle.std.proofs.lemmas.Bool.{le-leb, le-ltb, leb-false, leb-true, lt-leb, lt-ltb}
-pub use Rattle.std.proofs.lemmas.Bool.{ltb-false, ltb-true, ne_eqb, not-false, or_cases}
+pub use Rattle.std.proofs.lemmas.Bool.{cases_lt, cond-true, eq-eqb, eqb-true, false_from_ne_true}
+pub use Rattle.std.proofs.lemmas.Bool.{false≢true, le-leb, le-ltb, leb-false, leb-true, lt-leb}
+pub use Rattle.std.proofs.lemmas.Bool.{lt-ltb, ltb-false, ltb-true, ne_eqb, not-false}
+pub use Rattle.std.proofs.lemmas.Bool.{not_from_false, or_cases, or_left, or_parts, or_right}
 pub use Rattle.std.proofs.lemmas.Bool.{true_from_ne_false, true≢false}
 pub use Rattle.std.proofs.lemmas.Bool.Decides.{eqb_tells, nat_tests}
 pub use Rattle.std.proofs.lemmas.Grind.{common_steps, flat_map-append}
@@ -18,10 +20,11 @@ pub use Rattle.std.proofs.lemmas.List.{ext_get_or, get_or-drop, get_or-set_other
 pub use Rattle.std.proofs.lemmas.List.{get_or-take, get_or_append_left, get_or_default}
 pub use Rattle.std.proofs.lemmas.List.{get_or_past, get_or_push, length-drop, length-map}
 pub use Rattle.std.proofs.lemmas.List.{length-replicate, length-set, length-take, length-take-le}
-pub use Rattle.std.proofs.lemmas.List.{take-append-drop, take-append-le, take_all}
+pub use Rattle.std.proofs.lemmas.List.{map-append, take-append-drop, take-append-le, take_all}
 pub use Rattle.std.proofs.lemmas.List.Elements.{All-nil, All-weaker}
 pub use Rattle.std.proofs.lemmas.List.Folds.{list_any-append}
 pub use Rattle.std.proofs.lemmas.List.Sums.{count_by-le-length, sum_by-append, sum_by-cons}
+pub use Rattle.std.proofs.lemmas.Map.Keys.{any_passes_from_place}
 pub use Rattle.std.proofs.lemmas.Option.{cond_some, get_or_from_slice_get, none-some}
 pub use Rattle.std.proofs.lemmas.Option.{option_and_then_some, same_Some, slice_get-get_or}
 pub use Rattle.std.proofs.lemmas.Option.{slice_get-map, slice_get_past, slice_get_read}
@@ -47,8 +50,9 @@ pub use Rattle.run_model.proofs.LayoutLemmas.{most_scopes_most, most_tasks_most}
 pub use Rattle.run_model.proofs.NameLemmas.{name_is_free}
 pub use Rattle.run_model.proofs.RefusalLemmas.{each_fails, is_first, unless_Ok}
 pub use Rattle.run_model.proofs.RowLemmas.{at_row_cases, length-at_row, map_cases, push_cases}
-pub use Rattle.run_model.proofs.RowLemmas.{slice_get-at_row_other, slice_get-at_row_same}
-pub use Rattle.run_model.proofs.RowLemmas.{slice_get-push_last, slice_get-push_left}
+pub use Rattle.run_model.proofs.RowLemmas.{row_there, slice_get-at_row_other}
+pub use Rattle.run_model.proofs.RowLemmas.{slice_get-at_row_same, slice_get-push_last}
+pub use Rattle.run_model.proofs.RowLemmas.{slice_get-push_left}
 pub use Rattle.run_model.specs.Allowed.{IsFront, after, allowed, has_kind, has_room, has_row}
 pub use Rattle.run_model.specs.Allowed.{is_cancellable, is_open, refusals, run, takes_cause}
 pub use Rattle.run_model.specs.Allowed.{tested, unless}

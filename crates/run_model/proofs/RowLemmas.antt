@@ -5,6 +5,13 @@ use Rattle.std.proofs.lemmas.Option.{none-some, same_Some}
 use Rattle.std.specs.Option.{option_map}
 use Rattle.run_model.specs.Rows.{at_row}
 
+-- Each number below the length has a row.
+pub row_there : {X : Type 0} (rows : List X) (n : ℕ) → n < length rows
+    → (row : X) × (slice_get rows n ≡ Some row)
+row_there [] n less = absurd (omega (arith, less))
+row_there (r ∷ rows) zero less = (r, refl)
+row_there (r ∷ rows) (suc n) less = row_there rows n (omega (arith, less))
+
 -- ---- at one place
 
 -- The changed row, where there is one.

@@ -17,12 +17,12 @@ use Rattle.record_view.specs.Keeping.{IsImage, Rows}
 use Rattle.record_view.specs.RowReading.{head_at}
 use Rattle.record_view.specs.WorkRows.{AreWorkRows}
 use Rattle.record_view.specs.Writing.{put_at}
-use Rattle.record_view.proofs.Codecs.{both_true}
 use Rattle.record_view.proofs.Joins.{put_then}
 use Rattle.scope_tree.specs.TreeRows.{tree_at}
 use Rattle.image_laws.specs.Whole.{image_at, whole}
 use Rattle.image_laws.proofs.WholeReads.{image_again}
 use Rattle.record_view.proofs.WorkReads.{nothing_read, work_again}
+use Rattle.run_model.proofs.Common.{and_from}
 
 -- ---- reading
 
@@ -127,10 +127,10 @@ ranged p rules clock few scopes groups tasks = record {
         let some = slice_get_within p.tree.scopes 0 root rules.numbered.rooted in
         let rest : length (drop 1 p.tree.scopes) ≡ length p.tree.scopes - 1 =
         length-drop 1 p.tree.scopes in
-        both_true _ _
-        (both_true _ _
-        (both_true _ _
-        (both_true _ _ (le-leb p.tree.clock GREATEST_MOMENT clock)
+        and_from _ _
+        (and_from _ _
+        (and_from _ _
+        (and_from _ _ (le-leb p.tree.clock GREATEST_MOMENT clock)
         (lt-ltb p.count (2 ^ 63) few))
         (lt-ltb (length (drop 1 p.tree.scopes)) (most_scopes p.tree.layout)
         (omega (arith, some, rest, rules.numbered.few_scopes))))

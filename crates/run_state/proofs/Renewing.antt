@@ -23,6 +23,7 @@ use Rattle.state_renewal.proofs.Marked.{count_left, groups_left, left_behind, ma
 use Rattle.state_renewal.proofs.Marked.{scopes_left, tasks_left}
 use Rattle.state_renewal.proofs.RulesKept.{rules_kept}
 use Rattle.run_state.proofs.Imaging.{ranged}
+use Rattle.scope_tree.proofs.TreeReads.{not_first}
 
 -- ---- rows after root
 
@@ -30,10 +31,6 @@ behind : {X : Type 0} (rows : List X) (s : ℕ) (row : X) → slice_get (drop 1 
     → slice_get rows (suc s) ≡ Some row
 behind [] s row found = absurd (none-some row found)
 behind (r ∷ rows) s row found = found
-
-not_first : (b : Bool) (s : ℕ) → (b ≡ true → suc s ≡ 0) → b ≡ false
-not_first true s first = absurd (let h = first refl in omega (arith, h))
-not_first false s first = refl
 
 below : (p : State) → IsConsistent p → (s : ℕ) (row : Scope)
     → slice_get (drop 1 p.tree.scopes) s ≡ Some row → is_root row.kind ≡ false

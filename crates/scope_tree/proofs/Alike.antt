@@ -22,9 +22,9 @@ use Rattle.model_laws.proofs.Stays.{earlier_comes_before, later_comes_behind}
 use Rattle.scope_tree.specs.Checks.{AreEarlierOrAlike}
 use Rattle.scope_tree.specs.Marks.{Struck}
 use Rattle.scope_tree.specs.Sound.{ArePastHits, IsPastHit}
-use Rattle.scope_tree.proofs.Keeping.{ordered_hit}
 use Rattle.scope_tree.proofs.Passing.{kind_passed}
-use Rattle.scope_tree.proofs.Reaching.{can_be_hit_joins}
+use Rattle.model_laws.proofs.Levels.{ordered_hit}
+use Rattle.model_laws.proofs.Reaches.{can_be_hit_joins}
 
 -- ---- two hits
 

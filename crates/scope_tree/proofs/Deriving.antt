@@ -15,9 +15,9 @@ use Rattle.scope_tree.specs.Reaches.{AreReached}
 use Rattle.scope_tree.specs.Sound.{IsSound}
 use Rattle.scope_tree.specs.declared.reaches.Reach.{Reach}
 use Rattle.scope_tree.proofs.Growing.{marked_push}
-use Rattle.scope_tree.proofs.Naming.{name_ticked}
 use Rattle.scope_tree.proofs.Passing.{IsDerivable}
 use Rattle.scope_tree.proofs.Sounding.{sound_still, sound_derive, sound_fields}
+use Rattle.model_laws.proofs.Making.{ticked_name}
 
 -- What a new row keeps of what it was made of.
 record RowKept (e : ℕ) (name : List ℕ) (parent : ℕ) (kind : Kind) (row : Scope) : Type 0 where
@@ -31,7 +31,7 @@ row_kept : (e now : ℕ) (name : List ℕ) (parent : ℕ) (kind : Kind)
 row_kept e now name parent kind =
     let follows = tick_follows e now (new_scope name parent kind) in
     record {
-      called = name_ticked e now (new_scope name parent kind);
+      called = ticked_name e now (new_scope name parent kind);
       under = follows.parent;
       is = follows.kind;
       hit = λ hit has. elim (follows.hit.comes hit has)

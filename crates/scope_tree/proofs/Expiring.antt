@@ -21,11 +21,12 @@ use Rattle.model_laws.proofs.Stays.{earlier_comes_before, later_comes_behind}
 use Rattle.scope_tree.specs.Deadlines.{deadline_at, due_at, key, Among, TakesFirst, AreWaiting}
 use Rattle.scope_tree.specs.Links.{link_of, links_of}
 use Rattle.scope_tree.specs.Marks.{AreMarked, Struck}
-use Rattle.scope_tree.proofs.Keeping.{ordered_hit}
 use Rattle.scope_tree.proofs.Latest.{IsLatest, latest_stays}
 use Rattle.scope_tree.proofs.Marking.{own_hit_within}
 use Rattle.scope_tree.proofs.Waiting.{HasDeadline, HasCome, has_deadline, has_come, key_is, due_is}
 use Rattle.scope_tree.proofs.Waiting.{undue, deadline_hit, own_cases, own_kept, heap_over}
+use Rattle.model_laws.proofs.Levels.{ordered_hit}
+use Rattle.model_laws.proofs.Interrupts.{hit_twice}
 
 -- The hits of this event come no later than the deadlines that wait.
 abbrev pub ComeBefore : List Scope → List ℕ → ℕ → Type 0
@@ -97,15 +98,6 @@ hit_again : (hit : Hit) (row : Scope) (had : Option Hit) (x : Hit) → row.hit �
 hit_again hit row had x at is =
     ap (λ o. record row { hit = option_or o (Some hit) }) (at ∙ is)
     ∙ ap (λ o. record row { hit = o }) (sym (at ∙ is))
-
-twice : (hit : Hit) (row : Scope) → with_hit hit (with_hit hit row) ≡ with_hit hit row
-twice hit row = by_own row.hit refl
-  where
-    by_own : (had : Option Hit) → row.hit ≡ had → with_hit hit
-        (with_hit hit row) ≡ with_hit hit row
-    by_own None at = ap (λ o. record row { hit = option_or (option_or o (Some hit)) (Some hit) }) at
-        ∙ sym (ap (λ o. record row { hit = option_or o (Some hit) }) at)
-    by_own (Some x) at = ap (with_hit hit) (hit_again hit row (Some x) x at refl)
 
 rows_again : (hit : Hit) (n : ℕ) (rows : List Scope) (x : Hit) → own_hit rows n ≡ Some x
     → at_row (with_hit hit) n rows ≡ rows
@@ -206,7 +198,7 @@ module _ (start rows : List Scope) (links marks : List (Option ℕ)) (due due' :
               ap (hit_due event now) (sym kind)
               ∙ due_now (tick event now row) (ap (slice_get rows) (sym here) ∙ new) in
               inr (there ∙ ap (option_map (with_hit hit)) new
-              ∙ ap (λ r. Some (with_hit hit r)) (ticks row is) ∙ ap Some (twice hit row)
+              ∙ ap (λ r. Some (with_hit hit r)) (ticks row is) ∙ ap Some (hit_twice hit row)
               ∙ ap Some (sym (ticks row is))))
         ])
   ]

@@ -7,7 +7,7 @@ use Rattle.run_model.proofs.Common.{AllByRecursion, option_map_or, bytes_eq, sam
 use Rattle.run_model.proofs.Common.{slice_get_within, ltb-true, lt-ltb, leb-true, le-leb, eqb-true}
 use Rattle.run_model.proofs.Common.{eq-eqb, both_ways, bytes_eq-Decides, root, is_root}
 use Rattle.run_model.proofs.Common.{own_deadline, AreOrdered, name_is_free, push_cases}
-use Rattle.run_model.proofs.Common.{slice_get-push_left, append-nil}
+use Rattle.run_model.proofs.Common.{slice_get-push_left, append-nil, and_from}
 use Rattle.run_model.specs.declared.scopes.Kind.{Kind}
 use Rattle.run_model.specs.declared.scopes.Kind.TheVariants as kinds
 use Rattle.run_model.specs.declared.scopes.Reason.{Reason}
@@ -18,9 +18,10 @@ use Rattle.run_model.specs.RuleParts.{HitFits, AreScopeRules}
 use Rattle.run_model.proofs.NameLemmas.{names_pushed, unpassed}
 use Rattle.record_view.specs.Image.{is_kept_kind, is_kept_scope, scope_bytes}
 use Rattle.record_view.specs.RowReading.{scope_at}
-use Rattle.record_view.proofs.Codecs.{both_true, first_true, second_true, through}
+use Rattle.record_view.proofs.Codecs.{first_true, second_true, through}
 use Rattle.record_view.proofs.RowFields.{scope_row}
 use Rattle.scope_tree.specs.TreeRows.{can_follow, hit_fits, reason_fits, more_rows_at}
+use Rattle.record_view.proofs.Checked.{cond_some_by}
 
 -- ---- hits
 
@@ -166,11 +167,6 @@ module _
 
 -- ---- all rows that were read
 
-pub cond_some_by : {X : Type 0} (b : Bool) (o : Option X) (x : X) → cond b o None ≡ Some x
-    → (b ≡ true) × (o ≡ Some x)
-cond_some_by true o x e = (refl, e)
-cond_some_by false o x e = absurd (none-some x e)
-
 -- The rows after those that there were keep the rules, and are what the bytes begin with.
 pub record AreMore
     (count clock n : ℕ) (rows : List Scope) (bytes : List ℕ) (x : List Scope × List ℕ)
@@ -245,9 +241,9 @@ fits_again : (count clock : ℕ) (kind : Kind) (hit : Option Hit)
     → hit_fits count clock kind hit ≡ true
 fits_again count clock kind (Some hit) hits come =
     let fits = hits hit refl in
-    both_true _ _
-    (both_true _ _
-    (both_true _ _ (both_true _ _ fits.can (le-leb 1 hit.event fits.counted))
+    and_from _ _
+    (and_from _ _
+    (and_from _ _ (and_from _ _ fits.can (le-leb 1 hit.event fits.counted))
     (le-leb hit.event count fits.known))
     (le-leb hit.moment clock fits.past))
     (reason_right hit.reason (own_deadline kind) hit.moment fits.own)
@@ -268,8 +264,8 @@ can_follow_in : (count clock : ℕ) (front : List Scope) (row : Scope) (back : L
     → is_root row.kind ≡ false → can_follow count clock front row ≡ true
 can_follow_in count clock front row back rules some below =
     let here = found_seam front row back in
-    both_true _ _
-    (both_true _ _
+    and_from _ _
+    (and_from _ _
     (lt-ltb row.parent (length front) (rules.ordered (length front) row here below))
     (unpassed root (λ r. bytes_eq row.name r.name) front
     (λ s a found same.

@@ -1,10 +1,9 @@
 -- What the changes keep of the rows: parents have lesser numbers, and hits are of the past.
-use Rattle.run_model.proofs.Common.{◌≡◌, ◌<◌, ◌≤◌, ℕ, zero, suc, true, false, nat_le, List, []}
-use Rattle.run_model.proofs.Common.{◌∷◌, ◌++◌, map, Option, Some, None, slice_get, inl, inr, refl}
-use Rattle.run_model.proofs.Common.{sym, subst, ap, ◌∙◌, arith, option_map, option_map_or}
-use Rattle.run_model.proofs.Common.{option_or, false≢true, leb-true, none-some, same_Some}
-use Rattle.run_model.proofs.Common.{cond_some, slice_get_within, is_cancellable, root, new_scope}
-use Rattle.run_model.proofs.Common.{at_row, can_be_hit, is_root, AreOrdered, is_group_kind}
+use Rattle.run_model.proofs.Common.{◌≡◌, ◌≤◌, ℕ, zero, suc, true, false, nat_le, List, [], ◌∷◌}
+use Rattle.run_model.proofs.Common.{◌++◌, map, Option, Some, None, slice_get, inl, inr, refl, sym}
+use Rattle.run_model.proofs.Common.{subst, ap, ◌∙◌, arith, option_map, option_map_or, option_or}
+use Rattle.run_model.proofs.Common.{false≢true, leb-true, none-some, same_Some, cond_some}
+use Rattle.run_model.proofs.Common.{slice_get_within, root, new_scope, at_row, can_be_hit, is_root}
 use Rattle.run_model.proofs.Common.{with_hit, hit_due, tick, new_hit, at_row_cases, push_cases}
 use Rattle.run_model.proofs.Common.{map_cases, slice_get-at_row_other, slice_get-push_left}
 use Rattle.run_model.specs.declared.scopes.Hit.{Hit}
@@ -16,15 +15,6 @@ use Rattle.scope_tree.specs.Checks.{is_derived_kind}
 use Rattle.scope_tree.specs.Sound.{AreRooted, IsPastHit, ArePastHits}
 
 -- ---- order
-
-pub ordered_hit : (hit : Hit) (s : ℕ) (rows : List Scope) → AreOrdered rows
-    → AreOrdered (at_row (with_hit hit) s rows)
-ordered_hit hit s rows ordered n row found below_root =
-    elim (at_row_cases (with_hit hit) s n rows row found) [
-      | inl other ↦ ordered n row other.1 below_root
-      | inr it ↦ subst (λ r. r.parent < n) (sym it.changed)
-          (ordered n it.old it.found (ap (λ r. is_root r.kind) (sym it.changed) ∙ below_root))
-    ]
 
 -- ---- root
 
@@ -191,21 +181,3 @@ pub cancellation_past : (e clock : ℕ) (cause : Option (List ℕ)) (kind : Kind
     → can_be_hit kind ≡ true → IsPastHit clock kind (new_hit e clock Canceled cause)
 cancellation_past e clock cause kind can =
     record { can = can; past = omega arith; cancels = λ group. refl }
-
-pub cancellable_can : (kind : Kind) → is_cancellable kind ≡ true → can_be_hit kind ≡ true
-cancellable_can kinds.Root is = is
-cancellable_can kinds.Cancel is = refl
-cancellable_can kinds.Cause is = refl
-cancellable_can (kinds.Deadline moment text) is = refl
-cancellable_can (kinds.Value key text) is = is
-cancellable_can kinds.Detached is = is
-cancellable_can kinds.Group is = refl
-
-pub group_can : (kind : Kind) → is_group_kind kind ≡ true → can_be_hit kind ≡ true
-group_can kinds.Root is = is
-group_can kinds.Cancel is = refl
-group_can kinds.Cause is = refl
-group_can (kinds.Deadline moment text) is = refl
-group_can (kinds.Value key text) is = is
-group_can kinds.Detached is = is
-group_can kinds.Group is = refl

@@ -1,16 +1,16 @@
 -- A hit that comes after all others ends no scope that was done.
 use Rattle.run_model.proofs.Common.{◌≡◌, ◌≢◌, ◌⊎◌, ◌<◌, ℕ, zero, suc, Bool, true, false, cond}
-use Rattle.run_model.proofs.Common.{List, [], ◌∷◌, length, Option, Some, None, slice_get, inl, inr}
-use Rattle.run_model.proofs.Common.{refl, sym, ap, subst, ◌∙◌, arith, option_map, option_and_then}
+use Rattle.run_model.proofs.Common.{List, length, Option, Some, None, slice_get, inl, inr, refl}
+use Rattle.run_model.proofs.Common.{sym, ap, subst, ◌∙◌, arith, option_map, option_and_then}
 use Rattle.run_model.proofs.Common.{option_or, cases_eq, none-some, at_row, is_root, is_detached}
 use Rattle.run_model.proofs.Common.{own_hit, comes_before, first_hit, ending, AreOrdered, with_hit}
-use Rattle.run_model.proofs.Common.{slice_get-at_row_same, slice_get-at_row_other}
+use Rattle.run_model.proofs.Common.{slice_get-at_row_same, slice_get-at_row_other, row_there}
 use Rattle.run_model.specs.declared.scopes.Hit.{Hit}
 use Rattle.run_model.specs.declared.scopes.Scope.{Scope}
 use Rattle.model_laws.specs.Searches.{above, joined, first_hit_from}
 use Rattle.model_laws.proofs.Lines.{first_hit_up}
 use Rattle.model_laws.proofs.Least.{first_hit_least}
-use Rattle.scope_tree.proofs.Keeping.{ordered_hit}
+use Rattle.model_laws.proofs.Levels.{ordered_hit}
 
 -- Each own hit comes before this one at scope n, and this one after it.
 abbrev pub IsLatest : List Scope → ℕ → Hit → Type 0
@@ -50,12 +50,6 @@ own_comes n hit up up' behind (inr new) = inr (
     either : (b : Bool) (x : ℕ × Hit) → Some (cond b x x) ≡ Some x
     either true x = refl
     either false x = refl
-
-row_there : (rows : List Scope) (s : ℕ) → s < length rows
-    → (row : Scope) × (slice_get rows s ≡ Some row)
-row_there [] s known = absurd (omega (arith, known))
-row_there (row ∷ rows) zero known = (row, refl)
-row_there (row ∷ rows) (suc s) known = row_there rows s (omega (arith, known))
 
 module _ (rows : List Scope) (n : ℕ) (hit : Hit) (ordered : AreOrdered rows)
     (free : own_hit rows n ≡ None) (latest : IsLatest rows n hit) where

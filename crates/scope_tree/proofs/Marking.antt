@@ -1,8 +1,8 @@
 -- The mark of a scope, from its parent's and its own hit.
-use Rattle.run_model.proofs.Common.{◌≡◌, ◌<◌, ℕ, zero, suc, Bool, true, false, cond, List, [], ◌∷◌}
+use Rattle.run_model.proofs.Common.{◌≡◌, ◌<◌, ℕ, Bool, true, false, cond, List, [], ◌∷◌}
 use Rattle.run_model.proofs.Common.{◌+◌, ◌++◌, length, Option, Some, None, inl, inr, slice_get}
 use Rattle.run_model.proofs.Common.{refl, sym, subst, ap, ◌∙◌, arith, option_map, option_map_or}
-use Rattle.run_model.proofs.Common.{IfSome, cases_lt, get_or_append_left, get_or_push, none-some}
+use Rattle.run_model.proofs.Common.{IfSome, cases_lt, get_or_append_left, get_or_push}
 use Rattle.run_model.proofs.Common.{slice_get_within, option_and_then_some, root, is_root}
 use Rattle.run_model.proofs.Common.{is_detached, own_hit, comes_before, first_hit, AreOrdered}
 use Rattle.run_model.specs.declared.scopes.Hit.{Hit}
@@ -12,6 +12,7 @@ use Rattle.model_laws.proofs.Lines.{first_hit_up}
 use Rattle.model_laws.proofs.Least.{first_hit_least}
 use Rattle.scope_tree.specs.Marks.{IsMark, AreMarked, AreMarkedBelow, mark_of, first_mark}
 use Rattle.scope_tree.specs.Marks.{marked_hit}
+use Rattle.model_laws.proofs.WellFormed.{root_not_hit}
 
 -- ---- from above
 
@@ -178,10 +179,6 @@ marked_more rows marks new s mark pushed same made below t less = elim (cases_lt
 
 -- ---- root alone
 
-root_unhit : (n : ℕ) (hit : Hit) → own_hit (root ∷ []) n ≡ Some hit → ⊥
-root_unhit zero hit own = none-some hit own
-root_unhit (suc n) hit own = none-some hit own
-
 -- The mark of root alone is that of root among other rows too.
 pub root_marked : (rows first : List Scope) (marks : List (Option ℕ)) (n : ℕ) → first ≡ root ∷ []
     → AreMarked first marks → AreOrdered rows → slice_get rows 0 ≡ Some root → n ≡ length marks
@@ -194,4 +191,4 @@ root_marked rows first marks n is were ordered found all t less =
   where
     by_mark : (m : Option ℕ) → IsMark first 0 m → m ≡ None
     by_mark None at = refl
-    by_mark (Some k) at = absurd (root_unhit k at.0 (ap (λ l. own_hit l k) (sym is) ∙ at.2))
+    by_mark (Some k) at = absurd (root_not_hit k at.0 (ap (λ l. own_hit l k) (sym is) ∙ at.2))

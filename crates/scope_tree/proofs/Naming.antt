@@ -6,9 +6,8 @@ use Rattle.run_model.proofs.Common.{option_map, option_map_or, bytes_eq, cases_l
 use Rattle.run_model.proofs.Common.{lt-ltb, le-ltb, length-map, same_Some, slice_get_within}
 use Rattle.run_model.proofs.Common.{slice_get-get_or, slice_get-map, get_or_from_slice_get}
 use Rattle.run_model.proofs.Common.{bytes_eq-Decides, at_row, with_hit, tick, hit_due}
-use Rattle.run_model.proofs.Common.{name_is_free, map_cases}
+use Rattle.run_model.proofs.Common.{name_is_free, map_cases, map-append}
 use Rattle.std.specs.List.{position}
-use Rattle.std.proofs.lemmas.List.{map-append}
 use Rattle.std.proofs.lemmas.List.Sums.{position_or_len_is}
 use Rattle.run_model.specs.declared.scopes.Scope.{Scope}
 use Rattle.run_model.specs.declared.scopes.Hit.{Hit}
@@ -17,6 +16,7 @@ use Rattle.run_model.proofs.RowLemmas.{map-at_row}
 use Rattle.scope_tree.specs.Chains.{IsLast, Places}
 use Rattle.scope_tree.specs.Links.{link_of, links_of, AreFound}
 use Rattle.scope_tree.specs.Names.{home, names_of, homes_of, AreDistinct, AreNamed}
+use Rattle.model_laws.proofs.Making.{ticked_name}
 
 -- ---- the first that passes
 
@@ -166,14 +166,6 @@ pub names_hit : (hit : Hit) (s : ℕ) (rows : List Scope)
     → names_of (at_row (with_hit hit) s rows) ≡ names_of rows
 names_hit hit s rows = map-at_row (λ r. r.name) (with_hit hit) s rows (λ row. refl)
 
-pub name_ticked : (e now : ℕ) (row : Scope) → (tick e now row).name ≡ row.name
-name_ticked e now row = by_due (hit_due e now row.kind)
-  where
-    by_due : (due : Option Hit) → (option_map_or (λ hit. with_hit hit row) due row).name
-        ≡ row.name
-    by_due None = refl
-    by_due (Some hit) = refl
-
 pub parent_ticked : (e now : ℕ) (row : Scope) → (tick e now row).parent ≡ row.parent
 parent_ticked e now row = by_due (hit_due e now row.kind)
   where
@@ -186,7 +178,7 @@ pub names_ticked : (e now : ℕ) (rows : List Scope)
     → names_of (map (tick e now) rows) ≡ names_of rows
 names_ticked e now [] = refl
 names_ticked e now (row ∷ rows) =
-    ap (λ n. n ∷ names_of (map (tick e now) rows)) (name_ticked e now row)
+    ap (λ n. n ∷ names_of (map (tick e now) rows)) (ticked_name e now row)
     ∙ ap (λ l. row.name ∷ l) (names_ticked e now rows)
 
 pub links_ticked : (e now : ℕ) (rows : List Scope)

@@ -1,12 +1,12 @@
 -- The marks, when one more scope has a hit and the marks have gone down from it.
 use Rattle.run_model.proofs.Common.{◌≡◌, ◌≢◌, ◌⊎◌, ℕ, zero, suc, ◌<◌, ◌≤◌, Bool, true, false, cond}
-use Rattle.run_model.proofs.Common.{List, [], ◌∷◌, ◌||◌, length, Option, Some, None, inl, inr}
-use Rattle.run_model.proofs.Common.{refl, sym, ap, subst, ◌∙◌, arith, is_some, slice_get}
-use Rattle.run_model.proofs.Common.{option_map, option_and_then, option_or, cases_eq, false≢true}
-use Rattle.run_model.proofs.Common.{none-some, same_Some, slice_get-map, slice_get_within, at_row}
-use Rattle.run_model.proofs.Common.{is_root, is_detached, own_hit, first_hit, ending, AreOrdered}
-use Rattle.run_model.proofs.Common.{with_hit, length-at_row, slice_get-at_row_same}
-use Rattle.run_model.proofs.Common.{slice_get-at_row_other}
+use Rattle.run_model.proofs.Common.{List, ◌||◌, length, Option, Some, None, inl, inr, refl, sym}
+use Rattle.run_model.proofs.Common.{ap, subst, ◌∙◌, arith, is_some, slice_get, option_map}
+use Rattle.run_model.proofs.Common.{option_and_then, option_or, cases_eq, false≢true, none-some}
+use Rattle.run_model.proofs.Common.{same_Some, slice_get-map, slice_get_within, at_row, is_root}
+use Rattle.run_model.proofs.Common.{is_detached, own_hit, first_hit, ending, AreOrdered, with_hit}
+use Rattle.run_model.proofs.Common.{length-at_row, slice_get-at_row_same, slice_get-at_row_other}
+use Rattle.run_model.proofs.Common.{row_there}
 use Rattle.run_model.specs.declared.scopes.Hit.{Hit}
 use Rattle.run_model.specs.declared.scopes.Scope.{Scope}
 use Rattle.model_laws.specs.Searches.{above, joined}
@@ -15,7 +15,7 @@ use Rattle.scope_tree.specs.Links.{link_of, links_of}
 use Rattle.scope_tree.specs.Marks.{IsMark, AreMarked, Struck, mark_of}
 use Rattle.scope_tree.specs.Spread.{Child, Since, IsSpread}
 use Rattle.scope_tree.proofs.Growing.{first_none}
-use Rattle.scope_tree.proofs.Keeping.{ordered_hit}
+use Rattle.model_laws.proofs.Levels.{ordered_hit}
 
 none_some : {X : Type 0} (m : Option ℕ) (n : ℕ) → m ≡ None → m ≡ Some n → X
 none_some m n none some = absurd (none-some n (sym none ∙ some))
@@ -25,12 +25,6 @@ joined_none : (up : Option (ℕ × Hit)) (s : ℕ) (own : Option Hit) → joined
     → (up ≡ None) × (own ≡ None)
 joined_none up s None is = (is, refl)
 joined_none up s (Some h) is = absurd (none-some _ (sym is))
-
-there : (rows : List Scope) (s : ℕ) → s < length rows
-    → (row : Scope) × (slice_get rows s ≡ Some row)
-there [] s known = absurd (omega (arith, known))
-there (row ∷ rows) zero known = (row, refl)
-there (row ∷ rows) (suc s) known = there rows s (omega (arith, known))
 
 module _ (rows : List Scope) (old new : List (Option ℕ)) (at : ℕ) (hit : Hit)
     (ordered : AreOrdered rows) (struck : Struck rows at hit) (were : AreMarked rows old)
@@ -72,7 +66,7 @@ module _ (rows : List Scope) (old new : List (Option ℕ)) (at : ℕ) (hit : Hit
       subst (λ q. q < s) up.up (ordered s row found up.below_root)
 
   row_at : (s : ℕ) → s < length rows → (row : Scope) × (slice_get rows s ≡ Some row)
-  row_at s known = there rows s known
+  row_at s known = row_there rows s known
 
   -- What was marked since is not above the scope that was hit.
   since_above : (most t : ℕ) → t < most → t < length rows → Since old new at t → at ≤ t

@@ -1,7 +1,7 @@
 -- The tree that is read, and the rows of a tree that can be written.
 use Rattle.run_model.proofs.Common.{◌≡◌, ◌<◌, ◌≤◌, ◌-◌, ℕ, suc, ◌+◌, ◌&&◌, nat_lt, cond, Bool}
 use Rattle.run_model.proofs.Common.{true, false, List, [], ◌∷◌, ◌++◌, length, take, drop, Some}
-use Rattle.run_model.proofs.Common.{None, slice_get, refl, sym, ap, ◌∙◌, subst, arith}
+use Rattle.run_model.proofs.Common.{None, refl, sym, ap, ◌∙◌, subst, arith}
 use Rattle.run_model.proofs.Common.{length-append, length-drop, flat_map, lt-ltb, le-ltb, le-leb}
 use Rattle.run_model.proofs.Common.{leb-true, ltb-true, false_from_ne_true, take_all, none-some}
 use Rattle.run_model.proofs.Common.{same_Some, most_scopes, is_moment, root, is_root, own_deadline}
@@ -23,17 +23,13 @@ use Rattle.scope_tree.specs.Sound.{AreRooted, ArePastHits}
 use Rattle.scope_tree.specs.TreeRows.{AreWritable, more_rows_at, tree_at, tree_made, has_tree_room}
 use Rattle.scope_tree.specs.TreeRules.{AreTreeRows}
 use Rattle.scope_tree.proofs.Followers.{more_are, rules_at_first, more_again, AreAllKept}
-use Rattle.scope_tree.proofs.Followers.{cond_some_by}
 use Rattle.scope_tree.proofs.Sounding.{AreSound, tree_of}
+use Rattle.record_view.proofs.Checked.{cond_some_by}
+use Rattle.record_view.proofs.ImageLengths.{behind_first}
 
 -- ---- writing
 
-behind_first : (rows : List Scope) (s : ℕ) (row : Scope) → slice_get (drop 1 rows) s ≡ Some row
-    → slice_get rows (suc s) ≡ Some row
-behind_first [] s row found = absurd (none-some row found)
-behind_first (r ∷ rows) s row found = found
-
-not_first : (b : Bool) (s : ℕ) → (b ≡ true → suc s ≡ 0) → b ≡ false
+pub not_first : (b : Bool) (s : ℕ) → (b ≡ true → suc s ≡ 0) → b ≡ false
 not_first true s first = absurd (let h = first refl in omega (arith, h))
 not_first false s first = refl
 

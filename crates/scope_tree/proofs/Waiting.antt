@@ -8,7 +8,7 @@ use Rattle.run_model.proofs.Common.{false≢true, leb-false, lt-leb, get_or_appe
 use Rattle.run_model.proofs.Common.{none-some, same_Some, cond_some, slice_get_within, at_row}
 use Rattle.run_model.proofs.Common.{own_deadline, own_hit, is_detached, with_hit, hit_due, new_hit}
 use Rattle.run_model.proofs.Common.{length-at_row, slice_get-at_row_same, slice_get-at_row_other}
-use Rattle.run_model.proofs.Common.{slice_get-push_left}
+use Rattle.run_model.proofs.Common.{slice_get-push_left, and_from}
 use Rattle.std.specs.Option.{IsSome}
 use Rattle.run_model.specs.declared.bounds.TheConstants.{MOST_SCOPES}
 use Rattle.run_model.specs.declared.scopes.Hit.{Hit}
@@ -20,6 +20,7 @@ use Rattle.scope_tree.specs.Deadlines.{deadline_at, due_at, key, key_at, Among, 
 use Rattle.scope_tree.specs.Deadlines.{SameNumbers, AreWaiting}
 use Rattle.scope_tree.proofs.HeapSteps.{heap_least}
 use Rattle.scope_tree.proofs.Heaps.{among_push}
+use Rattle.record_view.proofs.Codecs.{first_true}
 
 -- ---- a scope's deadline
 
@@ -252,14 +253,6 @@ waiting_hit hit s rows due was =
 abbrev pub waits_still : Scope → Bool
 waits_still row = is_some (own_deadline row.kind) && is_none row.hit
 
-both : (a b : Bool) → a ≡ true → b ≡ true → (a && b) ≡ true
-both true b x y = y
-both false b x y = absurd (false≢true x)
-
-first_of : (a b : Bool) → (a && b) ≡ true → a ≡ true
-first_of true b is = refl
-first_of false b is = absurd (false≢true is)
-
 none_is : {X : Type 0} (o : Option X) → o ≡ None → is_none o ≡ true
 none_is o none = ap is_none none
 
@@ -283,7 +276,7 @@ module _ (rows : List Scope) (old : List ℕ) (n : ℕ) (row : Scope)
       | inr is ↦ inr (
         is,
         subst IsSome (sym deadline_is)
-            (first_of (is_some (own_deadline row.kind)) (is_none row.hit) waits),
+            (first_true (is_some (own_deadline row.kind)) (is_none row.hit) waits),
       )
     ];
     waits = λ some none. same.there n (
@@ -300,7 +293,8 @@ module _ (rows : List Scope) (old : List ℕ) (n : ℕ) (row : Scope)
     kept = λ m among. among;
     only = λ m among. inl among;
     waits = λ some none. absurd (false≢true (sym waits
-        ∙ both (is_some (own_deadline row.kind)) (is_none row.hit) (subst IsSome deadline_is some)
+        ∙ and_from (is_some (own_deadline row.kind)) (is_none row.hit)
+        (subst IsSome deadline_is some)
         (none_is row.hit (sym (ap (option_and_then (λ r. r.hit)) found) ∙ none))));
   }
 

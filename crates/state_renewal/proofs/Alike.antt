@@ -4,10 +4,8 @@ use Rattle.run_model.proofs.Common.{ap, ◌∙◌, filter_map, option_map, group
 use Rattle.run_model.proofs.Common.{task_look_of, IsConsistent, AreOrdered, deadline_of, ending}
 use Rattle.run_model.proofs.Common.{line_within, text_under, upwards, value_of, State, is_admitted}
 use Rattle.run_model.proofs.Common.{phase_by, unfinished_in}
-use Rattle.run_model.specs.declared.answers.GroupLook.{GroupLook}
 use Rattle.run_model.specs.declared.answers.Look.{Look}
 use Rattle.run_model.specs.declared.answers.TaskLook.{TaskLook}
-use Rattle.run_model.specs.declared.groups.Group.{Group}
 use Rattle.run_model.specs.declared.scopes.Hit.{Hit}
 use Rattle.run_model.specs.declared.scopes.Scope.{Scope}
 use Rattle.run_model.specs.declared.tasks.Phase.{Phase}
@@ -20,6 +18,7 @@ use Rattle.state_renewal.proofs.Chains.{value_told}
 use Rattle.state_renewal.proofs.Goes.{Goes, hangs}
 use Rattle.state_renewal.proofs.RowsAnew.{anew_get, row_anew}
 use Rattle.state_renewal.proofs.Works.{admitted_anew, first_anew, unfinished_same}
+use Rattle.task_group.specs.Questions.{look_by}
 
 -- ---- scopes
 
@@ -78,25 +77,15 @@ values_alike part p ordered anew go s key is = by_row (slice_get p.tree.scopes s
 
 -- ---- groups and tasks
 
-abbrev group_look : ℕ → Group → GroupLook
-group_look unfinished row = record {
-  name = row.name;
-  scope = row.scope;
-  unfinished = unfinished;
-  limit = row.limit;
-  waited = row.waited;
-  error = row.error;
-}
-
 groups_alike : (part : Part) (p : State) → Goes part p → (g : ℕ) → part.groups g ≡ true
     → group_look_of (state_anew part p) (new_number part.groups g)
     ≡ option_map (group_look_anew part) (group_look_of p g)
 groups_alike part p go g is =
-    ap (λ k. option_map (group_look k)
+    ap (λ k. option_map (look_by k)
     (slice_get (state_anew part p).work.groups (new_number part.groups g)))
     (unfinished_same part p.work g go.work.tasks.each is)
-    ∙ row_anew (option_map (group_look unfinished))
-    (λ o. option_map (group_look_anew part) (option_map (group_look unfinished) o)) part.groups
+    ∙ row_anew (option_map (look_by unfinished))
+    (λ o. option_map (group_look_anew part) (option_map (look_by unfinished) o)) part.groups
     (group_anew part) p.work.groups g refl (λ row at. refl) is
   where
     unfinished : ℕ

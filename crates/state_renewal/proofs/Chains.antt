@@ -20,6 +20,7 @@ use Rattle.state_renewal.proofs.Numbers.{less_same, same_number}
 use Rattle.state_renewal.proofs.Keeps.{parent_there}
 use Rattle.state_renewal.proofs.Hangs.{AreBoth, ScopesHang}
 use Rattle.state_renewal.proofs.RowsAnew.{anew_get, test_anew}
+use Rattle.model_laws.proofs.Reaches.{before_all}
 
 -- The scopes that go on, told anew.
 abbrev pub scopes_anew : Part → List Scope → List Scope
@@ -98,16 +99,6 @@ cut_told part (r ∷ rows) = by_kind (is_detached r.1.kind) (cut_told part rows)
         ≡ map (told_at part) (cond b [] (r ∷ before_detached rows))
     by_kind true rest = refl
     by_kind false rest = ap (λ rs. told_at part r ∷ rs) rest
-
-cut_all : (P : (ℕ × Scope) → Type 0) (rows : List (ℕ × Scope)) → AllByRecursion P rows
-    → AllByRecursion P (before_detached rows)
-cut_all P [] all = tt
-cut_all P (r ∷ rows) all = by_kind (is_detached r.1.kind) (cut_all P rows all.1)
-  where
-    by_kind : (b : Bool) → AllByRecursion P (before_detached rows)
-        → AllByRecursion P (cond b [] (r ∷ before_detached rows))
-    by_kind true rest = tt
-    by_kind false rest = (all.0, rest)
 
 chain_told : (part : Part) (old : List Scope) (s : ℕ) → IsLineTold part old s
     → chain (scopes_anew part old) (new_number part.scopes s)
@@ -204,7 +195,7 @@ pub ending_told : (part : Part) (old : List Scope) (s : ℕ) → IsLineTold part
     → ending (scopes_anew part old) (new_number part.scopes s) ≡ ending old s
 ending_told part old s told =
     let rows = chain old s in
-    let all = cut_all (λ r. part.scopes r.0 ≡ true) (line old s) told.all in
+    let all = before_all (λ r. part.scopes r.0 ≡ true) (line old s) told.all in
     ap (λ rs. option_map (λ a. a.1) (least_hit (filter_map hit_at rs)))
     (chain_told part old s told)
     ∙ ap (λ hits. option_map (λ a. a.1) (least_hit hits)) (hits_told part rows)

@@ -3,7 +3,7 @@ use Rattle.run_model.proofs.Common.{◌≡◌, ◌⊎◌, ◌<◌, ◌+◌, ◌=
 use Rattle.run_model.proofs.Common.{not, List, length, take, Some, slice_get, inl, inr, refl, sym}
 use Rattle.run_model.proofs.Common.{ap, ◌∙◌, arith, list_any, slice_set, cases_eq, eq-eqb, ne_eqb}
 use Rattle.run_model.proofs.Common.{get_or-set_same, get_or-set_other, length-set}
-use Rattle.run_model.proofs.Common.{get_or_from_slice_get, slice_get_within}
+use Rattle.run_model.proofs.Common.{get_or_from_slice_get, slice_get_within, or-false, or-true}
 use Rattle.std.proofs.lemmas.List.Folds.{list_any_more}
 use Rattle.run_model.specs.declared.groups.Group.{Group}
 use Rattle.state_renewal.specs.Marks.{is_flagged}
@@ -18,14 +18,6 @@ pub record AreHosts (groups : List Group) (before : List Bool) (k : ℕ) (flags 
   pub size : length flags ≡ length before
   pub say : (s : ℕ)
       → is_flagged flags s ≡ (is_flagged before s || list_any (lives_in s) (take k groups))
-
-or_false : (b : Bool) → (b || false) ≡ b
-or_false true = refl
-or_false false = refl
-
-or_true : (b : Bool) → (b || true) ≡ true
-or_true true = refl
-or_true false = refl
 
 -- One more group passes the test where it does, or one before it did.
 one_more : (groups : List Group) (k s : ℕ) (row : Group) (b : Bool)
@@ -46,7 +38,7 @@ not_there : (groups : List Group) (before : List Bool) (k s : ℕ) (row : Group)
 not_there groups before k s row found is =
     ap (λ c. is_flagged before s || c)
     (sym (one_more groups k s row false found is
-    ∙ or_false (list_any (lives_in s) (take k groups))))
+    ∙ or-false (list_any (lives_in s) (take k groups))))
 
 waited_none : (w b : Bool) → w ≡ true → (not w && b) ≡ false
 waited_none true b is = refl
@@ -88,11 +80,11 @@ hosts_more groups before k flags row so found is known = record {
         let size = so.size in
         ap (is_flagged (slice_set flags row.scope true)) same
         ∙ get_or-set_same flags row.scope true false (omega (arith, known, size))
-        ∙ sym (or_true (is_flagged before s))
+        ∙ sym (or-true (is_flagged before s))
         ∙ ap (λ c. is_flagged before s || c)
         (sym (one_more groups k s row true found
         (lives_here row.waited (row.scope == s) is (eq-eqb row.scope s (sym same)))
-        ∙ or_true (list_any (lives_in s) (take k groups))))
+        ∙ or-true (list_any (lives_in s) (take k groups))))
     by_scope s (inr apart) =
         get_or-set_other flags row.scope s true false apart
         ∙ so.say s

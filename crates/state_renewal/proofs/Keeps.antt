@@ -6,18 +6,17 @@ use Rattle.run_model.proofs.Common.{range_with_len, filter_map, AllByRecursion, 
 use Rattle.run_model.proofs.Common.{option_map_or, and_parts, and_from, or_cases, eq-eqb, eqb-true}
 use Rattle.run_model.proofs.Common.{false≢true, same_Some, slice_get_within, none-some, root}
 use Rattle.run_model.proofs.Common.{HasRow, is_root, upwards, line_within, line, before_detached}
-use Rattle.run_model.proofs.Common.{hit_at, least_hit, is_done, AreOrdered, State}
-use Rattle.std.proofs.lemmas.Bool.{or_left, or_right}
+use Rattle.run_model.proofs.Common.{hit_at, least_hit, is_done, AreOrdered, State, or_left}
+use Rattle.run_model.proofs.Common.{or_right, row_there, any_passes_from_place}
 use Rattle.run_model.specs.declared.groups.Group.{Group}
 use Rattle.run_model.specs.declared.scopes.Scope.{Scope}
 use Rattle.run_model.specs.declared.tasks.Task.{Task}
 use Rattle.model_laws.specs.Hits.{is_on}
 use Rattle.model_laws.specs.Searches.{above}
 use Rattle.model_laws.proofs.Lines.{line_up}
-use Rattle.model_laws.proofs.FirstErrors.{any_found, found_any}
+use Rattle.model_laws.proofs.FirstErrors.{found_any}
 use Rattle.state_renewal.specs.Renewed.{hosts_unwaited, is_needed, scope_numbers, keeps_scope}
 use Rattle.state_renewal.specs.Renewed.{keeps_group, keeps_task}
-use Rattle.model_laws.proofs.Places.{row_there}
 
 -- ---- rows
 
@@ -118,7 +117,8 @@ line_passes rows ordered t s row found below on =
 pub needed_kept : (p : State) (s : ℕ) (row : Scope) → HasRow p.tree.scopes s row
     → is_needed p s ≡ true → keeps_scope p s ≡ true
 needed_kept p s row found is =
-    any_found (λ t. is_needed p t && is_on s (line p.tree.scopes t)) (scope_numbers p.tree) s s
+    any_passes_from_place (λ t. is_needed p t && is_on s (line p.tree.scopes t))
+    (scope_numbers p.tree) s s
     (number_get (length p.tree.scopes) s (slice_get_within p.tree.scopes s row found))
     (and_from (is_needed p s) (is_on s (line p.tree.scopes s)) is
     (line_self p.tree.scopes s row found))
@@ -138,7 +138,7 @@ parent_kept p s row ordered found below is =
     let by = found_any (λ t. is_needed p t && is_on s (line p.tree.scopes t))
     (scope_numbers p.tree) is in
     let parts = and_parts (is_needed p by.1) (is_on s (line p.tree.scopes by.1)) by.3 in
-    any_found (λ t. is_needed p t && is_on row.parent (line p.tree.scopes t))
+    any_passes_from_place (λ t. is_needed p t && is_on row.parent (line p.tree.scopes t))
     (scope_numbers p.tree) by.0 by.1 by.2
     (and_from (is_needed p by.1) (is_on row.parent (line p.tree.scopes by.1)) parts.0
     (line_passes p.tree.scopes ordered by.1 s row found below parts.1))
@@ -184,7 +184,8 @@ scope_kept p g row found within is =
         let scope = row_there p.tree.scopes row.scope within in
         needed_kept p row.scope scope.0 scope.1
         (or_right (not (is_done p.tree.scopes row.scope)) (hosts_unwaited p.work row.scope)
-        (any_found (λ group. not group.waited && group.scope == row.scope) p.work.groups g row
+        (any_passes_from_place (λ group. not group.waited && group.scope == row.scope)
+        p.work.groups g row
         found
         (and_from (not row.waited) (row.scope == row.scope) unwaited
         (eq-eqb row.scope row.scope refl))))

@@ -2,7 +2,7 @@
 use Rattle.run_model.proofs.Common.{◌≡◌, ◌⊎◌, ◌<◌, ◌≤◌, ℕ, true, false, List, length, Option, Some}
 use Rattle.run_model.proofs.Common.{None, inl, inr, refl, sym, ap, subst, ◌∙◌, is_some, both_ways}
 use Rattle.run_model.proofs.Common.{cases_lt, false≢true, true_from_ne_false, Event, IsConsistent}
-use Rattle.run_model.proofs.Common.{ending, is_done, State}
+use Rattle.run_model.proofs.Common.{ending, is_done, State, row_there}
 use Rattle.run_model.specs.declared.scopes.Hit.{Hit}
 use Rattle.model_laws.proofs.Stays.{endings_run}
 use Rattle.model_laws.proofs.WellFormed.{well_formed_consistent}
@@ -13,7 +13,6 @@ use Rattle.state_renewal.specs.GoingOn.{GoesOn, going_on}
 use Rattle.state_renewal.proofs.Begins.{begins}
 use Rattle.state_renewal.proofs.Goes.{goes_before, goes_first, goes_later}
 use Rattle.state_renewal.proofs.Runs.{Both, IsLed, led}
-use Rattle.model_laws.proofs.Places.{row_there}
 
 both_first : (p : State) → IsConsistent p → Both (going_on p) p
 both_first p consistent = record {

@@ -3,7 +3,7 @@ use Rattle.run_model.proofs.Common.{◌≡◌, ◌+◌, ◌<◌, ◌||◌, ℕ, 
 use Rattle.run_model.proofs.Common.{List, [], ◌∷◌, ◌++◌, length, map, take, Option, Some, None}
 use Rattle.run_model.proofs.Common.{slice_get, refl, sym, ap, ◌∙◌, arith, list_any, range_with_len}
 use Rattle.run_model.proofs.Common.{option_map, option_or, count_by, if◌then◌else◌, is_some}
-use Rattle.run_model.proofs.Common.{take_all}
+use Rattle.run_model.proofs.Common.{take_all, map-append}
 use Rattle.std.specs.List.{filter, find}
 use Rattle.std.proofs.lemmas.List.Elements.{filter-append}
 use Rattle.std.proofs.lemmas.List.Folds.{find-append}
@@ -38,10 +38,6 @@ passes_less goes test new_test n pass = record {
   on = λ k less. pass.on k (omega (arith, less));
   gone = λ k less. pass.gone k (omega (arith, less));
 }
-
-map_append : (f : ℕ → ℕ) (xs ys : List ℕ) → map f (xs ++ ys) ≡ map f xs ++ map f ys
-map_append f [] ys = refl
-map_append f (x ∷ xs) ys = ap (λ zs. f x ∷ zs) (map_append f xs ys)
 
 append_none : (xs : List ℕ) → xs ++ [] ≡ xs
 append_none [] = refl
@@ -81,7 +77,7 @@ picks_anew goes test new_test (suc n) pass =
         ++ cond b (new ∷ []) []) (pass.on n (omega arith) is)
         ∙ ap (λ ns. map (new_number goes) (filter test (range_with_len 0 n)) ++ ns)
         (last (test n))
-        ∙ sym (map_append (new_number goes) (filter test (range_with_len 0 n))
+        ∙ sym (map-append (new_number goes) (filter test (range_with_len 0 n))
         (cond (test n) (n ∷ []) []))
         ∙ ap (map (new_number goes)) (sym was)
     by_last false is before =

@@ -5,15 +5,16 @@ use Rattle.run_model.proofs.Common.{inl, inr, refl, sym, ap, subst, ◌∙◌, a
 use Rattle.run_model.proofs.Common.{slice_set, and_parts, and_from, or_cases, eqb-true, false≢true}
 use Rattle.run_model.proofs.Common.{cases_eq, get_or-set_same, get_or-set_other, get_or_past}
 use Rattle.run_model.proofs.Common.{length-set, slice_get_within, same_Some, is_root, upwards}
-use Rattle.run_model.proofs.Common.{line_within, line, AreOrdered}
+use Rattle.run_model.proofs.Common.{line_within, line, AreOrdered, row_there}
+use Rattle.run_model.proofs.Common.{any_passes_from_place}
 use Rattle.run_model.specs.declared.scopes.Scope.{Scope}
 use Rattle.model_laws.specs.Hits.{is_on}
 use Rattle.model_laws.specs.Searches.{above}
 use Rattle.model_laws.proofs.Lines.{line_up}
-use Rattle.model_laws.proofs.FirstErrors.{any_found, found_any}
+use Rattle.model_laws.proofs.FirstErrors.{found_any}
 use Rattle.state_renewal.specs.Marks.{is_flagged, is_above_flagged}
 use Rattle.state_renewal.proofs.Keeps.{number_get, line_self, line_passes}
-use Rattle.model_laws.proofs.Places.{row_there}
+use Rattle.task_group.proofs.Admits.{same_test}
 
 -- The last k scopes raised their flags.
 pub record AreRaised (rows : List Scope) (before : List Bool) (k : ℕ) (flags : List Bool)
@@ -43,7 +44,8 @@ above_from : (rows : List Scope) (before : List Bool) (t s : ℕ) → t < length
     → is_flagged before t ≡ true → is_on s (line rows t) ≡ true
     → is_above_flagged rows before s ≡ true
 above_from rows before t s within is on =
-    any_found (λ u. is_flagged before u && is_on s (line rows u)) (range_with_len 0 (length rows))
+    any_passes_from_place (λ u. is_flagged before u && is_on s (line rows u))
+    (range_with_len 0 (length rows))
     t t (number_get (length rows) t within)
     (and_from (is_flagged before t) (is_on s (line rows t)) is on)
 
@@ -54,7 +56,7 @@ parent_above rows before s row ordered found below is =
     let by = found_any (λ t. is_flagged before t && is_on s (line rows t))
     (range_with_len 0 (length rows)) is in
     let parts = and_parts (is_flagged before by.1) (is_on s (line rows by.1)) by.3 in
-    any_found (λ t. is_flagged before t && is_on row.parent (line rows t))
+    any_passes_from_place (λ t. is_flagged before t && is_on row.parent (line rows t))
     (range_with_len 0 (length rows)) by.0 by.1 by.2
     (and_from (is_flagged before by.1) (is_on row.parent (line rows by.1)) parts.0
     (line_passes rows ordered by.1 s row found below parts.1))
@@ -172,16 +174,11 @@ up_line rows flags ordered closed (suc most) t s (Some row) at less is on =
     (let lower = ordered t row at below in omega (arith, less, lower))
     (closed t row at below is) behind)
 
-both_same : (a b : Bool) → (a ≡ true → b ≡ true) → (b ≡ true → a ≡ true) → a ≡ b
-both_same true b forth back = sym (forth refl)
-both_same false true forth back = back refl
-both_same false false forth back = refl
-
 pub raised_all : (rows : List Scope) (before : List Bool) (k : ℕ) (flags : List Bool)
     → AreOrdered rows → AreRaised rows before k flags → length rows ≤ k → (s : ℕ)
     → is_flagged flags s ≡ is_above_flagged rows before s
 raised_all rows before k flags ordered so all s =
-    both_same (is_flagged flags s) (is_above_flagged rows before s) (so.right s)
+    same_test (is_flagged flags s) (is_above_flagged rows before s) (so.right s)
     (λ is.
     let by = found_any (λ t. is_flagged before t && is_on s (line rows t))
     (range_with_len 0 (length rows)) is in

@@ -5,6 +5,7 @@ use Rattle.run_model.proofs.Common.{Option, None, option_map, option_map_or, len
 use Rattle.run_model.proofs.Common.{slice_get-map, at_row}
 use Rattle.state_renewal.specs.Renewed.{in_front_if, kept, new_number, one_more_if, rows_anew}
 use Rattle.state_renewal.proofs.Numbers.{length-kept, number_behind, kept_get}
+use Rattle.std.proofs.lemmas.List.{map_push}
 
 -- ---- a row at the end
 
@@ -19,11 +20,6 @@ kept_push goes [] row is = ap (λ b. in_front_if b row []) is
 kept_push goes (r ∷ rows) row is =
     ap (in_front_if (goes zero) r) (kept_push (λ n. goes (suc n)) rows row is)
     ∙ front_push (goes zero) r (kept (λ n. goes (suc n)) rows) row
-
-map_push : {X Y : Type 0} (f : X → Y) (rows : List X) (row : X)
-    → map f (rows ++ row ∷ []) ≡ map f rows ++ f row ∷ []
-map_push f [] row = refl
-map_push f (r ∷ rows) row = ap (λ rs. f r ∷ rs) (map_push f rows row)
 
 pub anew_push : {X : Type 0} (goes : ℕ → Bool) (tell : X → X) (rows : List X) (row : X)
     → goes (length rows) ≡ true

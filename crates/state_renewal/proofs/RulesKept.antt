@@ -19,8 +19,8 @@ use Rattle.state_renewal.proofs.Keeps.{task_is_kept}
 use Rattle.state_renewal.proofs.Chains.{kind_anew}
 use Rattle.state_renewal.proofs.Works.{admitted_anew, group_stays, task_error_same, task_stays}
 use Rattle.state_renewal.proofs.Works.{unfinished_same}
-use Rattle.model_laws.proofs.Places.{row_there}
 use Rattle.state_renewal.proofs.RowsAnew.{row_anew}
+use Rattle.run_model.proofs.RowLemmas.{row_there}
 
 -- ---- where a new row comes from
 

@@ -23,8 +23,8 @@ use Rattle.state_renewal.proofs.Stays.{kept_both}
 use Rattle.state_renewal.proofs.Chains.{AllGo, both_lines, done_anew, told_at}
 use Rattle.state_renewal.proofs.PassAnew.{any_anew, some_anew}
 use Rattle.state_renewal.proofs.RowsAnew.{anew_get, kept_map, length-anew}
-use Rattle.model_laws.proofs.Places.{row_there}
 use Rattle.model_laws.proofs.FirstErrors.{found_any}
+use Rattle.run_model.proofs.RowLemmas.{row_there}
 
 -- ---- rows that are kept of those that go on
 

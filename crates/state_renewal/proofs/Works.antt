@@ -9,7 +9,7 @@ use Rattle.run_model.proofs.Common.{has_task_error, HasRow, State, WorkState, ad
 use Rattle.run_model.proofs.Common.{is_admitted, is_fresh, is_ready, is_retried, is_retry_of}
 use Rattle.run_model.proofs.Common.{is_running, is_unfinished, ended_in_error, limit_of, phase_by}
 use Rattle.run_model.proofs.Common.{phase_of, running_tasks, unfinished_in, has_stage}
-use Rattle.run_model.proofs.Common.{group_of_task}
+use Rattle.run_model.proofs.Common.{group_of_task, row_there}
 use Rattle.std.specs.List.{filter, find}
 use Rattle.run_model.specs.declared.groups.Group.{Group}
 use Rattle.run_model.specs.declared.tasks.Stage.{Stage}
@@ -22,7 +22,6 @@ use Rattle.state_renewal.proofs.Hangs.{TasksHang, WorkHangs}
 use Rattle.state_renewal.proofs.PassAnew.{PassesAnew, RowsPass, any_anew, count_all_anew}
 use Rattle.state_renewal.proofs.PassAnew.{count_anew, find_anew, picks_anew}
 use Rattle.state_renewal.proofs.RowsAnew.{length-anew, row_anew, test_anew}
-use Rattle.model_laws.proofs.Places.{row_there}
 use Rattle.model_laws.proofs.Tests.{passing, fresh_stage}
 
 -- ---- groups

@@ -2,7 +2,7 @@
 use Rattle.run_model.proofs.Common.{◌≡◌, ◌≢◌, ◌<◌, ◌&&◌, List, ℕ, Bool, true, false, cond, length}
 use Rattle.run_model.proofs.Common.{Option, Some, None, slice_get, refl, sym, ap, subst, ◌∙◌}
 use Rattle.run_model.proofs.Common.{arith, option_map, option_map_or, phase_by, group_of_task}
-use Rattle.run_model.proofs.Common.{is_fresh}
+use Rattle.run_model.proofs.Common.{is_fresh, slice_get-push_last}
 use Rattle.run_model.specs.declared.tasks.Phase.{Phase}
 use Rattle.run_model.specs.declared.tasks.Phase.TheVariants as phase
 use Rattle.run_model.specs.declared.tasks.Stage.{Stage}
@@ -16,7 +16,7 @@ use Rattle.task_group.proofs.Words.{Work, is_admitted, is_held, fresh_task, subm
 use Rattle.task_group.proofs.Admits.{held_is, is_held_from, ready_at}
 use Rattle.task_group.proofs.Bridges.{phase_same}
 use Rattle.task_group.proofs.Ends.{Ends, Stays, oldest_admitted, task_there}
-use Rattle.task_group.proofs.Starts.{go_new, slice_get_end}
+use Rattle.task_group.proofs.Starts.{go_new}
 use Rattle.task_group.proofs.Leaves.{Oldest, calm_stays, oldest_stays, calm_from, oldest_from}
 
 phase_at : (w : Work) (n : ℕ) (t : Task) → slice_get w.tasks n ≡ Some t
@@ -175,7 +175,7 @@ pub new_phase : (w : Work) (g : ℕ) (job argument : List ℕ) (tried : Option �
 new_phase w g job argument tried =
     let v = submitted g job argument tried w in
     let row = fresh_task g job argument tried in
-    let found : slice_get v.tasks (length w.tasks) ≡ Some row = slice_get_end w.tasks row in
+    let found : slice_get v.tasks (length w.tasks) ≡ Some row = slice_get-push_last w.tasks row in
     phase_at v (length w.tasks) row found
     ∙ ap (λ b. Some (cond b phase.Ready phase.Held))
     (sym (ready_at v (length w.tasks) row found) ∙ (go_new w g job argument tried).0)

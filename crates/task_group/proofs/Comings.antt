@@ -5,7 +5,7 @@ use Rattle.run_model.proofs.Common.{sym, ap, subst, ◌∙◌, arith, ◌==◌, 
 use Rattle.run_model.proofs.Common.{cases_eq, cases_lt, length-append, take-append-le}
 use Rattle.run_model.proofs.Common.{sum_by-append, most_tasks, new_task, admits, at_row, is_fresh}
 use Rattle.run_model.proofs.Common.{is_running, is_unfinished, running_count, unfinished_in}
-use Rattle.run_model.proofs.Common.{with_stage}
+use Rattle.run_model.proofs.Common.{with_stage, and-false, slice_get-push_last, length-at_row}
 use Rattle.std.proofs.Common.{zero-add}
 use Rattle.run_model.specs.declared.groups.Group.{Group}
 use Rattle.run_model.specs.declared.tasks.Stage.{Stage}
@@ -18,13 +18,13 @@ use Rattle.task_group.specs.Kept.{Kept, SeatsOf, entered, linked}
 use Rattle.task_group.specs.Sound.{AreKept}
 use Rattle.task_group.proofs.Admits.{is_of, eqb_same, eqb_apart, ended_not_fresh, held_none}
 use Rattle.task_group.proofs.Admits.{ready_none, running_not_fresh, running_unfinished}
-use Rattle.task_group.proofs.Ends.{Stays, neither, same_admission, and_false}
+use Rattle.task_group.proofs.Ends.{Stays, neither, same_admission}
 use Rattle.task_group.proofs.Flaggings.{flagged_pushed, flagged_staged, ended_rests}
 use Rattle.task_group.proofs.Keeping.{go_keeps}
 use Rattle.task_group.proofs.Moves.{none_past, whole}
 use Rattle.task_group.proofs.Queued.{queued_same}
-use Rattle.task_group.proofs.Ranks.{rank, at_row_length}
-use Rattle.task_group.proofs.Starts.{slice_get_left, slice_get_end, pushed_row, changed_row}
+use Rattle.task_group.proofs.Ranks.{rank}
+use Rattle.task_group.proofs.Starts.{slice_get_left, pushed_row, changed_row}
 use Rattle.task_group.proofs.Tests.{next_same, last_same}
 use Rattle.task_group.proofs.Words.{Work, IsSound, is_held, limit_of}
 
@@ -95,7 +95,7 @@ all_stay w x e m =
           elim (cases_eq m (length w.tasks)) [
             | inl same ↦
                 let found : slice_get (w.tasks ++ x ∷ []) m ≡ Some x =
-                ap (slice_get (w.tasks ++ x ∷ [])) same ∙ slice_get_end w.tasks x in
+                ap (slice_get (w.tasks ++ x ∷ [])) same ∙ slice_get-push_last w.tasks x in
                 let now = neither (with_task x w) m x found e in
                 let before = none_past w m ge in
                 record { ready = now.0 ∙ sym before.0; held = λ k. now.1 k ∙ sym (before.1 k) }
@@ -250,7 +250,7 @@ ended_comes w x seats next ready count flags ended known room link k =
           kept_with w x seats seats next e
           (sound_with w x known room (λ run. absurd cc) k.seated.sound) k.seated.as_groups
           (λ g s found.
-          seats_stay w x g s e (rw ended (and_false (x.group == g))) (k.seated.right g s found))
+          seats_stay w x g s e (rw ended (and-false (x.group == g))) (k.seated.right g s found))
           k.seated;
       queued = queued_same w (with_task x w) ready refl (λ m. (all_stay w x e m).ready) k.queued;
       running =
@@ -274,7 +274,7 @@ running_comes w x seats next ready count flags run ok known room link k =
       seated =
           kept_with w x seats (at_row (entered true (length w.tasks)) x.group seats) next e
           (sound_with w x known room (λ _. ok) k.seated.sound)
-          (at_row_length (entered true (length w.tasks)) x.group seats ∙ k.seated.as_groups)
+          (length-at_row (entered true (length w.tasks)) x.group seats ∙ k.seated.as_groups)
           (λ g s found.
           elim (changed_row (entered true (length w.tasks)) x.group seats g s found) [
             | inl other ↦

@@ -3,7 +3,7 @@ use Rattle.run_model.proofs.Common.{◌≡◌, ◌<◌, ◌≤◌, ◌+◌, ◌�
 use Rattle.run_model.proofs.Common.{Bool, true, false, List, length, take, Some, slice_get, refl}
 use Rattle.run_model.proofs.Common.{sym, ap, ◌∙◌, arith, ◌==◌, list_any, option_map, sum_by-cons}
 use Rattle.run_model.proofs.Common.{at_row, is_fresh, is_running, is_unfinished, running_count}
-use Rattle.run_model.proofs.Common.{with_stage}
+use Rattle.run_model.proofs.Common.{with_stage, or-false}
 use Rattle.run_model.specs.declared.tasks.Stage.{Stage}
 use Rattle.run_model.specs.declared.tasks.Stage.TheVariants as stage
 use Rattle.run_model.specs.declared.tasks.Task.{Task}
@@ -136,10 +136,6 @@ to_none (suc n) (row ∷ rows) le =
 
 -- ---- a row more
 
-or_false : (a : Bool) → (a || false) ≡ a
-or_false true = refl
-or_false false = refl
-
 or_more : (a b c : Bool) → (a || (b || c)) ≡ ((a || b) || c)
 or_more true b c = refl
 or_more false b c = refl
@@ -148,7 +144,7 @@ pub any_over : (p : Task → Bool) (n : ℕ) (rows : List Task) (t : Task) → s
     → list_any p (take (suc n) rows) ≡ (list_any p (take n rows) || p t)
 any_over p n [] t found = absurd cc
 any_over p zero (row ∷ rows) t found =
-    let is : row ≡ t = cc in or_false (p row) ∙ ap p is
+    let is : row ≡ t = cc in or-false (p row) ∙ ap p is
 any_over p (suc n) (row ∷ rows) t found =
     ap (λ (b : Bool). p row || b) (any_over p n rows t found)
     ∙ or_more (p row) (list_any p (take n rows)) (p t)

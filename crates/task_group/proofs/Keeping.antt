@@ -3,7 +3,7 @@ use Rattle.run_model.proofs.Common.{◌≡◌, ◌+◌, ◌-◌, ◌<◌, ◌≤
 use Rattle.run_model.proofs.Common.{List, length, Option, Some, slice_get, refl, sym, ap, ◌∙◌}
 use Rattle.run_model.proofs.Common.{arith, slice_set, IfSome, option_map_or, slice_get_within}
 use Rattle.run_model.proofs.Common.{most_tasks, is_running, after_wait, admits, unfinished_in}
-use Rattle.run_model.proofs.Common.{at_row, has_stage}
+use Rattle.run_model.proofs.Common.{at_row, has_stage, row_there}
 use Rattle.run_model.specs.declared.bounds.TheConstants.{MOST_GROUPS}
 use Rattle.run_model.specs.declared.groups.Group.{Group}
 use Rattle.run_model.specs.declared.tasks.Stage.TheVariants as stage
@@ -24,7 +24,7 @@ use Rattle.task_group.proofs.Limits.{limit_kept, limit_stays}
 use Rattle.task_group.proofs.Makes.{make_kept, made_stays}
 use Rattle.task_group.proofs.Moves.{go_kept}
 use Rattle.task_group.proofs.Queued.{queued_same, queued_go, queued_start, queued_end}
-use Rattle.task_group.proofs.Rooms.{its_end, lets_in, row_found}
+use Rattle.task_group.proofs.Rooms.{its_end, lets_in}
 use Rattle.task_group.proofs.Starts.{Starts, finish_sound, groups_length}
 use Rattle.task_group.proofs.Waits.{wait_kept, wait_stays}
 
@@ -125,7 +125,7 @@ end_keeps w n o t seats next ready count flags r k run found first =
     let e = its_end w n o t k.seated.sound run found in
     let known : t.group < length seats =
     (let g = k.seated.sound.grouped n t found in let size = k.seated.as_groups in omega arith) in
-    let s = row_found seats t.group known in
+    let s = row_there seats t.group known in
     let right = k.seated.right t.group s.0 s.1 in
     let less = running_less o.stage n w.tasks t found (runs_now w n t run found)
     (ended_rests o.stage o.done) in
@@ -148,6 +148,6 @@ pub end_admits_oldest : (w : Work) (n : ℕ) (o : End) (t : Task) (seats : List 
 end_admits_oldest w n o t seats next kept run found =
     let known : t.group < length seats =
     (let g = kept.sound.grouped n t found in let size = kept.as_groups in omega arith) in
-    let s = row_found seats t.group known in
+    let s = row_there seats t.group known in
     end_admits w (finished n o w) n t (stage_after o) s.0 (its_end w n o t kept.sound run found)
     (kept.right t.group s.0 s.1)

@@ -3,7 +3,7 @@ use Rattle.run_model.proofs.Common.{◌≡◌, ◌++◌, ◌∷◌, [], ℕ, tru
 use Rattle.run_model.proofs.Common.{slice_get, inl, inr, refl, sym, ap, ◌∙◌, option_and_then}
 use Rattle.run_model.proofs.Common.{option_map, option_or, cases_eq, slice_get_within, at_row}
 use Rattle.run_model.proofs.Common.{WorkState, is_running, is_unfinished, after_wait, groups_after}
-use Rattle.run_model.proofs.Common.{with_error, with_stage, with_wait}
+use Rattle.run_model.proofs.Common.{with_error, with_stage, with_wait, slice_get-at_row_same}
 use Rattle.run_model.specs.declared.groups.Group.{Group}
 use Rattle.run_model.specs.declared.tasks.Stage.{Stage}
 use Rattle.run_model.specs.declared.tasks.Stage.TheVariants as stage
@@ -11,8 +11,9 @@ use Rattle.run_model.specs.declared.tasks.Task.{Task}
 use Rattle.task_group.specs.Lasting.{EndsStay}
 use Rattle.task_group.proofs.Words.{End, finished, limited, made, started, submitted, fresh_task}
 use Rattle.task_group.proofs.Words.{group_of}
-use Rattle.task_group.proofs.Ranks.{at_row_here, at_row_there}
+use Rattle.task_group.proofs.Ranks.{at_row_there}
 use Rattle.task_group.proofs.Starts.{slice_get_left}
+use Rattle.task_group.proofs.Admits.{running_unfinished}
 
 pub stay_all : (w : WorkState) → EndsStay w w
 stay_all w = record { tasks = λ n row found done. found; errors = λ g text is. is }
@@ -48,7 +49,7 @@ errors_at change h groups keeps g text is =
       | inl same ↦
           rw same
           (ap (λ (o : Option Group). option_and_then (λ group. group.error) o)
-          (at_row_here change h groups
+          (slice_get-at_row_same change h groups
           ∙ ap (option_map change) (ap (slice_get groups) (sym same) ∙ row.1))
           ∙ keeps row.0 text row.2)
       | inr apart ↦
@@ -116,13 +117,6 @@ stay_go w g job argument tried = record {
   errors = λ h text is. is;
 }
 
-unfinished_running : (s : Stage) → is_running s ≡ true → is_unfinished s ≡ true
-unfinished_running stage.Fresh e = refl
-unfinished_running stage.Running e = refl
-unfinished_running stage.Success e = absurd cc
-unfinished_running (stage.Failure text) e = absurd cc
-unfinished_running stage.Interrupted e = absurd cc
-
 pub stay_start : (w : WorkState) (n : ℕ) (t : Task) → slice_get w.tasks n ≡ Some t
     → is_unfinished t.stage ≡ true → EndsStay w (started n w)
 stay_start w n t here going = record {
@@ -148,6 +142,6 @@ pub stay_end : (w : WorkState) (n : ℕ) (o : End) (t : Task) → slice_get w.ta
 stay_end w n o t here run = record {
   tasks =
       λ m row found done.
-      tasks_at o.stage n w.tasks t here (unfinished_running t.stage run) m row found done;
+      tasks_at o.stage n w.tasks t here (running_unfinished t.stage run) m row found done;
   errors = λ g text is. errors_after o.error (group_of w n) w.groups g text is;
 }

@@ -4,12 +4,12 @@ use Rattle.run_model.proofs.Common.{◌∷◌, ◌++◌, length, take, get_or, r
 use Rattle.run_model.proofs.Common.{inl, inr, ◌==◌, slice_index_or, slice_set, replicate, list_any}
 use Rattle.run_model.proofs.Common.{cases_eq, get_or-set_same, get_or-set_other, length-set}
 use Rattle.run_model.proofs.Common.{length-replicate, take_all, list_any-append, ended_in_error}
+use Rattle.run_model.proofs.Common.{and-false, or-false, or-true}
 use Rattle.std.proofs.Math.Seq.{take-suc}
 use Rattle.std.proofs.lemmas.List.{get_or-replicate}
 use Rattle.run_model.specs.declared.bounds.TheConstants.{MOST_GROUPS}
 use Rattle.run_model.specs.declared.tasks.Task.{Task}
 use Rattle.task_group.proofs.Admits.{eqb_same, eqb_apart}
-use Rattle.task_group.proofs.Ends.{and_false}
 
 abbrev pub is_loss : ℕ → Task → Bool
 is_loss g task = task.group == g && ended_in_error task.stage
@@ -26,14 +26,6 @@ lost_first tasks = record {
   right = λ g within. get_or-replicate MOST_GROUPS g false false within;
 }
 
-or_false : (b : Bool) → (b || false) ≡ b
-or_false true = refl
-or_false false = refl
-
-or_true : (b : Bool) → (b || true) ≡ true
-or_true true = refl
-or_true false = refl
-
 any_more : (g k : ℕ) (tasks : List Task) (row : Task) → k < length tasks
     → row ≡ get_or tasks k row
     → list_any (is_loss g) (take (k + 1) tasks)
@@ -43,7 +35,7 @@ any_more g k tasks row less is =
     (ap (λ m. take m tasks) (add-one k) ∙ take-suc tasks k row less
     ∙ ap (λ r. take k tasks ++ r ∷ []) (sym is))
     ∙ list_any-append (is_loss g) (take k tasks) (row ∷ [])
-    ∙ ap (λ b. list_any (is_loss g) (take k tasks) || b) (or_false (is_loss g row))
+    ∙ ap (λ b. list_any (is_loss g) (take k tasks) || b) (or-false (is_loss g row))
 
 pub lost_same : (tasks : List Task) (k : ℕ) (lost : List Bool) (row : Task)
     → AreLost tasks k lost → k < length tasks → row ≡ get_or tasks k row
@@ -55,8 +47,8 @@ lost_same tasks k lost row so less is ended = record {
       ∙ sym
       (any_more g k tasks row less is
       ∙ ap (λ b. list_any (is_loss g) (take k tasks) || b)
-      (rw ended (and_false (row.group == g)))
-      ∙ or_false _);
+      (rw ended (and-false (row.group == g)))
+      ∙ or-false _);
 }
 
 pub lost_more : (tasks : List Task) (k : ℕ) (lost : List Bool) (row : Task)
@@ -74,14 +66,14 @@ lost_more tasks k lost row so less is ended there = record {
             (any_more g k tasks row less is
             ∙ ap (λ b. list_any (is_loss g) (take k tasks) || b)
             (rw (eqb_same row.group g (sym same), ended) refl)
-            ∙ or_true _)
+            ∙ or-true _)
         | inr apart ↦
             get_or-set_other lost row.group g true false apart ∙ so.right g within
             ∙ sym
             (any_more g k tasks row less is
             ∙ ap (λ b. list_any (is_loss g) (take k tasks) || b)
             (rw (eqb_apart row.group g (λ e. apart (sym e))) refl)
-            ∙ or_false _)
+            ∙ or-false _)
       ];
 }
 

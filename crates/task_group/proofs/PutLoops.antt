@@ -1,19 +1,12 @@
 -- Rows that were put so far, one after the other, each of at most so many bytes.
 use Rattle.run_model.proofs.Common.{◌≡◌, ◌<◌, ◌≤◌, ℕ, zero, suc, ◌+◌, ◌*◌, List, [], ◌∷◌, ◌++◌}
-use Rattle.run_model.proofs.Common.{length, take, drop, Bool, get_or, refl, sym, ap, ◌∙◌, subst}
-use Rattle.run_model.proofs.Common.{arith, length-append, add-one, IsTrue, flat_map}
-use Rattle.run_model.proofs.Common.{AllByRecursion, flat_map-append, append-nil, take-append-drop}
-use Rattle.run_model.proofs.Common.{take_all}
+use Rattle.run_model.proofs.Common.{length, take, Bool, get_or, refl, sym, ap, ◌∙◌, subst, arith}
+use Rattle.run_model.proofs.Common.{length-append, add-one, IsTrue, flat_map, AllByRecursion}
+use Rattle.run_model.proofs.Common.{flat_map-append, append-nil, take_all}
 use Rattle.std.proofs.Math.Nat.{mul-le-mul_left}
 use Rattle.std.proofs.Math.Seq.{take-suc}
 use Rattle.record_view.specs.Writing.{put_at}
-use Rattle.record_view.proofs.Joins.{put_then}
-
-put_nothing : (old : List ℕ) (at : ℕ) → old ≡ put_at old at []
-unfolding put_at
-put_nothing old at =
-    sym (ap (λ l. l ++ drop (at + 0) old) (append-nil (take at old))
-    ∙ ap (λ n. take at old ++ drop n old) (omega arith) ∙ take-append-drop at old)
+use Rattle.record_view.proofs.Joins.{put_then, put_nothing}
 
 taken_few : {X : Type 0} (n : ℕ) (rows : List X) → length (take n rows) ≤ length rows
 taken_few zero rows = omega arith

@@ -1,12 +1,12 @@
 use Rattle.run_model.proofs.Common.{option_copied, is_group_kind, can_be_hit}
 use Rattle.scope_tree.proofs.Events.{alike_again}
-use Rattle.scope_tree.proofs.Keeping.{group_can}
 use Rattle.scope_tree.proofs.Passing.{kind_implied}
 use Rattle.scope_tree.proofs.trees.Tree.hit_group.Goals as goal
+use Rattle.model_laws.proofs.Tests.{group_kind_hit}
 
 pub cancel_scope-requires-clause-can : goal.cancel_scope-requires-clause-can
 cancel_scope-requires-clause-can g c =
-    kind_implied is_group_kind can_be_hit c.args.self.now c.args.s group_can c.requires.group
+    kind_implied is_group_kind can_be_hit c.args.self.now c.args.s group_kind_hit c.requires.group
 
 pub returns-clause-again : goal.returns-clause-again
 returns-clause-again g c =

@@ -1,6 +1,5 @@
-use Rattle.run_model.proofs.Common.{◌<◌, ◌≤◌, length, sym, ap, ◌∙◌, arith, WorkState}
+use Rattle.run_model.proofs.Common.{◌<◌, ◌≤◌, length, sym, ap, ◌∙◌, arith, WorkState, row_there}
 use Rattle.record_view.specs.WorkRows.{is_settled}
-use Rattle.task_group.proofs.Rooms.{row_found}
 use Rattle.task_group.proofs.Settling.{passes_on, fails_at, passes_end}
 use Rattle.task_group.proofs.groups.Groups.are_settled.Goals as goal
 
@@ -10,7 +9,7 @@ loop-g-preserved g c =
     let same = ap (λ (u : WorkState). length u.groups) c.self.view_is in
     let less : c.loop-g.g < length w.groups =
     omega (arith, same, c.loop-g-test.true, c.len-g-end.ensures) in
-    let row = row_found w.groups c.loop-g.g less in
+    let row = row_there w.groups c.loop-g.g less in
     passes_on (is_settled w) c.loop-g.g w.groups row.0 row.1
     (sym (c.is_settled.ensures row.0 row.1) ∙ c.if-not-is_settled.false) ∙ c.loop-g.invariant
 
@@ -20,7 +19,7 @@ returns-then-not-is_settled g c =
     let same = ap (λ (u : WorkState). length u.groups) c.self.view_is in
     let less : c.loop-g.g < length w.groups =
     omega (arith, same, c.loop-g-test.true, c.len-g-end.ensures) in
-    let row = row_found w.groups c.loop-g.g less in
+    let row = row_there w.groups c.loop-g.g less in
     sym
     (fails_at (is_settled w) c.loop-g.g w.groups row.0 row.1
     (sym (c.is_settled.ensures row.0 row.1) ∙ c.if-not-is_settled.true))
