@@ -19,8 +19,8 @@ use Rattle.record_view.specs.WorkRows.{AreWorkRows}
 use Rattle.record_view.specs.Writing.{put_at}
 use Rattle.record_view.proofs.Joins.{put_then}
 use Rattle.scope_tree.specs.TreeRows.{tree_at}
-use Rattle.image_laws.specs.Whole.{image_at, whole}
-use Rattle.image_laws.proofs.WholeReads.{image_again}
+use Rattle.scope_tree.specs.Whole.{image_at, whole}
+use Rattle.scope_tree.proofs.WholeReads.{image_again}
 use Rattle.record_view.proofs.WorkReads.{nothing_read, work_again}
 use Rattle.run_model.proofs.Common.{and_from}
 

@@ -16,7 +16,7 @@ ghost use Rattle.record_view.specs.declared.heads.ImageVersion.{ImageVersion};
 ghost use Rattle.record_view.specs.declared.heads.ImageVersion.TheVariants.{Two};
 ghost use Rattle.record_view.specs.Image.{image};
 ghost use Rattle.record_view.specs.Keeping.{IsInRange, IsImage};
-ghost use Rattle.image_laws.specs.Ranges.{has_ranges, HaveRanges};
+ghost use Rattle.scope_tree.specs.Ranges.{has_ranges, HaveRanges};
 
 /// A state of a layout that keeps the seven rules, and whose fields are in range, has an image of
 /// version 2 there.

@@ -11,9 +11,9 @@ use Rattle.record_view.proofs.ImageLengths.{image_most}
 use Rattle.model_laws.proofs.LayoutStays.{layout_after, layout_run}
 use Rattle.model_laws.proofs.Starting.{formatted_consistent}
 use Rattle.model_laws.proofs.StateSteps.{event_keeps, run_keeps}
-use Rattle.image_laws.specs.Ranges.{has_ranges, HaveRanges}
-use Rattle.image_laws.proofs.EventRanges.{typed_after, typed_run}
-use Rattle.image_laws.proofs.StateRanges.{ranged_of, typed_of}
+use Rattle.scope_tree.specs.Ranges.{has_ranges, HaveRanges}
+use Rattle.scope_tree.proofs.EventRanges.{typed_after, typed_run}
+use Rattle.scope_tree.proofs.StateRanges.{ranged_of, typed_of}
 
 pub image_of : (layout : Layout) (p : State) → HasLayout p layout → IsConsistent p
     → IsInRange Two layout p → IsImage Two layout (image p) p

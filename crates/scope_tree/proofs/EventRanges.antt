@@ -22,10 +22,10 @@ use Rattle.run_model.specs.declared.tasks.Stage.TheVariants as stage
 use Rattle.run_model.specs.declared.tasks.Task.{Task}
 use Rattle.run_model.specs.Event as event
 use Rattle.record_view.specs.Image.{is_kept_kind, is_kept_stage}
-use Rattle.image_laws.specs.Ranges.{has_ranges, HaveRanges}
-use Rattle.image_laws.proofs.RowRanges.{IsTypedScope, IsTypedGroup, IsTypedTask, Each, each_pushed}
-use Rattle.image_laws.proofs.RowRanges.{each_at, each_mapped, hit_typed, tick_typed, text_typed}
-use Rattle.image_laws.proofs.RowRanges.{reason_typed, error_typed, stage_typed}
+use Rattle.scope_tree.specs.Ranges.{has_ranges, HaveRanges}
+use Rattle.scope_tree.proofs.RowRanges.{IsTypedScope, IsTypedGroup, IsTypedTask, Each, each_pushed}
+use Rattle.scope_tree.proofs.RowRanges.{each_at, each_mapped, hit_typed, tick_typed, text_typed}
+use Rattle.scope_tree.proofs.RowRanges.{reason_typed, error_typed, stage_typed}
 
 pub record IsTypedTree (t : TreeState) : Type 0 where
   pub clock : IsTrue (is_moment t.clock)

@@ -1,5 +1,5 @@
-use Rattle.image_laws.proofs.HistoryImages.{run_image}
-use Rattle.image_laws.proofs.histories.an_image_leads_to_images.Goals as goal
+use Rattle.scope_tree.proofs.HistoryImages.{run_image}
+use Rattle.scope_tree.proofs.histories.an_image_leads_to_images.Goals as goal
 
 pub returns : goal.returns
 returns c =

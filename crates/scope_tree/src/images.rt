@@ -11,7 +11,7 @@ ghost use Rattle.run_model.specs.State.{State};
 ghost use Rattle.record_view.specs.declared.heads.ImageVersion.{ImageVersion};
 ghost use Rattle.record_view.specs.Keeping.{IsImage};
 ghost use Rattle.record_view.specs.Between.{fits_between};
-ghost use Rattle.image_laws.specs.Whole.{image_at};
+ghost use Rattle.scope_tree.specs.Whole.{image_at};
 
 /// The seven rules are those of the tree, those of the work, and those between the two, in a state
 /// whose tree and work have one layout.

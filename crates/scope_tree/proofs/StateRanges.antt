@@ -20,8 +20,8 @@ use Rattle.record_view.specs.Image.{is_kept_task, is_kept_hit, is_kept_link}
 use Rattle.record_view.specs.Keeping.{IsInRange}
 use Rattle.record_view.proofs.Codecs.{first_true, second_true}
 use Rattle.model_laws.proofs.RightHits.{own_hit_of}
-use Rattle.image_laws.proofs.RowRanges.{IsTypedScope, IsTypedGroup, IsTypedTask, Each}
-use Rattle.image_laws.proofs.EventRanges.{IsTyped}
+use Rattle.scope_tree.proofs.RowRanges.{IsTypedScope, IsTypedGroup, IsTypedTask, Each}
+use Rattle.scope_tree.proofs.EventRanges.{IsTyped}
 
 -- ---- lists
 

@@ -18,10 +18,10 @@ use Rattle.scope_tree.specs.TreeRows.{tree_at}
 use Rattle.scope_tree.specs.TreeRules.{AreTreeRows}
 use Rattle.scope_tree.proofs.TreeReads.{tree_again, tree_takes}
 use Rattle.record_view.specs.Between.{fits_between}
-use Rattle.image_laws.specs.Whole.{image_at, joined, whole}
+use Rattle.scope_tree.specs.Whole.{image_at, joined, whole}
 use Rattle.record_view.specs.WorkRows.{AreWorkRows, work_at}
-use Rattle.image_laws.proofs.BetweenReads.{between_test, between_from}
-use Rattle.image_laws.proofs.Parts.{tree_part, work_part, cross_part, all_parts}
+use Rattle.scope_tree.proofs.BetweenReads.{between_test, between_from}
+use Rattle.scope_tree.proofs.Parts.{tree_part, work_part, cross_part, all_parts}
 use Rattle.record_view.proofs.WorkReads.{work_again, work_takes}
 
 regrouped : (w x y z : List ℕ) → ((w ++ x) ++ y) ++ z ≡ w ++ (x ++ (y ++ (z ++ [])))

@@ -1,5 +1,0 @@
-use Rattle.image_laws.proofs.HistoryImages.{image_of}
-use Rattle.image_laws.proofs.histories.a_state_in_range_has_an_image.Goals as goal
-
-pub returns : goal.returns
-returns c = image_of

@@ -1,5 +1,0 @@
-use Rattle.image_laws.proofs.WholeReads.{image_again, image_takes}
-use Rattle.image_laws.proofs.images.images_are_what_is_read.Goals as goal
-
-pub returns : goal.returns
-returns c = record { again = image_again; takes = image_takes }
