@@ -1,11 +1,10 @@
 -- What a later call changes of what a crash after an earlier one leaves: nothing.
-use Rattle.std.proofs.Common.{◌≡◌, ◌<◌, ◌≤◌, ◌+◌, ℕ, Bool, true, false, not, ◌&&◌, ◌||◌, List, []}
-use Rattle.std.proofs.Common.{◌∷◌, None, ◌++◌, get_or, slice_index_or, refl, sym, ◌∙◌, ap, inl}
-use Rattle.std.proofs.Common.{inr, arith, nat_le, nat_lt, unwrap_or}
-use Rattle.std.specs.List.{list_any, All}
-use Rattle.std.proofs.lemmas.Bool.{cases_Bool, cases_lt, lt-ltb, le-ltb}
-use Rattle.std.proofs.lemmas.List.Elements.{All-weaker}
-use Rattle.std.proofs.lemmas.List.Folds.{list_any-append, list_any_none}
+use Rattle.run_model.proofs.Common.{◌≡◌, ◌<◌, ◌≤◌, ◌+◌, ℕ, Bool, true, false, not, ◌&&◌, ◌||◌}
+use Rattle.run_model.proofs.Common.{List, [], ◌∷◌, None, ◌++◌, get_or, slice_index_or, refl, sym}
+use Rattle.run_model.proofs.Common.{◌∙◌, ap, inl, inr, arith, nat_le, nat_lt, unwrap_or, list_any}
+use Rattle.run_model.proofs.Common.{All, cases_lt, lt-ltb, le-ltb, All-weaker, list_any-append}
+use Rattle.std.proofs.lemmas.Bool.{cases_Bool}
+use Rattle.std.proofs.lemmas.List.Folds.{list_any_none}
 use Rattle.run_disk.specs.declared.tears.Torn.{Torn}
 use Rattle.run_disk.specs.declared.tears.Torn.TheVariants.{Take}
 use Rattle.run_disk.specs.Writes.{Write, History, and_write, and_sync}

@@ -1,10 +1,9 @@
 -- The newest of some writes at a place.
-use Rattle.std.proofs.Common.{◌≡◌, ◌<◌, ◌+◌, ℕ, Bool, true, false, ◌||◌, List, [], ◌∷◌, Option}
-use Rattle.std.proofs.Common.{None, Some, ◌++◌, length, get_or, suc, slice_index_or, take, refl}
-use Rattle.std.proofs.Common.{sym, ◌∙◌, ap, arith, unwrap_or}
-use Rattle.std.specs.Option.{option_or}
-use Rattle.std.specs.List.{list_any, All}
-use Rattle.std.proofs.lemmas.List.Elements.{All-nil, All-cons}
+use Rattle.run_model.proofs.Common.{◌≡◌, ◌<◌, ◌+◌, ℕ, Bool, true, false, ◌||◌, List, [], ◌∷◌}
+use Rattle.run_model.proofs.Common.{Option, None, Some, ◌++◌, length, get_or, suc, slice_index_or}
+use Rattle.run_model.proofs.Common.{take, refl, sym, ◌∙◌, ap, arith, unwrap_or, option_or}
+use Rattle.run_model.proofs.Common.{list_any, All, All-nil}
+use Rattle.std.proofs.lemmas.List.Elements.{All-cons}
 use Rattle.std.proofs.lemmas.List.{take_more}
 use Rattle.run_disk.specs.Contents.{Puts}
 use Rattle.run_disk.specs.Writes.{Write}

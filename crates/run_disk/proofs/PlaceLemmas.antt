@@ -1,11 +1,10 @@
 -- The places of a list whose middle part was written over.
-use Rattle.std.proofs.Common.{◌≡◌, ◌⊎◌, ◌<◌, ◌≤◌, ◌+◌, ◌-◌, ℕ, List, None, Some, ◌++◌, length}
-use Rattle.std.proofs.Common.{get_or, take, drop, refl, sym, ◌∙◌, ap, inl, inr, arith}
-use Rattle.std.proofs.Common.{unwrap_or}
-use Rattle.std.proofs.lemmas.List.{get_or-take, get_or-drop, get_or_append_left}
-use Rattle.std.proofs.lemmas.List.{get_or-append_right, length-take-le, length-drop}
-use Rattle.std.proofs.lemmas.Option.{slice_get_past, slice_get-get_or}
-use Rattle.std.proofs.lemmas.Bool.{cases_lt, le-leb, lt-leb}
+use Rattle.run_model.proofs.Common.{◌≡◌, ◌⊎◌, ◌<◌, ◌≤◌, ◌+◌, ◌-◌, ℕ, List, None, Some, ◌++◌}
+use Rattle.run_model.proofs.Common.{length, get_or, take, drop, refl, sym, ◌∙◌, ap, inl, inr}
+use Rattle.run_model.proofs.Common.{arith, unwrap_or, get_or-take, get_or-drop, get_or_append_left}
+use Rattle.run_model.proofs.Common.{length-take-le, length-drop, slice_get_past, slice_get-get_or}
+use Rattle.run_model.proofs.Common.{cases_lt, le-leb, lt-leb}
+use Rattle.std.proofs.lemmas.List.{get_or-append_right}
 use borrow.Rule.Slice.PartMut.{put_mid, same_len_mid}
 use Rattle.run_disk.specs.Contents.{Puts}
 use Rattle.run_disk.specs.History.{byte_put}

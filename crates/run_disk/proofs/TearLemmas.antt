@@ -1,9 +1,8 @@
 -- A crash may leave what a tearing leaves.
-use Rattle.std.proofs.Common.{◌≡◌, ◌⊎◌, ◌<◌, ◌≤◌, ◌+◌, ℕ, false, List, None, length, get_or, sym}
-use Rattle.std.proofs.Common.{◌∙◌, ap, inl, inr, arith, unwrap_or}
-use Rattle.std.proofs.lemmas.Bool.{cases_Bool, cases_lt, both_ways, lt-ltb, le-leb}
-use Rattle.std.proofs.lemmas.List.{length-replicate, length-take}
-use Rattle.std.proofs.lemmas.List.Elements.{All-weaker}
+use Rattle.run_model.proofs.Common.{◌≡◌, ◌⊎◌, ◌<◌, ◌≤◌, ◌+◌, ℕ, false, List, None, length, get_or}
+use Rattle.run_model.proofs.Common.{sym, ◌∙◌, ap, inl, inr, arith, unwrap_or, cases_lt, both_ways}
+use Rattle.run_model.proofs.Common.{lt-ltb, le-leb, length-replicate, length-take, All-weaker}
+use Rattle.std.proofs.lemmas.Bool.{cases_Bool}
 use Rattle.run_disk.specs.declared.tears.Torn.{Torn}
 use Rattle.run_disk.specs.declared.tears.Torn.TheVariants.{Keep, Take, Fill, Front}
 use Rattle.run_disk.specs.Writes.{Write, History}
