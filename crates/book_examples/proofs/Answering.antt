@@ -1,19 +1,16 @@
 -- The steps of the examples, one by one.
-use Rattle.std.proofs.Common.{◌<◌, ◌+◌, ◌≡◌, ◌≤◌, ◌++◌, ℕ, List, length, Ok, Err, inl, inr, refl}
-use Rattle.std.proofs.Common.{arith, ap, take, length-append, Result, [], ◌∷◌}
-use Rattle.std.specs.List.{flat_map}
-use Rattle.run_model.specs.Session.{session_after}
+use Rattle.run_model.proofs.Common.{◌<◌, ◌+◌, ◌≡◌, ◌≤◌, ◌++◌, ℕ, List, length, Ok, Err, inl, inr}
+use Rattle.run_model.proofs.Common.{refl, arith, ap, take, length-append, Result, [], ◌∷◌}
+use Rattle.run_model.proofs.Common.{flat_map, session_after, spelling}
 use Rattle.run_model.specs.declared.answers.Reply.{Reply}
 use Rattle.run_model.specs.declared.commands.Step.{Step}
-use Rattle.run_model.specs.declared.faults.Fault.TheVariants.{DiskFailed, NotAStore}
-use Rattle.run_model.specs.declared.faults.Fault.TheVariants.{NumbersSpent, WrongSize}
+use Rattle.run_model.specs.declared.faults.Fault.TheVariants.{DiskFailed, NotAStore, NumbersSpent}
+use Rattle.run_model.specs.declared.faults.Fault.TheVariants.{WrongSize}
 use Rattle.run_model.specs.declared.faults.Trouble.TheVariants.{Faulty, Refused}
 use Rattle.run_model.specs.declared.faults.Trouble.{Trouble}
 use Rattle.run_model.specs.declared.layouts.Layout.TheVariants.{Small}
-use Rattle.run_model.specs.Spelling.{spelling}
 use Rattle.run_disk.specs.Disk.{last_moment}
-use Rattle.run_disk.specs.Runs.{Passed}
-use Rattle.run_disk.specs.Runs.{FailedAt}
+use Rattle.run_disk.specs.Runs.{Passed, FailedAt}
 use Rattle.model_laws.proofs.RunLemmas.{run_counts}
 use Rattle.book_examples.specs.Calls.{acked, checkpoint, faulty, flush, scope_made}
 use Rattle.book_examples.specs.Nights.{new_store}

@@ -1,16 +1,13 @@
 -- The images of the examples, and the places in the batches after them.
-use Rattle.std.proofs.Common.{ℕ, List, [], ◌∷◌}
-use Rattle.std.proofs.Common.{refl}
+use Rattle.run_model.proofs.Common.{ℕ, List, [], ◌∷◌, refl, IsConsistent, State, formatted}
+use Rattle.run_model.proofs.Common.{accepted}
 use Rattle.run_model.specs.declared.layouts.Layout.TheVariants.{Small}
-use Rattle.run_model.specs.Rules.{IsConsistent}
-use Rattle.run_model.specs.State.{State, formatted}
 use Rattle.record_view.specs.declared.heads.ImageVersion.{ImageVersion}
 use Rattle.record_view.specs.declared.heads.ImageVersion.TheVariants.{One, Two}
 use Rattle.record_view.specs.Keeping.{IsImage}
 use Rattle.model_laws.proofs.Reopening.{reopened}
 use Rattle.model_laws.proofs.Starting.{formatted_consistent}
 use Rattle.model_laws.proofs.StateSteps.{run_keeps}
-use Rattle.run_model.specs.Session.{accepted}
 use Rattle.book_examples.specs.Nights.{new_store, state_of, steps_of, stopped_night}
 use Rattle.book_examples.specs.Retries.{one_interrupted}
 use Rattle.book_model.specs.Meanings.{IsReadTo}

@@ -1,24 +1,18 @@
 -- The two nights of the examples.
-use Rattle.std.proofs.Common.{◌≡◌, ◌⊎◌, ◌≤◌, ◌++◌, ◌∷◌, [], ℕ, zero, suc, List, length, take}
-use Rattle.std.proofs.Common.{Some, inl, inr, refl, sym, ap, subst, arith}
-use Rattle.std.proofs.lemmas.Option.{same_Some}
-use Rattle.std.specs.List.{flat_map}
+use Rattle.run_model.proofs.Common.{◌≡◌, ◌⊎◌, ◌≤◌, ◌++◌, ◌∷◌, [], ℕ, zero, suc, List, length, take}
+use Rattle.run_model.proofs.Common.{Some, inl, inr, refl, sym, ap, subst, arith, same_Some}
+use Rattle.run_model.proofs.Common.{flat_map, run, Event, State}
 use Rattle.run_model.specs.declared.answers.Reply.{Reply}
 use Rattle.run_model.specs.declared.commands.Wish.TheVariants.{Cancel}
-use Rattle.run_model.specs.Allowed.{run}
-use Rattle.run_model.specs.Event.{Event}
-use Rattle.run_model.specs.State.{State}
 use Rattle.book_examples.specs.Calls.{acked, derive, flush, scope_made}
-use Rattle.book_model.specs.Machines.{GoesOn, Running, StopsAt, Stored, TakesAll, opened_at}
-use Rattle.book_model.specs.Machines.{took}
+use Rattle.book_model.specs.Machines.{GoesOn, Running, StopsAt, Stored, TakesAll, opened_at, took}
 use Rattle.book_model.specs.ManyNights.{answers_of, moves_of, steps_of}
 use Rattle.book_model.specs.Plays.{sound}
 use Rattle.book_model.specs.Stores.{restarted}
 use Rattle.book_model.proofs.ManyNightsLemmas.{joined_moves, same_stored, spends, was_spent}
 use Rattle.book_examples.specs.Plays.{first_events}
 use Rattle.book_examples.specs.Stores.{two_events}
-use Rattle.book_examples.specs.TwoNights.{answered, behind_first, first_night, second_night}
-use Rattle.book_examples.specs.TwoNights.{store}
+use Rattle.book_examples.specs.TwoNights.{answered, behind_first, first_night, second_night, store}
 
 -- The machine after the answered steps of the first night.
 abbrev after_answered : Running

@@ -1,12 +1,9 @@
 -- What a migration reads of the old disk, and what it makes of the new one.
-use Rattle.std.proofs.Common.{◌≡◌, ◌⊎◌, ◌<◌, ◌+◌, ℕ, List, [], Ok, Err}
-use Rattle.std.proofs.Common.{refl, sym, subst}
-use Rattle.std.specs.Prelude.{IfErr, OnErr, OnOk, Result}
+use Rattle.run_model.proofs.Common.{◌≡◌, ◌⊎◌, ◌<◌, ◌+◌, ℕ, List, [], Ok, Err, refl, sym, subst}
+use Rattle.run_model.proofs.Common.{IfErr, OnErr, OnOk, Result, store_len, State}
 use Rattle.run_model.specs.declared.faults.Fault.{Fault}
 use Rattle.run_model.specs.declared.faults.Fault.TheVariants as fault
 use Rattle.run_model.specs.declared.layouts.Layout.TheVariants.{Small, Large}
-use Rattle.run_model.specs.Layouts.{store_len}
-use Rattle.run_model.specs.State.{State}
 use Rattle.record_view.specs.declared.heads.ImageVersion.TheVariants.{Two}
 use Rattle.record_view.specs.Image.{image}
 use Rattle.record_view.specs.Keeping.{IsImage}

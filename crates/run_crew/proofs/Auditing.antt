@@ -1,12 +1,11 @@
 -- What an audit found, put together.
-use Rattle.std.proofs.Common.{◌≡◌, ℕ, ◌+◌, Bool, true, false, List, length, ap, inl, inr, refl, sym}
-use Rattle.std.proofs.Common.{subst, ◌∙◌}
+use Rattle.run_model.proofs.Common.{◌≡◌, ℕ, ◌+◌, Bool, true, false, List, length, ap, inl, inr}
+use Rattle.run_model.proofs.Common.{refl, sym, subst, ◌∙◌, WorkState}
 use Rattle.std.specs.List.Sorted.{IsPermutation}
-use Rattle.run_model.specs.State.{WorkState}
 use Rattle.run_crew.specs.declared.notes.Note.{Note}
 use Rattle.run_crew.specs.declared.audits.Strayed.{Strayed}
-use Rattle.run_crew.specs.Audits.{HasStrayed, IsComplete, IsFirstLeft, IsFirstStray}
-use Rattle.run_crew.specs.Audits.{NoStray, NoneLeft, are_noted, made_at}
+use Rattle.run_crew.specs.Audits.{HasStrayed, IsComplete, IsFirstLeft, IsFirstStray, NoStray}
+use Rattle.run_crew.specs.Audits.{NoneLeft, are_noted, made_at}
 use Rattle.run_crew.specs.Desks.{DeskView}
 use Rattle.run_crew.specs.Notes.{all_notes}
 use Rattle.run_crew.proofs.Permuting.{settled}

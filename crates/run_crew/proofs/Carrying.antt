@@ -1,22 +1,18 @@
 -- How a book goes on from what it was when a desk was made over it.
-use Rattle.std.proofs.Common.{◌≡◌, ◌≤◌, ◌-◌, ◌++◌, ◌∷◌, ℕ, List, [], Bool, true, false}
-use Rattle.std.proofs.Common.{Option, None}
-use Rattle.std.proofs.Common.{Some, refl, sym, subst, ap, ◌∙◌, arith, append_assoc, append-nil}
-use Rattle.std.specs.Prelude.{Result, Ok, Err, if◌then◌else◌, ◌&&◌, option_to_list}
-use Rattle.std.specs.List.{list_all}
+use Rattle.run_model.proofs.Common.{◌≡◌, ◌≤◌, ◌-◌, ◌++◌, ◌∷◌, ℕ, List, [], Bool, true, false}
+use Rattle.run_model.proofs.Common.{Option, None, Some, refl, sym, subst, ap, ◌∙◌, arith}
+use Rattle.run_model.proofs.Common.{append_assoc, append-nil, Result, Ok, Err, if◌then◌else◌, ◌&&◌}
+use Rattle.run_model.proofs.Common.{list_all, Event, refusals, unless, decide_start, if_room}
+use Rattle.run_model.proofs.Common.{is_full, Session, after_step, event_of_step, with_event, State}
+use Rattle.run_model.proofs.Common.{result_unwrap_or}
+use Rattle.std.specs.Prelude.{option_to_list}
 use Rattle.std.proofs.lemmas.List.Folds.{list_all-append}
 use Rattle.run_model.specs.declared.commands.Step.{Step}
 use Rattle.run_model.specs.declared.commands.Step.TheVariants as step
 use Rattle.run_model.specs.declared.refusals.Refusal.{Refusal}
 use Rattle.run_model.specs.declared.refusals.Refusal.TheVariants.{SessionFull}
 use Rattle.run_model.specs.declared.tasks.Outcome.{Outcome}
-use Rattle.run_model.specs.Event.{Event}
 use Rattle.run_model.specs.Event as event
-use Rattle.run_model.specs.Allowed.{refusals, unless}
-use Rattle.run_model.specs.Replies.{decide_start, if_room, is_full}
-use Rattle.run_model.specs.Session.{Session, after_step, event_of_step, with_event}
-use Rattle.run_model.specs.State.{State}
-use Rattle.std.specs.Result.{result_unwrap_or}
 use Rattle.run_disk.specs.Disk.{DiskState, IsAtRest}
 use Rattle.run_disk.proofs.RunLemmas.{leaves_only_more}
 use Rattle.model_laws.proofs.StartingReplies.{start_of}
@@ -25,8 +21,8 @@ use Rattle.book_model.specs.Stores.{StoresFront}
 use Rattle.book_model.proofs.BookLemmas.{passed_more, stores_fewer, stores_more}
 use Rattle.run_book.specs.Views.{with_session}
 use Rattle.run_crew.specs.Desks.{finishes_of, starts_of}
-use Rattle.run_crew.specs.Openings.{Carries, CarriesFrom, From, Known, Opened, Unsaid}
-use Rattle.run_crew.specs.Openings.{is_work, obeys, opened_of}
+use Rattle.run_crew.specs.Openings.{Carries, CarriesFrom, From, Known, Opened, Unsaid, is_work}
+use Rattle.run_crew.specs.Openings.{obeys}
 
 -- ---- what is decided of a start and of a finish
 
@@ -91,19 +87,6 @@ finish_works b n outcome =
 -- ---- going on
 
 module _ {D : Type 0} (state : D → DiskState) where
-  -- A book goes on from what it is.
-  pub from_itself : (h : BookView D) → CarriesOn state h h → CarriesFrom (opened_of state h) state h
-  from_itself h on = record {
-    start = refl;
-    added = [];
-    more = sym (append-nil h.session.history);
-    only = λ _. refl;
-    durable = omega arith;
-    passed = on.passed;
-    rest = λ rest. rest;
-    any_moment = λ honest rest. on.any_moment (record { honest = honest; rest = rest });
-  }
-
   -- It took a step.
   from_more : (from : Opened) (h new : BookView D) (events : List Event)
       → CarriesFrom from state h → CarriesOn state h new

@@ -1,18 +1,14 @@
 -- What a command leaves of the totals.
-use Rattle.std.proofs.Common.{◌≡◌, ℕ, ◌+◌, List, [], ◌∷◌, ◌++◌}
-use Rattle.std.proofs.Common.{Bool, true, false, Option, None, Some, refl, ap, arith}
-use Rattle.std.specs.Prelude.{Result, Ok, Err, cond, count_by, option_to_list, if◌then◌else◌}
-use Rattle.std.proofs.lemmas.List.Sums.{sum_by-append, sum_by-cons}
+use Rattle.run_model.proofs.Common.{◌≡◌, ℕ, ◌+◌, List, [], ◌∷◌, ◌++◌, Bool, true, false, Option}
+use Rattle.run_model.proofs.Common.{None, Some, refl, ap, arith, Result, Ok, Err, cond, count_by}
+use Rattle.run_model.proofs.Common.{if◌then◌else◌, sum_by-append, sum_by-cons, Event, refusals}
+use Rattle.run_model.proofs.Common.{unless, decide, decided, event_of, if_room, is_full}
+use Rattle.run_model.proofs.Common.{is_repeated, event_of_step, State, result_unwrap_or}
+use Rattle.std.specs.Prelude.{option_to_list}
 use Rattle.run_model.specs.declared.commands.Command.{Command}
 use Rattle.run_model.specs.declared.refusals.Refusal.{Refusal}
 use Rattle.run_model.specs.declared.commands.Step.TheVariants as step
 use Rattle.run_model.specs.declared.refusals.Refusal.TheVariants.{SessionFull}
-use Rattle.run_model.specs.Event.{Event}
-use Rattle.run_model.specs.Allowed.{refusals, unless}
-use Rattle.run_model.specs.Replies.{decide, decided, event_of, if_room, is_full, is_repeated}
-use Rattle.run_model.specs.Session.{event_of_step}
-use Rattle.run_model.specs.State.{State}
-use Rattle.std.specs.Result.{result_unwrap_or}
 use Rattle.book_model.specs.Books.{BookView}
 use Rattle.run_crew.proofs.Carrying.{added_by}
 

@@ -2,7 +2,7 @@
 use Rattle.std.proofs.Common.{◌≡◌, ℕ, ◌+◌, ◌<◌, List, [], ◌∷◌, ◌++◌, length, Bool, true, false}
 use Rattle.std.proofs.Common.{Option, None, Some, suc, arith, ◌∙◌, append-nil, append_assoc, ap}
 use Rattle.std.proofs.Common.{inl, inr, refl, subst, sym}
-use Rattle.std.proofs.lemmas.List.Elements.{All-cons, All-nil, All-weaker}
+use Rattle.std.proofs.lemmas.List.Elements.{All-cons, All-nil}
 use Rattle.std.specs.Prelude.{Result, Ok, Err, All, IfOk, IfSome, codes, ◌≤◌}
 use Rattle.run_model.specs.declared.answers.Started.{Started}
 use Rattle.run_model.specs.declared.answers.TaskInfo.{TaskInfo}
@@ -15,7 +15,7 @@ use Rattle.run_crew.specs.declared.jobs.Turn.{Turn}
 use Rattle.run_crew.specs.declared.jobs.Turn.TheVariants as turn
 use Rattle.run_crew.specs.declared.notes.Note.{Note}
 use Rattle.run_crew.specs.Courses.{AreCourses, AreRounds, AreSaves, AreTurns, Call, EndsAt}
-use Rattle.run_crew.specs.Courses.{IsAnswered, IsBegun, IsCourse, IsGates, IsOfShift, IsRun}
+use Rattle.run_crew.specs.Courses.{IsBegun, IsCourse, IsRun}
 use Rattle.run_crew.specs.Courses.{IsShift, IsWatch, Path}
 use Rattle.run_crew.specs.Courses.{TakesTask, Went, declined, most_turns, round, task_calls}
 use Rattle.run_crew.specs.Courses as call
@@ -45,39 +45,6 @@ courses-snoc jobs (first ∷ notes) calls course note all is = (
   all.2,
   courses-snoc jobs notes all.1 course note all.3 is,
   ap (λ l. l ++ course) all.4 ∙ append_assoc all.0 all.1 course,
-)
-
-answered_gates :
-    {T : Type 0} (starts : T → Result Started Refusal → T → Type 0) (holds : T → ℕ → Type 0)
-    (flushes : T → Result ℕ Trouble → T → Type 0) (tells : T → ℕ → Bool → Type 0)
-    (finishes : T → ℕ → Outcome → Result ℕ Refusal → T → Type 0) (lets : ℕ → ℕ → Bool → Type 0)
-    (told : ℕ → Type 0) (x : Call)
-    → IsAnswered starts holds flushes tells finishes lets told x → IsGates lets told x
-answered_gates starts holds flushes tells finishes lets told (call.Start r) is = tt
-answered_gates starts holds flushes tells finishes lets told (call.Save event r) is = tt
-answered_gates starts holds flushes tells finishes lets told (call.Scope task answer) is = tt
-answered_gates starts holds flushes tells finishes lets told (call.Finish task how r) is = tt
-answered_gates starts holds flushes tells finishes lets told (call.Gate task turn answer) is = is
-answered_gates starts holds flushes tells finishes lets told (call.Tell task) is = is
-answered_gates starts holds flushes tells finishes lets told (call.Handles job name answer) is = tt
-answered_gates starts holds flushes tells finishes lets told (call.Make j i n d r) is = tt
-answered_gates starts holds flushes tells finishes lets told (call.Ring event) is = tt
-answered_gates starts holds flushes tells finishes lets told (call.Wait heard answer) is = tt
-
--- What the gate answered and was told is among all answers.
-pub gates_shift :
-    {T : Type 0} (starts : T → Result Started Refusal → T → Type 0) (holds : T → ℕ → Type 0)
-    (flushes : T → Result ℕ Trouble → T → Type 0) (tells : T → ℕ → Bool → Type 0)
-    (finishes : T → ℕ → Outcome → Result ℕ Refusal → T → Type 0) (lets : ℕ → ℕ → Bool → Type 0)
-    (told : ℕ → Type 0) (notes : List Note)
-    → IsOfShift (IsAnswered starts holds flushes tells finishes lets told) notes
-    → IsOfShift (IsGates lets told) notes
-gates_shift starts holds flushes tells finishes lets told notes of = (
-  of.0,
-  of.1,
-  of.2,
-  All-weaker (IsAnswered starts holds flushes tells finishes lets told) (IsGates lets told)
-      (λ x is. answered_gates starts holds flushes tells finishes lets told x is) of.1 of.3,
 )
 
 module _ {A : Type 0} (step : A → Call → A → Type 0) where

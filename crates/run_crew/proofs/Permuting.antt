@@ -1,24 +1,22 @@
 -- Notes of which none is stray, and which lack no finish, are the finishes in some order.
-use Rattle.std.proofs.Common.{◌≡◌, ℕ, ◌+◌, ◌<◌, List, [], ◌∷◌, ◌++◌, take, Bool, true}
-use Rattle.std.proofs.Common.{false, ◌||◌, ◌&&◌, refl, ap, sym, ◌∙◌, arith, append_assoc, subst}
-use Rattle.std.specs.Prelude.{suc, not, slice_index_or, ◌==◌, nat_lt, if◌then◌else◌}
-use Rattle.std.specs.List.{list_all, list_any}
+use Rattle.run_model.proofs.Common.{◌≡◌, ℕ, ◌+◌, ◌<◌, List, [], ◌∷◌, ◌++◌, take, Bool, true, false}
+use Rattle.run_model.proofs.Common.{◌||◌, ◌&&◌, refl, ap, sym, ◌∙◌, arith, append_assoc, subst}
+use Rattle.run_model.proofs.Common.{suc, not, slice_index_or, ◌==◌, nat_lt, if◌then◌else◌}
+use Rattle.run_model.proofs.Common.{list_all, list_any, and_parts, eqb-true, not-false, or_left}
+use Rattle.run_model.proofs.Common.{or_parts, or_right, append-nil, list_any-append}
+use Rattle.run_model.proofs.Common.{bytes_eq-Decides, Event}
 use Rattle.std.specs.List.Sorted.{IsPermutation}
-use Rattle.std.proofs.lemmas.Bool.{and_parts, eqb-true, not-false, or_from, or_left, or_parts}
-use Rattle.std.proofs.lemmas.Bool.{or_right}
-use Rattle.std.proofs.lemmas.List.{append-nil}
-use Rattle.std.proofs.lemmas.List.Folds.{list_all-append, list_any-append}
+use Rattle.std.proofs.lemmas.Bool.{or_from}
+use Rattle.std.proofs.lemmas.List.Folds.{list_all-append}
 use Rattle.std.proofs.lemmas.List.Sorted.{IsPermutation-cons, IsPermutation-middle}
 use Rattle.std.proofs.lemmas.List.Sorted.{IsPermutation-refl, IsPermutation-trans}
-use Rattle.std.proofs.lemmas.Slice.Eq.{bytes_eq-Decides}
 use Rattle.run_model.specs.declared.tasks.Outcome.{Outcome}
 use Rattle.run_model.specs.declared.tasks.Outcome.TheVariants.{Success, Failure}
-use Rattle.run_model.specs.Event.{Event}
 use Rattle.run_model.specs.Event as event
 use Rattle.run_crew.specs.declared.notes.Note.{Note}
 use Rattle.run_crew.specs.Audits.{IsStrayIn, NoStray, are_noted, is_stray}
-use Rattle.run_crew.specs.Notes.{all_notes, finishes_since, has, is_same, is_same_outcome}
-use Rattle.run_crew.specs.Notes.{note_of, note_since}
+use Rattle.run_crew.specs.Notes.{all_notes, finishes_since, has, is_same, is_same_outcome, note_of}
+use Rattle.run_crew.specs.Notes.{note_since}
 use Rattle.run_crew.proofs.Strays.{has-all}
 
 -- ---- tests
@@ -70,9 +68,6 @@ same_self : (x : Note) → is_same x x ≡ true
 same_self x = rw (eqb_self x.event, eqb_self x.task) (outcome_self x.outcome)
 
 -- ---- a note among others
-
-has_cons : (y : Note) (ys : List Note) (x : Note) → has (y ∷ ys) x ≡ (is_same x y || has ys x)
-has_cons y ys x = refl
 
 has_append :
     (xs ys : List Note) (x : Note) → has (xs ++ ys) x ≡ (has xs x || has ys x)

@@ -1,12 +1,10 @@
 -- Notes that are stray.
-use Rattle.std.proofs.Common.{◌≡◌, ℕ, ◌<◌, ◌≤◌, List, [], ◌∷◌, ◌++◌, length, take, get_or, Bool}
-use Rattle.std.proofs.Common.{true, false, ◌||◌, refl, ap, sym, ◌∙◌, arith, inl, inr, subst}
-use Rattle.std.specs.Prelude.{slice_index_or, Some}
-use Rattle.std.specs.List.{list_any}
-use Rattle.std.proofs.lemmas.List.Folds.{list_any-append}
-use Rattle.std.proofs.lemmas.List.{get_or_default, get_or_past}
-use Rattle.std.proofs.lemmas.Option.{get_or_from_slice_get, slice_get-get_or, slice_get_cases}
-use Rattle.std.proofs.lemmas.Option.{slice_get_within}
+use Rattle.run_model.proofs.Common.{◌≡◌, ℕ, ◌<◌, ◌≤◌, List, [], ◌∷◌, ◌++◌, length, take, get_or}
+use Rattle.run_model.proofs.Common.{Bool, true, false, ◌||◌, refl, ap, sym, ◌∙◌, arith, inl, inr}
+use Rattle.run_model.proofs.Common.{subst, slice_index_or, Some, list_any, list_any-append}
+use Rattle.run_model.proofs.Common.{get_or_default, get_or_past, get_or_from_slice_get}
+use Rattle.run_model.proofs.Common.{slice_get-get_or, slice_get_within}
+use Rattle.std.proofs.lemmas.Option.{slice_get_cases}
 use Rattle.run_crew.specs.declared.notes.Note.{Note}
 use Rattle.run_crew.specs.Audits.{IsFirstStray, IsStray, IsStrayIn, NoStray, is_stray}
 use Rattle.run_crew.specs.Notes.{all_notes, has, is_same}

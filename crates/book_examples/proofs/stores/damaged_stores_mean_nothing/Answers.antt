@@ -1,4 +1,4 @@
-use Rattle.std.proofs.Common.{◌≡◌, [], ◌∷◌, None, codes, refl, lit≤}
+use Rattle.run_model.proofs.Common.{◌≡◌, [], ◌∷◌, None, codes, refl, lit≤}
 use Rattle.run_model.specs.declared.scopes.Kind.TheVariants as kind
 use Rattle.run_model.specs.Event as event
 use Rattle.record_view.specs.declared.heads.ImageVersion.TheVariants.{Two}
@@ -6,7 +6,8 @@ use Rattle.record_view.specs.Reading.{body_at, derive_at, event_at, kind_at, kin
 use Rattle.record_view.specs.Reading.{numbered_at, part_at, tested_at, text_at, whole_body_at}
 use Rattle.record_view.proofs.RecordLaws.{none_begins}
 use Rattle.book_examples.specs.Nights.{new_store}
-use Rattle.book_examples.specs.Stores.{cut_record, rest_of_records, with_len, with_parent, with_tag}
+use Rattle.book_examples.specs.Stores.{cut_record, rest_of_records, with_len, with_parent}
+use Rattle.book_examples.specs.Stores.{with_tag}
 use Rattle.book_examples.proofs.Images.{at_start, opened_image}
 use Rattle.book_examples.proofs.stores.damaged_stores_mean_nothing.Goals as goal
 

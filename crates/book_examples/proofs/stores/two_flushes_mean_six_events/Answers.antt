@@ -1,6 +1,5 @@
-use Rattle.std.proofs.Common.{[], ◌∷◌, refl}
+use Rattle.run_model.proofs.Common.{[], ◌∷◌, refl, formatted}
 use Rattle.book_examples.specs.Nights.{new_store}
-use Rattle.run_model.specs.State.{formatted}
 use Rattle.run_model.specs.declared.layouts.Layout.TheVariants.{Small}
 use Rattle.book_examples.specs.Plays.{first_events}
 use Rattle.book_examples.specs.Stores.{two_events}

@@ -1,5 +1,4 @@
-use Rattle.std.proofs.Common.{◌<◌, ◌≤◌, ◌^◌, sym, subst}
-use Rattle.run_model.specs.Rules.{HasLayout}
+use Rattle.run_model.proofs.Common.{◌<◌, ◌≤◌, ◌^◌, sym, subst, HasLayout}
 use Rattle.book_model.specs.Migrations.{ReadsNot}
 use Rattle.book_model.proofs.Meaning.{means_layout}
 use Rattle.run_book.proofs.Renewing.{told_unread}

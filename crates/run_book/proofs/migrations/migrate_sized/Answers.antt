@@ -1,9 +1,5 @@
-use Rattle.std.proofs.Common.{sym, subst}
-use Rattle.std.proofs.lemmas.Result.{IfOk-from_err}
-use Rattle.std.specs.Prelude.{IfErr}
+use Rattle.run_model.proofs.Common.{sym, subst, IfOk-from_err, IfErr, HasLayout, State}
 use Rattle.run_model.specs.declared.layouts.Layout.TheVariants.{Small}
-use Rattle.run_model.specs.Rules.{HasLayout}
-use Rattle.run_model.specs.State.{State}
 use Rattle.book_model.specs.Migrations.{MigratesNot}
 use Rattle.run_book.proofs.Exits.{passed_on}
 use Rattle.run_book.proofs.Migrating.{unread_not, written_done, written_not}

@@ -1,5 +1,4 @@
-use Rattle.std.proofs.Common.{ap, arith, rules, ◌<◌, ◌∙◌, length}
-use Rattle.std.proofs.lemmas.Grind.{common_steps}
+use Rattle.run_model.proofs.Common.{ap, arith, rules, ◌<◌, ◌∙◌, length, common_steps}
 use Rattle.run_model.specs.declared.bounds.TheConstants.{MOST_TASKS}
 use Rattle.run_crew.specs.Seats.{one_finish}
 use Rattle.run_crew.proofs.Coursing.{finished, not_finished}

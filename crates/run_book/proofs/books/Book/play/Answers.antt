@@ -1,5 +1,4 @@
-use Rattle.std.proofs.Common.{◌≡◌, ◌+◌, List, take, refl, sym, subst, ◌∙◌, arith}
-use Rattle.std.proofs.lemmas.List.{take_all}
+use Rattle.run_model.proofs.Common.{◌≡◌, ◌+◌, List, take, refl, sym, subst, ◌∙◌, arith, take_all}
 use Rattle.run_model.specs.declared.answers.Reply.{Reply}
 use Rattle.run_model.specs.declared.commands.Step.{Step}
 use Rattle.book_model.specs.Steps.{PlaysInto}

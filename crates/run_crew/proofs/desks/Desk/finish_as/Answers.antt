@@ -1,5 +1,4 @@
-use Rattle.std.proofs.Common.{arith, rules}
-use Rattle.std.proofs.lemmas.Grind.{common_steps}
+use Rattle.run_model.proofs.Common.{arith, rules, common_steps}
 use Rattle.run_model.specs.declared.commands.Step.TheVariants as step
 use Rattle.run_crew.proofs.Carrying.{added_by, carries_more, finish_works, history_grown}
 use Rattle.run_crew.proofs.desks.Desk.finish_as.Goals as goal

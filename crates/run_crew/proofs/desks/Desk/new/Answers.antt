@@ -1,5 +1,4 @@
-use Rattle.std.proofs.Common.{ℕ, ap, ◌∙◌}
-use Rattle.run_model.specs.State.{State}
+use Rattle.run_model.proofs.Common.{ℕ, ap, ◌∙◌, State}
 use Rattle.run_crew.specs.Desks.{DeskView}
 use Rattle.run_crew.proofs.desks.Desk.new.Goals as goal
 
