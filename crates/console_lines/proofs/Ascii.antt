@@ -12,7 +12,7 @@ use Rattle.run_model.proofs.AsciiLemmas.{name_is_ascii, text_bytes_are_ascii}
 use Rattle.console_lines.specs.declared.replies.Reply.TheVariants as said
 use Rattle.console_lines.specs.declared.tallies.Counts.{Counts}
 use Rattle.console_lines.specs.declared.tallies.Tally.{Tally}
-use Rattle.console_lines.specs.Replies.{counts_text, reply_line}
+use Rattle.console_lines.specs.Replies.{reply_line}
 
 -- Each byte of it is below 128. As a record it names its bytes.
 record IsPlain (bytes : List ℕ) : Type 0 where
@@ -24,8 +24,11 @@ both xs ys h k = record { ascii = IsAscii-append xs ys h.ascii k.ascii }
 word : (bytes : List ℕ) → list_all is_text_byte bytes ≡ true → IsPlain bytes
 word bytes h = record { ascii = text_bytes_are_ascii bytes h }
 
-count : (n : ℕ) → n < 65536 → IsPlain (decimal n)
-count n h = record { ascii = IsAscii-decimal n (omega (arith, h)) }
+count : (bytes : List ℕ) (n : ℕ) → list_all is_text_byte bytes ≡ true → n < 65536
+    → IsPlain (bytes ++ decimal n)
+count bytes n h few =
+    both bytes (decimal n) (word bytes h)
+    (record { ascii = IsAscii-decimal n (omega (arith, few)) })
 
 -- Each count is one of two bytes.
 pub record AreCounts (counts : Counts) : Type 0 where
@@ -34,19 +37,13 @@ pub record AreCounts (counts : Counts) : Type 0 where
   pub failure : counts.failure < 65536
   pub interrupted : counts.interrupted < 65536
 
-counted : (counts : Counts) → AreCounts counts → IsPlain (counts_text counts)
-counted counts are =
-    both _ _ (both _ _ (both _ _ (both _ _ (both _ _ (both _ _ (both _ _
-    (word (codes "total ") refl) (count _ are.total))
-    (word (codes "; success ") refl)) (count _ are.success))
-    (word (codes "; failure ") refl)) (count _ are.failure))
-    (word (codes "; interrupted ") refl)) (count _ are.interrupted)
-
 -- The line of a tally is ASCII.
 pub tally_is_ascii : (tally : Tally) → IsName tally.job → AreCounts tally.counts
     → IsAscii (reply_line (said.Tally tally))
 tally_is_ascii tally name are =
     let job : IsPlain tally.job = record { ascii = name_is_ascii tally.job name } in
     let end : IsPlain (10 ∷ []) = record { ascii = IsAscii-cons 10 [] (omega arith) IsAscii-nil } in
-    (both _ _ (both _ _ (both _ _ (both _ _ (word (codes "tally ") refl) job)
-    (word (codes " ") refl)) (counted tally.counts are)) end).ascii
+    (both _ _ (both _ _ (both _ _ (both _ _ (both _ _ (both _ _ (word (codes "tally ") refl) job)
+    (count (codes " total ") _ refl are.total)) (count (codes "; success ") _ refl are.success))
+    (count (codes "; failure ") _ refl are.failure))
+    (count (codes "; interrupted ") _ refl are.interrupted)) end).ascii

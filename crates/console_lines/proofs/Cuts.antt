@@ -19,13 +19,19 @@ use Rattle.console_lines.specs.Strict.{ends_in_return, stray_by}
 pub asked_of_long : (line : List ℕ) → 256 < length line → asked_of line ≡ BadLine
 asked_of_long line h = grind (arith, nat_tests, common_steps, h)
 
-pub asked_of_kept : (line : List ℕ) → asked_of (kept line) ≡ asked_of line
-asked_of_kept line = elim (cases_lt 256 (length line)) [
+-- What is the same of all lines that are too long is the same of what is kept of a line.
+same_of_kept : {A : Type 0} (f : List ℕ → A) (of_long : A)
+    → ((line : List ℕ) → 256 < length line → f line ≡ of_long)
+    → (line : List ℕ) → f (kept line) ≡ f line
+same_of_kept f of_long all line = elim (cases_lt 256 (length line)) [
   | inl long ↦
       let len : length (kept line) ≡ 257 = length-take-le 257 line (omega (arith, long)) in
-      asked_of_long (kept line) (omega (arith, len)) ∙ sym (asked_of_long line long)
-  | inr short ↦ ap asked_of (take_all 257 line (omega (arith, short)))
+      all (kept line) (omega (arith, len)) ∙ sym (all line long)
+  | inr short ↦ ap f (take_all 257 line (omega (arith, short)))
 ]
+
+pub asked_of_kept : (line : List ℕ) → asked_of (kept line) ≡ asked_of line
+asked_of_kept = same_of_kept asked_of BadLine asked_of_long
 
 pub reply_kept : (s : Session) (line : List ℕ) → reply s (kept line) ≡ reply s line
 unfolding reply
@@ -41,12 +47,7 @@ long_ends line h = grind (arith, nat_tests, common_steps, h)
 
 -- What is kept of a line ends with a carriage return where the line does.
 pub ends_kept : (line : List ℕ) → ends_in_return (kept line) ≡ ends_in_return line
-ends_kept line = elim (cases_lt 256 (length line)) [
-  | inl long ↦
-      let len : length (kept line) ≡ 257 = length-take-le 257 line (omega (arith, long)) in
-      long_ends (kept line) (omega (arith, len)) ∙ sym (long_ends line long)
-  | inr short ↦ ap ends_in_return (take_all 257 line (omega (arith, short)))
-]
+ends_kept = same_of_kept ends_in_return false long_ends
 
 -- Lines that end alike stray alike.
 pub strays_alike : (why : Option Stray) (xs ys : List ℕ)

@@ -18,7 +18,7 @@ gathers_three a b c d x y z p q r h k m =
     gathers_then a b d x (y ++ z) p (q + r) h (gathers_then b c d y z q r k m)
 
 -- One text after another, written between the two.
-infixr 5 ◌followed_by◌
+infixl 5 ◌followed_by◌
 pub ◌followed_by◌ : {a b c x y : List ℕ} {p q : ℕ}
     → Gathers a b x p → Gathers b c y q → Gathers a c (x ++ y) (p + q)
 ◌followed_by◌ {a} {b} {c} {x} {y} {p} {q} h k = gathers_then a b c x y p q h k

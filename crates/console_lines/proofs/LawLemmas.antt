@@ -9,8 +9,8 @@ use Rattle.std.specs.List.{cons_option}
 use Rattle.run_model.specs.Session.{Session, session_after, event_of_step, with_event}
 use Rattle.run_model.specs.declared.commands.Step.{Step}
 use Rattle.run_model.specs.declared.commands.Wish.TheVariants as wish
-use Rattle.written_moment.specs.Moments.{moment_of}
-use Rattle.written_moment.specs.Numbers.{number_of}
+use Rattle.console_lines.specs.Moments.{moment_of}
+use Rattle.console_lines.specs.Numbers.{number_of}
 use Rattle.console_lines.specs.Asked.{wish_of, wished, deadline_at}
 use Rattle.console_lines.specs.Lines.{whole_lines, open_line, lines_of}
 use Rattle.console_lines.specs.Words.{words_of, rest_of}

@@ -1,8 +1,7 @@
 -- The lines of two parts of an input, one after the other.
-use Rattle.std.specs.Prelude.{◌≡◌, ◌==◌, ◌<◌, ◌≤◌, ◌+◌, ℕ, false, min}
+use Rattle.std.specs.Prelude.{◌≡◌, ◌<◌, ◌≤◌, ◌+◌, ℕ, min}
 use Rattle.std.specs.Prelude.{List, [], ◌∷◌, ◌++◌, length}
-use Rattle.std.proofs.Common.{arith, refl, sym, ap, ◌∙◌, append-nil}
-use Rattle.std.proofs.lemmas.Grind.{common_steps}
+use Rattle.std.proofs.Common.{arith, refl, sym, ap, ◌∙◌}
 use Rattle.std.proofs.lemmas.List.{length-append, length-take, take_all, take-append-le}
 use Rattle.console_lines.specs.declared.lines.TheConstants.{LONGEST_LINE}
 use Rattle.console_lines.specs.Lines.{whole_lines, open_line}
@@ -30,23 +29,6 @@ pub line_ends :
     × (open_line begun (part ++ 10 ∷ []) ≡ [])
 line_ends begun part =
     (whole_lines-append begun part (10 ∷ []), open_line-append begun part (10 ∷ []))
-
--- Another byte makes the line that was begun longer.
-pub line_goes_on :
-    (begun part : List ℕ) (b : ℕ)
-    → (b == 10) ≡ false
-    → (whole_lines begun (part ++ b ∷ []) ≡ whole_lines begun part)
-    × (open_line begun (part ++ b ∷ []) ≡ open_line begun part ++ b ∷ [])
-line_goes_on begun part b h = (
-  grind (
-    arith,
-    common_steps,
-    h,
-    append-nil (whole_lines begun part),
-    whole_lines-append begun part (b ∷ []),
-  ),
-  grind (arith, common_steps, h, open_line-append begun part (b ∷ [])),
-)
 
 -- What is kept of a longer line, while there is room for a byte more.
 pub kept_more :

@@ -32,32 +32,39 @@ use Rattle.console_lines.proofs.JobLists.{same, self_same, turned, with_job, wit
 abbrev any : Stage → Bool
 any stage = true
 
+-- A number, with one more if it is so.
+abbrev plus : Bool → ℕ → ℕ
+plus true n = n + 1
+plus false n = n
+
+plus_if : (t : Bool) (n : ℕ) → n + cond t 1 0 ≡ plus t n
+plus_if true n = refl
+plus_if false n = omega arith
+
 -- One task more.
 at_more : (test : Stage → Bool) (job : List ℕ) (task : Task) (xs : List Task) (t : Bool)
     → (bytes_eq job task.job && test task.stage) ≡ t
-    → tasks_at test job (xs ++ task ∷ []) ≡ tasks_at test job xs + cond t 1 0
+    → tasks_at test job (xs ++ task ∷ []) ≡ plus t (tasks_at test job xs)
 at_more test job task xs t h =
     let p : Task → Bool = λ x. bytes_eq job x.job && test x.stage in
     fold-append (λ n x. n + cond (p x) 1 0) 0 xs (task ∷ [])
     ∙ ap (λ b. tasks_at test job xs + cond b 1 0) h
-
-plus_none : (n : ℕ) → n + 0 ≡ n
-plus_none n = omega arith
+    ∙ plus_if t _
 
 -- It is of another job.
 at_other : (test : Stage → Bool) (job : List ℕ) (task : Task) (xs : List Task)
     → bytes_eq job task.job ≡ false
     → tasks_at test job (xs ++ task ∷ []) ≡ tasks_at test job xs
 at_other test job task xs h =
-    at_more test job task xs false (ap (λ b. b && test task.stage) h) ∙ plus_none _
+    at_more test job task xs false (ap (λ b. b && test task.stage) h)
 
 -- It is of this job.
-at_same : (test : Stage → Bool) (job : List ℕ) (task : Task) (xs : List Task) (t : Bool)
+at_same : (test : Stage → Bool) (job : List ℕ) (task : Task) (xs : List Task) (s : Stage)
     → bytes_eq job task.job ≡ true
-    → test task.stage ≡ t
-    → tasks_at test job (xs ++ task ∷ []) ≡ tasks_at test job xs + cond t 1 0
-at_same test job task xs t h e =
-    at_more test job task xs t (ap (λ b. b && test task.stage) h ∙ e)
+    → task.stage ≡ s
+    → tasks_at test job (xs ++ task ∷ []) ≡ plus (test s) (tasks_at test job xs)
+at_same test job task xs s h e =
+    at_more test job task xs (test s) (ap (λ b. b && test task.stage) h ∙ ap test e)
 
 -- ---- the counts of a job
 
@@ -106,40 +113,29 @@ counts_other xs task job h =
     counts_are (at_other any job task xs h) (at_other is_success job task xs h)
     (at_other is_failure job task xs h) (at_other is_interrupted job task xs h)
 
+counts_same : (xs : List Task) (task : Task) (job : List ℕ) (s : Stage)
+    → bytes_eq job task.job ≡ true
+    → task.stage ≡ s
+    → counts_of (xs ++ task ∷ []) job
+    ≡ counts (tasks_at any job xs + 1) (plus (is_success s) (tasks_at is_success job xs))
+    (plus (is_failure s) (tasks_at is_failure job xs))
+    (plus (is_interrupted s) (tasks_at is_interrupted job xs))
+counts_same xs task job s h e =
+    counts_are (at_same any job task xs s h e) (at_same is_success job task xs s h e)
+    (at_same is_failure job task xs s h e) (at_same is_interrupted job task xs s h e)
+
 counts_by : (xs : List Task) (task : Task) (job : List ℕ) (admitted : Bool) (s : Stage)
     → bytes_eq job task.job ≡ true
     → task.stage ≡ s
     → counts_of (xs ++ task ∷ []) job ≡ plus_one (phase_by admitted s) (counts_of xs job)
-counts_by xs task job true stage.Fresh h e =
-    counts_are (at_same any job task xs true h refl)
-    (at_same is_success job task xs false h (ap is_success e) ∙ plus_none _)
-    (at_same is_failure job task xs false h (ap is_failure e) ∙ plus_none _)
-    (at_same is_interrupted job task xs false h (ap is_interrupted e) ∙ plus_none _)
-counts_by xs task job false stage.Fresh h e =
-    counts_are (at_same any job task xs true h refl)
-    (at_same is_success job task xs false h (ap is_success e) ∙ plus_none _)
-    (at_same is_failure job task xs false h (ap is_failure e) ∙ plus_none _)
-    (at_same is_interrupted job task xs false h (ap is_interrupted e) ∙ plus_none _)
-counts_by xs task job admitted stage.Running h e =
-    counts_are (at_same any job task xs true h refl)
-    (at_same is_success job task xs false h (ap is_success e) ∙ plus_none _)
-    (at_same is_failure job task xs false h (ap is_failure e) ∙ plus_none _)
-    (at_same is_interrupted job task xs false h (ap is_interrupted e) ∙ plus_none _)
-counts_by xs task job admitted stage.Success h e =
-    counts_are (at_same any job task xs true h refl)
-    (at_same is_success job task xs true h (ap is_success e))
-    (at_same is_failure job task xs false h (ap is_failure e) ∙ plus_none _)
-    (at_same is_interrupted job task xs false h (ap is_interrupted e) ∙ plus_none _)
+counts_by xs task job true stage.Fresh h e = counts_same xs task job stage.Fresh h e
+counts_by xs task job false stage.Fresh h e = counts_same xs task job stage.Fresh h e
+counts_by xs task job admitted stage.Running h e = counts_same xs task job stage.Running h e
+counts_by xs task job admitted stage.Success h e = counts_same xs task job stage.Success h e
 counts_by xs task job admitted (stage.Failure error) h e =
-    counts_are (at_same any job task xs true h refl)
-    (at_same is_success job task xs false h (ap is_success e) ∙ plus_none _)
-    (at_same is_failure job task xs true h (ap is_failure e))
-    (at_same is_interrupted job task xs false h (ap is_interrupted e) ∙ plus_none _)
+    counts_same xs task job (stage.Failure error) h e
 counts_by xs task job admitted stage.Interrupted h e =
-    counts_are (at_same any job task xs true h refl)
-    (at_same is_success job task xs false h (ap is_success e) ∙ plus_none _)
-    (at_same is_failure job task xs false h (ap is_failure e) ∙ plus_none _)
-    (at_same is_interrupted job task xs true h (ap is_interrupted e))
+    counts_same xs task job stage.Interrupted h e
 
 -- The counts of fewer tasks can be raised.
 pub counts_fit : (xs : List Task) (job : List ℕ) → length xs < MOST → HasRoom (counts_of xs job)
@@ -223,18 +219,17 @@ told_alike c d job (j ∷ jobs) other h =
     ap (λ n. record { job = j; counts = n } ∷ told c jobs) (sym (other j apart.0))
     ∙ ap (λ x. tally d j ∷ x) (told_alike c d job jobs other apart.1)
 
-behind : (job j : List ℕ) (jobs : List (List ℕ)) (t : Bool)
+either_behind : (t : Bool) (j : List ℕ) (xs ys : List (List ℕ))
+    → cond t (j ∷ xs) (j ∷ ys) ≡ j ∷ cond t xs ys
+either_behind true j xs ys = refl
+either_behind false j xs ys = refl
+
+behind : (job j : List ℕ) (jobs : List (List ℕ))
     → bytes_eq job j ≡ false
-    → is_among job jobs ≡ t
     → with_job (j ∷ jobs) job ≡ j ∷ with_job jobs job
-behind job j jobs true h e =
+behind job j jobs h =
     ap (λ b. cond (b || is_among job jobs) (j ∷ jobs) (j ∷ (jobs ++ job ∷ []))) h
-    ∙ ap (λ b. cond b (j ∷ jobs) (j ∷ (jobs ++ job ∷ []))) e
-    ∙ ap (λ b. j ∷ cond b jobs (jobs ++ job ∷ [])) (sym e)
-behind job j jobs false h e =
-    ap (λ b. cond (b || is_among job jobs) (j ∷ jobs) (j ∷ (jobs ++ job ∷ []))) h
-    ∙ ap (λ b. cond b (j ∷ jobs) (j ∷ (jobs ++ job ∷ []))) e
-    ∙ ap (λ b. j ∷ cond b jobs (jobs ++ job ∷ [])) (sym e)
+    ∙ either_behind (is_among job jobs) j jobs (jobs ++ job ∷ [])
 
 with_by : (c d : List ℕ → Counts) (job j : List ℕ) (jobs : List (List ℕ)) (t : Bool)
     → bytes_eq job j ≡ t
@@ -255,7 +250,7 @@ with_by c d job j jobs false h other new rest =
     (tally c j ∷ with_tally job (d job) (told c jobs))) h
     ∙ ap (λ x. tally c j ∷ x) rest
     ∙ ap (λ n. record { job = j; counts = n } ∷ told d (with_job jobs job)) (sym (other j h))
-    ∙ sym (ap (told d) (behind job j jobs (is_among job jobs) h refl))
+    ∙ sym (ap (told d) (behind job j jobs h))
 
 -- What is counted of one job changes, or goes last.
 with_told : (c d : List ℕ → Counts) (job : List ℕ) (jobs : List (List ℕ))

@@ -9,8 +9,8 @@ use Rattle.run_model.specs.declared.commands.Wish.TheVariants as wish
 use Rattle.run_model.specs.declared.refusals.Refusal.{Refusal}
 use Rattle.run_model.specs.declared.refusals.Refusal.TheVariants.{BadName, BadText}
 use Rattle.run_model.specs.Texts.{is_name, is_text}
-use Rattle.written_moment.specs.Numbers.{number_of}
-use Rattle.written_moment.specs.Moments.{moment_of}
+use Rattle.console_lines.specs.Numbers.{number_of}
+use Rattle.console_lines.specs.Moments.{moment_of}
 use Rattle.console_lines.specs.declared.asked.Asked.TheVariants.{Refused}
 use Rattle.console_lines.specs.Asked.{Wished, wished, refused_behind, judged, derived, asks_judged}
 use Rattle.console_lines.specs.Asked.{asks_derive}

@@ -16,9 +16,6 @@ use Rattle.console_lines.specs.Asked.{alone}
 use Rattle.console_lines.specs.TaskLines.{asks_alone}
 use Rattle.console_lines.specs.declared.asked.Asked.{Asked}
 
-is_space : ℕ → Bool
-is_space b = b == 32
-
 -- A line has at least one word.
 has_words : (line : List ℕ) → 0 < length (words_of line)
 has_words line = grind (arith, length-slice_split (λ b. b == 32) line)

@@ -59,21 +59,6 @@ abbrev pub layout_word : Layout → List ℕ
 layout_word Small = codes "small"
 layout_word Large = codes "large"
 
--- How many scopes, groups and tasks there can be.
-abbrev pub tasks_room : Layout → List ℕ
-tasks_room layout = codes ",\"tasks\":" ++ (decimal (most_tasks layout) ++ codes "}")
-
-abbrev pub groups_room : Layout → List ℕ
-groups_room layout = codes ",\"groups\":" ++ (decimal MOST_GROUPS ++ tasks_room layout)
-
-abbrev pub room_text : Layout → List ℕ
-room_text layout =
-    codes ",\"room\":{\"scopes\":" ++ (decimal (most_scopes layout) ++ groups_room layout)
-
-abbrev pub layout_text : Layout → List ℕ
-layout_text layout =
-    codes ",\"layout\":" ++ (quoted (layout_word layout) ++ room_text layout)
-
 -- ---- a scope
 
 abbrev pub kind_word : Kind → List ℕ
@@ -93,47 +78,19 @@ parent_text _ parent = decimal parent
 -- The value that it holds, and under which key.
 abbrev pub held_text : Kind → List ℕ
 held_text (kind.Value key text) =
-    codes ",\"key\":" ++ (quoted key ++ (codes ",\"value\":" ++ string_text text))
+    codes ",\"key\":" ++ quoted key ++ (codes ",\"value\":" ++ string_text text)
 held_text _ = codes ",\"key\":null,\"value\":null"
 
 -- Whether it is done, why, and with which cause.
-abbrev pub cause_text : List ℕ → List ℕ
-cause_text cause = codes ",\"cause\":" ++ (string_text cause ++ codes "}")
-
-abbrev pub ending_text : Reason → List ℕ → List ℕ
-ending_text reason cause =
-    codes ",\"done\":true,\"reason\":" ++ (quoted (reason_text reason) ++ cause_text cause)
-
 abbrev pub done_text : Option (Reason × List ℕ) → List ℕ
 done_text None = codes ",\"done\":false,\"reason\":null,\"cause\":null}"
-done_text (Some ending) = ending_text ending.0 ending.1
-
-abbrev pub ends_text : Look → List ℕ
-ends_text look = codes ",\"deadline\":" ++ (number_or_null look.deadline ++ done_text look.done)
-
-abbrev pub derived_text : ℕ → Kind → List ℕ
-derived_text parent kind =
-    codes ",\"parent\":" ++ (parent_text kind parent
-    ++ (codes ",\"kind\":" ++ (quoted (kind_word kind) ++ held_text kind)))
+done_text (Some ending) =
+    codes ",\"done\":true,\"reason\":" ++ quoted (reason_text ending.0)
+    ++ (codes ",\"cause\":" ++ string_text ending.1) ++ codes "}"
 
 -- The number and the name of a scope or a group.
 abbrev pub opened_text : ℕ → List ℕ → List ℕ
-opened_text n name =
-    codes "{\"number\":" ++ (decimal n ++ (codes ",\"name\":" ++ quoted name))
-
--- ---- a group
-
-abbrev pub first_error : Option (List ℕ) → List ℕ
-first_error error = codes ",\"error\":" ++ (string_or_null error ++ codes "}")
-
-abbrev pub counted_text : GroupLook → List ℕ
-counted_text look =
-    codes ",\"unfinished\":" ++ (decimal look.unfinished ++ first_error look.error)
-
-abbrev pub limited_group : GroupLook → List ℕ
-limited_group look =
-    codes ",\"limit\":" ++ (number_or_null look.limit
-    ++ (codes ",\"waited\":" ++ (truth_text look.waited ++ counted_text look)))
+opened_text n name = codes "{\"number\":" ++ decimal n ++ (codes ",\"name\":" ++ quoted name)
 
 -- ---- a task
 
@@ -142,46 +99,50 @@ abbrev pub failure_of : Phase → Option (List ℕ)
 failure_of (phase.Failure error) = Some error
 failure_of _ = None
 
-abbrev pub outcome_text : TaskLook → List ℕ
-outcome_text look =
-    codes ",\"error\":" ++ (string_or_null (failure_of look.phase)
-    ++ (codes ",\"retry_of\":" ++ (number_or_null look.retry_of ++ codes "}")))
-
-abbrev pub named_work : TaskLook → List ℕ
-named_work look =
-    codes ",\"argument\":" ++ (quoted look.argument
-    ++ (codes ",\"phase\":" ++ (quoted (phase_word look.phase) ++ outcome_text look)))
-
-abbrev pub job_of_task : TaskLook → List ℕ
-job_of_task look = codes ",\"job\":" ++ (quoted look.job ++ named_work look)
-
--- The name of its group stands after the group's number.
-abbrev pub named_group : (group : List ℕ) → TaskLook → List ℕ
-named_group group look = codes ",\"group_name\":" ++ (quoted group ++ job_of_task look)
-
-abbrev pub group_of_task : (group : List ℕ) → TaskLook → List ℕ
-group_of_task group look =
-    codes ",\"group\":" ++ (decimal look.group ++ named_group group look)
-
 -- ---- all of them
 
 -- That of the store says first in which version of this form all of it is.
 abbrev pub store_object : ℕ → ℕ → Layout → List ℕ
 store_object count clock layout =
-    codes "{\"version\":1,\"count\":" ++ (decimal count
-    ++ (codes ",\"clock\":" ++ (decimal clock ++ layout_text layout)))
+    codes "{\"version\":1,\"count\":" ++ decimal count
+    ++ (codes ",\"clock\":" ++ decimal clock)
+    ++ (codes ",\"layout\":" ++ quoted (layout_word layout))
+    ++ (codes ",\"room\":{\"scopes\":" ++ decimal (most_scopes layout))
+    ++ (codes ",\"groups\":" ++ decimal MOST_GROUPS)
+    ++ (codes ",\"tasks\":" ++ decimal (most_tasks layout))
+    ++ codes "}"
 
 abbrev pub scope_object : ℕ → ℕ → Kind → Look → List ℕ
 scope_object n parent kind look =
-    opened_text n look.name ++ (derived_text parent kind ++ ends_text look)
+    opened_text n look.name
+    ++ (codes ",\"parent\":" ++ parent_text kind parent)
+    ++ (codes ",\"kind\":" ++ quoted (kind_word kind))
+    ++ held_text kind
+    ++ (codes ",\"deadline\":" ++ number_or_null look.deadline)
+    ++ done_text look.done
 
 abbrev pub group_object : ℕ → GroupLook → List ℕ
 group_object n look =
     opened_text n look.name
-    ++ (codes ",\"scope\":" ++ (decimal look.scope ++ limited_group look))
+    ++ (codes ",\"scope\":" ++ decimal look.scope)
+    ++ (codes ",\"limit\":" ++ number_or_null look.limit)
+    ++ (codes ",\"waited\":" ++ truth_text look.waited)
+    ++ (codes ",\"unfinished\":" ++ decimal look.unfinished)
+    ++ (codes ",\"error\":" ++ string_or_null look.error)
+    ++ codes "}"
 
+-- The name of its group stands after the group's number.
 abbrev pub task_object : ℕ → (group : List ℕ) → TaskLook → List ℕ
-task_object n group look = codes "{\"number\":" ++ (decimal n ++ group_of_task group look)
+task_object n group look =
+    codes "{\"number\":" ++ decimal n
+    ++ (codes ",\"group\":" ++ decimal look.group)
+    ++ (codes ",\"group_name\":" ++ quoted group)
+    ++ (codes ",\"job\":" ++ quoted look.job)
+    ++ (codes ",\"argument\":" ++ quoted look.argument)
+    ++ (codes ",\"phase\":" ++ quoted (phase_word look.phase))
+    ++ (codes ",\"error\":" ++ string_or_null (failure_of look.phase))
+    ++ (codes ",\"retry_of\":" ++ number_or_null look.retry_of)
+    ++ codes "}"
 
 -- What an entry prints. That of the store is left open: its lists follow.
 abbrev pub entry_text : Entry → List ℕ

@@ -4,7 +4,7 @@ use Rattle.std.specs.Option.{option_map, option_and_then}
 use Rattle.std.specs.Str.{bytes_eq}
 use Rattle.run_model.specs.declared.bounds.TheConstants.{GREATEST_LIMIT}
 use Rattle.run_model.specs.declared.commands.Command.TheVariants as command
-use Rattle.written_moment.specs.Numbers.{number_of}
+use Rattle.console_lines.specs.Numbers.{number_of}
 use Rattle.console_lines.specs.declared.asked.Asked.{Asked}
 use Rattle.console_lines.specs.declared.asked.Asked.TheVariants as asked
 use Rattle.console_lines.specs.Checked.{asks, checked, of_one, of_two, of_three}

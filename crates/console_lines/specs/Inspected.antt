@@ -10,31 +10,25 @@ use Rattle.console_lines.specs.declared.rows.Row.{Row}
 use Rattle.console_lines.specs.declared.rows.Row.TheVariants as row
 use Rattle.console_lines.specs.Replies.{group_text, phase_text, scope_text}
 
--- A word and a number, as in `scope 1 `.
-abbrev pub numbered : List ℕ → ℕ → List ℕ
-numbered word n = word ++ (codes " " ++ (decimal n ++ codes " "))
-
--- After them a name, as in `scope 1 a `.
+-- A word, a number and a name, as in `scope 1 a `.
 abbrev pub named : List ℕ → ℕ → List ℕ → List ℕ
-named word n name = numbered word n ++ (name ++ codes " ")
+named word n name = word ++ (codes " " ++ decimal n) ++ (codes " " ++ name) ++ codes " "
 
 -- Which task this one is a retry of, if it is one.
 abbrev pub retry_text : Option ℕ → List ℕ
 retry_text None = []
 retry_text (Some n) = codes " retry of " ++ decimal n
 
--- A job and its argument, as in `copy a `.
-abbrev pub job_text : TaskLook → List ℕ
-job_text look = look.job ++ (codes " " ++ (look.argument ++ codes " "))
-
--- A task's work and how far it is.
+-- A task's job, its argument and how far it is.
 abbrev pub work_text : TaskLook → List ℕ
-work_text look = job_text look ++ (phase_text look.phase ++ retry_text look.retry_of)
+work_text look =
+    look.job ++ (codes " " ++ look.argument) ++ codes " "
+    ++ phase_text look.phase ++ retry_text look.retry_of
 
 -- What a row prints, without its LF.
 abbrev pub row_text : Row → List ℕ
 row_text (row.Counts count clock) =
-    codes "events " ++ (decimal count ++ (codes "; clock " ++ decimal clock))
+    codes "events " ++ decimal count ++ (codes "; clock " ++ decimal clock)
 row_text (row.Scope s look) =
     named (codes "scope") s look.name ++ scope_text look.done look.deadline
 row_text (row.Group g look) = named (codes "group") g look.name ++ group_text look

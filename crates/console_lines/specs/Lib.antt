@@ -2,6 +2,7 @@ pub mod Asked
 pub mod Branches
 pub mod Checked
 pub mod Counted
+pub mod Dates
 pub mod Entries
 pub mod EntryNights
 pub mod Faults
@@ -12,11 +13,15 @@ pub mod Inspected
 pub mod Lines
 pub mod Listed
 pub mod ListedNights
+pub mod MomentExamples
+pub mod Moments
 pub mod Nights
+pub mod Numbers
 pub mod Progress
 pub mod Replies
 pub mod ScopeLines
 pub mod Script
+pub mod Shapes
 pub mod Strict
 pub mod StrictNights
 pub mod Summaries

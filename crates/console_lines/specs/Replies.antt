@@ -16,7 +16,6 @@ use Rattle.run_model.specs.Refusals.{refusal_text}
 use Rattle.run_model.specs.Reasons.{reason_text}
 use Rattle.console_lines.specs.declared.replies.Reply.{Reply}
 use Rattle.console_lines.specs.declared.replies.Reply.TheVariants as reply
-use Rattle.console_lines.specs.declared.tallies.Counts.{Counts}
 use Rattle.console_lines.specs.declared.tallies.Tally.{Tally}
 
 -- How far a task is.
@@ -36,7 +35,8 @@ task_text n phase = codes "task " ++ decimal n ++ codes " " ++ phase_text phase
 abbrev pub answer_text : Answer → List ℕ
 answer_text (answer.Scope s) = codes "scope " ++ decimal s
 answer_text (answer.Group g None) = codes "group " ++ decimal g
-answer_text (answer.Group g (Some s)) = codes "group " ++ decimal g ++ codes " scope " ++ decimal s
+answer_text (answer.Group g (Some s)) =
+    codes "group " ++ decimal g ++ (codes " scope " ++ decimal s)
 answer_text answer.Done = codes "ok"
 answer_text (answer.Task n phase) = task_text n phase
 answer_text (answer.Waited None) = codes "wait ok"
@@ -49,7 +49,7 @@ deadline_text (Some moment) = decimal moment
 
 -- Why a scope is done, and with which cause.
 abbrev pub ending_text : Reason → List ℕ → List ℕ
-ending_text reason cause = codes "; err " ++ reason_text reason ++ codes "; cause " ++ cause
+ending_text reason cause = codes "; err " ++ reason_text reason ++ (codes "; cause " ++ cause)
 
 -- A scope that is live or done, its deadline, and why it is done.
 abbrev pub scope_text : Option (Reason × List ℕ) → Option ℕ → List ℕ
@@ -60,7 +60,7 @@ scope_text (Some ending) deadline =
 -- A task that was started: its number, its job and its argument.
 abbrev pub started_text : TaskInfo → List ℕ
 started_text info =
-    codes "start " ++ decimal info.task ++ codes " " ++ info.job ++ codes " " ++ info.argument
+    codes "start " ++ decimal info.task ++ (codes " " ++ info.job) ++ (codes " " ++ info.argument)
 
 -- A limit, or `none`.
 abbrev pub limit_text : Option ℕ → List ℕ
@@ -80,21 +80,18 @@ error_text (Some error) = error
 abbrev pub group_text : GroupLook → List ℕ
 group_text look =
     codes "unfinished " ++ decimal look.unfinished
-    ++ codes "; limit " ++ limit_text look.limit
-    ++ codes "; waited " ++ yes_or_no look.waited
-    ++ codes "; error " ++ error_text look.error
+    ++ (codes "; limit " ++ limit_text look.limit)
+    ++ (codes "; waited " ++ yes_or_no look.waited)
+    ++ (codes "; error " ++ error_text look.error)
 
--- How many tasks there are, and how many of them have ended in each way.
-abbrev pub counts_text : Counts → List ℕ
-counts_text counts =
-    codes "total " ++ decimal counts.total
-    ++ codes "; success " ++ decimal counts.success
-    ++ codes "; failure " ++ decimal counts.failure
-    ++ codes "; interrupted " ++ decimal counts.interrupted
-
--- A job, and what is counted of its tasks.
+-- A job, how many tasks it has, and how many of them have ended in each way.
 abbrev pub tally_text : Tally → List ℕ
-tally_text tally = codes "tally " ++ tally.job ++ codes " " ++ counts_text tally.counts
+tally_text tally =
+    codes "tally " ++ tally.job
+    ++ (codes " total " ++ decimal tally.counts.total)
+    ++ (codes "; success " ++ decimal tally.counts.success)
+    ++ (codes "; failure " ++ decimal tally.counts.failure)
+    ++ (codes "; interrupted " ++ decimal tally.counts.interrupted)
 
 -- What a step's answer prints.
 abbrev pub step_text : Told → List ℕ

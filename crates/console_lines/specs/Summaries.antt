@@ -12,7 +12,7 @@ use Rattle.run_model.specs.declared.scopes.Kind.{Kind}
 use Rattle.run_model.specs.declared.scopes.Kind.TheVariants as kind
 use Rattle.run_model.specs.Questions.{group_look_of, look_of, task_look_of}
 use Rattle.run_model.specs.State.{State}
-use Rattle.written_moment.specs.Dates.{moment_text}
+use Rattle.console_lines.specs.Dates.{moment_text}
 use Rattle.console_lines.specs.declared.summaries.Phases.{Phases}
 use Rattle.console_lines.specs.Inspected.{count_below, lines_below, named}
 use Rattle.console_lines.specs.Listed.{phase_word}
@@ -44,18 +44,14 @@ phases_of p g = record {
 
 -- ---- lines
 
--- A number after what it counts.
-abbrev pub counted : List ℕ → ℕ → List ℕ
-counted word n = word ++ decimal n
-
 abbrev pub phases_text : Phases → List ℕ
 phases_text phases =
-    counted (codes "; tasks held ") phases.held
-    ++ (counted (codes ", ready ") phases.ready
-    ++ (counted (codes ", running ") phases.running
-    ++ (counted (codes ", success ") phases.success
-    ++ (counted (codes ", error ") phases.error
-    ++ counted (codes ", interrupted ") phases.interrupted))))
+    codes "; tasks held " ++ decimal phases.held
+    ++ (codes ", ready " ++ decimal phases.ready)
+    ++ (codes ", running " ++ decimal phases.running)
+    ++ (codes ", success " ++ decimal phases.success)
+    ++ (codes ", error " ++ decimal phases.error)
+    ++ (codes ", interrupted " ++ decimal phases.interrupted)
 
 -- A deadline in seconds, and its date and time; or `none`.
 abbrev pub dated_text : Option ℕ → List ℕ
@@ -65,22 +61,21 @@ dated_text (Some moment) = decimal moment ++ (codes " " ++ moment_text moment)
 -- A scope as its question is answered, with a deadline's date and time.
 abbrev pub state_text : Look → List ℕ
 state_text look = option_map_or
-    (λ ending. codes "done; deadline " ++ (dated_text look.deadline
-    ++ ending_text ending.0 ending.1))
+    (λ ending. codes "done; deadline " ++ dated_text look.deadline
+    ++ ending_text ending.0 ending.1)
     look.done
     (codes "live; deadline " ++ dated_text look.deadline)
 
 -- A group as in a whole state, and how many of its tasks are in each phase.
 abbrev pub counted_group : ℕ → GroupLook → Phases → List ℕ
 counted_group g group phases =
-    named (codes "group") g group.name ++ (group_text group ++ phases_text phases)
+    named (codes "group") g group.name ++ group_text group ++ phases_text phases
 
 -- After it stands its scope.
 abbrev pub group_summary : ℕ → GroupLook → Phases → Look → List ℕ
 group_summary g group phases scope =
-    counted_group g group phases
-    ++ (counted (codes "; scope ") group.scope
-    ++ (codes " " ++ (state_text scope ++ 10 ∷ [])))
+    counted_group g group phases ++ (codes "; scope " ++ decimal group.scope) ++ codes " "
+    ++ state_text scope ++ 10 ∷ []
 
 -- Whether a scope has a line: it is done, and isn't a group's own, which the group's line shows.
 abbrev pub is_summed : Kind → Look → Bool

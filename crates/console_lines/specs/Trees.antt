@@ -108,14 +108,14 @@ lead parents n = if nat_eq n 0 then [] else (above parents n ++ mark parents n)
 
 -- What a scope is; if it holds a value, its key and text follow.
 abbrev pub kind_text : Kind → List ℕ
-kind_text (kind.Value key text) = codes "value " ++ (key ++ (codes " " ++ text))
+kind_text (kind.Value key text) = codes "value " ++ key ++ (codes " " ++ text)
 kind_text kind = kind_word kind
 
 -- A scope: its number, its name, what it is, and then whether it is done, as its question says it.
 abbrev pub kind_line : ℕ → Kind → Look → List ℕ
 kind_line s kind look =
-    named (codes "scope") s look.name
-    ++ (kind_text kind ++ (codes "; " ++ (scope_text look.done look.deadline ++ 10 ∷ [])))
+    named (codes "scope") s look.name ++ kind_text kind ++ codes "; "
+    ++ scope_text look.done look.deadline ++ 10 ∷ []
 
 abbrev pub tree_scope : State → ℕ → List ℕ
 tree_scope p s = option_map_or (λ row. option_map_or (kind_line s row.kind) (look_of p s) [])
@@ -131,19 +131,19 @@ work_line p n =
 -- How many of these there are and can be, as in `; tasks 2 of 8192`.
 abbrev pub taken_text : List ℕ → (count most : ℕ) → List ℕ
 taken_text word count most =
-    codes "; " ++ (word ++ (codes " " ++ (decimal count ++ (codes " of " ++ decimal most))))
+    codes "; " ++ word ++ (codes " " ++ decimal count) ++ (codes " of " ++ decimal most)
 
 -- How much of a store of this layout is taken.
 abbrev pub fullness : Layout → Taken → List ℕ
 fullness layout taken =
     taken_text (codes "scopes") taken.scopes (most_scopes layout)
-    ++ (taken_text (codes "groups") taken.groups MOST_GROUPS
-    ++ taken_text (codes "tasks") taken.tasks (most_tasks layout))
+    ++ taken_text (codes "groups") taken.groups MOST_GROUPS
+    ++ taken_text (codes "tasks") taken.tasks (most_tasks layout)
 
 -- The first line: how many events there were and the clock, and how full the store is.
 abbrev pub head_line : (count clock : ℕ) → Layout → Taken → List ℕ
 head_line count clock layout taken =
-    row_text (row.Counts count clock) ++ (fullness layout taken ++ 10 ∷ [])
+    row_text (row.Counts count clock) ++ fullness layout taken ++ 10 ∷ []
 
 -- What a state takes of its store.
 abbrev pub taken_of : State → Taken

@@ -1,27 +1,22 @@
 //! An [`Entry`] is what is printed as JSON of a store, of a scope, of a group or of a task. It
 //! takes no memory.
 
-ghost use Rattle.std.specs.Fmt.{decimal};
 ghost use Rattle.std.specs.List.{flat_map};
 ghost use Rattle.std.specs.Prelude.{◌≡◌, ◌++◌, ◌+◌, ◌≤◌, codes, length};
 ghost use Rattle.arrayvec.specs.ArrayVec.{array_vec_len};
 ghost use Rattle.console_lines.specs.declared.entries.TheConstants.{LONGEST_ENTRY};
-ghost use Rattle.console_lines.specs.Entries.{derived_text, done_text, ending_text, ends_text};
-ghost use Rattle.console_lines.specs.Entries.{entry_text, failure_of, group_object};
-ghost use Rattle.console_lines.specs.Entries.{held_text, is_escaped, kind_word};
-ghost use Rattle.console_lines.specs.Entries.{layout_word, limited_group, named_work};
-ghost use Rattle.console_lines.specs.Entries.{number_or_null, opened_text};
-ghost use Rattle.console_lines.specs.Entries.{parent_text, quoted, room_text, scope_object};
-ghost use Rattle.console_lines.specs.Entries.{separator, store_object, string_byte, string_or_null};
-ghost use Rattle.console_lines.specs.Entries.{string_text, task_object, truth_text};
-ghost use Rattle.console_lines.specs.Gathers.{Gathers};
-ghost use Rattle.run_model.specs.Reasons.{reason_text};
+ghost use Rattle.console_lines.specs.Entries.{done_text, entry_text, failure_of, group_object};
+ghost use Rattle.console_lines.specs.Entries.{held_text, is_escaped, kind_word, layout_word};
+ghost use Rattle.console_lines.specs.Entries.{number_or_null, opened_text, parent_text, quoted};
+ghost use Rattle.console_lines.specs.Entries.{scope_object, separator, store_object, string_byte};
+ghost use Rattle.console_lines.specs.Entries.{string_or_null, string_text, task_object, truth_text};
+ghost use Rattle.console_lines.specs.Gathers.{Gathers, GathersAfter};
 
-use crate::gathers::{push, push_count, push_moment, push_number};
+use crate::gathers::{push, push_after, push_count, push_moment, push_number};
 use crate::listings::phase_word;
 use arrayvec::ArrayVec;
 use run_model::{
-    GroupLook, Kind, Layout, Limit, Look, MOST_GROUPS, Moment, Name, Phase, Reason, TaskLook, Text,
+    GroupLook, Kind, Layout, Look, MOST_GROUPS, Moment, Name, Phase, Reason, TaskLook, Text,
 };
 
 /// No entry has more bytes, with what stands before it in a list.
@@ -72,13 +67,13 @@ fn push_store<const N: usize>(out: &mut ArrayVec<u8, N>, count: u64, clock: Mome
     requires { array_vec_len out.old + 204 ≤ N }
     ensures { Gathers out.old.items out.new.items (store_object count clock layout) 204 }
 {
-    push(out, b"{\"version\":1,\"count\":");
-    push_number(out, count);
-    push(out, b",\"clock\":");
-    push_moment(out, clock);
-    push(out, b",\"layout\":");
-    push_layout_word(out, layout);
-    push_room(out, layout);
+    push_number(out, b"{\"version\":1,\"count\":", count);
+    push_moment(out, b",\"clock\":", clock);
+    push_layout(out, layout);
+    push_number(out, b",\"room\":{\"scopes\":", layout.most_scopes() as u64);
+    push_number(out, b",\"groups\":", MOST_GROUPS as u64);
+    push_number(out, b",\"tasks\":", layout.most_tasks() as u64);
+    push(out, b"}");
 }
 
 /// A scope.
@@ -89,24 +84,32 @@ fn push_scope<const N: usize>(
     kind: &Kind,
     look: &Look,
 )
-    requires { array_vec_len out.old + 535 ≤ N }
+    requires { array_vec_len out.old + 543 ≤ N }
     ensures { Gathers out.old.items out.new.items
-        (scope_object number parent kind.now look.now) 535 }
+        (scope_object number parent kind.now look.now) 543 }
 {
     push_opened(out, number, &look.name);
-    push_derived(out, parent, kind);
-    push_ends(out, look);
+    push_parent(out, parent, kind);
+    push_quoted(out, b",\"kind\":", kind_word(kind).as_bytes());
+    push_held(out, kind);
+    let deadline = look.deadline.map(|moment| moment.get());
+    push_number_or_null(out, b",\"deadline\":", deadline);
+    push_done(out, &look.done);
 }
 
 /// A group.
 fn push_group<const N: usize>(out: &mut ArrayVec<u8, N>, number: u16, look: &GroupLook)
-    requires { array_vec_len out.old + 259 ≤ N }
-    ensures { Gathers out.old.items out.new.items (group_object number look.now) 259 }
+    requires { array_vec_len out.old + 274 ≤ N }
+    ensures { Gathers out.old.items out.new.items (group_object number look.now) 274 }
 {
     push_opened(out, number, &look.name);
-    push(out, b",\"scope\":");
-    push_count(out, look.scope);
-    push_limited(out, look);
+    push_count(out, b",\"scope\":", look.scope);
+    let limit = look.limit.get().map(u64::from);
+    push_number_or_null(out, b",\"limit\":", limit);
+    push_waited(out, look.waited);
+    push_count(out, b",\"unfinished\":", look.unfinished);
+    push_error(out, &look.error);
+    push(out, b"}");
 }
 
 /// A task.
@@ -114,15 +117,16 @@ fn push_task<const N: usize>(out: &mut ArrayVec<u8, N>, number: u16, group: &Nam
     requires { array_vec_len out.old + 379 ≤ N }
     ensures { Gathers out.old.items out.new.items (task_object number group.now look.now) 379 }
 {
-    push(out, b"{\"number\":");
-    push_count(out, number);
-    push(out, b",\"group\":");
-    push_count(out, look.group);
-    push(out, b",\"group_name\":");
-    push_name_quoted(out, group);
-    push(out, b",\"job\":");
-    push_name_quoted(out, &look.job);
-    push_work(out, look);
+    push_count(out, b"{\"number\":", number);
+    push_count(out, b",\"group\":", look.group);
+    push_quoted(out, b",\"group_name\":", group.as_bytes());
+    push_quoted(out, b",\"job\":", look.job.as_bytes());
+    push_quoted(out, b",\"argument\":", look.argument.as_bytes());
+    push_quoted(out, b",\"phase\":", phase_word(&look.phase).as_bytes());
+    push_failure(out, &look.phase);
+    let old = look.retry_of.map(u64::from);
+    push_number_or_null(out, b",\"retry_of\":", old);
+    push(out, b"}");
 }
 
 /// What stands before an entry of a list.
@@ -137,28 +141,15 @@ fn push_separator<const N: usize>(out: &mut ArrayVec<u8, N>, first: bool)
     }
 }
 
-fn push_layout_word<const N: usize>(out: &mut ArrayVec<u8, N>, layout: Layout)
-    requires { array_vec_len out.old + 34 ≤ N }
-    ensures { Gathers out.old.items out.new.items (quoted (layout_word layout)) 34 }
+fn push_layout<const N: usize>(out: &mut ArrayVec<u8, N>, layout: Layout)
+    requires { array_vec_len out.old + 44 ≤ N }
+    ensures { GathersAfter out.old.items out.new.items (codes ",\"layout\":")
+        (quoted (layout_word layout)) 34 }
 {
     match layout {
-        Layout::Small => push(out, b"\"small\""),
-        Layout::Large => push(out, b"\"large\""),
+        Layout::Small => push(out, b",\"layout\":\"small\""),
+        Layout::Large => push(out, b",\"layout\":\"large\""),
     }
-}
-
-/// How many scopes, groups and tasks there can be.
-fn push_room<const N: usize>(out: &mut ArrayVec<u8, N>, layout: Layout)
-    requires { array_vec_len out.old + 98 ≤ N }
-    ensures { Gathers out.old.items out.new.items (room_text layout) 98 }
-{
-    push(out, b",\"room\":{\"scopes\":");
-    push_number(out, layout.most_scopes() as u64);
-    push(out, b",\"groups\":");
-    push_number(out, MOST_GROUPS as u64);
-    push(out, b",\"tasks\":");
-    push_number(out, layout.most_tasks() as u64);
-    push(out, b"}");
 }
 
 /// The number and the name of a scope or a group.
@@ -166,38 +157,19 @@ fn push_opened<const N: usize>(out: &mut ArrayVec<u8, N>, number: u16, name: &Na
     requires { array_vec_len out.old + 57 ≤ N }
     ensures { Gathers out.old.items out.new.items (opened_text number name.now) 57 }
 {
-    push(out, b"{\"number\":");
-    push_count(out, number);
-    push(out, b",\"name\":");
-    push_name_quoted(out, name);
+    push_count(out, b"{\"number\":", number);
+    push_quoted(out, b",\"name\":", name.as_bytes());
 }
 
-fn push_name_quoted<const N: usize>(out: &mut ArrayVec<u8, N>, name: &Name)
-    requires { array_vec_len out.old + 34 ≤ N }
-    ensures { Gathers out.old.items out.new.items (quoted name.now) 34 }
-{
-    push_quoted(out, name.as_bytes());
-}
-
-/// What a scope was derived from, what it is, and which value it holds.
-fn push_derived<const N: usize>(out: &mut ArrayVec<u8, N>, parent: u16, kind: &Kind)
-    requires { array_vec_len out.old + 258 ≤ N }
-    ensures { Gathers out.old.items out.new.items (derived_text parent kind.now) 258 }
-{
-    push(out, b",\"parent\":");
-    push_parent(out, parent, kind);
-    push(out, b",\"kind\":");
-    push_quoted(out, kind_word(kind).as_bytes());
-    push_held(out, kind);
-}
-
+/// What a scope was derived from.
 fn push_parent<const N: usize>(out: &mut ArrayVec<u8, N>, parent: u16, kind: &Kind)
-    requires { array_vec_len out.old + 20 ≤ N }
-    ensures { Gathers out.old.items out.new.items (parent_text kind.now parent) 20 }
+    requires { array_vec_len out.old + 30 ≤ N }
+    ensures { GathersAfter out.old.items out.new.items (codes ",\"parent\":")
+        (parent_text kind.now parent) 20 }
 {
     match kind {
-        Kind::Root => push(out, b"null"),
-        _ => push_count(out, parent),
+        Kind::Root => push(out, b",\"parent\":null"),
+        _ => push_count(out, b",\"parent\":", parent),
     }
 }
 
@@ -223,32 +195,10 @@ fn push_held<const N: usize>(out: &mut ArrayVec<u8, N>, kind: &Kind)
 {
     match kind {
         Kind::Value(key, text) => {
-            push(out, b",\"key\":");
-            push_name_quoted(out, key);
-            push(out, b",\"value\":");
-            push_string(out, text);
+            push_quoted(out, b",\"key\":", key.as_bytes());
+            push_string(out, b",\"value\":", text);
         }
         _ => push(out, b",\"key\":null,\"value\":null"),
-    }
-}
-
-/// A scope from its deadline on.
-fn push_ends<const N: usize>(out: &mut ArrayVec<u8, N>, look: &Look)
-    requires { array_vec_len out.old + 220 ≤ N }
-    ensures { Gathers out.old.items out.new.items (ends_text look.now) 220 }
-{
-    push(out, b",\"deadline\":");
-    push_deadline(out, look.deadline);
-    push_done(out, &look.done);
-}
-
-fn push_deadline<const N: usize>(out: &mut ArrayVec<u8, N>, deadline: Option<Moment>)
-    requires { array_vec_len out.old + 12 ≤ N }
-    ensures { Gathers out.old.items out.new.items (number_or_null deadline) 12 }
-{
-    match deadline {
-        Some(moment) => push_moment(out, moment),
-        None => push(out, b"null"),
     }
 }
 
@@ -259,128 +209,82 @@ fn push_done<const N: usize>(out: &mut ArrayVec<u8, N>, done: &Option<(Reason, T
 {
     match done {
         None => push(out, b",\"done\":false,\"reason\":null,\"cause\":null}"),
-        Some(ending) => push_ended(out, ending.0, &ending.1),
+        Some(ending) => {
+            push_quoted(
+                out,
+                b",\"done\":true,\"reason\":",
+                ending.0.text().as_bytes(),
+            );
+            push_string(out, b",\"cause\":", &ending.1);
+            push(out, b"}");
+        }
     }
 }
 
-fn push_ended<const N: usize>(out: &mut ArrayVec<u8, N>, reason: Reason, cause: &Text)
-    requires { array_vec_len out.old + 196 ≤ N }
-    ensures { Gathers out.old.items out.new.items (ending_text reason cause.now) 196 }
+fn push_waited<const N: usize>(out: &mut ArrayVec<u8, N>, waited: bool)
+    requires { array_vec_len out.old + 15 ≤ N }
+    ensures { GathersAfter out.old.items out.new.items (codes ",\"waited\":")
+        (truth_text waited) 5 }
 {
-    push(out, b",\"done\":true,\"reason\":");
-    push_reason(out, reason);
-    push(out, b",\"cause\":");
-    push_string(out, cause);
-    push(out, b"}");
-}
-
-fn push_reason<const N: usize>(out: &mut ArrayVec<u8, N>, reason: Reason)
-    requires { array_vec_len out.old + 34 ≤ N }
-    ensures { Gathers out.old.items out.new.items (quoted (reason_text reason)) 34 }
-{
-    push_quoted(out, reason.text().as_bytes());
-}
-
-/// A group from its limit on.
-fn push_limited<const N: usize>(out: &mut ArrayVec<u8, N>, look: &GroupLook)
-    requires { array_vec_len out.old + 188 ≤ N }
-    ensures { Gathers out.old.items out.new.items (limited_group look.now) 188 }
-{
-    push(out, b",\"limit\":");
-    push_limit(out, look.limit);
-    push(out, b",\"waited\":");
-    push_truth(out, look.waited);
-    push(out, b",\"unfinished\":");
-    push_count(out, look.unfinished);
-    push(out, b",\"error\":");
-    push_string_or_null(out, &look.error);
-    push(out, b"}");
-}
-
-fn push_limit<const N: usize>(out: &mut ArrayVec<u8, N>, limit: Limit)
-    requires { array_vec_len out.old + 5 ≤ N }
-    ensures { Gathers out.old.items out.new.items (number_or_null limit) 5 }
-{
-    match limit.get() {
-        Some(most) => push_count(out, u16::from(most)),
-        None => push(out, b"null"),
+    if waited {
+        push(out, b",\"waited\":true");
+    } else {
+        push(out, b",\"waited\":false");
     }
 }
 
-/// A task from its argument on.
-fn push_work<const N: usize>(out: &mut ArrayVec<u8, N>, look: &TaskLook)
-    requires { array_vec_len out.old + 261 ≤ N }
-    ensures { Gathers out.old.items out.new.items (named_work look.now) 261 }
+/// The first error of a group.
+fn push_error<const N: usize>(out: &mut ArrayVec<u8, N>, error: &Option<Text>)
+    requires { array_vec_len out.old + 139 ≤ N }
+    ensures { GathersAfter out.old.items out.new.items (codes ",\"error\":")
+        (string_or_null error.now) 130 }
 {
-    push(out, b",\"argument\":");
-    push_name_quoted(out, &look.argument);
-    push(out, b",\"phase\":");
-    push_quoted(out, phase_word(&look.phase).as_bytes());
-    push(out, b",\"error\":");
-    push_failure(out, &look.phase);
-    push(out, b",\"retry_of\":");
-    push_number_or_null(out, look.retry_of);
-    push(out, b"}");
+    match error {
+        Some(error) => push_string(out, b",\"error\":", error),
+        None => push(out, b",\"error\":null"),
+    }
 }
 
 /// With which error a task failed.
 fn push_failure<const N: usize>(out: &mut ArrayVec<u8, N>, phase: &Phase)
-    requires { array_vec_len out.old + 130 ≤ N }
-    ensures { Gathers out.old.items out.new.items (string_or_null (failure_of phase.now)) 130 }
+    requires { array_vec_len out.old + 139 ≤ N }
+    ensures { GathersAfter out.old.items out.new.items (codes ",\"error\":")
+        (string_or_null (failure_of phase.now)) 130 }
 {
     match phase {
-        Phase::Failure(error) => push_string(out, error),
-        _ => push(out, b"null"),
+        Phase::Failure(error) => push_string(out, b",\"error\":", error),
+        _ => push(out, b",\"error\":null"),
     }
 }
 
-fn push_number_or_null<const N: usize>(out: &mut ArrayVec<u8, N>, number: Option<u16>)
-    requires { array_vec_len out.old + 20 ≤ N }
-    ensures { Gathers out.old.items out.new.items (number_or_null number) 20 }
+/// A word, and a number or `null`.
+fn push_number_or_null<const N: usize>(out: &mut ArrayVec<u8, N>, word: &[u8], number: Option<u64>)
+    requires { array_vec_len out.old + (length word.now + 20) ≤ N }
+    ensures { GathersAfter out.old.items out.new.items word.now (number_or_null number) 20 }
 {
     match number {
-        Some(number) => push_count(out, number),
-        None => push(out, b"null"),
+        Some(number) => push_number(out, word, number),
+        None => push_after(out, word, b"null"),
     }
 }
 
-fn push_string_or_null<const N: usize>(out: &mut ArrayVec<u8, N>, text: &Option<Text>)
-    requires { array_vec_len out.old + 130 ≤ N }
-    ensures { Gathers out.old.items out.new.items (string_or_null text.now) 130 }
-{
-    match text {
-        Some(text) => push_string(out, text),
-        None => push(out, b"null"),
-    }
-}
-
-fn push_truth<const N: usize>(out: &mut ArrayVec<u8, N>, yes: bool)
-    requires { array_vec_len out.old + 5 ≤ N }
-    ensures { Gathers out.old.items out.new.items (truth_text yes) 5 }
-{
-    if yes {
-        push(out, b"true");
-    } else {
-        push(out, b"false");
-    }
-}
-
-/// A name or a word between quotation marks.
-fn push_quoted<const N: usize>(out: &mut ArrayVec<u8, N>, name: &[u8])
+/// A word, and a name or a word between quotation marks.
+fn push_quoted<const N: usize>(out: &mut ArrayVec<u8, N>, word: &[u8], name: &[u8])
     requires few { length name.now ≤ 32 }
-    requires room { array_vec_len out.old + 34 ≤ N }
-    ensures { Gathers out.old.items out.new.items (quoted name.now) 34 }
+    requires room { array_vec_len out.old + (length word.now + 34) ≤ N }
+    ensures { GathersAfter out.old.items out.new.items word.now (quoted name.now) 34 }
 {
+    push(out, word);
     push(out, b"\"");
-    push(out, name);
-    push(out, b"\"");
+    push_after(out, name, b"\"");
 }
 
-/// A text as a string.
-fn push_string<const N: usize>(out: &mut ArrayVec<u8, N>, text: &Text)
-    requires { array_vec_len out.old + 130 ≤ N }
-    ensures { Gathers out.old.items out.new.items (string_text text.now) 130 }
+/// A word, and a text as a string.
+fn push_string<const N: usize>(out: &mut ArrayVec<u8, N>, word: &[u8], text: &Text)
+    requires { array_vec_len out.old + (length word.now + 130) ≤ N }
+    ensures { GathersAfter out.old.items out.new.items word.now (string_text text.now) 130 }
 {
+    push(out, word);
     push(out, b"\"");
     push_escaped(out, text.as_bytes());
     push(out, b"\"");

@@ -2,6 +2,7 @@
 //!
 //! Each function has an empty body, and its clauses are the example, as in
 //! [`nights`](crate::nights).
+#![tactic(auto, unfolding(crate::proofs::OnLiterals::nights_on_literals))]
 
 ghost use Rattle.std.specs.Prelude.{◌∷◌, ◌++◌, [], codes, None, Some};
 ghost use Rattle.console_lines.specs.EntryNights.{IsShown, IsShownOf, all_kinds, failed_one};

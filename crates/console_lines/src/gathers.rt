@@ -5,20 +5,20 @@ ghost use Rattle.std.specs.Prelude.{◌≡◌, ◌++◌, ◌+◌, ◌≤◌, [],
 ghost use Rattle.std.specs.Prelude.{Some, codes, length};
 ghost use Rattle.std.specs.Fmt.{decimal};
 ghost use Rattle.arrayvec.specs.ArrayVec.{array_vec_len};
-ghost use Rattle.run_model.specs.Faults.{fault_name, fault_text, trouble_text};
+ghost use Rattle.run_model.specs.Faults.{fault_text};
 ghost use Rattle.run_model.specs.Reasons.{reason_text};
-ghost use Rattle.run_model.specs.Refusals.{refusal_name, refusal_text};
+ghost use Rattle.run_model.specs.Refusals.{refusal_text};
 ghost use Rattle.run_model.specs.Texts.{IsText};
 ghost use Rattle.console_lines.specs.declared.gathers.TheConstants.{LONGEST_REPLY};
-ghost use Rattle.console_lines.specs.Gathers.{Gathers};
-ghost use Rattle.console_lines.specs.Replies.{answer_text, counts_text, deadline_text, ending_text};
+ghost use Rattle.console_lines.specs.Gathers.{Gathers, GathersAfter};
+ghost use Rattle.console_lines.specs.Replies.{answer_text, deadline_text, ending_text};
 ghost use Rattle.console_lines.specs.Replies.{error_text, group_text, limit_text, phase_text};
 ghost use Rattle.console_lines.specs.Replies.{reply_line, reply_text, scope_text, started_text};
 ghost use Rattle.console_lines.specs.Replies.{step_text, tally_text, task_text, yes_or_no};
 
 use crate::listings::phase_word;
 use crate::replies::Reply;
-use crate::tallies::{Counts, Tally};
+use crate::tallies::Tally;
 use arrayvec::ArrayVec;
 use itoa::Buffer;
 use run_model::{
@@ -71,14 +71,12 @@ fn push_reply<const N: usize>(out: &mut ArrayVec<u8, N>, reply: &Reply)
         Reply::Refused(refusal) => push_refusal(out, *refusal),
         Reply::Step(answer) => push_step(out, answer),
         Reply::Scope(look) => push_look(out, look),
-        Reply::Value(text) => {
-            push(out, b"value ");
-            push_text(out, text);
-        }
+        Reply::Value(text) => push_text(out, b"value ", text),
         Reply::Task(task, phase) => push_task(out, *task, phase),
         Reply::Group(look) => push_group(out, look),
         Reply::Tally(tally) => push_tally(out, tally),
-        Reply::Failed(trouble) => push_trouble(out, *trouble),
+        Reply::Failed(Trouble::Refused(refusal)) => push_refusal(out, *refusal),
+        Reply::Failed(Trouble::Faulty(fault)) => push_fault(out, *fault),
     }
 }
 
@@ -91,10 +89,7 @@ fn push_step<const N: usize>(out: &mut ArrayVec<u8, N>, answer: &run_model::Repl
         run_model::Reply::Answer(answer) => push_answer(out, answer),
         run_model::Reply::Started(started) => push_start(out, &started.info),
         run_model::Reply::Finished(_) => push(out, b"ok"),
-        run_model::Reply::Acked(count) => {
-            push(out, b"acked ");
-            push_number(out, *count);
-        }
+        run_model::Reply::Acked(count) => push_number(out, b"acked ", *count),
         run_model::Reply::Refused(refusal) => push_refusal(out, *refusal),
         run_model::Reply::Faulty(fault) => push_fault(out, *fault),
     }
@@ -106,10 +101,7 @@ pub(crate) fn push_phase<const N: usize>(out: &mut ArrayVec<u8, N>, phase: &Phas
     ensures { Gathers out.old.items out.new.items (phase_text phase.now) 70 }
 {
     match phase {
-        Phase::Failure(error) => {
-            push(out, b"error ");
-            push_text(out, error);
-        }
+        Phase::Failure(error) => push_text(out, b"error ", error),
         _ => push(out, phase_word(phase).as_bytes()),
     }
 }
@@ -130,41 +122,46 @@ pub(crate) fn push_group<const N: usize>(out: &mut ArrayVec<u8, N>, look: &Group
     requires { array_vec_len out.old + 113 ≤ N }
     ensures { Gathers out.old.items out.new.items (group_text look.now) 113 }
 {
-    push(out, b"unfinished ");
-    push_count(out, look.unfinished);
-    push(out, b"; limit ");
-    push_limit(out, look.limit);
-    push(out, b"; waited ");
-    push_yes_or_no(out, look.waited);
-    push(out, b"; error ");
-    push_error(out, &look.error);
+    push_count(out, b"unfinished ", look.unfinished);
+    push_limit(out, b"; limit ", look.limit);
+    push_yes_or_no(out, b"; waited ", look.waited);
+    push_error(out, b"; error ", &look.error);
 }
 
-/// A moment has at most 12 digits.
+/// A word, and a moment, which has at most 12 digits.
 #[tactic(auto, using(crate::proofs::Digits::moment_digits))]
-pub(crate) fn push_moment<const N: usize>(out: &mut ArrayVec<u8, N>, moment: Moment)
-    requires { array_vec_len out.old + 12 ≤ N }
-    ensures { Gathers out.old.items out.new.items (decimal moment) 12 }
+pub(crate) fn push_moment<const N: usize>(out: &mut ArrayVec<u8, N>, word: &[u8], moment: Moment)
+    requires { array_vec_len out.old + (length word.now + 12) ≤ N }
+    ensures { GathersAfter out.old.items out.new.items word.now (decimal moment) 12 }
 {
     let mut digits = Buffer::new();
-    push(out, digits.format(moment.get()).as_bytes());
+    push_after(out, word, digits.format(moment.get()).as_bytes());
 }
 
-/// A number has at most 20 digits.
-pub(crate) fn push_number<const N: usize>(out: &mut ArrayVec<u8, N>, number: u64)
-    requires { array_vec_len out.old + 20 ≤ N }
-    ensures { Gathers out.old.items out.new.items (decimal number) 20 }
+/// A word, and a number, which has at most 20 digits.
+pub(crate) fn push_number<const N: usize>(out: &mut ArrayVec<u8, N>, word: &[u8], number: u64)
+    requires { array_vec_len out.old + (length word.now + 20) ≤ N }
+    ensures { GathersAfter out.old.items out.new.items word.now (decimal number) 20 }
 {
     let mut digits = Buffer::new();
-    push(out, digits.format(number).as_bytes());
+    push_after(out, word, digits.format(number).as_bytes());
 }
 
-/// A name.
-pub(crate) fn push_name<const N: usize>(out: &mut ArrayVec<u8, N>, name: &Name)
-    requires { array_vec_len out.old + 32 ≤ N }
-    ensures { Gathers out.old.items out.new.items name.now 32 }
+/// A word, and a name.
+pub(crate) fn push_name<const N: usize>(out: &mut ArrayVec<u8, N>, word: &[u8], name: &Name)
+    requires { array_vec_len out.old + (length word.now + 32) ≤ N }
+    ensures { GathersAfter out.old.items out.new.items word.now name.now 32 }
 {
-    push(out, name.as_bytes());
+    push_after(out, word, name.as_bytes());
+}
+
+/// All of these bytes, after a word.
+pub(crate) fn push_after<const N: usize>(out: &mut ArrayVec<u8, N>, word: &[u8], bytes: &[u8])
+    requires { array_vec_len out.old + (length word.now + length bytes.now) ≤ N }
+    ensures { GathersAfter out.old.items out.new.items word.now bytes.now (length bytes.now) }
+{
+    push(out, word);
+    push(out, bytes);
 }
 
 /// All of these bytes.
@@ -180,49 +177,30 @@ fn push_refusal<const N: usize>(out: &mut ArrayVec<u8, N>, refusal: Refusal)
     requires { array_vec_len out.old + 70 ≤ N }
     ensures { Gathers out.old.items out.new.items (refusal_text refusal) 70 }
 {
-    push(out, b"refused ");
-    push_number(out, u64::from(refusal.number()));
-    push(out, b" ");
-    push_refusal_name(out, refusal);
+    push_numbered(out, b"refused ", refusal.number(), refusal.name());
     if let Refusal::Unfinished(count) = refusal {
-        push(out, b" ");
-        push_count(out, count);
+        push_count(out, b" ", count);
     }
-}
-
-fn push_refusal_name<const N: usize>(out: &mut ArrayVec<u8, N>, refusal: Refusal)
-    requires { array_vec_len out.old + 16 ≤ N }
-    ensures { Gathers out.old.items out.new.items (refusal_name refusal) 16 }
-{
-    push(out, refusal.name().as_bytes());
 }
 
 /// Why a flush or a checkpoint was not done.
-fn push_trouble<const N: usize>(out: &mut ArrayVec<u8, N>, trouble: Trouble)
-    requires { array_vec_len out.old + 70 ≤ N }
-    ensures { Gathers out.old.items out.new.items (trouble_text trouble) 70 }
-{
-    match trouble {
-        Trouble::Refused(refusal) => push_refusal(out, refusal),
-        Trouble::Faulty(fault) => push_fault(out, fault),
-    }
-}
-
 fn push_fault<const N: usize>(out: &mut ArrayVec<u8, N>, fault: Fault)
-    requires { array_vec_len out.old + 39 ≤ N }
-    ensures { Gathers out.old.items out.new.items (fault_text fault) 39 }
+    requires { array_vec_len out.old + 43 ≤ N }
+    ensures { Gathers out.old.items out.new.items (fault_text fault) 43 }
 {
-    push(out, b"fault ");
-    push_number(out, u64::from(fault.number()));
-    push(out, b" ");
-    push_fault_name(out, fault);
+    push_numbered(out, b"fault ", fault.number(), fault.name());
 }
 
-fn push_fault_name<const N: usize>(out: &mut ArrayVec<u8, N>, fault: Fault)
-    requires { array_vec_len out.old + 12 ≤ N }
-    ensures { Gathers out.old.items out.new.items (fault_name fault) 12 }
+/// A word, and a number with its name.
+fn push_numbered<const N: usize>(out: &mut ArrayVec<u8, N>, word: &[u8], number: u8, name: &str)
+    requires few { length name.now ≤ 16 }
+    requires room { array_vec_len out.old + (length word.now + 37) ≤ N }
+    ensures { Gathers out.old.items out.new.items
+        (word.now ++ decimal number ++ codes " " ++ name.now) (length word.now + 37) }
 {
-    push(out, fault.name().as_bytes());
+    push_number(out, word, u64::from(number));
+    push(out, b" ");
+    push(out, name.as_bytes());
 }
 
 /// The answer of an accepted command.
@@ -231,41 +209,16 @@ fn push_answer<const N: usize>(out: &mut ArrayVec<u8, N>, answer: &Answer)
     ensures { Gathers out.old.items out.new.items (answer_text answer.now) 130 }
 {
     match answer {
-        Answer::Scope(scope) => {
-            push(out, b"scope ");
-            push_count(out, *scope);
+        Answer::Scope(scope) => push_count(out, b"scope ", *scope),
+        Answer::Group(group, None) => push_count(out, b"group ", *group),
+        Answer::Group(group, Some(scope)) => {
+            push_count(out, b"group ", *group);
+            push_count(out, b" scope ", *scope);
         }
-        Answer::Group(group, scope) => push_new_group(out, *group, *scope),
         Answer::Done => push(out, b"ok"),
         Answer::Task(task, phase) => push_task(out, *task, phase),
-        Answer::Waited(error) => push_wait(out, error),
-    }
-}
-
-/// A group that was made, with its scope if it has one of its own.
-fn push_new_group<const N: usize>(out: &mut ArrayVec<u8, N>, group: u16, scope: Option<u16>)
-    requires { array_vec_len out.old + 23 ≤ N }
-    ensures { Gathers out.old.items out.new.items (answer_text (Answer.Group group scope)) 23 }
-{
-    push(out, b"group ");
-    push_count(out, group);
-    if let Some(scope) = scope {
-        push(out, b" scope ");
-        push_count(out, scope);
-    }
-}
-
-/// How a wait ended, with the error if there was one.
-fn push_wait<const N: usize>(out: &mut ArrayVec<u8, N>, error: &Option<Text>)
-    requires { array_vec_len out.old + 75 ≤ N }
-    ensures { Gathers out.old.items out.new.items (answer_text (Answer.Waited error.now)) 75 }
-{
-    match error {
-        None => push(out, b"wait ok"),
-        Some(error) => {
-            push(out, b"wait error ");
-            push_text(out, error);
-        }
+        Answer::Waited(None) => push(out, b"wait ok"),
+        Answer::Waited(Some(error)) => push_text(out, b"wait error ", error),
     }
 }
 
@@ -274,8 +227,7 @@ fn push_task<const N: usize>(out: &mut ArrayVec<u8, N>, task: u16, phase: &Phase
     requires { array_vec_len out.old + 81 ≤ N }
     ensures { Gathers out.old.items out.new.items (task_text task phase.now) 81 }
 {
-    push(out, b"task ");
-    push_count(out, task);
+    push_count(out, b"task ", task);
     push(out, b" ");
     push_phase(out, phase);
 }
@@ -285,12 +237,9 @@ fn push_start<const N: usize>(out: &mut ArrayVec<u8, N>, info: &TaskInfo)
     requires { array_vec_len out.old + 77 ≤ N }
     ensures { Gathers out.old.items out.new.items (started_text info.now) 77 }
 {
-    push(out, b"start ");
-    push_count(out, info.task);
-    push(out, b" ");
-    push_name(out, &info.job);
-    push(out, b" ");
-    push_name(out, &info.argument);
+    push_count(out, b"start ", info.task);
+    push_name(out, b" ", &info.job);
+    push_name(out, b" ", &info.argument);
 }
 
 /// A scope that is live.
@@ -298,8 +247,7 @@ fn push_live<const N: usize>(out: &mut ArrayVec<u8, N>, deadline: Option<Moment>
     requires { array_vec_len out.old + 130 ≤ N }
     ensures { Gathers out.old.items out.new.items (scope_text None deadline) 130 }
 {
-    push(out, b"live; deadline ");
-    push_deadline(out, deadline);
+    push_deadline(out, b"live; deadline ", deadline);
 }
 
 /// A scope that is done.
@@ -314,8 +262,7 @@ fn push_done<const N: usize>(
     ensures { Gathers out.old.items out.new.items (scope_text (Some (reason, cause.now)) deadline)
         130 }
 {
-    push(out, b"done; deadline ");
-    push_deadline(out, deadline);
+    push_deadline(out, b"done; deadline ", deadline);
     push_ending(out, reason, cause);
 }
 
@@ -327,8 +274,7 @@ pub(crate) fn push_ending<const N: usize>(out: &mut ArrayVec<u8, N>, reason: Rea
 {
     push(out, b"; err ");
     push_reason(out, reason);
-    push(out, b"; cause ");
-    push(out, cause);
+    push_after(out, b"; cause ", cause);
 }
 
 /// Why a scope is done.
@@ -339,48 +285,48 @@ fn push_reason<const N: usize>(out: &mut ArrayVec<u8, N>, reason: Reason)
     push(out, reason.text().as_bytes());
 }
 
-/// A deadline in seconds, or `none`.
-fn push_deadline<const N: usize>(out: &mut ArrayVec<u8, N>, deadline: Option<Moment>)
-    requires { array_vec_len out.old + 12 ≤ N }
-    ensures { Gathers out.old.items out.new.items (deadline_text deadline) 12 }
+/// A word, and a deadline in seconds, or `none`.
+fn push_deadline<const N: usize>(out: &mut ArrayVec<u8, N>, word: &[u8], deadline: Option<Moment>)
+    requires { array_vec_len out.old + (length word.now + 12) ≤ N }
+    ensures { GathersAfter out.old.items out.new.items word.now (deadline_text deadline) 12 }
 {
     match deadline {
-        Some(moment) => push_moment(out, moment),
-        None => push(out, b"none"),
+        Some(moment) => push_moment(out, word, moment),
+        None => push_after(out, word, b"none"),
     }
 }
 
-/// A limit, or `none`.
-fn push_limit<const N: usize>(out: &mut ArrayVec<u8, N>, limit: Limit)
-    requires { array_vec_len out.old + 5 ≤ N }
-    ensures { Gathers out.old.items out.new.items (limit_text limit) 5 }
+/// A word, and a limit, or `none`.
+fn push_limit<const N: usize>(out: &mut ArrayVec<u8, N>, word: &[u8], limit: Limit)
+    requires { array_vec_len out.old + (length word.now + 5) ≤ N }
+    ensures { GathersAfter out.old.items out.new.items word.now (limit_text limit) 5 }
 {
     match limit.get() {
-        Some(most) => push_count(out, u16::from(most)),
-        None => push(out, b"none"),
+        Some(most) => push_count(out, word, u16::from(most)),
+        None => push_after(out, word, b"none"),
     }
 }
 
-/// Appends whether something was done.
-fn push_yes_or_no<const N: usize>(out: &mut ArrayVec<u8, N>, done: bool)
-    requires { array_vec_len out.old + 3 ≤ N }
-    ensures { Gathers out.old.items out.new.items (yes_or_no done) 3 }
+/// A word, and whether something was done.
+fn push_yes_or_no<const N: usize>(out: &mut ArrayVec<u8, N>, word: &[u8], done: bool)
+    requires { array_vec_len out.old + (length word.now + 3) ≤ N }
+    ensures { GathersAfter out.old.items out.new.items word.now (yes_or_no done) 3 }
 {
     if done {
-        push(out, b"yes");
+        push_after(out, word, b"yes");
     } else {
-        push(out, b"no");
+        push_after(out, word, b"no");
     }
 }
 
-/// A first error, or `none`.
-fn push_error<const N: usize>(out: &mut ArrayVec<u8, N>, error: &Option<Text>)
-    requires { array_vec_len out.old + 64 ≤ N }
-    ensures { Gathers out.old.items out.new.items (error_text error.now) 64 }
+/// A word, and a first error, or `none`.
+fn push_error<const N: usize>(out: &mut ArrayVec<u8, N>, word: &[u8], error: &Option<Text>)
+    requires { array_vec_len out.old + (length word.now + 64) ≤ N }
+    ensures { GathersAfter out.old.items out.new.items word.now (error_text error.now) 64 }
 {
     match error {
-        Some(error) => push_text(out, error),
-        None => push(out, b"none"),
+        Some(error) => push_text(out, word, error),
+        None => push_after(out, word, b"none"),
     }
 }
 
@@ -389,41 +335,27 @@ pub(crate) fn push_tally<const N: usize>(out: &mut ArrayVec<u8, N>, tally: &Tall
     requires { array_vec_len out.old + 99 ≤ N }
     ensures { Gathers out.old.items out.new.items (tally_text tally.now) 99 }
 {
-    push(out, b"tally ");
-    push_name(out, &tally.job);
-    push(out, b" ");
-    push_counts(out, tally.counts);
+    push_name(out, b"tally ", &tally.job);
+    push_count(out, b" total ", tally.counts.total);
+    push_count(out, b"; success ", tally.counts.success);
+    push_count(out, b"; failure ", tally.counts.failure);
+    push_count(out, b"; interrupted ", tally.counts.interrupted);
 }
 
-/// How many tasks there are, and how many of them have ended in each way.
-fn push_counts<const N: usize>(out: &mut ArrayVec<u8, N>, counts: Counts)
-    requires { array_vec_len out.old + 60 ≤ N }
-    ensures { Gathers out.old.items out.new.items (counts_text counts) 60 }
-{
-    push(out, b"total ");
-    push_count(out, counts.total);
-    push(out, b"; success ");
-    push_count(out, counts.success);
-    push(out, b"; failure ");
-    push_count(out, counts.failure);
-    push(out, b"; interrupted ");
-    push_count(out, counts.interrupted);
-}
-
-/// A count has at most 5 digits.
+/// A word, and a count, which has at most 5 digits.
 #[tactic(auto, using(crate::proofs::Digits::count_digits))]
-pub(crate) fn push_count<const N: usize>(out: &mut ArrayVec<u8, N>, count: u16)
-    requires { array_vec_len out.old + 5 ≤ N }
-    ensures { Gathers out.old.items out.new.items (decimal count) 5 }
+pub(crate) fn push_count<const N: usize>(out: &mut ArrayVec<u8, N>, word: &[u8], count: u16)
+    requires { array_vec_len out.old + (length word.now + 5) ≤ N }
+    ensures { GathersAfter out.old.items out.new.items word.now (decimal count) 5 }
 {
     let mut digits = Buffer::new();
-    push(out, digits.format(count).as_bytes());
+    push_after(out, word, digits.format(count).as_bytes());
 }
 
-/// A text.
-pub(crate) fn push_text<const N: usize>(out: &mut ArrayVec<u8, N>, text: &Text)
-    requires { array_vec_len out.old + 64 ≤ N }
-    ensures { Gathers out.old.items out.new.items text.now 64 }
+/// A word, and a text.
+pub(crate) fn push_text<const N: usize>(out: &mut ArrayVec<u8, N>, word: &[u8], text: &Text)
+    requires { array_vec_len out.old + (length word.now + 64) ≤ N }
+    ensures { GathersAfter out.old.items out.new.items word.now text.now 64 }
 {
-    push(out, text.as_bytes());
+    push_after(out, word, text.as_bytes());
 }

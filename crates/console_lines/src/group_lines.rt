@@ -6,19 +6,19 @@ ghost use Rattle.console_lines.specs.GroupLines.{group_line_of, limit_at, limit_
 ghost use Rattle.console_lines.specs.Words.{words_in, lent};
 
 use crate::asked::Asked;
+use crate::numbers::read_number;
 use crate::task_lines::read_task_line;
 use crate::words::{last_word, next_word};
 use run_model::{Command, Limit, Name, Refusal, Step, is_spelled};
-use written_moment::read_number;
 
 /// What a line with this first word asks of groups or, else, of tasks or of the store.
 pub(crate) fn read_group_line(word: &[u8], left: Option<&[u8]>) -> Option<Asked>
     ensures { result ≡ group_line_of word.now (words_in (lent left.entry)) }
 {
     if is_spelled(word, b"group") {
-        read_group(left)
+        read_group(false, left)
     } else if is_spelled(word, b"bare") {
-        read_bare(left)
+        read_group(true, left)
     } else if is_spelled(word, b"limit") {
         read_limit(left)
     } else if is_spelled(word, b"go") {
@@ -34,34 +34,15 @@ pub(crate) fn read_group_line(word: &[u8], left: Option<&[u8]>) -> Option<Asked>
     }
 }
 
-/// `group NAME PARENT`
-fn read_group(left: Option<&[u8]>) -> Option<Asked>
-    ensures { result ≡ of_two (λ name parent. asks (Command.Group name parent))
-        (words_in (lent left.entry)) }
-{
-    let (name, left) = next_word(left)?;
-    let parent = last_word(left)?;
-    match (Name::read(name), Name::read(parent)) {
-        (Some(name), Some(parent)) => Some(Asked::Step(Step::Command(Command::Group {
-            name,
-            parent,
-        }))),
-        _ => Some(Asked::Refused(Refusal::BadName)),
-    }
-}
-
-/// `bare NAME SCOPE`
-fn read_bare(left: Option<&[u8]>) -> Option<Asked>
-    ensures { result ≡ of_two (λ name scope. asks (Command.Bare name scope))
-        (words_in (lent left.entry)) }
+/// `group NAME PARENT`, and `bare NAME SCOPE` if it is `bare`.
+fn read_group(bare: bool, left: Option<&[u8]>) -> Option<Asked>
+    ensures { result ≡ of_two (λ name scope. asks (if bare then Command.Bare name scope
+        else Command.Group name scope)) (words_in (lent left.entry)) }
 {
     let (name, left) = next_word(left)?;
     let scope = last_word(left)?;
     match (Name::read(name), Name::read(scope)) {
-        (Some(name), Some(scope)) => Some(Asked::Step(Step::Command(Command::Bare {
-            name,
-            scope,
-        }))),
+        (Some(name), Some(scope)) => Some(group(bare, name, scope)),
         _ => Some(Asked::Refused(Refusal::BadName)),
     }
 }
@@ -111,6 +92,18 @@ fn read_result(left: Option<&[u8]>) -> Option<Asked>
         Some(group) => Some(Asked::Result(group)),
         None => Some(Asked::Refused(Refusal::BadName)),
     }
+}
+
+/// A group is made in this scope; if it is `bare`, without one of its own.
+fn group(bare: bool, name: Name, scope: Name) -> Asked
+    ensures { result ≡ asks (if bare then Command.Bare name scope else Command.Group name scope) }
+{
+    Asked::Step(Step::Command(if bare {
+        Command::Bare { name, scope }
+    } else {
+        let parent = scope;
+        Command::Group { name, parent }
+    }))
 }
 
 /// A task is submitted to a group; if it is `tried`, only if the limit admits it now.

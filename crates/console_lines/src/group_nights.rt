@@ -3,6 +3,7 @@
 //!
 //! Each function has an empty body, and its clauses are the example: they are computed from the
 //! definition alone, without any of the code that reads a line or prints a reply.
+#![tactic(auto, unfolding(crate::proofs::OnLiterals::nights_on_literals))]
 
 ghost use Rattle.std.specs.Prelude.{◌≡◌, ◌++◌, codes};
 ghost use Rattle.run_model.specs.declared.layouts.Layout.TheVariants.{Small};

@@ -4,6 +4,11 @@
 //! as its line, and so is a [`Row`] of a state. [`Tallies`] count tasks, job by job.
 //! `specs/Script.antt` defines what is replied to a whole input, and `specs/Strict.antt` which of
 //! its lines a strict run runs.
+//!
+//! Numbers and moments are read as a person writes them. A number is 1 to 12 digits. A moment is a
+//! number of seconds since 1970-01-01T00:00:00Z, or a date and time with an offset, as
+//! `2024-01-01T03:00:00+01:00`, whose instant is what `jiff` returns. [`moment_text`] is the date
+//! and time of a moment.
 #![tactic(auto)]
 
 mod asked;
@@ -20,7 +25,9 @@ pub mod laws;
 mod lines;
 pub mod listed_nights;
 mod listings;
+pub mod moments;
 pub mod nights;
+mod numbers;
 mod replies;
 mod rows;
 mod scope_lines;
@@ -42,6 +49,8 @@ pub use faults::RunFault;
 pub use gathers::{LONGEST_REPLY, gather_scope};
 pub use job_tallies::Tallies;
 pub use lines::{LONGEST_INPUT, LONGEST_LINE, read_line};
+pub use moments::{moment_text, read_moment};
+pub use numbers::{LONGEST_NUMBER, read_number};
 pub use replies::Reply;
 pub use rows::{LONGEST_ROW, Row};
 pub use scope_lines::scope_word;

@@ -10,10 +10,10 @@ ghost use Rattle.console_lines.specs.Words.{words_in, lent};
 use crate::asked::Asked;
 use crate::causes::read_cause;
 use crate::group_lines::read_group_line;
+use crate::moments::read_moment;
 use crate::wishes::read_wish;
 use crate::words::{last_word, next_word};
 use run_model::{Command, Name, Refusal, Step, Wish, is_spelled};
-use written_moment::read_moment;
 
 /// The most bytes of a line, without its end. A longer one is a bad line.
 pub const LONGEST_LINE: usize = 256;

@@ -66,12 +66,10 @@ fn push_row<const N: usize>(out: &mut ArrayVec<u8, N>, row: &Row)
 pub(crate) fn push_counts<const N: usize>(out: &mut ArrayVec<u8, N>, count: u64, clock: Moment)
     requires { array_vec_len out.old + 47 ≤ N }
     ensures { Gathers out.old.items out.new.items
-        (codes "events " ++ (decimal count ++ (codes "; clock " ++ decimal clock))) 47 }
+        (codes "events " ++ decimal count ++ (codes "; clock " ++ decimal clock)) 47 }
 {
-    push(out, b"events ");
-    push_number(out, count);
-    push(out, b"; clock ");
-    push_moment(out, clock);
+    push_number(out, b"events ", count);
+    push_moment(out, b"; clock ", clock);
 }
 
 /// A word, a number and a name, as in `scope 1 a `.
@@ -86,21 +84,18 @@ pub(crate) fn push_named<const N: usize>(
     ensures { Gathers out.old.items out.new.items (named word.now number name.now) 45 }
 {
     push(out, word);
-    push(out, b" ");
-    push_count(out, number);
-    push(out, b" ");
-    push_name(out, name);
+    push_count(out, b" ", number);
+    push_name(out, b" ", name);
     push(out, b" ");
 }
 
-/// A task's work and how far it is.
+/// A task's job, its argument and how far it is.
 fn push_work<const N: usize>(out: &mut ArrayVec<u8, N>, look: &TaskLook)
     requires { array_vec_len out.old + 166 ≤ N }
     ensures { Gathers out.old.items out.new.items (work_text look.now) 166 }
 {
-    push_name(out, &look.job);
-    push(out, b" ");
-    push_name(out, &look.argument);
+    push_name(out, b"", &look.job);
+    push_name(out, b" ", &look.argument);
     push(out, b" ");
     push_phase(out, &look.phase);
     push_retry(out, look.retry_of);
@@ -112,7 +107,6 @@ fn push_retry<const N: usize>(out: &mut ArrayVec<u8, N>, retry_of: Option<u16>)
     ensures { Gathers out.old.items out.new.items (retry_text retry_of) 30 }
 {
     if let Some(task) = retry_of {
-        push(out, b" retry of ");
-        push_count(out, task);
+        push_count(out, b" retry of ", task);
     }
 }

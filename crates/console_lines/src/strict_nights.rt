@@ -2,6 +2,7 @@
 //!
 //! Each function has an empty body, and its clauses are the example, as in
 //! [`nights`](crate::nights).
+#![tactic(auto, unfolding(crate::proofs::OnLiterals::nights_on_literals))]
 
 ghost use Rattle.std.specs.Prelude.{◌≡◌, ◌∷◌, ◌++◌, [], codes, Some, None};
 ghost use Rattle.run_model.specs.declared.layouts.Layout.TheVariants.{Small};

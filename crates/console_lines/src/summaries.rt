@@ -1,22 +1,22 @@
 //! The lines of a summary: those of a group, with its tasks by phase and its scope, and of a scope
 //! that is done; and a group's line in a tree without tasks. They take no memory.
 
-ghost use Rattle.std.specs.Prelude.{◌≡◌, ◌+◌, ◌≤◌, Some, length};
+ghost use Rattle.std.specs.Prelude.{◌≡◌, ◌+◌, ◌≤◌};
 ghost use Rattle.arrayvec.specs.ArrayVec.{array_vec_len};
 ghost use Rattle.console_lines.specs.declared.summaries.TheConstants.{LONGEST_SUMMARY};
 ghost use Rattle.console_lines.specs.Branches.{tree_group};
 ghost use Rattle.console_lines.specs.Gathers.{Gathers};
-ghost use Rattle.console_lines.specs.Summaries.{counted, counted_group, dated_text, group_summary};
+ghost use Rattle.console_lines.specs.Summaries.{counted_group, dated_text, group_summary};
 ghost use Rattle.console_lines.specs.Summaries.{is_in_phase, is_summed, phases_text};
 ghost use Rattle.console_lines.specs.Summaries.{scope_summary, state_text};
 
-use crate::gathers::{push, push_count, push_ending, push_group, push_moment};
+use crate::gathers::{push, push_after, push_count, push_ending, push_group, push_moment};
 use crate::listings::phase_word;
+use crate::moments::moment_text;
 use crate::rows::push_named;
 use crate::trees::gather_tree_scope;
 use arrayvec::ArrayVec;
 use run_model::{GroupLook, Kind, Look, Moment, TaskLook};
-use written_moment::moment_text;
 
 /// No line of a summary has more bytes, with its LF.
 pub const LONGEST_SUMMARY: usize = 444;
@@ -53,7 +53,7 @@ pub fn gather_group_summary<const N: usize>(
         (group_summary number group.now phases.now scope.now) LONGEST_SUMMARY }
 {
     push_counted_group(out, number, group, phases);
-    push_counted(out, b"; scope ", group.scope);
+    push_count(out, b"; scope ", group.scope);
     push(out, b" ");
     push_state(out, scope);
     push(out, b"\n");
@@ -81,9 +81,9 @@ fn push_counted_group<const N: usize>(
     group: &GroupLook,
     phases: &Phases,
 )
-    requires { array_vec_len out.old + 272 ≤ N }
+    requires { array_vec_len out.old + 251 ≤ N }
     ensures { Gathers out.old.items out.new.items
-        (counted_group number group.now phases.now) 272 }
+        (counted_group number group.now phases.now) 251 }
 {
     push_named(out, b"group", number, &group.name);
     push_group(out, group);
@@ -118,25 +118,15 @@ fn is_summed(kind: &Kind, look: &Look) -> bool
 
 /// How many tasks are in each phase.
 fn push_phases<const N: usize>(out: &mut ArrayVec<u8, N>, phases: &Phases)
-    requires { array_vec_len out.old + 114 ≤ N }
-    ensures { Gathers out.old.items out.new.items (phases_text phases.now) 114 }
+    requires { array_vec_len out.old + 93 ≤ N }
+    ensures { Gathers out.old.items out.new.items (phases_text phases.now) 93 }
 {
-    push_counted(out, b"; tasks held ", phases.held);
-    push_counted(out, b", ready ", phases.ready);
-    push_counted(out, b", running ", phases.running);
-    push_counted(out, b", success ", phases.success);
-    push_counted(out, b", error ", phases.error);
-    push_counted(out, b", interrupted ", phases.interrupted);
-}
-
-/// A number after what it counts.
-fn push_counted<const N: usize>(out: &mut ArrayVec<u8, N>, word: &[u8], count: u16)
-    requires word { length word.now ≤ 14 }
-    requires room { array_vec_len out.old + 19 ≤ N }
-    ensures { Gathers out.old.items out.new.items (counted word.now count) 19 }
-{
-    push(out, word);
-    push_count(out, count);
+    push_count(out, b"; tasks held ", phases.held);
+    push_count(out, b", ready ", phases.ready);
+    push_count(out, b", running ", phases.running);
+    push_count(out, b", success ", phases.success);
+    push_count(out, b", error ", phases.error);
+    push_count(out, b", interrupted ", phases.interrupted);
 }
 
 /// How a scope is.
@@ -163,18 +153,11 @@ fn push_dated<const N: usize>(out: &mut ArrayVec<u8, N>, deadline: Option<Moment
     ensures { Gathers out.old.items out.new.items (dated_text deadline) 33 }
 {
     match deadline {
-        Some(moment) => push_date(out, moment),
+        Some(moment) => {
+            push_moment(out, b"", moment);
+            let text = moment_text(moment);
+            push_after(out, b" ", text.as_str().as_bytes());
+        }
         None => push(out, b"none"),
     }
-}
-
-/// A moment in seconds, and its date and time.
-fn push_date<const N: usize>(out: &mut ArrayVec<u8, N>, moment: Moment)
-    requires { array_vec_len out.old + 33 ≤ N }
-    ensures { Gathers out.old.items out.new.items (dated_text (Some moment)) 33 }
-{
-    push_moment(out, moment);
-    push(out, b" ");
-    let text = moment_text(moment);
-    push(out, text.as_str().as_bytes());
 }

@@ -1,6 +1,7 @@
 //! Examples of the summary of a state, after the lines of a night.
 //!
 //! Each function has an empty body, and its clause is the example, as in [`nights`](crate::nights).
+#![tactic(auto, unfolding(crate::proofs::OnLiterals::nights_on_literals))]
 
 ghost use Rattle.console_lines.specs.ListedNights.{three_tasks};
 ghost use Rattle.console_lines.specs.SummaryNights.{IsSummed, backup_summed, leap_day};

@@ -9,9 +9,9 @@ ghost use Rattle.console_lines.specs.TaskLines.{task_line_of, texts_in_outcome};
 ghost use Rattle.console_lines.specs.Words.{words_in, lent};
 
 use crate::asked::Asked;
+use crate::numbers::read_number;
 use crate::words::{last_word, next_word};
 use run_model::{Command, Outcome, Refusal, Step, Text, is_spelled};
-use written_moment::read_number;
 
 /// What a line with this first word asks of tasks or of the store. No other word begins a line.
 pub(crate) fn read_task_line(word: &[u8], left: Option<&[u8]>) -> Option<Asked>

@@ -1,6 +1,7 @@
 //! Examples of a state that is drawn as a tree, after the lines of a night.
 //!
 //! Each function has an empty body, and its clause is the example, as in [`nights`](crate::nights).
+#![tactic(auto, unfolding(crate::proofs::OnLiterals::nights_on_literals))]
 
 ghost use Rattle.std.specs.Prelude.{false, true};
 ghost use Rattle.console_lines.specs.EntryNights.{all_kinds};

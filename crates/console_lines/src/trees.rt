@@ -1,7 +1,7 @@
 //! The first line of a tree, which says how full a store is, and the line of a scope in it. They
 //! take no memory.
 
-ghost use Rattle.std.specs.Prelude.{◌≡◌, ◌++◌, ◌+◌, ◌≤◌, codes, length};
+ghost use Rattle.std.specs.Prelude.{◌≡◌, ◌+◌, ◌≤◌, length};
 ghost use Rattle.arrayvec.specs.ArrayVec.{array_vec_len};
 ghost use Rattle.console_lines.specs.declared.trees.TheConstants.{LONGEST_TREE_HEAD};
 ghost use Rattle.console_lines.specs.declared.trees.TheConstants.{LONGEST_TREE_SCOPE};
@@ -9,10 +9,10 @@ ghost use Rattle.console_lines.specs.Gathers.{Gathers};
 ghost use Rattle.console_lines.specs.Trees.{fullness, head_line, kind_line, kind_text, taken_text};
 
 use crate::entries::kind_word;
-use crate::gathers::{push, push_look, push_name, push_number, push_text};
+use crate::gathers::{push, push_after, push_look, push_name, push_number, push_text};
 use crate::rows::{push_counts, push_named};
 use arrayvec::ArrayVec;
-use run_model::{Kind, Layout, Look, MOST_GROUPS, Moment, Name, Text};
+use run_model::{Kind, Layout, Look, MOST_GROUPS, Moment};
 
 /// The first line of a tree has at most so many bytes, with its LF.
 pub const LONGEST_TREE_HEAD: usize = 212;
@@ -62,12 +62,9 @@ fn push_taken<const N: usize>(out: &mut ArrayVec<u8, N>, word: &[u8], count: usi
     requires room { array_vec_len out.old + 53 ≤ N }
     ensures { Gathers out.old.items out.new.items (taken_text word.now count most) 53 }
 {
-    push(out, b"; ");
-    push(out, word);
-    push(out, b" ");
-    push_number(out, count as u64);
-    push(out, b" of ");
-    push_number(out, most as u64);
+    push_after(out, b"; ", word);
+    push_number(out, b" ", count as u64);
+    push_number(out, b" of ", most as u64);
 }
 
 /// Appends the line of a scope with its kind: `scope 1 g group; live; deadline none`.
@@ -94,19 +91,10 @@ fn push_kind<const N: usize>(out: &mut ArrayVec<u8, N>, kind: &Kind)
     ensures { Gathers out.old.items out.new.items (kind_text kind.now) 103 }
 {
     match kind {
-        Kind::Value(key, text) => push_value(out, key, text),
+        Kind::Value(key, text) => {
+            push_name(out, b"value ", key);
+            push_text(out, b" ", text);
+        }
         _ => push(out, kind_word(kind).as_bytes()),
     }
-}
-
-/// The key and the text of a value.
-fn push_value<const N: usize>(out: &mut ArrayVec<u8, N>, key: &Name, text: &Text)
-    requires { array_vec_len out.old + 103 ≤ N }
-    ensures { Gathers out.old.items out.new.items
-        (codes "value " ++ (key.now ++ (codes " " ++ text.now))) 103 }
-{
-    push(out, b"value ");
-    push_name(out, key);
-    push(out, b" ");
-    push_text(out, text);
 }

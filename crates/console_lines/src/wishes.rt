@@ -10,9 +10,10 @@ ghost use Rattle.console_lines.specs.Checked.{names_in_wish, texts_in_wish};
 ghost use Rattle.console_lines.specs.Words.{words_in, lent};
 
 use crate::causes::read_cause;
+use crate::moments::read_moment;
+use crate::numbers::read_number;
 use crate::words::next_word;
 use run_model::{Moment, Name, Refusal, Text, Wish, is_spelled};
-use written_moment::{read_moment, read_number};
 
 /// The wish of this kind with what is left after it.
 pub(crate) fn read_wish(kind: &[u8], left: Option<&[u8]>) -> Option<Result<Wish, Refusal>>

@@ -9,14 +9,14 @@ ghost use Rattle.run_crew.specs.Courses.{IsGates};
 ghost use Rattle.run_crew.specs.Openings.{Carries};
 ghost use Rattle.console_lines.specs.Gathers.{Gathers};
 ghost use Rattle.run_console.specs.Crews.{CrewEnds, IsTold, IsWorked, WasLeft, audit_line};
-ghost use Rattle.run_console.specs.Crews.{flush_line, numbers_line, told_of};
+ghost use Rattle.run_console.specs.Crews.{flush_line, numbers_line, of_device, told_of};
 
-use crate::faults::{of_device, stopped};
 use console_lines::{Reply, RunFault};
 use itoa::Buffer;
 use run_book::Book;
 use run_crew::{Desk, Gate, Job, Opening, Strayed, audit, run_night};
 use run_disk::RunDisk;
+use run_lines::stopped;
 use run_model::{Fault, Trouble};
 use state_views::{Gathered, write_gathered};
 use std::alloc::Global;
@@ -165,6 +165,17 @@ fn told(night: &Night) -> Result<bool, RunFault>
     match night.flushed {
         Ok(_) => Ok(night.audited.is_ok()),
         Err(trouble) => Err(RunFault::Store(of_device(trouble))),
+    }
+}
+
+/// What the trouble of a flush is to who doesn't know of those before: a broken book is one whose
+/// device failed.
+fn of_device(trouble: Trouble) -> Trouble
+    ensures { result ≡ of_device trouble }
+{
+    match trouble {
+        Trouble::Refused(_) => Trouble::Faulty(Fault::DiskFailed),
+        Trouble::Faulty(_) => trouble,
     }
 }
 

@@ -1,4 +1,4 @@
+pub mod Adding
 pub mod Drawing
 pub mod EntryTexts
-pub mod Inspecting
 pub mod Told

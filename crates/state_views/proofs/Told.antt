@@ -3,7 +3,7 @@ use Rattle.std.specs.Prelude.{◌≡◌, ℕ, List, [], ◌++◌, Option}
 use Rattle.std.specs.Io.KnownBytes.{Appends}
 use Rattle.std.proofs.Common.{sym, ap, ◌∙◌, subst, append_assoc, append-nil}
 use Rattle.console_lines.specs.Progress.{WritesPart}
-use Rattle.console_lines.proofs.Written.{appends_then, front_behind, front_more}
+use Rattle.console_lines.proofs.Written.{appends_nothing, appends_then, front_behind, front_more}
 use Rattle.state_views.specs.Told.{Told}
 
 -- ---- a part
@@ -66,3 +66,34 @@ told_whole text g h w0 w1 w2 first next none = record {
   written = appends_then w0 w1 w2 g text first next;
   told = sym (append-nil (g ++ text)) ∙ ap (λ t. (g ++ text) ++ t) (sym none);
 }
+
+-- ---- two texts
+
+-- A text was gathered, and nothing was written yet.
+pub told_first : (text g h : List ℕ) (w : Option (List ℕ)) → h ≡ g ++ text → Told text g h w w
+told_first text g h w e = record { out = []; written = appends_nothing w; told = sym e }
+
+-- A text was told, and then another.
+pub told_then : (x y g h k : List ℕ) (w0 w1 w2 : Option (List ℕ))
+    → Told x g h w0 w1
+    → Told y h k w1 w2
+    → Told (x ++ y) g k w0 w2
+told_then x y g h k w0 w1 w2 one two = record {
+  out = one.out ++ two.out;
+  written = appends_then w0 w1 w2 one.out two.out one.written two.written;
+  told =
+      sym (append_assoc g x y)
+      ∙ ap (λ t. t ++ y) one.told
+      ∙ append_assoc one.out h y
+      ∙ ap (λ t. one.out ++ t) two.told
+      ∙ sym (append_assoc one.out two.out k);
+}
+
+-- A text was told, and of the next a front was written.
+pub told_part : (x y h : List ℕ) (w0 w1 w2 : Option (List ℕ))
+    → Told x [] h w0 w1 → WritesPart w1 w2 (h ++ y) → WritesPart w0 w2 (x ++ y)
+told_part x y h w0 w1 w2 told cut =
+    let same : told.out ++ (h ++ y) ≡ x ++ y =
+    sym (append_assoc told.out h y) ∙ ap (λ t. t ++ y) (sym told.told) in
+    subst (λ t. WritesPart w0 w2 t) same
+    (part_behind told.out (h ++ y) w0 w1 w2 told.written cut)

@@ -1,4 +1,4 @@
-pub mod Entries
-pub mod Inspecting
-pub mod Summing
+pub mod Forms
+pub mod Rows
+pub mod Sheets
 pub mod Told

@@ -1,5 +1,4 @@
--- What is gathered and written of a text. This is for private functions: no public contract
--- cites it.
+-- What is gathered and written of a text.
 use Rattle.std.specs.Prelude.{◌≡◌, ℕ, List, ◌++◌, Option}
 use Rattle.std.specs.Io.KnownBytes.{Appends}
 

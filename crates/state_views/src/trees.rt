@@ -2,28 +2,26 @@
 
 ghost use Rattle.std.specs.Io.KnownBytes.{Appends};
 ghost use Rattle.std.specs.List.{flat_map};
-ghost use Rattle.std.specs.Prelude.{◌≡◌, ◌+◌, ◌≤◌, ◌++◌, [], IfErr, OnErr, OnOk, length, map};
-ghost use Rattle.std.specs.Prelude.{option_map, slice_get};
+ghost use Rattle.std.specs.Prelude.{◌≡◌, ◌+◌, ◌≤◌, ◌++◌, [], IfErr, OnErr, OnOk, length, slice_get};
 ghost use Rattle.arrayvec.specs.ArrayVec.{array_vec_len};
-ghost use Rattle.console_lines.specs.declared.summaries.TheConstants.{LONGEST_SUMMARY};
-ghost use Rattle.console_lines.specs.declared.trees.TheConstants.{LONGEST_TREE_SCOPE};
+ghost use Rattle.console_lines.specs.declared.entries.TheConstants.{LONGEST_ENTRY};
 ghost use Rattle.console_lines.specs.declared.walks.TheConstants.{MOST_NODES};
 ghost use Rattle.console_lines.specs.Branches.{group_counted, node_line, nodes_of, own_line};
-ghost use Rattle.console_lines.specs.Branches.{own_work, tree_text};
-ghost use Rattle.console_lines.specs.Inspected.{seen_line};
+ghost use Rattle.console_lines.specs.Branches.{tree_text};
 ghost use Rattle.console_lines.specs.Progress.{WritesPart};
-ghost use Rattle.console_lines.specs.Trees.{drawn, lead, tree_scope, work_line};
+ghost use Rattle.console_lines.specs.Trees.{drawn, tree_scope};
 ghost use Rattle.console_lines.specs.Walks.{IsAt};
-ghost use Rattle.state_views.specs.Told.{Told};
+ghost use Rattle.state_views.specs.Rows.{count_of, parents_in};
+ghost use Rattle.state_views.specs.Sheets.{Adds};
 
-use crate::entries::make_entry_room;
-use crate::inspects::{Rows, gather_row, scope_row};
+use crate::forms::{Form, gather_one};
+use crate::rows::{Rows, scope_row};
+use crate::sheets::Sheet;
 use crate::summaries::phases_of;
-use crate::writings::{Gathered, gather_bytes, write_gathered};
+use crate::writings::Gathered;
 use arrayvec::ArrayVec;
 use console_lines::{
-    Above, MOST_NODES, Row, RunFault, Taken, gather_tree_group, gather_tree_head,
-    gather_tree_scope, mark, next_node,
+    Above, MOST_NODES, RunFault, gather_tree_group, gather_tree_scope, mark, next_node,
 };
 use run_state::State;
 use std::alloc::Allocator;
@@ -47,37 +45,20 @@ pub fn print_tree<W: Write, B: Allocator>(
         (tree_text no_tasks state.now)) }
     ensures fault { IfErr result (λ fault. fault ≡ RunFault.Output) }
 {
-    let mut gathered = Gathered::new();
-    let taken = Taken {
-        scopes: state.scope_count(),
-        groups: state.group_count(),
-        tasks: state.task_count(),
-    };
-    gather_tree_head(
-        state.count(),
-        state.clock(),
-        state.layout(),
-        &taken,
-        &mut gathered,
-    );
-    gather_nodes(no_tasks, state, &mut gathered, output)?;
-    write_gathered(&mut gathered, output)
+    let mut sheet = Sheet::new(Form::Branch, state);
+    add_nodes(no_tasks, state, &mut sheet, output);
+    sheet.end(output)
 }
 
-/// Gathers the lines of all nodes, one after another.
-fn gather_nodes<W: Write, B: Allocator>(
+/// Adds the lines of all nodes, one after another.
+fn add_nodes<W: Write, B: Allocator>(
     no_tasks: bool,
     state: &State<B>,
-    gathered: &mut Gathered,
+    sheet: &mut Sheet,
     output: &mut W,
-) -> Result<(), RunFault>
-    ensures told { OnOk result
-        (Told (flat_map (node_line no_tasks state.now) (drawn (nodes_of no_tasks state.now)))
-        gathered.old.items gathered.new.items (W.contents output.old) (W.contents output.new)) }
-    ensures cut { OnErr result (WritesPart (W.contents output.old) (W.contents output.new)
-        (gathered.old.items
-        ++ flat_map (node_line no_tasks state.now) (drawn (nodes_of no_tasks state.now)))) }
-    ensures fault { IfErr result (λ fault. fault ≡ RunFault.Output) }
+)
+    ensures { Adds (flat_map (node_line no_tasks state.now) (drawn (nodes_of no_tasks state.now)))
+        sheet.old sheet.new (W.contents output.old) (W.contents output.new) }
 {
     let _rules = state.count();
     let mut parents = Parents::new();
@@ -86,157 +67,61 @@ fn gather_nodes<W: Write, B: Allocator>(
     let mut above = Above::new();
     let mut next = Some(0);
     while let Some(node) = next {
-        gather_node(
-            no_tasks,
-            node,
-            parents,
-            above.as_slice(),
-            state,
-            gathered,
-            output,
-        )?;
+        let lead = above.as_slice();
+        add_node(no_tasks, node, parents, lead, state, sheet, output);
         next = next_node(parents, node, &mut above);
     }
-    Ok(())
 }
 
-/// Gathers a node's line.
-fn gather_node<W: Write, B: Allocator>(
+/// Adds a node's line: what leads it, and what it says.
+fn add_node<W: Write, B: Allocator>(
     no_tasks: bool,
     node: u16,
     parents: &[u16],
     above: &[u8],
     state: &State<B>,
-    gathered: &mut Gathered,
+    sheet: &mut Sheet,
     output: &mut W,
-) -> Result<(), RunFault>
+)
     requires parents { parents.now ≡ nodes_of no_tasks state.now }
     requires few { length parents.now ≤ MOST_NODES }
     requires at { IsAt parents.now node above.now }
-    ensures told { OnOk result (Told (node_line no_tasks state.now node) gathered.old.items
-        gathered.new.items (W.contents output.old) (W.contents output.new)) }
-    ensures cut { OnErr result (WritesPart (W.contents output.old) (W.contents output.new)
-        (gathered.old.items ++ node_line no_tasks state.now node)) }
-    ensures fault { IfErr result (λ fault. fault ≡ RunFault.Output) }
-{
-    gather_lead(node, parents, above, gathered, output)?;
-    gather_own(no_tasks, node, state, gathered, output)
-}
-
-/// Gathers what leads a node's line.
-fn gather_lead<W: Write>(
-    node: u16,
-    parents: &[u16],
-    above: &[u8],
-    gathered: &mut Gathered,
-    output: &mut W,
-) -> Result<(), RunFault>
-    requires few { length parents.now ≤ MOST_NODES }
-    requires at { IsAt parents.now node above.now }
-    ensures told { OnOk result (Told (lead parents.now node) gathered.old.items
-        gathered.new.items (W.contents output.old) (W.contents output.new)) }
-    ensures cut { OnErr result (WritesPart (W.contents output.old) (W.contents output.new)
-        (gathered.old.items ++ lead parents.now node)) }
-    ensures fault { IfErr result (λ fault. fault ≡ RunFault.Output) }
+    ensures { Adds (node_line no_tasks state.now node) sheet.old sheet.new
+        (W.contents output.old) (W.contents output.new) }
 {
     if node == 0 {
-        return Ok(());
+        sheet.make_room(output);
+        gather_own(no_tasks, node, state, &mut sheet.gathered);
+        return;
     }
-    gather_bytes(above, gathered, output)?;
-    gather_bytes(mark(parents, node), gathered, output)
+    sheet.add(above, output);
+    sheet.add(mark(parents, node), output);
+    sheet.make_room(output);
+    gather_own(no_tasks, node, state, &mut sheet.gathered);
 }
 
-/// Gathers a node's own line.
-fn gather_own<W: Write, B: Allocator>(
-    no_tasks: bool,
-    node: u16,
-    state: &State<B>,
-    gathered: &mut Gathered,
-    output: &mut W,
-) -> Result<(), RunFault>
-    ensures told { OnOk result (Told (own_line no_tasks state.now node) gathered.old.items
-        gathered.new.items (W.contents output.old) (W.contents output.new)) }
-    ensures cut { OnErr result
-        (WritesPart (W.contents output.old) (W.contents output.new) gathered.old.items) }
-    ensures fault { IfErr result (λ fault. fault ≡ RunFault.Output) }
+/// Gathers what a node's line says.
+fn gather_own<B: Allocator>(no_tasks: bool, node: u16, state: &State<B>, gathered: &mut Gathered)
+    requires { array_vec_len gathered.old + LONGEST_ENTRY ≤ 8192 }
+    ensures { gathered.new.items ≡ gathered.old.items ++ own_line no_tasks state.now node }
 {
-    let scopes = state.scope_count();
-    if (node as usize) < scopes {
-        return gather_scope(node, state, gathered, output);
-    }
-    gather_work(no_tasks, node - scopes as u16, state, gathered, output)
-}
-
-/// Gathers the line of a group, and after the groups that of a task.
-fn gather_work<W: Write, B: Allocator>(
-    no_tasks: bool,
-    number: u16,
-    state: &State<B>,
-    gathered: &mut Gathered,
-    output: &mut W,
-) -> Result<(), RunFault>
-    ensures told { OnOk result (Told (own_work no_tasks state.now number) gathered.old.items
-        gathered.new.items (W.contents output.old) (W.contents output.new)) }
-    ensures cut { OnErr result
-        (WritesPart (W.contents output.old) (W.contents output.new) gathered.old.items) }
-    ensures fault { IfErr result (λ fault. fault ≡ RunFault.Output) }
-{
-    if no_tasks {
-        return gather_counted(number, state, gathered, output);
-    }
-    gather_row(work_row(number, state), gathered, output)
-}
-
-/// Gathers the line of a group with its tasks by phase.
-fn gather_counted<W: Write, B: Allocator>(
-    number: u16,
-    state: &State<B>,
-    gathered: &mut Gathered,
-    output: &mut W,
-) -> Result<(), RunFault>
-    ensures told { OnOk result (Told (group_counted state.now number) gathered.old.items
-        gathered.new.items (W.contents output.old) (W.contents output.new)) }
-    ensures cut { OnErr result
-        (WritesPart (W.contents output.old) (W.contents output.new) gathered.old.items) }
-    ensures fault { IfErr result (λ fault. fault ≡ RunFault.Output) }
-{
-    make_entry_room(gathered, output)?;
-    push_counted(number, state, gathered);
-    Ok(())
-}
-
-/// Gathers it when there is room.
-fn push_counted<B: Allocator>(number: u16, state: &State<B>, gathered: &mut Gathered)
-    requires { array_vec_len gathered.old + LONGEST_SUMMARY ≤ 8192 }
-    ensures { gathered.new.items ≡ gathered.old.items ++ group_counted state.now number }
-{
-    if let Some(group) = state.group(number) {
-        let phases = phases_of(number, state);
-        gather_tree_group(number, &group, &phases, gathered);
+    let scopes = Rows::Scopes.count(state);
+    let groups = Rows::Groups.count(state);
+    if node < scopes {
+        gather_one(Form::Branch, Rows::Scopes, node, state, gathered);
+    } else if no_tasks {
+        gather_one(Form::Branch, Rows::Groups, node - scopes, state, gathered);
+    } else if node - scopes < groups {
+        gather_one(Form::Line, Rows::Groups, node - scopes, state, gathered);
+    } else {
+        let number = node - scopes - groups;
+        gather_one(Form::Line, Rows::Tasks, number, state, gathered);
     }
 }
 
 /// Gathers the line of a scope.
-fn gather_scope<W: Write, B: Allocator>(
-    number: u16,
-    state: &State<B>,
-    gathered: &mut Gathered,
-    output: &mut W,
-) -> Result<(), RunFault>
-    ensures told { OnOk result (Told (tree_scope state.now number) gathered.old.items
-        gathered.new.items (W.contents output.old) (W.contents output.new)) }
-    ensures cut { OnErr result
-        (WritesPart (W.contents output.old) (W.contents output.new) gathered.old.items) }
-    ensures fault { IfErr result (λ fault. fault ≡ RunFault.Output) }
-{
-    make_entry_room(gathered, output)?;
-    push_scope(number, state, gathered);
-    Ok(())
-}
-
-/// Gathers the line of a scope when there is room.
-fn push_scope<B: Allocator>(number: u16, state: &State<B>, gathered: &mut Gathered)
-    requires { array_vec_len gathered.old + LONGEST_TREE_SCOPE ≤ 8192 }
+pub(crate) fn gather_branch<B: Allocator>(number: u16, state: &State<B>, gathered: &mut Gathered)
+    requires { array_vec_len gathered.old + LONGEST_ENTRY ≤ 8192 }
     ensures { gathered.new.items ≡ gathered.old.items ++ tree_scope state.now number }
 {
     if let Some(row) = scope_row(number, state) {
@@ -246,15 +131,14 @@ fn push_scope<B: Allocator>(number: u16, state: &State<B>, gathered: &mut Gather
     }
 }
 
-/// What is seen of a group, and after the groups of a task.
-fn work_row<B: Allocator>(number: u16, state: &State<B>) -> Option<Row>
-    ensures { seen_line result ≡ work_line state.now number }
+/// Gathers the line of a group with its tasks by phase.
+pub(crate) fn gather_counted<B: Allocator>(number: u16, state: &State<B>, gathered: &mut Gathered)
+    requires { array_vec_len gathered.old + LONGEST_ENTRY ≤ 8192 }
+    ensures { gathered.new.items ≡ gathered.old.items ++ group_counted state.now number }
 {
-    let groups = state.group_count();
-    if (number as usize) < groups {
-        Rows::Groups.seen(number, state)
-    } else {
-        Rows::Tasks.seen(number - groups as u16, state)
+    if let Some(group) = state.group(number) {
+        let phases = phases_of(number, state);
+        gather_tree_group(number, &group, &phases, gathered);
     }
 }
 
@@ -264,59 +148,37 @@ fn push_parents<B: Allocator>(no_tasks: bool, state: &State<B>, parents: &mut Pa
     ensures { parents.new.items ≡ nodes_of no_tasks state.now }
 {
     let _rules = state.count();
-    push_scopes(state, parents);
-    push_groups(state, parents);
+    push_rows(Rows::Scopes, state, parents);
+    push_rows(Rows::Groups, state, parents);
     if no_tasks {
         return;
     }
-    push_tasks(state, parents);
+    push_rows(Rows::Tasks, state, parents);
 }
 
-/// Appends the parent of each scope.
-fn push_scopes<B: Allocator>(state: &State<B>, parents: &mut Parents)
-    requires { array_vec_len parents.old + length state.now.tree.scopes ≤ MOST_NODES }
-    ensures { parents.new.items
-        ≡ parents.old.items ++ map (λ row. row.parent) state.now.tree.scopes }
+/// Appends the parent of each of these rows.
+fn push_rows<B: Allocator>(rows: Rows, state: &State<B>, parents: &mut Parents)
+    requires { array_vec_len parents.old + count_of rows state.now ≤ MOST_NODES }
+    ensures { parents.new.items ≡ parents.old.items ++ parents_in rows state.now }
 {
-    for number in 0..state.scope_count() as u16 {
-        if let Some(parent) = scope_parent(number, state) {
+    for number in 0..rows.count(state) {
+        if let Some(parent) = rows.parent(number, state) {
             parents.push(parent);
         }
     }
 }
 
-/// The scope that a scope was derived from.
-fn scope_parent<B: Allocator>(number: u16, state: &State<B>) -> Option<u16>
-    ensures { result ≡ option_map (λ row. row.parent)
-        (slice_get state.now.tree.scopes number) }
-{
-    Some(scope_row(number, state)?.parent)
-}
-
-/// Appends the scope of each group.
-fn push_groups<B: Allocator>(state: &State<B>, parents: &mut Parents)
-    requires { array_vec_len parents.old + length state.now.work.groups ≤ MOST_NODES }
-    ensures { parents.new.items
-        ≡ parents.old.items ++ map (λ row. row.scope) state.now.work.groups }
-{
-    for number in 0..state.group_count() as u16 {
-        if let Some(look) = state.group(number) {
-            parents.push(look.scope);
-        }
-    }
-}
-
-/// Appends the group of each task.
-fn push_tasks<B: Allocator>(state: &State<B>, parents: &mut Parents)
-    requires { array_vec_len parents.old + length state.now.work.tasks ≤ MOST_NODES }
-    ensures { parents.new.items ≡ parents.old.items
-        ++ map (λ row. length state.now.tree.scopes + row.group) state.now.work.tasks }
-{
-    let _rules = state.count();
-    let scopes = state.scope_count() as u16;
-    for number in 0..state.task_count() as u16 {
-        if let Some(look) = state.task(number) {
-            parents.push(scopes + look.group);
+impl Rows {
+    /// The node that is the parent of the one of this number: the scope that a scope was derived
+    /// from, the scope of a group, and the group of a task.
+    fn parent<B: Allocator>(self, number: u16, state: &State<B>) -> Option<u16>
+        ensures { result ≡ slice_get (parents_in self state.now) number }
+    {
+        let _rules = state.count();
+        match self {
+            Rows::Scopes => Some(scope_row(number, state)?.parent),
+            Rows::Groups => Some(state.group(number)?.scope),
+            Rows::Tasks => Some(Rows::Scopes.count(state) + state.task(number)?.group),
         }
     }
 }

@@ -48,26 +48,11 @@ pub fn gather_bytes<W: Write>(
     ensures fault { IfErr result (λ fault. fault ≡ RunFault.Output) }
 {
     if gathered.remaining_capacity() < bytes.len() {
-        return write_behind(bytes, gathered, output);
+        write_gathered(gathered, output)?;
+        return write_whole(output, bytes);
     }
     gathered.try_extend_from_slice(bytes).unwrap();
     Ok(())
-}
-
-/// Writes all that was gathered, and these bytes after it.
-fn write_behind<W: Write>(
-    bytes: &[u8],
-    gathered: &mut Gathered,
-    output: &mut W,
-) -> Result<(), RunFault>
-    ensures told { OnOk result (Told bytes.now gathered.old.items gathered.new.items
-        (W.contents output.old) (W.contents output.new)) }
-    ensures cut { OnErr result (WritesPart (W.contents output.old) (W.contents output.new)
-        (gathered.old.items ++ bytes.now)) }
-    ensures fault { IfErr result (λ fault. fault ≡ RunFault.Output) }
-{
-    write_gathered(gathered, output)?;
-    write_whole(output, bytes)
 }
 
 /// Writes all that was gathered.

@@ -1,8 +1,10 @@
+use Rattle.std.specs.Prelude.{◌+◌, length}
 use Rattle.std.proofs.Common.{arith}
-use Rattle.console_lines.proofs.Gathered.{◌followed_by◌, gathers_within}
+use Rattle.console_lines.proofs.Gathered.{gathers_then, gathers_within}
 use Rattle.console_lines.proofs.entries.push_quoted.Goals as goal
 
 pub returns : goal.returns
 returns g c =
-    gathers_within 34 (c.push.ensures followed_by c.push-2.ensures followed_by c.push-3.ensures)
-    (omega arith)
+    gathers_within (length c.args.word.now + 34) (gathers_then _ _ _ _ _ _ _ c.push.ensures
+    (gathers_then _ _ _ _ _ _ _ c.push-2.ensures c.push_after.ensures))
+    (omega (arith, c.requires.few))

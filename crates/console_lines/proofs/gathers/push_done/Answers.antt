@@ -3,4 +3,4 @@ use Rattle.console_lines.proofs.gathers.push_done.Goals as goal
 
 pub returns : goal.returns
 returns g c =
-    c.push.ensures followed_by c.push_deadline.ensures followed_by c.push_ending.ensures
+    c.push_deadline.ensures followed_by c.push_ending.ensures

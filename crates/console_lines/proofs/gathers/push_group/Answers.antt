@@ -3,6 +3,5 @@ use Rattle.console_lines.proofs.gathers.push_group.Goals as goal
 
 pub returns : goal.returns
 returns g c =
-    ((((((c.push.ensures followed_by c.push_count.ensures) followed_by c.push-2.ensures)
-    followed_by c.push_limit.ensures) followed_by c.push-3.ensures) followed_by
-    c.push_yes_or_no.ensures) followed_by c.push-4.ensures) followed_by c.push_error.ensures
+    c.push_count.ensures followed_by c.push_limit.ensures followed_by
+    c.push_yes_or_no.ensures followed_by c.push_error.ensures

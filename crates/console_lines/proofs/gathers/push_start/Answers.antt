@@ -3,5 +3,4 @@ use Rattle.console_lines.proofs.gathers.push_start.Goals as goal
 
 pub returns : goal.returns
 returns g c =
-    ((((c.push.ensures followed_by c.push_count.ensures) followed_by c.push-2.ensures) followed_by
-    c.push_name.ensures) followed_by c.push-3.ensures) followed_by c.push_name-2.ensures
+    c.push_count.ensures followed_by c.push_name.ensures followed_by c.push_name-2.ensures

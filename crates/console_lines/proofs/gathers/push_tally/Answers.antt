@@ -3,5 +3,5 @@ use Rattle.console_lines.proofs.gathers.push_tally.Goals as goal
 
 pub returns : goal.returns
 returns g c =
-    ((c.push.ensures followed_by c.push_name.ensures) followed_by c.push-2.ensures) followed_by
-    c.push_counts.ensures
+    c.push_name.ensures followed_by c.push_count.ensures followed_by
+    c.push_count-2.ensures followed_by c.push_count-3.ensures followed_by c.push_count-4.ensures

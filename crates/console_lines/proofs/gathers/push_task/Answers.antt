@@ -3,5 +3,4 @@ use Rattle.console_lines.proofs.gathers.push_task.Goals as goal
 
 pub returns : goal.returns
 returns g c =
-    ((c.push.ensures followed_by c.push_count.ensures) followed_by c.push-2.ensures) followed_by
-    c.push_phase.ensures
+    c.push_count.ensures followed_by c.push.ensures followed_by c.push_phase.ensures

@@ -4,6 +4,5 @@ use Rattle.console_lines.proofs.trees.push_taken.Goals as goal
 
 pub returns : goal.returns
 returns g c =
-    gathers_within 53 (c.push.ensures followed_by c.push-2.ensures followed_by c.push-3.ensures
-    followed_by c.push_number.ensures followed_by c.push-4.ensures followed_by
-    c.push_number-2.ensures) (omega arith)
+    gathers_within 53 (c.push_after.ensures followed_by c.push_number.ensures followed_by
+    c.push_number-2.ensures) (omega (arith, c.requires.word))

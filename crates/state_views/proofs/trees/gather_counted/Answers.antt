@@ -1,10 +1,18 @@
-use Rattle.console_lines.specs.Branches.{group_counted}
-use Rattle.state_views.proofs.Told.{told_more}
+use Rattle.std.proofs.Common.{◌++◌, ◌∙◌, List, Option, [], ap, ℕ}
+use Rattle.std.specs.Option.{option_map_or}
+use Rattle.run_model.specs.declared.answers.GroupLook.{GroupLook}
+use Rattle.console_lines.specs.Branches.{tree_group}
+use Rattle.console_lines.specs.declared.summaries.Phases.{Phases}
+use Rattle.console_lines.specs.Summaries.{phases_of}
 use Rattle.state_views.proofs.trees.gather_counted.Goals as goal
 
-pub returns-clause-told : goal.returns-clause-told
-returns-clause-told g c =
-    told_more (group_counted c.args.state.now c.args.number) c.args.gathered.now.items
-    c.make_entry_room.new.gathered.items c.push_counted.new.gathered.items
-    (g.W.Write.contents c.args.output.now) (g.W.Write.contents c.make_entry_room.new.output)
-    c.in_ok-make_entry_room.ensures.told c.push_counted.ensures
+pub returns-in-Some : goal.returns-in-Some
+returns-in-Some g c =
+    let p = c.args.state.now in
+    let n = c.args.number in
+    let Line : Option GroupLook → List ℕ = λ found.
+    option_map_or (λ x. tree_group n x (phases_of p n)) found [] in
+    c.gather_tree_group.ensures.items
+    ∙ ap (λ (t : List ℕ). c.args.gathered.now.items ++ t)
+    (ap (λ (s : Phases). tree_group n c.in-Some.group s) c.phases_of-phases.ensures
+    ∙ ap Line c.in-Some.ensures)

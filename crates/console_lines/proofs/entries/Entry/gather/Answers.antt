@@ -5,11 +5,5 @@ use Rattle.console_lines.proofs.entries.Entry.gather.Goals as goal
 pub returns-in-Store : goal.returns-in-Store
 returns-in-Store g c = rw c.in-Store.is (gathers_within 550 c.push_store.ensures (omega arith))
 
-pub returns-in-Scope : goal.returns-in-Scope
-returns-in-Scope g c = rw c.in-Scope.is (gathers_within 550 c.push_scope.ensures (omega arith))
-
-pub returns-in-Group : goal.returns-in-Group
-returns-in-Group g c = rw c.in-Group.is (gathers_within 550 c.push_group.ensures (omega arith))
-
 pub returns-in-Task : goal.returns-in-Task
 returns-in-Task g c = rw c.in-Task.is (gathers_within 550 c.push_task.ensures (omega arith))

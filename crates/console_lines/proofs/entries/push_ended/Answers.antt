@@ -1,7 +1,0 @@
-use Rattle.console_lines.proofs.Gathered.{◌followed_by◌}
-use Rattle.console_lines.proofs.entries.push_ended.Goals as goal
-
-pub returns : goal.returns
-returns g c =
-    c.push.ensures followed_by c.push_reason.ensures followed_by c.push-2.ensures followed_by
-    c.push_string.ensures followed_by c.push-3.ensures

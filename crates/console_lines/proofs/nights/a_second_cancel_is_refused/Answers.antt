@@ -1,8 +1,0 @@
-use Rattle.std.proofs.Common.{refl}
-use Rattle.std.specs.Fmt.{digits}
-use Rattle.console_lines.specs.Script.{reply, after_line, closing}
-use Rattle.console_lines.proofs.nights.a_second_cancel_is_refused.Goals as goal
-
-pub returns : goal.returns
-unfolding closing reply after_line digits
-returns c = refl

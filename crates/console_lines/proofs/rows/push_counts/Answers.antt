@@ -1,7 +1,0 @@
-use Rattle.console_lines.proofs.Gathered.{◌followed_by◌}
-use Rattle.console_lines.proofs.rows.push_counts.Goals as goal
-
-pub returns : goal.returns
-returns g c =
-    c.push.ensures followed_by c.push_number.ensures followed_by c.push-2.ensures followed_by
-    c.push_moment.ensures

@@ -1,7 +1,0 @@
-use Rattle.console_lines.proofs.Gathered.{◌followed_by◌}
-use Rattle.console_lines.proofs.trees.push_value.Goals as goal
-
-pub returns : goal.returns
-returns g c =
-    c.push.ensures followed_by c.push_name.ensures followed_by c.push-2.ensures followed_by
-    c.push_text.ensures

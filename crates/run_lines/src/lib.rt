@@ -1,0 +1,26 @@
+//! Lines over a book: each is read, run, and its reply written.
+//!
+//! [`run`] runs a whole input, [`run_strict`] one up to the first line that strays, both by
+//! [`run_until`], and [`line`] one line. What is written for a whole input is its
+//! script, as `console_lines` defines it. A [`TimedInput`] is an input with the machine's time
+//! before its lines.
+#![tactic(auto)]
+
+mod answers;
+mod consoles;
+mod faults;
+mod inputs;
+pub mod laws;
+mod runs;
+mod tallies;
+pub mod timed;
+mod untils;
+mod writings;
+
+pub use console_lines::{RunFault, Stray, StrayLine};
+pub use consoles::line;
+pub use faults::stopped;
+pub use run_book::Book;
+pub use runs::{run, run_strict, run_until};
+pub use timed::{MachineTime, TimedInput};
+pub use untils::Until;

@@ -1,8 +1,0 @@
-use Rattle.std.proofs.Common.{◌≡◌, ◌++◌, map, take}
-use Rattle.state_views.proofs.trees.push_groups.Given as goal
-
--- The parents of the first ones were appended.
-abbrev pub invariant-loop-number : goal.invariant-loop-number
-invariant-loop-number g l =
-    l.parents.items
-    ≡ l.initial.parents.items ++ map (λ row. row.scope) (take l.number l.state.work.groups)
