@@ -1,4 +1,5 @@
 pub mod Books
+pub mod Examples
 pub mod Machines
 pub mod ManyNights
 pub mod Meanings

@@ -1,0 +1,96 @@
+-- The two nights of the examples.
+use Rattle.run_model.proofs.Common.{◌≡◌, ◌⊎◌, ◌≤◌, ◌++◌, ◌∷◌, [], ℕ, zero, suc, List, length}
+use Rattle.run_model.proofs.Common.{take, Some, inl, inr, refl, sym, ap, subst, arith, same_Some}
+use Rattle.run_model.proofs.Common.{flat_map, run, Event, State}
+use Rattle.run_model.specs.declared.answers.Reply.{Reply}
+use Rattle.run_model.specs.declared.commands.Step.{Step}
+use Rattle.run_model.specs.declared.commands.Wish.TheVariants.{Cancel}
+use Rattle.book_model.specs.Examples.Calls.{acked, derive, flush, scope_made}
+use Rattle.book_model.specs.Machines.{GoesOn, Running, StopsAt, Stored, TakesAll, opened_at, took}
+use Rattle.book_model.specs.ManyNights.{moves_of}
+use Rattle.book_model.specs.Stores.{restarted}
+use Rattle.book_model.proofs.ManyNightsLemmas.{joined_moves, same_stored, spends, was_spent}
+use Rattle.book_model.specs.Examples.Plays.{first_events}
+use Rattle.book_model.specs.Examples.Stores.{two_events}
+use Rattle.book_model.specs.Examples.TwoNights.{answered, behind_first, first_night, second_night}
+use Rattle.book_model.specs.Examples.TwoNights.{store}
+
+-- The machine after these calls.
+abbrev after : Running → List (Step × Reply) → Running
+after m [] = m
+after m ((x, r) ∷ calls) = after (took m x r) calls
+
+-- After the answered steps of the first night.
+abbrev after_answered : Running
+after_answered = after (opened_at store) answered
+
+-- The fifth is taken, whatever it would be answered.
+last_history : (last : Running) (untold : List Reply)
+    → TakesAll after_answered (derive "d" "root" Cancel ∷ []) untold last
+    → last.book.session.history ≡ first_events ++ two_events
+last_history last [] p = absurd p
+last_history last (r ∷ []) (told, is) = ap (λ (m : Running). m.book.session.history) is
+last_history last (r ∷ s ∷ answers) (told, p) = absurd p
+
+-- Three events or more of the five lead to one of three states.
+one_of : (many : ℕ) (q : State) → 3 ≤ many → many ≤ 5
+    → run (restarted store) (take many (first_events ++ two_events)) ≡ Some q
+    → (q ≡ behind_first 3) ⊎ (q ≡ behind_first 4) ⊎ (q ≡ behind_first 5)
+one_of (suc (suc (suc zero))) q least most led =
+    inl (sym (same_Some (behind_first 3) q led))
+one_of (suc (suc (suc (suc zero)))) q least most led =
+    inr (inl (sym (same_Some (behind_first 4) q led)))
+one_of (suc (suc (suc (suc (suc zero))))) q least most led =
+    inr (inr (sym (same_Some (behind_first 5) q led)))
+one_of many q least most led = absurd (omega (arith, least, most))
+
+pub three_states : (q : State) → GoesOn (Stored store) (moves_of first_night) (Stored q)
+    → (q ≡ behind_first 3) ⊎ (q ≡ behind_first 4) ⊎ (q ≡ behind_first 5)
+three_states q goes =
+    let spent = was_spent store (Stored q) answered (derive "d" "root" Cancel ∷ []) goes in
+    let stops = subst (λ m. StopsAt m (derive "d" "root" Cancel ∷ []) spent.state)
+    spent.takes.1.1.1.1.1 spent.stops in
+    let same = last_history stops.last stops.untold stops.takes in
+    let five : length stops.last.book.session.history ≡ 5 =
+    ap (λ (l : List Event). length l) same in
+    let many = stops.front.many in
+    rw (same_stored q spent.state spent.is)
+    (one_of many spent.state stops.front.enough (omega (arith, stops.front.within, five))
+    (subst (λ l. run (restarted store) (take many l) ≡ Some spent.state) same
+    stops.front.reached))
+
+-- ---- both nights
+
+stops_first : StopsAt after_answered (derive "d" "root" Cancel ∷ []) (behind_first 4)
+stops_first = record {
+  untold = scope_made 4 ∷ [];
+  last = took after_answered (derive "d" "root" Cancel) (scope_made 4);
+  takes = (inl refl, refl);
+  front = record { many = 4; enough = omega arith; within = omega arith; reached = refl };
+}
+
+-- The calls of the second night, and the machine after them.
+abbrev answered_next : List (Step × Reply)
+answered_next = (flush, acked 6) ∷ (derive "e" "root" Cancel, scope_made 4) ∷ []
+
+abbrev after_second : Running
+after_second = after (opened_at (behind_first 4)) answered_next
+
+stops_second : StopsAt after_second [] (restarted (behind_first 4))
+stops_second = record {
+  untold = [];
+  last = after_second;
+  takes = refl;
+  front = record { many = 0; enough = omega arith; within = omega arith; reached = refl };
+}
+
+pub both_nights : GoesOn (Stored store) (flat_map moves_of (first_night ∷ second_night ∷ []))
+    (Stored (restarted (behind_first 4)))
+both_nights =
+    let first = spends store (behind_first 4) after_answered answered
+    (derive "d" "root" Cancel ∷ [])
+    (inl refl, (inl refl, (inl refl, (inl refl, (inl refl, refl))))) stops_first in
+    let second = spends (behind_first 4) (restarted (behind_first 4)) after_second answered_next []
+    (inl refl, (inl refl, refl)) stops_second in
+    joined_moves (Stored store) (Stored (behind_first 4)) (Stored (restarted (behind_first 4)))
+    (moves_of first_night) (moves_of second_night ++ []) first second

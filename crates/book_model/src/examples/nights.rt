@@ -1,0 +1,26 @@
+//! Two nights of the machine that a book is, each ended by a crash.
+
+ghost use Rattle.std.specs.Prelude.{◌≡◌, ◌⊎◌, ◌∷◌, []};
+ghost use Rattle.std.specs.List.{flat_map};
+ghost use Rattle.run_model.specs.State.{State};
+ghost use Rattle.book_model.specs.Machines.{GoesOn, Stored};
+ghost use Rattle.book_model.specs.ManyNights.{moves_of};
+ghost use Rattle.book_model.specs.Stores.{restarted};
+ghost use Rattle.book_model.specs.Examples.TwoNights.{behind_first, first_night, second_night};
+ghost use Rattle.book_model.specs.Examples.TwoNights.{store};
+
+/// Three events were acknowledged before the first crash, a fourth was accepted, and a fifth was
+/// asked for. What is stored then is the state after the first three, four or five: nothing that
+/// was acknowledged is lost, nothing else is there, and in no other order.
+pub fn a_stop_leaves_one_of_three_states()
+    ensures { (q : State) → GoesOn (Stored store) (moves_of first_night) (Stored q)
+        → (q ≡ behind_first 3) ⊎ (q ≡ behind_first 4) ⊎ (q ≡ behind_first 5) }
+{}
+
+/// The first night may leave the first four, though no reply acknowledged the fourth; the second
+/// begins after a restart of them, and may lose the one command that it accepted.
+#[tactic(auto, using(crate::proofs::ExampleNights::both_nights))]
+pub fn two_nights_lead_to_a_restart_of_four()
+    ensures { GoesOn (Stored store) (flat_map moves_of (first_night ∷ second_night ∷ []))
+        (Stored (restarted (behind_first 4))) }
+{}

@@ -1,0 +1,26 @@
+//! Examples of runs: which events are allowed, and the prefixes of a list of them.
+
+ghost use Rattle.std.specs.Prelude.{◌≡◌, Some, None};
+ghost use Rattle.run_model.specs.declared.layouts.Layout.TheVariants.{Small};
+ghost use Rattle.run_model.specs.Allowed.{IsFront, after};
+ghost use Rattle.run_model.specs.Event as event;
+ghost use Rattle.run_model.specs.State.{State, formatted};
+ghost use Rattle.book_model.specs.Examples.Nights.{new_store, reopened, state_of, stopped_night};
+ghost use Rattle.book_model.specs.Examples.Runs.{at_seven, at_eight, two_advances};
+
+/// A restart is allowed in every state, and a start only of the task that is ready.
+pub fn a_restart_is_always_allowed()
+    ensures first { after (formatted Small) event.Restart ≡ Some new_store.state }
+    ensures again { after (state_of stopped_night) event.Restart
+        ≡ Some (reopened 1 stopped_night) }
+    ensures start { after new_store.state (event.Start 0) ≡ None }
+{}
+
+/// If the first of two events is acknowledged, a crash leaves what one or both lead to; and no
+/// crash leaves what holds a third.
+pub fn fronts_hold_what_is_acknowledged()
+    ensures one { IsFront new_store.state two_advances 1 at_seven }
+    ensures both { IsFront new_store.state two_advances 1 at_eight }
+    ensures all { IsFront new_store.state two_advances 2 at_eight }
+    ensures third { (p : State) → IsFront new_store.state two_advances 3 p → ⊥ }
+{}
