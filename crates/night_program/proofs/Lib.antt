@@ -1,8 +1,4 @@
-mod Begins
-mod EndLemmas
-mod KnownTasks
 mod LastingLemmas
 mod Looking
 mod NameTexts
 mod RowLemmas
-mod TimedLemmas

@@ -6,14 +6,14 @@ use Rattle.run_model.specs.State.{State}
 use Rattle.run_disk.specs.Disk.{DiskState}
 use Rattle.book_model.specs.Openings.{HasRecovered, RecoversNone}
 use Rattle.console_lines.specs.declared.faults.RunFault.{RunFault}
-use Rattle.run_console.specs.Troubles.{stopped}
+use Rattle.run_lines.specs.Troubles.{stopped}
 use Rattle.run_crew.specs.Courses.{Call, IsGates}
-use Rattle.night_program.specs.declared.endings.Done.{Done}
-use Rattle.night_program.specs.declared.endings.Done.TheVariants.{Strayed, Unknown, Well}
-use Rattle.night_program.specs.declared.failures.Failure.{Failure}
-use Rattle.night_program.specs.declared.known.UnknownJob.{UnknownJob}
-use Rattle.night_program.specs.Failures.{FailsBy, Names}
-use Rattle.night_program.specs.Known.{unknown_in}
+use Rattle.store_words.specs.declared.endings.Done.{Done}
+use Rattle.store_words.specs.declared.endings.Done.TheVariants.{Strayed, Unknown, Well}
+use Rattle.store_words.specs.declared.failures.Failure.{Failure}
+use Rattle.store_words.specs.declared.known.UnknownJob.{UnknownJob}
+use Rattle.store_words.specs.Failures.{FailsBy, Names}
+use Rattle.store_words.specs.Known.{unknown_in}
 
 -- The gate of a night lets each turn pass.
 abbrev pub IsOpen : Call → Type 0

@@ -1,14 +1,4 @@
 pub mod Crews
-pub mod Demos
-pub mod Endings
-pub mod Failures
-pub mod Hints
 pub mod Jobs
-pub mod Known
 pub mod Lasting
-pub mod Looks
 pub mod Programs
-pub mod Replacements
-pub mod Sources
-pub mod Stores
-pub mod Timed

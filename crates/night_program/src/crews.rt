@@ -2,22 +2,21 @@
 
 ghost use Rattle.std.specs.Prelude.{◌≡◌, ◌≤◌, vec_len};
 ghost use Rattle.night_program.specs.Crews.{AnswersCrew, FindsUnknown};
-ghost use Rattle.night_program.specs.Failures.{Names};
+ghost use Rattle.store_words.specs.Failures.{Names};
 ghost use Rattle.night_program.specs.Programs.{DoesCrew};
 
-use crate::endings::Done;
-use crate::failures::{Failure, done_alone, failed_over, no_file};
-use crate::known::{UnknownJob, unknown_in};
 use console_lines::RunFault;
-use run_console::{Book, crew_over, stopped};
+use run_console::crew_over;
 use run_crew::{Job, OpenGate};
 use run_disk::RunDisk;
+use run_lines::{Book, stopped};
 use run_model::Fault;
 use std::alloc::Global;
 use std::io::Write;
 use std::sync::Wait;
 use std::thread::Threads;
 use store_files::{Files, Opened, Why};
+use store_words::{Done, Failure, UnknownJob, done_alone, failed_over, no_file, unknown_in};
 
 /// Opens the store in the file of this name, and works off its ready tasks with so many workers,
 /// who take the first of these lists of jobs. `Memory` if there are fewer lists. If the jobs are to

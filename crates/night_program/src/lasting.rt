@@ -8,16 +8,13 @@ ghost use Rattle.book_model.specs.Openings.{HasFormatted, Opens};
 ghost use Rattle.book_model.specs.Standing.{LiesWith};
 ghost use Rattle.book_model.specs.Stores.{Stores, StoresFront, restarted};
 ghost use Rattle.console_lines.specs.declared.faults.RunFault.{RunFault};
-ghost use Rattle.console_lines.specs.declared.strays.StrayLine.{StrayLine};
 ghost use Rattle.run_console.specs.Crews.{CrewEnds, StoresNight};
-ghost use Rattle.run_console.specs.declared.untils.Until.{Until};
-ghost use Rattle.night_program.specs.Lasting.{FindsLeft, IsReadAlone, IsRunOver, Run, RunsLeave};
-ghost use Rattle.night_program.specs.Lasting.{StoresAfterRuns, StoresWork};
-ghost use Rattle.night_program.specs.Sources.{Serves};
-ghost use Rattle.night_program.specs.Timed.{TimedEnds};
 ghost use Rattle.night_program.specs.Crews.{IsOpen};
-ghost use Rattle.night_words.specs.declared.asked.View.{View};
-ghost use Rattle.night_program.specs.Stores.{InspectEnds, ScriptEnds, view_text};
+ghost use Rattle.night_program.specs.Lasting.{Run, RunsLeave, StoresAfterRuns, StoresWork};
+ghost use Rattle.night_requests.specs.declared.asked.View.{View};
+ghost use Rattle.store_words.specs.Lasting.{FindsLeft, IsReadAlone};
+ghost use Rattle.store_words.specs.Sources.{Serves};
+ghost use Rattle.store_words.specs.Stores.{InspectEnds, view_text};
 
 use run_disk::RunDisk;
 
@@ -65,18 +62,4 @@ pub fn many_runs_lose_nothing_acknowledged<D: RunDisk>()
         → IsReadAlone (D.state given) (D.state left) }
     ensures source { (given read : D) → Serves (D.state given) (D.state read)
         → IsReadAlone (D.state given) (D.state read) }
-{}
-
-/// Each script is such a run, strict or not, as it is or with the time before its lines: lines are
-/// run over the store, if it is opened.
-pub fn a_script_runs_lines<D: RunDisk>()
-    ensures script { (until : Until) (done : Result (Option StrayLine) RunFault)
-        (given left : D) (r0 r1 w0 w1 : Option (List ℕ))
-        → ScriptEnds D.state until given done left r0 r1 w0 w1
-        → IsRunOver D.state given left }
-    ensures timed { (moments : Option (List ℕ)) (until : Until)
-        (done : Result (Option StrayLine) RunFault) (given left : D)
-        (r0 r1 w0 w1 : Option (List ℕ))
-        → TimedEnds moments D.state until given done left r0 r1 w0 w1
-        → IsRunOver D.state given left }
 {}

@@ -1,39 +1,25 @@
 //! The program: it reads its words, and does what they ask for.
 
-ghost use Rattle.std.specs.Prelude.{◌≡◌, ℕ, false, map, vec_len, IfErr, IfOk, OnErr};
+ghost use Rattle.std.specs.Prelude.{◌≡◌, ℕ, false, map, vec_len, IfErr, IfOk};
 ghost use Rattle.std.specs.String.{string_bytes};
-ghost use Rattle.night_program.specs.Programs.{Does, DoesFormat, DoesInspect, DoesMigrate};
-ghost use Rattle.store_files.specs.Files.{IsNotMade, Makes};
-ghost use Rattle.night_program.specs.Programs.{DoesRenew, DoesScript, IsLeft, IsRefused, RunsWords};
-ghost use Rattle.night_program.specs.Programs.{asks_crew};
+ghost use Rattle.night_program.specs.Programs.{Does, IsRefused, RunsWords, asks_crew};
 
 use crate::crews::crew_file;
-use crate::demos::demo;
-use crate::endings::{Done, Ended, end, refuse};
-use crate::failures::{
-    Failure, done_alone, done_over, failed_source, no_file, strict_alone, strict_over,
-};
-use crate::hints::hint;
-use crate::looks::look;
-use crate::migrations::{migrate, migrated};
-use crate::renewals::{renew, renewed};
-use crate::replacements::renew_in_place;
-use crate::sources::{migrated_layout, read_source};
-use crate::stores::{format, inspect, script, until_of};
-use crate::streams::Streams;
-use crate::timed::timed_file;
-use night_words::{Asked, View, WordsFault, read_words};
-use run_console::stopped;
+use night_requests::{Asked, WordsFault};
+use night_words::read_words;
 use run_crew::Job;
-use run_disk::RunDisk;
-use run_model::Layout;
+use run_lines::MachineTime;
 use state_views::write_whole;
 use std::alloc::Global;
 use std::io::{Read, Write};
 use std::sync::Wait;
 use std::thread::Threads;
-use store_files::{Files, Made, Opened, Reason, Tell, Why};
-use timed_input::MachineTime;
+use store_files::{Files, Tell, Why};
+use store_words::{
+    Done, Ended, Failure, Streams, demo, done_alone, end, format_file, hint, inspect_file,
+    migrate_file, refuse, renew_file, renew_in_place, script_file, strict_alone, timed_file,
+    until_of,
+};
 
 /// Does what the words ask for, the program's own name first. They come as the system gave them, or
 /// as why it gave none.
@@ -162,223 +148,5 @@ fn answer_alone<'a, F: Files, C: MachineTime, I: Read, O: Write>(
         Asked::Renew { old, new, is_new } => renew_file(alloc, old, new, *is_new, files, output),
         Asked::RenewInPlace(store) => renew_in_place(alloc, store, files, output),
         Asked::Help(text) => done_alone(write_whole(output, text.as_bytes())),
-    }
-}
-
-/// Creates the file of this name or empties it, and makes a large store of it. One that has to be
-/// new isn't emptied.
-fn format_file<'a, F: Files, O: Write>(
-    store: &'a str,
-    only_new: bool,
-    files: &mut F,
-    output: &mut O,
-) -> Result<Done, Failure<'a>>
-    ensures { DoesFormat F.Disk.state F.seen store.now only_new result files.old files.new
-        (O.contents output.old) (O.contents output.new) }
-{
-    match make(store, Layout::Large, only_new, files) {
-        Ok(Made { disk, why, is_new }) => {
-            let (done, left) = format(disk, output);
-            let answer = done_over(done, store, &why);
-            leave(files, store, is_new, left, &answer);
-            answer
-        }
-        Err(reason) => Err(no_file(store, reason)),
-    }
-}
-
-/// The file of this name, with the size of a store of this layout: created or emptied, or created
-/// alone.
-fn make<F: Files>(
-    name: &str,
-    layout: Layout,
-    only_new: bool,
-    files: &mut F,
-) -> Result<Made<F::Disk, F::Why>, Reason>
-    ensures made { IfOk result (λ made. Makes F.Disk.state F.seen name.now layout only_new
-        made.is_new made.disk files.old files.new) }
-    ensures not { OnErr result (IsNotMade F.seen name.now only_new files.old files.new) }
-{
-    let size = layout.store_len();
-    if only_new {
-        files.create_new(name, None, size)
-    } else {
-        files.create(name, size)
-    }
-}
-
-/// Takes the file of this name away again if it is new and what it was made for failed; else it is
-/// the disk that this left.
-fn leave<F: Files>(
-    files: &mut F,
-    name: &str,
-    is_new: bool,
-    left: F::Disk,
-    answer: &Result<Done, Failure<'_>>,
-)
-    ensures { IsLeft F.seen is_new answer.now name.now left files.old files.new }
-{
-    if is_new && answer.is_err() {
-        files.remove(name);
-    } else {
-        files.close(name, left);
-    }
-}
-
-/// Opens the store in the file of this name, and runs the input over it; a strict run ends at the
-/// first line that strays.
-fn script_file<'a, F: Files, I: Read, O: Write>(
-    alloc: Global,
-    store: &'a str,
-    strict: bool,
-    files: &mut F,
-    input: &mut I,
-    output: &mut O,
-) -> Result<Done, Failure<'a>>
-    ensures { DoesScript F.Disk.state F.seen store.now strict result files.old files.new
-        (I.remaining input.old) (I.remaining input.new)
-        (O.contents output.old) (O.contents output.new) }
-{
-    let Opened { disk, why } = match files.open(store) {
-        Ok(opened) => opened,
-        Err(reason) => return Err(no_file(store, reason)),
-    };
-    let (done, left) = script(alloc, disk, until_of(strict), input, output);
-    files.close(store, left);
-    strict_over(done, store, &why)
-}
-
-/// Prints what the view shows of the store in the file of this name, also if another program has it
-/// open.
-fn inspect_file<'a, F: Files, O: Write>(
-    alloc: Global,
-    store: &'a str,
-    view: View<'_>,
-    files: &mut F,
-    output: &mut O,
-) -> Result<Done, Failure<'a>>
-    ensures { DoesInspect F.Disk.state F.seen view.entry store.now result files.old files.new
-        (O.contents output.old) (O.contents output.new) }
-{
-    match files.open_to_read(store) {
-        Ok(Opened { mut disk, why }) => {
-            let done = inspect(alloc, &mut disk, view, output);
-            files.close(store, disk);
-            done_over(done, store, &why)
-        }
-        Err(Reason::InUse) => look_file(alloc, store, view, files, output),
-        Err(reason) => Err(no_file(store, reason)),
-    }
-}
-
-/// Prints what the view shows of the store in the file of this name, which another program has
-/// open.
-fn look_file<'a, F: Files, O: Write>(
-    alloc: Global,
-    store: &'a str,
-    view: View<'_>,
-    files: &mut F,
-    output: &mut O,
-) -> Result<Done, Failure<'a>>
-    ensures { DoesInspect F.Disk.state F.seen view.entry store.now result files.old files.new
-        (O.contents output.old) (O.contents output.new) }
-{
-    match files.look(store) {
-        Ok(opened) => {
-            let (answer, read) = look(alloc, files, opened, store, view, output);
-            files.close(store, read);
-            answer
-        }
-        Err(reason) => Err(no_file(store, reason)),
-    }
-}
-
-/// Opens the small store in the file of the old name for reading alone, and reads it whole. Then it
-/// creates the file of the new name, or empties one that needn't be new, and makes a large store of
-/// it with the state of the old one.
-fn migrate_file<'a, F: Files, O: Write>(
-    alloc: Global,
-    old: &'a str,
-    new: &'a str,
-    only_new: bool,
-    files: &mut F,
-    output: &mut O,
-) -> Result<Done, Failure<'a>>
-    ensures { DoesMigrate F.Disk.state F.seen only_new old.now new.now result
-        files.old files.new (O.contents output.old) (O.contents output.new) }
-{
-    let opened = match files.open_to_read(old) {
-        Ok(opened) => opened,
-        Err(reason) => return Err(no_file(old, reason)),
-    };
-    let Opened {
-        disk: mut source,
-        why: why_old,
-    } = opened;
-    let from = Layout::of(source.size());
-    let to = migrated_layout(source.size());
-    let large = match read_source(alloc, &mut source, to) {
-        Ok(layout) => layout,
-        Err(fault) => {
-            files.close(old, source);
-            return Err(failed_source(stopped(fault), from, to, old, &why_old));
-        }
-    };
-    match make(new, large, only_new, files) {
-        Ok(Made { disk, why, is_new }) => {
-            let (done, left) = migrate(alloc, &mut source, disk);
-            let answer = migrated(done, old, &why_old, new, &why, output);
-            leave(files, new, is_new, left, &answer);
-            files.close(old, source);
-            answer
-        }
-        Err(reason) => {
-            files.close(old, source);
-            Err(no_file(new, reason))
-        }
-    }
-}
-
-/// Opens the store in the file of the old name for reading alone, and reads it whole. Then it
-/// creates the file of the new name, or empties one that needn't be new, and makes of it a store of
-/// the same size with what isn't finished in the old one.
-fn renew_file<'a, F: Files, O: Write>(
-    alloc: Global,
-    old: &'a str,
-    new: &'a str,
-    only_new: bool,
-    files: &mut F,
-    output: &mut O,
-) -> Result<Done, Failure<'a>>
-    ensures { DoesRenew F.Disk.state F.seen only_new old.now new.now result
-        files.old files.new (O.contents output.old) (O.contents output.new) }
-{
-    let Opened {
-        disk: mut stored,
-        why: why_old,
-    } = match files.open_to_read(old) {
-        Ok(opened) => opened,
-        Err(reason) => return Err(no_file(old, reason)),
-    };
-    let same = Layout::of(stored.size());
-    let layout = match read_source(alloc, &mut stored, same) {
-        Ok(layout) => layout,
-        Err(fault) => {
-            files.close(old, stored);
-            return Err(failed_source(stopped(fault), same, same, old, &why_old));
-        }
-    };
-    match make(new, layout, only_new, files) {
-        Ok(Made { disk, why, is_new }) => {
-            let (done, left) = renew(alloc, &mut stored, disk);
-            let answer = renewed(done, old, &why_old, new, &why, output);
-            leave(files, new, is_new, left, &answer);
-            files.close(old, stored);
-            answer
-        }
-        Err(reason) => {
-            files.close(old, stored);
-            Err(no_file(new, reason))
-        }
     }
 }

@@ -11,15 +11,11 @@ use Rattle.clap.specs.declared.parser.matches.ArgMatches.{ArgMatches}
 use Rattle.clap.specs.Simple.{HasMatchesOf}
 use Rattle.night_words.specs.Commands.{night, Asks, AsksFor, IsAnswer, IsCausedBy, IsHelp, IsNamed}
 use Rattle.night_words.specs.Commands.{IsShown, faults_of, named_by, named_in, new_by, new_in}
-use Rattle.night_words.proofs.TakenLemmas.{IsTaken, taken, taken_asks, taken_fails, taken_is_named}
-use Rattle.night_words.specs.declared.asked.Asked.{Asked}
-use Rattle.night_words.specs.declared.asked.Asked.TheVariants.{Demo, Format, Script, Inspect, Help}
-use Rattle.night_words.specs.declared.asked.Asked.TheVariants.{Crew, Migrate, Renew, RenewInPlace}
-use Rattle.night_words.specs.declared.asked.WordsFault.{WordsFault}
-use Rattle.night_words.specs.declared.asked.WordsFault.TheVariants.{Mistake, NotText, Memory}
-use Rattle.night_words.specs.declared.asked.WordsFault.TheVariants.{NoTree, Phase, Place}
-use Rattle.night_words.specs.declared.asked.WordsFault.TheVariants.{SameStores}
-use Rattle.night_words.specs.declared.asked.WordsFault.TheVariants.{Views, Workers}
+use Rattle.night_words.proofs.TakenLemmas.{taken, taken_asks, taken_fails, taken_is_named}
+use Rattle.night_requests.specs.declared.asked.Asked.{Asked}
+use Rattle.night_requests.specs.declared.asked.Asked.TheVariants.{Help}
+use Rattle.night_requests.specs.declared.asked.WordsFault.{WordsFault}
+use Rattle.night_requests.specs.declared.asked.WordsFault.TheVariants.{Mistake, NotText, Memory}
 
 -- the parser's statements on simple commands are about `night`
 night_is_simple : is_simple_and_free night ≡ true
@@ -38,26 +34,12 @@ no_help kind e (inr h) = cc
 -- what is shown of a kind is an answer where that kind may be found
 shown_is_answer : (kind : ErrorKind) (kinds : Kinds) (r : Result Asked WordsFault)
     → (kind ≡ OutOfMemory) ⊎ IsAmong kind kinds → IsShown kind r → IsAnswer kinds r
-shown_is_answer kind kinds (Ok (Demo strict)) found shown = absurd shown
-shown_is_answer kind kinds (Ok (Format store is_new)) found shown = absurd shown
-shown_is_answer kind kinds (Ok (Script store strict timed)) found shown = absurd shown
-shown_is_answer kind kinds (Ok (Inspect store view)) found shown = absurd shown
-shown_is_answer kind kinds (Ok (Crew store workers known)) found shown = absurd shown
-shown_is_answer kind kinds (Ok (Migrate old new is_new)) found shown = absurd shown
-shown_is_answer kind kinds (Ok (Renew old new is_new)) found shown = absurd shown
-shown_is_answer kind kinds (Ok (RenewInPlace store)) found shown = absurd shown
 shown_is_answer kind kinds (Ok (Help text)) (inl e) shown = absurd (no_help kind e shown)
 shown_is_answer kind kinds (Ok (Help text)) (inr among) shown = (kind, among, shown)
 shown_is_answer kind kinds (Err (Mistake text)) (inl e) shown = absurd (shown.2 e)
 shown_is_answer kind kinds (Err (Mistake text)) (inr among) shown = (kind, among, shown)
-shown_is_answer kind kinds (Err SameStores) found shown = absurd shown
-shown_is_answer kind kinds (Err Workers) found shown = absurd shown
-shown_is_answer kind kinds (Err Views) found shown = absurd shown
-shown_is_answer kind kinds (Err NoTree) found shown = absurd shown
-shown_is_answer kind kinds (Err Phase) found shown = absurd shown
-shown_is_answer kind kinds (Err Place) found shown = absurd shown
-shown_is_answer kind kinds (Err NotText) found shown = absurd shown
 shown_is_answer kind kinds (Err Memory) found shown = tt
+shown_is_answer kind kinds other found shown = absurd shown
 
 -- where the command line is `night`, what is shown of the parser's error is an answer
 pub error_is_answered : (a : App) (words : List Text) (e : Error) (r : Result Asked WordsFault)
@@ -71,30 +53,17 @@ error_is_answered a words e r is_night found shown =
 -- what is shown of an error is never a command
 pub error_asks_nothing : (kind : ErrorKind) (words : List Text) (r : Result Asked WordsFault)
     → IsShown kind r → IfOk r (λ asked. AsksFor asked words)
-error_asks_nothing kind words (Ok (Demo strict)) shown = absurd shown
-error_asks_nothing kind words (Ok (Format store is_new)) shown = absurd shown
-error_asks_nothing kind words (Ok (Script store strict timed)) shown = absurd shown
-error_asks_nothing kind words (Ok (Inspect store view)) shown = absurd shown
-error_asks_nothing kind words (Ok (Crew store workers known)) shown = absurd shown
-error_asks_nothing kind words (Ok (Migrate old new is_new)) shown = absurd shown
-error_asks_nothing kind words (Ok (Renew old new is_new)) shown = absurd shown
-error_asks_nothing kind words (Ok (RenewInPlace store)) shown = absurd shown
 error_asks_nothing kind words (Ok (Help text)) shown = tt
 error_asks_nothing kind words (Err fault) shown = tt
+error_asks_nothing kind words other shown = absurd shown
 
 -- and no mistake that the parser leaves to its caller
 pub error_is_no_clash : (kind : ErrorKind) (words : List Text) (r : Result Asked WordsFault)
     → IsShown kind r → IfErr r (λ why. IsCausedBy why words)
 error_is_no_clash kind words (Ok asked) shown = tt
 error_is_no_clash kind words (Err (Mistake text)) shown = tt
-error_is_no_clash kind words (Err SameStores) shown = absurd shown
-error_is_no_clash kind words (Err Workers) shown = absurd shown
-error_is_no_clash kind words (Err Views) shown = absurd shown
-error_is_no_clash kind words (Err NoTree) shown = absurd shown
-error_is_no_clash kind words (Err Phase) shown = absurd shown
-error_is_no_clash kind words (Err Place) shown = absurd shown
-error_is_no_clash kind words (Err NotText) shown = absurd shown
 error_is_no_clash kind words (Err Memory) shown = tt
+error_is_no_clash kind words (Err other) shown = absurd shown
 
 -- ---- where the command line is `night`, and the parser has matches
 
@@ -111,49 +80,30 @@ module _ (a : App) (words : List Text) (m : ArgMatches) (is_night : a ≡ night)
   names_alike = (matches (ap is_simple is_night ∙ night_has_matches)).1
       ∙ ap (λ b. subcommand_of b words) is_night
 
-  matches_taken : IsTaken words (named_by m) (new_by m)
-  matches_taken = subst (λ e. IsTaken words (named_in e) (new_in e)) (sym names_alike)
-      (taken words finds_nothing)
-
   -- so a command is named
   pub command_is_named : IsNamed (named_by m) (new_by m)
-  command_is_named = taken_is_named words (named_by m) (new_by m) matches_taken
+  command_is_named = subst (λ e. IsNamed (named_in e) (new_in e)) (sym names_alike)
+      (taken_is_named words (taken words finds_nothing))
 
   -- and what is asked for of it, the words ask for
-  pub command_is_asked : (r : Result Asked WordsFault)
-      → Asks (subcommand_rows_of m) r
+  pub command_is_asked : (r : Result Asked WordsFault) → Asks (subcommand_rows_of m) r
       → IfOk r (λ asked. AsksFor asked words)
-  command_is_asked (Ok asked) asks =
-      taken_asks words (subcommand_rows_of m) asked names_alike matches_taken asks
+  command_is_asked (Ok asked) asks = taken_asks words asked (taken words finds_nothing)
+      (subst (λ e. Asks e (Ok asked)) names_alike asks)
   command_is_asked (Err why) asks = tt
 
   -- or they are a mistake of their own
-  pub command_is_cause : (r : Result Asked WordsFault)
-      → Asks (subcommand_rows_of m) r
+  pub command_is_cause : (r : Result Asked WordsFault) → Asks (subcommand_rows_of m) r
       → IfErr r (λ why. IsCausedBy why words)
   command_is_cause (Ok asked) asks = tt
-  command_is_cause (Err why) asks =
-      taken_fails words (subcommand_rows_of m) why names_alike matches_taken asks
+  command_is_cause (Err why) asks = taken_fails words why (taken words finds_nothing)
+      (subst (λ e. Asks e (Err why)) names_alike asks)
 
   -- which is an answer
-  pub command_is_answer : (r : Result Asked WordsFault)
-      → Asks (subcommand_rows_of m) r
+  pub command_is_answer : (r : Result Asked WordsFault) → Asks (subcommand_rows_of m) r
       → IsAnswer (faults_of words) r
-  command_is_answer (Ok (Demo strict)) asks = finds_nothing
-  command_is_answer (Ok (Format store is_new)) asks = finds_nothing
-  command_is_answer (Ok (Script store strict timed)) asks = finds_nothing
-  command_is_answer (Ok (Inspect store view)) asks = finds_nothing
-  command_is_answer (Ok (Crew store workers known)) asks = finds_nothing
-  command_is_answer (Ok (Migrate old new is_new)) asks = finds_nothing
-  command_is_answer (Ok (Renew old new is_new)) asks = finds_nothing
-  command_is_answer (Ok (RenewInPlace store)) asks = finds_nothing
   command_is_answer (Ok (Help text)) asks = absurd asks
-  command_is_answer (Err SameStores) asks = finds_nothing
-  command_is_answer (Err Workers) asks = finds_nothing
-  command_is_answer (Err Views) asks = finds_nothing
-  command_is_answer (Err NoTree) asks = finds_nothing
-  command_is_answer (Err Phase) asks = finds_nothing
-  command_is_answer (Err Place) asks = finds_nothing
   command_is_answer (Err (Mistake text)) asks = absurd asks
   command_is_answer (Err NotText) asks = absurd asks
   command_is_answer (Err Memory) asks = absurd asks
+  command_is_answer other asks = finds_nothing

@@ -1,29 +1,30 @@
 -- The parser's look at a word after a command that takes flags and options: it is the mark `--`,
 -- one of these, or a value.
 use Rattle.std.proofs.Common.{◌≡◌, ◌∙◌, ◌∷◌, ◌⊎◌, ℕ, Bool, List, Option, Some, None, [], ap, cond}
-use Rattle.std.proofs.Common.{false, inl, inr, length, refl, subst, suc, sym, true, zero}
-use Rattle.std.specs.Prelude.{◌&&◌, find, if◌then◌else◌, is_some, not, slice_get}
-use Rattle.std.specs.Str.{bytes_eq, chars}
+use Rattle.std.proofs.Common.{false, inl, inr, refl, subst, sym, true}
+use Rattle.std.specs.Prelude.{◌&&◌, ◌||◌, find, if◌then◌else◌, is_some, not}
+use Rattle.std.specs.List.{list_any}
+use Rattle.std.specs.Str.{bytes_eq}
 use Rattle.std.specs.Option.{option_map_or}
 use Rattle.std.proofs.lemmas.Slice.Eq.{bytes_eq-Decides}
 use Rattle.clap.specs.Lexer.{long_of, short_of}
-use Rattle.clap.specs.Faults.{bundle_fault, bundle_step_fault, flag_word_fault, flags_fault}
+use Rattle.clap.specs.Faults.{flag_word_fault}
 use Rattle.clap.specs.Faults.{long_fault, option_fault, other_fault, react_fault, settle_fault}
 use Rattle.clap.specs.Faults.{short_fault, step_fault, turn_fault}
 use Rattle.clap.specs.Kinds.{Kinds}
 use Rattle.clap.specs.Simple.{Shape, filled, help_rule, new_rule, with_index}
-use Rattle.clap.specs.Walk.{Held, Outcome, Row, Rule, Step, Text, Waiting, Walk, action_of}
+use Rattle.clap.specs.Walk.{Held, Row, Rule, Step, Text, Waiting, Walk, action_of}
 use Rattle.clap.specs.Walk.{after_flag, after_step, arg_by_id, arg_by_long, arg_by_short}
-use Rattle.clap.specs.Walk.{bundle_met, bundle_step, flag_met, has_long, has_short, idle}
-use Rattle.clap.specs.Walk.{long_met, long_or_other, option, option_met, plain, plain_word}
-use Rattle.clap.specs.Walk.{positional, settled_rows, short_or_plain, subcommand_or_other}
+use Rattle.clap.specs.Walk.{flag_met, has_long, has_short, idle}
+use Rattle.clap.specs.Walk.{long_met, long_or_other, option, option_met, plain_word}
+use Rattle.clap.specs.Walk.{positional, settled_rows, subcommand_or_other}
 use Rattle.clap.specs.Walk.{takes_values, trailing, used, walked}
 use Rattle.clap.specs.declared.builder.action.ArgAction.{ArgAction}
 use Rattle.clap.specs.declared.builder.action.ArgAction.TheVariants.{Help, Set}
 use Rattle.clap.specs.declared.error.kind.ErrorKind.TheVariants as kind
 use Rattle.night_words.specs.Commands.{flag, value_option}
-use Rattle.night_words.proofs.TurnLemmas.{ShortsFail, first_none, held, help_is_found, mark}
-use Rattle.night_words.proofs.TurnLemmas.{second_none}
+use Rattle.night_words.proofs.TurnLemmas.{ShortsFail, first_none, has_letter, has_name, held}
+use Rattle.night_words.proofs.TurnLemmas.{help_is_found, mark, second_none, short_is_plain}
 
 -- ---- the arguments of a command
 
@@ -52,6 +53,20 @@ pub all_in : (P : Rule → Type 0) (a : Rule) (rules : List Rule) → All P rule
 all_in P a [] all is = absurd is
 all_in P a (b ∷ rest) all (inl is) = subst P is all.0
 all_in P a (b ∷ rest) all (inr is) = all_in P a rest all.1 is
+
+-- a test that none passes fails at each
+pub none_in : (p : Rule → Bool) (a : Rule) (rules : List Rule) → list_any p rules ≡ false
+    → IsIn a rules → p a ≡ true → ⊥
+none_in p a [] none is holds = absurd is
+none_in p a (b ∷ rest) none is holds = go (p b) refl (none_in p a rest) none is
+  where
+    go : (x : Bool) → p b ≡ x → (list_any p rest ≡ false → IsIn a rest → p a ≡ true → ⊥)
+        → x || list_any p rest ≡ false → (b ≡ a) ⊎ IsIn a rest → ⊥
+    go true e below none is = cc
+    go false e below none (inl same) =
+        let bad : true ≡ false = sym holds ∙ sym (ap p same) ∙ e in
+        cc
+    go false e below none (inr there) = below none there holds
 
 -- what a search finds is there, and what was searched for
 pub found_in : (p : Rule → Bool) (a : Rule) (rules : List Rule) → find p rules ≡ Some a
@@ -123,24 +138,12 @@ pub data Comes (s : Shape) (r : List Row) (p : Option (Text × List Text)) (q : 
       (plain_word s.rules q word (held r p)).0 (plain_word s.rules q word (held r p)).1
       → Comes s r p q n word
 
-abbrev has_name : Text → Rule → Bool
-has_name name a = not (is_some a.index) && has_long a name
-
-abbrev has_letter : ℕ → Rule → Bool
-has_letter x a = not (is_some a.index) && has_short a x
-
 -- what is found has no place
 no_place : (id : Text) (i : ℕ) (b c : Bool) (a : Rule) → a ≡ place id i b
     → not (is_some a.index) && c ≡ true → ⊥
 no_place id i b c a is holds =
     let bad : false ≡ true = sym (ap (λ (r : Rule). not (is_some r.index) && c) is) ∙ holds in
     cc
-
--- a flag that asks for help is found
-help_fails : (rules : List Rule) (again : Bool) (a : Rule) (h : Held) → a ≡ filled help_rule
-    → react_fault rules again a [] h ≡ [] → ⊥
-help_fails rules again a h is none = help_is_found _ _ _
-    (subst (λ r. react_fault rules again r [] h ≡ []) is none)
 
 module _ (s : Shape) (formed : IsFormed s) where
   -- no flag has a letter but that which asks for help
@@ -168,30 +171,7 @@ module _ (s : Shape) (formed : IsFormed s) where
   shorts : ShortsFail s
   shorts x rest h after none = short_fails x rest h after (arg_by_short s.rules x) refl none
 
-  -- a bundle of flags in which nothing is found is no flag
-  bundle_is_plain : (flags : Text) (h : Held) (k : ℕ)
-      → flags_fault s.rules s.args_override_self k flags 0 h ≡ []
-      → bundle_met s.rules k flags 0 plain h ≡ (h, plain)
-  unfolding flags_fault bundle_met
-  bundle_is_plain flags h zero none = refl
-  bundle_is_plain flags h (suc k) none = go (slice_get (chars flags) 0) none
-    where
-      go : (x : Option ℕ)
-          → bundle_step_fault s.rules s.args_override_self x flags 0 h
-          (flags_fault s.rules s.args_override_self k) ≡ []
-          → bundle_step s.rules x flags 0 plain h (bundle_met s.rules k) ≡ (h, plain)
-      go None none = refl
-      go (Some x) none = absurd (shorts x _ h _ none)
-
   module _ (r : List Row) (p : Option (Text × List Text)) (q : Waiting) (n : ℕ) (word : Text) where
-    short_is_plain : (flags : Option Text)
-        → option_map_or (λ f. bundle_fault s.rules s.args_override_self f (held r p)) flags [] ≡ []
-        → short_or_plain s.rules q word flags (held r p) ≡ plain_word s.rules q word (held r p)
-    short_is_plain None none = refl
-    short_is_plain (Some flags) none =
-        ap (λ (m : Held × Outcome). after_flag s.rules q word m.0 m.1)
-        (bundle_is_plain flags (held r p) (length flags) none)
-
     -- what the word comes to
     abbrev met : Held × Step
     met = subcommand_or_other s.rules None q n word (held r p)
@@ -267,7 +247,7 @@ module _ (s : Shape) (formed : IsFormed s) where
         → flag_word_fault s.rules s.args_override_self long word (held r p) ≡ []
         → Meets (long_or_other s.rules q word long (held r p))
     word_comes None e none = λ fine at.
-        let is = short_is_plain (short_of word) none in
+        let is = short_is_plain s shorts q word (short_of word) r p none in
         by_value (subst (λ (m : Held × Step). step_fault s n m.0 m.1 ≡ []) is fine)
         (at ∙ ap (λ (m : Held × Step). after_step s.rules word (standing r p q n false) m.0 m.1)
         is)

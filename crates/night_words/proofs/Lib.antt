@@ -1,12 +1,10 @@
 mod AnswerLemmas
-mod DemoLemmas
 mod FlagLemmas
 mod LevelLemmas
 mod LineLemmas
 mod NamedLemmas
-mod PairLemmas
+mod PlaceLemmas
 mod RowLemmas
-mod StoreLemmas
 mod TakenLemmas
 mod TurnLemmas
 mod UsedLemmas

@@ -1,7 +1,7 @@
 -- What the parser's matches name, as their caller reads it.
-use Rattle.std.proofs.Common.{◌≡◌, ◌∙◌, Bool, List, Option, Some, None, [], ap, ap₂}
+use Rattle.std.proofs.Common.{◌≡◌, ◌∙◌, ℕ, Bool, List, Option, Some, None, [], ap, ap₂}
 use Rattle.std.proofs.Common.{false, inl}
-use Rattle.std.proofs.Common.{inr, refl, subst, sym, true}
+use Rattle.std.proofs.Common.{inr, refl, sym, true}
 use Rattle.std.specs.Prelude.{Box, codes, option_and_then, option_map, unwrap_or}
 use Rattle.std.specs.Prelude.{Result, Ok, Err}
 use Rattle.std.specs.Borrow.{Bor}
@@ -17,21 +17,20 @@ use Rattle.clap.specs.declared.parser.matches.ArgMatches.{ArgMatches}
 use Rattle.clap.specs.declared.parser.matches.ArgMatches.TheViews.{out-ArgMatches, out-SubCommand}
 use Rattle.clap.specs.declared.parser.matches.SubCommand.{SubCommand}
 use Rattle.night_words.specs.Commands.{Asks, IsCrew, IsForTwo, IsInspect, IsNamed, IsRenewal}
-use Rattle.night_words.specs.Commands.{IsView, Named, NamesDemo, NamesFormat, NamesInspect}
-use Rattle.night_words.specs.Commands.{NamesMigration, NamesRenewal, NamesScript, command_in}
-use Rattle.night_words.specs.Commands.{has_flag, is_true, named_by, named_in, new_by, word_in}
-use Rattle.night_words.specs.Commands.{workers_of}
-use Rattle.night_words.specs.declared.asked.Asked.{Asked}
-use Rattle.night_words.specs.declared.asked.Asked.TheVariants.{Demo, Format, Script, Inspect, Help}
-use Rattle.night_words.specs.declared.asked.Asked.TheVariants.{Crew, Migrate, Renew, RenewInPlace}
-use Rattle.night_words.specs.declared.asked.View.{View}
-use Rattle.night_words.specs.declared.asked.WordsFault.{WordsFault}
-use Rattle.night_words.specs.declared.asked.WordsFault.TheVariants.{Memory, Mistake, NotText}
-use Rattle.night_words.specs.declared.asked.WordsFault.TheVariants.{NoTree, Phase, Place}
-use Rattle.night_words.specs.declared.asked.WordsFault.TheVariants.{SameStores}
-use Rattle.night_words.specs.declared.asked.WordsFault.TheVariants.{Views, Workers}
-use Rattle.night_words.proofs.PairLemmas.{migrate, renew}
-use Rattle.night_words.proofs.TakenLemmas.{crew, demo, format, inspect, script}
+use Rattle.night_words.specs.Commands.{IsView, Named, NamesCrew, NamesDemo, NamesFormat}
+use Rattle.night_words.specs.Commands.{NamesInspect, NamesMigration, NamesRenewal, NamesScript}
+use Rattle.night_words.specs.Commands.{command_in, has_flag, is_true, named_by, named_in, new_by}
+use Rattle.night_words.specs.Commands.{word_in, workers_of}
+use Rattle.night_requests.specs.declared.asked.Asked.{Asked}
+use Rattle.night_requests.specs.declared.asked.Asked.TheVariants.{Crew, Inspect, Migrate, Renew}
+use Rattle.night_requests.specs.declared.asked.Asked.TheVariants.{RenewInPlace}
+use Rattle.night_requests.specs.declared.asked.View.{View}
+use Rattle.night_requests.specs.declared.asked.WordsFault.{WordsFault}
+use Rattle.night_requests.specs.declared.asked.WordsFault.TheVariants.{NoTree, Phase, Place}
+use Rattle.night_requests.specs.declared.asked.WordsFault.TheVariants.{SameStores}
+use Rattle.night_requests.specs.declared.asked.WordsFault.TheVariants.{Views, Workers}
+use Rattle.night_words.proofs.PlaceLemmas.{crews, demos, formats, inspects, migrates, renews}
+use Rattle.night_words.proofs.PlaceLemmas.{scripts, word_of}
 use Rattle.night_words.proofs.ViewLemmas.{view_alike}
 
 -- what is read of a subcommand and of its matches
@@ -78,241 +77,181 @@ module _ {Z : Type 0} where
   entered_is None = refl
   entered_is (Some b) = refl
 
--- the command and the store of the parser's matches, as their caller reads them
-pub named_here : (m : ArgMatches) (command : Bor Text) (inner : Bor ArgMatches)
-    → Some command.now ≡ subcommand_name_of m
-    → Some (rows_of (found_of inner.now)) ≡ option_map (λ p. p.1) (subcommand_rows_of m)
-    → named_by m ≡ Some (command.now, first_value (found_of inner.now) (codes "STORE"))
-named_here m command inner name rows =
-    read_is_named (Some (command, inner)) (out-ArgMatches m).subcommand name rows
-    ∙ ap (λ o. Some (command.now, o)) (sym (first_value-rows (found_of inner.now) (codes "STORE")))
-
--- and each word of it
-pub word_here : (id : Text) (m : ArgMatches) (command : Bor Text) (inner : Bor ArgMatches)
-    → Some (rows_of (found_of inner.now)) ≡ option_map (λ p. p.1) (subcommand_rows_of m)
-    → word_in id (subcommand_rows_of m) ≡ first_value (found_of inner.now) id
-word_here id m command inner rows =
-    read_is_word id (Some (command, inner)) (out-ArgMatches m).subcommand rows
-    ∙ sym (first_value-rows (found_of inner.now) id)
-
--- the new store
-pub new_here : (m : ArgMatches) (command : Bor Text) (inner : Bor ArgMatches)
-    → Some (rows_of (found_of inner.now)) ≡ option_map (λ p. p.1) (subcommand_rows_of m)
-    → new_by m ≡ first_value (found_of inner.now) (codes "NEW")
-new_here m command inner rows = word_here (codes "NEW") m command inner rows
-
 -- a word that was read, or the one in its place
 pub unwrapped : (o : Option (Bor Text)) (d : Bor Text)
     → (unwrap_or o d).now ≡ unwrap_or (option_map (λ s. s.now) o) d.now
 unwrapped None d = refl
 unwrapped (Some s) d = refl
 
--- whether the words have a flag
-pub flag_here : (id : Text) (m : ArgMatches) (command : Bor Text) (inner : Bor ArgMatches)
-    (is_set : Bool)
-    → Some (rows_of (found_of inner.now)) ≡ option_map (λ p. p.1) (subcommand_rows_of m)
-    → is_set ≡ is_true (first_value (found_of inner.now) id)
-    → has_flag id (subcommand_rows_of m) ≡ is_set
-flag_here id m command inner is_set rows read =
-    ap is_true (word_here id m command inner rows) ∙ sym read
+-- ---- the parser's matches, as their caller reads them
 
--- the command
-pub command_here : (m : ArgMatches) (command : Bor Text) (word : Text)
-    → Some command.now ≡ subcommand_name_of m → command.now ≡ word
-    → command_in (subcommand_rows_of m) ≡ Some word
-command_here m command word name is =
-    entered_is (out-ArgMatches m).subcommand ∙ sym name ∙ ap (λ t. Some t) is
-
--- where the command is `demo`, what was read is what the parser entered
-pub demo_here : (m : ArgMatches) (command : Bor Text) (inner : Bor ArgMatches) (strict : Bool)
-    → Some command.now ≡ subcommand_name_of m
-    → Some (rows_of (found_of inner.now)) ≡ option_map (λ p. p.1) (subcommand_rows_of m)
-    → command.now ≡ demo → strict ≡ is_true (first_value (found_of inner.now) (codes "strict"))
-    → NamesDemo strict (subcommand_rows_of m)
-demo_here m command inner strict name rows is read = (
-  command_here m command demo name is,
-  flag_here (codes "strict") m command inner strict rows read,
-)
-
--- so it is where it is `format`
-pub format_here : (m : ArgMatches) (command : Bor Text) (inner : Bor ArgMatches)
-    (store : Text) (is_new : Bool) → Some command.now ≡ subcommand_name_of m
-    → Some (rows_of (found_of inner.now)) ≡ option_map (λ p. p.1) (subcommand_rows_of m)
-    → command.now ≡ format → Some store ≡ first_value (found_of inner.now) (codes "STORE")
-    → is_new ≡ is_true (first_value (found_of inner.now) (codes "new"))
-    → NamesFormat store is_new (subcommand_rows_of m)
-format_here m command inner store is_new name rows is stored read = (
-  command_here m command format name is,
-  word_here (codes "STORE") m command inner rows ∙ sym stored,
-  flag_here (codes "new") m command inner is_new rows read,
-)
-
--- and `script`
-pub script_here : (m : ArgMatches) (command : Bor Text) (inner : Bor ArgMatches)
-    (store : Text) (strict timed : Bool) → Some command.now ≡ subcommand_name_of m
-    → Some (rows_of (found_of inner.now)) ≡ option_map (λ p. p.1) (subcommand_rows_of m)
-    → command.now ≡ script → Some store ≡ first_value (found_of inner.now) (codes "STORE")
-    → strict ≡ is_true (first_value (found_of inner.now) (codes "strict"))
-    → timed ≡ is_true (first_value (found_of inner.now) (codes "now"))
-    → NamesScript store strict timed (subcommand_rows_of m)
-script_here m command inner store strict timed name rows is stored one two = (
-  command_here m command script name is,
-  word_here (codes "STORE") m command inner rows ∙ sym stored,
-  flag_here (codes "strict") m command inner strict rows one,
-  flag_here (codes "now") m command inner timed rows two,
-)
-
--- and where it is `crew`
-pub crew_here : (m : ArgMatches) (command : Bor Text) (inner : Bor ArgMatches)
-    (store : Text) (count workers : Option Text) (known : Bool) (r : Result Asked WordsFault)
-    → Some command.now ≡ subcommand_name_of m
-    → Some (rows_of (found_of inner.now)) ≡ option_map (λ p. p.1) (subcommand_rows_of m)
-    → command.now ≡ crew → count ≡ first_value (found_of inner.now) (codes "STORE")
-    → store ≡ unwrap_or count [] → workers ≡ first_value (found_of inner.now) (codes "workers")
-    → known ≡ is_true (first_value (found_of inner.now) (codes "known"))
-    → IsCrew store workers known r → Asks (subcommand_rows_of m) r
-crew_here m command inner store count workers known r name rows is read whole given knows made =
-    go r made
+module _ (m : ArgMatches) (command : Bor Text) (inner : Bor ArgMatches)
+    (name : Some command.now ≡ subcommand_name_of m)
+    (rows : Some (rows_of (found_of inner.now)) ≡ option_map (λ p. p.1) (subcommand_rows_of m))
   where
-    which : command_in (subcommand_rows_of m) ≡ Some crew
-    which = command_here m command crew name is
+    abbrev found : Text → Option Text
+    found = first_value (found_of inner.now)
 
-    stored : unwrap_or (word_in (codes "STORE") (subcommand_rows_of m)) [] ≡ store
-    stored = ap (λ o. unwrap_or o []) (word_here (codes "STORE") m command inner rows ∙ sym read)
-        ∙ sym whole
+    abbrev entered : Option (Text × List Row)
+    entered = subcommand_rows_of m
 
-    working : word_in (codes "workers") (subcommand_rows_of m) ≡ workers
-    working = word_here (codes "workers") m command inner rows ∙ sym given
+    -- the command and the store
+    pub named_here : named_by m ≡ Some (command.now, found (codes "STORE"))
+    named_here =
+        read_is_named (Some (command, inner)) (out-ArgMatches m).subcommand name rows
+        ∙ ap (λ o. Some (command.now, o))
+        (sym (first_value-rows (found_of inner.now) (codes "STORE")))
 
-    knowing : has_flag (codes "known") (subcommand_rows_of m) ≡ known
-    knowing = flag_here (codes "known") m command inner known rows knows
+    -- each word
+    word_here : (id : Text) → word_in id entered ≡ found id
+    word_here id =
+        read_is_word id (Some (command, inner)) (out-ArgMatches m).subcommand rows
+        ∙ sym (first_value-rows (found_of inner.now) id)
 
-    go : (r : Result Asked WordsFault) → IsCrew store workers known r
-        → Asks (subcommand_rows_of m) r
-    go (Ok (Demo strict)) made = absurd made
-    go (Ok (Format s n)) made = absurd made
-    go (Ok (Script s strict timed)) made = absurd made
-    go (Ok (Inspect s view)) made = absurd made
-    go (Ok (Crew s n k)) made = (
-      which,
-      stored ∙ sym made.0,
-      ap (λ o. workers_of o) working ∙ made.1,
-      knowing ∙ sym made.2,
-    )
-    go (Ok (Migrate o n b)) made = absurd made
-    go (Ok (Renew o n b)) made = absurd made
-    go (Ok (RenewInPlace o)) made = absurd made
-    go (Ok (Help text)) made = absurd made
-    go (Err (Mistake text)) made = absurd made
-    go (Err SameStores) made = absurd made
-    go (Err Workers) made =
-        (store, (known, (which, stored, ap (λ o. workers_of o) working ∙ made, knowing)))
-    go (Err Views) made = absurd made
-    go (Err NoTree) made = absurd made
-    go (Err Phase) made = absurd made
-    go (Err Place) made = absurd made
-    go (Err NotText) made = absurd made
-    go (Err Memory) made = absurd made
+    -- the new store
+    pub new_here : new_by m ≡ found (codes "NEW")
+    new_here = word_here (codes "NEW")
 
--- and where it is `inspect`
-pub inspect_here : (m : ArgMatches) (command : Bor Text) (inner : Bor ArgMatches)
-    (store : Text) (r : Result Asked WordsFault) → Some command.now ≡ subcommand_name_of m
-    → Some (rows_of (found_of inner.now)) ≡ option_map (λ p. p.1) (subcommand_rows_of m)
-    → command.now ≡ inspect → Some store ≡ first_value (found_of inner.now) (codes "STORE")
-    → IsInspect store (first_value (found_of inner.now)) r
-    → Asks (subcommand_rows_of m) r
-inspect_here m command inner store r name rows is stored made = go r made
-  where
-    which : command_in (subcommand_rows_of m) ≡ Some inspect
-    which = command_here m command inspect name is
+    -- whether the words have a flag
+    flag_here : (id : Text) (is_set : Bool) → is_set ≡ is_true (found id)
+        → has_flag id entered ≡ is_set
+    flag_here id is_set read = ap is_true (word_here id) ∙ sym read
 
-    over : word_in (codes "STORE") (subcommand_rows_of m) ≡ Some store
-    over = word_here (codes "STORE") m command inner rows ∙ sym stored
+    -- the command
+    command_here : (word : Text) → command.now ≡ word → command_in entered ≡ Some word
+    command_here word is =
+        entered_is (out-ArgMatches m).subcommand ∙ sym name ∙ ap (λ t. Some t) is
 
-    seen : (view : Result View WordsFault) → IsView (first_value (found_of inner.now)) view
-        → NamesInspect store view (subcommand_rows_of m)
-    seen view made = (
-      which,
-      over,
-      view_alike (λ id. word_in id (subcommand_rows_of m)) (first_value (found_of inner.now))
-          (λ id. word_here id m command inner rows) view made,
+    -- where the command is `demo`, what was read is what the parser entered
+    pub demo_here : (strict : Bool) → command.now ≡ word_of demos
+        → strict ≡ is_true (found (codes "strict")) → NamesDemo strict entered
+    demo_here strict is read =
+        (command_here (word_of demos) is, flag_here (codes "strict") strict read)
+
+    -- so it is where it is `format`
+    pub format_here : (store : Text) (is_new : Bool) → command.now ≡ word_of formats
+        → Some store ≡ found (codes "STORE") → is_new ≡ is_true (found (codes "new"))
+        → NamesFormat store is_new entered
+    format_here store is_new is stored read = (
+      command_here (word_of formats) is,
+      word_here (codes "STORE") ∙ sym stored,
+      flag_here (codes "new") is_new read,
     )
 
-    go : (r : Result Asked WordsFault) → IsInspect store (first_value (found_of inner.now)) r
-        → Asks (subcommand_rows_of m) r
-    go (Ok (Demo strict)) made = absurd made
-    go (Ok (Format s n)) made = absurd made
-    go (Ok (Script s strict timed)) made = absurd made
-    go (Ok (Inspect s view)) made = subst (λ t. NamesInspect t (Ok view) (subcommand_rows_of m))
-        (sym made.0) (seen (Ok view) made.1)
-    go (Ok (Crew s n k)) made = absurd made
-    go (Ok (Migrate o n b)) made = absurd made
-    go (Ok (Renew o n b)) made = absurd made
-    go (Ok (RenewInPlace s)) made = absurd made
-    go (Ok (Help text)) made = absurd made
-    go (Err (Mistake text)) made = absurd made
-    go (Err SameStores) made = absurd made
-    go (Err Workers) made = absurd made
-    go (Err Views) made = (store, seen (Err Views) made)
-    go (Err NoTree) made = (store, seen (Err NoTree) made)
-    go (Err Phase) made = (store, seen (Err Phase) made)
-    go (Err Place) made = absurd made
-    go (Err NotText) made = absurd made
-    go (Err Memory) made = absurd made
-
--- and where it is `renew`
-pub renewal_here : (m : ArgMatches) (command : Bor Text) (inner : Bor ArgMatches)
-    (store : Text) (new : Option Text) (is_new in_place : Bool) (r : Result Asked WordsFault)
-    → Some command.now ≡ subcommand_name_of m
-    → Some (rows_of (found_of inner.now)) ≡ option_map (λ p. p.1) (subcommand_rows_of m)
-    → command.now ≡ renew → Some store ≡ first_value (found_of inner.now) (codes "STORE")
-    → new ≡ first_value (found_of inner.now) (codes "NEW")
-    → is_new ≡ is_true (first_value (found_of inner.now) (codes "new"))
-    → in_place ≡ is_true (first_value (found_of inner.now) (codes "in-place"))
-    → IsRenewal store new is_new in_place r → Asks (subcommand_rows_of m) r
-renewal_here m command inner store new is_new in_place r name rows is stored read any there made =
-    go r made
-  where
-    -- the words of this renewal were found
-    finds : (s : Text) (n : Option Text) (b p : Bool) → s ≡ store → new ≡ n → is_new ≡ b
-        → in_place ≡ p → NamesRenewal s n b p (subcommand_rows_of m)
-    finds s n b p old fresh alone set = (
-      command_here m command renew name is,
-      word_here (codes "STORE") m command inner rows ∙ sym stored ∙ ap Some (sym old),
-      word_here (codes "NEW") m command inner rows ∙ sym read ∙ fresh,
-      flag_here (codes "new") m command inner is_new rows any ∙ alone,
-      flag_here (codes "in-place") m command inner in_place rows there ∙ set,
+    -- and `script`
+    pub script_here : (store : Text) (strict timed : Bool) → command.now ≡ word_of scripts
+        → Some store ≡ found (codes "STORE") → strict ≡ is_true (found (codes "strict"))
+        → timed ≡ is_true (found (codes "now")) → NamesScript store strict timed entered
+    script_here store strict timed is stored one two = (
+      command_here (word_of scripts) is,
+      word_here (codes "STORE") ∙ sym stored,
+      flag_here (codes "strict") strict one,
+      flag_here (codes "now") timed two,
     )
 
-    go : (r : Result Asked WordsFault) → IsRenewal store new is_new in_place r
-        → Asks (subcommand_rows_of m) r
-    go (Ok (Demo strict)) made = absurd made
-    go (Ok (Format s n)) made = absurd made
-    go (Ok (Script s strict timed)) made = absurd made
-    go (Ok (Inspect s view)) made = absurd made
-    go (Ok (Crew s n k)) made = absurd made
-    go (Ok (Migrate o n b)) made = absurd made
-    go (Ok (Renew o n b)) made = (
-      finds o.now (Some n.now) b false made.0 made.1 (sym made.2) made.3,
-      λ same. made.4 (sym made.0 ∙ same),
-    )
-    go (Ok (RenewInPlace o)) made = finds o.now None false true made.0 made.1 made.2 made.3
-    go (Ok (Help text)) made = absurd made
-    go (Err (Mistake text)) made = absurd made
-    go (Err SameStores) made = (
-      store,
-      (is_new, inr (finds store (Some store) is_new false refl made.0 refl made.1)),
-    )
-    go (Err Workers) made = absurd made
-    go (Err Views) made = absurd made
-    go (Err NoTree) made = absurd made
-    go (Err Phase) made = absurd made
-    go (Err Place) made = (
-      store,
-      (new, (is_new, (in_place, made, finds store new is_new in_place refl refl refl refl))),
-    )
-    go (Err NotText) made = absurd made
-    go (Err Memory) made = absurd made
+    -- and where it is `crew`
+    pub crew_here : (store : Text) (count workers : Option Text) (known : Bool)
+        (r : Result Asked WordsFault) → command.now ≡ word_of crews → count ≡ found (codes "STORE")
+        → store ≡ unwrap_or count [] → workers ≡ found (codes "workers")
+        → known ≡ is_true (found (codes "known")) → IsCrew store workers known r → Asks entered r
+    crew_here store count workers known r is read whole given knows made = go r made
+      where
+        -- the words of this crew were found
+        finds : (s : Text) (n : Option ℕ) (k : Bool) → s ≡ store → workers_of workers ≡ n
+            → k ≡ known → NamesCrew s n k entered
+        finds s n k over many same = (
+          command_here (word_of crews) is,
+          ap (λ o. unwrap_or o []) (word_here (codes "STORE") ∙ sym read) ∙ sym whole ∙ sym over,
+          ap (λ o. workers_of o) (word_here (codes "workers") ∙ sym given) ∙ many,
+          flag_here (codes "known") known knows ∙ sym same,
+        )
+
+        go : (r : Result Asked WordsFault) → IsCrew store workers known r → Asks entered r
+        go (Ok (Crew s n k)) made = finds s.now (Some n) k made.0 made.1 made.2
+        go (Err Workers) made = (store, (known, finds store None known refl made refl))
+        go other made = absurd made
+
+    -- and where it is `inspect`
+    pub inspect_here : (store : Text) (r : Result Asked WordsFault) → command.now ≡ word_of inspects
+        → Some store ≡ found (codes "STORE") → IsInspect store found r → Asks entered r
+    inspect_here store r is stored made = go r made
+      where
+        -- the words of this view were found
+        finds : (s : Text) (view : Result View WordsFault) → s ≡ store → IsView found view
+            → NamesInspect s view entered
+        finds s view over made = (
+          command_here (word_of inspects) is,
+          word_here (codes "STORE") ∙ sym stored ∙ ap Some (sym over),
+          view_alike (λ id. word_in id entered) found word_here view made,
+        )
+
+        go : (r : Result Asked WordsFault) → IsInspect store found r → Asks entered r
+        go (Ok (Inspect s view)) made = finds s.now (Ok view) made.0 made.1
+        go (Err Views) made = (store, finds store (Err Views) refl made)
+        go (Err NoTree) made = (store, finds store (Err NoTree) refl made)
+        go (Err Phase) made = (store, finds store (Err Phase) refl made)
+        go other made = absurd made
+
+    -- and where it is `renew`
+    pub renewal_here : (store : Text) (new : Option Text) (is_new in_place : Bool)
+        (r : Result Asked WordsFault) → command.now ≡ word_of renews
+        → Some store ≡ found (codes "STORE") → new ≡ found (codes "NEW")
+        → is_new ≡ is_true (found (codes "new"))
+        → in_place ≡ is_true (found (codes "in-place")) → IsRenewal store new is_new in_place r
+        → Asks entered r
+    renewal_here store new is_new in_place r is stored read any there made = go r made
+      where
+        -- the words of this renewal were found
+        finds : (s : Text) (n : Option Text) (b p : Bool) → s ≡ store → new ≡ n → is_new ≡ b
+            → in_place ≡ p → NamesRenewal s n b p entered
+        finds s n b p old fresh alone set = (
+          command_here (word_of renews) is,
+          word_here (codes "STORE") ∙ sym stored ∙ ap Some (sym old),
+          word_here (codes "NEW") ∙ sym read ∙ fresh,
+          flag_here (codes "new") is_new any ∙ alone,
+          flag_here (codes "in-place") in_place there ∙ set,
+        )
+
+        go : (r : Result Asked WordsFault) → IsRenewal store new is_new in_place r → Asks entered r
+        go (Ok (Renew o n b)) made = (
+          finds o.now (Some n.now) b false made.0 made.1 (sym made.2) made.3,
+          λ same. made.4 (sym made.0 ∙ same),
+        )
+        go (Ok (RenewInPlace o)) made = finds o.now None false true made.0 made.1 made.2 made.3
+        go (Err SameStores) made =
+            (store, (is_new, inr (finds store (Some store) is_new false refl made.0 refl made.1)))
+        go (Err Place) made =
+            let at = finds store new is_new in_place refl refl refl refl in
+            (store, (new, (is_new, (in_place, made, at))))
+        go other made = absurd made
+
+    -- and where it is `migrate`
+    pub migration_here : (store given : Text) (is_new : Bool) (r : Result Asked WordsFault)
+        → command.now ≡ word_of migrates → Some store ≡ found (codes "STORE")
+        → Some given ≡ found (codes "NEW") → is_new ≡ is_true (found (codes "new"))
+        → IsForTwo false is_new store given r → Asks entered r
+    migration_here store given is_new r is stored read any made = go r made
+      where
+        -- the words of this migration were found
+        finds : (s n : Text) (b : Bool) → s ≡ store → n ≡ given → b ≡ is_new
+            → NamesMigration s n b entered
+        finds s n b old fresh alone = (
+          command_here (word_of migrates) is,
+          word_here (codes "STORE") ∙ sym stored ∙ ap Some (sym old),
+          word_here (codes "NEW") ∙ sym read ∙ ap Some (sym fresh),
+          flag_here (codes "new") is_new any ∙ sym alone,
+        )
+
+        go : (r : Result Asked WordsFault) → IsForTwo false is_new store given r → Asks entered r
+        go (Ok (Migrate o n b)) made = (
+          finds o.now n.now b made.2 made.3 made.1,
+          λ same. made.4 (sym made.2 ∙ (same ∙ made.3)),
+        )
+        go (Ok (Renew o n b)) made =
+            let bad : false ≡ true = made.0 in
+            cc
+        go (Err SameStores) made = (store, (is_new, inl (finds store store is_new refl made refl)))
+        go other made = absurd made
 
 -- a comparison of two texts, and what it says
 pub same : (a b : Text) (r : Bool) → r ≡ bytes_eq a b → r ≡ true → a ≡ b
@@ -341,97 +280,42 @@ store_clash named name command store none some =
 
 -- a command without a store is `demo` or `crew`
 pub no_store : (named : Named) (new : Option Text) (name : Text) → IsNamed named new
-    → named ≡ Some (name, None) → (name ≡ demo → ⊥) → (name ≡ crew → ⊥) → ⊥
-no_store named new name (inl (first, e)) is no_demo no_crew = no_demo (ap name_in (sym is ∙ e))
-no_store named new name (inr (inl (first, e))) is no_demo no_crew =
-    no_crew (ap name_in (sym is ∙ e))
-no_store named new name (inr (inr (store, inl e))) is no_demo no_crew =
-    store_clash named name format store is e
-no_store named new name (inr (inr (store, inr (inl e)))) is no_demo no_crew =
-    store_clash named name script store is e
-no_store named new name (inr (inr (store, inr (inr (inl e))))) is no_demo no_crew =
-    store_clash named name inspect store is e
-no_store named new name (inr (inr (store, inr (inr (inr (inl e)))))) is no_demo no_crew =
-    store_clash named name renew store is e
-no_store named new name (inr (inr (store, inr (inr (inr (inr (given, n))))))) is no_demo no_crew =
-    store_clash named name migrate store is n.0
+    → named ≡ Some (name, None) → (name ≡ word_of demos → ⊥) → (name ≡ word_of crews → ⊥) → ⊥
+no_store named new name which is no_demo no_crew = go which
+  where
+    clash : (command store : Text) → named ≡ Some (command, Some store) → ⊥
+    clash command store e = store_clash named name command store is e
+
+    go : IsNamed named new → ⊥
+    go (inl (first, e)) = no_demo (ap name_in (sym is ∙ e))
+    go (inr (inl (first, e))) = no_crew (ap name_in (sym is ∙ e))
+    go (inr (inr (store, inl e))) = clash (word_of formats) store e
+    go (inr (inr (store, inr (inl e)))) = clash (word_of scripts) store e
+    go (inr (inr (store, inr (inr (inl e))))) = clash (word_of inspects) store e
+    go (inr (inr (store, inr (inr (inr (inl e)))))) = clash (word_of renews) store e
+    go (inr (inr (store, inr (inr (inr (inr (given, n))))))) = clash (word_of migrates) store n.0
 
 -- a command over a store that is none of the others is `migrate`
 pub two_left : (named : Named) (new : Option Text) (name store : Text) → IsNamed named new
-    → named ≡ Some (name, Some store) → (name ≡ demo → ⊥) → (name ≡ crew → ⊥)
-    → (name ≡ format → ⊥) → (name ≡ script → ⊥) → (name ≡ inspect → ⊥) → (name ≡ renew → ⊥)
-    → (name ≡ migrate) × ((given : Text) × (new ≡ Some given))
-two_left named new name store (inl (first, e)) is no_demo no_crew no_format no_script no_inspect
-    no_renew =
-    absurd (no_demo (ap name_in (sym is ∙ e)))
-two_left named new name store (inr (inl (first, e))) is no_demo no_crew no_format no_script
-    no_inspect no_renew =
-    absurd (no_crew (ap name_in (sym is ∙ e)))
-two_left named new name store (inr (inr (s, inl e))) is no_demo no_crew no_format no_script
-    no_inspect no_renew =
-    absurd (no_format (ap name_in (sym is ∙ e)))
-two_left named new name store (inr (inr (s, inr (inl e)))) is no_demo no_crew no_format
-    no_script no_inspect no_renew =
-    absurd (no_script (ap name_in (sym is ∙ e)))
-two_left named new name store (inr (inr (s, inr (inr (inl e))))) is no_demo no_crew no_format
-    no_script no_inspect no_renew =
-    absurd (no_inspect (ap name_in (sym is ∙ e)))
-two_left named new name store (inr (inr (s, inr (inr (inr (inl e)))))) is no_demo no_crew no_format
-    no_script no_inspect no_renew =
-    absurd (no_renew (ap name_in (sym is ∙ e)))
-two_left named new name store (inr (inr (s, inr (inr (inr (inr (given, n))))))) is no_demo no_crew
-    no_format no_script no_inspect no_renew =
-    (ap name_in (sym is ∙ n.0), (given, n.1))
+    → named ≡ Some (name, Some store) → (name ≡ word_of demos → ⊥) → (name ≡ word_of crews → ⊥)
+    → (name ≡ word_of formats → ⊥) → (name ≡ word_of scripts → ⊥)
+    → (name ≡ word_of inspects → ⊥) → (name ≡ word_of renews → ⊥)
+    → (name ≡ word_of migrates) × ((given : Text) × (new ≡ Some given))
+two_left named new name store which is no_demo no_crew no_format no_script no_inspect no_renew =
+    go which
+  where
+    go : IsNamed named new → (name ≡ word_of migrates) × ((given : Text) × (new ≡ Some given))
+    go (inl (first, e)) = absurd (no_demo (ap name_in (sym is ∙ e)))
+    go (inr (inl (first, e))) = absurd (no_crew (ap name_in (sym is ∙ e)))
+    go (inr (inr (s, inl e))) = absurd (no_format (ap name_in (sym is ∙ e)))
+    go (inr (inr (s, inr (inl e)))) = absurd (no_script (ap name_in (sym is ∙ e)))
+    go (inr (inr (s, inr (inr (inl e))))) = absurd (no_inspect (ap name_in (sym is ∙ e)))
+    go (inr (inr (s, inr (inr (inr (inl e)))))) = absurd (no_renew (ap name_in (sym is ∙ e)))
+    go (inr (inr (s, inr (inr (inr (inr (given, n))))))) =
+        (ap name_in (sym is ∙ n.0), (given, n.1))
 
 -- a new store is there
 pub new_is_there : (new : Option Text) (given : Text) → new ≡ Some given → new ≡ None → ⊥
 new_is_there new given some none =
     let bad : Some given ≡ None = sym some ∙ none in
     cc
-
--- and where it is `migrate`
-pub migration_here : (m : ArgMatches) (command : Bor Text) (inner : Bor ArgMatches)
-    (store given : Text) (is_new : Bool) (r : Result Asked WordsFault)
-    → Some command.now ≡ subcommand_name_of m
-    → Some (rows_of (found_of inner.now)) ≡ option_map (λ p. p.1) (subcommand_rows_of m)
-    → command.now ≡ migrate → Some store ≡ first_value (found_of inner.now) (codes "STORE")
-    → Some given ≡ first_value (found_of inner.now) (codes "NEW")
-    → is_new ≡ is_true (first_value (found_of inner.now) (codes "new"))
-    → IsForTwo false is_new store given r → Asks (subcommand_rows_of m) r
-migration_here m command inner store given is_new r name rows is stored read any made = go r made
-  where
-    -- the words of this migration were found
-    finds : (s n : Text) (b : Bool) → s ≡ store → n ≡ given → b ≡ is_new
-        → NamesMigration s n b (subcommand_rows_of m)
-    finds s n b old fresh alone = (
-      command_here m command migrate name is,
-      word_here (codes "STORE") m command inner rows ∙ sym stored ∙ ap Some (sym old),
-      word_here (codes "NEW") m command inner rows ∙ sym read ∙ ap Some (sym fresh),
-      flag_here (codes "new") m command inner is_new rows any ∙ sym alone,
-    )
-
-    go : (r : Result Asked WordsFault) → IsForTwo false is_new store given r
-        → Asks (subcommand_rows_of m) r
-    go (Ok (Demo strict)) made = absurd made
-    go (Ok (Format s b)) made = absurd made
-    go (Ok (Script s b t)) made = absurd made
-    go (Ok (Inspect s view)) made = absurd made
-    go (Ok (Crew s n b)) made = absurd made
-    go (Ok (Help text)) made = absurd made
-    go (Ok (Migrate o n b)) made = (
-      finds o.now n.now b made.2 made.3 made.1,
-      λ same. made.4 (sym made.2 ∙ (same ∙ made.3)),
-    )
-    go (Ok (Renew o n b)) made =
-        let bad : false ≡ true = made.0 in
-        cc
-    go (Ok (RenewInPlace o)) made = absurd made
-    go (Err SameStores) made = (store, (is_new, inl (finds store store is_new refl made refl)))
-    go (Err Workers) made = absurd made
-    go (Err Views) made = absurd made
-    go (Err NoTree) made = absurd made
-    go (Err Phase) made = absurd made
-    go (Err Place) made = absurd made
-    go (Err (Mistake text)) made = absurd made
-    go (Err NotText) made = absurd made
-    go (Err Memory) made = absurd made

@@ -1,5 +1,5 @@
 -- The parser's look at a word that names no command: it is the mark `--`, or a value.
-use Rattle.std.proofs.Common.{◌≡◌, ◌∷◌, ◌⊎◌, ℕ, Bool, List, Option, Some, None, [], cond}
+use Rattle.std.proofs.Common.{◌≡◌, ◌∷◌, ◌⊎◌, ℕ, Bool, List, Option, Some, None, [], ap, cond}
 use Rattle.std.proofs.Common.{false, inl, inr, length, refl, suc, true, zero}
 use Rattle.std.specs.Prelude.{◌&&◌, find, if◌then◌else◌, is_some, not, slice_get}
 use Rattle.std.specs.List.{slice_index_or}
@@ -11,10 +11,10 @@ use Rattle.clap.specs.Simple.{Shape, built, help_rule}
 use Rattle.clap.specs.Kinds.{Kinds, or_else}
 use Rattle.clap.specs.Faults.{bundle_fault, bundle_step_fault, flag_word_fault, flags_fault}
 use Rattle.clap.specs.Faults.{long_fault, other_fault, short_fault}
-use Rattle.clap.specs.Walk.{Held, Outcome, Row, Rule, Step, Text, after_flag, arg_by_long}
+use Rattle.clap.specs.Walk.{Held, Outcome, Row, Rule, Text, Waiting, after_flag, arg_by_long}
 use Rattle.clap.specs.Walk.{arg_by_short, bundle_met, bundle_step, has_long, has_short, idle}
-use Rattle.clap.specs.Walk.{long_or_other, plain, short_or_plain, subcommand_or_other, trailing}
-use Rattle.clap.specs.Walk.{value}
+use Rattle.clap.specs.Walk.{long_or_other, plain, plain_word, short_or_plain}
+use Rattle.clap.specs.Walk.{subcommand_or_other, trailing, value}
 use Rattle.clap.specs.declared.error.kind.ErrorKind.{ErrorKind}
 use Rattle.night_words.specs.Commands.{night}
 
@@ -57,34 +57,30 @@ pub record IsStrict (s : Shape) : Type 0 where
       → long_fault s.rules s.args_override_self (arg_by_long s.rules name) v h ≡ [] → ⊥
   pub shorts : ShortsFail s
 
--- what a bundle of flags comes to
-abbrev flagged : Shape → Text → Held × Outcome → Held × Step
-flagged s word met = after_flag s.rules idle word met.0 met.1
-
--- a bundle of flags in which nothing is found is a value
-bundle_is_value : (s : Shape) → ShortsFail s → (word flags : Text) (h : Held) (k : ℕ)
+-- a bundle of flags in which nothing is found is no flag
+bundle_is_plain : (s : Shape) → ShortsFail s → (flags : Text) (h : Held) (k : ℕ)
     → flags_fault s.rules s.args_override_self k flags 0 h ≡ []
-    → flagged s word (bundle_met s.rules k flags 0 plain h) ≡ (h, value)
+    → bundle_met s.rules k flags 0 plain h ≡ (h, plain)
 unfolding flags_fault bundle_met
-bundle_is_value s shorts word flags h zero none = refl
-bundle_is_value s shorts word flags h (suc k) none = go (slice_get (chars flags) 0) none
+bundle_is_plain s shorts flags h zero none = refl
+bundle_is_plain s shorts flags h (suc k) none = go (slice_get (chars flags) 0) none
   where
     go : (x : Option ℕ)
         → bundle_step_fault s.rules s.args_override_self x flags 0 h
         (flags_fault s.rules s.args_override_self k) ≡ []
-        → flagged s word (bundle_step s.rules x flags 0 plain h (bundle_met s.rules k))
-        ≡ (h, value)
+        → bundle_step s.rules x flags 0 plain h (bundle_met s.rules k) ≡ (h, plain)
     go None none = refl
     go (Some x) none = absurd (shorts x _ h _ none)
 
 -- so is a word that begins with one hyphen, or with none
-pub short_is_value : (s : Shape) → ShortsFail s → (word : Text) (flags : Option Text) (r : List Row)
-    (p : Option (Text × List Text))
+pub short_is_plain : (s : Shape) → ShortsFail s → (q : Waiting) (word : Text)
+    (flags : Option Text) (r : List Row) (p : Option (Text × List Text))
     → option_map_or (λ f. bundle_fault s.rules s.args_override_self f (held r p)) flags [] ≡ []
-    → short_or_plain s.rules idle word flags (held r p) ≡ (held r p, value)
-short_is_value s shorts word None r p none = refl
-short_is_value s shorts word (Some flags) r p none =
-    bundle_is_value s shorts word flags (held r p) (length flags) none
+    → short_or_plain s.rules q word flags (held r p) ≡ plain_word s.rules q word (held r p)
+short_is_plain s shorts q word None r p none = refl
+short_is_plain s shorts q word (Some flags) r p none =
+    ap (λ (m : Held × Outcome). after_flag s.rules q word m.0 m.1)
+    (bundle_is_plain s shorts flags (held r p) (length flags) none)
 
 -- and one that begins with two hyphens, or with fewer
 long_is_value : (s : Shape) → IsStrict s → (word : Text) (long : Option (Text × Option Text))
@@ -92,7 +88,7 @@ long_is_value : (s : Shape) → IsStrict s → (word : Text) (long : Option (Tex
     → flag_word_fault s.rules s.args_override_self long word (held r p) ≡ []
     → long_or_other s.rules idle word long (held r p) ≡ (held r p, value)
 long_is_value s strict word None r p none =
-    short_is_value s strict.shorts word (short_of word) r p none
+    short_is_plain s strict.shorts idle word (short_of word) r p none
 long_is_value s strict word (Some q) r p none = absurd (strict.longs q.0 q.1 (held r p) none)
 
 -- a word in which nothing is found, and which names no command

@@ -2,6 +2,7 @@
 use Rattle.std.proofs.Common.{◌≡◌, ◌∙◌, ◌∷◌, ◌++◌, ℕ, Bool, List, Option, Some, None, [], ap}
 use Rattle.std.proofs.Common.{false, length, refl, subst, suc, sym, true}
 use Rattle.std.specs.Prelude.{◌&&◌, ◌==◌, codes, if◌then◌else◌, is_some}
+use Rattle.std.specs.List.{list_any}
 use Rattle.std.specs.Option.{option_map_or}
 use Rattle.std.specs.Str.{bytes_eq}
 use Rattle.std.proofs.Math.Dec.{eqb-zero-suc}
@@ -19,10 +20,10 @@ use Rattle.clap.specs.Walk.{walked, with_values, without}
 use Rattle.clap.specs.declared.error.kind.ErrorKind.TheVariants as kind
 use Rattle.clap.specs.declared.parser.matches.ValueSource.TheVariants.{CommandLine}
 use Rattle.night_words.specs.Commands.{flag, is_true, value_option}
-use Rattle.night_words.proofs.FlagLemmas.{All, Comes, Form, IsFormed, IsIn, all_in, by_mark}
-use Rattle.night_words.proofs.FlagLemmas.{by_use, by_value}
+use Rattle.night_words.proofs.FlagLemmas.{Comes, Form, IsFormed, IsIn, by_mark, by_use, by_value}
 use Rattle.night_words.proofs.FlagLemmas.{by_wait, comes, form_in, found_in, is_flag, is_help}
-use Rattle.night_words.proofs.FlagLemmas.{is_named, is_option, is_place, place, standing, stands}
+use Rattle.night_words.proofs.FlagLemmas.{is_named, is_option, is_place, none_in, place, standing}
+use Rattle.night_words.proofs.FlagLemmas.{stands}
 use Rattle.night_words.proofs.RowLemmas.{Grows, IsFull, defaults_grow, first_last, first_use}
 use Rattle.night_words.proofs.RowLemmas.{grows_first, grows_full, grows_none, grows_then, no_row}
 use Rattle.night_words.proofs.RowLemmas.{row_by, use_grows}
@@ -216,6 +217,19 @@ module _ (s : Shape) (formed : IsFormed s) where
     full : IsFull rows
     touched : IsTouched s rows pending
 
+  kept : (w : Walk) (r : List Row) (p : Option (Text × List Text)) (q : Waiting) (n : ℕ)
+      (t : Bool) → w ≡ standing r p q n t → IsFull r → IsTouched s r p → IsKept w
+  kept w r p q n t at full touched = record {
+    rows = r;
+    pending = p;
+    waiting = q;
+    position = n;
+    behind = t;
+    is = at;
+    full = full;
+    touched = touched;
+  }
+
   -- a use that none came before
   pub used_kept : (r : List Row) (p : Option (Text × List Text)) (n : ℕ) (w : Walk) (a : Rule)
       (values : List Text) → IsFull r → IsIn a s.rules → is_named a ≡ true → Reacts a values r p
@@ -225,36 +239,21 @@ module _ (s : Shape) (formed : IsFormed s) where
       let more = grows_then r (settled_rows s.rules p r)
       (used a values (settled_rows s.rules p r)) (settled_grows r p (first_none _ _ none))
       (used_grows a values (settled_rows s.rules p r) u) in
-      record {
-        rows = used a values (settled_rows s.rules p r);
-        pending = None;
-        waiting = idle;
-        position = n;
-        behind = false;
-        is = at;
-        full = grows_full r _ more full;
-        touched = told (record {
-          rule = a;
-          there = is;
-          named = named;
-          shown = used_shows a values (settled_rows s.rules p r) u named;
-        });
-      }
+      kept w (used a values (settled_rows s.rules p r)) None idle n false at
+      (grows_full r _ more full) (told (record {
+        rule = a;
+        there = is;
+        named = named;
+        shown = used_shows a values (settled_rows s.rules p r) u named;
+      }))
 
   pub wait_kept : (r : List Row) (p : Option (Text × List Text)) (n : ℕ) (w : Walk) (a : Rule)
       → IsFull r → IsIn a s.rules → is_named a ≡ true → arg_by_id s.rules a.id ≡ Some a
       → Settles r p
       → w ≡ standing (settled_rows s.rules p r) (Some (a.id, [])) (option a.id) n false → IsKept w
-  wait_kept r p n w a full is named at_id none at = record {
-    rows = settled_rows s.rules p r;
-    pending = Some (a.id, []);
-    waiting = option a.id;
-    position = n;
-    behind = false;
-    is = at;
-    full = grows_full r _ (settled_grows r p none) full;
-    touched = waited a is named at_id [] refl;
-  }
+  wait_kept r p n w a full is named at_id none at =
+      kept w (settled_rows s.rules p r) (Some (a.id, [])) (option a.id) n false at
+      (grows_full r _ (settled_grows r p none) full) (waited a is named at_id [] refl)
 
   -- ---- one more word
 
@@ -273,16 +272,7 @@ module _ (s : Shape) (formed : IsFormed s) where
     value_kept : (o : Option Rule) → (w : Walk)
         → option_map_or (λ a. positional_fault s.rules s.args_override_self a (held r p)) o [] ≡ []
         → w ≡ to_positional s.rules o word (standing r p q n t) (held r p) → IsKept w
-    value_kept None w none at = record {
-      rows = r;
-      pending = p;
-      waiting = q;
-      position = n;
-      behind = t;
-      is = at;
-      full = full;
-      touched = touched;
-    }
+    value_kept None w none at = kept w r p q n t at full touched
     value_kept (Some a) w none at = go (is_pending a p && takes_several a) none at
       where
         go : (b : Bool)
@@ -292,26 +282,12 @@ module _ (s : Shape) (formed : IsFormed s) where
                   else held (settled_rows s.rules p r) None);
             }
             → IsKept w
-        go true none at = record {
-          rows = r;
-          pending = Some ((started a.id p).0, (started a.id p).1 ++ word ∷ []);
-          waiting = _;
-          position = _;
-          behind = _;
-          is = at;
-          full = full;
-          touched = pushed_touched r p a.id word touched;
-        }
-        go false none at = record {
-          rows = settled_rows s.rules p r;
-          pending = Some (a.id, word ∷ []);
-          waiting = _;
-          position = _;
-          behind = _;
-          is = at;
-          full = grows_full r _ (settled_grows r p none) full;
-          touched = told (settled_told r p touched none);
-        }
+        go true none at =
+            kept w r (Some ((started a.id p).0, (started a.id p).1 ++ word ∷ [])) _ _ _ at full
+            (pushed_touched r p a.id word touched)
+        go false none at =
+            kept w (settled_rows s.rules p r) (Some (a.id, word ∷ [])) _ _ _ at
+            (grows_full r _ (settled_grows r p none) full) (told (settled_told r p touched none))
 
     -- a value of an option that waits for one
     option_kept : (id : Text) (o : Option Rule) → (w : Walk)
@@ -320,26 +296,11 @@ module _ (s : Shape) (formed : IsFormed s) where
           waiting = (option_word o id word (held r p)).1;
         }
         → IsKept w
-    option_kept id None w at = record {
-      rows = r;
-      pending = p;
-      waiting = option id;
-      position = n;
-      behind = t;
-      is = at;
-      full = full;
-      touched = touched;
-    }
-    option_kept id (Some a) w at = record {
-      rows = r;
-      pending = Some ((started id p).0, (started id p).1 ++ word ∷ []);
-      waiting = (option_word (Some a) id word (held r p)).1;
-      position = n;
-      behind = t;
-      is = at;
-      full = full;
-      touched = pushed_touched r p id word touched;
-    }
+    option_kept id None w at = kept w r p (option id) n t at full touched
+    option_kept id (Some a) w at =
+        kept w r (Some ((started id p).0, (started id p).1 ++ word ∷ []))
+        (option_word (Some a) id word (held r p)).1 n t at full
+        (pushed_touched r p id word touched)
 
   -- a place that nothing takes is one that is found
   taken_value : (n : ℕ) (h : Held) (o : Option Rule) (stray : Kinds)
@@ -367,16 +328,7 @@ module _ (s : Shape) (formed : IsFormed s) where
         option_kept r p (option id) n false word full touched id (arg_by_id s.rules id) _ at
 
     came_kept : (q : Waiting) → Comes s r p q n word → After q false
-    came_kept q (by_mark m at) = record {
-      rows = r;
-      pending = p;
-      waiting = q;
-      position = n;
-      behind = true;
-      is = at;
-      full = full;
-      touched = touched;
-    }
+    came_kept q (by_mark m at) = kept _ r p q n true at full touched
     came_kept q (by_use a is named values none at) =
         used_kept r p n _ a values full is named none at
     came_kept q (by_wait a is named takes at_id none at) =
@@ -460,14 +412,12 @@ module _ (s : Shape) (formed : IsFormed s) where
 -- ---- where nothing was used
 
 -- no flag and no option is told
+abbrev is_told : List Row → Rule → Bool
+is_told rows a = is_named a && is_shown a rows
+
 abbrev pub IsQuiet : Shape → List Row → Type 0
-IsQuiet s rows = All (λ a. is_named a ≡ true → is_shown a rows ≡ true → ⊥) s.rules
+IsQuiet s rows = list_any (is_told rows) s.rules ≡ false
 
 pub not_told : (s : Shape) (rows : List Row) → IsQuiet s rows → IsTold s rows → ⊥
-not_told s rows quiet t =
-    all_in (λ a. is_named a ≡ true → is_shown a rows ≡ true → ⊥) t.rule s.rules quiet t.there
-    t.named t.shown
-
-pub apart : (b : Bool) → b ≡ false → b ≡ true → ⊥
-apart true unset set = cc
-apart false unset set = cc
+not_told s rows quiet t = none_in (is_told rows) t.rule s.rules quiet t.there
+    (ap (λ b. b && is_shown t.rule rows) t.named ∙ t.shown)

@@ -5,12 +5,10 @@ use Rattle.std.specs.Borrow.{Bor}
 use Rattle.clap.specs.Walk.{Text}
 use Rattle.night_words.specs.Commands.{AsksSome, AsksViews, IsView, are_two, asks_some, asks_tasks}
 use Rattle.night_words.specs.Commands.{is_true, lacks_tree, names_phase}
-use Rattle.night_words.specs.declared.asked.View.{View}
-use Rattle.night_words.specs.declared.asked.View.TheVariants.{Json, Summary, Tasks, Tree, Whole}
-use Rattle.night_words.specs.declared.asked.WordsFault.{WordsFault}
-use Rattle.night_words.specs.declared.asked.WordsFault.TheVariants.{Memory, Mistake, NoTree}
-use Rattle.night_words.specs.declared.asked.WordsFault.TheVariants.{NotText, Phase, Place}
-use Rattle.night_words.specs.declared.asked.WordsFault.TheVariants.{SameStores, Views, Workers}
+use Rattle.night_requests.specs.declared.asked.View.{View}
+use Rattle.night_requests.specs.declared.asked.View.TheVariants.{Json, Summary, Tasks, Tree, Whole}
+use Rattle.night_requests.specs.declared.asked.WordsFault.{WordsFault}
+use Rattle.night_requests.specs.declared.asked.WordsFault.TheVariants.{NoTree, Phase, Views}
 
 module _ (a b : Text → Option Text) (same : (id : Text) → a id ≡ b id) where
   flag_alike : (id : Text) → is_true (a id) ≡ is_true (b id)
@@ -78,9 +76,4 @@ module _ (a b : Text → Option Text) (same : (id : Text) → a id ≡ b id) whe
       (inl (views_alike true false false false false is), phase_alike ∙ wrong)
   view_alike (Err Phase) (inr is, wrong) =
       (inr (views_alike false true false false false is), phase_alike ∙ wrong)
-  view_alike (Err (Mistake text)) is = absurd is
-  view_alike (Err SameStores) is = absurd is
-  view_alike (Err Workers) is = absurd is
-  view_alike (Err Place) is = absurd is
-  view_alike (Err NotText) is = absurd is
-  view_alike (Err Memory) is = absurd is
+  view_alike (Err other) is = absurd is

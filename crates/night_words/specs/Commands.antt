@@ -1,5 +1,5 @@
 -- Which words the command line takes.
-use Rattle.std.specs.Prelude.{◌≡◌, ◌≢◌, ◌⊎◌, ◌∷◌, ◌++◌, [], ℕ, List, Option, Some, None}
+use Rattle.std.specs.Prelude.{◌≡◌, ◌≢◌, ◌⊎◌, ◌∷◌, [], ℕ, List, Option, Some, None}
 use Rattle.std.specs.Prelude.{Result, Ok, Err, ◌&&◌, ◌||◌, ◌-◌, codes, if◌then◌else◌, is_some}
 use Rattle.std.specs.Prelude.{nat_le, not}
 use Rattle.std.specs.Prelude.{option_and_then, option_map, Bool, false, true, unwrap_or}
@@ -7,7 +7,6 @@ use Rattle.std.specs.Borrow.{Bor}
 use Rattle.std.specs.List.{list_any}
 use Rattle.std.specs.Option.{option_map_or}
 use Rattle.std.specs.Str.{bytes_eq}
-use Rattle.std.specs.String.{string_bytes}
 use Rattle.clap.specs.Words.{App, IsAmong, Kinds, Row, Rule, Shape, Text, fault_of, first_of}
 use Rattle.clap.specs.Words.{new_app, new_rule, subcommand_of, subcommand_rows_of, with_rule}
 use Rattle.clap.specs.Words.{with_subcommand}
@@ -16,17 +15,18 @@ use Rattle.clap.specs.declared.error.kind.ErrorKind.{ErrorKind}
 use Rattle.clap.specs.declared.error.kind.ErrorKind.TheVariants.{DisplayHelp, DisplayVersion}
 use Rattle.clap.specs.declared.error.kind.ErrorKind.TheVariants.{OutOfMemory}
 use Rattle.clap.specs.declared.parser.matches.ArgMatches.{ArgMatches}
-use Rattle.night_words.specs.declared.asked.Asked.{Asked}
-use Rattle.night_words.specs.declared.asked.Asked.TheVariants.{Demo, Format, Script, Inspect, Help}
-use Rattle.night_words.specs.declared.asked.Asked.TheVariants.{Crew, Migrate, Renew, RenewInPlace}
-use Rattle.night_words.specs.declared.asked.View.{View}
-use Rattle.night_words.specs.declared.asked.View.TheVariants.{Whole, Tasks, Json, Tree}
-use Rattle.night_words.specs.declared.asked.View.TheVariants.{Summary}
-use Rattle.night_words.specs.declared.asked.WordsFault.{WordsFault}
-use Rattle.night_words.specs.declared.asked.WordsFault.TheVariants.{Mistake, NotText, Memory}
-use Rattle.night_words.specs.declared.asked.WordsFault.TheVariants.{NoTree, Phase, Place}
-use Rattle.night_words.specs.declared.asked.WordsFault.TheVariants.{SameStores}
-use Rattle.night_words.specs.declared.asked.WordsFault.TheVariants.{Views, Workers}
+use Rattle.night_requests.specs.declared.asked.Asked.{Asked}
+use Rattle.night_requests.specs.declared.asked.Asked.TheVariants.{Crew, Demo, Format, Help}
+use Rattle.night_requests.specs.declared.asked.Asked.TheVariants.{Inspect, Migrate, Renew}
+use Rattle.night_requests.specs.declared.asked.Asked.TheVariants.{RenewInPlace, Script}
+use Rattle.night_requests.specs.declared.asked.View.{View}
+use Rattle.night_requests.specs.declared.asked.View.TheVariants.{Whole, Tasks, Json, Tree}
+use Rattle.night_requests.specs.declared.asked.View.TheVariants.{Summary}
+use Rattle.night_requests.specs.declared.asked.WordsFault.{WordsFault}
+use Rattle.night_requests.specs.declared.asked.WordsFault.TheVariants.{Mistake, NotText, Memory}
+use Rattle.night_requests.specs.declared.asked.WordsFault.TheVariants.{NoTree, Phase, Place}
+use Rattle.night_requests.specs.declared.asked.WordsFault.TheVariants.{SameStores}
+use Rattle.night_requests.specs.declared.asked.WordsFault.TheVariants.{Views, Workers}
 
 -- ---- the command line
 
@@ -410,21 +410,6 @@ IsOfSystem Phase = ⊥
 IsOfSystem Place = ⊥
 IsOfSystem NotText = Unit {0}
 IsOfSystem Memory = Unit {0}
-
--- what standard error shows when words ask for nothing
-abbrev pub fault_text : WordsFault → List ℕ
-fault_text (Mistake text) = string_bytes text
-fault_text SameStores = codes "error: OLD and NEW name the same file\n"
-fault_text Workers = codes "error: --workers takes a number from 1 to 8\n"
-fault_text Views =
-    codes "error: inspect takes one of --tasks (or --phase, --group), --json and --tree\n"
-    ++ codes "or --summary alone; --json takes --phase and --group, too\n"
-fault_text NoTree = codes "error: --no-tasks goes with --tree\n"
-fault_text Phase =
-    codes "error: --phase takes held, ready, running, success, error or interrupted\n"
-fault_text Place = codes "error: renew takes one of NEW and --in-place\n"
-fault_text NotText = codes "error: a word is no text in UTF-8\n"
-fault_text Memory = codes "night: fault 1 Memory\n"
 
 -- ---- for private functions: no public contract cites what follows
 

@@ -5,7 +5,6 @@ ghost use Rattle.clap.specs.Words.{App, Rule, app_of, rule_of, with_rule, with_s
 ghost use Rattle.night_words.specs.Commands.{crew_line, demo_line, flag, format_line, free};
 ghost use Rattle.night_words.specs.Commands.{inspect_line, migrate_line, night, night_alone};
 ghost use Rattle.night_words.specs.Commands.{renew_line, script_line, store_line, value_option};
-ghost use Rattle.night_words.specs.Commands.{wanted};
 
 use clap::{Arg, ArgAction, Command};
 use std::alloc::{AllocError, Global};
@@ -90,11 +89,102 @@ const LINES: &str = "\
 /// What `--strict` does, of `demo` and of `script`.
 const STRICT: &str = "Ends at the first line that is no line or is refused, with status 1";
 
-/// What `--new` does, of `migrate` and of `renew`.
+/// What STORE is, of each command over one store.
+const STORE: &str = "The file of the store";
+
+/// What `--new` does, of `format`, and then of `migrate` and of `renew`.
+const NEW_STORE: &str = "Refuses where there is a file of that name";
+
 const NEW: &str = "Refuses where there is a file NEW";
+
+/// What NEW is, of `migrate` and of `renew`.
+const NEW_FILE: &str = "The new file; one that is there is emptied";
 
 /// What `--now` does, of `script`.
 const NOW: &str = "Moves the clock to the machine's time, each second in which a line comes";
+
+/// What the flags and the options of `inspect` do.
+const TASKS: &str = "Prints the lines of its tasks alone";
+
+const PHASE: &str =
+    "Prints those alone that are held, ready, running, success, error or interrupted";
+
+const GROUP: &str = "Prints those alone that are of this group";
+
+const JSON: &str =
+    "Prints all of it as one object of JSON, of its tasks those alone that are asked for";
+
+const TREE: &str = "Draws its scopes as a tree, with their groups and tasks";
+
+const NO_TASKS: &str = "Draws a tree without tasks: a group has how many are in each phase";
+
+const SUMMARY: &str = "Prints how full it is, a line for each group, and the scopes that are done";
+
+/// What the option and the flag of `crew` do.
+const WORKERS: &str = "How many threads run tasks, 1 to 8; 4 where it is left out";
+
+const KNOWN: &str = "Starts nothing where the crew doesn't know the job of a task that isn't ended";
+
+/// What `--in-place` does, of `renew`.
+const IN_PLACE: &str = "Makes the new store in the place of OLD; there is no NEW then";
+
+/// What help shows of a command over a store, and what it calls the store and says of it.
+#[derive(Clone, Copy)]
+struct Page<'a> {
+    about: &'a str,
+    ending: &'a str,
+    store: &'a str,
+    help: &'a str,
+}
+
+const FORMAT: Page = Page {
+    about: "Makes a new store of a file, and prints `formatted`; what the file held is lost",
+    ending: "Example: night format --new jobs.store",
+    store: "STORE",
+    help: STORE,
+};
+
+const SCRIPT: Page = Page {
+    about: "Opens a store, and runs standard input over it",
+    ending: LINES,
+    store: "STORE",
+    help: STORE,
+};
+
+const INSPECT: Page = Page {
+    about: "Prints what a store holds, and writes nothing to it",
+    ending: "Example: night inspect jobs.store",
+    store: "STORE",
+    help: STORE,
+};
+
+const MIGRATE: Page = Page {
+    about: "Makes a large store NEW of a small store OLD; what NEW held is lost",
+    ending: "Example: night migrate --new small.store large.store",
+    store: "OLD",
+    help: "The small store, which is only read",
+};
+
+const CREW: Page = Page {
+    about: "Runs the ready tasks of a store, and prints how many were started and finished",
+    ending: "\
+    The crew knows three jobs: `spin`, `copy` and `fail`. With `--known` it starts\n\
+    nothing while a task of any other job isn't ended. Without, it ends such a task\n\
+    for good: it fails as `no such job`, and can't be retried.\n\n\
+    Examples:\n  \
+    night crew --known jobs.store\n  \
+    night crew jobs.store --workers 2",
+    store: "STORE",
+    help: STORE,
+};
+
+const RENEW: Page = Page {
+    about: "Makes a store NEW of what a store OLD still needs; what NEW held is lost",
+    ending: "Examples:\n  night renew --new old.store new.store\n  \
+        night renew --in-place jobs.store",
+    store: "OLD",
+    help: "The old store, which is only read unless it is renewed in place",
+};
 
 /// The command line of the program, with all of its commands.
 pub fn night_command<'a>(alloc: Global) -> Result<Command<'a>, AllocError>
@@ -142,213 +232,110 @@ fn demo_command<'a>(alloc: Global) -> Result<Command<'a>, AllocError>
     let demo = Command::new(alloc, "demo")
         .about("Runs standard input over a book in memory")
         .after_help(LINES);
-    with_word(Ok(demo), flag_word(alloc, "strict", STRICT))
+    with_flag(alloc, Ok(demo), "strict", STRICT)
 }
 
 /// The command that makes a store of a file.
 fn format_command<'a>(alloc: Global) -> Result<Command<'a>, AllocError>
     ensures { IfOk result (λ command. app_of command ≡ format_line) }
 {
-    let store = store_command(
-        alloc,
-        "format",
-        "Makes a new store of a file, and prints `formatted`; what the file held is lost",
-        "Example: night format --new jobs.store",
-    );
-    with_word(
-        store,
-        flag_word(alloc, "new", "Refuses where there is a file of that name"),
-    )
+    let store = store_command(alloc, "format", FORMAT);
+    with_flag(alloc, store, "new", NEW_STORE)
 }
 
 /// The command that runs the input over a store.
 fn script_command<'a>(alloc: Global) -> Result<Command<'a>, AllocError>
     ensures { IfOk result (λ command. app_of command ≡ script_line) }
 {
-    let store = store_command(
-        alloc,
-        "script",
-        "Opens a store, and runs standard input over it",
-        LINES,
-    );
-    let strict = with_word(store, flag_word(alloc, "strict", STRICT));
-    with_word(strict, flag_word(alloc, "now", NOW))
+    let store = store_command(alloc, "script", SCRIPT);
+    let strict = with_flag(alloc, store, "strict", STRICT);
+    with_flag(alloc, strict, "now", NOW)
 }
 
 /// The command that reads a store.
 fn inspect_command<'a>(alloc: Global) -> Result<Command<'a>, AllocError>
     ensures { IfOk result (λ command. app_of command ≡ inspect_line) }
 {
-    let store = store_command(
-        alloc,
-        "inspect",
-        "Prints what a store holds, and writes nothing to it",
-        "Example: night inspect jobs.store",
-    );
-    let tasks = with_word(
-        store,
-        flag_word(alloc, "tasks", "Prints the lines of its tasks alone"),
-    );
-    let phase = with_word(
-        tasks,
-        value_word(
-            alloc,
-            "phase",
-            "PHASE",
-            "Prints those alone that are held, ready, running, success, error or interrupted",
-        ),
-    );
-    let group = with_word(
-        phase,
-        value_word(
-            alloc,
-            "group",
-            "GROUP",
-            "Prints those alone that are of this group",
-        ),
-    );
-    let json = with_word(
-        group,
-        flag_word(
-            alloc,
-            "json",
-            "Prints all of it as one object of JSON, of its tasks those alone that are asked for",
-        ),
-    );
-    let tree = with_word(
-        json,
-        flag_word(
-            alloc,
-            "tree",
-            "Draws its scopes as a tree, with their groups and tasks",
-        ),
-    );
-    let no_tasks = with_word(
-        tree,
-        flag_word(
-            alloc,
-            "no-tasks",
-            "Draws a tree without tasks: a group has how many are in each phase",
-        ),
-    );
-    with_word(
-        no_tasks,
-        flag_word(
-            alloc,
-            "summary",
-            "Prints how full it is, a line for each group, and the scopes that are done",
-        ),
-    )
-}
-
-/// A command over a store.
-fn store_command<'a>(
-    alloc: Global,
-    name: &'a str,
-    about: &'a str,
-    ending: &'a str,
-) -> Result<Command<'a>, AllocError>
-    ensures { IfOk result (λ command. app_of command ≡ store_line name.now) }
-{
-    let command = Command::new(alloc, name).about(about).after_help(ending);
-    with_word(
-        Ok(command),
-        store_word(alloc, "STORE", "STORE", "The file of the store"),
-    )
+    let store = store_command(alloc, "inspect", INSPECT);
+    let tasks = with_flag(alloc, store, "tasks", TASKS);
+    let phase = with_value(alloc, tasks, "phase", "PHASE", PHASE);
+    let group = with_value(alloc, phase, "group", "GROUP", GROUP);
+    let json = with_flag(alloc, group, "json", JSON);
+    let tree = with_flag(alloc, json, "tree", TREE);
+    let no_tasks = with_flag(alloc, tree, "no-tasks", NO_TASKS);
+    with_flag(alloc, no_tasks, "summary", SUMMARY)
 }
 
 /// The command that makes a large store of a small one.
 fn migrate_command<'a>(alloc: Global) -> Result<Command<'a>, AllocError>
     ensures { IfOk result (λ command. app_of command ≡ migrate_line) }
 {
-    let migrate = Command::new(alloc, "migrate")
-        .about("Makes a large store NEW of a small store OLD; what NEW held is lost")
-        .after_help("Example: night migrate --new small.store large.store");
-    let old = with_word(
-        Ok(migrate),
-        store_word(alloc, "STORE", "OLD", "The small store, which is only read"),
-    );
-    let new = with_word(
-        old,
-        store_word(
-            alloc,
-            "NEW",
-            "NEW",
-            "The new file; one that is there is emptied",
-        ),
-    );
-    with_word(new, flag_word(alloc, "new", NEW))
+    let old = store_command(alloc, "migrate", MIGRATE);
+    let new = with_word(old, place_word(alloc, "NEW", "NEW", true, NEW_FILE));
+    with_flag(alloc, new, "new", NEW)
 }
 
 /// The command that works off the tasks of a store.
 fn crew_command<'a>(alloc: Global) -> Result<Command<'a>, AllocError>
     ensures { IfOk result (λ command. app_of command ≡ crew_line) }
 {
-    let crew = Command::new(alloc, "crew")
-        .about("Runs the ready tasks of a store, and prints how many were started and finished")
-        .after_help(
-            "The crew knows three jobs: `spin`, `copy` and `fail`. With `--known` it starts\n\
-            nothing while a task of any other job isn't ended. Without, it ends such a task\n\
-            for good: it fails as `no such job`, and can't be retried.\n\n\
-            Examples:\n  \
-            night crew --known jobs.store\n  \
-            night crew jobs.store --workers 2",
-        );
-    let store = with_word(
-        Ok(crew),
-        store_word(alloc, "STORE", "STORE", "The file of the store"),
-    );
-    let workers = with_word(
-        store,
-        value_word(
-            alloc,
-            "workers",
-            "N",
-            "How many threads run tasks, 1 to 8; 4 where it is left out",
-        ),
-    );
-    with_word(
-        workers,
-        flag_word(
-            alloc,
-            "known",
-            "Starts nothing where the crew doesn't know the job of a task that isn't ended",
-        ),
-    )
+    let store = store_command(alloc, "crew", CREW);
+    let workers = with_value(alloc, store, "workers", "N", WORKERS);
+    with_flag(alloc, workers, "known", KNOWN)
 }
 
 /// The command that makes a store of what another one still needs.
 fn renew_command<'a>(alloc: Global) -> Result<Command<'a>, AllocError>
     ensures { IfOk result (λ command. app_of command ≡ renew_line) }
 {
-    let renew = Command::new(alloc, "renew")
-        .about("Makes a store NEW of what a store OLD still needs; what NEW held is lost")
-        .after_help(
-            "Examples:\n  night renew --new old.store new.store\n  \
-            night renew --in-place jobs.store",
-        );
-    let old = with_word(
-        Ok(renew),
-        store_word(
-            alloc,
-            "STORE",
-            "OLD",
-            "The old store, which is only read unless it is renewed in place",
-        ),
-    );
-    let new = with_word(
-        old,
-        other_word(alloc, "NEW", "The new file; one that is there is emptied"),
-    );
-    let to_new = with_word(new, flag_word(alloc, "new", NEW));
+    let old = store_command(alloc, "renew", RENEW);
+    let new = with_word(old, place_word(alloc, "NEW", "NEW", false, NEW_FILE));
+    let to_new = with_flag(alloc, new, "new", NEW);
+    with_flag(alloc, to_new, "in-place", IN_PLACE)
+}
+
+/// A command over a store.
+fn store_command<'a>(
+    alloc: Global,
+    name: &'a str,
+    page: Page<'a>,
+) -> Result<Command<'a>, AllocError>
+    ensures { IfOk result (λ command. app_of command ≡ store_line name.now) }
+{
+    let command = Command::new(alloc, name)
+        .about(page.about)
+        .after_help(page.ending);
     with_word(
-        to_new,
-        flag_word(
-            alloc,
-            "in-place",
-            "Makes the new store in the place of OLD; there is no NEW then",
-        ),
+        Ok(command),
+        place_word(alloc, "STORE", page.store, true, page.help),
     )
+}
+
+/// A command with one more flag.
+fn with_flag<'a>(
+    alloc: Global,
+    command: Result<Command<'a>, AllocError>,
+    id: &'a str,
+    help: &'a str,
+) -> Result<Command<'a>, AllocError>
+    ensures { (before : App) → IfOk command.entry (λ command. app_of command ≡ before)
+        → IfOk result (λ command. app_of command ≡ with_rule before (flag id.now)) }
+{
+    with_word(command, flag_word(alloc, id, help))
+}
+
+/// A command with one more option, and what help calls its value.
+fn with_value<'a>(
+    alloc: Global,
+    command: Result<Command<'a>, AllocError>,
+    id: &'a str,
+    name: &'a str,
+    help: &'a str,
+) -> Result<Command<'a>, AllocError>
+    ensures { (before : App) → IfOk command.entry (λ command. app_of command ≡ before)
+        → IfOk result (λ command. app_of command ≡ with_rule before (value_option id.now)) }
+{
+    with_word(command, value_word(alloc, id, name, help))
 }
 
 /// A command with one more word, if there was memory for both.
@@ -369,11 +356,7 @@ fn value_word<'a>(alloc: Global, id: &'a str, name: &'a str, help: &'a str) -> A
     ensures rule { rule_of result ≡ value_option id.now }
     ensures local { result.global ≡ false }
 {
-    Arg::new(alloc, id)
-        .long(id)
-        .value_name(name)
-        .action(ArgAction::Set)
-        .help(help)
+    place_word(alloc, id, name, false, help).long(id)
 }
 
 /// A flag, which stands alone.
@@ -387,25 +370,20 @@ fn flag_word<'a>(alloc: Global, id: &'a str, help: &'a str) -> Arg<'a>
         .help(help)
 }
 
-/// A word that names a store, which its command needs, and what help calls it.
-fn store_word<'a>(alloc: Global, id: &'a str, name: &'a str, help: &'a str) -> Arg<'a>
-    ensures rule { rule_of result ≡ wanted id.now }
+/// A word with a value, which its command needs or may do without, and what help calls the value.
+fn place_word<'a>(
+    alloc: Global,
+    id: &'a str,
+    name: &'a str,
+    is_wanted: bool,
+    help: &'a str,
+) -> Arg<'a>
+    ensures rule { rule_of result ≡ record (free id.now) { required = is_wanted } }
     ensures local { result.global ≡ false }
 {
     Arg::new(alloc, id)
         .value_name(name)
-        .required(true)
-        .action(ArgAction::Set)
-        .help(help)
-}
-
-/// A word that names a store, which its command may do without.
-fn other_word<'a>(alloc: Global, id: &'a str, help: &'a str) -> Arg<'a>
-    ensures rule { rule_of result ≡ free id.now }
-    ensures local { result.global ≡ false }
-{
-    Arg::new(alloc, id)
-        .value_name(id)
+        .required(is_wanted)
         .action(ArgAction::Set)
         .help(help)
 }

@@ -1,6 +1,7 @@
 //! Examples of the words that are taken and refused, computed from the definition.
 //!
 //! In each, `name` is the program's own name, as it was started.
+#![tactic(auto, unfolding(clap::proofs::OnLiterals::clap_on_literals))]
 
 ghost use Rattle.std.specs.Prelude.{◌≡◌, ◌∷◌, ℕ, List, None, Some, [], codes, false, true};
 ghost use Rattle.std.specs.Borrow.{Bor};
@@ -10,11 +11,11 @@ ghost use Rattle.night_words.specs.Commands.{AsksForCrew, AsksForDemo, AsksForFo
 ghost use Rattle.night_words.specs.Commands.{AsksForInspect, AsksForMigration, AsksForRenewal};
 ghost use Rattle.night_words.specs.Commands.{AsksForRenewalInPlace, AsksForScript, IsCausedBy};
 ghost use Rattle.night_words.specs.Commands.{NamesRenewal, faults_of, night};
-ghost use Rattle.night_words.specs.declared.asked.View.TheVariants.{Json, Summary, Tasks, Tree};
-ghost use Rattle.night_words.specs.declared.asked.View.TheVariants.{Whole};
-ghost use Rattle.night_words.specs.declared.asked.WordsFault.TheVariants.{NoTree, Phase, Place};
-ghost use Rattle.night_words.specs.declared.asked.WordsFault.TheVariants.{SameStores, Views};
-ghost use Rattle.night_words.specs.declared.asked.WordsFault.TheVariants.{Workers};
+ghost use Rattle.night_requests.specs.declared.asked.View.TheVariants.{Json, Summary, Tasks, Tree};
+ghost use Rattle.night_requests.specs.declared.asked.View.TheVariants.{Whole};
+ghost use Rattle.night_requests.specs.declared.asked.WordsFault.TheVariants.{NoTree, Phase, Place};
+ghost use Rattle.night_requests.specs.declared.asked.WordsFault.TheVariants.{SameStores, Views};
+ghost use Rattle.night_requests.specs.declared.asked.WordsFault.TheVariants.{Workers};
 
 /// `demo` is a command, and the mark after which no flag stands is no word of it.
 pub fn demo_is_a_command()
@@ -208,23 +209,23 @@ pub fn other_flags_are_mistakes()
     ensures migrate { (name : List ℕ)
         → faults_of (name ∷ codes "migrate" ∷ codes "--in-place" ∷ codes "a" ∷ codes "b" ∷ [])
         ≡ kind.UnknownArgument ∷ [] }
-    ensures twice { (name : List ℕ)
-        → faults_of (name ∷ codes "demo" ∷ codes "--strict" ∷ codes "--strict" ∷ [])
-        ≡ kind.ArgumentConflict ∷ [] }
     ensures twice_new { (name : List ℕ) → faults_of
         (name ∷ codes "format" ∷ codes "--new" ∷ codes "a" ∷ codes "--new" ∷ [])
         ≡ kind.ArgumentConflict ∷ [] }
+    ensures twice_group { (name : List ℕ) → faults_of
+        (name ∷ codes "inspect" ∷ codes "--group=g" ∷ codes "--group=h" ∷ codes "a" ∷ [])
+        ≡ kind.ArgumentConflict ∷ [] }
+    ensures twice { (name : List ℕ)
+        → faults_of (name ∷ codes "demo" ∷ codes "--strict" ∷ codes "--strict" ∷ [])
+        ≡ kind.ArgumentConflict ∷ [] }
+    ensures wanting { (name : List ℕ)
+        → faults_of (name ∷ codes "inspect" ∷ codes "a" ∷ codes "--phase" ∷ [])
+        ≡ kind.InvalidValue ∷ [] }
     ensures attached { (name : List ℕ)
         → faults_of (name ∷ codes "demo" ∷ codes "--strict=true" ∷ [])
         ≡ kind.TooManyValues ∷ [] }
     ensures timed { (name : List ℕ) → faults_of (name ∷ codes "demo" ∷ codes "--now" ∷ [])
         ≡ kind.UnknownArgument ∷ [] }
-    ensures wanting { (name : List ℕ)
-        → faults_of (name ∷ codes "inspect" ∷ codes "a" ∷ codes "--phase" ∷ [])
-        ≡ kind.InvalidValue ∷ [] }
-    ensures twice_group { (name : List ℕ) → faults_of
-        (name ∷ codes "inspect" ∷ codes "--group=g" ∷ codes "--group=h" ∷ codes "a" ∷ [])
-        ≡ kind.ArgumentConflict ∷ [] }
 {}
 
 /// One store is needed.

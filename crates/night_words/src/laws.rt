@@ -4,7 +4,7 @@
 ghost use Rattle.std.specs.Prelude.{◌≡◌, ℕ, List, [], codes, false};
 ghost use Rattle.night_words.specs.Commands.{AsksAlone, AsksForDemo, AsksForFormat};
 ghost use Rattle.night_words.specs.Commands.{AsksForInspect, AsksForScript, AsksOver, faults_of};
-ghost use Rattle.night_words.specs.declared.asked.View.TheVariants.{Whole};
+ghost use Rattle.night_requests.specs.declared.asked.View.TheVariants.{Whole};
 
 /// `demo` that isn't strict stands alone.
 pub fn demo_stands_alone()

@@ -12,10 +12,10 @@ ghost use Rattle.night_words.specs.Commands.{IsShown, IsTasks, IsView, asks_task
 ghost use Rattle.night_words.specs.Commands.{is_true};
 ghost use Rattle.night_words.specs.Commands.{named_by, names_phase, new_by, workers_of};
 
-use crate::asked::{Asked, View, WordsFault};
 use crate::commands::night_command;
 use clap::error::ErrorKind;
 use clap::{ArgMatches, Error};
+use night_requests::{Asked, View, WordsFault};
 use std::alloc::Global;
 use std::env::{Args, Env};
 use std::{env, io};

@@ -1,6 +1,6 @@
-use Rattle.night_program.proofs.LastingLemmas.{crew_is_found, cut_is_found, formatted_is_found}
-use Rattle.night_program.proofs.LastingLemmas.{found_is_printed, held_is_found}
+use Rattle.night_program.proofs.LastingLemmas.{crew_is_found, cut_is_found}
 use Rattle.night_program.proofs.lasting.a_store_lasts_from_run_to_run.Goals as goal
+use Rattle.store_words.proofs.FoundLemmas.{formatted_is_found, found_is_printed, held_is_found}
 
 pub returns-clause-format : goal.returns-clause-format
 returns-clause-format g c given left next made honest finds =

@@ -1,5 +1,6 @@
-use Rattle.night_program.proofs.RowLemmas.{inspected_alone, runs_led, source_alone}
+use Rattle.night_program.proofs.RowLemmas.{runs_led}
 use Rattle.night_program.proofs.lasting.many_runs_lose_nothing_acknowledged.Goals as goal
+use Rattle.store_words.proofs.WordLemmas.{inspected_alone, source_alone}
 
 pub returns-clause-runs : goal.returns-clause-runs
 returns-clause-runs g c = runs_led g.D.RunDisk.state g.met.D.RunDisk.is_disk

@@ -5,4 +5,4 @@ use Rattle.night_words.proofs.commands.demo_command.Goals as goal
 pub returns : goal.returns
 returns c =
     let before : app_of c.after_help-demo.result ≡ new_app (codes "demo") = search rules in
-    c.with_word.ensures _ _ c.flag_word.ensures.local c.flag_word.ensures.rule before
+    c.with_flag.ensures _ before

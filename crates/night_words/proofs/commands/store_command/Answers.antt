@@ -5,4 +5,4 @@ use Rattle.night_words.proofs.commands.store_command.Goals as goal
 pub returns : goal.returns
 returns c =
     let before : app_of c.after_help-command.result ≡ new_app c.args.name.now = search rules in
-    c.with_word.ensures _ _ c.store_word.ensures.local c.store_word.ensures.rule before
+    c.with_word.ensures _ _ c.place_word.ensures.local c.place_word.ensures.rule before

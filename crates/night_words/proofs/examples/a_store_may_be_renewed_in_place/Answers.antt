@@ -2,14 +2,6 @@ use Rattle.std.proofs.Common.{None, Some, codes, false, refl, true}
 use Rattle.clap.proofs.OnLiterals.{clap_on_literals}
 use Rattle.night_words.proofs.examples.a_store_may_be_renewed_in_place.Goals as goal
 
-pub returns-clause-before : goal.returns-clause-before
-unfolding clap_on_literals
-returns-clause-before c = λ name. (refl, refl, refl, refl, refl)
-
-pub returns-clause-behind : goal.returns-clause-behind
-unfolding clap_on_literals
-returns-clause-behind c = λ name. (refl, refl, refl, refl, refl)
-
 pub returns-clause-neither : goal.returns-clause-neither
 unfolding clap_on_literals
 returns-clause-neither c = λ name.
@@ -24,7 +16,3 @@ pub returns-clause-new : goal.returns-clause-new
 unfolding clap_on_literals
 returns-clause-new c = λ name.
     (codes "a", (None, (true, (true, refl, (refl, refl, refl, refl, refl)))))
-
-pub returns-clause-two : goal.returns-clause-two
-unfolding clap_on_literals
-returns-clause-two c = λ name. (refl, refl, refl, refl, refl)

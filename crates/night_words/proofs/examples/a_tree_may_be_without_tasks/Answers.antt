@@ -2,14 +2,6 @@ use Rattle.std.proofs.Common.{codes, refl}
 use Rattle.clap.proofs.OnLiterals.{clap_on_literals}
 use Rattle.night_words.proofs.examples.a_tree_may_be_without_tasks.Goals as goal
 
-pub returns-clause-before : goal.returns-clause-before
-unfolding clap_on_literals
-returns-clause-before c = λ name. (refl, refl, (refl, refl, refl, refl, refl))
-
-pub returns-clause-behind : goal.returns-clause-behind
-unfolding clap_on_literals
-returns-clause-behind c = λ name. (refl, refl, (refl, refl, refl, refl, refl))
-
 pub returns-clause-alone : goal.returns-clause-alone
 unfolding clap_on_literals
 returns-clause-alone c = λ name. (codes "a", (refl, refl, refl))
@@ -21,7 +13,3 @@ returns-clause-json c = λ name. (codes "a", (refl, refl, refl))
 pub returns-clause-json_too : goal.returns-clause-json_too
 unfolding clap_on_literals
 returns-clause-json_too c = λ name. (codes "a", (refl, refl, (refl, refl)))
-
-pub returns-clause-taken : goal.returns-clause-taken
-unfolding clap_on_literals
-returns-clause-taken c = λ name. refl

@@ -13,11 +13,3 @@ returns-clause-nine c = λ name. (codes "a", (false, (refl, refl, refl, refl)))
 pub returns-clause-zeros : goal.returns-clause-zeros
 unfolding clap_on_literals
 returns-clause-zeros c = λ name. (codes "a", (false, (refl, refl, refl, refl)))
-
-pub returns-clause-store : goal.returns-clause-store
-unfolding clap_on_literals
-returns-clause-store c = λ name. refl
-
-pub returns-clause-twice : goal.returns-clause-twice
-unfolding clap_on_literals
-returns-clause-twice c = λ name. refl

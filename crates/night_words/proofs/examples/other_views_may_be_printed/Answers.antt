@@ -2,24 +2,6 @@ use Rattle.std.proofs.Common.{codes, refl}
 use Rattle.clap.proofs.OnLiterals.{clap_on_literals}
 use Rattle.night_words.proofs.examples.other_views_may_be_printed.Goals as goal
 
-pub returns-clause-json : goal.returns-clause-json
-unfolding clap_on_literals
-returns-clause-json c = λ name.
-    (refl, refl, ((refl, refl, refl, refl, refl), (refl, refl, refl)))
-
-pub returns-clause-json_behind : goal.returns-clause-json_behind
-unfolding clap_on_literals
-returns-clause-json_behind c = λ name.
-    (refl, refl, ((refl, refl, refl, refl, refl), (refl, refl, refl)))
-
-pub returns-clause-tree : goal.returns-clause-tree
-unfolding clap_on_literals
-returns-clause-tree c = λ name. (refl, refl, (refl, refl, refl, refl, refl))
-
-pub returns-clause-summary : goal.returns-clause-summary
-unfolding clap_on_literals
-returns-clause-summary c = λ name. (refl, refl, (refl, refl, refl, refl, refl))
-
 pub returns-clause-summary_too : goal.returns-clause-summary_too
 unfolding clap_on_literals
 returns-clause-summary_too c = λ name. (codes "a", (refl, refl, (refl, refl)))

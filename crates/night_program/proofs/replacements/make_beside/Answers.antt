@@ -1,7 +1,0 @@
-use Rattle.std.proofs.Common.{inl, refl}
-use Rattle.night_program.proofs.replacements.make_beside.Goals as goal
-
--- Another program has the file: nothing was done.
-pub returns-in-Err-InUse-clause-not : goal.returns-in-Err-InUse-clause-not
-returns-in-Err-InUse-clause-not g c =
-    record { before = c.args.files.now; cleared = inl refl; only = inl c.in-Err-InUse.ensures.same }

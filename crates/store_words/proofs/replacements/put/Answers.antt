@@ -1,0 +1,15 @@
+use Rattle.std.proofs.lemmas.Result.{on_err_weaker}
+use Rattle.store_words.proofs.replacements.put.Goals as goal
+
+pub returns-then-is_err-clause-not : goal.returns-then-is_err-clause-not
+returns-then-is_err-clause-not g c =
+    on_err_weaker c.replace-done.result
+    (λ which. record {
+      tried = c.replace-done.new.self;
+      which = which;
+      removed = c.remove.ensures;
+    })
+    c.replace-done.ensures.left
+
+pub returns-else-is_err-clause-put : goal.returns-else-is_err-clause-put
+returns-else-is_err-clause-put g c = c.replace-done.ensures.done

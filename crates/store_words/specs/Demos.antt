@@ -1,0 +1,38 @@
+-- What a run over a book in memory does.
+use Rattle.std.specs.Prelude.{◌≡◌, ◌⊎◌, ℕ, List, Option, Result, Ok, Err}
+use Rattle.std.specs.Global.{Global}
+use Rattle.run_model.specs.declared.layouts.Layout.TheVariants.{Small}
+use Rattle.run_model.specs.Session.{opened}
+use Rattle.run_disk.specs.declared.memory_disks.MemoryDisk.{MemoryDisk}
+use Rattle.run_disk.specs.MemoryDisks.{state_of}
+use Rattle.book_model.specs.Books.{BookView}
+use Rattle.console_lines.specs.declared.faults.RunFault.{RunFault}
+use Rattle.console_lines.specs.declared.faults.RunFault.TheVariants as fault
+use Rattle.console_lines.specs.declared.strays.StrayLine.{StrayLine}
+use Rattle.run_lines.specs.Progress.{RunEnds, RunStops}
+use Rattle.run_lines.specs.declared.untils.Until.{Until}
+
+-- There is no book in memory: memory was wanting for it, or its store failed.
+abbrev pub IsUnopened : RunFault → Type 0
+IsUnopened fault.Memory = Unit {0}
+IsUnopened (fault.Store why) = Unit {0}
+IsUnopened _ = ⊥
+
+-- The lines of the input were run until then over a book that was just formatted and opened.
+abbrev pub IsRun : Until → Option StrayLine → (r0 r1 w0 w1 : Option (List ℕ)) → Type 0
+IsRun until stray r0 r1 w0 w1 =
+    (b : BookView (MemoryDisk Global)) × (c : BookView (MemoryDisk Global))
+    × (b.session ≡ opened Small) × RunEnds state_of until stray b c r0 r1 w0 w1
+
+-- A fault stopped such a run. Where there is no book, nothing was read and nothing was written.
+abbrev pub IsUnrun : Until → RunFault → (r0 r1 w0 w1 : Option (List ℕ)) → Type 0
+IsUnrun until why r0 r1 w0 w1 =
+    (IsUnopened why × (r1 ≡ r0) × (w1 ≡ w0))
+    ⊎ ((b : BookView (MemoryDisk Global)) × (c : BookView (MemoryDisk Global))
+    × (b.session ≡ opened Small) × RunStops state_of until why b c r0 r1 w0 w1)
+
+-- One or the other, by the answer.
+abbrev pub DemoEnds : Until → Result (Option StrayLine) RunFault
+    → (r0 r1 w0 w1 : Option (List ℕ)) → Type 0
+DemoEnds until (Ok stray) r0 r1 w0 w1 = IsRun until stray r0 r1 w0 w1
+DemoEnds until (Err why) r0 r1 w0 w1 = IsUnrun until why r0 r1 w0 w1

@@ -1,0 +1,40 @@
+-- Which jobs the program's crews know, and which tasks of a store they don't.
+use Rattle.std.specs.Prelude.{◌≡◌, ◌+◌, ◌&&◌, ◌||◌, ℕ, Bool, true, false, not, List, [], ◌∷◌}
+use Rattle.std.specs.Prelude.{length, codes, filter, bytes_eq, Option, Some, None}
+use Rattle.run_model.specs.declared.answers.TaskLook.{TaskLook}
+use Rattle.run_model.specs.declared.tasks.Phase.{Phase}
+use Rattle.run_model.specs.declared.tasks.Phase.TheVariants as phase
+use Rattle.run_model.specs.declared.tasks.Task.{Task}
+use Rattle.run_model.specs.Tasks.{is_unfinished}
+use Rattle.store_words.specs.declared.known.UnknownJob.{UnknownJob}
+
+-- The crews know these three jobs.
+abbrev pub is_known : List ℕ → Bool
+is_known job =
+    bytes_eq job (codes "spin") || (bytes_eq job (codes "fail") || bytes_eq job (codes "copy"))
+
+-- A task that isn't ended, and whose job they don't know.
+abbrev pub is_strange : Task → Bool
+is_strange task = is_unfinished task.stage && not (is_known task.job)
+
+-- What is told of such tasks: the job of the first, and how many there are.
+abbrev pub told_of : List Task → Option UnknownJob
+told_of [] = None
+told_of (task ∷ tasks) = Some (record { job = task.job; tasks = length tasks + 1 })
+
+-- What is told of these tasks.
+abbrev pub unknown_in : List Task → Option UnknownJob
+unknown_in tasks = told_of (filter is_strange tasks)
+
+-- ---- for private functions: no public contract cites what follows
+
+-- A task in this phase isn't ended.
+abbrev pub is_unended : Phase → Bool
+is_unended phase.Held = true
+is_unended phase.Ready = true
+is_unended phase.Running = true
+is_unended _ = false
+
+-- This is seen of a task.
+abbrev pub IsSeen : Task → TaskLook → Type 0
+IsSeen task look = (task.job ≡ look.job) × (is_unfinished task.stage ≡ is_unended look.phase)

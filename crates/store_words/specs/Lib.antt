@@ -1,0 +1,12 @@
+pub mod Demos
+pub mod Endings
+pub mod Failures
+pub mod Hints
+pub mod Known
+pub mod Lasting
+pub mod Looks
+pub mod Replacements
+pub mod Sources
+pub mod Stores
+pub mod Timed
+pub mod Words

@@ -1,0 +1,105 @@
+-- What a renewal in place does: a store is made beside another one, of what isn't finished in it,
+-- and put in its place.
+use Rattle.std.specs.Prelude.{◌≡◌, ◌⊎◌, ℕ, true, List, Option, Some, ⊤, Result, Ok, Err}
+use Rattle.run_model.specs.declared.layouts.Layout.{Layout}
+use Rattle.run_model.specs.Layouts.{layout_of}
+use Rattle.run_disk.specs.Disk.{DiskState}
+use Rattle.book_model.specs.declared.migrations.MigrateFault.{MigrateFault}
+use Rattle.console_lines.specs.declared.faults.RunFault.TheVariants.{Memory}
+use Rattle.store_words.specs.declared.endings.Done.{Done}
+use Rattle.store_words.specs.declared.failures.Failure.{Failure}
+use Rattle.store_words.specs.declared.renewals.Kept.{Kept}
+use Rattle.store_words.specs.Failures.{AnswersAlone, FailsOf, HasNoFile, HasNoSize, IsUnput}
+use Rattle.store_files.specs.Files.{FilesView, Holds, HoldsAlone, IsKept, IsNotMade, IsReplaced}
+use Rattle.store_files.specs.Files.{IsSettled, Makes, beside}
+use Rattle.store_words.specs.Stores.{DoesPrint, Remakes, renewed_line}
+
+module _ {F D : Type 0} (state : D → DiskState) (seen : FilesView F D) where
+  -- The file of this name was had for this program alone, and taken away; or nothing was done.
+  abbrev pub Clears : (name : List ℕ) → (f0 f1 : F) → Type 0
+  Clears name f0 f1 =
+      (f1 ≡ f0) ⊎ ((rest : D) × (opened : F) × seen.opens f0 name rest opened
+      × seen.removes opened name f1)
+
+  -- The file of this name was made anew, with the size of a store of this layout, and no other file
+  -- touched. What was there before was taken away.
+  pub record MakesBeside (name : List ℕ) (layout : Layout) (given : D) (f0 f1 : F) : Type 0 where
+    pub before : F
+    pub cleared : Clears name f0 before
+    pub makes : Makes state seen name layout true true given before f1
+
+  -- The file of this name couldn't be made anew, and no other file was touched. What was there
+  -- before may be gone, and what was made of it may be there.
+  pub record LacksBeside (name : List ℕ) (f0 f1 : F) : Type 0 where
+    pub before : F
+    pub cleared : Clears name f0 before
+    pub only : IsNotMade seen name true before f1
+
+  -- A disk couldn't be put in the place of the file of the second name, which is the disk `over`,
+  -- or isn't known to last there; and the file of the first name was taken away.
+  pub record IsNotPut (disk over : D) (from to : List ℕ) (f0 f1 : F) : Type 0 where
+    pub tried : F
+    pub which : IsKept seen disk over from to f0 tried ⊎ IsReplaced seen disk from to f0 tried
+    pub removed : seen.removes tried from f1
+
+  -- The file beside was taken away, and that of this name is the disk that was read.
+  pub record IsNotBeside (store : List ℕ) (read : D) (f0 f1 : F) : Type 0 where
+    pub bare : F
+    pub removed : seen.removes f0 (beside store) bare
+    pub closes : seen.puts bare store read f1
+
+  -- A store was made in the file beside the one of this name, of what was read there. Then it was
+  -- put in its place, and how much is left was printed; or it couldn't be put there, which is told.
+  -- Or none was made.
+  abbrev pub Puts : (store : List ℕ) → Result Kept MigrateFault → (read left : D)
+      → Result Done Failure → (f0 f1 : F) → (w0 w1 : Option (List ℕ)) → Type 0
+  Puts store (Ok kept) read left answer f0 f1 w0 w1 =
+      (IsReplaced seen left (beside store) store f0 f1 × DoesPrint (renewed_line kept) answer w0 w1)
+      ⊎ (IsNotPut left read (beside store) store f0 f1
+      × ((failure : Failure) × (answer ≡ Err failure) × IsUnput store failure) × (w1 ≡ w0))
+  Puts store (Err why) read left answer f0 f1 w0 w1 =
+      IsNotBeside store read f0 f1 × FailsOf why store (beside store) answer × (w1 ≡ w0)
+
+  -- The store on the one disk was renewed to the other one, the file beside, and that put in its
+  -- place.
+  pub record EndsInPlace (store : List ℕ) (source given : D) (answer : Result Done Failure)
+      (f0 f1 : F) (w0 w1 : Option (List ℕ)) : Type 0 where
+    pub read : D
+    pub left : D
+    pub done : Result Kept MigrateFault
+    pub remakes : Remakes state state source given done read left
+    pub puts : Puts store done read left answer f0 f1 w0 w1
+
+  -- The file of this name was opened for this program alone, and one beside it made for a store of
+  -- its layout.
+  pub record RenewsInPlace (store : List ℕ) (answer : Result Done Failure) (f0 f1 : F)
+      (w0 w1 : Option (List ℕ)) : Type 0 where
+    pub source : D
+    pub layout : Layout
+    pub given : D
+    pub opened : F
+    pub made : F
+    pub opens : seen.opens f0 store source opened
+    pub settled : IsSettled (state source)
+    pub fits : layout_of (state source).size ≡ Some layout
+    pub makes : MakesBeside (beside store) layout given opened made
+    pub ends : EndsInPlace store source given answer made f1 w0 w1
+
+  -- The file of this name was opened, and given back as it was: it has no store's size, or there
+  -- was no memory for a name; or the file beside wasn't had, and no other one touched.
+  abbrev pub LeavesInPlace : (store : List ℕ) → Result Done Failure → (f0 f1 : F) → Type 0
+  LeavesInPlace store answer f0 f1 =
+      HasNoSize state (λ source. HoldsAlone seen seen.opens store source source f0 f1) store answer
+      ⊎ ((AnswersAlone {T = ⊤} (Err Memory) answer × (source : D)
+      × HoldsAlone seen seen.opens store source source f0 f1)
+      ⊎ (HasNoFile (beside store) answer × (source : D)
+      × Holds seen seen.opens store (LacksBeside (beside store)) source source f0 f1))
+
+  -- The store in the file of this name was renewed in its place; or its file wasn't had, or was
+  -- left as it was.
+  abbrev pub DoesRenewInPlace : (store : List ℕ) → Result Done Failure → (f0 f1 : F)
+      → (w0 w1 : Option (List ℕ)) → Type 0
+  DoesRenewInPlace store answer f0 f1 w0 w1 =
+      (HasNoFile store answer × (f1 ≡ f0) × (w1 ≡ w0))
+      ⊎ ((LeavesInPlace store answer f0 f1 × (w1 ≡ w0))
+      ⊎ RenewsInPlace store answer f0 f1 w0 w1)

@@ -1,0 +1,68 @@
+//! Which jobs the program's crews know, and which tasks of a store they don't.
+
+ghost use Rattle.std.specs.Prelude.{◌≡◌, ◌<◌, ◌≤◌, ◌+◌, ◌++◌, ◌∷◌, [], ℕ, List};
+ghost use Rattle.std.specs.Prelude.{IfSome};
+ghost use Rattle.run_model.specs.declared.tasks.Task.{Task};
+ghost use Rattle.store_words.specs.Known.{IsSeen, is_known, is_unended, unknown_in};
+
+use run_model::{Name, Phase, TaskLook};
+use run_state::State;
+use std::alloc::Allocator;
+
+/// The tasks of a store that aren't ended and whose jobs the crews don't know: the job of the one
+/// with the least number, and how many there are.
+#[derive(Drop)]
+pub struct UnknownJob {
+    pub job: Name,
+    pub tasks: u16,
+}
+
+/// What is printed of the tasks of a state that aren't ended and whose jobs aren't known, if there
+/// are any.
+pub fn unknown_in<B: Allocator>(state: &State<B>) -> Option<UnknownJob>
+    ensures { result ≡ unknown_in state.now.work.tasks }
+{
+    let mut found: Option<UnknownJob> = None;
+    for task in 0..state.task_count() as u16 {
+        found = with_task(found, &state.task(task).unwrap());
+    }
+    found
+}
+
+/// What is printed with one task more.
+fn with_task(found: Option<UnknownJob>, look: &TaskLook) -> Option<UnknownJob>
+    requires few { IfSome found (λ unknown. unknown.tasks < 65535) }
+    ensures more { (tasks : List Task) (task : Task) → found ≡ unknown_in tasks
+        → IsSeen task look.now → result ≡ unknown_in (tasks ++ task ∷ []) }
+    ensures most { (n : ℕ) → IfSome found (λ unknown. unknown.tasks ≤ n)
+        → IfSome result (λ unknown. unknown.tasks ≤ n + 1) }
+{
+    if is_known(&look.job) || !is_unended(&look.phase) {
+        return found;
+    }
+    match found {
+        Some(found) => Some(UnknownJob {
+            job: found.job,
+            tasks: found.tasks + 1,
+        }),
+        None => Some(UnknownJob {
+            job: look.job.copy(),
+            tasks: 1,
+        }),
+    }
+}
+
+/// Returns whether the program's crews know this job.
+pub fn is_known(job: &Name) -> bool
+    ensures { result ≡ is_known job.now }
+{
+    let job = job.as_bytes();
+    job == b"spin".as_slice() || job == b"fail".as_slice() || job == b"copy".as_slice()
+}
+
+/// Returns whether a task in this phase is yet to end.
+fn is_unended(phase: &Phase) -> bool
+    ensures { result ≡ is_unended phase.now }
+{
+    matches!(phase, Phase::Held | Phase::Ready | Phase::Running)
+}

@@ -1,0 +1,142 @@
+//! A renewal in place: a store is made beside another one, of what isn't finished in it, and put in
+//! its place.
+
+ghost use Rattle.std.specs.Prelude.{◌≡◌, IfOk, OnErr, OnOk};
+ghost use Rattle.std.specs.String.{string_bytes};
+ghost use Rattle.store_files.specs.Files.{IsReplaced, IsSettled, beside};
+ghost use Rattle.store_words.specs.Replacements.{DoesRenewInPlace, EndsInPlace, IsNotPut};
+ghost use Rattle.store_words.specs.Replacements.{LacksBeside, MakesBeside};
+
+use crate::endings::Done;
+use crate::failures::{
+    Failure, FileName, done_alone, failed_of, failed_over, no_file, not_had, not_put,
+};
+use crate::renewals::{print_sizes, renew};
+use console_lines::RunFault;
+use run_disk::RunDisk;
+use run_lines::stopped;
+use run_model::{Fault, Layout};
+use std::alloc::{AllocError, Global};
+use std::io::Write;
+use store_files::{BESIDE, Files, Made, Opened, Reason};
+
+/// Opens the store in the file of this name for this program alone, makes a store of the same size
+/// beside it, of what isn't finished in it, puts that in its place, and prints how much is left.
+/// Until then the store is only read; if it can't be done, the new one is taken away again.
+pub fn renew_in_place<'a, F: Files, O: Write>(
+    alloc: Global,
+    store: &'a str,
+    files: &mut F,
+    output: &mut O,
+) -> Result<Done, Failure<'a>>
+    ensures { DoesRenewInPlace F.Disk.state F.seen store.now result files.old files.new
+        (O.contents output.old) (O.contents output.new) }
+{
+    let Opened { disk, why } = match files.open(store) {
+        Ok(opened) => opened,
+        Err(reason) => return Err(no_file(store, reason)),
+    };
+    let Some(layout) = Layout::of(disk.size()) else {
+        files.close(store, disk);
+        return Err(failed_over(stopped(Fault::WrongSize), store, &why));
+    };
+    let Ok(name) = name_beside(alloc, store) else {
+        files.close(store, disk);
+        return done_alone(Err(RunFault::Memory));
+    };
+    match make_beside(name.as_str(), store, layout, files) {
+        Ok(made) => {
+            let stored = Opened { disk, why };
+            put_renewed(alloc, store, stored, name.as_str(), made, files, output)
+        }
+        Err(reason) => {
+            files.close(store, disk);
+            Err(not_had(FileName::Beside(store), reason))
+        }
+    }
+}
+
+/// The name of the file beside the one of this name.
+fn name_beside(alloc: Global, store: &str) -> Result<String, AllocError>
+    ensures { IfOk result (λ name. string_bytes name ≡ beside store.now) }
+{
+    [store, BESIDE].concat(alloc)
+}
+
+/// The file of this name, beside the one of the other name and like it, with the size of a store of
+/// this layout. One that a killed renewal left is taken away first, unless another program has it.
+fn make_beside<F: Files>(
+    name: &str,
+    store: &str,
+    layout: Layout,
+    files: &mut F,
+) -> Result<Made<F::Disk, F::Why>, Reason>
+    ensures made { IfOk result (λ made. MakesBeside F.Disk.state F.seen name.now layout
+        made.disk files.old files.new) }
+    ensures not { OnErr result (LacksBeside F.Disk.state F.seen name.now files.old files.new) }
+{
+    match files.open(name) {
+        Ok(_left) => files.remove(name),
+        Err(Reason::InUse) => return Err(Reason::InUse),
+        Err(_) => (),
+    }
+    files.create_new(name, Some(store), layout.store_len())
+}
+
+/// Makes of the new file, which has this name, a store of what isn't finished in the one that is
+/// open, and puts it in its place; then prints how much is left. If either can't be done, the new
+/// file is taken away again.
+fn put_renewed<'a, F: Files, O: Write>(
+    alloc: Global,
+    store: &'a str,
+    stored: Opened<F::Disk, F::Why>,
+    name: &str,
+    made: Made<F::Disk, F::Why>,
+    files: &mut F,
+    output: &mut O,
+) -> Result<Done, Failure<'a>>
+    requires settled { IsSettled (F.Disk.state made.disk) }
+    requires named { name.now ≡ beside store.now }
+    ensures { EndsInPlace F.Disk.state F.seen store.now stored.disk made.disk result
+        files.old files.new (O.contents output.old) (O.contents output.new) }
+{
+    let Opened {
+        disk: mut source,
+        why: why_old,
+    } = stored;
+    let Made { disk, why, .. } = made;
+    let (done, left) = renew(alloc, &mut source, disk);
+    match done {
+        Ok(kept) => match put(left, source, name, store, files) {
+            Ok(()) => done_alone(print_sizes(kept, output)),
+            Err(reason) => Err(not_put(store, reason)),
+        },
+        Err(fault) => {
+            files.remove(name);
+            files.close(store, source);
+            let beside = FileName::Beside(store);
+            Err(failed_of(fault, FileName::Own(store), &why_old, beside, &why))
+        }
+    }
+}
+
+/// Puts this disk, which is the file of the first name, in the place of the other one, the file of
+/// the second, or takes it away.
+fn put<F: Files>(
+    disk: F::Disk,
+    over: F::Disk,
+    from: &str,
+    to: &str,
+    files: &mut F,
+) -> Result<(), Reason>
+    requires settled { IsSettled (F.Disk.state disk) }
+    ensures put { OnOk result (IsReplaced F.seen disk from.now to.now files.old files.new) }
+    ensures not { OnErr result
+        (IsNotPut F.Disk.state F.seen disk over from.now to.now files.old files.new) }
+{
+    let done = files.replace(disk, over, from, to);
+    if done.is_err() {
+        files.remove(from);
+    }
+    done
+}

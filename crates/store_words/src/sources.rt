@@ -1,0 +1,47 @@
+//! The source of a migration or of a renewal: an old store, which is read whole before the file of
+//! the new one is opened or made.
+
+ghost use Rattle.std.specs.Prelude.{◌≡◌, IfErr, IfOk, Some};
+ghost use Rattle.store_words.specs.Sources.{Serves, ServesNot, migrated_layout};
+
+use run_disk::RunDisk;
+use run_lines::Book;
+use run_model::{Fault, Layout};
+use std::alloc::Global;
+
+/// The layout of the store that a migration makes of one of so many bytes: a large one of a small
+/// one.
+pub fn migrated_layout(size: u64) -> Option<Layout>
+    ensures { result ≡ migrated_layout size }
+{
+    match Layout::of(size) {
+        Some(Layout::Small) => Some(Layout::Large),
+        Some(Layout::Large) | None => None,
+    }
+}
+
+/// Reads the store on a disk whole, if a store of this layout is to be made of it, and returns the
+/// layout. `WrongSize` if none is made of a store of its size, `NumbersSpent` if it has 2^62 events
+/// or more; else the faults of a recovery.
+pub fn read_source<D: RunDisk>(
+    alloc: Global,
+    disk: &mut D,
+    to: Option<Layout>,
+) -> Result<Layout, Fault>
+    ensures layout { IfOk result (λ layout. to ≡ Some layout) }
+    ensures serves { IfOk result (λ layout. Serves (D.state disk.old) (D.state disk.new)) }
+    ensures not { IfErr result (λ why. ServesNot D.state to disk.old why disk.new) }
+{
+    let Some(layout) = to else {
+        return Err(Fault::WrongSize);
+    };
+    let state = match Book::recover(alloc, disk) {
+        Ok(state) => state,
+        Err(fault) => return Err(fault),
+    };
+    if state.count() >= 1 << 62 {
+        drop(state);
+        return Err(Fault::NumbersSpent);
+    }
+    Ok(layout)
+}
