@@ -5,9 +5,9 @@ use Rattle.store_files.specs.Files.{FilesView, HoldsAlone}
 use Rattle.run_model.specs.declared.answers.Reply.{Reply}
 use Rattle.run_model.specs.declared.commands.Step.{Step}
 use Rattle.book_model.specs.Steps.{StepsOn}
-use Rattle.night_program.specs.Lasting.{FindsLeft, IsReadAlone, Reading, RunLeaves, RunsLines}
-use Rattle.night_program.specs.Lasting.{Scripting}
-use Rattle.night_program.specs.Stores.{RunsOver}
+use Rattle.night_program.specs.Lasting.{Reading, RunLeaves, Scripting}
+use Rattle.store_words.specs.Lasting.{FindsLeft, IsReadAlone, RunsLines}
+use Rattle.store_words.specs.Stores.{RunsOver}
 
 -- The file of this name was opened, for writing or to be read, and given back; and then it was
 -- opened again.

@@ -1,4 +1,5 @@
-//! Tests of the program, over words, files, an input and outputs in memory, and of its crews.
+//! Tests of the program, over words, files, an input and outputs in memory, of its crews, and of
+//! how its words, lines and replies are read and written.
 #![tactic(auto)]
 
 #[cfg(test)]
@@ -39,6 +40,8 @@ pub mod shelves;
 mod slow_syncs;
 #[cfg(test)]
 mod stores;
+#[cfg(test)]
+mod texts;
 #[cfg(test)]
 mod times;
 #[cfg(test)]

@@ -3,7 +3,7 @@
 use crate::asserts::{done, holds};
 use crate::shelves::{Shelf, said};
 use night_program::{CopyJob, Ended, FailJob, SpinJob, Streams, night};
-use night_words::WordsFault;
+use night_requests::WordsFault;
 use run_crew::Job;
 use run_model::Moment;
 use std::alloc::Global;

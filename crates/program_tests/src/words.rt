@@ -5,7 +5,7 @@ use crate::closed::Closed;
 use crate::runs::{assert_given, no_times, run_over, run_words, words_of};
 use crate::shelves::Shelf;
 use crate::stores::{shelved, zeros};
-use night_words::WordsFault;
+use night_requests::WordsFault;
 use std::alloc::Global;
 use std::process::Abort;
 use std::sync::Wait;

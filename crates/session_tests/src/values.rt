@@ -1,4 +1,6 @@
-//! Names, texts, moments and limits of a test's bytes and numbers.
+//! Names, texts, moments and limits of a test's bytes and numbers, and each call of the values.
+
+mod each;
 
 use run_model::{Limit, Moment, Name, Text};
 use std::process::Abort;

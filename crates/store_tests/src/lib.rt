@@ -1,9 +1,11 @@
-//! Tests of the store, layer by layer: disks, segments, slots, the places of both layouts, and the
-//! journal over them.
+//! Tests of the store, layer by layer: disks, segments, slots, the places of both layouts, the
+//! journal over them, and the durable book.
 #![tactic(auto)]
 
 #[cfg(test)]
 mod asserts;
+#[cfg(test)]
+mod book;
 #[cfg(test)]
 mod bytes;
 #[cfg(test)]
