@@ -11,6 +11,7 @@ pub mod LongCodecs
 pub mod NumberLaws
 pub mod Parts
 pub mod Places
+pub mod Readers
 pub mod RecordLaws
 pub mod RowCodecs
 pub mod RowFields

@@ -6,4 +6,3 @@ pub mod Naming
 pub mod Restarting
 pub mod Starting
 pub mod Staying
-pub mod Renewing

@@ -11,10 +11,8 @@ mod asking;
 mod hits;
 mod outcomes;
 mod questions;
-mod renewals;
 mod states;
 mod wishes;
 
 pub use questions::LookView;
-pub use renewals::Renewal;
 pub use states::State;

@@ -21,6 +21,7 @@ pub mod Over
 pub mod PassAnew
 pub mod Raising
 pub mod Refusals
+pub mod Renewing
 pub mod Replies
 pub mod RowsAnew
 pub mod RulesKept

@@ -5,8 +5,8 @@
 //! and of this crate alone. By [`laws`] the renewed store and the one that wasn't go on alike.
 //!
 //! The code that renews stands beside the laws: [`marks`] are flags of the rows that are kept, with
-//! their new numbers; [`flags`] says which rows those are; and [`rows`] puts them, told anew, into
-//! an image.
+//! their new numbers; [`flags`] says which rows those are; [`rows`] puts them, told anew, into an
+//! image; and a [`Renewal`] does so for a whole state.
 #![tactic(auto)]
 
 pub mod days;
@@ -17,3 +17,6 @@ pub mod laws;
 pub mod marks;
 pub mod renewals;
 pub mod rows;
+mod wholes;
+
+pub use wholes::Renewal;

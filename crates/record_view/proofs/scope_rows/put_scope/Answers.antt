@@ -23,10 +23,10 @@ returns-clause-written c =
     let hit = hit_bytes (option_map hit_of row.hit) in
     rw (
       c.put_hit.ensures.written,
-      c.put_row_kind-end.ensures.written,
+      c.put_kind-end.ensures.written,
       c.put_u16-end.ensures.written,
       c.put_text-end.ensures.written,
     )
     (put_four c.args.out.now c.args.at _ _ _ name parent kind hit
-    c.put_text-end.ensures.end c.put_u16-end.ensures.end c.put_row_kind-end.ensures.end
+    c.put_text-end.ensures.end c.put_u16-end.ensures.end c.put_kind-end.ensures.end
     (omega (arith, c.requires.room, length_four name parent kind hit)))

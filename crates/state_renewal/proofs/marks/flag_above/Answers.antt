@@ -4,7 +4,9 @@ use Rattle.state_renewal.proofs.Raising.{AreRaised, raised_first, raised_same, r
 use Rattle.state_renewal.proofs.Raising.{raised_all}
 use Rattle.state_renewal.proofs.marks.flag_above.Goals.{then-flags-s+then-not-is_root}
 use Rattle.state_renewal.proofs.marks.flag_above.Goals.{else-flags-s}
-use Rattle.state_renewal.proofs.marks.flag_above.Goals.{else-flags-s-via-then-flags-s+else-not-is_root}
+use Rattle.state_renewal.proofs.marks.flag_above.Goals.{
+  else-flags-s-via-then-flags-s+else-not-is_root,
+}
 use Rattle.state_renewal.proofs.marks.flag_above.Goals.{else-flags-s-via-else-flags-s}
 use Rattle.state_renewal.proofs.marks.flag_above.Goals as goal
 

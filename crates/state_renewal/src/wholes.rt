@@ -1,0 +1,185 @@
+//! A [`Renewal`] of a state holds which of its scopes, groups and tasks go on, and under which new
+//! numbers, and writes the image of them.
+
+ghost use Rattle.std.specs.List.{flat_map, AllByRecursion};
+ghost use Rattle.std.specs.Prelude.{◌≡◌, ◌+◌, ◌*◌, ◌<◌, ◌≤◌, ◌^◌, drop, length, true, IfOk, IfErr};
+ghost use Rattle.std.specs.Prelude.{IsTrue};
+ghost use Rattle.run_model.specs.declared.bounds.TheConstants.{GREATEST_MOMENT};
+ghost use Rattle.run_model.specs.declared.faults.Fault.TheVariants.{Memory};
+ghost use Rattle.record_view.specs.declared.heads.ImageVersion.TheVariants.{Two};
+ghost use Rattle.record_view.specs.Image.{greatest_image, group_bytes, head_of, image};
+ghost use Rattle.record_view.specs.Image.{is_kept_group, is_kept_scope, is_kept_task};
+ghost use Rattle.record_view.specs.Image.{scope_bytes, task_bytes};
+ghost use Rattle.record_view.specs.Keeping.{IsImage};
+ghost use Rattle.record_view.specs.Writing.{put_at};
+ghost use Rattle.state_renewal.specs.Marks.{AreMarks};
+ghost use Rattle.state_renewal.specs.Renewed.{fits_in, renewed, renewed_in};
+
+use crate::flags::{flag_groups, flag_scopes, flag_tasks};
+use crate::marks::Marks;
+use crate::rows::{put_groups, put_scopes, put_tasks};
+use record_view::{ImageHead, ImageVersion, put_head};
+use run_model::{Fault, Layout};
+use run_state::State;
+use std::alloc::{Allocator, Global};
+
+/// What of a state goes on.
+#[derive(Drop)]
+pub struct Renewal<A: Allocator = Global> {
+    /// Which scopes, and under which numbers.
+    pub scopes: Marks<A>,
+    /// Which groups.
+    pub groups: Marks<A>,
+    /// Which tasks.
+    pub tasks: Marks<A>,
+}
+
+impl<B: Allocator + Copy> Renewal<B> {
+    /// What of a state goes on when it is renewed. `Memory` if the memory for that is refused.
+    pub fn new<A: Allocator>(alloc: B, state: &State<A>) -> Result<Renewal<B>, Fault>
+        ensures marks { IfOk result (λ r. AreMarks state.now r.scopes r.groups r.tasks) }
+        ensures fault { IfErr result (λ fault. fault ≡ Memory) }
+    {
+        let _rules = state.count();
+        let _few = (state.scope_count(), state.group_count(), state.task_count());
+        let scopes = Marks::new(alloc, flag_scopes(alloc, state.tree(), state.groups())?)?;
+        let groups = Marks::new(alloc, flag_groups(alloc, state.groups(), scopes.flags())?)?;
+        let tasks = Marks::new(alloc, flag_tasks(alloc, state.groups(), groups.flags())?)?;
+        Ok(Renewal {
+            scopes,
+            groups,
+            tasks,
+        })
+    }
+}
+
+impl<B: Allocator> Renewal<B> {
+    /// How many scopes go on, root among them.
+    pub fn scopes_left<A: Allocator>(&self, state: &State<A>) -> u16
+        requires marks { AreMarks state.now self.now.scopes self.now.groups self.now.tasks }
+        ensures count { result ≡ length (renewed state.now).tree.scopes }
+        ensures root { 1 ≤ result }
+    {
+        let _rules = state.count();
+        self.scopes.number(state.scope_count() as u16)
+    }
+
+    /// How many groups go on.
+    pub fn groups_left<A: Allocator>(&self, state: &State<A>) -> u16
+        requires marks { AreMarks state.now self.now.scopes self.now.groups self.now.tasks }
+        ensures count { result ≡ length (renewed state.now).work.groups }
+    {
+        self.groups.number(state.group_count() as u16)
+    }
+
+    /// How many tasks go on.
+    pub fn tasks_left<A: Allocator>(&self, state: &State<A>) -> u16
+        requires marks { AreMarks state.now self.now.scopes self.now.groups self.now.tasks }
+        ensures count { result ≡ length (renewed state.now).work.tasks }
+    {
+        self.tasks.number(state.task_count() as u16)
+    }
+
+    /// Reports whether the renewed state fits in a store of this layout.
+    pub fn fits<A: Allocator>(&self, state: &State<A>, layout: Layout) -> bool
+        requires marks { AreMarks state.now self.now.scopes self.now.groups self.now.tasks }
+        ensures { result ≡ fits_in layout (renewed state.now) }
+    {
+        self.scopes_left(state) as usize <= layout.most_scopes()
+            && self.tasks_left(state) as usize <= layout.most_tasks()
+    }
+
+    /// Writes the image of the renewed state at the front of the buffer, for a store of a layout
+    /// in which it fits, and returns its length. Takes no memory.
+    ///
+    /// The state and the layout come from the caller, and so there are two clauses more than those
+    /// of [`State::write_image`].
+    pub fn write_image<A: Allocator>(
+        &self,
+        state: &State<A>,
+        layout: Layout,
+        out: &mut [u8],
+    ) -> usize
+        requires marks { AreMarks state.now self.now.scopes self.now.groups self.now.tasks }
+        requires few { state.now.count < 2 ^ 63 }
+        requires fits { fits_in layout (renewed state.now) ≡ true }
+        requires room { greatest_image Two layout ≤ length out.old }
+        ensures len { result ≡ length (image (renewed state.now)) }
+        ensures written { out.new ≡ put_at out.old 0 (image (renewed state.now)) }
+        ensures image { IsImage Two layout (image (renewed state.now))
+            (renewed_in layout state.now) }
+    {
+        let _rules = state.count();
+        let end = put_head(out, 0, &self.renewed_head(state));
+        let end = self.put_renewed_scopes(state, out, end);
+        let end = self.put_renewed_groups(state, out, end);
+        self.put_renewed_tasks(state, out, end)
+    }
+
+    /// What stands in front of the renewed rows.
+    fn renewed_head<A: Allocator>(&self, state: &State<A>) -> ImageHead
+        requires marks { AreMarks state.now self.now.scopes self.now.groups self.now.tasks }
+        ensures head { result ≡ head_of Two (renewed state.now) }
+        ensures clock { state.now.tree.clock ≤ GREATEST_MOMENT }
+    {
+        ImageHead {
+            version: ImageVersion::Two,
+            clock: state.clock().get(),
+            count: state.count(),
+            scopes: self.scopes_left(state) - 1,
+            groups: self.groups_left(state),
+            tasks: self.tasks_left(state),
+        }
+    }
+
+    /// Puts the renewed scopes after root at a place, and returns the place after them.
+    fn put_renewed_scopes<A: Allocator>(&self, state: &State<A>, out: &mut [u8], at: usize) -> usize
+        requires marks { AreMarks state.now self.now.scopes self.now.groups self.now.tasks }
+        requires room { at + 192 * length (drop 1 (renewed state.now).tree.scopes)
+            ≤ length out.old }
+        ensures end { result ≡ at
+            + length (flat_map scope_bytes (drop 1 (renewed state.now).tree.scopes)) }
+        ensures written { out.new ≡ put_at out.old at
+            (flat_map scope_bytes (drop 1 (renewed state.now).tree.scopes)) }
+        ensures kept { AllByRecursion (λ row. IsTrue (is_kept_scope row))
+            (drop 1 (renewed state.now).tree.scopes) }
+        ensures most { result ≤ at + 192 * length (drop 1 (renewed state.now).tree.scopes) }
+    {
+        let _rules = state.count();
+        let rows = state.tree().rows();
+        let flags = self.scopes.flags();
+        put_scopes(&rows[1..], &flags[1..], &self.scopes, out, at)
+    }
+
+    /// Puts the renewed groups at a place, and returns the place after them.
+    fn put_renewed_groups<A: Allocator>(&self, state: &State<A>, out: &mut [u8], at: usize) -> usize
+        requires marks { AreMarks state.now self.now.scopes self.now.groups self.now.tasks }
+        requires room { at + 103 * length (renewed state.now).work.groups ≤ length out.old }
+        ensures end { result ≡ at + length (flat_map group_bytes (renewed state.now).work.groups) }
+        ensures written { out.new ≡ put_at out.old at
+            (flat_map group_bytes (renewed state.now).work.groups) }
+        ensures kept { AllByRecursion (λ row. IsTrue (is_kept_group row))
+            (renewed state.now).work.groups }
+        ensures most { result ≤ at + 103 * length (renewed state.now).work.groups }
+    {
+        let _rules = state.count();
+        put_groups(state.groups(), self.groups.flags(), &self.scopes, out, at)
+    }
+
+    /// Puts the renewed tasks at a place, and returns the place after them.
+    fn put_renewed_tasks<A: Allocator>(&self, state: &State<A>, out: &mut [u8], at: usize) -> usize
+        requires marks { AreMarks state.now self.now.scopes self.now.groups self.now.tasks }
+        requires room { at + 136 * length (renewed state.now).work.tasks ≤ length out.old }
+        ensures end { result ≡ at
+            + length (flat_map (task_bytes Two) (renewed state.now).work.tasks) }
+        ensures written { out.new ≡ put_at out.old at
+            (flat_map (task_bytes Two) (renewed state.now).work.tasks) }
+        ensures kept { AllByRecursion (λ row. IsTrue (is_kept_task Two row))
+            (renewed state.now).work.tasks }
+        ensures most { result ≤ at + 136 * length (renewed state.now).work.tasks }
+    {
+        let _rules = state.count();
+        let _few = state.task_count();
+        put_tasks(state.groups(), &self.groups, &self.tasks, out, at)
+    }
+}
