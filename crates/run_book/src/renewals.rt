@@ -20,7 +20,8 @@ use book_model::MigrateFault;
 use run_disk::RunDisk;
 use run_journal::Journal;
 use run_model::{Fault, Layout};
-use run_state::{Renewal, State};
+use run_state::State;
+use state_renewal::Renewal;
 use std::alloc::Allocator;
 
 /// Makes a store of what isn't finished in another one, and of what that stands on. The new disk
@@ -94,10 +95,10 @@ fn write_left<E: RunDisk, A: Allocator + Copy>(
         (E.state new.new)) }
     ensures not { IfErr result (λ fault. WritesNot E.state state.now new.old fault new.new) }
 {
-    let Ok(renewal) = state.renewal(alloc) else {
+    let Ok(renewal) = Renewal::new(alloc, state) else {
         return Err(MigrateFault::Memory);
     };
-    if !state.fits_renewed(&renewal, to) {
+    if !renewal.fits(state, to) {
         drop(renewal);
         return Err(MigrateFault::New(Fault::WrongSize));
     }
@@ -148,5 +149,5 @@ fn fill_renewed<A: Allocator>(
     ensures image { take result (drop 12 body.new) ≡ image (renewed state.now) }
     ensures is_image { IsImage Two to (image (renewed state.now)) (renewed_in to state.now) }
 {
-    state.write_renewed(renewal, to, &mut body[HEAD..])
+    renewal.write_image(state, to, &mut body[HEAD..])
 }

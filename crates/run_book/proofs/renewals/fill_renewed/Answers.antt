@@ -11,13 +11,13 @@ returns-clause-most g c =
     let p = c.args.state.now in
     omega (
       arith,
-      c.write_renewed.ensures.len,
+      c.write_image.ensures.len,
       image_most Two c.args.to (image (renewed p)) (renewed_in c.args.to p)
-          c.write_renewed.ensures.image,
+          c.write_image.ensures.image,
     )
 
 pub returns-clause-image : goal.returns-clause-image
 returns-clause-image g c =
-    filled 12 _ c.write_renewed.result c.args.body.now c.write_renewed.new.out _
-    (image (renewed c.args.state.now)) (omega (arith, c.requires.size)) c.write_renewed.ensures.len
-    c.write_renewed.ensures.written
+    filled 12 _ c.write_image.result c.args.body.now c.write_image.new.out _
+    (image (renewed c.args.state.now)) (omega (arith, c.requires.size)) c.write_image.ensures.len
+    c.write_image.ensures.written
