@@ -142,16 +142,14 @@ class Night:
         end = time.monotonic() + 30
         while driver.poll() is None and twin.poll() is None and time.monotonic() < end:
             time.sleep(0.01)
-        first, other = (driver, twin) if driver.poll() is not None else (twin, driver)
-        if first.poll() == 3:
-            first.communicate()
-        elif first.poll() is not None and other.poll() is None:
-            # (it has done all before the other one began)
+        # (a busy machine may leave both ended by now)
+        first, second = driver.poll(), twin.poll()
+        self.room.holds((first, second) != (3, 3), "4: of two drivers at a time none ran")
+        has_it, other = (twin, driver) if first == 3 or second in (0, 1) else (driver, twin)
+        if (first, second) != (None, None):
+            # (it had no store, or found all done)
             other.communicate()
-            return first
-        self.room.holds(not (first.poll() == 3 and other.poll() == 3),
-                        "4: of two drivers at a time none ran")
-        return other
+        return has_it
 
     def wait_for_moment(self, driver: subprocess.Popen[str]) -> None:
         """Waits until some commands more have told something, or a time."""
