@@ -1,16 +1,18 @@
 """Takes steps that wait for one another, as many at a time as processors and memory allow.
 
-A step of the longest chain gets most processors, since nothing shortens a run but what shortens
-that chain; another step gets one, and what no step waits for.
+A step gets as many processors as help it if it begins a chain that is nearly the longest of what is
+left, since nothing else shortens a run; another step gets one.
 """
+import time
 from collections.abc import Callable, Mapping, Set
 from concurrent.futures import FIRST_COMPLETED, Future, ThreadPoolExecutor, wait
 from dataclasses import dataclass
+from typing import NamedTuple
 
 from schedule import behind
 
-# More than so many processors make a proof little faster.
-MOST_JOBS = 4
+# So much of the longest chain is nearly the longest.
+NEARLY = 0.8
 # What each further job adds to the memory of a proof.
 FOR_A_JOB = 0.6
 
@@ -20,10 +22,17 @@ class Step:
     waits: Set[str]
     seconds: float
     memory: float
+    most: int  # as many processors help it
     take: Callable[[int], bool]  # gets how many processors it may use, returns whether all is well
 
     def needs(self, jobs: int) -> float:
         return self.memory * (1 + FOR_A_JOB * (jobs - 1))
+
+
+class Running(NamedTuple):
+    name: str
+    jobs: int
+    began: float
 
 
 class Lanes:
@@ -32,7 +41,7 @@ class Lanes:
     def __init__(self, steps: Mapping[str, Step], lanes: int, memory: float):
         self.steps, self.lanes, self.memory = steps, lanes, memory
         self.left, self.well = set(steps), dict[str, bool]()
-        self.running: dict[Future[bool], tuple[str, int]] = {}
+        self.running: dict[Future[bool], Running] = {}
         self.long = behind({name: it.waits for name, it in steps.items()},
                            {name: it.seconds for name, it in steps.items()})
 
@@ -42,7 +51,7 @@ class Lanes:
         with ThreadPoolExecutor(self.lanes) as pool:
             while self.begin_all(pool) or self.running:
                 for done in wait(self.running, return_when=FIRST_COMPLETED).done:
-                    self.well[self.running.pop(done)[0]] = done.result()
+                    self.well[self.running.pop(done).name] = done.result()
         return self.well
 
     def begin_all(self, pool: ThreadPoolExecutor) -> bool:
@@ -53,7 +62,8 @@ class Lanes:
             jobs = self.jobs_for(name, others=len(ready) - at - 1)
             if jobs:
                 self.left.remove(name)
-                self.running[pool.submit(self.steps[name].take, jobs)] = name, jobs
+                future = pool.submit(self.steps[name].take, jobs)
+                self.running[future] = Running(name, jobs, time.monotonic())
                 has_begun = True
         return has_begun
 
@@ -63,16 +73,20 @@ class Lanes:
     def jobs_for(self, name: str, others: int) -> int:
         """Returns how many processors a step that is ready gets now, so many others being ready
         beside it: 0 where it has to wait for one, or for memory."""
-        idle = self.lanes - sum(jobs for _, jobs in self.running.values())
-        room = self.memory - sum(self.steps[it].needs(jobs) for it, jobs in self.running.values())
-        longest = max((self.long[it] for it in [*self.left, *self.names()]), default=0.0)
-        is_long = self.long[name] >= longest
+        step, running = self.steps[name], self.running.values()
+        idle = self.lanes - sum(it.jobs for it in running)
+        room = self.memory - sum(self.steps[it.name].needs(it.jobs) for it in running)
+        is_long = self.long[name] >= NEARLY * self.longest()
         jobs = idle - (others > 0) if is_long else 1 if self.left - {name} else idle
-        jobs = min(max(jobs, 1), MOST_JOBS, idle)
-        while jobs > 1 and self.steps[name].needs(jobs) > room:
+        jobs = min(max(jobs, 1), step.most, idle)
+        while jobs > 1 and step.needs(jobs) > room:
             jobs -= 1
         # (what doesn't fit alone is tried alone)
-        return jobs if jobs < 1 or self.steps[name].needs(jobs) <= room or not self.running else 0
+        return jobs if jobs < 1 or step.needs(jobs) <= room or not self.running else 0
 
-    def names(self) -> list[str]:
-        return [name for name, _ in self.running.values()]
+    def longest(self) -> float:
+        """Returns how long the longest chain of what is left takes."""
+        now = time.monotonic()
+        begun = [self.long[it.name] - min(now - it.began, self.steps[it.name].seconds)
+                 for it in self.running.values()]
+        return max([*begun, *(self.long[it] for it in self.left)], default=0.0)
