@@ -115,6 +115,34 @@ pub fn gather_line<A: Allocator + Copy, W: Write, D: RunDisk, B: Allocator>(
         gather_scope(done, deadline, gathered);
         return Ok(None);
     }
+    gather_asked(alloc, bytes, gathered, output, book)
+}
+
+/// The same, of a line that is read whole. It is apart, since a function zeroes its stack as it
+/// begins, and a question about a scope needs none of this one's.
+#[inline(never)]
+fn gather_asked<A: Allocator + Copy, W: Write, D: RunDisk, B: Allocator>(
+    alloc: A,
+    bytes: &[u8],
+    gathered: &mut Gathered,
+    output: &mut W,
+    book: &mut Book<D, B>,
+) -> Result<Option<Stray>, RunFault>
+    requires sound { book.old.journal.broken ≡ false }
+    ensures ran { (line : List ℕ) → asked_of line ≡ asked_of bytes.now
+        → OnOk result (Ran D.state (line ∷ []) book.old book.new
+        gathered.old.items gathered.new.items
+        (W.contents output.old) (W.contents output.new)) }
+    ensures cut { (line : List ℕ) → asked_of line ≡ asked_of bytes.now
+        → IfErr result (λ fault. Cut D.state fault (line ∷ []) book.old book.new
+        gathered.old.items (W.contents output.old) (W.contents output.new)) }
+    ensures strays { (line : List ℕ) → asked_of line ≡ asked_of bytes.now
+        → ends_in_return line ≡ ends_in_return bytes.now
+        → IfOk result (λ why. why ≡ stray_at book.old.session line) }
+    ensures sound { OnOk result (book.new.journal.broken ≡ false) }
+    ensures saved { IsSaving (asked_of bytes.now)
+        → OnOk result (book.new.durable ≡ book.new.session.state.count) }
+{
     let asked = read_line(bytes);
     if is_tally(&asked) {
         gather_tally(alloc, book.state(), gathered, output)?;
