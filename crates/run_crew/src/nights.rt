@@ -137,7 +137,6 @@ fn shifts_of<
                 (IsGates (G.lets gate.entry.now) (G.told gate.entry.now)) shift.notes) v.items) }
         {
             let flusher = scope.spawn(move || save_at(rt, shared, arrivals, bell))?;
-            let mut refused = false;
             for station in stations {
                 match scope.spawn_with(
                     GateOf { gate },
@@ -147,7 +146,8 @@ fn shifts_of<
                     { station.work(rt, shared, arrivals, bell, gate) },
                 ) {
                     Ok(handle) => handles.push_reserved(handle),
-                    Err(_) => refused = true,
+                    // a refused thread leaves no shift
+                    Err(_) => {}
                 }
             }
             for handle in handles {
@@ -155,10 +155,9 @@ fn shifts_of<
             }
             bell.close(rt);
             flusher.join(rt);
-            // the clauses above speak of them
-            let _ = &count;
+            // a clause above speaks of it
             let _ = &gate;
-            if refused {
+            if shifts.len() < count {
                 return Err(AllocError);
             }
             Ok(shifts)

@@ -1,24 +1,20 @@
-use Rattle.std.proofs.Common.{◌≡◌, ◌+◌, ◌≤◌, All, false, vec_len, vec_capacity}
+use Rattle.std.proofs.Common.{◌≡◌, ◌+◌, ◌≤◌, All, vec_len, vec_capacity}
 use Rattle.std.specs.Vec.Iter.{into_iter_items, into_iter_len}
 use Rattle.run_crew.specs.Courses.{IsGates, IsOfShift}
 use Rattle.run_crew.proofs.nights.fn.shifts_of.scope.Given as goal
 
 abbrev pub invariant-loop-station : goal.invariant-loop-station
 invariant-loop-station g l =
-    (l.count ≤ vec_capacity l.handles)
-    × (vec_len l.handles + into_iter_len l.station-iterator ≤ l.count)
-    × (l.refused ≡ false
-    → vec_len l.handles + into_iter_len l.station-iterator ≡ l.count)
+    (vec_len l.handles + into_iter_len l.station-iterator ≤ l.count)
+    × (l.count ≤ vec_capacity l.handles)
     × (vec_len l.shifts ≡ 0)
     × (l.count ≤ vec_capacity l.shifts)
     × All (λ h. h.promise.gate.now ≡ l.gate.now) l.handles.items
 
 abbrev pub invariant-loop-handle : goal.invariant-loop-handle
 invariant-loop-handle g l =
-    (l.count ≤ vec_capacity l.shifts)
-    × (vec_len l.shifts + into_iter_len l.handle-iterator ≤ l.count)
-    × (l.refused ≡ false
-    → vec_len l.shifts + into_iter_len l.handle-iterator ≡ l.count)
+    (vec_len l.shifts + into_iter_len l.handle-iterator ≤ l.count)
+    × (l.count ≤ vec_capacity l.shifts)
     × All (λ h. h.promise.gate.now ≡ l.gate.now) (into_iter_items l.handle-iterator)
     × All (λ shift. IsOfShift (IsGates (g.G.Gate.lets l.gate.now) (g.G.Gate.told l.gate.now))
     shift.notes) l.shifts.items
