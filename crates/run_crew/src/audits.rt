@@ -21,7 +21,7 @@ use std::sync::ledger::Ledger;
 ///
 /// If a finish is in no list, these are the number of lists, and 0. If only a task is left, ready
 /// or running, they are the number of lists, and the number of the least such task plus 1.
-#[derive(Clone, Copy, Debug, PartialEq, Eq)]
+#[derive(Clone, Copy, PartialEq, Eq)]
 pub struct Strayed {
     /// The number of the worker.
     pub worker: usize,

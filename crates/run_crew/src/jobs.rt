@@ -5,7 +5,7 @@ ghost use Rattle.std.specs.Prelude.{◌≡◌, ℕ, Bool, true, ⊤};
 use run_model::{Name, TaskInfo, Text};
 
 /// What a turn of a job answers.
-#[derive(Debug, Drop, PartialEq, Eq)]
+#[derive(Debug, Drop)]
 pub enum Turn {
     /// The task wants another turn.
     More,

@@ -11,7 +11,7 @@ use std::alloc::Global;
 use std::marker::Model;
 
 /// A worker finished a task.
-#[derive(Drop, PartialEq, Eq)]
+#[derive(Drop)]
 pub struct Note {
     /// The number of the event.
     pub event: u64,
