@@ -5,7 +5,7 @@ use Rattle.run_model.proofs.Common.{None, refl, ap, ◌∙◌, subst, arith, app
 use Rattle.run_model.proofs.Common.{is_none, w16, to_be_bytes, w64, flat_map, AllByRecursion}
 use Rattle.run_model.proofs.Common.{same_Some, none-some, cond_some, ltb-true, lt-ltb, eqb-true}
 use Rattle.run_model.proofs.Common.{ne_eqb, is_row_number, most_scopes, most_tasks}
-use Rattle.run_model.proofs.Common.{most_scopes_most, most_tasks_most, is_name, is_text}
+use Rattle.run_model.proofs.Common.{most_scopes_most, most_tasks_most, is_name, is_text, and_from}
 use Rattle.std.proofs.lemmas.Bool.{cond-true, eqb-false}
 use Rattle.run_model.specs.declared.bounds.TheConstants.{MOST_GROUPS}
 use Rattle.run_model.specs.declared.layouts.Layout.{Layout}
@@ -27,7 +27,6 @@ use Rattle.record_view.proofs.Fields.{row_number, moment, text_field, optional_f
 use Rattle.record_view.proofs.Fields.{by_byte, is_byte}
 use Rattle.record_view.proofs.LongCodecs.{five_takes, five_again, six_takes, six_again}
 use Rattle.record_view.proofs.RowFields.{bare_value, long_number}
-use Rattle.run_model.proofs.Common.{and_from}
 
 -- ---- flags
 
