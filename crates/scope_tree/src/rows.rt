@@ -3,8 +3,7 @@
 ghost use Rattle.std.specs.List.{flat_map, AllByRecursion};
 ghost use Rattle.std.specs.Option.{option_map, option_map_or};
 ghost use Rattle.std.specs.Prelude.{◌≡◌, ◌≤◌, ◌+◌, ◌*◌, Some, None, length, vec_len, vec_capacity};
-ghost use Rattle.std.specs.Prelude.{[], ◌∷◌};
-ghost use Rattle.std.specs.Prelude.{IfSome, IfNone, IsTrue, nat_le, false};
+ghost use Rattle.std.specs.Prelude.{[], ◌∷◌, IfSome, IfNone, IsTrue, nat_le, false};
 ghost use Rattle.run_model.specs.declared.bounds.TheConstants.{MOST_SCOPES};
 ghost use Rattle.run_model.specs.Layouts.{most_scopes};
 ghost use Rattle.run_model.specs.Rows.{root};

@@ -13,9 +13,8 @@ ghost use Rattle.run_model.specs.Tasks.{is_retried, running_tasks, has_stage, is
 ghost use Rattle.run_model.specs.Tasks.{is_interrupted, unfinished_in, admits, limit_of};
 ghost use Rattle.run_model.specs.Texts.{IsName, IsText};
 ghost use Rattle.run_model.specs.WorkChanges.{after_make, after_limit, after_go, after_retry};
-ghost use Rattle.run_model.specs.WorkChanges.{after_start, after_end, after_wait};
-ghost use Rattle.run_model.specs.WorkChanges.{after_interrupt, group_of_task, interruption};
-ghost use Rattle.run_model.specs.WorkChanges.{stage_of, error_of};
+ghost use Rattle.run_model.specs.WorkChanges.{after_start, after_end, after_wait, after_interrupt};
+ghost use Rattle.run_model.specs.WorkChanges.{group_of_task, interruption, stage_of, error_of};
 ghost use Rattle.run_model.specs.State.{group_named};
 ghost use Rattle.task_group.specs.Admitting.{AdmitsOldest, phase_new};
 ghost use Rattle.task_group.specs.Lasting.{EndsStay};

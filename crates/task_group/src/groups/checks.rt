@@ -5,8 +5,7 @@ ghost use Rattle.std.specs.Prelude.{◌≡◌, ◌<◌, ◌∷◌, ℕ, List, Op
 ghost use Rattle.std.specs.Prelude.{IfOk};
 ghost use Rattle.run_model.specs.declared.refusals.Refusal.TheVariants as refusal;
 ghost use Rattle.run_model.specs.declared.tasks.Outcome.{Outcome};
-ghost use Rattle.run_model.specs.Allowed.{refusals};
-ghost use Rattle.run_model.specs.Allowed.{tested, has_row, has_room, is_open};
+ghost use Rattle.run_model.specs.Allowed.{refusals, tested, has_row, has_room, is_open};
 ghost use Rattle.run_model.specs.Layouts.{most_tasks};
 ghost use Rattle.run_model.specs.Event.{Bare, Finish, Go, Retry, SetLimit, TryGo, Wait};
 ghost use Rattle.run_model.specs.State.{TreeState, group_named};
