@@ -72,10 +72,10 @@ fn is_local(bytes: &[u8]) -> bool
         return false;
     }
     is_in(1, 12, &bytes[5..7])
-        && is_in(1, 31, &bytes[8..10])
-        && is_in(0, 23, &bytes[11..13])
-        && is_in(0, 59, &bytes[14..16])
-        && is_in(0, 59, &bytes[17..19])
+        & is_in(1, 31, &bytes[8..10])
+        & is_in(0, 23, &bytes[11..13])
+        & is_in(0, 59, &bytes[14..16])
+        & is_in(0, 59, &bytes[17..19])
 }
 
 /// Returns whether these bytes have the form of an offset.
