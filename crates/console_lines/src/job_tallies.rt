@@ -8,8 +8,7 @@ ghost use Rattle.run_model.specs.Tasks.{phase_by};
 ghost use Rattle.console_lines.specs.Replies.{reply_lines};
 ghost use Rattle.console_lines.specs.Tallies.{tallies_of};
 ghost use Rattle.console_lines.specs.declared.replies.Reply.TheVariants as said;
-ghost use Rattle.console_lines.specs.Counted.{MOST, counted_at, no_tasks, one_more};
-ghost use Rattle.console_lines.specs.Counted.{with_tally};
+ghost use Rattle.console_lines.specs.Counted.{MOST, counted_at, no_tasks, one_more, with_tally};
 
 use crate::job_keys::Job;
 use crate::tallies::{Counts, Tally};
@@ -67,7 +66,6 @@ impl<A: Allocator + Copy> Tallies<A> {
 
     /// The lines that a tally of the tasks prints, each with its LF. It fails only for want of
     /// memory, and only if a task was counted.
-    #[tactic(auto, using(crate::proofs::Tallying::lines_more))]
     pub fn to_lines<B: Allocator + Copy>(&self, alloc: B) -> Result<String<B>, AllocError>
         ensures lines { IfOk result (λ lines.
             string_bytes lines ≡ reply_lines (map said.Tally self.now)) }
