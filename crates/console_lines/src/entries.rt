@@ -6,7 +6,7 @@ ghost use Rattle.std.specs.Prelude.{◌≡◌, ◌++◌, ◌+◌, ◌≤◌, cod
 ghost use Rattle.arrayvec.specs.ArrayVec.{array_vec_len};
 ghost use Rattle.console_lines.specs.declared.entries.TheConstants.{LONGEST_ENTRY};
 ghost use Rattle.console_lines.specs.Entries.{done_text, entry_text, failure_of, group_object};
-ghost use Rattle.console_lines.specs.Entries.{held_text, is_escaped, kind_word, layout_word};
+ghost use Rattle.console_lines.specs.Entries.{held_text, kind_word, layout_word};
 ghost use Rattle.console_lines.specs.Entries.{number_or_null, opened_text, parent_text, quoted};
 ghost use Rattle.console_lines.specs.Entries.{scope_object, separator, store_object, string_byte};
 ghost use Rattle.console_lines.specs.Entries.{string_or_null, string_text, task_object, truth_text};
@@ -306,16 +306,9 @@ fn push_string_byte<const N: usize>(out: &mut ArrayVec<u8, N>, byte: u8)
     requires { array_vec_len out.old + 2 ≤ N }
     ensures { Gathers out.old.items out.new.items (string_byte byte) 2 }
 {
-    if is_escaped(byte) {
+    if byte == b'"' || byte == b'\\' {
         push(out, &[b'\\', byte]);
     } else {
         push(out, &[byte]);
     }
-}
-
-/// Returns whether a byte has a backslash before it in a string.
-fn is_escaped(byte: u8) -> bool
-    ensures { result ≡ is_escaped byte }
-{
-    byte == b'"' || byte == b'\\'
 }

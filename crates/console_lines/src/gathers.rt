@@ -6,7 +6,6 @@ ghost use Rattle.std.specs.Prelude.{Some, codes, length};
 ghost use Rattle.std.specs.Fmt.{decimal};
 ghost use Rattle.arrayvec.specs.ArrayVec.{array_vec_len};
 ghost use Rattle.run_model.specs.Faults.{fault_text};
-ghost use Rattle.run_model.specs.Reasons.{reason_text};
 ghost use Rattle.run_model.specs.Refusals.{refusal_text};
 ghost use Rattle.run_model.specs.Texts.{IsText};
 ghost use Rattle.console_lines.specs.declared.gathers.TheConstants.{LONGEST_REPLY};
@@ -273,16 +272,8 @@ pub(crate) fn push_ending<const N: usize>(out: &mut ArrayVec<u8, N>, reason: Rea
     ensures { Gathers out.old.items out.new.items (ending_text reason cause.now) 103 }
 {
     push(out, b"; err ");
-    push_reason(out, reason);
-    push_after(out, b"; cause ", cause);
-}
-
-/// Why a scope is done.
-fn push_reason<const N: usize>(out: &mut ArrayVec<u8, N>, reason: Reason)
-    requires { array_vec_len out.old + 25 ≤ N }
-    ensures { Gathers out.old.items out.new.items (reason_text reason) 25 }
-{
     push(out, reason.text().as_bytes());
+    push_after(out, b"; cause ", cause);
 }
 
 /// A word, and a deadline in seconds, or `none`.

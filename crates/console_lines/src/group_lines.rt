@@ -2,7 +2,7 @@
 
 ghost use Rattle.std.specs.Prelude.{◌≡◌, if◌then◌else◌};
 ghost use Rattle.console_lines.specs.Checked.{asks, of_one, of_three, of_two};
-ghost use Rattle.console_lines.specs.GroupLines.{group_line_of, limit_at, limit_line, limit_of};
+ghost use Rattle.console_lines.specs.GroupLines.{group_line_of, limit_line, limit_of};
 ghost use Rattle.console_lines.specs.Words.{words_in, lent};
 
 use crate::asked::Asked;
@@ -133,14 +133,7 @@ fn limit_of(word: &[u8]) -> Option<Limit>
     if is_spelled(word, b"none") {
         return Some(Limit::none());
     }
-    limit_at(read_number(word)?)
-}
-
-/// The limit of so many tasks, and `None` past the greatest one.
-fn limit_at(most: u64) -> Option<Limit>
-    ensures { result ≡ limit_at most }
-{
-    match u8::try_from(most) {
+    match u8::try_from(read_number(word)?) {
         Ok(most) => Limit::new(most),
         Err(_) => None,
     }
