@@ -1,7 +1,6 @@
 -- The tallies of some tasks, and of one task more.
-use Rattle.std.specs.Prelude.{◌≡◌, ◌<◌, ◌≤◌, ℕ, ◌+◌, Bool, true, false, ◌&&◌, ◌||◌, cond}
-use Rattle.std.specs.Prelude.{List, [], ◌∷◌, ◌++◌, map, length, filter}
-use Rattle.std.specs.Prelude.{Some, None, unwrap_or}
+use Rattle.std.specs.Prelude.{◌≡◌, ◌<◌, ◌≤◌, ℕ, ◌+◌, Bool, true, false, ◌&&◌, ◌||◌, cond, List, []}
+use Rattle.std.specs.Prelude.{◌∷◌, ◌++◌, map, length, filter, Some, None, unwrap_or}
 use Rattle.std.specs.Str.{bytes_eq}
 use Rattle.std.proofs.Common.{refl, sym, ap, ◌∙◌, subst, arith, zero, suc, take, slice_get}
 use Rattle.std.proofs.Common.{add-one, append-nil, append_assoc}

@@ -13,8 +13,7 @@ use Rattle.std.proofs.Math.Seq.{drop-cons, take-append_seam}
 use Rattle.std.proofs.lemmas.Bool.{eq-eqb, ne_eqb}
 use Rattle.console_lines.specs.Trees.{above, bar, behind, children, later_siblings}
 use Rattle.console_lines.specs.Trees.{parent_of, passing, places_of, upwards}
-use Rattle.console_lines.specs.Walks.{AreRising, IsAt, after, all_below, drawn_from}
-use Rattle.console_lines.specs.Walks.{forest}
+use Rattle.console_lines.specs.Walks.{AreRising, IsAt, after, all_below, drawn_from, forest}
 use Rattle.console_lines.proofs.TreeLemmas.{AreWithin, after_same, childless, first_behind}
 use Rattle.console_lines.proofs.TreeLemmas.{first_child, places_within}
 

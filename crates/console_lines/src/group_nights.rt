@@ -12,8 +12,7 @@ ghost use Rattle.console_lines.specs.Script.{reply, script};
 ghost use Rattle.console_lines.specs.Nights.{IsPrinted, session_of, shown, told, typed};
 ghost use Rattle.console_lines.specs.GroupNights.{limit_of_two, limit_of_none, two_errors};
 ghost use Rattle.console_lines.specs.GroupNights.{two_waits, refused_groups, two_jobs, no_jobs};
-ghost use Rattle.console_lines.specs.GroupNights.{two_tallies};
-ghost use Rattle.console_lines.specs.GroupNights.{refused_tasks, bad_group_lines};
+ghost use Rattle.console_lines.specs.GroupNights.{two_tallies, refused_tasks, bad_group_lines};
 ghost use Rattle.console_lines.specs.GroupNights.{bad_group_words};
 
 /// A task is held while as many unfinished ones of lesser numbers as the limit admits are there.

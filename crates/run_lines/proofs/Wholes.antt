@@ -24,9 +24,8 @@ use Rattle.run_model.specs.declared.commands.Step.TheVariants as step
 use Rattle.run_lines.specs.declared.untils.Until.{Until}
 use Rattle.run_lines.specs.Rows.{Tries, next_steps}
 use Rattle.run_lines.specs.Progress.{Closes, Cut, EndStops, Found, Halts, IsOfLine, IsReached}
-use Rattle.run_lines.specs.Progress.{IsRunStopped, Lasts}
-use Rattle.run_lines.specs.Progress.{IsStopped, IsWritten, PartCut, PartRan, PartRuns, PartStrays}
-use Rattle.run_lines.specs.Progress.{Ran, RanLines, ReadsAll, RunEnds}
+use Rattle.run_lines.specs.Progress.{IsRunStopped, Lasts, IsStopped, IsWritten, PartCut, PartRan}
+use Rattle.run_lines.specs.Progress.{PartRuns, PartStrays, Ran, RanLines, ReadsAll, RunEnds}
 use Rattle.state_views.specs.Told.{Told}
 use Rattle.run_lines.specs.Progress.{WritesTrouble, Wrote, lines_to, untried}
 use Rattle.run_lines.specs.Until.{IsReadFor, ends_at, lines_until, numbered}

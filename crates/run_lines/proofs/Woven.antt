@@ -1,8 +1,7 @@
 -- What is left of an input, byte by byte, is the input that its timed lines make.
 use Rattle.std.specs.Prelude.{◌≡◌, ◌==◌, ◌+◌, max, nat_lt, drop, if◌then◌else◌, Bool, true, false}
 use Rattle.std.specs.Prelude.{ℕ, List, [], ◌∷◌, ◌++◌, length}
-use Rattle.std.proofs.Common.{arith, refl, sym, ap, ◌∙◌, append_assoc}
-use Rattle.std.proofs.Common.{inl, inr}
+use Rattle.std.proofs.Common.{arith, refl, sym, ap, ◌∙◌, append_assoc, inl, inr}
 use Rattle.std.proofs.lemmas.Bool.{cases_lt}
 use Rattle.std.proofs.lemmas.List.{length-take, take_all}
 use Rattle.console_lines.specs.declared.lines.TheConstants.{LONGEST_LINE}
