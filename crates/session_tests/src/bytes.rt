@@ -1,8 +1,8 @@
 //! Records, the rows of images, and whole images as bytes, most of them from outside.
 
 mod fields;
-mod greatest;
-mod images;
+pub mod greatest;
+pub mod images;
 mod records;
 mod rows;
 mod rules;

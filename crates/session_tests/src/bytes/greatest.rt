@@ -1,10 +1,10 @@
 //! The greatest images, and images with as many rows of a kind as there can be, and one more.
 
-use crate::asserts::{done, holds};
-use crate::bytes::images::{Counts, Head, is_kept, is_refused, push_head, read_again};
+use crate::asserts::holds;
+use crate::bytes::images::{Counts, Head, image, is_kept, is_refused, push_all, read_again};
 use record_view::ImageVersion;
 use run_model::Layout;
-use std::alloc::{AllocError, Global};
+use std::alloc::Global;
 use std::process::Abort;
 use test_fixtures::digits;
 
@@ -16,19 +16,11 @@ const TEXT: &[u8] = &[b'x'; 64];
 
 const REST: &[u8] = &[b'x'; 28];
 
-/// Appends pieces, one after the other.
-fn push_all(image: &mut Vec<u8>, pieces: &[&[u8]]) -> Result<(), AllocError> {
-    for piece in pieces.iter() {
-        image.extend_from_slice(piece)?;
-    }
-    Ok(())
-}
-
 /// Appends the row of a scope, of 192 bytes: its name of 32 begins with its number, and event 1
 /// found its deadline of 0 exceeded, with two causes of 64 bytes.
-fn push_greatest_scope(image: &mut Vec<u8>, n: u16) -> Result<(), AllocError> {
-    push_all(image, &[b"\x20", &digits(n), REST])?;
-    push_all(image, EXCEEDED)
+pub fn push_greatest_scope(rt: &impl Abort, image: &mut Vec<u8>, n: u16) {
+    push_all(rt, image, &[b"\x20", &digits(n), REST]);
+    push_all(rt, image, EXCEEDED);
 }
 
 /// What stands after the name in the row of the greatest scope.
@@ -42,9 +34,9 @@ const EXCEEDED: &[&[u8]] = &[
 
 /// Appends the row of a group, of 103 bytes: its name of 32 begins with its number, and it is bare,
 /// in root, without a limit, with an error.
-fn push_greatest_group(image: &mut Vec<u8>, n: u16) -> Result<(), AllocError> {
+fn push_greatest_group(rt: &impl Abort, image: &mut Vec<u8>, n: u16) {
     let fields = b"\x00\x00\x01\xff\x00\x40";
-    push_all(image, &[b"\x20", &digits(n), REST, fields, TEXT])
+    push_all(rt, image, &[b"\x20", &digits(n), REST, fields, TEXT]);
 }
 
 /// A job, an argument and an error, each as long as it can be, of a task that failed.
@@ -56,39 +48,39 @@ const FAILURE: &[&[u8]] = &[
 ];
 
 /// Appends the row of a task of group `n % 128`, of 134 bytes and its link: it failed.
-fn push_greatest_task(image: &mut Vec<u8>, n: u16, link: &[u8]) -> Result<(), AllocError> {
-    push_all(image, &[&[0, (n % 128) as u8]])?;
-    push_all(image, FAILURE)?;
-    push_all(image, &[link])
+pub fn push_greatest_task(rt: &impl Abort, image: &mut Vec<u8>, n: u16, link: &[u8]) {
+    push_all(rt, image, &[&[0, (n % 128) as u8]]);
+    push_all(rt, image, FAILURE);
+    push_all(rt, image, &[link]);
 }
 
 /// The image of so many of the greatest scopes and tasks and of 128 groups, at the greatest clock
 /// and count.
 fn greatest(
+    rt: &impl Abort,
     alloc: Global,
     version: u8,
     scopes: u16,
     tasks: u16,
     link: &[u8],
-) -> Result<Vec<u8>, AllocError> {
-    let mut image = Vec::new(alloc);
+) -> Vec<u8> {
     let head = Head {
         version,
         clock: 253_000_000_000,
         count: 0x7fff_ffff_ffff_ffff,
         rows: (scopes, 128, tasks),
     };
-    push_head(&mut image, head)?;
+    let mut bytes = image(rt, alloc, head, &[]);
     for n in 0..scopes {
-        push_greatest_scope(&mut image, n)?;
+        push_greatest_scope(rt, &mut bytes, n);
     }
     for n in 0..128 {
-        push_greatest_group(&mut image, n)?;
+        push_greatest_group(rt, &mut bytes, n);
     }
     for n in 0..tasks {
-        push_greatest_task(&mut image, n, link)?;
+        push_greatest_task(rt, &mut bytes, n, link);
     }
-    Ok(image)
+    bytes
 }
 
 /// A layout and a version, how many scopes and tasks, and the length of their greatest image.
@@ -101,9 +93,9 @@ fn assert_greatest(rt: &impl Abort, alloc: Global, kind: Greatest) {
         ImageVersion::One => (1, b"".as_slice()),
         ImageVersion::Two => (2, LINK),
     };
-    let image = done(rt, greatest(alloc, number, scopes, tasks, link), "memory");
+    let image = greatest(rt, alloc, number, scopes, tasks, link);
     holds(rt, image.len() == len, "bytes", len);
-    let again = done(rt, greatest(alloc, 2, scopes, tasks, LINK), "memory");
+    let again = greatest(rt, alloc, 2, scopes, tasks, LINK);
     let read = read_again(rt, alloc, layout, &image, &again);
     holds(rt, read == Ok((version, true)), "again of bytes", len);
 }
@@ -121,7 +113,7 @@ fn greatest_images(rt: HostRuntime) {
         assert_greatest(&rt, rt.alloc(), *kind);
     }
     // A small store refuses the greatest image of a large one.
-    let large = done(&rt, greatest(rt.alloc(), 2, 4_095, 8_192, LINK), "memory");
+    let large = greatest(&rt, rt.alloc(), 2, 4_095, 8_192, LINK);
     holds(
         &rt,
         is_refused(rt.alloc(), Layout::Small, &large),
@@ -130,27 +122,30 @@ fn greatest_images(rt: HostRuntime) {
     );
 }
 
+/// Appends a row whose name is its number.
+fn push_least(rt: &impl Abort, image: &mut Vec<u8>, n: u16, fields: &[u8]) {
+    push_all(rt, image, &[b"\x04", &digits(n), fields]);
+}
+
 /// The image of so many of the least rows: cancel scopes, bare groups, and tasks of group 0.
-fn least(alloc: Global, rows: Counts) -> Result<Vec<u8>, AllocError> {
-    let mut image = Vec::new(alloc);
+fn least(rt: &impl Abort, alloc: Global, rows: Counts) -> Vec<u8> {
     let head = Head {
         version: 2,
         clock: 0,
         count: 1,
         rows,
     };
-    push_head(&mut image, head)?;
+    let mut bytes = image(rt, alloc, head, &[]);
     for n in 0..rows.0 {
-        push_all(&mut image, &[b"\x04", &digits(n), b"\x00\x00\x01\x00"])?;
+        push_least(rt, &mut bytes, n, b"\x00\x00\x01\x00");
     }
     for n in 0..rows.1 {
-        let fields = b"\x00\x00\x01\xff\x00\x00";
-        push_all(&mut image, &[b"\x04", &digits(n), fields])?;
+        push_least(rt, &mut bytes, n, b"\x00\x00\x01\xff\x00\x00");
     }
     for _ in 0..rows.2 {
-        image.extend_from_slice(b"\x00\x00\x01j\x01a\x00\xff\xff")?;
+        push_all(rt, &mut bytes, &[b"\x00\x00\x01j\x01a\x00\xff\xff"]);
     }
-    Ok(image)
+    bytes
 }
 
 /// A layout, as many rows as there can be, and one more.
@@ -167,8 +162,8 @@ static FULL: [(Layout, Counts, Counts); 7] = [
 #[test]
 fn a_row_too_many(rt: HostRuntime) {
     for (n, (layout, full, more)) in FULL.iter().enumerate() {
-        let full = done(&rt, least(rt.alloc(), *full), "memory");
-        let more = done(&rt, least(rt.alloc(), *more), "memory");
+        let full = least(&rt, rt.alloc(), *full);
+        let more = least(&rt, rt.alloc(), *more);
         holds(
             &rt,
             is_kept(&rt, rt.alloc(), *layout, &full),

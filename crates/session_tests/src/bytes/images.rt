@@ -4,7 +4,7 @@ use crate::asserts::{done, holds};
 use record_view::ImageVersion;
 use run_model::{Fault, Layout};
 use run_state::State;
-use std::alloc::{AllocError, Global};
+use std::alloc::Global;
 use std::process::Abort;
 
 /// Bytes one after the other.
@@ -34,29 +34,33 @@ impl Head {
     }
 }
 
-/// Appends the 23 bytes of a head.
-pub fn push_head(image: &mut Vec<u8>, head: Head) -> Result<(), AllocError> {
-    image.push(head.version)?;
-    image.extend_from_slice(&head.clock.to_be_bytes())?;
-    image.extend_from_slice(&head.count.to_be_bytes())?;
-    for rows in [head.rows.0, head.rows.1, head.rows.2] {
-        image.extend_from_slice(&rows.to_be_bytes())?;
+/// Appends pieces, one after the other.
+pub fn push_all(rt: &impl Abort, image: &mut Vec<u8>, pieces: &[&[u8]]) {
+    for piece in pieces.iter() {
+        done(rt, image.extend_from_slice(piece), "memory");
     }
-    Ok(())
 }
 
-fn joined(alloc: Global, head: Head, pieces: &[&[u8]]) -> Result<Vec<u8>, AllocError> {
-    let mut image = Vec::new(alloc);
-    push_head(&mut image, head)?;
-    for piece in pieces {
-        image.extend_from_slice(piece)?;
-    }
-    Ok(image)
+/// Appends the 23 bytes of a head.
+fn push_head(rt: &impl Abort, image: &mut Vec<u8>, head: Head) {
+    let (scopes, groups, tasks) = head.rows;
+    let fields: [&[u8]; 6] = [
+        &[head.version],
+        &head.clock.to_be_bytes(),
+        &head.count.to_be_bytes(),
+        &scopes.to_be_bytes(),
+        &groups.to_be_bytes(),
+        &tasks.to_be_bytes(),
+    ];
+    push_all(rt, image, &fields);
 }
 
 /// A head and the pieces after it.
 pub fn image(rt: &impl Abort, alloc: Global, head: Head, pieces: &[&[u8]]) -> Vec<u8> {
-    done(rt, joined(alloc, head, pieces), "memory")
+    let mut image = Vec::new(alloc);
+    push_head(rt, &mut image, head);
+    push_all(rt, &mut image, pieces);
+    image
 }
 
 /// What is read as an image in a new store of this layout.
@@ -86,11 +90,11 @@ pub fn read_again(
     image: &[u8],
     again: &[u8],
 ) -> Result<(ImageVersion, bool), Fault> {
+    let (state, version) = read(alloc, layout, image)?;
     let mut out = room(rt, alloc);
-    match read(alloc, layout, image) {
-        Ok((state, version)) => Ok((version, is_written(&state, &mut out, again))),
-        Err(fault) => Err(fault),
-    }
+    let told = (version, is_written(&state, &mut out, again));
+    drop(state);
+    Ok(told)
 }
 
 /// Says whether these bytes are read as an image of version 2, and written again.
@@ -101,7 +105,10 @@ pub fn is_kept(rt: &impl Abort, alloc: Global, layout: Layout, image: &[u8]) -> 
 /// Says whether these bytes are no image in a store of this layout.
 pub fn is_refused(alloc: Global, layout: Layout, image: &[u8]) -> bool {
     match read(alloc, layout, image) {
-        Ok(_) => false,
+        Ok((state, _)) => {
+            drop(state);
+            false
+        }
         Err(fault) => fault == Fault::BadImage,
     }
 }

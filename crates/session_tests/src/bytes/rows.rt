@@ -7,7 +7,6 @@ use record_view::{
     put_head, put_scope, put_task, read_group, read_head, read_scope, read_task,
 };
 use run_model::{Layout, Reason};
-use std::process::Abort;
 
 /// The head of the worked image, in version 2: clock 0, four events, two scopes.
 const HEAD: &[u8; 23] = b"\x02\x00\x00\x00\x00\x00\x00\x00\x00\x00\x00\x00\x00\x00\x00\x00\x04\
@@ -22,13 +21,15 @@ const WORKED: ImageHead = ImageHead {
     tasks: 0,
 };
 
-/// Asserts that a row was put at the front of bytes of 0xEE, and where it ends.
-fn assert_put(rt: &impl Abort, out: &[u8], end: usize, bytes: &[u8]) {
-    same(rt, &end, &bytes.len(), "the end", 0);
-    holds(rt, out.starts_with(bytes), "the row", 0);
-    assert!(rt; end < out.len(), "nothing is behind it");
-    let rest = out[end..].iter().all(|b| *b == 0xee);
-    holds(rt, rest, "what is behind it", 0);
+/// Says whether these bytes were put at the front of bytes of 0xEE, of which some are left, and end
+/// there.
+pub fn is_put(out: &[u8], end: usize, bytes: &[u8]) -> bool {
+    for (n, byte) in out.iter().enumerate() {
+        if end <= n && *byte != 0xee {
+            return false;
+        }
+    }
+    end < out.len() && end == bytes.len() && out.starts_with(bytes)
 }
 
 #[test]
@@ -37,7 +38,7 @@ fn heads(rt: HostRuntime) {
     same(&rt, &read, &Some((WORKED, b"".as_slice())), "the head", 0);
     let mut out = [0xee; 24];
     let end = put_head(&mut out, 0, &WORKED);
-    assert_put(&rt, &out, end, HEAD);
+    holds(&rt, is_put(&out, end, HEAD), "head up to", end);
 }
 
 /// A place in the head, the byte there, and whether a small and a large store can have it.
@@ -66,27 +67,20 @@ fn head_with(place: usize, byte: u8) -> [u8; 23] {
     bytes
 }
 
+/// Says whether bytes are the head of a small store and of a large one.
+fn are_heads(bytes: &[u8]) -> (bool, bool) {
+    let small = read_head(bytes, Layout::Small);
+    (small.is_some(), read_head(bytes, Layout::Large).is_some())
+}
+
 #[test]
 fn head_fields_have_ranges(rt: HostRuntime) {
     for (row, (what, place, byte, small, large)) in RANGES.iter().enumerate() {
         let bytes = head_with(*place, *byte);
-        same(
-            &rt,
-            &read_head(&bytes, Layout::Small).is_some(),
-            small,
-            what,
-            row,
-        );
-        same(
-            &rt,
-            &read_head(&bytes, Layout::Large).is_some(),
-            large,
-            what,
-            row,
-        );
+        holds(&rt, are_heads(&bytes) == (*small, *large), what, row);
     }
-    let short = read_head(&HEAD[..22], Layout::Small);
-    same(&rt, &short, &None, "a byte too few", 0);
+    let short = are_heads(&HEAD[..22]);
+    holds(&rt, short == (false, false), "a byte too few", 0);
 }
 
 const SCOPE: ScopeRow = ScopeRow {
@@ -132,7 +126,7 @@ fn scopes(rt: HostRuntime) {
     }
     let mut out = [0xee; 30];
     let end = put_scope(&mut out, 0, &SCOPE);
-    assert_put(&rt, &out, end, SCOPES[0].0);
+    holds(&rt, is_put(&out, end, SCOPES[0].0), "scope up to", end);
     same(&rt, &end, &28, "the end", 1);
 }
 
@@ -154,7 +148,7 @@ fn groups(rt: HostRuntime) {
     same(&rt, &read, &Some((GROUP, b"".as_slice())), "group", 0);
     let mut out = [0xee; 24];
     let end = put_group(&mut out, 0, &GROUP);
-    assert_put(&rt, &out, end, GROUP_BYTES);
+    holds(&rt, is_put(&out, end, GROUP_BYTES), "group up to", end);
 }
 
 static NO_GROUPS: [(&str, &[u8]); 8] = [
@@ -230,7 +224,7 @@ fn tasks(rt: HostRuntime) {
     }
     let mut out = [0xee; 16];
     let end = put_task(&mut out, 0, &TASK);
-    assert_put(&rt, &out, end, TASK_BYTES);
+    holds(&rt, is_put(&out, end, TASK_BYTES), "task up to", end);
 }
 
 static STAGES: [(&str, &[u8], Option<StageView>); 10] = [

@@ -34,11 +34,13 @@ fn read_state(rt: &impl Abort, alloc: Global, image: &[u8]) -> State {
 /// How many events there were, and whether scopes a and b are cancelled with a's cause.
 fn seen(rt: &impl Abort, alloc: Global, image: &[u8]) -> (u64, bool, bool) {
     let state = read_state(rt, alloc, image);
-    let are_canceled = (
+    let (a, b) = (
         is_canceled(&state, 1, b"disk"),
         is_canceled(&state, 2, b"disk"),
     );
-    (state.count(), are_canceled.0, are_canceled.1)
+    let seen = (state.count(), a, b);
+    drop(state);
+    seen
 }
 
 /// The image of 57 bytes in the version of this byte.
@@ -77,10 +79,13 @@ const LINK: &[u8] = b"\x00\x00";
 
 /// The task that a task of this image retries.
 fn retry_of(rt: &impl Abort, alloc: Global, image: &[u8], task: u16) -> Option<u16> {
-    match read_state(rt, alloc, image).task(task) {
+    let state = read_state(rt, alloc, image);
+    let retried = match state.task(task) {
         Some(task) => task.retry_of,
         None => None,
-    }
+    };
+    drop(state);
+    retried
 }
 
 #[test]
@@ -329,7 +334,9 @@ fn assert_causes(rt: &impl Abort, state: &State, causes: Causes, what: &str) {
 fn assert_caused(rt: &impl Abort, alloc: Global, caused: &Caused) {
     let image = image(rt, alloc, Head::of(caused.1), caused.2);
     holds(rt, is_read(rt, alloc, &image, true), caused.0, 0);
-    assert_causes(rt, &read_state(rt, alloc, &image), caused.3, caused.0);
+    let state = read_state(rt, alloc, &image);
+    assert_causes(rt, &state, caused.3, caused.0);
+    drop(state);
 }
 
 #[test]

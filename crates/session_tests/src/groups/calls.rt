@@ -1,6 +1,6 @@
 //! Calls that change groups, each made only where its own test allows it.
 
-use crate::values::{limit, name, text};
+use crate::values::{bytes, limit, name, text};
 use run_model::{Limit, Name, Refusal, Text};
 use std::alloc::Allocator;
 use std::process::Abort;
@@ -63,6 +63,23 @@ pub fn try_go<A: Allocator>(
     Ok(Some(groups.try_go(group, job.as_bytes(), argument.as_bytes())))
 }
 
+/// Submits a task of this job and argument, which may have to be ready at once.
+fn submit<A: Allocator>(
+    rt: &impl Abort,
+    groups: &mut Groups<A>,
+    group: u16,
+    job: &[u8],
+    argument: &[u8],
+    at_once: bool,
+) -> Reply {
+    let (job, argument) = (name(rt, job), name(rt, argument));
+    if at_once {
+        try_go(groups, group, &job, &argument)
+    } else {
+        go(groups, group, &job, &argument)
+    }
+}
+
 /// Submits a task anew.
 fn retry<A: Allocator>(groups: &mut Groups<A>, task: u16) -> Reply {
     groups.check_retry(task)?;
@@ -80,10 +97,7 @@ fn start<A: Allocator>(groups: &mut Groups<A>) -> Reply {
 /// Ends a task, and gives the scope that is told.
 fn finish<A: Allocator>(groups: &mut Groups<A>, task: u16, error: Option<&Text>) -> Reply {
     groups.check_finish(task)?;
-    match error {
-        Some(text) => Ok(groups.finish(task, Some(text.as_bytes()))),
-        None => Ok(groups.finish(task, None)),
-    }
+    Ok(groups.finish(task, bytes(error)))
 }
 
 /// Waits for a group, and gives the scope that is told; a second wait asks for nothing, and tells
@@ -101,10 +115,8 @@ pub fn answer<A: Allocator>(rt: &impl Abort, groups: &mut Groups<A>, call: Call)
     match call {
         Call::Make(called, scope, bare) => make(groups, &name(rt, called), scope, bare),
         Call::Limit(group, most) => set_limit(groups, group, limit(rt, most)),
-        Call::Go(group, job, argument) => { go(groups, group, &name(rt, job), &name(rt, argument)) }
-        Call::Try(group, job, argument) => {
-            try_go(groups, group, &name(rt, job), &name(rt, argument))
-        }
+        Call::Go(group, job, argument) => submit(rt, groups, group, job, argument, false),
+        Call::Try(group, job, argument) => submit(rt, groups, group, job, argument, true),
         Call::Retry(task) => retry(groups, task),
         Call::Start => start(groups),
         Call::Succeed(task) => finish(groups, task, None),

@@ -169,8 +169,10 @@ static CROWDS: [(Layout, &[Deed]); 5] = [
 /// How many bytes groups of this layout take.
 fn bytes_of_groups(rt: &impl Abort, alloc: Global, layout: Layout) -> usize {
     let ample = heap_of(rt, alloc, 4_000_000);
-    let _groups = begun(rt, &ample, layout);
-    ample.used()
+    let groups = begun(rt, &ample, layout);
+    let used = ample.used();
+    drop(groups);
+    used
 }
 
 /// Does all of this over a heap that the groups fill to its last byte.
@@ -179,6 +181,7 @@ fn do_all_without_memory(rt: &impl Abort, alloc: Global, layout: Layout, deeds: 
     let mut groups = begun(rt, &heap, layout);
     holds(rt, is_full(&heap), "no byte is left", 0);
     do_all(rt, &mut groups, deeds);
+    drop(groups);
 }
 
 #[test]
@@ -193,7 +196,11 @@ fn no_memory_is_taken_once_groups_are_made(rt: HostRuntime) {
 fn are_made(rt: &impl Abort, alloc: Global, bytes: usize) -> bool {
     let heap = heap_of(rt, alloc, bytes);
     let (made, right) = match Groups::with_room(&heap, Layout::Small) {
-        Ok(groups) => (true, groups.task_count() == 0),
+        Ok(groups) => {
+            let right = groups.task_count() == 0;
+            drop(groups);
+            (true, right)
+        }
         Err(fault) => (false, fault == Fault::Memory && heap.used() == 0),
     };
     holds(rt, right, "made or not, bytes", bytes);

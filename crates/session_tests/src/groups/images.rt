@@ -2,6 +2,8 @@
 //! break one each, each number of rows one too great, and the greatest work.
 
 use crate::asserts::{done, holds};
+use crate::bytes::greatest::push_greatest_task;
+use crate::bytes::images::push_all;
 use crate::groups::steps::{At, Step, begun, play};
 use crate::values::{FIRST, SECOND};
 use record_view::{ImageHead, ImageVersion};
@@ -47,7 +49,9 @@ fn counts(
     bytes: &[u8],
 ) -> Counts {
     let (groups, rest) = read(rt, alloc, layout, head, bytes)?;
-    Ok((groups.group_count(), groups.task_count(), rest.len()))
+    let told = (groups.group_count(), groups.task_count(), rest.len());
+    drop(groups);
+    Ok(told)
 }
 
 /// What the rows are written as, over bytes of 0xEE with one more than they can have, and where
@@ -104,13 +108,14 @@ fn rows_of_a_retry(rt: HostRuntime) {
     play(&rt, &mut groups, "rows of a retry", &SHOWN);
     let again = is_written(&rt, rt.alloc(), &groups, RETRIED);
     holds(&rt, again, "the rows of a retry", 43);
+    drop(groups);
 }
 
 /// Rows of a table: what they are, how many groups and tasks they are, their bytes.
 type Rows = (&'static str, (u16, u16), &'static [u8]);
 
 /// Rows that keep the rules.
-const KEPT: &[Rows] = &[
+static KEPT: [Rows; 6] = [
     ("no row", (0, 0), b""),
     (
         "a group of its own scope, of limit 64",
@@ -142,14 +147,14 @@ const KEPT: &[Rows] = &[
 ];
 
 /// A group and two tasks without links, as version 1 has them.
-const UNLINKED: &[Rows] = &[(
+static UNLINKED: [Rows; 1] = [(
     "two tasks without links",
     (1, 2),
     b"\x01h\x00\x00\x01\xff\x00\x00\x00\x00\x01j\x01a\x00\x00\x00\x01j\x01a\x00",
 )];
 
 /// Groups that break a rule.
-const BAD_GROUPS: &[Rows] = &[
+static BAD_GROUPS: [Rows; 10] = [
     ("a row too few", (1, 0), b""),
     ("a byte too few", (1, 0), b"\x01g\x00\x00\x01\xff\x00"),
     (
@@ -175,7 +180,7 @@ const BAD_GROUPS: &[Rows] = &[
 ];
 
 /// Tasks that break a rule, after a bare group without limit.
-const BAD_TASKS: &[Rows] = &[
+static BAD_TASKS: [Rows; 11] = [
     ("a row too few", (1, 1), b"\x01g\x00\x00\x01\xff\x00\x00"),
     (
         "a byte too few",
@@ -232,7 +237,7 @@ const BAD_TASKS: &[Rows] = &[
 ];
 
 /// Groups and tasks that break a rule together.
-const BAD_WORK: &[Rows] = &[
+static BAD_WORK: [Rows; 10] = [
     (
         "a running task of limit 0",
         (1, 1),
@@ -292,21 +297,11 @@ const BAD_WORK: &[Rows] = &[
 ];
 
 /// Two tasks, of which the first has a link, as version 1 has none.
-const LINKED: &[Rows] = &[(
+static LINKED: [Rows; 1] = [(
     "a link in version 1",
     (1, 2),
     b"\x01h\x00\x00\x01\xff\x00\x00\x00\x00\x01j\x01a\x00\xff\xff\x00\x00\x01j\x01a\x00",
 )];
-
-/// A version, whether rows are read, and the rows.
-static TABLES: [(ImageVersion, bool, &[Rows]); 6] = [
-    (ImageVersion::Two, true, KEPT),
-    (ImageVersion::One, true, UNLINKED),
-    (ImageVersion::Two, false, BAD_GROUPS),
-    (ImageVersion::Two, false, BAD_TASKS),
-    (ImageVersion::Two, false, BAD_WORK),
-    (ImageVersion::One, false, LINKED),
-];
 
 /// Asserts that all groups and tasks of each row are read, with nothing after them, or that each
 /// row is refused.
@@ -322,16 +317,12 @@ fn assert_rows(rt: &impl Abort, alloc: Global, version: ImageVersion, kept: bool
 
 #[test]
 fn rows_that_keep_the_rules_alone_are_read(rt: HostRuntime) {
-    for (version, kept, table) in TABLES.iter() {
-        assert_rows(&rt, rt.alloc(), *version, *kept, table);
-    }
-}
-
-/// Appends pieces, one after the other.
-fn push_all(rt: &impl Abort, rows: &mut Vec<u8>, pieces: &[&[u8]]) {
-    for piece in pieces.iter() {
-        done(rt, rows.extend_from_slice(piece), "memory");
-    }
+    assert_rows(&rt, rt.alloc(), ImageVersion::Two, true, &KEPT);
+    assert_rows(&rt, rt.alloc(), ImageVersion::One, true, &UNLINKED);
+    assert_rows(&rt, rt.alloc(), ImageVersion::Two, false, &BAD_GROUPS);
+    assert_rows(&rt, rt.alloc(), ImageVersion::Two, false, &BAD_TASKS);
+    assert_rows(&rt, rt.alloc(), ImageVersion::Two, false, &BAD_WORK);
+    assert_rows(&rt, rt.alloc(), ImageVersion::One, false, &LINKED);
 }
 
 /// Appends the rows of 128 groups, each of a name that begins so and ends so, with these fields.
@@ -349,14 +340,6 @@ const TEXT: &[u8] = &[b'x'; 64];
 
 const REST: &[u8] = &[b'x'; 30];
 
-/// A job, an argument and an error, each as long as it can be, of a task that failed.
-const FAILURE: &[&[u8]] = &[
-    b"\x20xxxxxxxxxxxxxxxxxxxxxxxxxxxxxxxx",
-    b"\x20xxxxxxxxxxxxxxxxxxxxxxxxxxxxxxxx",
-    b"\x03\x40",
-    TEXT,
-];
-
 /// What stands after the name in a row of a bare group with an error.
 const ERROR: &[&[u8]] = &[b"\x00\x00\x01\xff\x00\x40", TEXT];
 
@@ -366,9 +349,7 @@ fn greatest_rows(rt: &impl Abort, alloc: Global, tasks: u16, link: &[u8]) -> Vec
     let mut rows = Vec::new(alloc);
     push_groups(rt, &mut rows, b"\x20", REST, ERROR);
     for n in 0..tasks {
-        push_all(rt, &mut rows, &[&(n % 128).to_be_bytes()]);
-        push_all(rt, &mut rows, FAILURE);
-        push_all(rt, &mut rows, &[link]);
+        push_greatest_task(rt, &mut rows, n, link);
     }
     rows
 }
@@ -404,6 +385,7 @@ fn assert_greatest(rt: &impl Abort, alloc: Global, kind: Greatest) {
     let again = greatest_rows(rt, alloc, tasks, b"\xff\xff");
     let is_written = is_written(rt, alloc, &groups, &again);
     holds(rt, is_written, "tasks", tasks as usize);
+    drop(groups);
 }
 
 #[test]

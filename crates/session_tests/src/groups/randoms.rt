@@ -152,6 +152,7 @@ fn run(rt: &impl Abort, alloc: Global, seed: u64) {
     }
     let many = 50 < plain.tasks.len();
     holds(rt, many, "tasks of seed", seed as usize);
+    drop(groups);
 }
 
 #[test]

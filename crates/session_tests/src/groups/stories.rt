@@ -19,6 +19,7 @@ fn play_all(rt: &impl Abort, alloc: Global, layout: Layout, stories: &[Story]) {
     for (what, steps) in stories.iter() {
         let mut groups = begun(rt, alloc, layout);
         play(rt, &mut groups, what, steps);
+        drop(groups);
     }
 }
 

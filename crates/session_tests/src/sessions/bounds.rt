@@ -27,6 +27,7 @@ fn assert_most(rt: &impl Abort, alloc: Global, layout: Layout, last: u16) {
     let mut session = begun(rt, alloc, layout);
     take(rt, &mut session, &[Fills(Fill::Scopes(1, last))]);
     take(rt, &mut session, &NO_SCOPES_LEFT);
+    drop(session);
 }
 
 #[test]

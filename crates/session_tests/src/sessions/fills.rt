@@ -1,12 +1,11 @@
 //! Many calls of one kind, which fill a session.
 
-use crate::sessions::calls::reply;
 use crate::values::{name, numbered};
-use run_model::{Answer, Command, Phase, Wish};
+use run_model::{Command, Wish};
 use run_session::Session;
 use std::alloc::Allocator;
 use std::process::Abort;
-use test_fixtures::{Call, Said, said_by};
+use test_fixtures::{Call, Said, answered, command_of, said_by};
 
 /// Many calls of one kind.
 #[derive(Clone, Copy)]
@@ -23,97 +22,55 @@ pub enum Fill {
     Tasks(u16),
 }
 
+/// The numbers of the calls: the first and the last.
+fn numbers(fill: Fill) -> (u64, u64) {
+    match fill {
+        Fill::Again(_, last) | Fill::Advances(last) => (1, last),
+        Fill::Scopes(first, last) | Fill::Groups(first, last) => (first as u64, last as u64),
+        Fill::Tasks(count) => (0, count.saturating_sub(1) as u64),
+    }
+}
+
+/// The call of a number.
+fn command(rt: &impl Abort, fill: Fill, number: u16, second: u64) -> Command {
+    let call = match fill {
+        Fill::Again(call, _) => command_of(call),
+        Fill::Advances(_) => command_of(Call::Advance(second)),
+        Fill::Scopes(_, _) => Some(Command::Derive {
+            name: numbered(rt, b's', number),
+            parent: name(rt, b"root"),
+            wish: Wish::Cause,
+        }),
+        Fill::Groups(_, _) => Some(Command::Bare {
+            name: numbered(rt, b'b', number),
+            scope: name(rt, b"root"),
+        }),
+        Fill::Tasks(_) => command_of(Call::Go(b"g", b"copy", b"a")),
+    };
+    call.expect(rt, "a command")
+}
+
+/// What the call of a number is answered.
+fn said(fill: Fill, number: u16) -> Said<'static> {
+    match fill {
+        Fill::Again(_, _) | Fill::Advances(_) => Said::Done,
+        Fill::Scopes(_, _) => Said::Scope(number),
+        Fill::Groups(_, _) => Said::Group(number, None),
+        Fill::Tasks(_) => Said::Ready(number),
+    }
+}
+
 /// Makes the calls. Gives the first that is answered otherwise.
 pub fn first_unfilled<A: Allocator>(
     rt: &impl Abort,
     session: &mut Session<A>,
     fill: Fill,
 ) -> Option<usize> {
-    match fill {
-        Fill::Again(call, times) => first_undone(rt, session, call, times),
-        Fill::Advances(last) => first_unadvanced(rt, session, last),
-        Fill::Scopes(first, last) => first_underived(rt, session, first, last),
-        Fill::Groups(first, last) => first_unmade(rt, session, first, last),
-        Fill::Tasks(count) => first_unready(rt, session, count),
-    }
-}
-
-fn first_undone<A: Allocator>(
-    rt: &impl Abort,
-    session: &mut Session<A>,
-    call: Call,
-    times: u64,
-) -> Option<usize> {
-    for n in 0..times {
-        if said_by(&reply(rt, session, call)) != Said::Done {
-            return Some(n as usize);
-        }
-    }
-    None
-}
-
-fn first_unadvanced<A: Allocator>(
-    rt: &impl Abort,
-    session: &mut Session<A>,
-    last: u64,
-) -> Option<usize> {
-    for seconds in 1..=last {
-        if said_by(&reply(rt, session, Call::Advance(seconds))) != Said::Done {
-            return Some(seconds as usize);
-        }
-    }
-    None
-}
-
-fn first_underived<A: Allocator>(
-    rt: &impl Abort,
-    session: &mut Session<A>,
-    first: u16,
-    last: u16,
-) -> Option<usize> {
+    let (first, last) = numbers(fill);
     for n in first..=last {
-        let derive = Command::Derive {
-            name: numbered(rt, b's', n),
-            parent: name(rt, b"root"),
-            wish: Wish::Cause,
-        };
-        if session.command(&derive) != Ok(Answer::Scope(n)) {
-            return Some(n as usize);
-        }
-    }
-    None
-}
-
-fn first_unmade<A: Allocator>(
-    rt: &impl Abort,
-    session: &mut Session<A>,
-    first: u16,
-    last: u16,
-) -> Option<usize> {
-    for n in first..=last {
-        let bare = Command::Bare {
-            name: numbered(rt, b'b', n),
-            scope: name(rt, b"root"),
-        };
-        if session.command(&bare) != Ok(Answer::Group(n, None)) {
-            return Some(n as usize);
-        }
-    }
-    None
-}
-
-fn first_unready<A: Allocator>(
-    rt: &impl Abort,
-    session: &mut Session<A>,
-    count: u16,
-) -> Option<usize> {
-    let go = Command::Go {
-        group: name(rt, b"g"),
-        job: name(rt, b"copy"),
-        argument: name(rt, b"a"),
-    };
-    for n in 0..count {
-        if session.command(&go) != Ok(Answer::Task(n, Phase::Ready)) {
+        let number = n.min(65_535) as u16;
+        let reply = answered(session.command(&command(rt, fill, number, n)));
+        if said_by(&reply) != said(fill, number) {
             return Some(n as usize);
         }
     }

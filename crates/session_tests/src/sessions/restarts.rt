@@ -91,6 +91,7 @@ static ONE_RETRY: [Step; 10] = [
 fn an_interrupted_task_is_retried_once(rt: HostRuntime) {
     let mut session = begun(&rt, rt.alloc(), Layout::Small, &LIMIT_OF_ONE, 1);
     take(&rt, &mut session, &ONE_RETRY);
+    drop(session);
 }
 
 static FOUR_GROUPS: [Call; 9] = [
@@ -128,6 +129,7 @@ static THREE_ENDED: [Step; 7] = [
 fn a_restart_ends_each_group_that_has_a_running_task(rt: HostRuntime) {
     let mut session = begun(&rt, rt.alloc(), Layout::Large, &FOUR_GROUPS, 4);
     take(&rt, &mut session, &THREE_ENDED);
+    drop(session);
 }
 
 static NO_RETRIES: [Step; 4] = [

@@ -15,14 +15,18 @@ use test_fixtures::{Ask, Call, Going, Said, Seen};
 
 /// How many bytes a state alone takes of a heap.
 fn bytes_of_a_state(rt: &impl Abort, heap: &LocalHeap) -> usize {
-    let _state = done(rt, State::new(heap, Layout::Small), "state");
-    heap.used()
+    let state = done(rt, State::new(heap, Layout::Small), "state");
+    let used = heap.used();
+    drop(state);
+    used
 }
 
 /// How many bytes a whole session takes of a heap: its log of 1,048,576 bytes comes last.
 fn bytes_of_a_session(rt: &impl Abort, heap: &LocalHeap, layout: Layout) -> usize {
-    let _session = begun(rt, heap, layout);
-    heap.used()
+    let session = begun(rt, heap, layout);
+    let used = heap.used();
+    drop(session);
+    used
 }
 
 /// Why no session can be made over this heap, if none can. One that was made is given up again.
@@ -83,6 +87,7 @@ fn assert_full(rt: &impl Abort, heap: &LocalHeap, layout: Layout, row: usize) {
     holds(rt, is_full(heap), "full heap", row);
     take(rt, &mut session, &ALL_CALLS);
     holds(rt, has_first_rows(&session), "group and event", row);
+    drop(session);
 }
 
 /// Says whether a session shows a group and an event.

@@ -102,6 +102,7 @@ fn rows_are_found_by_name_and_by_number(rt: HostRuntime) {
     holds(&rt, found(session.state(), &a) == (None, None), "found", 0);
     take(&rt, &mut session, &ONE_SCOPE);
     assert_one_scope(&rt, session.state(), &a);
+    drop(session);
 }
 
 static REFUSED_IN_ORDER: [Step; 3] = [

@@ -113,6 +113,7 @@ pub fn begun<A: Allocator + Copy>(rt: &impl Abort, alloc: A, layout: Layout) -> 
 pub fn play_in(rt: &impl Abort, alloc: Global, layout: Layout, steps: &[Step]) {
     let mut session = begun(rt, alloc, layout);
     take(rt, &mut session, steps);
+    drop(session);
 }
 
 /// Takes the steps of a test over a new session of the small layout.

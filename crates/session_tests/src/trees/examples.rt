@@ -153,6 +153,7 @@ fn assert_examples(rt: &impl Abort, alloc: Global, examples: &[Example]) {
         take_all(rt, &mut runner, steps, what);
         refuse_all(rt, &mut runner, refused, what);
         assert_answers(rt, &runner, answers, what);
+        drop(runner);
     }
 }
 

@@ -22,7 +22,9 @@ fn timeout(
 ) -> (Result<u64, Refusal>, u64) {
     let mut runner = Runner::begun(rt, alloc, Layout::Small);
     done(rt, runner.advance(moment(rt, clock)), "clock");
-    (runner.deadline_after(seconds), runner.clock())
+    let told = (runner.deadline_after(seconds), runner.clock());
+    drop(runner);
+    told
 }
 
 /// A clock, so many seconds from it, and the moment then.
@@ -108,6 +110,7 @@ fn assert_full(rt: &impl Abort, alloc: Global, layout: Layout, most: u16, checks
     for (n, (check, wanted)) in checks.iter().enumerate() {
         holds_in(rt, checked(tree, *check) == *wanted, "full", "row", n);
     }
+    drop(runner);
 }
 
 #[test]
@@ -139,6 +142,7 @@ fn cancel_is_refused_in_order(rt: HostRuntime) {
         let told = runner.tree().check_cancel(*s, *cause);
         holds_in(&rt, told == Err(*refusal), "cancels", "row", n);
     }
+    drop(runner);
 }
 
 const NIGHT: Ask = Ask::Value(b"k", b"x");
@@ -174,13 +178,18 @@ fn scopes_are_found_by_name(rt: HostRuntime) {
         "scope",
         0,
     );
+    drop(runner);
 }
 
 /// Says whether a tree is made over this heap. Where it isn't, memory is the
 /// fault, and none is kept.
 fn is_made(rt: &impl Abort, heap: &LocalHeap) -> bool {
     let (made, right) = match Tree::with_room(heap, Layout::Small) {
-        Ok(tree) => (true, tree.len() == 1),
+        Ok(tree) => {
+            let right = tree.len() == 1;
+            drop(tree);
+            (true, right)
+        }
         Err(fault) => (false, fault == Fault::Memory && heap.used() == 0),
     };
     holds_in(rt, right, "made", "scopes", made as usize);
@@ -206,8 +215,10 @@ fn want_of_memory_is_answered(rt: HostRuntime) {
 /// How many bytes of a heap a tree of this layout takes.
 fn bytes_of_a_tree(rt: &impl Abort, alloc: Global, layout: Layout) -> usize {
     let ample = heap_of(rt, alloc, 8_000_000);
-    let _runner = Runner::begun(rt, &ample, layout);
-    ample.used()
+    let runner = Runner::begun(rt, &ample, layout);
+    let used = ample.used();
+    drop(runner);
+    used
 }
 
 /// Steps of each kind, and what scope 3 answers after them.
@@ -232,6 +243,7 @@ fn assert_full_heap(rt: &impl Abort, alloc: Global, layout: Layout, what: &str) 
     holds_in(rt, runner.len() == 5, what, "scopes", 5);
     holds_in(rt, runner.find(b"cause") == Some(4), what, "scope", 4);
     assert_answers(rt, &runner, &ANSWERS, what);
+    drop(runner);
 }
 
 #[test]

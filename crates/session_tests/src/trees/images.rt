@@ -2,12 +2,12 @@
 //! break one rule each, and the greatest trees.
 
 use crate::asserts::{done, holds_in};
+use crate::bytes::greatest::push_greatest_scope;
 use record_view::{ImageHead, ImageVersion, put_head, read_head};
 use run_model::{Fault, Layout, Reason};
 use scope_tree::Tree;
-use std::alloc::{AllocError, Global};
+use std::alloc::Global;
 use std::process::Abort;
-use test_fixtures::digits;
 
 /// Scope a, which was cancelled by event 4 with the cause `disk`, and its child b, in version 2.
 const IMAGE: &[u8; 57] = b"\x02\x00\x00\x00\x00\x00\x00\x00\x00\x00\x00\x00\x00\x00\x00\x00\x04\
@@ -71,6 +71,7 @@ fn again(rt: &impl Abort, alloc: Global, byte: u8) -> ([u8; 500], usize) {
     let mut out = [0xee; 500];
     let end = put_head(&mut out, 0, &head);
     let end = write(rt, &tree, &mut out, end);
+    drop(tree);
     (out, end)
 }
 
@@ -105,7 +106,9 @@ fn counts(
     rows: &[u8],
 ) -> Result<(usize, usize), Fault> {
     let (tree, rest) = read(rt, alloc, Layout::Small, &head(scopes), rows)?;
-    Ok((tree.len(), rest.len()))
+    let told = (tree.len(), rest.len());
+    drop(tree);
+    Ok(told)
 }
 
 /// What is shown, a number of scopes, and the bytes of their rows.
@@ -248,47 +251,20 @@ fn rows_that_break_a_rule_are_refused(rt: HostRuntime) {
     }
 }
 
-/// What stands after the name in a row with every field of the greatest length: a deadline scope
-/// that was exceeded, without its two causes.
-const PARENT_AND_KIND: &[u8] = b"\x00\x00\x03\x00\x00\x00\x00\x00\x00\x00\x00\x40";
-
-/// The hit of event 1 at clock 0, up to its cause.
-const HIT: &[u8] = b"\x01\x00\x00\x00\x00\x00\x00\x00\x01\x00\x00\x00\x00\x00\x00\x00\x00\
-    \x02\x40";
-
-/// As many bytes as a text can have, and as the rest of a name.
-const TEXT: &[u8] = &[b'x'; 64];
-
-const REST: &[u8] = &[b'x'; 28];
-
-/// Appends pieces, one after the other.
-fn push_all(rows: &mut Vec<u8>, pieces: &[&[u8]]) -> Result<(), AllocError> {
-    for piece in pieces.iter() {
-        rows.extend_from_slice(piece)?;
-    }
-    Ok(())
-}
-
-/// Appends the row of scope `n`, of 192 bytes: its name of 32 begins with its number.
-fn push_greatest_row(rows: &mut Vec<u8>, n: u16) -> Result<(), AllocError> {
-    let pieces: [&[u8]; 7] = [b"\x20", &digits(n), REST, PARENT_AND_KIND, TEXT, HIT, TEXT];
-    push_all(rows, &pieces)
-}
-
 /// The rows of so many scopes, each of 192 bytes.
-fn greatest_rows(alloc: Global, scopes: u16) -> Result<Vec<u8>, AllocError> {
+fn greatest_rows(rt: &impl Abort, alloc: Global, scopes: u16) -> Vec<u8> {
     let mut rows = Vec::new(alloc);
     for n in 0..scopes {
-        push_greatest_row(&mut rows, n)?;
+        push_greatest_scope(rt, &mut rows, n);
     }
-    Ok(rows)
+    rows
 }
 
 /// Asserts that a tree of this layout with so many scopes below root is read from rows of so many
 /// bytes, and written again.
 fn assert_written(rt: &impl Abort, alloc: Global, layout: Layout, scopes: u16, len: usize) {
     let row = scopes as usize;
-    let rows = done(rt, greatest_rows(alloc, scopes), "memory");
+    let rows = greatest_rows(rt, alloc, scopes);
     holds_in(rt, rows.len() == len, "greatest", "rows", row);
     let tree = restored(rt, alloc, layout, &head(scopes), &rows);
     holds_in(rt, tree.len() == row + 1, "greatest", "scopes", row);
@@ -301,6 +277,7 @@ fn assert_written(rt: &impl Abort, alloc: Global, layout: Layout, scopes: u16, l
         row,
     );
     holds_in(rt, again == rows, "greatest", "bytes", row);
+    drop(tree);
 }
 
 #[test]

@@ -4,7 +4,7 @@ use crate::asserts::done;
 use crate::runners::Look;
 use crate::values::text;
 use run_model::{Hit, Kind, Moment, Name, Reason, Scope, Text};
-use std::alloc::{AllocError, Global};
+use std::alloc::Global;
 use std::process::Abort;
 
 /// The rows of a tree and its clock, with nothing beside them.
@@ -51,19 +51,17 @@ impl Found {
 impl Plain {
     /// Root alone, at this clock.
     pub fn begun(rt: &impl Abort, alloc: Global, root: Name, clock: Moment) -> Plain {
-        done(rt, Plain::new(alloc, root, clock), "memory")
-    }
-
-    fn new(alloc: Global, root: Name, clock: Moment) -> Result<Plain, AllocError> {
-        let mut scopes = Vec::new(alloc);
-        scopes.push(Scope::new(root, 0, Kind::Root))?;
-        Ok(Plain { clock, scopes })
+        let mut plain = Plain {
+            clock,
+            scopes: Vec::new(alloc),
+        };
+        plain.push(rt, Scope::new(root, 0, Kind::Root));
+        plain
     }
 
     /// This row more, whatever hit it has.
-    pub fn push(&mut self, row: Scope) -> Result<(), AllocError> {
-        self.scopes.push(row)?;
-        Ok(())
+    pub fn push(&mut self, rt: &impl Abort, row: Scope) {
+        done(rt, self.scopes.push(row), "memory");
     }
 
     /// What the clock shows.
@@ -72,17 +70,10 @@ impl Plain {
     }
 
     /// A new row; a deadline at or before the clock is exceeded.
-    pub fn derive(
-        &mut self,
-        event: u64,
-        name: &Name,
-        parent: u16,
-        kind: &Kind,
-    ) -> Result<(), AllocError> {
+    pub fn derive(&mut self, rt: &impl Abort, event: u64, name: &Name, parent: u16, kind: &Kind) {
         let mut row = Scope::new(name.copy(), parent, kind.copy());
         exceed(&mut row, event, self.clock);
-        self.scopes.push(row)?;
-        Ok(())
+        self.push(rt, row);
     }
 
     /// A scope's own hit, if it has none.

@@ -2,6 +2,7 @@
 //! plain program after each of 100 events more.
 
 use crate::asserts::done;
+use crate::bytes::images::push_all;
 use crate::dice::Dice;
 use crate::runners::Runner;
 use crate::trees::plain::Plain;
@@ -9,7 +10,7 @@ use crate::trees::shapes::{Pair, Shape};
 use crate::values::{moment, name, numbered};
 use record_view::{ImageHead, ImageVersion};
 use run_model::{Hit, Kind, Layout, Reason, Scope};
-use std::alloc::{AllocError, Global};
+use std::alloc::Global;
 use std::process::Abort;
 
 /// What the clock shows when the rows are read.
@@ -49,56 +50,59 @@ fn hit(rt: &impl Abort, dice: &mut Dice, kind: &Kind) -> Option<Hit> {
 }
 
 /// Appends a name or a text: its length, and its bytes.
-fn push_text(rows: &mut Vec<u8>, text: &[u8]) -> Result<(), AllocError> {
-    rows.push(u8::try_from(text.len()).unwrap_or(0))?;
-    rows.extend_from_slice(text)
+fn push_text(rt: &impl Abort, rows: &mut Vec<u8>, text: &[u8]) {
+    let len = u8::try_from(text.len()).unwrap_or(0);
+    push_all(rt, rows, &[&[len], text]);
 }
 
-/// Appends a kind: its number, and what it holds_in.
-fn push_kind(rows: &mut Vec<u8>, kind: &Kind) -> Result<(), AllocError> {
+/// Appends a kind: its number, and what it holds.
+fn push_kind(rt: &impl Abort, rows: &mut Vec<u8>, kind: &Kind) {
     match kind {
-        Kind::Root => Ok(()),
-        Kind::Cancel => rows.extend_from_slice(&[1]),
-        Kind::Cause => rows.extend_from_slice(&[2]),
+        Kind::Root => {}
+        Kind::Cancel => push_all(rt, rows, &[&[1]]),
+        Kind::Cause => push_all(rt, rows, &[&[2]]),
         Kind::Deadline(due, cause) => {
-            rows.extend_from_slice(&[3])?;
-            rows.extend_from_slice(&due.get().to_be_bytes())?;
+            push_all(rt, rows, &[&[3], &due.get().to_be_bytes()]);
             match cause {
-                Some(cause) => push_text(rows, cause.as_bytes()),
-                None => rows.extend_from_slice(&[0]),
+                Some(cause) => push_text(rt, rows, cause.as_bytes()),
+                None => push_all(rt, rows, &[&[0]]),
             }
         }
         Kind::Value(key, text) => {
-            rows.extend_from_slice(&[4])?;
-            push_text(rows, key.as_bytes())?;
-            push_text(rows, text.as_bytes())
+            push_all(rt, rows, &[&[4]]);
+            push_text(rt, rows, key.as_bytes());
+            push_text(rt, rows, text.as_bytes());
         }
-        Kind::Detached => rows.extend_from_slice(&[5]),
-        Kind::Group => rows.extend_from_slice(&[6]),
+        Kind::Detached => push_all(rt, rows, &[&[5]]),
+        Kind::Group => push_all(rt, rows, &[&[6]]),
     }
 }
 
 /// Appends a hit: 1, its event, moment, reason and cause; or 0 where there is none.
-fn push_hit(rows: &mut Vec<u8>, hit: &Option<Hit>) -> Result<(), AllocError> {
+fn push_hit(rt: &impl Abort, rows: &mut Vec<u8>, hit: &Option<Hit>) {
     let Some(hit) = hit else {
-        return rows.extend_from_slice(&[0]);
+        push_all(rt, rows, &[&[0]]);
+        return;
     };
-    rows.extend_from_slice(&[1])?;
-    rows.extend_from_slice(&hit.event.to_be_bytes())?;
-    rows.extend_from_slice(&hit.moment.get().to_be_bytes())?;
-    rows.push(match hit.reason {
+    let reason = match hit.reason {
         Reason::Canceled => 1,
         Reason::DeadlineExceeded => 2,
-    })?;
-    push_text(rows, hit.cause.as_bytes())
+    };
+    let moment = hit.moment.get().to_be_bytes();
+    push_all(
+        rt,
+        rows,
+        &[&[1], &hit.event.to_be_bytes(), &moment, &[reason]],
+    );
+    push_text(rt, rows, hit.cause.as_bytes());
 }
 
 /// Appends a row.
-fn push_row(rows: &mut Vec<u8>, row: &Scope) -> Result<(), AllocError> {
-    push_text(rows, row.name.as_bytes())?;
-    rows.extend_from_slice(&row.parent.to_be_bytes())?;
-    push_kind(rows, &row.kind)?;
-    push_hit(rows, &row.hit)
+fn push_row(rt: &impl Abort, rows: &mut Vec<u8>, row: &Scope) {
+    push_text(rt, rows, row.name.as_bytes());
+    push_all(rt, rows, &[&row.parent.to_be_bytes()]);
+    push_kind(rt, rows, &row.kind);
+    push_hit(rt, rows, &row.hit);
 }
 
 /// Appends the rows of scopes 1 to 999 to both.
@@ -113,8 +117,8 @@ fn push_rows(
         let parent = shape.parent(n, dice);
         let mut row = Scope::new(numbered(rt, b's', n), parent, dice.kind(rt));
         row.hit = hit(rt, dice, &row.kind);
-        done(rt, push_row(rows, &row), "memory");
-        done(rt, plain.push(row), "memory");
+        push_row(rt, rows, &row);
+        plain.push(rt, row);
     }
 }
 
@@ -147,6 +151,7 @@ fn compare(rt: &impl Abort, alloc: Global, shape: Shape, what: &str) {
     pair.assert_alike(rt, what);
     pair.grow(rt, 1_000, shape, &mut dice);
     pair.assert_events(rt, 100, &mut dice, what);
+    drop(pair);
 }
 
 #[test]

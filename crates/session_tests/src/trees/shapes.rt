@@ -89,11 +89,7 @@ impl Pair {
         let called = numbered(rt, b's', n);
         done(rt, self.runner.derive(&called, parent, kind), "scope");
         let event = self.runner.count();
-        done(
-            rt,
-            self.plain.derive(event, &called, parent, kind),
-            "memory",
-        );
+        self.plain.derive(rt, event, &called, parent, kind);
     }
 
     /// Cancels a scope in both, if the tree accepts it.
@@ -171,6 +167,7 @@ fn compare(rt: &impl Abort, alloc: Global, shape: Shape, what: &str) {
     let mut pair = Pair::begun(rt, alloc);
     pair.grow(rt, 1, shape, &mut dice);
     pair.assert_events(rt, 200, &mut dice, what);
+    drop(pair);
 }
 
 #[test]

@@ -16,13 +16,3 @@ finish-requires-clause-running g c =
     let may = each_fails asked (unless_Ok asked (Ok tt) tt
     (sym (c.in_ok-check_finish.ensures outcome.Success 0 tree))).0 in
     not-false _ may.1.0
-
-pub finish-requires-in-None-clause-running : goal.finish-requires-in-None-clause-running
-finish-requires-in-None-clause-running g c =
-    let w = c.args.groups.now in
-    let tree = new_tree w.layout in
-    let asked = refusals (record { count = 0; tree = tree; work = w })
-    (event.Finish c.args.task outcome.Success) in
-    let may = each_fails asked (unless_Ok asked (Ok tt) tt
-    (sym (c.in_ok-check_finish.ensures outcome.Success 0 tree))).0 in
-    not-false _ may.1.0
