@@ -8,7 +8,7 @@ use crate::asserts::{done, holds};
 use crate::bytes::{disk_of, now};
 use crate::pairs::{
     AS_FORMATTED, AS_OPENED, BOTH_BATCHES, CHECKPOINTED, Call, FIRST, FORMATTED, ONE_BATCH, OPENED,
-    Pair, SECOND, called, formatted, recovered,
+    Pair, SECOND, called, formatted, is_grown, recovered,
 };
 use run_disk::{Fuse, RunDisk, Torn};
 use run_journal::{Journal, Stored};
@@ -104,22 +104,9 @@ fn has_pair(
     added: Option<&[u8]>,
 ) -> bool {
     match stored_in(rt, alloc, bytes) {
-        Ok(stored) => is_grown_pair(&stored, pair, added),
+        Ok(stored) => is_grown(&stored, pair, added),
         Err(_) => false,
     }
-}
-
-fn is_grown_pair(stored: &Stored, pair: &Pair, added: Option<&[u8]>) -> bool {
-    let mut lent = stored.batches();
-    for batch in pair.batches.iter() {
-        if lent.next() != Some(*batch) {
-            return false;
-        }
-    }
-    lent.next() == added
-        && lent.next().is_none()
-        && (stored.generation(), stored.tail()) == pair.numbers
-        && stored.image() == pair.image
 }
 
 #[test]

@@ -61,13 +61,19 @@ pub const CHECKPOINTED: Pair = Pair {
 
 /// Says whether a store holds this pair.
 pub fn is_pair(stored: &Stored, pair: &Pair) -> bool {
+    is_grown(stored, pair, None)
+}
+
+/// Says whether a store holds this pair, and this batch after its own, if any.
+pub fn is_grown(stored: &Stored, pair: &Pair, added: Option<&[u8]>) -> bool {
     let mut lent = stored.batches();
     for batch in pair.batches.iter() {
         if lent.next() != Some(*batch) {
             return false;
         }
     }
-    lent.next().is_none()
+    lent.next() == added
+        && lent.next().is_none()
         && (stored.generation(), stored.tail()) == pair.numbers
         && stored.image() == pair.image
 }

@@ -147,6 +147,7 @@ fn history_gives_the_events_since_the_opening(rt: HostRuntime) {
     let mut book = book_of(&rt, rt.alloc(), disk);
     assert_said(&rt, &mut book, &SINCE);
     let unlike = first_unlike(book.history());
+    drop(book);
     assert!(rt; unlike.is_none(), "event {unlike:?}");
 }
 

@@ -88,7 +88,10 @@ fn stopped(rt: &impl Abort, alloc: Global, steps: &[Step], call: u64) -> Option<
     let mut replies = room(rt, alloc, steps);
     let disk = FailOnce::new(formatted(rt, alloc, Layout::Small), call);
     match use_store(alloc, disk, steps, &mut replies) {
-        Ok(_) => None,
+        Ok(book) => {
+            drop(book);
+            None
+        }
         Err((why, _)) => Some(why),
     }
 }

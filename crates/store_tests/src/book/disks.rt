@@ -143,7 +143,9 @@ fn numbers_of(state: &State) -> (Layout, u64, usize) {
 /// All that a book over a disk with these bytes shows, as it is opened.
 pub fn opened_over(rt: &impl Abort, alloc: Global, bytes: Vec<u8>) -> (Shown, Listing) {
     let book = book_of(rt, alloc, disk_of(rt, alloc, bytes));
-    (shown_by(&book), listed(rt, alloc, book.state()))
+    let told = (shown_by(&book), listed(rt, alloc, book.state()));
+    drop(book);
+    told
 }
 
 /// A heap of so many bytes.
@@ -194,18 +196,18 @@ pub fn play_without_memory(
 
 /// How many events there are in what a disk stores.
 pub fn counted_on<D: RunDisk, A: Allocator + Copy>(alloc: A, disk: &mut D) -> Result<u64, Fault> {
-    match Book::recover(alloc, disk) {
-        Ok(state) => Ok(state.count()),
-        Err(fault) => Err(fault),
-    }
+    let state = Book::recover(alloc, disk)?;
+    let count = state.count();
+    drop(state);
+    Ok(count)
 }
 
 /// All that a disk stores.
 pub fn found_on(rt: &impl Abort, alloc: Global, disk: &mut MemoryDisk) -> Result<Listing, Fault> {
-    match Book::recover(alloc, disk) {
-        Ok(state) => Ok(listed(rt, alloc, &state)),
-        Err(fault) => Err(fault),
-    }
+    let state = Book::recover(alloc, disk)?;
+    let found = listed(rt, alloc, &state);
+    drop(state);
+    Ok(found)
 }
 
 /// All that a disk with these bytes stores.

@@ -197,7 +197,9 @@ fn asked(
     let mut replies = room(rt, alloc, steps);
     let mut book = book_of(rt, alloc, disk);
     book.play(steps, &mut replies);
-    (shown_by(&book), replies)
+    let shown = shown_by(&book);
+    drop(book);
+    (shown, replies)
 }
 
 /// Asserts what steps are answered where this call fails, and then the questions.

@@ -111,6 +111,7 @@ fn marks_take_so_much_memory(rt: HostRuntime) {
     let mut disk = crowded(&rt, rt.alloc());
     let state = done(&rt, Book::recover(rt.alloc(), &mut disk), "store");
     assert_marks(&rt, rt.alloc(), &state, 6_240);
+    drop(state);
 }
 
 // Of the old disk's calls 24 are those of its format, its opening and its flush.

@@ -23,8 +23,10 @@ use test_fixtures::{Ask, Call, Said, said_by};
 pub fn bytes_of_state(rt: &impl Abort, alloc: Global, layout: Layout) -> usize {
     let heap = heap(rt, alloc, AMPLE);
     let mut disk = formatted(rt, alloc, layout);
-    let _state = done(rt, Book::recover(&heap, &mut disk), "store");
-    heap.used()
+    let state = done(rt, Book::recover(&heap, &mut disk), "store");
+    let used = heap.used();
+    drop(state);
+    used
 }
 
 /// A layout, and what an opening takes after the state: the log, the room of an image, both slots'
@@ -226,7 +228,10 @@ fn a_step_or_question_takes_no_memory_that_is_there(rt: HostRuntime) {
 /// Why a disk isn't opened, if it isn't, where neither the book nor the disk is kept.
 fn fault_of<D: RunDisk + Drop, A: Allocator + Copy>(alloc: A, disk: D) -> Option<Fault> {
     match Book::open(alloc, disk) {
-        Ok(_) => None,
+        Ok(book) => {
+            drop(book);
+            None
+        }
         Err((fault, _)) => Some(fault),
     }
 }
