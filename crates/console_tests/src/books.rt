@@ -5,7 +5,7 @@ use crate::asserts::done;
 use run_book::Book;
 use run_console::{RunFault, StrayLine, line, run, run_strict};
 use run_disk::{MemoryDisk, RunDisk, Torn};
-use run_model::Layout;
+use run_model::{Fault, Layout};
 use std::alloc::{Allocator, Global};
 use std::io::{Read, Write};
 use std::process::Abort;
@@ -36,11 +36,11 @@ pub fn fresh(rt: &impl Abort, alloc: Global) -> Book<MemoryDisk> {
 }
 
 /// Runs an input over a book.
-pub fn ran<A: Allocator + Copy, R: Read, W: Write, D: RunDisk>(
+pub fn ran<A: Allocator + Copy, R: Read, W: Write, D: RunDisk, B: Allocator>(
     alloc: A,
     input: &mut R,
     output: &mut W,
-    book: &mut Book<D>,
+    book: &mut Book<D, B>,
 ) -> Result<(), RunFault> {
     run(alloc, input, output, book)
 }
@@ -56,11 +56,11 @@ pub fn ran_strictly<R: Read, W: Write, D: RunDisk>(
 }
 
 /// Runs a line over a book.
-pub fn said<W: Write, D: RunDisk>(
-    alloc: Global,
+pub fn said<A: Allocator + Copy, W: Write, D: RunDisk, B: Allocator>(
+    alloc: A,
     typed: &[u8],
     output: &mut W,
-    book: &mut Book<D>,
+    book: &mut Book<D, B>,
 ) -> Result<(), RunFault> {
     line(alloc, typed, output, book)
 }
@@ -76,17 +76,35 @@ pub fn records<D: RunDisk>(rt: &impl Abort, alloc: Global, book: &Book<D>) -> Ve
 }
 
 /// What a crash after so many calls leaves, torn in this way.
-pub fn left(rt: &impl Abort, alloc: Global, disk: &MemoryDisk, calls: u64, torn: Torn) -> Vec<u8> {
+pub fn left_behind(
+    rt: &impl Abort,
+    alloc: Global,
+    disk: &MemoryDisk,
+    calls: u64,
+    torn: Torn,
+) -> Vec<u8> {
     assert!(rt; calls <= disk.calls());
     done(rt, disk.image(alloc, calls, torn), "memory")
 }
 
+/// How many events there are in what a disk stores.
+pub fn counted<A: Allocator + Copy, D: RunDisk>(alloc: A, disk: &mut D) -> Result<u64, Fault> {
+    let state = Book::recover(alloc, disk)?;
+    let count = state.count();
+    drop(state);
+    Ok(count)
+}
+
+/// How many events there are in what a disk with these bytes stores.
+pub fn count_in(rt: &impl Abort, alloc: Global, bytes: Vec<u8>) -> Result<u64, Fault> {
+    let mut disk = done(rt, MemoryDisk::from_bytes(alloc, bytes), "memory");
+    let count = counted(alloc, &mut disk);
+    drop(disk);
+    count
+}
+
 /// How many events there are in what such a crash leaves.
 pub fn stored(rt: &impl Abort, alloc: Global, disk: &MemoryDisk, calls: u64, torn: Torn) -> u64 {
-    let image = left(rt, alloc, disk, calls, torn);
-    let mut disk = done(rt, MemoryDisk::from_bytes(alloc, image), "memory");
-    match Book::recover(alloc, &mut disk) {
-        Ok(state) => state.count(),
-        Err(_) => panic!(rt; "no store"),
-    }
+    let image = left_behind(rt, alloc, disk, calls, torn);
+    done(rt, count_in(rt, alloc, image), "store")
 }

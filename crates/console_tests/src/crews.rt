@@ -1,15 +1,15 @@
 //! Nights of workers over stores: what is printed of each, and what is left.
 
 use crate::asserts::{done, holds};
-use crate::books::{formatted, left, opened, said};
+use crate::books::{formatted, left_behind};
+use crate::parts::{Part, whole};
 use crate::runs::night_on;
 use crate::writers::{End, EndingWriter};
-use run_book::Book;
 use run_console::{RunFault, crew};
 use run_crew::{Gate, Job, Turn};
 use run_disk::{FailOnce, FileDisk, MemoryDisk, RunDisk, Torn};
 use run_model::{Fault, Layout, Name, TaskInfo, Text, Trouble};
-use std::alloc::{AllocError, Global};
+use std::alloc::Global;
 use std::fs;
 use std::fs::File;
 use std::io::Write;
@@ -57,39 +57,48 @@ impl Gate for Fixed {
 }
 
 /// What a night of so many workers over a disk answers, at this gate.
-fn worked_at<D: RunDisk + Drop + Send, W: Write, R: Threads + Wait + Sync>(
+fn worked_at<D: RunDisk + Drop + Send, W: Write, R: Threads + Wait + Sync + Abort>(
     rt: &R,
     alloc: Global,
     disk: D,
     workers: usize,
     gate: &Fixed,
     output: &mut W,
-) -> Result<Result<bool, RunFault>, AllocError> {
+) -> Result<bool, RunFault> {
     let mut jobs: Vec<Vec<Box<dyn Job + Send>>> = Vec::new(alloc);
     for _ in 0..workers {
         let mut list: Vec<Box<dyn Job + Send>> = Vec::new(alloc);
-        list.push(Box::new(alloc, Plain)?)?;
-        jobs.push(list)?;
+        let job = done(rt, Box::new(alloc, Plain), "memory");
+        done(rt, list.push(job), "memory");
+        done(rt, jobs.push(list), "memory");
     }
-    Ok(crew(rt, alloc, disk, jobs, gate, output))
+    crew(rt, alloc, disk, jobs, gate, output)
 }
 
 /// What it answers at an open gate.
-fn worked<D: RunDisk + Drop + Send, W: Write, R: Threads + Wait + Sync>(
+fn worked<D: RunDisk + Drop + Send, W: Write, R: Threads + Wait + Sync + Abort>(
     rt: &R,
     alloc: Global,
     disk: D,
     workers: usize,
     output: &mut W,
-) -> Result<Result<bool, RunFault>, AllocError> {
+) -> Result<bool, RunFault> {
     worked_at(rt, alloc, disk, workers, &Fixed(true), output)
 }
 
 /// The bytes of a small store over which these lines were run.
-fn stored(rt: &impl Abort, alloc: Global, lines: &'static [u8]) -> Vec<u8> {
+fn stored(rt: &impl Abort, alloc: Global, lines: &[u8]) -> Vec<u8> {
     let disk = formatted(rt, alloc, Layout::Small);
     let (_, disk) = night_on(rt, alloc, disk, lines);
-    left(rt, alloc, &disk, disk.calls(), Torn::Take)
+    let bytes = left_behind(rt, alloc, &disk, disk.calls(), Torn::Take);
+    drop(disk);
+    bytes
+}
+
+/// A disk with a small store over which these lines were run.
+fn stored_disk(rt: &impl Abort, alloc: Global, lines: &[u8]) -> MemoryDisk {
+    let bytes = stored(rt, alloc, lines);
+    done(rt, MemoryDisk::from_bytes(alloc, bytes), "disk")
 }
 
 /// Lines of a night, how many workers come then and whether the gate is open to them, what they
@@ -170,9 +179,9 @@ static ROWS: [Row; 6] = [
 ];
 
 /// The disk over the file of this path.
-fn file_disk<S: fs::Files<File = File>>(rt: &S, path: &str) -> Option<FileDisk> {
-    let file = File::options().read(true).write(true).open(rt, path).ok()?;
-    FileDisk::new(file).ok()
+fn file_disk<S: fs::Files<File = File> + Abort>(rt: &S, path: &str) -> FileDisk {
+    let file = File::options().read(true).write(true).open(rt, path);
+    done(rt, FileDisk::new(done(rt, file, "file")), "disk")
 }
 
 /// Says whether the night of a row, over a file, prints and leaves what it should.
@@ -180,52 +189,39 @@ fn is_worked<R: fs::Files<File = File> + Threads + Wait + Sync + Abort>(
     rt: &R,
     alloc: Global,
     row: &Row,
-) -> Option<bool> {
+) -> bool {
     let path = "crew.store";
     let bytes = stored(rt, alloc, row.lines);
-    fs::write(rt, path, bytes.as_slice()).ok()?;
+    done(rt, fs::write(rt, path, bytes.as_slice()), "file");
     let mut output = Vec::new(alloc);
-    let disk = file_disk(rt, path)?;
+    let disk = file_disk(rt, path);
     let gate = Fixed(row.open);
-    let answer = worked_at(rt, alloc, disk, row.workers, &gate, &mut output).ok()?;
-    let (replied, _) = night_on(rt, alloc, file_disk(rt, path)?, row.asked);
+    let answer = worked_at(rt, alloc, disk, row.workers, &gate, &mut output);
+    let (replied, disk) = night_on(rt, alloc, file_disk(rt, path), row.asked);
+    drop(disk);
     let is_told = output.as_slice() == row.printed && answer == row.answer;
-    Some(is_told && replied.as_slice() == row.replied)
+    is_told && replied.as_slice() == row.replied
 }
 
 #[test]
 fn a_crew_works_off_a_file(rt: HostRuntime) {
     for (n, row) in ROWS.iter().enumerate() {
-        let worked = is_worked(&rt, rt.alloc(), row);
-        holds(&rt, worked == Some(true), "night", n);
+        holds(&rt, is_worked(&rt, rt.alloc(), row), "night", n);
     }
 }
 
-/// A store with 64 tasks, after 66 events.
-fn store_of_64(rt: &impl Abort, alloc: Global) -> MemoryDisk {
-    let mut book = opened(rt, alloc, formatted(rt, alloc, Layout::Small));
-    let mut output = Vec::new(alloc);
-    done(
-        rt,
-        said(alloc, b"group g root", &mut output, &mut book),
-        "group",
-    );
-    for _ in 0..64 {
-        done(
-            rt,
-            said(alloc, b"go g spin 3", &mut output, &mut book),
-            "task",
-        );
-    }
-    done(rt, said(alloc, b"flush", &mut output, &mut book), "flush");
-    book.into_disk()
-}
+/// Lines of 64 tasks, after which there are 66 events.
+static TASKS: [Part; 2] = [
+    Part::Times(1, b"group g root\n", b""),
+    Part::Times(64, b"go g spin 3\n", b""),
+];
 
 #[test]
 fn four_workers_work_off_64_tasks(rt: HostRuntime) {
     let mut output = Vec::new(rt.alloc());
-    let disk = store_of_64(&rt, rt.alloc());
-    let answer = done(&rt, worked(&rt, rt.alloc(), disk, 4, &mut output), "jobs");
+    let (typed, _) = whole(&rt, rt.alloc(), &TASKS);
+    let disk = stored_disk(&rt, rt.alloc(), &typed);
+    let answer = worked(&rt, rt.alloc(), disk, 4, &mut output);
     holds(&rt, answer == Ok(true), "answer", 0);
     let printed = b"audit ok; starts 64; finishes 64\nacked 195\n";
     holds(&rt, output.as_slice() == printed.as_slice(), "text", 0);
@@ -247,11 +243,10 @@ const DEVICE: RunFault = RunFault::Store(Trouble::Faulty(Fault::DiskFailed));
 #[test]
 fn a_night_whose_device_fails_acknowledges_nothing(rt: HostRuntime) {
     for (call, printed) in FAILED {
-        let bytes = stored(&rt, rt.alloc(), b"bare g root\ngo g spin 3\n");
-        let disk = done(&rt, MemoryDisk::from_bytes(rt.alloc(), bytes), "disk");
+        let disk = stored_disk(&rt, rt.alloc(), b"bare g root\ngo g spin 3\n");
         let mut output = Vec::new(rt.alloc());
         let disk = FailOnce::new(disk, call);
-        let answer = done(&rt, worked(&rt, rt.alloc(), disk, 1, &mut output), "jobs");
+        let answer = worked(&rt, rt.alloc(), disk, 1, &mut output);
         holds(&rt, answer == Err(DEVICE), "fault at call", call as usize);
         let is_told = output.as_slice() == printed;
         holds(&rt, is_told, "text at call", call as usize);
@@ -266,7 +261,7 @@ fn what_is_no_store_has_no_night(rt: HostRuntime) {
     for (size, fault) in UNOPENED {
         let disk = done(&rt, MemoryDisk::new(rt.alloc(), size), "disk");
         let mut output = Vec::new(rt.alloc());
-        let answer = done(&rt, worked(&rt, rt.alloc(), disk, 1, &mut output), "jobs");
+        let answer = worked(&rt, rt.alloc(), disk, 1, &mut output);
         let told = Err(RunFault::Store(Trouble::Faulty(fault)));
         holds(&rt, answer == told, "fault at size", size);
         holds(&rt, output.is_empty(), "nothing at size", size);
@@ -283,10 +278,9 @@ static CUT: [(usize, End, &[u8]); 3] = [
 #[test]
 fn a_night_that_can_not_be_told_has_a_front_out(rt: HostRuntime) {
     for (n, (left, end, printed)) in CUT.iter().enumerate() {
-        let bytes = stored(&rt, rt.alloc(), b"bare g root\ngo g spin 3\n");
-        let disk = done(&rt, MemoryDisk::from_bytes(rt.alloc(), bytes), "disk");
+        let disk = stored_disk(&rt, rt.alloc(), b"bare g root\ngo g spin 3\n");
         let mut output = EndingWriter::new(Vec::new(rt.alloc()), 10, *left, *end);
-        let answer = done(&rt, worked(&rt, rt.alloc(), disk, 1, &mut output), "jobs");
+        let answer = worked(&rt, rt.alloc(), disk, 1, &mut output);
         let wanted = if *left == 4 {
             Ok(true)
         } else {

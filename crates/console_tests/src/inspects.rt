@@ -37,10 +37,9 @@ static SEEN: [Night; 2] = [
 /// What is seen of what a disk stores.
 fn seen(rt: &impl Abort, alloc: Global, disk: &mut MemoryDisk) -> Vec<u8> {
     let mut printed = Vec::new(alloc);
-    match Book::recover(alloc, disk) {
-        Ok(state) => done(rt, inspect(&state, &mut printed), "room"),
-        Err(_) => panic!(rt; "no store"),
-    }
+    let state = done(rt, Book::recover(alloc, disk), "store");
+    done(rt, inspect(&state, &mut printed), "room");
+    drop(state);
     printed
 }
 
@@ -53,4 +52,5 @@ fn a_stopped_night_is_inspected(rt: HostRuntime) {
         holds(&rt, printed.as_slice() == night.1, "night", n);
         disk = left;
     }
+    drop(disk);
 }

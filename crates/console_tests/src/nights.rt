@@ -1,5 +1,6 @@
 //! Nights that come to their end: what a person types, and what is printed.
 
+use crate::asserts::holds;
 use crate::runs::{Night, assert_goes_on, assert_printed, joined, run_lines, said_so};
 
 /// Without lines only the count is printed.
@@ -129,7 +130,8 @@ fn a_line_is_any_bytes_but_the_line_feed(rt: HostRuntime) {
             *odd,
         ];
         let left = said_so(&rt, rt.alloc(), &lines, n);
-        assert!(rt; left.counts == (2, 1), "line {n} changed nothing");
+        holds(&rt, left.counts == (2, 1), "nothing is changed by line", n);
+        drop(left);
     }
 }
 
@@ -152,8 +154,9 @@ const RECORDS: &[u8] = b"\x01\0\x05\x01a\0\0\x02\x01\0\x05\x01b\0\x01\x01\x02\0\
 #[test]
 fn lines_change_the_session(rt: HostRuntime) {
     let left = said_so(&rt, rt.alloc(), &LINES, 0);
-    assert!(rt; left.counts == (4, 1));
-    assert!(rt; left.records.as_slice() == RECORDS);
+    holds(&rt, left.counts == (4, 1), "events", 0);
+    holds(&rt, left.records.as_slice() == RECORDS, "records", 0);
+    drop(left);
 }
 
 /// Lines that are events, each with its record.
@@ -196,10 +199,9 @@ fn each_event_has_its_record(rt: HostRuntime) {
     let mut printed = Vec::new(rt.alloc());
     for (n, events) in [EVENTS.as_slice(), &CANCEL].iter().enumerate() {
         let left = run_lines(&rt, rt.alloc(), events, &mut printed);
-        assert!(rt;
-            left.records == joined(&rt, rt.alloc(), events),
-            "events {n}"
-        );
+        let is_told = left.records == joined(&rt, rt.alloc(), events);
+        drop(left);
+        holds(&rt, is_told, "records of events", n);
     }
 }
 

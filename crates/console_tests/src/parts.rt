@@ -80,7 +80,7 @@ fn left_by(
 /// Asserts what is printed for each of these nights, over a new book of a layout each.
 pub fn assert_parts(rt: &impl Abort, alloc: Global, layout: Layout, nights: &[&[Part]]) {
     for (n, parts) in nights.iter().enumerate() {
-        let _disk = left_by(rt, alloc, layout, parts, n);
+        drop(left_by(rt, alloc, layout, parts, n));
     }
 }
 
@@ -89,5 +89,6 @@ pub fn assert_calls(rt: &impl Abort, alloc: Global, nights: &[(&[Part], u64)]) {
     for (n, (parts, calls)) in nights.iter().enumerate() {
         let disk = left_by(rt, alloc, Layout::Small, parts, n);
         holds(rt, disk.calls() == *calls, "calls of night", n);
+        drop(disk);
     }
 }

@@ -45,6 +45,21 @@ pub fn run_over<A: Allocator + Copy, R: Read, W: Write, D: RunDisk>(
     }
 }
 
+/// Runs an input over a disk that holds a store, and then the questions.
+pub fn run_on<A: Allocator + Copy, R: Read, W: Write, D: RunDisk + Drop>(
+    rt: &impl Abort,
+    alloc: Global,
+    heap: A,
+    disk: D,
+    input: &mut R,
+    output: &mut W,
+) -> Ended {
+    let mut book = opened(rt, alloc, disk);
+    let ended = run_over(alloc, heap, input, output, &mut book);
+    drop(book);
+    ended
+}
+
 /// Runs an input over a new book, and then the questions.
 pub fn run_new<A: Allocator + Copy, R: Read, W: Write>(
     rt: &impl Abort,
@@ -53,8 +68,8 @@ pub fn run_new<A: Allocator + Copy, R: Read, W: Write>(
     input: &mut R,
     output: &mut W,
 ) -> Ended {
-    let mut book = fresh(rt, alloc);
-    run_over(alloc, heap, input, output, &mut book)
+    let disk = formatted(rt, alloc, Layout::Small);
+    run_on(rt, alloc, heap, disk, input, output)
 }
 
 /// Runs an input to its end over a disk that holds a store. Gives what is printed, and the disk.
@@ -74,7 +89,9 @@ pub fn night_on<D: RunDisk + Drop>(
 
 /// What is printed for an input over a new book, which it makes durable.
 pub fn told(rt: &impl Abort, alloc: Global, typed: &[u8]) -> Vec<u8> {
-    night_on(rt, alloc, formatted(rt, alloc, Layout::Small), typed).0
+    let (printed, disk) = night_on(rt, alloc, formatted(rt, alloc, Layout::Small), typed);
+    drop(disk);
+    printed
 }
 
 /// Asserts what is printed for each of these nights, over a new book each.
@@ -94,6 +111,7 @@ pub fn assert_goes_on(rt: &impl Abort, alloc: Global, nights: &[Night]) {
         holds(rt, result.is_ok(), "run", n);
         holds(rt, printed.as_slice() == night.1, "night", n);
     }
+    drop(book);
 }
 
 /// Asserts what is printed for each of these nights, after an opening each of one disk.
@@ -104,6 +122,7 @@ pub fn assert_opened_again(rt: &impl Abort, alloc: Global, nights: &[Night]) {
         holds(rt, printed.as_slice() == night.1, "night", n);
         disk = left;
     }
+    drop(disk);
 }
 
 /// What lines left that were each run by itself over a new book, up to the first that failed.

@@ -108,23 +108,15 @@ fn assert_written(rt: &impl Abort, alloc: Global, part: usize, writing: Writing,
         _ => Err(RunFault::Output),
     };
     holds(rt, ended.result == wanted, "fault", written);
-    holds(
-        rt,
-        is_front(&output.into_written(), PRINTED, written),
-        "replies",
-        written,
-    );
+    let is_told = is_front(&output.into_written(), PRINTED, written);
+    holds(rt, is_told, "replies", written);
     let shown = match part {
         1 => cut_at(written),
         _ => DONE,
     };
     holds(rt, ended.shown.as_slice() == shown, "book", written);
-    holds(
-        rt,
-        written <= 96 || ended.counts == (4, 4),
-        "durable events",
-        written,
-    );
+    let is_durable = written <= 96 || ended.counts == (4, 4);
+    holds(rt, is_durable, "durable events", written);
 }
 
 #[test]
@@ -164,9 +156,10 @@ fn a_line_is_run_whose_reply_cant_be_written(rt: HostRuntime) {
         for (n, (lines, (most, writes), written, counts)) in CUT.iter().enumerate() {
             let mut output = EndingWriter::new(Vec::new(rt.alloc()), *most, *writes, end);
             let left = run_lines(&rt, rt.alloc(), lines, &mut output);
-            assert!(rt; left.result == Err(RunFault::Output), "line {n}");
-            assert!(rt; output.into_written().as_slice() == *written, "line {n}");
-            assert!(rt; left.counts == *counts, "line {n}");
+            let is_told = left.result == Err(RunFault::Output) && left.counts == *counts;
+            drop(left);
+            holds(&rt, is_told, "line", n);
+            holds(&rt, output.into_written().as_slice() == *written, "text", n);
         }
     }
 }
@@ -182,7 +175,7 @@ const TALLIED: &[u8] = b"group 0 scope 1\ntask 0 ready\ntask 1 ready\ntask 2 rea
     acked 5\n";
 
 /// A heap of so many bytes.
-fn heap(rt: &impl Abort, alloc: Global, bytes: usize) -> LocalHeap {
+pub fn heap(rt: &impl Abort, alloc: Global, bytes: usize) -> LocalHeap {
     done(rt, LocalHeap::new(alloc, bytes), "memory")
 }
 
@@ -203,15 +196,21 @@ fn a_tally_without_memory_has_no_line(rt: HostRuntime) {
             Ok(()) => spared > 0 && printed.as_slice() == TALLIED,
             Err(fault) => fault == RunFault::Memory && printed.as_slice() == BEFORE,
         };
-        assert!(rt; told, "{spared} bytes spared");
-        assert!(rt; ended.counts.0 == 5, "the lines before it stand");
+        holds(&rt, told, "bytes spared", spared);
+        holds(
+            &rt,
+            ended.counts.0 == 5,
+            "lines before it, bytes spared",
+            spared,
+        );
     }
 }
 
 #[test]
 fn other_replies_take_no_memory(rt: HostRuntime) {
     let (ended, printed) = hoarded(&rt, rt.alloc(), TYPED, 0);
-    assert!(rt; ended.result.is_ok() && printed.as_slice() == PRINTED);
+    let is_told = ended.result.is_ok() && printed.as_slice() == PRINTED;
+    holds(&rt, is_told, "bytes spared", 0);
 }
 
 #[test]
@@ -220,11 +219,8 @@ fn memory_is_given_back(rt: HostRuntime) {
         let heap = heap(&rt, rt.alloc(), 4_000);
         let mut printed = Vec::new(rt.alloc());
         let ended = run_new(&rt, rt.alloc(), &heap, &mut typed, &mut printed);
-        assert!(rt;
-            ended.result.is_ok() && printed.as_slice() == wanted,
-            "night {n}"
-        );
-        assert!(rt; heap.used() == 0, "night {n}");
+        let is_told = ended.result.is_ok() && printed.as_slice() == wanted;
+        holds(&rt, is_told && heap.used() == 0, "night", n);
     }
 }
 
@@ -256,11 +252,9 @@ fn an_input_has_at_most_16777216_bytes(rt: HostRuntime) {
         let mut input = RepeatingReader::new(lines, *more);
         let mut printed = Vec::new(rt.alloc());
         let ended = run_new(&rt, rt.alloc(), rt.alloc(), &mut input, &mut printed);
-        assert!(rt;
-            ended.result == *result && input.left() == *unread,
-            "input {n}"
-        );
-        assert!(rt; printed.as_slice() == *wanted, "input {n}");
+        let is_read = ended.result == *result && input.left() == *unread;
+        holds(&rt, is_read, "input", n);
+        holds(&rt, printed.as_slice() == *wanted, "replies to input", n);
     }
 }
 
@@ -270,7 +264,9 @@ fn a_line_is_replied_to_before_the_next_read(rt: HostRuntime) {
     let mut input = WatchingReader::new(TYPED, &written, Vec::new(rt.alloc()));
     let mut output = CountingWriter::new(&written);
     let ended = run_new(&rt, rt.alloc(), rt.alloc(), &mut input, &mut output);
-    assert!(rt; ended.result.is_ok() && written.get() == PRINTED.len());
+    let is_whole = ended.result.is_ok() && written.get() == PRINTED.len();
+    holds(&rt, is_whole, "bytes written", written.get());
     // The last line has no LF, so the end is read before it is run.
-    assert!(rt; input.seen() == [0, 8, 8, 16, 19, 42, 42].as_slice());
+    let is_seen = input.seen() == [0, 8, 8, 16, 19, 42, 42].as_slice();
+    holds(&rt, is_seen, "written before each read, bytes", 42);
 }

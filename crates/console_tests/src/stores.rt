@@ -2,10 +2,10 @@
 //! are spent, put an end to.
 
 use crate::asserts::{done, holds};
-use crate::books::{counts, formatted, left, opened, ran, said, stored};
+use crate::books::{counts, formatted, left_behind, opened, ran, said, stored};
 use crate::parts::Part::{self, Times, Typed};
 use crate::parts::whole;
-use crate::runs::{Ended, Night, night_on, run_over, said_so};
+use crate::runs::{Ended, Night, night_on, run_on, run_over, said_so};
 use crate::writers::{End, EndingWriter};
 use run_book::Book;
 use run_console::RunFault;
@@ -33,18 +33,10 @@ fn assert_stored(
     open: u64,
 ) {
     for (n, (keeps, takes)) in TEARS.iter().enumerate() {
-        holds(
-            rt,
-            stored(rt, alloc, disk, calls, *keeps) == closed,
-            "closed",
-            n,
-        );
-        holds(
-            rt,
-            stored(rt, alloc, disk, calls, *takes) == open,
-            "open",
-            n,
-        );
+        let is_closed = stored(rt, alloc, disk, calls, *keeps) == closed;
+        let is_open = stored(rt, alloc, disk, calls, *takes) == open;
+        holds(rt, is_closed, "closed", n);
+        holds(rt, is_open, "open", n);
     }
 }
 
@@ -81,22 +73,17 @@ fn a_stop_leaves_what_was_acknowledged(rt: HostRuntime) {
     for (n, (last, calls)) in SAVES.iter().enumerate() {
         let [one, two, three, four, five, six] = LINES;
         let last = (*last, b"acked 6\n".as_slice());
-        let left = said_so(
-            &rt,
-            rt.alloc(),
-            &[one, two, three, four, five, six, last],
-            n,
-        );
+        let lines = [one, two, three, four, five, six, last];
+        let left = said_so(&rt, rt.alloc(), &lines, n);
         let all = calls.saturating_add(BEFORE);
-        assert!(rt;
-            left.counts == (6, 6) && left.disk.calls() == all,
-            "save {n}"
-        );
+        let is_saved = left.counts == (6, 6) && left.disk.calls() == all;
+        holds(&rt, is_saved, "save", n);
         for made in 0..=*calls {
             let (closed, open) = saved_behind(made, *calls);
             let behind = made.saturating_add(BEFORE);
             assert_stored(&rt, rt.alloc(), &left.disk, behind, closed, open);
         }
+        drop(left);
     }
 }
 
@@ -148,19 +135,15 @@ static STORED: [(u64, u64, u64, u64); 11] = [
 fn a_stop_at_each_call_of_a_run_leaves_what_was_acknowledged(rt: HostRuntime) {
     let disk = formatted(&rt, rt.alloc(), Layout::Small);
     let (printed, disk) = night_on(&rt, rt.alloc(), disk, SAVING.0);
-    assert!(rt; printed.as_slice() == SAVING.1 && disk.calls() == 43);
+    let is_told = printed.as_slice() == SAVING.1 && disk.calls() == 43;
+    holds(&rt, is_told, "calls", 43);
     for (from, to, closed, open) in STORED.iter() {
         for calls in *from..=*to {
-            assert_stored(
-                &rt,
-                rt.alloc(),
-                &disk,
-                calls.saturating_add(8),
-                *closed,
-                *open,
-            );
+            let made = calls.saturating_add(8);
+            assert_stored(&rt, rt.alloc(), &disk, made, *closed, *open);
         }
     }
+    drop(disk);
 }
 
 const FAILED: RunFault = RunFault::Store(Trouble::Faulty(Fault::DiskFailed));
@@ -199,19 +182,9 @@ fn assert_broken<D: RunDisk>(rt: &impl Abort, alloc: Global, book: &mut Book<D>,
     holds(rt, run == Err(BROKEN), "a run behind fault", row);
     let line = said(alloc, b"scope a", &mut output, book);
     holds(rt, line == Err(BROKEN), "a line behind fault", row);
-    holds(
-        rt,
-        input.len() == TYPED.len(),
-        "nothing read behind fault",
-        row,
-    );
-    holds(rt, output.is_empty(), "nothing written behind fault", row);
-    holds(
-        rt,
-        counts(book) == before,
-        "nothing changed behind fault",
-        row,
-    );
+    let is_same = input.len() == TYPED.len() && counts(book) == before;
+    let is_still = is_same && output.is_empty();
+    holds(rt, is_still, "nothing done behind fault", row);
 }
 
 /// Asserts how the night ends over a disk that fails.
@@ -227,14 +200,11 @@ fn assert_fails<D: RunDisk + Drop>(
     let mut printed = Vec::new(alloc);
     let ended = run_over(alloc, alloc, &mut &TYPED[..], &mut printed, &mut book);
     holds(rt, ended.result == Err(FAILED), "fault", row);
-    holds(
-        rt,
-        printed.as_slice() == wanted,
-        "replies before fault",
-        row,
-    );
+    let is_told = printed.as_slice() == wanted;
+    holds(rt, is_told, "replies before fault", row);
     holds(rt, ended.counts == events, "events before fault", row);
     assert_broken(rt, alloc, &mut book, row);
+    drop(book);
 }
 
 /// Asserts so for a device that fails for good after so many calls of the night, and for one that
@@ -274,16 +244,15 @@ fn fused<W: Write>(
 ) -> Ended {
     let disk = formatted(rt, alloc, Layout::Small);
     let fuse = Fuse::new(disk, calls.saturating_add(10));
-    let mut book = opened(rt, alloc, fuse);
-    run_over(alloc, alloc, &mut typed, output, &mut book)
+    run_on(rt, alloc, alloc, fuse, &mut typed, output)
 }
 
 #[test]
 fn a_night_makes_no_call_more(rt: HostRuntime) {
     let mut printed = Vec::new(rt.alloc());
     let ended = fused(&rt, rt.alloc(), 19, TYPED, &mut printed);
-    assert!(rt; ended.result.is_ok() && ended.counts == (4, 4));
-    assert!(rt; printed.as_slice() == PRINTED);
+    let is_whole = ended.result.is_ok() && ended.counts == (4, 4);
+    holds(&rt, is_whole && printed.as_slice() == PRINTED, "calls", 19);
 }
 
 /// Replies, and the line of a fault.
@@ -298,16 +267,12 @@ fn a_fault_is_printed_as_far_as_it_goes(rt: HostRuntime) {
             let typed = b"derive a root cause\nflush\n";
             let ended = fused(&rt, rt.alloc(), 0, typed, &mut output);
             let wanted = if writes < 8 { RunFault::Output } else { FAILED };
-            assert!(rt; ended.result == Err(wanted), "{writes} writes");
             let printed = output.into_written();
-            assert!(rt;
-                printed.len() == writes && CUT.starts_with(&printed),
-                "{writes} writes"
-            );
-            assert!(rt;
-                ended.counts == (2, 1) && ended.shown.is_empty(),
-                "{writes} writes"
-            );
+            let is_front = printed.len() == writes && CUT.starts_with(&printed);
+            let is_left = ended.counts == (2, 1) && ended.shown.is_empty();
+            holds(&rt, ended.result == Err(wanted), "fault at write", writes);
+            holds(&rt, is_front, "text at write", writes);
+            holds(&rt, is_left, "book at write", writes);
         }
     }
 }
@@ -315,7 +280,8 @@ fn a_fault_is_printed_as_far_as_it_goes(rt: HostRuntime) {
 /// A store whose generation is the last but one, so that no checkpoint is left after its opening.
 fn last_but_one(rt: &impl Abort, alloc: Global) -> MemoryDisk {
     let disk = formatted(rt, alloc, Layout::Small);
-    let image = left(rt, alloc, &disk, 8, Torn::Keep);
+    let image = left_behind(rt, alloc, &disk, 8, Torn::Keep);
+    drop(disk);
     let head = b"\xa7\x7f\xff\xff\xff\xff\xff\xff\xfe";
     let mut bytes = done(rt, Vec::from_slice(alloc, head), "memory");
     let rest = image.get(head.len()..).unwrap_or(head);
@@ -364,17 +330,15 @@ fn spent_numbers_end_a_run_and_break_no_book(rt: HostRuntime) {
         let (typed, wanted) = whole(&rt, rt.alloc(), parts);
         let mut printed = Vec::new(rt.alloc());
         let ended = run_spent(&rt, rt.alloc(), &typed, &mut printed);
-        assert!(rt;
-            ended.result == Err(spent) && printed == wanted,
-            "night {n}"
-        );
-        assert!(rt; ended.counts == (*events, 1), "night {n}");
-        assert!(rt; ended.shown.as_slice() == *shown, "night {n}");
+        let is_told = ended.result == Err(spent) && printed == wanted;
+        let is_left = ended.counts == (*events, 1) && ended.shown.as_slice() == *shown;
+        holds(&rt, is_told, "night", n);
+        holds(&rt, is_left, "book after night", n);
     }
 }
 
 /// Runs an input over a book of the last generation.
 fn run_spent(rt: &impl Abort, alloc: Global, mut typed: &[u8], output: &mut Vec<u8>) -> Ended {
-    let mut book = opened(rt, alloc, last_but_one(rt, alloc));
-    run_over(alloc, alloc, &mut typed, output, &mut book)
+    let disk = last_but_one(rt, alloc);
+    run_on(rt, alloc, alloc, disk, &mut typed, output)
 }

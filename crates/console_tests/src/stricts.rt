@@ -1,13 +1,15 @@
 //! Strict runs: which line strays, what is printed up to it, and what is left after it.
 
 use crate::asserts::{done, holds};
-use crate::books::{counts, formatted, fresh, opened, ran_strictly};
+use crate::books::{counts, formatted, opened, ran_strictly};
+use crate::parts::{Part, whole};
 use crate::readers::{Behind, PartReader};
 use crate::writers::{End, EndingWriter};
 use run_console::{RunFault, Stray, StrayLine};
-use run_disk::FailOnce;
+use run_disk::{FailOnce, RunDisk};
 use run_model::{Fault, Layout, Refusal, Trouble};
 use std::alloc::Global;
+use std::io::{Read, Write};
 use std::process::Abort;
 
 /// What is typed, what is printed, the number of the line that strays and why it does, and how many
@@ -20,6 +22,22 @@ fn line(stray: Option<(u64, Stray)>) -> Option<StrayLine> {
         Some((number, why)) => Some(StrayLine { number, why }),
         None => None,
     }
+}
+
+/// Runs an input strictly over a disk that holds a store. Gives how it ended, and how many events
+/// there are then and how many of them are durable.
+fn run_strictly<R: Read, W: Write, D: RunDisk + Drop>(
+    rt: &impl Abort,
+    alloc: Global,
+    disk: D,
+    input: &mut R,
+    output: &mut W,
+) -> (Result<Option<StrayLine>, RunFault>, (u64, u64)) {
+    let mut book = opened(rt, alloc, disk);
+    let result = ran_strictly(alloc, input, output, &mut book);
+    let counts = counts(&book);
+    drop(book);
+    (result, counts)
 }
 
 static ROWS: [Row; 14] = [
@@ -106,13 +124,13 @@ static ROWS: [Row; 14] = [
 fn a_strict_run_ends_behind_the_first_line_that_strays(rt: HostRuntime) {
     for part in [1, 7, 4_096] {
         for (n, (typed, wanted, stray, events)) in ROWS.iter().enumerate() {
-            let mut book = fresh(&rt, rt.alloc());
+            let disk = formatted(&rt, rt.alloc(), Layout::Small);
             let mut input = PartReader::new(typed, part, Behind::Ends);
             let mut printed = Vec::new(rt.alloc());
-            let result = ran_strictly(rt.alloc(), &mut input, &mut printed, &mut book);
-            assert!(rt; result == Ok(line(*stray)), "row {n}");
-            assert!(rt; printed.as_slice() == *wanted, "row {n}");
-            assert!(rt; counts(&book) == (*events, *events), "row {n}");
+            let ended = run_strictly(&rt, rt.alloc(), disk, &mut input, &mut printed);
+            holds(&rt, ended.0 == Ok(line(*stray)), "end of row", n);
+            holds(&rt, printed.as_slice() == *wanted, "row", n);
+            holds(&rt, ended.1 == (*events, *events), "events of row", n);
         }
     }
 }
@@ -122,57 +140,27 @@ fn refused(number: u64, why: Refusal) -> Result<Option<StrayLine>, RunFault> {
     Ok(line(Some((number, Stray::Refused(why)))))
 }
 
-/// How many questions come before the line that strays. They have 13,200 bytes, so three reads of
-/// 4,096 bytes each don't have them all.
-const MANY: usize = 1_200;
-
-/// So many questions, a line that is refused, and 5,000 bytes after it.
-fn long_input(rt: &impl Abort, alloc: Global) -> Vec<u8> {
-    let mut bytes = Vec::new(alloc);
-    for _ in 0..MANY {
-        done(rt, bytes.extend_from_slice(b"scope root\n"), "memory");
-    }
-    done(rt, bytes.extend_from_slice(b"cancel root\n"), "memory");
-    for _ in 0..250 {
-        done(
-            rt,
-            bytes.extend_from_slice(b"derive a root cause\n"),
-            "memory",
-        );
-    }
-    bytes
-}
-
-/// What is printed for it.
-fn long_output(rt: &impl Abort, alloc: Global) -> Vec<u8> {
-    let mut bytes = Vec::new(alloc);
-    for _ in 0..MANY {
-        done(
-            rt,
-            bytes.extend_from_slice(b"live; deadline none\n"),
-            "memory",
-        );
-    }
-    let end = b"refused 10 NotCancellable\nacked 1\n";
-    done(rt, bytes.extend_from_slice(end), "memory");
-    bytes
-}
+/// Questions, a line that is refused, and 5,000 bytes after it. The questions have 13,200 bytes, so
+/// three reads of 4,096 bytes each don't have them all.
+static LONG: [Part; 3] = [
+    Part::Times(1_200, b"scope root\n", b"live; deadline none\n"),
+    Part::Times(1, b"cancel root\n", b"refused 10 NotCancellable\nacked 1\n"),
+    Part::Times(250, b"derive a root cause\n", b""),
+];
 
 #[test]
 fn no_more_is_read_behind_the_part_of_the_line_that_strays(rt: HostRuntime) {
-    let typed = long_input(&rt, rt.alloc());
+    let (typed, wanted) = whole(&rt, rt.alloc(), &LONG);
     let mut input = typed.as_slice();
     let mut printed = Vec::new(rt.alloc());
-    let mut book = fresh(&rt, rt.alloc());
-    let result = ran_strictly(rt.alloc(), &mut input, &mut printed, &mut book);
-    assert!(rt;
-        result == refused(1_201, Refusal::NotCancellable),
-        "the line that strays"
-    );
-    assert!(rt; printed == long_output(&rt, rt.alloc()), "what is printed");
-    assert!(rt; counts(&book) == (1, 1), "the lines behind it");
+    let disk = formatted(&rt, rt.alloc(), Layout::Small);
+    let ended = run_strictly(&rt, rt.alloc(), disk, &mut input, &mut printed);
+    let is_told = ended.0 == refused(1_201, Refusal::NotCancellable);
+    holds(&rt, is_told, "the line that strays", 1_201);
+    holds(&rt, printed == wanted, "what is printed", 0);
+    holds(&rt, ended.1 == (1, 1), "the lines behind it", 0);
     // Of 18,212 bytes four parts were read.
-    assert!(rt; input.len() == 1_828, "what isn't read");
+    holds(&rt, input.len() == 1_828, "what isn't read", 0);
 }
 
 /// Two lines that are accepted, one that strays, and one after it.
@@ -194,10 +182,10 @@ fn behind(given: usize) -> (usize, u64) {
 fn a_failed_read_before_the_line_that_strays_is_a_fault(rt: HostRuntime) {
     for given in 0..=TYPED.len() {
         let bytes = TYPED.get(..given).unwrap_or(TYPED);
-        let mut book = fresh(&rt, rt.alloc());
+        let disk = formatted(&rt, rt.alloc(), Layout::Small);
         let mut input = PartReader::new(bytes, 1, Behind::Fails);
         let mut printed = Vec::new(rt.alloc());
-        let result = ran_strictly(rt.alloc(), &mut input, &mut printed, &mut book);
+        let (result, counts) = run_strictly(&rt, rt.alloc(), disk, &mut input, &mut printed);
         let (replied, events) = behind(given);
         // The third line ends with the 39th byte. Where that is there, nothing is read after it.
         let told = match given {
@@ -205,15 +193,15 @@ fn a_failed_read_before_the_line_that_strays_is_a_fault(rt: HostRuntime) {
                 result == Err(RunFault::Input)
                     && printed.len() == replied
                     && PRINTED.starts_with(&printed)
-                    && counts(&book) == (events, 1)
+                    && counts == (events, 1)
             }
             _ => {
                 result == refused(3, Refusal::AlreadyDone)
                     && printed.as_slice() == PRINTED
-                    && counts(&book) == (3, 3)
+                    && counts == (3, 3)
             }
         };
-        assert!(rt; told, "a read fails behind {given} bytes");
+        holds(&rt, told, "a read fails behind byte", given);
     }
 }
 
@@ -232,22 +220,24 @@ fn a_failed_write_is_a_fault_and_runs_no_line_behind_the_one_that_strays(rt: Hos
     for end in [End::Fails, End::TakesNothing] {
         for part in [1, 4_096] {
             for written in 0..PRINTED.len() {
-                let mut book = fresh(&rt, rt.alloc());
+                let disk = formatted(&rt, rt.alloc(), Layout::Small);
                 let mut input = PartReader::new(TYPED, part, Behind::Ends);
                 let mut output = EndingWriter::new(Vec::new(rt.alloc()), 1, written, end);
-                let result = ran_strictly(rt.alloc(), &mut input, &mut output, &mut book);
+                let ended = run_strictly(&rt, rt.alloc(), disk, &mut input, &mut output);
                 let printed = output.into_written();
-                assert!(rt;
-                    result == Err(RunFault::Output),
-                    "{written} bytes are written"
+                let is_front = printed.len() == written && PRINTED.starts_with(&printed);
+                holds(
+                    &rt,
+                    ended.0 == Err(RunFault::Output),
+                    "bytes, fault",
+                    written,
                 );
-                assert!(rt;
-                    printed.len() == written && PRINTED.starts_with(&printed),
-                    "{written} bytes are written"
-                );
-                assert!(rt;
-                    counts(&book) == cut_at(written, part),
-                    "{written} bytes are written"
+                holds(&rt, is_front, "bytes written", written);
+                holds(
+                    &rt,
+                    ended.1 == cut_at(written, part),
+                    "bytes, events",
+                    written,
                 );
             }
         }
@@ -260,14 +250,18 @@ fn a_failed_flush_acknowledges_nothing(rt: HostRuntime) {
     let wanted = b"scope 1\nok\nrefused 12 AlreadyDone\nfault 2 DiskFailed\n".as_slice();
     let failed = Err(RunFault::Store(Trouble::Faulty(Fault::DiskFailed)));
     for call in 0..6 {
-        let disk = formatted(&rt, rt.alloc(), Layout::Small);
-        let mut book = opened(&rt, rt.alloc(), FailOnce::new(disk, 11 + call));
+        let disk = FailOnce::new(formatted(&rt, rt.alloc(), Layout::Small), 11 + call);
         let mut input = TYPED;
         let mut printed = Vec::new(rt.alloc());
-        let result = ran_strictly(rt.alloc(), &mut input, &mut printed, &mut book);
-        assert!(rt; result == failed, "call {call} fails");
-        assert!(rt; printed.as_slice() == wanted, "call {call} fails");
-        assert!(rt; counts(&book) == (3, 1), "call {call} fails");
+        let ended = run_strictly(&rt, rt.alloc(), disk, &mut input, &mut printed);
+        holds(&rt, ended.0 == failed, "fault at call", call as usize);
+        holds(
+            &rt,
+            printed.as_slice() == wanted,
+            "text at call",
+            call as usize,
+        );
+        holds(&rt, ended.1 == (3, 1), "events at call", call as usize);
     }
 }
 

@@ -108,22 +108,26 @@ fn timed(
     times: &[u64],
     typed: &[u8],
     part: usize,
+    behind: Behind,
 ) -> (Result<(), RunFault>, Vec<u8>, u64) {
     let moments = moments(rt, alloc, times);
     let mut book = fresh(rt, alloc);
     let mut output = Vec::new(alloc);
     let clock = book.state().clock();
-    let input = PartReader::new(typed, part, Behind::Ends);
+    let input = PartReader::new(typed, part, behind);
     let mut lines = TimedInput::new(clock, moments.as_slice(), input);
     let end = ran(alloc, &mut lines, &mut output, &mut book);
-    (end, output, counts(&book).0)
+    let (events, _) = counts(&book);
+    drop(book);
+    (end, output, events)
 }
 
 #[test]
 fn the_time_stands_before_a_line_where_it_is_later(rt: HostRuntime) {
     for (row, (times, typed, printed, count)) in ROWS.iter().enumerate() {
         for part in PARTS {
-            let (end, output, events) = timed(&rt, rt.alloc(), times, typed, part);
+            let ends = Behind::Ends;
+            let (end, output, events) = timed(&rt, rt.alloc(), times, typed, part, ends);
             holds(&rt, end == Ok(()), "end", row);
             holds(&rt, output.as_slice() == *printed, "printed", row);
             holds(&rt, events == *count, "events", row);
@@ -140,6 +144,7 @@ fn a_strict_run_counts_the_advances(rt: HostRuntime) {
     let input = PartReader::new(typed, 4096, Behind::Ends);
     let mut lines = TimedInput::new(book.state().clock(), moments.as_slice(), input);
     let end = ran_strictly(rt.alloc(), &mut lines, &mut output, &mut book);
+    drop(book);
     let stray = StrayLine {
         number: 5,
         why: Stray::BadLine,
@@ -151,12 +156,9 @@ fn a_strict_run_counts_the_advances(rt: HostRuntime) {
 
 #[test]
 fn a_read_that_fails_is_told(rt: HostRuntime) {
-    let moments = moments(&rt, rt.alloc(), &[100, 101, 102]);
-    let mut book = fresh(&rt, rt.alloc());
-    let mut output = Vec::new(rt.alloc());
-    let input = PartReader::new(b"scope root\n", 4096, Behind::Fails);
-    let mut lines = TimedInput::new(book.state().clock(), moments.as_slice(), input);
-    let end = ran(rt.alloc(), &mut lines, &mut output, &mut book);
+    let times = [100, 101, 102];
+    let fails = Behind::Fails;
+    let (end, output, _) = timed(&rt, rt.alloc(), &times, b"scope root\n", 4096, fails);
     holds(&rt, end == Err(RunFault::Input), "end", 0);
     let printed = b"ok\nlive; deadline none\n".as_slice();
     holds(&rt, output.as_slice() == printed, "printed", 0);

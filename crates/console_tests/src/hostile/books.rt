@@ -1,12 +1,10 @@
-//! Stores on disks in memory, books over them, and runs over these, without their contracts.
+//! Stores on disks in memory, and books over them, without their contracts.
 
 use crate::asserts::done;
 use run_book::{Book, MigrateFault, State, migrate};
-use run_console::{RunFault, line, run};
 use run_disk::{MemoryDisk, RunDisk};
 use run_model::Fault;
 use std::alloc::{Allocator, Global};
-use std::io::{Read, Write};
 use std::process::Abort;
 
 /// A disk of so many zeros.
@@ -52,24 +50,4 @@ pub fn migrated<D: RunDisk, E: RunDisk, A: Allocator + Copy>(
         Ok(new) => (None, new),
         Err((fault, new)) => (Some(fault), new),
     }
-}
-
-/// Runs an input over a book.
-pub fn ran<A: Allocator + Copy, R: Read, W: Write, D: RunDisk, B: Allocator>(
-    alloc: A,
-    input: &mut R,
-    output: &mut W,
-    book: &mut Book<D, B>,
-) -> Result<(), RunFault> {
-    run(alloc, input, output, book)
-}
-
-/// Runs a line over a book.
-pub fn said<A: Allocator + Copy, W: Write, D: RunDisk, B: Allocator>(
-    alloc: A,
-    typed: &[u8],
-    output: &mut W,
-    book: &mut Book<D, B>,
-) -> Result<(), RunFault> {
-    line(alloc, typed, output, book)
 }

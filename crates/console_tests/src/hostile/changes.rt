@@ -3,12 +3,13 @@
 //!
 //! This rests on `Recovers` and `Opens`, and on the law that bytes have one meaning or one fault.
 
-use crate::asserts::{given, holds};
+use crate::asserts::holds;
 use crate::hostile::disks::{Puts, SMALL_LEN, laid, put_all};
 use crate::hostile::nights::{counted, is_same, play_over, told};
-use run_model::{Fault, Phase};
+use run_model::Fault;
 use std::alloc::Global;
 use std::process::Abort;
+use test_fixtures::{Going, going_at};
 
 /// Slots 0 and 1 of generations 0 and 1 with images of root alone in version 1, after no event and
 /// after event 1.
@@ -188,14 +189,12 @@ fn changed(rt: &impl Abort, alloc: Global, puts: Puts) -> Vec<u8> {
 /// Why bytes aren't opened, if they aren't. Then each of them is as it was.
 fn unopened(rt: &impl Abort, alloc: Global, bytes: &[u8]) -> Option<Fault> {
     let night = play_over(rt, alloc, bytes, &[]);
+    let fault = night.fault;
     let is_same = is_same(rt, alloc, &night.disk, bytes);
-    holds(
-        rt,
-        is_same == night.fault.is_some(),
-        "an untouched disk, of bytes",
-        bytes.len(),
-    );
-    night.fault
+    drop(night);
+    let is_so = is_same == fault.is_some();
+    holds(rt, is_so, "an untouched disk, of bytes", bytes.len());
+    fault
 }
 
 #[test]
@@ -208,21 +207,20 @@ fn one_change_is_told(rt: HostRuntime) {
     }
 }
 
-/// How far the only task of a store is.
-fn phase_in(rt: &impl Abort, alloc: Global, puts: Puts) -> Option<Phase> {
-    let bytes = changed(rt, alloc, puts);
-    let Ok(found) = told(rt, alloc, &bytes).found else {
-        return None;
+/// Says whether a store has one task, which is held.
+fn is_held(rt: &impl Abort, alloc: Global, puts: Puts) -> bool {
+    let told = told(rt, alloc, &changed(rt, alloc, puts));
+    let is_held = match &told.found {
+        Ok(found) => found.tasks.len() == 1 && going_at(found, 0) == Some(Going::Held),
+        Err(_) => false,
     };
-    let mut tasks = found.tasks;
-    holds(rt, tasks.len() == 1, "one task of bytes", bytes.len());
-    Some(given(rt, tasks.pop(), "task").phase)
+    drop(told);
+    is_held
 }
 
 #[test]
 fn a_task_that_is_not_admitted_is_held(rt: HostRuntime) {
     for (row, puts) in [HELD, HELD_IN_2].iter().enumerate() {
-        let phase = phase_in(&rt, rt.alloc(), puts);
-        holds(&rt, phase == Some(Phase::Held), "held", row);
+        holds(&rt, is_held(&rt, rt.alloc(), puts), "held", row);
     }
 }

@@ -4,9 +4,10 @@
 //! This rests on `Recovers` and `Opens`, whose first fault is the size.
 
 use crate::asserts::holds;
+use crate::hostile::books::formatted;
 use crate::hostile::calls::{add, add_calls, name, steps_of};
 use crate::hostile::disks::{LARGE_LEN, SMALL_LEN, copied, left};
-use crate::hostile::nights::{counted, formatted, play_over, played, told};
+use crate::hostile::nights::{counted, play_over, played, told};
 use crate::hostile::stores::{TWELVE, stored};
 use crate::hostile::trials::{USES, tried};
 use run_disk::Torn;
@@ -25,9 +26,11 @@ fn cut(rt: &impl Abort, alloc: Global, bytes: &[u8], len: usize) -> Vec<u8> {
 fn assert_wrong(rt: &impl Abort, alloc: Global, bytes: &[u8]) {
     let told = told(rt, alloc, bytes);
     let is_told = matches!(told.found, Err(Fault::WrongSize)) && told.calls == 0;
+    drop(told);
     holds(rt, is_told, "recovery of bytes", bytes.len());
     let night = play_over(rt, alloc, bytes, &[]);
     let is_told = night.fault == Some(Fault::WrongSize) && night.disk.calls() == 0;
+    drop(night);
     holds(rt, is_told, "opening of bytes", bytes.len());
 }
 
@@ -49,6 +52,7 @@ fn a_store_that_is_cut_short_is_none(rt: HostRuntime) {
     for row in CUTS.iter() {
         let disk = stored(&rt, rt.alloc(), row.0, &TWELVE, 9);
         let bytes = left(&rt, rt.alloc(), &disk, Torn::Keep);
+        drop(disk);
         assert_wrong(&rt, rt.alloc(), &cut(&rt, rt.alloc(), &bytes, row.1));
     }
 }
@@ -56,7 +60,9 @@ fn a_store_that_is_cut_short_is_none(rt: HostRuntime) {
 /// A large store after an opening and some steps, cut to a small one's size.
 fn cut_to_small(rt: &impl Abort, alloc: Global, steps: &[Step], acked: u64) -> Vec<u8> {
     let disk = played(rt, alloc, formatted(rt, alloc, LARGE_LEN), steps, acked);
-    cut(rt, alloc, &left(rt, alloc, &disk, Torn::Keep), SMALL_LEN)
+    let bytes = left(rt, alloc, &disk, Torn::Keep);
+    drop(disk);
+    cut(rt, alloc, &bytes, SMALL_LEN)
 }
 
 /// What a large store saw after its opening, the events that it acknowledged, and those that are

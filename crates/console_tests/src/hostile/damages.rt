@@ -7,8 +7,9 @@
 //! else.
 
 use crate::asserts::{holds, holds_torn};
-use crate::hostile::books::{format, formatted, open, ran, recover, said, zeros};
-use crate::hostile::disks::{SMALL_LEN, TEARS, disk_of, left, left_behind};
+use crate::books::{count_in, counts, left_behind, ran, said};
+use crate::hostile::books::{format, formatted, open, recover, zeros};
+use crate::hostile::disks::{SMALL_LEN, TEARS, disk_of, left};
 use crate::hostile::hurting::{DAMAGE, Hurt, HurtingDisk};
 use run_console::RunFault;
 use run_disk::{MemoryDisk, RunDisk, Torn};
@@ -131,9 +132,10 @@ fn hurt_night(rt: &impl Abort, alloc: Global, row: &Row, call: u64, hurt: Hurt) 
 fn stored(rt: &impl Abort, alloc: Global, bytes: Vec<u8>) -> Result<Stored, Fault> {
     let mut disk = disk_of(rt, alloc, bytes);
     let found = found(alloc, &mut disk);
+    let opened = opened(alloc, disk);
     if let Ok((events, _, _)) = &found {
         let next = events.saturating_add(1);
-        let is_opened = opened(alloc, disk) == Some((next, next));
+        let is_opened = opened == Some((next, next));
         holds(rt, is_opened, "an opening's events", next as usize);
     }
     found
@@ -141,16 +143,20 @@ fn stored(rt: &impl Abort, alloc: Global, bytes: Vec<u8>) -> Result<Stored, Faul
 
 /// What is stored on a disk.
 fn found(alloc: Global, disk: &mut MemoryDisk) -> Result<Stored, Fault> {
-    match recover(alloc, disk) {
-        Ok(state) => Ok((state.count(), state.scope_count(), state.phase(0))),
-        Err(fault) => Err(fault),
-    }
+    let state = recover(alloc, disk)?;
+    let stored = (state.count(), state.scope_count(), state.phase(0));
+    drop(state);
+    Ok(stored)
 }
 
 /// How many events there are after an opening of a disk, and how many are durable.
 fn opened(alloc: Global, disk: MemoryDisk) -> Option<(u64, u64)> {
     match open(alloc, disk) {
-        Ok(book) => Some((book.state().count(), book.durable())),
+        Ok(book) => {
+            let counts = counts(&book);
+            drop(book);
+            Some(counts)
+        }
         Err(_) => None,
     }
 }
@@ -186,18 +192,10 @@ fn is_damaged(bytes: &[u8], at: usize, count: usize) -> bool {
 fn assert_unharmed(rt: &impl Abort, alloc: Global, ended: &Left, before: &[u8], call: u64) {
     let now = left(rt, alloc, &ended.2, Torn::Take);
     let at = ended.0.min(now.len() as u64) as usize;
-    holds(
-        rt,
-        are_same_outside(&now, before, at, ended.1),
-        "bytes outside, call",
-        call as usize,
-    );
-    holds(
-        rt,
-        ended.1 < 2 || is_damaged(&now, at, ended.1),
-        "damage, call",
-        call as usize,
-    );
+    let are_same = are_same_outside(&now, before, at, ended.1);
+    let is_hurt = ended.1 < 2 || is_damaged(&now, at, ended.1);
+    holds(rt, are_same, "bytes outside, call", call as usize);
+    holds(rt, is_hurt, "damage, call", call as usize);
 }
 
 /// The disk of a night that no call failed.
@@ -217,6 +215,7 @@ fn assert_hurt(rt: &impl Abort, alloc: Global, row: &Row, call: u64, before: &[u
         holds(rt, is_last, hurt.name(), call as usize);
         assert_unharmed(rt, alloc, &left, before, call);
         assert_stored(rt, alloc, &left, row, call, hurt);
+        drop(left.2);
     }
 }
 
@@ -230,15 +229,7 @@ fn a_call_that_damages_its_range_loses_nothing_acknowledged(rt: HostRuntime) {
             assert_hurt(&rt, rt.alloc(), row, call, &before);
         }
     }
-}
-
-/// How many events there are in bytes of a disk.
-fn counted(rt: &impl Abort, alloc: Global, bytes: Vec<u8>) -> Result<u64, Fault> {
-    let mut disk = disk_of(rt, alloc, bytes);
-    match recover(alloc, &mut disk) {
-        Ok(state) => Ok(state.count()),
-        Err(fault) => Err(fault),
-    }
+    drop(whole);
 }
 
 /// Says whether a format of zeros that fails may leave this: no store, an image of no bytes or
@@ -253,7 +244,8 @@ fn may_be_left(found: Result<u64, Fault>) -> bool {
 /// Asserts that a disk can be formatted, after a call that failed.
 fn assert_formats(rt: &impl Abort, alloc: Global, disk: MemoryDisk, call: u64) {
     let (fault, disk) = format(disk);
-    let found = counted(rt, alloc, left(rt, alloc, &disk, Torn::Keep));
+    let found = count_in(rt, alloc, left(rt, alloc, &disk, Torn::Keep));
+    drop(disk);
     let is_new = fault.is_none() && found == Ok(0);
     holds(rt, is_new, "formatted behind call", call as usize);
 }
@@ -267,7 +259,7 @@ fn assert_format(rt: &impl Abort, alloc: Global, call: u64, hurt: Hurt) {
     let is_told = fault == Some(Fault::DiskFailed) && disk.calls() == call;
     holds(rt, is_told, hurt.name(), call as usize);
     for torn in TEARS {
-        let found = counted(rt, alloc, left(rt, alloc, &disk, torn));
+        let found = count_in(rt, alloc, left(rt, alloc, &disk, torn));
         holds_torn(rt, may_be_left(found), hurt.name(), call, torn);
     }
     assert_formats(rt, alloc, disk, call);

@@ -36,18 +36,6 @@ pub fn left(rt: &impl Abort, alloc: Global, disk: &MemoryDisk, torn: Torn) -> Ve
     done(rt, disk.image(alloc, disk.calls(), torn), "memory")
 }
 
-/// What a crash after so many calls leaves of a disk, torn in this way.
-pub fn left_behind(
-    rt: &impl Abort,
-    alloc: Global,
-    disk: &MemoryDisk,
-    calls: u64,
-    torn: Torn,
-) -> Vec<u8> {
-    assert!(rt; calls <= disk.calls());
-    done(rt, disk.image(alloc, calls, torn), "memory")
-}
-
 /// Puts bytes in place of those from a place on.
 pub fn put(rt: &impl Abort, bytes: &mut [u8], place: usize, with: &[u8]) {
     let (_, rest) = bytes.split_at_mut_checked(place).expect(rt, "a place");

@@ -5,9 +5,10 @@
 
 use crate::asserts::holds;
 use crate::hostile::answers::{first_unlike, last_of};
+use crate::hostile::books::formatted;
 use crate::hostile::calls::{add_advances, add_again, add_calls, steps_of};
 use crate::hostile::disks::{LARGE_LEN, SMALL_LEN, left};
-use crate::hostile::nights::{Night, formatted, play, told};
+use crate::hostile::nights::{Night, play, told};
 use run_disk::{MemoryDisk, Torn};
 use run_model::{Refusal, Step};
 use std::alloc::Global;
@@ -76,10 +77,12 @@ fn filling(rt: &impl Abort, alloc: Global) -> Vec<Step> {
 /// Asserts that what a book showed is recovered of its disk.
 fn assert_kept(rt: &impl Abort, alloc: Global, night: &Night, row: usize) {
     let bytes = left(rt, alloc, &night.disk, Torn::Keep);
-    let is_kept = match (told(rt, alloc, &bytes).found, &night.seen) {
-        (Ok(found), Some(seen)) => are_same(&found, seen),
+    let told = told(rt, alloc, &bytes);
+    let is_kept = match (&told.found, &night.seen) {
+        (Ok(found), Some(seen)) => are_same(found, seen),
         _ => false,
     };
+    drop(told);
     holds(rt, is_kept, "kept", row);
 }
 
@@ -92,7 +95,7 @@ fn filled(rt: &impl Abort, alloc: Global, len: usize, row: usize) -> MemoryDisk 
     assert!(rt; unlike.is_none(), "step {unlike:?}, row {row}");
     holds(rt, night.disk.calls() == 32, "calls", row);
     assert_kept(rt, alloc, &night, row);
-    night.disk
+    night.into_disk()
 }
 
 /// The next opening is an event, and its log is empty.
@@ -106,6 +109,7 @@ fn assert_next(rt: &impl Abort, alloc: Global, disk: MemoryDisk, row: usize) {
     let unlike = first_unlike(&night.replies, &NEXT_ANSWERS);
     holds(rt, unlike.is_none(), "the next session", row);
     assert_kept(rt, alloc, &night, row);
+    drop(night);
 }
 
 #[test]

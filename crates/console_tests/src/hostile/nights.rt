@@ -25,10 +25,10 @@ pub struct Reading {
 
 /// What a disk stores.
 fn found(rt: &impl Abort, alloc: Global, disk: &mut MemoryDisk) -> Result<Listing, Fault> {
-    match Book::recover(alloc, disk) {
-        Ok(state) => Ok(listed(rt, alloc, &state)),
-        Err(fault) => Err(fault),
-    }
+    let state = Book::recover(alloc, disk)?;
+    let listing = listed(rt, alloc, &state);
+    drop(state);
+    Ok(listing)
 }
 
 /// Says whether a crash leaves these bytes of a disk, whatever it makes of writes that were not
@@ -42,19 +42,24 @@ pub fn told(rt: &impl Abort, alloc: Global, bytes: &[u8]) -> Reading {
     let mut disk = disk_of(rt, alloc, copied(rt, alloc, bytes));
     let found = found(rt, alloc, &mut disk);
     let is_same = is_same(rt, alloc, &disk, bytes);
+    let calls = disk.calls();
+    drop(disk);
     Reading {
         found,
-        calls: disk.calls(),
+        calls,
         is_same,
     }
 }
 
 /// How many events there are in what a disk with these bytes stores.
 pub fn counted(rt: &impl Abort, alloc: Global, bytes: &[u8]) -> Result<u64, Fault> {
-    match told(rt, alloc, bytes).found {
+    let told = told(rt, alloc, bytes);
+    let count = match &told.found {
         Ok(listing) => Ok(listing.count),
-        Err(fault) => Err(fault),
-    }
+        Err(fault) => Err(*fault),
+    };
+    drop(told);
+    count
 }
 
 /// What a book over a disk came to.
@@ -68,6 +73,13 @@ pub struct Night {
     pub seen: Option<Listing>,
     /// The disk as it was handed back.
     pub disk: MemoryDisk,
+}
+
+impl Night {
+    /// The disk as it was handed back.
+    pub fn into_disk(self) -> MemoryDisk {
+        self.disk
+    }
 }
 
 /// Room for a reply to each step.
@@ -106,12 +118,8 @@ pub fn play(rt: &impl Abort, alloc: Global, disk: MemoryDisk, steps: &[Step]) ->
 
 /// What a book over a disk with these bytes came to.
 pub fn play_over(rt: &impl Abort, alloc: Global, bytes: &[u8], steps: &[Step]) -> Night {
-    play(
-        rt,
-        alloc,
-        disk_of(rt, alloc, copied(rt, alloc, bytes)),
-        steps,
-    )
+    let disk = disk_of(rt, alloc, copied(rt, alloc, bytes));
+    play(rt, alloc, disk, steps)
 }
 
 fn ends_with(replies: &[Reply], acked: u64) -> bool {
@@ -131,21 +139,15 @@ pub fn played(
 ) -> MemoryDisk {
     let night = play(rt, alloc, disk, steps);
     assert!(rt; ends_with(&night.replies, acked), "not {acked} events");
-    night.disk
-}
-
-/// A disk of so many bytes, formatted.
-pub fn formatted(rt: &impl Abort, alloc: Global, len: usize) -> MemoryDisk {
-    let disk = done(rt, MemoryDisk::new(alloc, len), "memory");
-    match Book::format(disk) {
-        Ok(disk) => disk,
-        Err(_) => panic!(rt; "no format"),
-    }
+    night.into_disk()
 }
 
 /// How many events there are in what bytes of a disk store, and how far task 0 is.
 pub fn task_in(rt: &impl Abort, alloc: Global, bytes: Vec<u8>) -> (u64, Option<Phase>) {
     let mut disk = disk_of(rt, alloc, bytes);
     let state = done(rt, Book::recover(alloc, &mut disk), "store");
-    (state.count(), state.phase(0))
+    drop(disk);
+    let task = (state.count(), state.phase(0));
+    drop(state);
+    task
 }

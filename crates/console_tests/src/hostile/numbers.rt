@@ -125,6 +125,7 @@ fn assert_last_opening(rt: &impl Abort, alloc: Global, len: usize, advances: u64
     let night = play_over(rt, alloc, &bytes, &steps);
     assert_last_session(rt, &night, row);
     assert_spent(rt, alloc, &left(rt, alloc, &night.disk, Torn::Keep), row);
+    drop(night);
 }
 
 #[test]

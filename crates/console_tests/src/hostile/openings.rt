@@ -5,7 +5,8 @@
 //! on `IsTornImage` of the disk in memory.
 
 use crate::asserts::{done, given, holds};
-use crate::hostile::disks::{SMALL_LEN, TEARS, disk_of, left, left_behind};
+use crate::books::left_behind;
+use crate::hostile::disks::{SMALL_LEN, TEARS, disk_of, left};
 use crate::hostile::nights::{play, task_in, told};
 use crate::hostile::stores::{TWELVE, stored};
 use run_disk::{MemoryDisk, Torn};
@@ -40,7 +41,7 @@ fn wanted(openings: u64, calls: u64, torn: Torn) -> Task {
 fn opened(rt: &impl Abort, alloc: Global, bytes: Vec<u8>) -> MemoryDisk {
     let night = play(rt, alloc, disk_of(rt, alloc, bytes), &[]);
     assert!(rt; night.fault.is_none() && night.disk.calls() == 10);
-    night.disk
+    night.into_disk()
 }
 
 /// Asserts what each stop of an opening leaves, which came after so many others, the last of them
@@ -71,6 +72,7 @@ fn assert_second_stops(rt: &impl Abort, alloc: Global, first: &MemoryDisk) {
             let second = opened(rt, alloc, left_behind(rt, alloc, first, calls, torn));
             let openings = u64::from(is_restarted(calls, torn));
             assert_stops(rt, alloc, &second, openings, (calls, torn));
+            drop(second);
         }
     }
 }
@@ -78,7 +80,9 @@ fn assert_second_stops(rt: &impl Abort, alloc: Global, first: &MemoryDisk) {
 /// The disk of the first opening after the twelve steps.
 fn first_opening(rt: &impl Abort, alloc: Global) -> MemoryDisk {
     let disk = stored(rt, alloc, SMALL_LEN, &TWELVE, 9);
-    opened(rt, alloc, left(rt, alloc, &disk, Torn::Keep))
+    let bytes = left(rt, alloc, &disk, Torn::Keep);
+    drop(disk);
+    opened(rt, alloc, bytes)
 }
 
 #[test]
@@ -86,6 +90,7 @@ fn a_stopped_opening_is_stopped_again(rt: HostRuntime) {
     let first = first_opening(&rt, rt.alloc());
     assert_stops(&rt, rt.alloc(), &first, 0, (0, Torn::Keep));
     assert_second_stops(&rt, rt.alloc(), &first);
+    drop(first);
 }
 
 /// A disk after so many openings.
@@ -93,8 +98,8 @@ fn opened_again(rt: &impl Abort, alloc: Global, disk: MemoryDisk, times: u64) ->
     let mut disk = disk;
     for n in 0..times {
         let night = play(rt, alloc, disk, &[]);
-        assert!(rt; night.fault.is_none(), "opening {n}");
-        disk = night.disk;
+        holds(rt, night.fault.is_none(), "opening", n as usize);
+        disk = night.into_disk();
     }
     disk
 }
@@ -126,5 +131,9 @@ fn ten_thousand_openings_change_nothing_else(rt: HostRuntime) {
     // A format of eight calls, 35 of the first night, and ten of each opening.
     holds(&rt, disk.calls() == 100_043, "calls", 100_043);
     let last = stored_last(&rt, rt.alloc(), &disk);
-    assert_kept(&rt, &given(&rt, first.seen, "book"), &last);
+    drop(disk);
+    let first = given(&rt, first.seen, "book");
+    assert_kept(&rt, &first, &last);
+    drop(first);
+    drop(last);
 }

@@ -83,12 +83,8 @@ fn assert_changed(rt: &impl Abort, alloc: Global, bytes: &[u8], times: usize, ro
     let steps = steps_of(rt, alloc, &USES);
     let mut dice = Dice::new(row as u64);
     let recovered = recovered_of(rt, alloc, &mut dice, bytes, times, &steps);
-    holds(
-        rt,
-        0 < recovered && recovered < times,
-        "some recovered",
-        row,
-    );
+    let are_some = 0 < recovered && recovered < times;
+    holds(rt, are_some, "some recovered", row);
 }
 
 /// How often a store of so many bytes is changed: with one of version 1, a thousand times in all.

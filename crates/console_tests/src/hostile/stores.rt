@@ -1,8 +1,9 @@
 //! Real stores: what nights leave, and one of version 1 that is kept as bytes.
 
+use crate::hostile::books::formatted;
 use crate::hostile::calls::steps_of;
 use crate::hostile::disks::{LARGE_LEN, Puts, SMALL_LEN, laid, left};
-use crate::hostile::nights::{formatted, played};
+use crate::hostile::nights::played;
 use run_disk::{MemoryDisk, Torn};
 use std::alloc::Global;
 use std::process::Abort;

@@ -9,7 +9,7 @@
 use crate::hostile::answers::{first_unlike, start};
 use crate::hostile::disks::left;
 use crate::hostile::looks::running;
-use crate::hostile::nights::{Night, is_same, play_over, told};
+use crate::hostile::nights::{is_same, play_over, told};
 use run_disk::Torn;
 use run_model::{Fault, Step};
 use std::alloc::Global;
@@ -73,13 +73,14 @@ fn refused(
     calls: u64,
 ) -> Result<Option<Fault>, &'static str> {
     let night = play_over(rt, alloc, bytes, &[]);
-    if night.fault != Some(fault) {
-        return Err("an opening tells another fault");
+    let is_told = night.fault == Some(fault);
+    let is_alone = night.disk.calls() == calls && is_same(rt, alloc, &night.disk, bytes);
+    drop(night);
+    match (is_told, is_alone) {
+        (true, true) => Ok(Some(fault)),
+        (true, false) => Err("an opening that is refused makes other calls"),
+        _ => Err("an opening tells another fault"),
     }
-    if night.disk.calls() != calls || !is_same(rt, alloc, &night.disk, bytes) {
-        return Err("an opening that is refused makes other calls");
-    }
-    Ok(Some(fault))
 }
 
 /// Says what is wrong with a store that was used, whose book showed this.
@@ -89,10 +90,16 @@ fn kept(
     bytes: &[u8],
     seen: &Listing,
 ) -> Result<Option<Fault>, &'static str> {
-    match told(rt, alloc, bytes).found {
-        Ok(found) if are_same(&found, seen) => again(rt, alloc, bytes, seen),
-        _ => Err("another state is recovered behind its use"),
+    let told = told(rt, alloc, bytes);
+    let is_kept = match &told.found {
+        Ok(found) => are_same(found, seen),
+        Err(_) => false,
+    };
+    drop(told);
+    if is_kept {
+        return again(rt, alloc, bytes, seen);
     }
+    Err("another state is recovered behind its use")
 }
 
 /// Says what is wrong with another opening of a store.
@@ -102,11 +109,16 @@ fn again(
     bytes: &[u8],
     seen: &Listing,
 ) -> Result<Option<Fault>, &'static str> {
-    let Night { seen: next, .. } = play_over(rt, alloc, bytes, &[]);
-    match next {
-        Some(next) if is_restart(seen, &next) => Ok(None),
-        _ => Err("another state is opened behind its use"),
+    let night = play_over(rt, alloc, bytes, &[]);
+    let is_again = match &night.seen {
+        Some(next) => is_restart(seen, next),
+        None => false,
+    };
+    drop(night);
+    if is_again {
+        return Ok(None);
     }
+    Err("another state is opened behind its use")
 }
 
 /// Says whether a state can be the restart of another: one event more, no task that runs, and as
@@ -127,19 +139,19 @@ fn used(
     found: &Listing,
     steps: &[Step],
 ) -> Result<Option<Fault>, &'static str> {
-    let Night {
-        replies,
-        seen,
-        disk,
-        ..
-    } = play_over(rt, alloc, bytes, steps);
-    let Some(seen) = seen else {
-        return Err("what is recovered isn't opened");
+    let night = play_over(rt, alloc, bytes, steps);
+    let answer = match &night.seen {
+        None => Err("what is recovered isn't opened"),
+        Some(_) if first_unlike(&night.replies, &wanted(found)).is_some() => {
+            Err("a step is answered otherwise")
+        }
+        Some(seen) => {
+            let left = left(rt, alloc, &night.disk, Torn::Keep);
+            kept(rt, alloc, &left, seen)
+        }
     };
-    if first_unlike(&replies, &wanted(found)).is_some() {
-        return Err("a step is answered otherwise");
-    }
-    kept(rt, alloc, &left(rt, alloc, &disk, Torn::Keep), &seen)
+    drop(night);
+    answer
 }
 
 /// Tries a disk with these bytes. Gives the fault that it is refused by, if it is; or says which
@@ -151,14 +163,15 @@ pub fn tried(
     steps: &[Step],
 ) -> Result<Option<Fault>, &'static str> {
     let told = told(rt, alloc, bytes);
-    if !told.is_same {
-        return Err("a recovery writes");
-    }
-    match told.found {
-        Ok(_) if told.calls != 3 => Err("a recovery makes other calls"),
+    let calls = told.calls;
+    let answer = match &told.found {
+        _ if !told.is_same => Err("a recovery writes"),
+        Ok(_) if calls != 3 => Err("a recovery makes other calls"),
         Ok(found) if found.count >= 1 << 62 => { refused(rt, alloc, bytes, Fault::NumbersSpent, 3) }
-        Ok(found) => used(rt, alloc, bytes, &found, steps),
-        Err(fault) if calls_to(fault) != Some(told.calls) => Err("a fault comes too late"),
-        Err(fault) => refused(rt, alloc, bytes, fault, told.calls),
-    }
+        Ok(found) => used(rt, alloc, bytes, found, steps),
+        Err(fault) if calls_to(*fault) != Some(calls) => Err("a fault comes too late"),
+        Err(fault) => refused(rt, alloc, bytes, *fault, calls),
+    };
+    drop(told);
+    answer
 }

@@ -6,8 +6,10 @@
 //! checkpoints have no answer for want of memory, their types say.
 
 use crate::asserts::{done, holds};
-use crate::hostile::books::{format, formatted, migrated, open, ran, recover, said, zeros};
-use crate::hostile::disks::{LARGE_LEN, SMALL_LEN, disk_of, left};
+use crate::books::{count_in, counted, ran, said};
+use crate::hostile::books::{format, formatted, migrated, open, zeros};
+use crate::hostile::disks::{LARGE_LEN, SMALL_LEN, left};
+use crate::stops::heap;
 use linked_list_allocator::LocalHeap;
 use run_book::{Book, MigrateFault};
 use run_console::RunFault;
@@ -15,11 +17,6 @@ use run_disk::{MemoryDisk, RunDisk, Torn};
 use run_model::Fault;
 use std::alloc::Global;
 use std::process::Abort;
-
-/// A heap of so many bytes.
-fn heap(rt: &impl Abort, alloc: Global, bytes: usize) -> LocalHeap {
-    done(rt, LocalHeap::new(alloc, bytes), "memory")
-}
 
 /// All that is left of a heap.
 fn rest_of<'h>(rt: &impl Abort, heap: &'h LocalHeap) -> Vec<u8, &'h LocalHeap> {
@@ -36,14 +33,6 @@ fn recovers(rt: &impl Abort, alloc: Global, disk: &mut MemoryDisk, bytes: usize)
     let is_told = found == Ok(0) || found == Err(Fault::Memory);
     holds(rt, is_told && heap.used() == 0, "with bytes", bytes);
     found.is_ok()
-}
-
-/// How many events there are in what a disk stores, by a recovery with a heap's memory.
-fn counted(heap: &LocalHeap, disk: &mut MemoryDisk) -> Result<u64, Fault> {
-    match recover(heap, disk) {
-        Ok(state) => Ok(state.count()),
-        Err(fault) => Err(fault),
-    }
 }
 
 /// How many calls a disk has counted after a recovery with each multiple of `step` bytes, up to
@@ -72,6 +61,7 @@ fn assert_recovers(rt: &impl Abort, alloc: Global, size: usize, step: usize, lea
         let now = left(rt, alloc, &disk, torn);
         holds(rt, now == before, "bytes of a disk of", size);
     }
+    drop(disk);
 }
 
 #[test]
@@ -114,6 +104,8 @@ fn each_growth_of_a_migration_can_be_refused(rt: HostRuntime) {
     }
     let is_done = (old.calls(), new.calls()) == (11, 8) && bytes > 1_310_720;
     holds(&rt, is_done, "done with bytes", bytes);
+    drop(old);
+    drop(new);
 }
 
 /// A disk's own heap without memory fails the first write of a format, and nothing is written.
@@ -224,11 +216,11 @@ const SECOND: Night = (
 );
 
 /// Lines after that night that take memory, and such as take none, each run by itself.
-static LINES: [(&[u8], Option<RunFault>, &[u8]); 4] = [
-    (b"tally", Some(RunFault::Memory), b""),
-    (b"derive w root cause", None, b"scope 9\n"),
-    (b"tally", Some(RunFault::Memory), b""),
-    (b"flush", None, b"acked 33\n"),
+static LINES: [(&[u8], Result<(), RunFault>, &[u8]); 4] = [
+    (b"tally", Err(RunFault::Memory), b""),
+    (b"derive w root cause", Ok(()), b"scope 9\n"),
+    (b"tally", Err(RunFault::Memory), b""),
+    (b"flush", Ok(()), b"acked 33\n"),
 ];
 
 /// Runs each of those lines over a book.
@@ -241,7 +233,7 @@ fn assert_lines<D: RunDisk>(
     for (row, (typed, fault, printed)) in LINES.iter().enumerate() {
         let mut output = Vec::new(alloc);
         let result = said(heap, typed, &mut output, book);
-        holds(rt, result.err() == *fault, "fault of line", row);
+        holds(rt, result == *fault, "fault of line", row);
         holds(rt, output.as_slice() == *printed, "line", row);
     }
 }
@@ -286,11 +278,9 @@ fn assert_nights(rt: &impl Abort, alloc: Global, size: usize) {
     let mut printed = Vec::new(alloc);
     let disk = night_without_memory(rt, alloc, disk, &mut printed);
     holds(rt, printed.as_slice() == SECOND.1, "night over", size);
-    let mut left = disk_of(rt, alloc, left(rt, alloc, &disk, Torn::Keep));
-    let is_stored = match recover(alloc, &mut left) {
-        Ok(state) => state.count() == 33,
-        Err(_) => false,
-    };
+    let left = left(rt, alloc, &disk, Torn::Keep);
+    drop(disk);
+    let is_stored = count_in(rt, alloc, left) == Ok(33);
     holds(rt, is_stored, "events over", size);
 }
 
@@ -305,7 +295,11 @@ fn assert_tally(rt: &impl Abort, alloc: Global, spared: usize) -> bool {
     let heap = heap(rt, alloc, spared);
     let mut output = Vec::new(alloc);
     let result = match open(alloc, night(rt, alloc, SMALL_LEN)) {
-        Ok(mut book) => said(&heap, b"tally", &mut output, &mut book),
+        Ok(mut book) => {
+            let result = said(&heap, b"tally", &mut output, &mut book);
+            drop(book);
+            result
+        }
         Err(_) => panic!(rt; "no book"),
     };
     let whole = b"tally copy total 2; success 0; failure 0; interrupted 1\n".as_slice();
