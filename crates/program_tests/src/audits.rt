@@ -155,7 +155,9 @@ fn audited<S: Ledger, F: Ledger>(
 {
     let mut desk = Seated::<S, F>::new(book, starts, finishes);
     play(rt, &mut desk, row);
-    desk.audited(lists)
+    let found = desk.audited(lists);
+    drop(desk);
+    found
 }
 
 #[test]

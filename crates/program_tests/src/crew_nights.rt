@@ -127,6 +127,7 @@ fn assert_night<R: Threads + Wait + Sync + Abort>(rt: &R, alloc: Global, n: usiz
     let night = plain_night(rt, alloc, book, row.workers, &Fixed(row.open));
     holds_at(rt, is_as_told(&night, row), "row", n as u64);
     assert_tasks(rt, night.book.state(), row.ends);
+    drop(night);
 }
 
 #[test]

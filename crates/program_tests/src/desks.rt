@@ -66,6 +66,7 @@ fn each_call_of_a_desk_is_the_books(rt: HostRuntime) {
     let book = book_of(&rt, rt.alloc(), &TASKS);
     let book = played::<Brand, Brand>(&rt, book, &STEPS, Blank::new(1), Blank::new(1));
     assert_tasks(&rt, book.state(), &[Going::Running, Going::Success]);
+    drop(book);
 }
 
 /// Says whether two starts and a finish of task 1 are answered with events.
@@ -77,5 +78,5 @@ fn begins(book: &mut Book<MemoryDisk>) -> bool {
 fn a_desk_counts_the_history_of_its_book(rt: HostRuntime) {
     let mut book = book_of(&rt, rt.alloc(), &TASKS);
     holds_at(&rt, begins(&mut book), "history", 8);
-    let _ = played::<Brand, Brand>(&rt, book, &HISTORY, Blank::new(1), Blank::new(1));
+    drop(played::<Brand, Brand>(&rt, book, &HISTORY, Blank::new(1), Blank::new(1)));
 }

@@ -18,7 +18,9 @@ const TASKS: [Task; 16] = [(b"spin", b"1"); 16];
 /// The bytes of a store with those tasks.
 fn bytes_stored(rt: &impl Abort, alloc: Global) -> Vec<u8> {
     let disk = stored(rt, alloc, None, &TASKS);
-    done(rt, disk.image(alloc, disk.calls(), Torn::Keep), "memory")
+    let bytes = done(rt, disk.image(alloc, disk.calls(), Torn::Keep), "memory");
+    drop(disk);
+    bytes
 }
 
 fn is_ended(state: &State, task: u16, outcome: &Outcome) -> bool {
@@ -61,7 +63,9 @@ fn assert_has(rt: &impl Abort, state: &State, durable: u64, notes: &[Note], call
 /// What the disk of a book stores, once it doesn't fail.
 fn recovered(rt: &impl Abort, alloc: Global, book: Book<FailOnce<MemoryDisk>>) -> State {
     let mut disk = book.into_disk().into_inner();
-    done(rt, Book::recover(alloc, &mut disk), "store")
+    let state = done(rt, Book::recover(alloc, &mut disk), "store");
+    drop(disk);
+    state
 }
 
 /// Asserts that a finish that was acknowledged is in what a book's disk stores.
@@ -78,6 +82,7 @@ fn assert_stored(
     for notes in lists.iter() {
         assert_has(rt, &state, durable, notes.as_slice(), call);
     }
+    drop(state);
 }
 
 /// Asserts that an audit that is Ok left no task that isn't ended, and that a finish that was

@@ -59,6 +59,7 @@ fn two_tasks_overlap(rt: HostRuntime) {
     let book = book_of(&rt, rt.alloc(), &[(b"copy", b"a"), (b"copy", b"b")]);
     let night = plain_night(&rt, rt.alloc(), book, 2, &gate);
     assert_two(&rt, &night);
+    drop(night);
 }
 
 /// In a turn of `set` it sets the flag. In one of `look` it looks at it, and fails where it isn't
@@ -114,4 +115,5 @@ fn two_turns_overlap(rt: HostRuntime) {
         &Fixed(true),
     );
     assert_two(&rt, &night);
+    drop(night);
 }

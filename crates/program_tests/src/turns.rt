@@ -19,27 +19,23 @@ fn failed(error: &[u8]) -> Turn {
     Text::read(error).map_or(Turn::More, |error| Turn::Failed(error))
 }
 
-/// Does the jobs of one name: wants so many turns more, and then ends with this error, or without
+/// Does the jobs of this name: wants so many turns more, and then ends with this error, or without
 /// one where it has no bytes.
 #[derive(Drop)]
-struct Says {
-    name: &'static [u8],
-    more: u32,
-    error: &'static [u8],
-}
+struct Says(&'static [u8], u32, &'static [u8]);
 
 impl Job for Says {
     fn handles(&self, job: &Name) -> bool {
-        job.as_bytes() == self.name
+        job.as_bytes() == self.0
     }
 
     fn turn(&mut self, _info: &TaskInfo, turn: u32, _done: bool) -> Turn {
-        if turn < self.more {
+        if turn < self.1 {
             Turn::More
-        } else if self.error.is_empty() {
+        } else if self.2.is_empty() {
             Turn::Finished
         } else {
-            failed(self.error)
+            failed(self.2)
         }
     }
 }
@@ -48,12 +44,7 @@ impl Job for Says {
 fn list_of(rt: &impl Abort, alloc: Global, rows: &[Says]) -> Vec<Box<dyn Job + Send>> {
     let mut list: Vec<Box<dyn Job + Send>> = Vec::new(alloc);
     for says in rows.iter() {
-        let job = Says {
-            name: says.name,
-            more: says.more,
-            error: says.error,
-        };
-        let job = done(rt, Box::new(alloc, job), "memory");
+        let job = done(rt, Box::new(alloc, Says(says.0, says.1, says.2)), "memory");
         done(rt, list.push(job), "memory");
     }
     list
@@ -85,21 +76,9 @@ fn night_of<R: Threads + Wait + Sync + Abort>(
 }
 
 static TWO_OF_A_NAME: [Says; 3] = [
-    Says {
-        name: b"b",
-        more: 0,
-        error: b"other",
-    },
-    Says {
-        name: b"a",
-        more: 0,
-        error: b"first",
-    },
-    Says {
-        name: b"a",
-        more: 0,
-        error: b"second",
-    },
+    Says(b"b", 0, b"other"),
+    Says(b"a", 0, b"first"),
+    Says(b"a", 0, b"second"),
 ];
 
 #[test]
@@ -111,20 +90,10 @@ fn the_first_job_that_handles_a_name_is_taken(rt: HostRuntime) {
         &[TWO_OF_A_NAME.as_slice()],
     );
     assert_tasks(&rt, night.book.state(), &[Going::Failure(b"first")]);
+    drop(night);
 }
 
-static LONG: [Says; 2] = [
-    Says {
-        name: b"a",
-        more: 999,
-        error: b"",
-    },
-    Says {
-        name: b"b",
-        more: 1_000,
-        error: b"",
-    },
-];
+static LONG: [Says; 2] = [Says(b"a", 999, b""), Says(b"b", 1_000, b"")];
 
 /// The last turn that a task has is turn 999.
 static TURNS: [(Task, Going<'static>); 2] = [
@@ -137,20 +106,13 @@ fn a_task_has_a_thousand_turns(rt: HostRuntime) {
     for row in TURNS.iter() {
         let night = night_of(&rt, rt.alloc(), &[row.0], &[LONG.as_slice()]);
         assert_tasks(&rt, night.book.state(), &[row.1]);
+        drop(night);
     }
 }
 
-static ONLY_A: [Says; 1] = [Says {
-    name: b"a",
-    more: 0,
-    error: b"",
-}];
+static ONLY_A: [Says; 1] = [Says(b"a", 0, b"")];
 
-static ONLY_B: [Says; 1] = [Says {
-    name: b"b",
-    more: 0,
-    error: b"",
-}];
+static ONLY_B: [Says; 1] = [Says(b"b", 0, b"")];
 
 /// Asserts of the notes of one list that just the tasks of this parity ended without an error.
 fn assert_notes(rt: &impl Abort, list: usize, notes: &[Note], parity: u16) {
@@ -175,6 +137,7 @@ fn notes_stand_in_the_order_of_the_lists(rt: HostRuntime) {
     for (list, notes) in night.lists.iter().enumerate() {
         assert_notes(&rt, list, notes.as_slice(), (list % 2) as u16);
     }
+    drop(night);
 }
 
 /// Counts its turns.
@@ -216,7 +179,7 @@ fn turns_made<R: Threads + Wait + Sync + Abort>(rt: &R, alloc: Global, call: u64
     let turns = done(rt, Arc::new(alloc, AtomicU32::new(0)), "memory");
     let disk = FailOnce::new(stored(rt, alloc, None, &[(b"a", b"x")]), call);
     let jobs = counting(rt, alloc, &turns);
-    let _ = night(rt, alloc, opened(rt, alloc, disk), jobs, &Fixed(true));
+    drop(night(rt, alloc, opened(rt, alloc, disk), jobs, &Fixed(true)));
     turns.load(Ordering::SeqCst)
 }
 
@@ -268,6 +231,7 @@ fn a_turn_is_told_that_another_task_failed(rt: HostRuntime) {
     let night = plain_night(&rt, rt.alloc(), book, 2, &gate);
     let ends = [Going::Failure(b"canceled"), Going::Failure(b"x")];
     assert_tasks(&rt, night.book.state(), &ends);
+    drop(night);
 }
 
 /// Adds up, over the tasks that are told that their scope is done, 1 for task 0 and 2 for task 1.
@@ -310,6 +274,7 @@ fn a_turn_is_told_of_its_own_scope(rt: HostRuntime) {
     let book = opened(&rt, rt.alloc(), with_a_cancelled_group(&rt, rt.alloc()));
     let night = night(&rt, rt.alloc(), book, jobs, &Fixed(true));
     assert_tasks(&rt, night.book.state(), &[Going::Success, Going::Success]);
+    drop(night);
     let told = told.load(Ordering::SeqCst);
     holds_at(&rt, told == 2, "told", u64::from(told));
 }
