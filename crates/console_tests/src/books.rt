@@ -76,13 +76,7 @@ pub fn records<D: RunDisk>(rt: &impl Abort, alloc: Global, book: &Book<D>) -> Ve
 }
 
 /// What a crash after so many calls leaves, torn in this way.
-pub fn left_behind(
-    rt: &impl Abort,
-    alloc: Global,
-    disk: &MemoryDisk,
-    calls: u64,
-    torn: Torn,
-) -> Vec<u8> {
+pub fn image(rt: &impl Abort, alloc: Global, disk: &MemoryDisk, calls: u64, torn: Torn) -> Vec<u8> {
     assert!(rt; calls <= disk.calls());
     done(rt, disk.image(alloc, calls, torn), "memory")
 }
@@ -105,6 +99,6 @@ pub fn count_in(rt: &impl Abort, alloc: Global, bytes: Vec<u8>) -> Result<u64, F
 
 /// How many events there are in what such a crash leaves.
 pub fn stored(rt: &impl Abort, alloc: Global, disk: &MemoryDisk, calls: u64, torn: Torn) -> u64 {
-    let image = left_behind(rt, alloc, disk, calls, torn);
+    let image = image(rt, alloc, disk, calls, torn);
     done(rt, count_in(rt, alloc, image), "store")
 }

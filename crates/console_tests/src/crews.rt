@@ -1,7 +1,7 @@
 //! Nights of workers over stores: what is printed of each, and what is left.
 
 use crate::asserts::{done, holds};
-use crate::books::{formatted, left_behind};
+use crate::books::{formatted, image};
 use crate::parts::{Part, whole};
 use crate::runs::night_on;
 use crate::writers::{End, EndingWriter};
@@ -90,7 +90,7 @@ fn worked<D: RunDisk + Drop + Send, W: Write, R: Threads + Wait + Sync + Abort>(
 fn stored(rt: &impl Abort, alloc: Global, lines: &[u8]) -> Vec<u8> {
     let disk = formatted(rt, alloc, Layout::Small);
     let (_, disk) = night_on(rt, alloc, disk, lines);
-    let bytes = left_behind(rt, alloc, &disk, disk.calls(), Torn::Take);
+    let bytes = image(rt, alloc, &disk, disk.calls(), Torn::Take);
     drop(disk);
     bytes
 }

@@ -2,7 +2,7 @@
 //! are spent, put an end to.
 
 use crate::asserts::{done, holds};
-use crate::books::{counts, formatted, left_behind, opened, ran, said, stored};
+use crate::books::{counts, formatted, image, opened, ran, said, stored};
 use crate::parts::Part::{self, Times, Typed};
 use crate::parts::whole;
 use crate::runs::{Ended, Night, night_on, run_on, run_over, said_so};
@@ -280,7 +280,7 @@ fn a_fault_is_printed_as_far_as_it_goes(rt: HostRuntime) {
 /// A store whose generation is the last but one, so that no checkpoint is left after its opening.
 fn last_but_one(rt: &impl Abort, alloc: Global) -> MemoryDisk {
     let disk = formatted(rt, alloc, Layout::Small);
-    let image = left_behind(rt, alloc, &disk, 8, Torn::Keep);
+    let image = image(rt, alloc, &disk, 8, Torn::Keep);
     drop(disk);
     let head = b"\xa7\x7f\xff\xff\xff\xff\xff\xff\xfe";
     let mut bytes = done(rt, Vec::from_slice(alloc, head), "memory");

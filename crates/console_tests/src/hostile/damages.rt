@@ -7,7 +7,7 @@
 //! else.
 
 use crate::asserts::{holds, holds_torn};
-use crate::books::{count_in, counts, left_behind, ran, said};
+use crate::books::{count_in, counts, image, ran, said};
 use crate::hostile::books::{format, formatted, open, recover, zeros};
 use crate::hostile::disks::{SMALL_LEN, TEARS, disk_of, left};
 use crate::hostile::hurting::{DAMAGE, Hurt, HurtingDisk};
@@ -225,7 +225,7 @@ fn a_call_that_damages_its_range_loses_nothing_acknowledged(rt: HostRuntime) {
     for row in ROWS.iter() {
         for call in row.0..row.1 {
             let behind = call.saturating_add(7);
-            let before = left_behind(&rt, rt.alloc(), &whole, behind, Torn::Take);
+            let before = image(&rt, rt.alloc(), &whole, behind, Torn::Take);
             assert_hurt(&rt, rt.alloc(), row, call, &before);
         }
     }

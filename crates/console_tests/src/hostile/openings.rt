@@ -5,7 +5,7 @@
 //! on `IsTornImage` of the disk in memory.
 
 use crate::asserts::{done, given, holds};
-use crate::books::left_behind;
+use crate::books::image;
 use crate::hostile::disks::{SMALL_LEN, TEARS, disk_of, left};
 use crate::hostile::nights::{play, task_in, told};
 use crate::hostile::stores::{TWELVE, stored};
@@ -55,7 +55,7 @@ fn assert_stops(
 ) {
     for calls in 0..11 {
         for torn in TEARS {
-            let found = task_in(rt, alloc, left_behind(rt, alloc, disk, calls, torn));
+            let found = task_in(rt, alloc, image(rt, alloc, disk, calls, torn));
             let is_so = found == wanted(openings, calls, torn);
             assert!(rt;
                 is_so,
@@ -69,7 +69,7 @@ fn assert_stops(
 fn assert_second_stops(rt: &impl Abort, alloc: Global, first: &MemoryDisk) {
     for calls in 0..11 {
         for torn in TEARS {
-            let second = opened(rt, alloc, left_behind(rt, alloc, first, calls, torn));
+            let second = opened(rt, alloc, image(rt, alloc, first, calls, torn));
             let openings = u64::from(is_restarted(calls, torn));
             assert_stops(rt, alloc, &second, openings, (calls, torn));
             drop(second);
