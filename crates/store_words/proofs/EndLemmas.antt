@@ -1,14 +1,9 @@
 -- From what a call wrote, or where it stopped, to how a word ends.
-use Rattle.std.proofs.Common.{◌∙◌, append_assoc, ap, ap₂, inr, subst}
+use Rattle.std.proofs.Common.{◌∙◌, append_assoc, ap, ap₂, subst}
 use Rattle.std.specs.Prelude.{◌≡◌, ◌++◌, [], ℕ, List, Option, Result, Ok, Err, IfErr}
 use Rattle.std.specs.Prelude.{IfOk, OnErr, OnOk}
-use Rattle.std.specs.Global.{Global}
 use Rattle.std.specs.Io.KnownBytes.{Appends}
-use Rattle.run_model.specs.declared.layouts.Layout.TheVariants.{Small}
-use Rattle.run_model.specs.Session.{opened}
-use Rattle.run_disk.specs.declared.memory_disks.MemoryDisk.{MemoryDisk}
 use Rattle.run_disk.specs.Disk.{DiskState}
-use Rattle.run_disk.specs.MemoryDisks.{state_of}
 use Rattle.book_model.specs.Books.{BookView}
 use Rattle.console_lines.specs.declared.faults.RunFault.{RunFault}
 use Rattle.console_lines.specs.declared.faults.RunFault.TheVariants.{Output}
@@ -17,7 +12,6 @@ use Rattle.console_lines.specs.Progress.{WritesPart}
 use Rattle.run_lines.specs.Progress.{RunEnds, RunStops}
 use Rattle.run_lines.specs.declared.untils.Until.{Until}
 use Rattle.run_lines.proofs.Fronts.{stops_begin}
-use Rattle.store_words.specs.Demos.{DemoEnds}
 use Rattle.store_words.specs.Stores.{Prints, Runs}
 
 -- What was written whole or in part was printed.
@@ -38,16 +32,6 @@ ran state until (Err why) r0 r1 w0 w1 b c runs stops = (
   stops,
   λ whole. stops_begin (subst (λ u. RunStops state u why b c r0 r1 w0 w1) whole stops),
 )
-
--- So of a run over a book in memory that was just opened.
-pub demo_ends : (until : Until) (r : Result (Option StrayLine) RunFault)
-    (r0 r1 w0 w1 : Option (List ℕ)) (b c : BookView (MemoryDisk Global))
-    → b.session ≡ opened Small
-    → IfOk r (λ stray. RunEnds state_of until stray b c r0 r1 w0 w1)
-    → IfErr r (λ why. RunStops state_of until why b c r0 r1 w0 w1)
-    → DemoEnds until r r0 r1 w0 w1
-demo_ends until (Ok stray) r0 r1 w0 w1 b c begun runs stops = (b, c, begun, runs)
-demo_ends until (Err why) r0 r1 w0 w1 b c begun runs stops = inr (b, c, begun, stops)
 
 -- A line that was made of three parts, one after the other.
 pub three_parts : (none one two three line : List ℕ) (a b c given : List ℕ)

@@ -3,14 +3,21 @@ use Rattle.std.specs.Prelude.{◌≡◌, ◌⊎◌, ℕ, List, Option, Result, O
 use Rattle.std.specs.Global.{Global}
 use Rattle.run_model.specs.declared.layouts.Layout.TheVariants.{Small}
 use Rattle.run_model.specs.Session.{opened}
+use Rattle.run_model.specs.State.{formatted}
+use Rattle.run_disk.specs.Disk.{DiskState}
 use Rattle.run_disk.specs.declared.memory_disks.MemoryDisk.{MemoryDisk}
 use Rattle.run_disk.specs.MemoryDisks.{state_of}
 use Rattle.book_model.specs.Books.{BookView}
+use Rattle.book_model.specs.Stores.{Stores}
 use Rattle.console_lines.specs.declared.faults.RunFault.{RunFault}
 use Rattle.console_lines.specs.declared.faults.RunFault.TheVariants as fault
 use Rattle.console_lines.specs.declared.strays.StrayLine.{StrayLine}
 use Rattle.run_lines.specs.Progress.{RunEnds, RunStops}
 use Rattle.run_lines.specs.declared.untils.Until.{Until}
+
+-- An honest disk with the small store of a format.
+abbrev pub IsNew : DiskState → Type 0
+IsNew disk = disk.honest × Stores disk.now (formatted Small)
 
 -- There is no book in memory: memory was wanting for it, or its store failed.
 abbrev pub IsUnopened : RunFault → Type 0

@@ -1,8 +1,11 @@
-use Rattle.store_words.proofs.EndLemmas.{demo_ends}
+use Rattle.std.proofs.Common.{inl, refl}
+use Rattle.store_words.proofs.Begins.{demo_ends, unopened}
 use Rattle.store_words.proofs.demos.demo.Goals as goal
 
-pub returns : goal.returns
-returns g c =
-    demo_ends c.args.until c.run_until.result _ _ _ _ c.in-Ok.book c.run_until.new.book
-    c.in-Ok.ensures.opened c.run_until.ensures.runs
-    (c.run_until.ensures.stops c.in-Ok.ensures.sound)
+pub returns-in-Ok : goal.returns-in-Ok
+returns-in-Ok g c =
+    demo_ends c.args.until c.script.result.0 c.in-Ok.disk c.script.result.1 _ _ _ _
+    c.in-Ok.ensures c.script.ensures
+
+pub returns-in-Err : goal.returns-in-Err
+returns-in-Err g c = rw c.stopped.ensures (inl (unopened c.in-Err.fault, refl, refl))
