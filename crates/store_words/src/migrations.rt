@@ -7,12 +7,12 @@ ghost use Rattle.store_words.specs.Stores.{AnswersMade, MigratesRead, Prints, mi
 
 use crate::endings::Done;
 use crate::failures::{Failure, FileName, done_alone, failed_of};
+use crate::renewals::sizes_on;
 use arrayvec::ArrayVec;
 use console_lines::RunFault;
 use itoa::Buffer;
 use run_book::MigrateFault;
 use run_disk::RunDisk;
-use run_lines::Book;
 use state_views::write_whole;
 use std::alloc::Global;
 use std::io::Write;
@@ -31,8 +31,8 @@ pub fn migrate<D: RunDisk, E: RunDisk>(
         Ok(made) => made,
         Err((fault, left)) => return (Err(fault), left),
     };
-    match Book::recover(alloc, &mut made) {
-        Ok(state) => (Ok(state.count()), made),
+    match sizes_on(alloc, &mut made) {
+        Ok(sizes) => (Ok(sizes.events), made),
         Err(fault) => (Err(MigrateFault::New(fault)), made),
     }
 }

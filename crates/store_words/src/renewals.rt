@@ -26,8 +26,8 @@ use store_files::Why;
 
 /// How many events, scopes, groups and tasks a state has.
 #[derive(Clone, Copy)]
-struct Sizes {
-    events: u64,
+pub(crate) struct Sizes {
+    pub(crate) events: u64,
     scopes: u64,
     groups: u64,
     tasks: u64,
@@ -88,7 +88,7 @@ pub fn renewed<'a, Y: Why, W: Write>(
 }
 
 /// The sizes of the state that a disk stores.
-fn sizes_on<D: RunDisk>(alloc: Global, disk: &mut D) -> Result<Sizes, Fault>
+pub(crate) fn sizes_on<D: RunDisk>(alloc: Global, disk: &mut D) -> Result<Sizes, Fault>
     ensures found { IfOk result (λ found. HasSizes found (D.state disk.old) (D.state disk.new)) }
     ensures none { IfErr result (λ why. RecoversNone D.state disk.old why disk.new) }
 {

@@ -4,8 +4,8 @@
 ghost use Rattle.std.specs.Prelude.{◌≡◌, IfErr, IfOk, Some};
 ghost use Rattle.store_words.specs.Sources.{Serves, ServesNot, migrated_layout};
 
+use crate::renewals::sizes_on;
 use run_disk::RunDisk;
-use run_lines::Book;
 use run_model::{Fault, Layout};
 use std::alloc::Global;
 
@@ -35,12 +35,7 @@ pub fn read_source<D: RunDisk>(
     let Some(layout) = to else {
         return Err(Fault::WrongSize);
     };
-    let state = match Book::recover(alloc, disk) {
-        Ok(state) => state,
-        Err(fault) => return Err(fault),
-    };
-    if state.count() >= 1 << 62 {
-        drop(state);
+    if sizes_on(alloc, disk)?.events >= 1 << 62 {
         return Err(Fault::NumbersSpent);
     }
     Ok(layout)
