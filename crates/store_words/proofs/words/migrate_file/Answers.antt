@@ -1,4 +1,4 @@
-use Rattle.std.proofs.Common.{◌≡◌, ◌∙◌, Option, inl, inr, refl, subst, sym}
+use Rattle.std.proofs.Common.{◌≡◌, ◌∙◌, Option, ap, inl, inr, refl, subst, sym}
 use Rattle.run_model.specs.declared.layouts.Layout.{Layout}
 use Rattle.run_model.specs.Layouts.{layout_of}
 use Rattle.store_words.specs.Failures.{NamesSource}
@@ -10,8 +10,10 @@ pub returns-in-Err-read_source : goal.returns-in-Err-read_source
 returns-in-Err-read_source g c =
     let state = g.F.Disk.RunDisk.state in
     let source = c.in-Ok.opened.disk in
-    let to : c.migrated_layout-to.result ≡ migrated_layout (state source).size = cc in
-    let from : c.of-from.result ≡ layout_of (state source).size = cc in
+    let to : c.migrated_layout-to.result ≡ migrated_layout (state source).size =
+    c.migrated_layout-to.ensures ∙ ap migrated_layout c.size-2.ensures in
+    let from : c.of-from.result ≡ layout_of (state source).size =
+    c.of-from.ensures ∙ ap layout_of c.size.ensures in
     let named : NamesSource (layout_of (state source).size)
     (migrated_layout (state source).size) c.args.old.now c.failed_source.result =
     rw from at (rw to at c.failed_source.ensures.file) in
@@ -43,8 +45,6 @@ returns-in-Err-read_source g c =
 
 pub returns-in-Ok-make : goal.returns-in-Ok-make
 returns-in-Ok-make g c =
-    let state = g.F.Disk.RunDisk.state in
-    let to : c.migrated_layout-to.result ≡ migrated_layout (state c.in-Ok.opened.disk).size = cc in
     inr (inr (inr record {
       source = c.in-Ok.opened.disk;
       layout = c.in-Ok-read_source.layout;
@@ -55,7 +55,8 @@ returns-in-Ok-make g c =
       left = c.migrate-done.result.1;
       done = c.migrate-done.result.0;
       settled = c.in-Ok.ensures.settled;
-      fits = sym to ∙ c.in-Ok-read_source.ensures.layout;
+      fits = sym (c.migrated_layout-to.ensures ∙ ap migrated_layout c.size-2.ensures)
+          ∙ c.in-Ok-read_source.ensures.layout;
       serves = c.in-Ok-read_source.ensures.serves;
       ends = c.migrate-done.ensures;
       answers = c.migrated-answer.ensures;
@@ -70,15 +71,14 @@ returns-in-Ok-make g c =
 
 pub returns : goal.returns
 returns g c =
-    let state = g.F.Disk.RunDisk.state in
-    let to : c.migrated_layout-to.result ≡ migrated_layout (state c.in-Ok.opened.disk).size = cc in
     inr (inr (inl (
       record {
         source = c.in-Ok.opened.disk;
         layout = c.in-Ok-read_source.layout;
         read = c.read_source.new.disk;
         settled = c.in-Ok.ensures.settled;
-        fits = sym to ∙ c.in-Ok-read_source.ensures.layout;
+        fits = sym (c.migrated_layout-to.ensures ∙ ap migrated_layout c.size-2.ensures)
+            ∙ c.in-Ok-read_source.ensures.layout;
         serves = c.in-Ok-read_source.ensures.serves;
         held = record {
           opened = c.open_to_read.new.self;
