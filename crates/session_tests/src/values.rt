@@ -2,11 +2,6 @@
 
 mod each;
 
-ghost use Rattle.std.specs.Prelude.{IsTrue};
-ghost use Rattle.std.specs.Option.{IfSome, option_copied};
-ghost use Rattle.run_model.specs.Records.{is_optional_text};
-ghost use Rattle.run_model.specs.Texts.{IsText};
-
 use run_model::{Limit, Moment, Name, Text};
 use std::process::Abort;
 
@@ -23,17 +18,6 @@ pub fn text(rt: &impl Abort, bytes: &[u8]) -> Text {
 /// The moment of so many seconds.
 pub fn moment(rt: &impl Abort, seconds: u64) -> Moment {
     Moment::new(seconds).expect(rt, "a moment")
-}
-
-/// The bytes of a text, if there is one.
-pub fn bytes(text: Option<&Text>) -> Option<&[u8]>
-    ensures taken { IsTrue (is_optional_text (option_copied result)) }
-    ensures text { IfSome result (λ e. IsText e.now) }
-{
-    match text {
-        Some(text) => Some(text.as_bytes()),
-        None => None,
-    }
 }
 
 /// This limit, or none.

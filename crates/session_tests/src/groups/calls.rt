@@ -1,6 +1,7 @@
 //! Calls that change groups, each made only where its own test allows it.
 
-use crate::values::{bytes, limit, name, text};
+use crate::runners::bytes;
+use crate::values::{limit, name, text};
 use run_model::{Limit, Name, Refusal, Text};
 use std::alloc::Allocator;
 use std::process::Abort;
