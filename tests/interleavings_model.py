@@ -215,14 +215,13 @@ BODIES: dict[Place, str] = {
             rt,
             |scope| -> Result<Vec<Shift<S, F>>, AllocError> {
                 let flusher = scope.spawn(move || save_at(rt, shared, arrivals, bell))?;
-                let mut refused = false;
                 for station in stations {
                     match scope.spawn_with(
                         GateOf { gate },
                         move || -> Shift<S, F> { station.work(rt, shared, arrivals, bell, gate) },
                     ) {
                         Ok(handle) => handles.push_reserved(handle),
-                        Err(_) => refused = true,
+                        Err(_) => {}
                     }
                 }
                 for handle in handles {
@@ -230,9 +229,8 @@ BODIES: dict[Place, str] = {
                 }
                 bell.close(rt);
                 flusher.join(rt);
-                let _ = &count;
                 let _ = &gate;
-                if refused {
+                if shifts.len() < count {
                     return Err(AllocError);
                 }
                 Ok(shifts)
@@ -623,7 +621,7 @@ def yes(it: Night, me: int) -> None:
 @does("saves.rt", "return Err(trouble)")
 @does("bells.rt", "return None")
 @does("courses.rt", "if notes.is_full()", "return None")
-@does("nights.rt", "if refused")
+@does("nights.rt", "if shifts.len() < count")
 def no(it: Night, me: int) -> None:
     it.test[me] = False
 
@@ -679,9 +677,9 @@ IDLE: dict[str, tuple[str, ...]] = {
     "courses.rt": ("return", "let task = started.info.task", "notes.note(Note)",
                    "floor.tell(task)", "Ok(_) => Some(started), Err(_) => None,"),
     "workers.rt": ("let Station = self", "let mut place = Workplace", "Shift"),
-    "nights.rt": ("let mut watch = Lookout", *statements(BODIES["nights.rt", "shifts_of"])[:13],
-                  "Ok(handle) => handles.push_reserved(handle), Err(_) => refused = true,",
-                  "for handle in handles", "let _ = &count", "let _ = &gate",
+    "nights.rt": ("let mut watch = Lookout", *statements(BODIES["nights.rt", "shifts_of"])[:12],
+                  "Ok(handle) => handles.push_reserved(handle), Err(_) =>",
+                  "for handle in handles", "let _ = &gate",
                   "return Err(AllocError)", "Ok(shifts)", "return Err(Fault::Memory)",
                   "gather(seat, shifts, &mut notes)", "Ok((notes, last))"),
 }
