@@ -1,5 +1,6 @@
 pub mod ContentsLemmas
 pub mod EarlierImages
+pub mod FirstLemmas
 pub mod MemoryLemmas
 pub mod MomentLemmas
 pub mod NewestLemmas
@@ -8,3 +9,4 @@ pub mod PlaceLemmas
 pub mod RunLemmas
 pub mod StandingLemmas
 pub mod TearLemmas
+pub mod WindowLemmas

@@ -5,10 +5,8 @@ use Rattle.run_model.proofs.Common.{take, refl, sym, ◌∙◌, ap, arith, unwra
 use Rattle.run_model.proofs.Common.{list_any, All, All-nil}
 use Rattle.std.proofs.lemmas.List.Elements.{All-cons}
 use Rattle.std.proofs.lemmas.List.{take_more}
-use Rattle.run_disk.specs.Contents.{Puts}
 use Rattle.run_disk.specs.Writes.{Write}
-use Rattle.run_disk.specs.History.{newest, byte_put}
-use Rattle.run_disk.proofs.PlaceLemmas.{puts_byte}
+use Rattle.run_disk.specs.History.{PutsOver, newest, byte_put}
 
 -- nothing found, and then another
 option_or-none : {T : Type 0} → (o : Option T) → option_or o None ≡ o
@@ -79,16 +77,18 @@ list_any-false p (x ∷ xs) none =
     let parts = neither (p x) (list_any p xs) none in
     All-cons (λ y. p y ≡ false) x xs parts.0 (list_any-false p xs parts.1)
 
--- one write more, put over the bytes that the others left
-pub byte-next : (left : Write → List ℕ) (ws : List Write) (n : ℕ) (w : Write)
+-- one write more, put over the window that the others left
+pub byte-next : (left : Write → List ℕ) (ws : List Write) (n : ℕ) (w : Write) (from : ℕ)
     (first mid new : List ℕ) → n < length ws → w ≡ slice_index_or ws n w
-    → ((i : ℕ) → get_or mid i 0 ≡ unwrap_or (newest left (take n ws) i) (get_or first i 0))
-    → Puts w.at (left w) mid new → (i : ℕ)
-    → get_or new i 0 ≡ unwrap_or (newest left (take (n + 1) ws) i) (get_or first i 0)
-byte-next left ws n w first mid new within is before put i =
+    → ((i : ℕ) → i < length first → get_or mid i 0
+    ≡ unwrap_or (newest left (take n ws) (from + i)) (get_or first i 0))
+    → length mid ≡ length first → PutsOver from w.at (left w) mid new
+    → (i : ℕ) → i < length first → get_or new i 0
+    ≡ unwrap_or (newest left (take (n + 1) ws) (from + i)) (get_or first i 0)
+byte-next left ws n w from first mid new within is before size put i below =
     let more : take (n + 1) ws ≡ take n ws ++ w ∷ [] =
     take_more ws n w within ∙ ap (λ v. take n ws ++ v ∷ []) (sym is) in
-    puts_byte w.at (left w) mid new put i
-    ∙ ap (unwrap_or (byte_put w.at (left w) i)) (before i)
-    ∙ sym (byte-push left (take n ws) w i (get_or first i 0))
-    ∙ ap (λ vs. unwrap_or (newest left vs i) (get_or first i 0)) (sym more)
+    put.bytes i (omega (arith, size))
+    ∙ ap (unwrap_or (byte_put w.at (left w) (from + i))) (before i below)
+    ∙ sym (byte-push left (take n ws) w (from + i) (get_or first i 0))
+    ∙ ap (λ vs. unwrap_or (newest left vs (from + i)) (get_or first i 0)) (sym more)

@@ -3,9 +3,9 @@
 -- A moment is the number of calls that were made before it.
 use Rattle.std.specs.Prelude.{◌≡◌, ◌<◌, ◌≤◌, ◌+◌, ◌-◌, ◌&&◌, ℕ, Bool, false, not, List, [], ◌∷◌}
 use Rattle.std.specs.Prelude.{Option, None, length, get_or, take, replicate, slice_get, nat_lt}
-use Rattle.std.specs.Prelude.{nat_le, if◌then◌else◌, unwrap_or}
+use Rattle.std.specs.Prelude.{nat_le, if◌then◌else◌, unwrap_or, map}
 use Rattle.std.specs.Option.{option_or}
-use Rattle.std.specs.List.{list_any}
+use Rattle.std.specs.List.{list_any, range_with_len}
 use Rattle.run_disk.specs.Writes.{Write, History}
 use Rattle.run_disk.specs.declared.tears.Torn.{Torn}
 use Rattle.run_disk.specs.declared.tears.Torn.TheVariants.{Keep, Take, Fill, Front}
@@ -34,6 +34,13 @@ left_of torn syncs k w =
 abbrev pub byte_put : ℕ → List ℕ → ℕ → Option ℕ
 byte_put at bytes i = if nat_le at i then slice_get bytes (i - at) else None
 
+-- These bytes, from `at` on, were put over the window of a disk that begins at `from`, as far as
+-- they reach it: its new bytes are the old ones but for those places.
+pub record PutsOver (from at : ℕ) (put old new : List ℕ) : Type 0 where
+  pub size : length new ≡ length old
+  pub bytes : (i : ℕ) → i < length old
+      → get_or new i 0 ≡ unwrap_or (byte_put at put (from + i)) (get_or old i 0)
+
 -- The byte of a place by the newest of these writes that reaches it with what is left of it.
 abbrev pub newest : (Write → List ℕ) → List Write → ℕ → Option ℕ
 newest left [] i = None
@@ -43,6 +50,10 @@ newest left (w ∷ ws) i = option_or (newest left ws i) (byte_put w.at (left w) 
 abbrev pub byte_after : Torn → History → ℕ → ℕ → ℕ
 byte_after torn h k i =
     unwrap_or (newest (left_of torn h.syncs k) h.writes i) (get_or h.first i 0)
+
+-- What reads give after the first k calls: the byte of each place of the disk.
+abbrev pub bytes_after : History → ℕ → List ℕ
+bytes_after h k = map (byte_after Take h k) (range_with_len 0 (length h.first))
 
 -- These are the bytes after the first k calls, with each unsynced write torn this way.
 pub record IsTornImage (torn : Torn) (h : History) (k : ℕ) (x : List ℕ) : Type 0 where

@@ -6,7 +6,7 @@ use Rattle.run_disk.specs.Memory.{memory_state}
 
 -- The state of this disk.
 abbrev pub state_of : {A : Type 0} → MemoryDisk A → DiskState
-state_of d = memory_state d.history d.bytes.items d.tally.calls d.tally.failures
+state_of d = memory_state d.history d.tally.calls d.tally.failures
 
 -- What this disk kept of its calls.
 abbrev pub history_of : {A : Type 0} → MemoryDisk A → History

@@ -2,11 +2,10 @@
 //!
 //! A moment is the number of calls that were made before it.
 
-ghost use Rattle.std.specs.Prelude.{◌≡◌, ◌≤◌, ◌+◌, ◌∷◌, ◌++◌, [], ℕ, length, get_or, unwrap_or};
-ghost use Rattle.std.specs.Prelude.{IfOk, OnErr, OnOk};
-ghost use Rattle.std.specs.List.{All};
-ghost use Rattle.run_disk.specs.History.{IsTornImage, is_synced, left_of, newest, torn_bytes};
-ghost use Rattle.run_disk.specs.Contents.{Puts};
+ghost use Rattle.std.specs.Prelude.{◌≡◌, ◌<◌, ◌≤◌, ◌+◌, ℕ, length, get_or, replicate, slice_range};
+ghost use Rattle.std.specs.Prelude.{unwrap_or, IfOk, OnErr, OnOk};
+ghost use Rattle.run_disk.specs.History.{IsTornImage, PutsOver, bytes_after, is_synced, left_of};
+ghost use Rattle.run_disk.specs.History.{newest, torn_bytes};
 ghost use Rattle.run_disk.specs.Writes.{and_sync, and_write, beginning, filled_up};
 
 use crate::tears::Torn;
@@ -30,18 +29,19 @@ impl<A: Allocator> Model for Written<A> {
 }
 
 impl<A: Allocator> Written<A> {
-    /// Puts over `image` what a crash after the first `calls` calls leaves of this write.
-    fn leave(&self, image: &mut [u8], syncs: &[u64], calls: u64, torn: Torn)
-        requires { self.now.at + length self.now.bytes ≤ length image.old }
-        ensures { Puts self.now.at (left_of torn syncs.now calls self.now) image.old image.new }
+    /// Puts over `window`, which begins at the place `from`, what a crash after the first `calls`
+    /// calls leaves of this write.
+    fn leave(&self, from: usize, window: &mut [u8], syncs: &[u64], calls: u64, torn: Torn)
+        ensures { PutsOver from self.now.at (left_of torn syncs.now calls self.now)
+            window.old window.new }
     {
         if self.moment >= calls {
             return;
         }
-        if is_followed(self.moment, syncs, calls) {
-            tear(image, self.at, &self.bytes, Torn::Take);
+        if matches!(torn, Torn::Take) || is_followed(self.moment, syncs, calls) {
+            put(window, from, self.at, &self.bytes);
         } else {
-            tear(image, self.at, &self.bytes, torn);
+            tear(window, from, self.at, &self.bytes, torn);
         }
     }
 }
@@ -53,20 +53,40 @@ fn is_followed(moment: u64, syncs: &[u64], calls: u64) -> bool
     syncs.iter().any(|sync| moment < *sync && *sync < calls)
 }
 
-/// Puts over `image`, from the place `at` on, what the tearing leaves of these bytes.
-fn tear(image: &mut [u8], at: usize, bytes: &[u8], torn: Torn)
-    requires { at + length bytes.now ≤ length image.old }
-    ensures { Puts at (torn_bytes torn bytes.now) image.old image.new }
+/// Puts over `window`, which begins at the place `from`, what the tearing leaves of these bytes,
+/// which begin at the place `at`.
+fn tear(window: &mut [u8], from: usize, at: usize, bytes: &[u8], torn: Torn)
+    ensures { PutsOver from at (torn_bytes torn bytes.now) window.old window.new }
 {
-    let end = at + bytes.len();
     match torn {
         Torn::Keep => {}
-        Torn::Take => image[at..end].copy_from_slice(bytes),
-        Torn::Fill(value) => image[at..end].fill(value),
-        Torn::Front(count) => {
-            let front = &bytes[..count.min(bytes.len())];
-            image[at..at + front.len()].copy_from_slice(front);
-        }
+        Torn::Take => put(window, from, at, bytes),
+        Torn::Fill(value) => put_value(window, from, at, bytes.len(), value),
+        Torn::Front(count) => put(window, from, at, &bytes[..count.min(bytes.len())]),
+    }
+}
+
+/// Puts these bytes, which begin at the place `at`, over `window`, which begins at `from`.
+fn put(window: &mut [u8], from: usize, at: usize, bytes: &[u8])
+    ensures { PutsOver from at bytes.now window.old window.new }
+{
+    let start = at.saturating_sub(from);
+    let skip = from.saturating_sub(at);
+    if start < window.len() && skip < bytes.len() {
+        let count = (window.len() - start).min(bytes.len() - skip);
+        window[start..start + count].copy_from_slice(&bytes[skip..skip + count]);
+    }
+}
+
+/// Puts this value so many times, from the place `at` on, over `window`, which begins at `from`.
+fn put_value(window: &mut [u8], from: usize, at: usize, times: usize, value: u8)
+    ensures { PutsOver from at (replicate times value) window.old window.new }
+{
+    let start = at.saturating_sub(from);
+    let skip = from.saturating_sub(at);
+    if start < window.len() && skip < times {
+        let count = (window.len() - start).min(times - skip);
+        window[start..start + count].fill(value);
     }
 }
 
@@ -93,21 +113,23 @@ impl<A: Allocator> Model for History<A> {
     } };
 }
 
-/// Puts over `image` what a crash after the first `calls` calls leaves of these writes.
+/// Puts over `window`, which begins at the place `from`, what a crash after the first `calls` calls
+/// leaves of these writes.
 fn leave_all<A: Allocator>(
     writes: &[Written<A>],
-    image: &mut [u8],
+    from: usize,
+    window: &mut [u8],
     syncs: &[u64],
     calls: u64,
     torn: Torn,
 )
-    requires { All (λ w. w.at + length w.bytes ≤ length image.old) writes.now }
-    ensures size { length image.new ≡ length image.old }
-    ensures bytes { (i : ℕ) → get_or image.new i 0
-        ≡ unwrap_or (newest (left_of torn syncs.now calls) writes.now i) (get_or image.old i 0) }
+    ensures size { length window.new ≡ length window.old }
+    ensures bytes { (i : ℕ) → i < length window.old → get_or window.new i 0
+        ≡ unwrap_or (newest (left_of torn syncs.now calls) writes.now (from + i))
+        (get_or window.old i 0) }
 {
     for write in writes {
-        write.leave(image, syncs, calls, torn);
+        write.leave(from, window, syncs, calls, torn);
     }
 }
 
@@ -127,19 +149,22 @@ impl<A: Allocator> History<A> {
         }
     }
 
+    /// Returns the number of the disk's bytes.
+    pub fn size(&self) -> usize
+        ensures { result ≡ length self.now.first }
+    {
+        self.size
+    }
+
     /// Keeps a write, unless memory is refused.
-    pub fn keep_write(
-        &mut self,
-        alloc: A,
-        moment: u64,
-        at: usize,
-        bytes: &[u8],
-    ) -> Result<(), AllocError>
+    pub fn keep_write(&mut self, moment: u64, at: usize, bytes: &[u8]) -> Result<(), AllocError>
+    where
+        A: Copy,
         ensures ok { OnOk result (self.new
             ≡ and_write self.old (record { moment = moment; at = at; bytes = bytes.now })) }
         ensures err { OnErr result (self.new ≡ self.old) }
     {
-        let bytes = Vec::from_slice(alloc, bytes)?;
+        let bytes = Vec::from_slice(*self.first.allocator(), bytes)?;
         self.writes.push(Written { moment, at, bytes })?;
         Ok(())
     }
@@ -153,14 +178,23 @@ impl<A: Allocator> History<A> {
         Ok(())
     }
 
+    /// Reads what the first `calls` calls left, from the place `at` on.
+    pub fn read(&self, calls: u64, at: usize, out: &mut [u8])
+        requires { at + length out.old ≤ length self.now.first }
+        ensures { out.new ≡ slice_range (bytes_after self.now calls) at (at + length out.old) }
+    {
+        out.fill(0);
+        put(out, at, 0, &self.first);
+        leave_all(&self.writes, at, out, &self.syncs, calls, Torn::Take);
+    }
+
     /// What a crash after the first `calls` calls leaves, with each unsynced write torn this way.
     pub fn image(&self, alloc: A, calls: u64, torn: Torn) -> Result<Vec<u8, A>, AllocError>
-        requires { All (λ w. w.at + length w.bytes ≤ length self.now.first) self.now.writes }
         ensures { IfOk result (λ image. IsTornImage torn self.now calls image.items) }
     {
         let mut image = Vec::from_slice(alloc, &self.first)?;
         image.resize(self.size, 0)?;
-        leave_all(&self.writes, &mut image, &self.syncs, calls, torn);
+        leave_all(&self.writes, 0, &mut image, &self.syncs, calls, torn);
         Ok(image)
     }
 }

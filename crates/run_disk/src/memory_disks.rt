@@ -1,10 +1,9 @@
-//! A [`MemoryDisk`] keeps its bytes in memory, and each write and sync that it did, so that it can
-//! show what a crash after any of its calls leaves.
+//! A [`MemoryDisk`] keeps in memory its first bytes, and each write and sync that it did. They give
+//! what it reads, and what a crash after any of its calls leaves.
 
 ghost use Rattle.std.specs.Prelude.{◌≡◌, ◌≤◌, ◌+◌, length, slice_range, IfOk, IfErr, OnOk, OnErr};
 ghost use Rattle.std.specs.List.{All};
 ghost use Rattle.run_model.specs.declared.faults.Fault.TheVariants.{Memory};
-ghost use Rattle.run_disk.specs.Contents.{Puts};
 ghost use Rattle.run_disk.specs.Calls.{Calls, Reads, Syncs, Writes};
 ghost use Rattle.run_disk.specs.Disk.{Begins, last_moment};
 ghost use Rattle.run_disk.specs.Writes.{and_sync, and_write, beginning};
@@ -19,13 +18,13 @@ use run_model::Fault;
 use std::alloc::{Allocator, Global};
 
 /// A disk in memory. It is honest. A write or a sync fails if memory for it is refused: it is
-/// counted, and leaves the bytes and what a crash may leave as they were.
+/// counted, and leaves the bytes and what a crash may leave as they were. A read looks at each write
+/// so far.
 #[derive(Drop)]
 pub struct MemoryDisk<A: Allocator = Global> {
     history: History<A>,
-    bytes: Vec<u8, A>,
     tally: Tally,
-    ghost kept: { IsKept history bytes.items tally.calls tally.failures },
+    ghost kept: { IsKept history tally.calls tally.failures },
 }
 
 impl<A: Allocator + Copy> MemoryDisk<A> {
@@ -43,12 +42,8 @@ impl<A: Allocator + Copy> MemoryDisk<A> {
             history_of disk ≡ beginning (⟦<MemoryDisk<A> as RunDisk>⟧.state disk).now) }
         ensures fault { IfErr result (λ fault. fault ≡ Memory) }
     {
-        let Ok(bytes) = vec![in alloc; 0; size] else {
-            return Err(Fault::Memory);
-        };
         Ok(MemoryDisk {
             history: History::new(alloc, Vec::new(alloc), size),
-            bytes,
             tally: Tally::new(),
         })
     }
@@ -60,13 +55,9 @@ impl<A: Allocator + Copy> MemoryDisk<A> {
         ensures history { IfOk result (λ disk. history_of disk ≡ beginning bytes.items) }
         ensures fault { IfErr result (λ fault. fault ≡ Memory) }
     {
-        let Ok(first) = Vec::from_slice(alloc, &bytes) else {
-            return Err(Fault::Memory);
-        };
-        let size = first.len();
+        let size = bytes.len();
         Ok(MemoryDisk {
-            history: History::new(alloc, first, size),
-            bytes,
+            history: History::new(alloc, bytes, size),
             tally: Tally::new(),
         })
     }
@@ -106,10 +97,10 @@ impl<A: Allocator + Copy> RunDisk for MemoryDisk<A> {
     ghost state = { λ d. state_of d };
 
     ghost is_disk = { λ d.
-        is_memory_disk d.history d.bytes.items d.tally.calls d.tally.failures d.kept };
+        is_memory_disk d.history d.tally.calls d.tally.failures d.kept };
 
     fn size(&self) -> u64 {
-        self.bytes.len() as u64
+        self.history.size() as u64
     }
 
     fn read_at(&mut self, at: u64, out: &mut [u8]) -> Result<(), DiskFailed>
@@ -124,8 +115,7 @@ impl<A: Allocator + Copy> RunDisk for MemoryDisk<A> {
         if self.tally.is_spent() {
             return Err(DiskFailed);
         }
-        let from = at as usize;
-        out.copy_from_slice(&self.bytes[from..from + out.len()]);
+        self.history.read(self.tally.calls, at as usize, out);
         self.tally.pass();
         Ok(())
     }
@@ -143,10 +133,8 @@ impl<A: Allocator + Copy> RunDisk for MemoryDisk<A> {
             return Err(DiskFailed);
         }
         let at = at as usize;
-        let alloc = *self.bytes.allocator();
-        match self.history.keep_write(alloc, self.tally.calls, at, bytes) {
+        match self.history.keep_write(self.tally.calls, at, bytes) {
             Ok(()) => {
-                overwrite(&mut self.bytes, at, bytes);
                 self.tally.pass();
                 Ok(())
             }
@@ -173,12 +161,4 @@ impl<A: Allocator + Copy> RunDisk for MemoryDisk<A> {
             Err(_) => Err(self.tally.fail()),
         }
     }
-}
-
-/// Writes these bytes over `bytes`, from the place `at` on.
-fn overwrite<A: Allocator>(bytes: &mut Vec<u8, A>, at: usize, with: &[u8])
-    requires { at + length with.now ≤ length bytes.old.items }
-    ensures { Puts at with.now bytes.old.items bytes.new.items }
-{
-    bytes[at..at + with.len()].copy_from_slice(with);
 }

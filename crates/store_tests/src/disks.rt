@@ -288,35 +288,30 @@ fn leaves<'h>(
     made
 }
 
-/// Says for which there was no room: a disk over this heap, a write, a sync, what a crash leaves.
-/// Asserts what the disk has.
-fn lacks_of(rt: &impl Abort, heap: &LocalHeap) -> [bool; 4] {
+/// Says for which there was no room: a write, a sync, what a crash leaves. Asserts that the disk
+/// itself needs none, and what it has.
+fn lacks_of(rt: &impl Abort, heap: &LocalHeap) -> [bool; 3] {
     // (the least heap has room for 16 bytes)
-    let mut disk = match MemoryDisk::new(heap, 24) {
-        Ok(disk) => disk,
-        Err(fault) => {
-            holds(rt, fault == Fault::Memory, "a disk", 0);
-            return [true, false, false, false];
-        }
-    };
+    let mut disk = done(rt, MemoryDisk::new(heap, 24), "a disk");
+    holds(rt, heap.used() == 0, "in use", heap.used());
     let wrote = write(rt, &mut disk, 2, &[5, 6, 7]).is_ok();
     let wanted: &[u8] = if wrote { &[5, 6, 7] } else { &[0; 3] };
     holds(rt, reads(rt, &mut disk, 2, wanted), "read", wrote as usize);
     let synced = disk.sync().is_ok();
     holds(rt, disk.calls() == 3, "calls", 3);
     let shown = leaves(rt, heap, &disk, wrote && synced);
-    [false, !wrote, !synced, !shown]
+    [!wrote, !synced, !shown]
 }
 
 /// Says for which of these so many bytes have no room.
-fn lacks_with(rt: &impl Abort, alloc: Global, bytes: usize) -> [bool; 4] {
+fn lacks_with(rt: &impl Abort, alloc: Global, bytes: usize) -> [bool; 3] {
     let heap = done(rt, LocalHeap::new(alloc, bytes), "memory");
     lacks_of(rt, &heap)
 }
 
 #[test]
 fn a_refused_growth_is_a_failed_call(rt: HostRuntime) {
-    let mut seen = [false; 4];
+    let mut seen = [false; 3];
     for budget in 0..64usize {
         let lacks = lacks_with(&rt, rt.alloc(), 16 * budget);
         for (all, lack) in seen.iter_mut().zip(lacks.iter()) {

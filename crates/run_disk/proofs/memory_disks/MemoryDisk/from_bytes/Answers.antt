@@ -1,30 +1,25 @@
-use Rattle.std.proofs.Common.{◌<◌, ◌^◌, ◌∙◌, List, ℕ, ap, length, subst}
-use Rattle.run_disk.specs.Writes.{beginning, filled_up}
-use Rattle.run_disk.proofs.MemoryLemmas.{begun, begun_kept, filled_whole}
+use Rattle.std.proofs.Common.{◌∙◌, ap, arith}
+use Rattle.run_disk.specs.Writes.{beginning}
+use Rattle.run_disk.proofs.FirstLemmas.{filled_whole}
+use Rattle.run_disk.proofs.MemoryLemmas.{begun, begun_kept}
 use Rattle.run_disk.proofs.memory_disks.MemoryDisk.from_bytes.Goals as goal
 
 pub returns-clause-history : goal.returns-clause-history
 returns-clause-history g c =
-    let bytes = c.args.bytes.items in
-    let first = c.in-Ok.ensures.items ∙ c.deref.ensures.value in
-    let size = c.len-size.ensures ∙ c.in-Ok.ensures.len ∙ ap length c.deref.ensures.value in
-    c.new.ensures
-    ∙ ap (λ (xs : List ℕ). beginning (filled_up c.len-size.result xs)) first
-    ∙ ap beginning (filled_whole c.len-size.result bytes size)
+    let bytes = c.args.bytes in
+    rw c.new.ensures
+    (ap beginning (filled_whole c.len-size.result bytes.items (c.len-size.ensures ∙ bytes.ok.0)))
 
 pub invariant_of-result : goal.invariant_of-result
 invariant_of-result g c =
-    let bytes = c.args.bytes.items in
-    let fits = subst (λ xs. length xs < 2 ^ 64) c.deref.ensures.value c.deref.type_inv.0 in
-    let first = c.in-Ok.ensures.items ∙ c.deref.ensures.value in
-    let size = c.len-size.ensures ∙ c.in-Ok.ensures.len ∙ ap length c.deref.ensures.value in
-    rw (c.new.ensures, c.new-2.ensures, first, filled_whole c.len-size.result bytes size)
-    (record { kept = begun_kept bytes fits })
+    let bytes = c.args.bytes in
+    let size = c.len-size.ensures ∙ bytes.ok.0 in
+    rw (c.new.ensures, c.new-2.ensures, filled_whole c.len-size.result bytes.items size)
+    (record { kept = begun_kept bytes.items (omega (arith, size, c.len-size.type_inv)) })
 
 pub returns-clause-begins : goal.returns-clause-begins
 returns-clause-begins g c =
-    let bytes = c.args.bytes.items in
-    let first = c.in-Ok.ensures.items ∙ c.deref.ensures.value in
-    let size = c.len-size.ensures ∙ c.in-Ok.ensures.len ∙ ap length c.deref.ensures.value in
-    rw (c.new.ensures, c.new-2.ensures, first, filled_whole c.len-size.result bytes size)
-    (begun bytes)
+    let bytes = c.args.bytes in
+    let size = c.len-size.ensures ∙ bytes.ok.0 in
+    rw (c.new.ensures, c.new-2.ensures, filled_whole c.len-size.result bytes.items size)
+    (begun bytes.items)
