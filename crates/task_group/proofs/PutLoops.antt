@@ -131,3 +131,7 @@ put_both write behind xs lent ys lent_too old mid new at e same same_too first p
     ∙ ap (put_at mid e) (ap (flat_map behind) same_too)
     ∙ ap (λ o. put_at o e (flat_map behind ys)) (first ∙ ap (put_at old at) bytes)
     ∙ put_then old at e (flat_map write xs) (flat_map behind ys) end (omega (arith, room, end))
+
+pub put_end : (first second : List ℕ) (at mid end : ℕ) → mid ≡ at + length first
+    → end ≡ mid + length second → end ≡ at + length (first ++ second)
+put_end first second at mid end is then = omega (arith, length-append first second)

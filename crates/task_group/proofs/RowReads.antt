@@ -2,7 +2,9 @@
 use Rattle.run_model.proofs.Common.{◌≡◌, ◌<◌, ℕ, Bool, true, false, ltb, List, length, get_or}
 use Rattle.run_model.proofs.Common.{Option, Some, None, slice_get, refl, sym, ap, ◌∙◌}
 use Rattle.run_model.proofs.Common.{option_map_or, ltb-true, ltb-false, slice_get_past}
-use Rattle.run_model.proofs.Common.{slice_get_read, slice_get_within}
+use Rattle.run_model.proofs.Common.{slice_get_read, slice_get_within, is_some, IfSome}
+use Rattle.run_model.proofs.Common.{option_copied}
+use Rattle.std.specs.Borrow.{Bor}
 
 -- A row that was found in a copy of the list is in the list.
 pub row_read : {X : Type 0} (rows read : List X) (n : ℕ) (row : X) → read ≡ rows
@@ -19,6 +21,14 @@ test_found {X} test rows read n row answer same within is e =
     e
     ∙ sym
     (ap (λ (o : Option X). option_map_or test o false) (row_read rows read n row same within is))
+
+-- What was lent of a row is the row.
+pub row_lent : {X : Type 0} (rows read : List X) (n : ℕ) (lent : Option (Bor X)) → read ≡ rows
+    → is_some lent ≡ ltb n (length read) → IfSome lent (λ x. x.now ≡ get_or read n x.now)
+    → option_copied lent ≡ slice_get rows n
+row_lent rows read n None same past is =
+    rw (← same) (sym (slice_get_past read n (ltb-false n (length read) (sym past))))
+row_lent rows read n (Some x) same within is = sym (row_read rows read n x.now same within is)
 
 -- The answer where none was found.
 pub test_missed : {X : Type 0} (test : X → Bool) (rows read : List X) (n : ℕ) → read ≡ rows
@@ -39,9 +49,3 @@ row_known {X} test rows n passes = by (slice_get rows n) refl
         (let no : false ≡ true =
         sym (ap (λ (o : Option X). option_map_or test o false) e) ∙ passes in absurd cc)
     by (Some row) e = slice_get_within rows n row e
-
--- A row that was found is there.
-pub row_within : {X : Type 0} (rows read : List X) (n : ℕ) → read ≡ rows
-    → true ≡ ltb n (length read) → n < length rows
-row_within rows read n same within =
-    rw (← same) (ltb-true n (length read) (sym within))

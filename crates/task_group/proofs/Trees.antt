@@ -4,7 +4,8 @@ use Rattle.run_model.proofs.Common.{true, false, ◌||◌, List, length, drop, c
 use Rattle.run_model.proofs.Common.{inr, refl, sym, ap, ◌∙◌, arith, ◌⊎◌, replicate, slice_set}
 use Rattle.run_model.proofs.Common.{cases_eq, cases_lt, get_or-drop, get_or_past, get_or-set_same}
 use Rattle.run_model.proofs.Common.{get_or-set_other, length-replicate, length-set, most_tasks}
-use Rattle.run_model.proofs.Common.{most_tasks_most}
+use Rattle.run_model.proofs.Common.{most_tasks_most, length-drop, take, take-append-le, take_all}
+use Rattle.run_model.proofs.Common.{◌++◌, ◌∷◌, []}
 use Rattle.std.proofs.lemmas.List.{drop-replicate, get_or-replicate}
 use Rattle.run_model.specs.declared.layouts.Layout.{Layout}
 use Rattle.run_model.specs.declared.layouts.Layout.TheVariants.{Small, Large}
@@ -290,3 +291,27 @@ pub new_flags : (n : ℕ) → drop n (replicate (n + n) false) ≡ replicate n f
 new_flags n =
     let rest : n + n - n ≡ n = omega arith in
     drop-replicate n (n + n) false ∙ ap (λ k. replicate k false) rest
+
+-- ---- a tree in its place
+
+pub leaf_count : (leaves : ℕ) (nodes : List Bool) → IsTree leaves nodes
+    → length (drop leaves nodes) ≡ leaves
+leaf_count leaves nodes tree =
+    length-drop leaves nodes ∙ (let size = tree.size in omega (arith, size))
+
+-- What is written over all nodes of a tree is what stands there then.
+pub tree_written : (leaves count : ℕ) (old new : List Bool) → count ≡ length old
+    → IsTree leaves old → IsTree leaves new → take count (new ++ drop (length new) old) ≡ new
+tree_written leaves count old new is before after =
+    let full : count ≡ length new = is ∙ before.size ∙ sym after.size in
+    take-append-le count new (drop (length new) old) (omega (arith, full))
+    ∙ take_all count new (omega (arith, full))
+
+-- One flag more is down.
+pub pushed_down : (flags : List Bool) → flags ≡ replicate (length flags) false
+    → flags ++ false ∷ [] ≡ replicate (length (flags ++ false ∷ [])) false
+pushed_down [] down = refl
+pushed_down (flag ∷ flags) down =
+    let first : flag ≡ false = cc in
+    let rest : flags ≡ replicate (length flags) false = cc in
+    rw first (ap (λ (l : List Bool). false ∷ l) (pushed_down flags rest))

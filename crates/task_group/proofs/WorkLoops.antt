@@ -1,5 +1,8 @@
 -- Groups and tasks that are read one after the other are the work whose rows the bytes begin with.
-use Rattle.std.proofs.Common.{◌≡◌, ℕ, true, false, List, [], Option, Some, None, refl, sym, ap, ◌∙◌}
+use Rattle.run_model.proofs.Common.{◌≡◌, ◌<◌, ◌≤◌, ℕ, Bool, true, false, not, ◌&&◌, ◌||◌, List, []}
+use Rattle.run_model.proofs.Common.{length, Option, Some, None, refl, sym, ap, ◌∙◌, le-ltb, lt-ltb}
+use Rattle.run_model.proofs.Common.{admits, limit_of, unfinished_in, is_admitted, is_running}
+use Rattle.std.proofs.Math.Seq.{take-length}
 use Rattle.run_model.specs.declared.groups.Group.{Group}
 use Rattle.run_model.specs.declared.layouts.Layout.{Layout}
 use Rattle.run_model.specs.declared.tasks.Task.{Task}
@@ -7,9 +10,10 @@ use Rattle.run_model.specs.State.{WorkState, new_work}
 use Rattle.record_view.specs.declared.heads.ImageHead.{ImageHead}
 use Rattle.record_view.specs.RowReading.{group_row_at, task_at}
 use Rattle.record_view.specs.WorkRows.{AreWorkRows, can_come, each_passes, has_new_name}
-use Rattle.record_view.specs.WorkRows.{has_work_room, is_settled, more_at, work_at, work_made}
-use Rattle.record_view.specs.WorkRows.{work_rows_at}
+use Rattle.record_view.specs.WorkRows.{has_work_room, is_linked, is_settled, more_at, work_at}
+use Rattle.record_view.specs.WorkRows.{work_made, work_rows_at}
 use Rattle.record_view.proofs.WorkReads.{no_work_stands, work_takes}
+use Rattle.task_group.proofs.Admits.{running_unfinished}
 
 -- A task can come after the rows so far, of which the groups stay.
 pub come_as : (start now : WorkState) (row : Task) → now.layout ≡ start.layout
@@ -19,6 +23,26 @@ pub come_as : (start now : WorkState) (row : Task) → now.layout ≡ start.layo
 come_as start now row layout groups =
     ap (λ (l : Layout). can_come l start.groups now.tasks row) (sym layout)
     ∙ ap (λ (g : List Group). can_come now.layout g now.tasks row) (sym groups)
+
+-- A task whose group isn't there can't come.
+pub come_apart : (w : WorkState) (row : Task) → length w.groups ≤ row.group
+    → false ≡ can_come w.layout w.groups w.tasks row
+come_apart w row past = rw (le-ltb row.group (length w.groups) past) refl
+
+-- Whether a running task has a seat.
+pub seat_of : (w : WorkState) (row : Task) (answer : Bool) → is_running row.stage ≡ true
+    → admits (limit_of w row.group) (unfinished_in row.group w.tasks) ≡ answer
+    → (not (is_running row.stage) || is_admitted w (length w.tasks) row) ≡ answer
+seat_of w row answer running fits =
+    rw (running, running_unfinished row.stage running, take-length) fits
+
+-- A task whose group is there can come if it has a seat, where it needs one, and a right link.
+pub come_by : (w : WorkState) (row : Task) (seat linked : Bool) → row.group < length w.groups
+    → (not (is_running row.stage) || is_admitted w (length w.tasks) row) ≡ seat
+    → linked ≡ is_linked w.tasks row
+    → (seat && linked) ≡ can_come w.layout w.groups w.tasks row
+come_by w row seat linked known seated is =
+    rw (lt-ltb row.group (length w.groups) known, seated) (ap (λ b. seat && b) is)
 
 module _ (start : WorkState) (head : ImageHead) (bytes : List ℕ)
     (new : start ≡ new_work start.layout) where
@@ -42,6 +66,17 @@ module _ (start : WorkState) (head : ImageHead) (bytes : List ℕ)
 
   abbrev pub IsFew : Type 0
   IsFew = has_work_room start.layout head ≡ true
+
+  -- What the test of the room says at this layout, it says of these groups.
+  pub room_is : (layout : Layout) (room answer : Bool) → layout ≡ start.layout
+      → room ≡ has_work_room layout head → room ≡ answer
+      → has_work_room start.layout head ≡ answer
+  room_is layout room answer same is e =
+      ap (λ (l : Layout). has_work_room l head) (sym same) ∙ sym is ∙ e
+
+  pub no_room : has_work_room start.layout head ≡ false → HasNoWork
+  unfolding work_at work_rows_at
+  no_room none = no_work_stands start.layout head bytes (rw none refl)
 
   from_none : more_at group_row_at has_new_name head.groups [] bytes ≡ groups_read
   from_none =

@@ -91,10 +91,10 @@ impl<A: Allocator> Groups<A> {
     pub fn check_retry(&self, task: u16) -> Result<(), Refusal>
         ensures { Answers self.now (Retry task) result }
     {
-        if self.tasks.len() <= task as usize {
+        let Some(row) = self.task_row(task) else {
             return Err(Refusal::NoSuchTask);
-        }
-        if !is_interrupted(&self.tasks[task as usize].stage) {
+        };
+        if !is_interrupted(&row.stage) {
             return Err(Refusal::NotInterrupted);
         }
         if self.is_retried(task) {
@@ -108,7 +108,7 @@ impl<A: Allocator> Groups<A> {
     pub fn check_wait(&self, group: u16) -> Result<(), Refusal>
         ensures { Answers self.now (Wait group) result }
     {
-        if self.groups.len() <= group as usize {
+        if self.group_count() <= group as usize {
             return Err(Refusal::NoSuchGroup);
         }
         let unfinished = self.unfinished(group);
@@ -125,7 +125,7 @@ impl<A: Allocator> Groups<A> {
     pub fn check_finish(&self, task: u16) -> Result<(), Refusal>
         ensures { (outcome : Outcome) → Answers self.now (Finish task outcome) result }
     {
-        if self.tasks.len() <= task as usize {
+        if self.task_count() <= task as usize {
             return Err(Refusal::NoSuchTask);
         }
         if !self.is_running(task) {
@@ -141,7 +141,7 @@ impl<A: Allocator> Groups<A> {
             ∷ (not (is_open self.now group), refusal.Waited) ∷ []) }
         ensures known { IfOk result (λ _. group < length self.now.groups) }
     {
-        let Some(row) = self.groups.get(group as usize) else {
+        let Some(row) = self.group_row(group) else {
             return Err(Refusal::NoSuchGroup);
         };
         if row.waited {
@@ -164,7 +164,7 @@ impl<A: Allocator> Groups<A> {
     }
 
     /// Returns whether a task was retried.
-    fn is_retried(&self, task: u16) -> bool
+    pub(crate) fn is_retried(&self, task: u16) -> bool
         requires { task < length self.now.tasks }
         ensures { result ≡ is_retried self.now task }
     {

@@ -69,19 +69,13 @@ impl<A: Allocator> Groups<A> {
             AreWorkRows self.layout head.now bytes.now w rest → ⊥) }
         ensures fault { IfErr result (λ fault. fault ≡ BadImage) }
     {
-        if !has_room(self.layout, head) {
-            return Err(Fault::BadImage);
+        match self.read_work(head, bytes) {
+            Some(rest) => Ok((self, rest)),
+            None => {
+                drop(self);
+                Err(Fault::BadImage)
+            }
         }
-        let Some(rest) = self.read_groups(head.groups, bytes) else {
-            return Err(Fault::BadImage);
-        };
-        let Some(rest) = self.read_tasks(head, rest) else {
-            return Err(Fault::BadImage);
-        };
-        if !self.are_settled() {
-            return Err(Fault::BadImage);
-        }
-        Ok((self, rest))
     }
 
     /// Returns whether these scopes and the groups fit together: the scope of each group exists;
@@ -91,6 +85,30 @@ impl<A: Allocator> Groups<A> {
         ensures { result ≡ fits_between scopes.now self.now.groups }
     {
         fit_scopes(&self.groups, scopes) && have_groups(scopes, &self.groups)
+    }
+
+    /// Fills these groups, which are new, with the rows, and returns the bytes after those. `None`
+    /// if the bytes don't begin with rows that keep the rules.
+    fn read_work<'a>(&mut self, head: &ImageHead, bytes: &'a [u8]) -> Option<&'a [u8]>
+        requires { self.old ≡ new_work self.old.layout }
+        ensures read { IfSome result (λ rest.
+            AreWorkRows self.old.layout head.now bytes.now self.new rest.now) }
+        ensures none { IfNone result ((w : WorkState) (rest : List ℕ) →
+            AreWorkRows self.old.layout head.now bytes.now w rest → ⊥) }
+    {
+        if !has_room(self.layout(), head) {
+            return None;
+        }
+        let Some(rest) = self.read_groups(head.groups, bytes) else {
+            return None;
+        };
+        let Some(rest) = self.read_tasks(head, rest) else {
+            return None;
+        };
+        if !self.are_settled() {
+            return None;
+        }
+        Some(rest)
     }
 
     /// Reads so many groups after those that there are. `None` if the bytes don't begin with them,
@@ -107,7 +125,9 @@ impl<A: Allocator> Groups<A> {
     {
         let mut rest = bytes;
         for n in 0..many {
-            let (view, behind) = read_group(rest)?;
+            let Some((view, behind)) = read_group(rest) else {
+                return None;
+            };
             if self.find(view.name).is_some() {
                 return None;
             }
@@ -132,7 +152,9 @@ impl<A: Allocator> Groups<A> {
     {
         let mut rest = bytes;
         for n in 0..head.tasks {
-            let (view, behind) = read_task(rest, head.version)?;
+            let Some((view, behind)) = read_task(rest, head.version) else {
+                return None;
+            };
             let row = task_copy(&view);
             if !self.can_come(&row) {
                 return None;
@@ -147,7 +169,7 @@ impl<A: Allocator> Groups<A> {
     fn can_come(&self, row: &Task) -> bool
         ensures { result ≡ can_come self.now.layout self.now.groups self.now.tasks row.now }
     {
-        if self.groups.len() <= row.group as usize {
+        if self.group_count() <= row.group as usize {
             return false;
         }
         if is_running(&row.stage) && !self.has_seat(row.group) {
@@ -164,8 +186,8 @@ impl<A: Allocator> Groups<A> {
         let Some(m) = row.retry_of else {
             return true;
         };
-        match self.tasks.get(m as usize) {
-            Some(old) => can_retry(row, old) && !self.retried[m as usize],
+        match self.task_row(m) {
+            Some(old) => can_retry(row, old) && !self.is_retried(m),
             None => false,
         }
     }
@@ -228,7 +250,7 @@ impl<A: Allocator> Groups<A> {
         ensures { result ≡ each_passes (is_settled self.now) 0 self.now.groups }
     {
         let lost = lost_groups(&self.tasks);
-        for g in 0..self.groups.len() {
+        for g in 0..self.group_count() {
             if !self.is_settled(g, lost[g]) {
                 return false;
             }

@@ -56,7 +56,9 @@ impl<A: Allocator> Groups<A> {
         ensures { (count : ℕ) (tree : TreeState) → result
             ≡ group_look_of (record { count = count; tree = tree; work = self.now }) group }
     {
-        let row = self.groups.get(group as usize)?;
+        let Some(row) = self.group_row(group) else {
+            return None;
+        };
         Some(group_look(row, self.unfinished(group)))
     }
 
@@ -64,7 +66,7 @@ impl<A: Allocator> Groups<A> {
     pub fn was_waited(&self, group: u16) -> bool
         ensures { result ≡ has_waited self.now group }
     {
-        match self.groups.get(group as usize) {
+        match self.group_row(group) {
             Some(row) => row.waited,
             None => false,
         }
@@ -108,7 +110,9 @@ impl<A: Allocator> Groups<A> {
     pub fn phase(&self, task: u16) -> Option<Phase>
         ensures { result ≡ phase_of self.now task }
     {
-        let row = self.tasks.get(task as usize)?;
+        let Some(row) = self.task_row(task) else {
+            return None;
+        };
         let first = self.seats[row.group as usize].first;
         Some(stage_phase(&row.stage, is_from(first, task)))
     }

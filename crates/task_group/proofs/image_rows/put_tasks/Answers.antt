@@ -1,4 +1,6 @@
-use Rattle.std.proofs.Common.{◌+◌, length, arith, ap, ◌∙◌}
+use Rattle.run_model.proofs.Common.{◌≡◌, ◌+◌, true, length, arith, refl, sym, ap, subst, ◌∙◌}
+use Rattle.run_model.proofs.Common.{slice_get_read}
+use Rattle.run_model.specs.declared.tasks.Task.{Task}
 use Rattle.record_view.specs.declared.heads.ImageVersion.TheVariants.{Two}
 use Rattle.record_view.specs.Image.{task_bytes, is_kept_task}
 use Rattle.record_view.specs.Writing.{put_at}
@@ -40,3 +42,15 @@ returns c =
     c.loop-row.row-index c.args.at c.loop-row.end c.args.out.now c.loop-row.out
     c.loop-row.invariant c.loop-row-test.false in
     record { end = done.0; written = done.1; kept = done.2; most = done.3 }
+
+pub task_row-requires : goal.task_row-requires
+task_row-requires c =
+    let rows = c.args.rows.now in
+    c.requires.links c.loop-row.row-index c.row-item.result
+    (slice_get_read rows (length rows) c.loop-row.row-index c.row-item.result refl
+    c.loop-row-test.true c.row-item.is)
+
+pub put_task-end-requires-clause-kept : goal.put_task-end-requires-clause-kept
+put_task-end-requires-clause-kept c =
+    subst (λ (r : Task). is_kept_task Two r ≡ true) (sym c.task_row.ensures.value)
+    c.task_row.ensures.kept

@@ -1,4 +1,4 @@
-use Rattle.run_model.proofs.Common.{◌<◌, ◌≤◌, length, sym, ap, ◌∙◌, arith, WorkState, row_there}
+use Rattle.run_model.proofs.Common.{◌<◌, ◌≤◌, length, sym, ◌∙◌, arith, row_there}
 use Rattle.record_view.specs.WorkRows.{is_settled}
 use Rattle.task_group.proofs.Settling.{passes_on, fails_at, passes_end}
 use Rattle.task_group.proofs.groups.Groups.are_settled.Goals as goal
@@ -6,9 +6,8 @@ use Rattle.task_group.proofs.groups.Groups.are_settled.Goals as goal
 pub loop-g-preserved : goal.loop-g-preserved
 loop-g-preserved g c =
     let w = c.args.self.now in
-    let same = ap (λ (u : WorkState). length u.groups) c.self.view_is in
     let less : c.loop-g.g < length w.groups =
-    omega (arith, same, c.loop-g-test.true, c.len-g-end.ensures) in
+    omega (arith, c.loop-g-test.true, c.group_count-g-end.ensures.len) in
     let row = row_there w.groups c.loop-g.g less in
     passes_on (is_settled w) c.loop-g.g w.groups row.0 row.1
     (sym (c.is_settled.ensures row.0 row.1) ∙ c.if-not-is_settled.false) ∙ c.loop-g.invariant
@@ -16,9 +15,8 @@ loop-g-preserved g c =
 pub returns-then-not-is_settled : goal.returns-then-not-is_settled
 returns-then-not-is_settled g c =
     let w = c.args.self.now in
-    let same = ap (λ (u : WorkState). length u.groups) c.self.view_is in
     let less : c.loop-g.g < length w.groups =
-    omega (arith, same, c.loop-g-test.true, c.len-g-end.ensures) in
+    omega (arith, c.loop-g-test.true, c.group_count-g-end.ensures.len) in
     let row = row_there w.groups c.loop-g.g less in
     sym
     (fails_at (is_settled w) c.loop-g.g w.groups row.0 row.1
@@ -28,7 +26,6 @@ returns-then-not-is_settled g c =
 pub returns : goal.returns
 returns g c =
     let w = c.args.self.now in
-    let same = ap (λ (u : WorkState). length u.groups) c.self.view_is in
     let all : length w.groups ≤ c.loop-g.g =
-    omega (arith, same, c.loop-g-test.false, c.len-g-end.ensures) in
+    omega (arith, c.loop-g-test.false, c.group_count-g-end.ensures.len) in
     sym (passes_end (is_settled w) c.loop-g.g w.groups all) ∙ c.loop-g.invariant

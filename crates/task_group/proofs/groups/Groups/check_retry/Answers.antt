@@ -1,24 +1,35 @@
-use Rattle.run_model.proofs.Common.{◌≡◌, true, false, [], Option, length, refl, sym, ap, ◌∙◌}
-use Rattle.run_model.proofs.Common.{arith, option_map_or, lt-ltb, slice_get_read, has_row}
-use Rattle.run_model.proofs.Common.{is_retried, has_stage, is_interrupted}
-use Rattle.run_model.specs.declared.tasks.Task.{Task}
+use Rattle.run_model.proofs.Common.{[], sym, ◌∙◌, true, false, refl, slice_get_within, lt-ltb}
+use Rattle.task_group.proofs.Checks.{retry_found, row_missed}
 use Rattle.task_group.proofs.groups.Groups.check_retry.Goals as goal
+
+pub returns-in_default : goal.returns-in_default
+returns-in_default g c count tree =
+    rw (row_missed c.args.self.now.tasks c.args.task (sym c.in_default.ensures)) refl
+
+pub returns-then-not-is_interrupted : goal.returns-then-not-is_interrupted
+returns-then-not-is_interrupted g c count tree =
+    let found = retry_found c.args.self.now c.args.task c.in-Some.row.now false
+    (sym c.in-Some.ensures) (sym c.if-not-is_interrupted.true ∙ c.is_interrupted.ensures) in
+    rw (found.0, found.1) refl
+
+pub is_retried-requires : goal.is_retried-requires
+is_retried-requires g c =
+    slice_get_within c.args.self.now.tasks c.args.task c.in-Some.row.now (sym c.in-Some.ensures)
+
+pub returns-then-is_retried : goal.returns-then-is_retried
+returns-then-is_retried g c count tree =
+    let found = retry_found c.args.self.now c.args.task c.in-Some.row.now true
+    (sym c.in-Some.ensures) (sym c.if-not-is_interrupted.false ∙ c.is_interrupted.ensures) in
+    rw (found.0, found.1, ← c.is_retried.ensures, c.if-is_retried.true) refl
+
+pub group_of-requires : goal.group_of-requires
+group_of-requires g c =
+    slice_get_within c.args.self.now.tasks c.args.task c.in-Some.row.now (sym c.in-Some.ensures)
 
 pub returns : goal.returns
 returns g c count tree =
-    let w = c.args.self.now in
-    let known : (has_row w.tasks) c.args.task ≡ true =
-    rw (← c.self.view_is) (lt-ltb _ _ (omega (arith, c.if-len-task.false, c.len.ensures))) in
-    let tasks = c.self.inside.tasks.items in
-    let row = slice_get_read tasks (length tasks) c.args.task c.index.result.now refl
-    (omega (arith, c.if-len-task.false, c.len.ensures)) c.index.ensures in
-    let ended : (has_stage is_interrupted) w c.args.task ≡ true =
-    rw (← c.self.view_is)
-    (ap (λ (o : Option Task). option_map_or (λ task. is_interrupted task.stage) o false) row
-    ∙ sym c.is_interrupted.ensures ∙ c.if-not-is_interrupted.false) in
-    let fresh : is_retried w c.args.task ≡ false =
-    sym c.is_retried.ensures ∙ c.if-is_retried.false in
-    let group : (has_row w.groups) c.group_of.result ≡ true =
-    lt-ltb _ _ c.group_of.ensures.known in
-    rw (known, ended, fresh, ← c.group_of.ensures.group)
+    let found = retry_found c.args.self.now c.args.task c.in-Some.row.now true
+    (sym c.in-Some.ensures) (sym c.if-not-is_interrupted.false ∙ c.is_interrupted.ensures) in
+    let group = lt-ltb _ _ c.group_of.ensures.known in
+    rw (found.0, found.1, ← c.is_retried.ensures, c.if-is_retried.false, ← c.group_of.ensures.group)
     (rw group at c.check_go.ensures [] [] count tree)

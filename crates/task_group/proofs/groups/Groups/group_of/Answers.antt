@@ -1,4 +1,5 @@
-use Rattle.run_model.proofs.Common.{length, refl, slice_get_read}
+use Rattle.run_model.proofs.Common.{length, refl, sym, ap, Option, option_map_or, slice_get_read}
+use Rattle.run_model.specs.declared.tasks.Task.{Task}
 use Rattle.task_group.proofs.groups.Groups.group_of.Goals as goal
 
 pub index-requires : goal.index-requires
@@ -13,3 +14,13 @@ returns-clause-known g c =
     refl known c.index.ensures in
     rw (← c.self.view_is)
     (c.self.invariant.0.seated.sound.grouped c.args.task c.index.result.now found)
+
+pub returns-clause-group : goal.returns-clause-group
+returns-clause-group g c =
+    let s = c.self.inside in
+    let known = rw (← c.self.view_is) at c.requires in
+    let found = slice_get_read s.tasks.items (length s.tasks.items) c.args.task c.index.result.now
+    refl known c.index.ensures in
+    rw (← c.self.view_is)
+    (sym
+    (ap (λ (o : Option Task). option_map_or (λ task. task.group) o (length s.groups.items)) found))

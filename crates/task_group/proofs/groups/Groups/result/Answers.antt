@@ -1,9 +1,14 @@
-use Rattle.run_model.proofs.Common.{ap, ◌∙◌, WorkState}
-use Rattle.task_group.proofs.RowReads.{row_within}
+use Rattle.run_model.proofs.Common.{sym, refl, slice_get_within}
 use Rattle.task_group.proofs.groups.Groups.result.Goals as goal
+
+pub returns-in_default : goal.returns-in_default
+returns-in_default g c count tree = rw (← c.in_default.ensures) refl
 
 pub unfinished-requires : goal.unfinished-requires
 unfinished-requires g c =
-    row_within c.args.self.now.groups c.deref.result.now c.args.group
-    (c.deref.ensures.value ∙ ap (λ (w : WorkState). w.groups) c.self.view_is)
-    c.in_ok-row.ensures.lookup.0
+    slice_get_within c.args.self.now.groups c.args.group c.in-Some.row.now
+    (sym c.in-Some.ensures)
+
+pub returns : goal.returns
+returns g c count tree =
+    rw (← c.in-Some.ensures, c.group_look.ensures, c.unfinished.ensures) refl

@@ -1,8 +1,9 @@
-use Rattle.std.proofs.Common.{◌≡◌, ◌+◌, List, length, refl, sym, subst, arith}
+use Rattle.std.proofs.Common.{◌≡◌, ◌+◌, List, length, refl, sym, ap, subst, arith}
+use Rattle.run_model.proofs.Common.{most_tasks_most}
 use Rattle.run_model.specs.declared.tasks.Task.{Task}
 use Rattle.task_group.specs.Sound.{work, AreKept}
 use Rattle.task_group.proofs.Comings.{running_comes}
-use Rattle.task_group.proofs.Rooms.{seat_room, room_stays}
+use Rattle.task_group.proofs.Rooms.{running_few, seat_room, room_stays}
 use Rattle.task_group.proofs.groups.Groups.take_running.Goals as goal
 
 pub push_none-requires : goal.push_none-requires
@@ -57,3 +58,19 @@ invariant_of-self g c =
       room_stays c.self.invariant.1 refl c.push_task.ensures.capacity c.enter.ensures.capacity
           c.push_none.ensures.capacity c.note_retry.ensures.capacity,
     )
+
+pub overflow_cast-n : goal.overflow_cast-n
+overflow_cast-n g c =
+    let s = c.self.inside in
+    let place = rw (← c.self.view_is) at c.requires.place in
+    omega (arith, c.len-n.ensures, s.tasks.ok.0, place.room, most_tasks_most s.layout)
+
+pub overflow_add-self : goal.overflow_add-self
+overflow_add-self g c =
+    omega (arith, running_few c.self.invariant.0, most_tasks_most c.self.inside.layout)
+
+pub returns : goal.returns
+returns g c =
+    let s = c.self.inside in
+    rw (← c.self.view_is)
+    (ap (λ (l : List Task). work s.layout s.groups.items l) c.push_task.ensures.appended)

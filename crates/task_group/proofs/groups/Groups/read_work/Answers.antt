@@ -1,26 +1,35 @@
-use Rattle.std.proofs.Common.{sym, ◌∙◌}
-use Rattle.task_group.proofs.WorkLoops.{HasGroups, HasTasks, IsFew, no_groups, no_tasks}
-use Rattle.task_group.proofs.WorkLoops.{settled, unsettled}
-use Rattle.task_group.proofs.groups.Groups.read_rows.Goals as goal
+use Rattle.std.proofs.Common.{true, false, sym, ◌∙◌}
+use Rattle.task_group.proofs.WorkLoops.{HasGroups, HasTasks, no_groups, no_room}
+use Rattle.task_group.proofs.WorkLoops.{no_tasks, room_is, settled, unsettled}
+use Rattle.task_group.proofs.groups.Groups.read_work.Goals as goal
+
+pub returns-then-not-has_room-clause-none : goal.returns-then-not-has_room-clause-none
+returns-then-not-has_room-clause-none g c =
+    let start = c.args.self.now in
+    let head = c.args.head.now in
+    let bytes = c.args.bytes.now in
+    no_room start head bytes c.requires
+    (room_is start head bytes c.requires c.layout.result c.has_room.result false
+    c.layout.ensures c.has_room.ensures c.if-not-has_room.true)
 
 pub returns-in_default-clause-none : goal.returns-in_default-clause-none
 returns-in_default-clause-none g c =
-    let start = c.args.self in
+    let start = c.args.self.now in
     let head = c.args.head.now in
     let bytes = c.args.bytes.now in
-    let new = c.requires.new in
-    let few : IsFew start head bytes new =
-    rw (← c.self.view_is) (sym c.has_room.ensures ∙ c.if-not-has_room.false) in
+    let new = c.requires in
+    let few = room_is start head bytes new c.layout.result c.has_room.result true
+    c.layout.ensures c.has_room.ensures c.if-not-has_room.false in
     no_groups start head bytes new few c.in_default.ensures.none
 
 pub returns-in_default-read_tasks-clause-none : goal.returns-in_default-read_tasks-clause-none
 returns-in_default-read_tasks-clause-none g c =
-    let start = c.args.self in
+    let start = c.args.self.now in
     let head = c.args.head.now in
     let bytes = c.args.bytes.now in
-    let new = c.requires.new in
-    let few : IsFew start head bytes new =
-    rw (← c.self.view_is) (sym c.has_room.ensures ∙ c.if-not-has_room.false) in
+    let new = c.requires in
+    let few = room_is start head bytes new c.layout.result c.has_room.result true
+    c.layout.ensures c.has_room.ensures c.if-not-has_room.false in
     let w = c.read_groups.new.self in
     let rest = c.in-Some.rest.now in
     let has : HasGroups start head bytes new w rest = record {
@@ -32,12 +41,12 @@ returns-in_default-read_tasks-clause-none g c =
 
 pub returns-then-not-are_settled-clause-none : goal.returns-then-not-are_settled-clause-none
 returns-then-not-are_settled-clause-none g c =
-    let start = c.args.self in
+    let start = c.args.self.now in
     let head = c.args.head.now in
     let bytes = c.args.bytes.now in
-    let new = c.requires.new in
-    let few : IsFew start head bytes new =
-    rw (← c.self.view_is) (sym c.has_room.ensures ∙ c.if-not-has_room.false) in
+    let new = c.requires in
+    let few = room_is start head bytes new c.layout.result c.has_room.result true
+    c.layout.ensures c.has_room.ensures c.if-not-has_room.false in
     let w = c.read_groups.new.self in
     let rest = c.in-Some.rest.now in
     let has : HasGroups start head bytes new w rest = record {
@@ -57,12 +66,12 @@ returns-then-not-are_settled-clause-none g c =
 
 pub returns-clause-read : goal.returns-clause-read
 returns-clause-read g c =
-    let start = c.args.self in
+    let start = c.args.self.now in
     let head = c.args.head.now in
     let bytes = c.args.bytes.now in
-    let new = c.requires.new in
-    let few : IsFew start head bytes new =
-    rw (← c.self.view_is) (sym c.has_room.ensures ∙ c.if-not-has_room.false) in
+    let new = c.requires in
+    let few = room_is start head bytes new c.layout.result c.has_room.result true
+    c.layout.ensures c.has_room.ensures c.if-not-has_room.false in
     let w = c.read_groups.new.self in
     let rest = c.in-Some.rest.now in
     let has : HasGroups start head bytes new w rest = record {
