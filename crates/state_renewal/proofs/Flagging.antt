@@ -1,10 +1,13 @@
 -- Flags made one by one, each by its row.
 use Rattle.std.proofs.Common.{◌≡◌, ◌⊎◌, ◌<◌, ◌≤◌, ◌+◌, ℕ, Bool, false, List, [], ◌∷◌, ◌++◌, length}
-use Rattle.std.proofs.Common.{take, drop, inl, inr, sym, ap, ◌∙◌, arith, length-append}
+use Rattle.std.proofs.Common.{take, drop, inl, inr, refl, sym, ap, ◌∙◌, arith, length-append}
 use Rattle.std.proofs.Math.Seq.{take-append_seam}
 use Rattle.std.proofs.lemmas.Bool.{cases_order}
 use Rattle.std.proofs.lemmas.List.{get_or_append_left, get_or_push, get_or_past}
 use Rattle.state_renewal.specs.Marks.{AreFlags, is_flagged}
+
+pub flags_none : (holds : ℕ → Bool) → AreFlags holds 0 []
+flags_none holds = record { each = refl; say = λ n less. absurd (omega (arith, less)) }
 
 pub flags_push : (holds : ℕ → Bool) (k : ℕ) (flags : List Bool) (b : Bool)
     → AreFlags holds k flags → b ≡ holds k → AreFlags holds (k + 1) (flags ++ b ∷ [])

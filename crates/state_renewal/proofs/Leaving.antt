@@ -1,27 +1,15 @@
 -- Rows that are kept, and put so far: the loop goes over the old rows, and those that are put are
 -- the first of the new ones.
 use Rattle.run_model.proofs.Common.{◌≡◌, ◌≤◌, ◌+◌, ◌*◌, ℕ, Bool, true, false, List, length, Some}
-use Rattle.run_model.proofs.Common.{slice_get, sym, ap, subst, ◌∙◌, arith, add-one, flat_map}
+use Rattle.run_model.proofs.Common.{slice_get, sym, subst, arith, flat_map}
 use Rattle.run_model.proofs.Common.{AllByRecursion, IsTrue, length-map, get_or_from_slice_get}
 use Rattle.run_model.proofs.Common.{slice_get_within}
 use Rattle.record_view.specs.Writing.{put_at}
 use Rattle.state_renewal.specs.Marks.{is_flagged, rows_left}
-use Rattle.state_renewal.specs.Renewed.{kept, new_number, one_more_if}
+use Rattle.state_renewal.specs.Renewed.{kept, new_number}
+use Rattle.state_renewal.proofs.Numbering.{number_gone, number_kept}
 use Rattle.state_renewal.proofs.Numbers.{are_told, length-kept, number_up}
 use Rattle.task_group.proofs.PutLoops.{PutSoFar, put_first, put_next, put_done, row_room}
-
--- The number after a row that is kept is one more.
-pub number_kept : (keeps : ℕ → Bool) (n : ℕ) → keeps n ≡ true
-    → new_number keeps (n + 1) ≡ new_number keeps n + 1
-number_kept keeps n is =
-    ap (new_number keeps) (add-one n) ∙ ap (λ b. one_more_if b (new_number keeps n)) is
-    ∙ sym (add-one (new_number keeps n))
-
--- The number after a row that goes is the same.
-pub number_gone : (keeps : ℕ → Bool) (n : ℕ) → keeps n ≡ false
-    → new_number keeps (n + 1) ≡ new_number keeps n
-number_gone keeps n is =
-    ap (new_number keeps) (add-one n) ∙ ap (λ b. one_more_if b (new_number keeps n)) is
 
 module _ {X : Type 0} (write : X → List ℕ) (ok : X → Bool) (size : ℕ) (flags : List Bool)
     (tell : X → X) (rows : List X) where

@@ -4,7 +4,12 @@ use Rattle.run_model.proofs.Common.{◌∷◌, drop, take, length, Option, Some,
 use Rattle.run_model.proofs.Common.{sym, ap, subst, ◌∙◌, arith, length-drop, AllByRecursion}
 use Rattle.run_model.proofs.Common.{IfSome, IsSome, IsTrue, take_all, none-some, slice_get_within}
 use Rattle.run_model.proofs.Common.{most_scopes, most_tasks, IsConsistent, HasRow, is_root, root}
-use Rattle.run_model.proofs.Common.{State, TreeState, WorkState}
+use Rattle.run_model.proofs.Common.{State, TreeState, WorkState, Result, Ok, Err, IfOk, IfErr}
+use Rattle.std.specs.Result.{IsErrAnd}
+use Rattle.run_model.specs.declared.faults.Fault.TheVariants.{Memory}
+use Rattle.run_model.specs.declared.groups.Group.{Group}
+use Rattle.std.specs.Prelude.{MatchResult}
+use Rattle.run_model.specs.declared.faults.Fault.{Fault}
 use Rattle.run_model.specs.declared.bounds.TheConstants.{MOST_GROUPS, GREATEST_MOMENT}
 use Rattle.run_model.specs.declared.layouts.Layout.{Layout}
 use Rattle.run_model.specs.declared.scopes.Scope.{Scope}
@@ -179,29 +184,52 @@ head_is p clock count scopes groups tasks is_clock is_count is_scopes is_groups 
     ∙ ap (λ n. head_by p.tree.clock p.count (length (drop 1 (renewed p).tree.scopes))
     (length (renewed p).work.groups) n) is_tasks
 
--- The flags that were made are the marks of the state.
+-- Where the rows of groups and of tasks point, in so many rows.
+pub scopes_known : (p : State) (w : WorkState) (many : ℕ) → IsConsistent p → w ≡ p.work
+    → many ≡ length p.tree.scopes → (g : ℕ) (row : Group) → HasRow w.groups g row
+    → row.scope < many
+scopes_known p w many rules is same g row found =
+    subst (λ n. row.scope < n) (sym same)
+    (rules.numbered.scopes g row (ap (λ (x : WorkState). slice_get x.groups g) (sym is) ∙ found))
+
+pub groups_known : (p : State) (w : WorkState) (many : ℕ) → IsConsistent p → w ≡ p.work
+    → many ≡ length p.work.groups → (n : ℕ) (row : Task) → HasRow w.tasks n row
+    → row.group < many
+groups_known p w many rules is same n row found =
+    subst (λ k. row.group < k) (sym same)
+    (rules.numbered.groups n row (ap (λ (x : WorkState). slice_get x.tasks n) (sym is) ∙ found))
+
+-- The fault of a `?` that ends a call.
+pub no_memory : {T : Type 0} (r : Result T Fault) (e : Fault) → IsErrAnd r (λ y. y ≡ e)
+    → e ≡ Memory → IfErr r (λ y. y ≡ Memory)
+no_memory (Ok x) e told is = tt
+no_memory (Err y) e told is = told ∙ is
+
+-- What holds of the flags that were made, where there are marks by them, holds of the marks.
+pub of_marks : {V : Type 0} (items : V → List Bool) (P : List Bool → Type 0) (r : Result V Fault)
+    (marks : List Bool) → MatchResult r (λ v. marks ≡ items v) (λ e. ⊥)
+    → IfOk r (λ v. P (items v)) → P marks
+of_marks items P (Ok v) marks is holds = subst P (sym is) holds
+of_marks items P (Err e) marks is holds = absurd is
+
+-- The marks by the flags that were made are those of the state.
 pub marks_made : (p : State) (tree : TreeState) (w v u : WorkState)
-    (scopes s_items s_lent groups g_items g_lent tasks t_items : List Bool)
-    → tree ≡ p.tree → w ≡ p.work → v ≡ p.work → u ≡ p.work
-    → scopes ≡ s_items → s_lent ≡ scopes → groups ≡ g_items → g_lent ≡ groups
-    → tasks ≡ t_items → length s_items ≡ length tree.scopes
-    → ((n : ℕ) → is_flagged s_items n ≡ keeps_scope (with_rows tree w) n)
-    → AreFlags (group_stays_at s_lent v.groups) (length v.groups) g_items
-    → AreFlags (task_stays_at g_lent u.tasks) (length u.tasks) t_items
+    (scopes s_lent groups g_lent tasks : List Bool) → tree ≡ p.tree → w ≡ p.work → v ≡ p.work
+    → u ≡ p.work → s_lent ≡ scopes → g_lent ≡ groups → length scopes ≡ length tree.scopes
+    → ((n : ℕ) → is_flagged scopes n ≡ keeps_scope (with_rows tree w) n)
+    → AreFlags (group_stays_at s_lent v.groups) (length v.groups) groups
+    → AreFlags (task_stays_at g_lent u.tasks) (length u.tasks) tasks
     → AreMarks p scopes groups tasks
-marks_made p tree w v u scopes s_items s_lent groups g_items g_lent tasks t_items is_tree is_w is_v
-    is_u of_scopes lent of_groups lent_too of_tasks each kept stay rest =
+marks_made p tree w v u scopes s_lent groups g_lent tasks is_tree is_w is_v is_u lent lent_too each
+    kept stay rest =
     marks_are p scopes groups tasks
-    (ap (λ l. length l) of_scopes ∙ each ∙ ap (λ (t : TreeState). length t.scopes) is_tree)
+    (each ∙ ap (λ (t : TreeState). length t.scopes) is_tree)
     (λ n.
-    ap (λ l. is_flagged l n) of_scopes ∙ kept n
-    ∙ ap (λ (t : TreeState). keeps_scope (with_rows t w) n) is_tree
+    kept n ∙ ap (λ (t : TreeState). keeps_scope (with_rows t w) n) is_tree
     ∙ ap (λ (x : WorkState). keeps_scope (with_rows p.tree x) n) is_w)
-    (subst (AreFlags (group_stays_at scopes p.work.groups) (length p.work.groups)) (sym of_groups)
     (subst (λ (x : WorkState).
-    AreFlags (group_stays_at scopes x.groups) (length x.groups) g_items) is_v
-    (subst (λ l. AreFlags (group_stays_at l v.groups) (length v.groups) g_items) lent stay)))
-    (subst (AreFlags (task_stays_at groups p.work.tasks) (length p.work.tasks)) (sym of_tasks)
+    AreFlags (group_stays_at scopes x.groups) (length x.groups) groups) is_v
+    (subst (λ l. AreFlags (group_stays_at l v.groups) (length v.groups) groups) lent stay))
     (subst (λ (x : WorkState).
-    AreFlags (task_stays_at groups x.tasks) (length x.tasks) t_items) is_u
-    (subst (λ l. AreFlags (task_stays_at l u.tasks) (length u.tasks) t_items) lent_too rest)))
+    AreFlags (task_stays_at groups x.tasks) (length x.tasks) tasks) is_u
+    (subst (λ l. AreFlags (task_stays_at l u.tasks) (length u.tasks) tasks) lent_too rest))

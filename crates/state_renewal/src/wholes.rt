@@ -3,7 +3,7 @@
 
 ghost use Rattle.std.specs.List.{flat_map, AllByRecursion};
 ghost use Rattle.std.specs.Prelude.{◌≡◌, ◌+◌, ◌*◌, ◌<◌, ◌≤◌, ◌^◌, drop, length, true, IfOk, IfErr};
-ghost use Rattle.std.specs.Prelude.{IsTrue};
+ghost use Rattle.std.specs.Prelude.{IsTrue, MatchResult};
 ghost use Rattle.run_model.specs.declared.bounds.TheConstants.{GREATEST_MOMENT};
 ghost use Rattle.run_model.specs.declared.faults.Fault.TheVariants.{Memory};
 ghost use Rattle.record_view.specs.declared.heads.ImageVersion.TheVariants.{Two};
@@ -42,9 +42,9 @@ impl<B: Allocator + Copy> Renewal<B> {
     {
         let _rules = state.count();
         let _few = (state.scope_count(), state.group_count(), state.task_count());
-        let scopes = Marks::new(alloc, flag_scopes(alloc, state.tree(), state.groups())?)?;
-        let groups = Marks::new(alloc, flag_groups(alloc, state.groups(), scopes.flags())?)?;
-        let tasks = Marks::new(alloc, flag_tasks(alloc, state.groups(), groups.flags())?)?;
+        let scopes = marked(alloc, flag_scopes(alloc, state.tree(), state.groups()))?;
+        let groups = marked(alloc, flag_groups(alloc, state.groups(), scopes.flags()))?;
+        let tasks = marked(alloc, flag_tasks(alloc, state.groups(), groups.flags()))?;
         Ok(Renewal {
             scopes,
             groups,
@@ -182,4 +182,18 @@ impl<B: Allocator> Renewal<B> {
         let _few = state.task_count();
         put_tasks(state.groups(), &self.groups, &self.tasks, out, at)
     }
+}
+
+/// Returns the marks by these flags, if there are flags.
+fn marked<A: Allocator + Copy>(
+    alloc: A,
+    flags: Result<Vec<bool, A>, Fault>,
+) -> Result<Marks<A>, Fault>
+    requires few { IfOk flags (λ flags. length flags.items < 2 ^ 16) }
+    requires fault { IfErr flags (λ fault. fault ≡ Memory) }
+    ensures flags { IfOk result (λ marks.
+        MatchResult flags (λ flags. marks ≡ flags.items) (λ fault. ⊥)) }
+    ensures fault { IfErr result (λ fault. fault ≡ Memory) }
+{
+    Marks::new(alloc, flags?)
 }
