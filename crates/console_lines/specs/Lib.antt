@@ -1,4 +1,5 @@
 pub mod Asked
+pub mod CancelLines
 pub mod Branches
 pub mod Checked
 pub mod Counted

@@ -5,8 +5,10 @@ ghost use Rattle.std.specs.Prelude.{◌≡◌, ◌++◌, ◌+◌, ◌≤◌, [],
 ghost use Rattle.std.specs.Prelude.{Some, codes, length};
 ghost use Rattle.std.specs.Fmt.{decimal};
 ghost use Rattle.arrayvec.specs.ArrayVec.{array_vec_len};
+ghost use Rattle.run_model.specs.declared.answers.Reply.TheVariants as told;
 ghost use Rattle.run_model.specs.Faults.{fault_text};
 ghost use Rattle.run_model.specs.Refusals.{refusal_text};
+ghost use Rattle.run_model.specs.Session.{replied};
 ghost use Rattle.run_model.specs.Texts.{IsText};
 ghost use Rattle.console_lines.specs.declared.gathers.TheConstants.{LONGEST_REPLY};
 ghost use Rattle.console_lines.specs.Gathers.{Gathers, GathersAfter};
@@ -56,6 +58,19 @@ pub fn gather_scope<const N: usize>(
     match done {
         None => push_live(out, deadline),
         Some((reason, cause)) => push_done(out, reason, cause, deadline),
+    }
+    push(out, b"\n");
+}
+
+/// Appends the answer to a command, as [`Reply::Step`] is written, with its LF.
+pub fn gather_answer<const N: usize>(answer: &Result<Answer, Refusal>, out: &mut ArrayVec<u8, N>)
+    requires { array_vec_len out.old + LONGEST_REPLY ≤ N }
+    ensures { Gathers out.old.items out.new.items
+        (step_text (replied told.Answer answer.now) ++ 10 ∷ []) LONGEST_REPLY }
+{
+    match answer {
+        Ok(answer) => push_answer(out, answer),
+        Err(refusal) => push_refusal(out, *refusal),
     }
     push(out, b"\n");
 }

@@ -12,6 +12,7 @@
 #![tactic(auto)]
 
 mod asked;
+mod cancel_lines;
 mod causes;
 mod entries;
 pub mod entry_nights;
@@ -44,9 +45,10 @@ mod wishes;
 mod words;
 
 pub use asked::Asked;
+pub use cancel_lines::{cancel_words, read_cancel};
 pub use entries::{Entry, LONGEST_ENTRY};
 pub use faults::RunFault;
-pub use gathers::{LONGEST_REPLY, gather_scope};
+pub use gathers::{LONGEST_REPLY, gather_answer, gather_scope};
 pub use job_tallies::Tallies;
 pub use lines::{LONGEST_INPUT, LONGEST_LINE, read_line};
 pub use moments::{moment_text, read_moment};

@@ -2,13 +2,13 @@
 //! ask something of scopes.
 
 ghost use Rattle.std.specs.Prelude.{◌≡◌};
-ghost use Rattle.console_lines.specs.Asked.{advance_line, asked_by, asked_of, asks_cancel};
-ghost use Rattle.console_lines.specs.Asked.{asks_judged, cancel_line, derive_line};
+ghost use Rattle.console_lines.specs.Asked.{advance_line, asked_by, asked_of, asks_judged};
+ghost use Rattle.console_lines.specs.Asked.{derive_line};
 ghost use Rattle.console_lines.specs.Checked.{of_one, of_two};
 ghost use Rattle.console_lines.specs.Words.{words_in, lent};
 
 use crate::asked::Asked;
-use crate::causes::read_cause;
+use crate::cancel_lines::cancel_line;
 use crate::group_lines::read_group_line;
 use crate::moments::read_moment;
 use crate::wishes::read_wish;
@@ -42,7 +42,7 @@ fn read_words(line: Option<&[u8]>) -> Option<Asked>
     if is_spelled(word, b"derive") {
         read_derive(left)
     } else if is_spelled(word, b"cancel") {
-        read_cancel(left)
+        cancel_line(left)
     } else if is_spelled(word, b"advance") {
         read_advance(left)
     } else if is_spelled(word, b"scope") {
@@ -62,14 +62,6 @@ fn read_derive(left: Option<&[u8]>) -> Option<Asked>
     let (parent, left) = next_word(left)?;
     let (kind, left) = next_word(left)?;
     Some(derive(name, parent, read_wish(kind, left)?))
-}
-
-/// `cancel SCOPE [CAUSE]`
-fn read_cancel(left: Option<&[u8]>) -> Option<Asked>
-    ensures { result ≡ cancel_line (words_in (lent left.entry)) }
-{
-    let (scope, cause) = next_word(left)?;
-    Some(cancel(scope, cause))
 }
 
 /// `advance MOMENT`
@@ -113,17 +105,5 @@ fn derive(name: &[u8], parent: &[u8], wish: Result<Wish, Refusal>) -> Asked
         }
         (Some(_), Some(_), Err(refusal)) => Asked::Refused(refusal),
         _ => Asked::Refused(Refusal::BadName),
-    }
-}
-
-fn cancel(scope: &[u8], cause: Option<&[u8]>) -> Asked
-    ensures { result ≡ asks_cancel scope.now (lent cause.entry) }
-{
-    let Some(scope) = Name::read(scope) else {
-        return Asked::Refused(Refusal::BadName);
-    };
-    match read_cause(cause) {
-        Ok(cause) => Asked::Step(Step::Command(Command::Cancel { scope, cause })),
-        Err(refusal) => Asked::Refused(refusal),
     }
 }
