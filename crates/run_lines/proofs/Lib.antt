@@ -1,4 +1,5 @@
 pub mod Accounting
+pub mod Cancels
 pub mod Carrying
 pub mod Clocks
 pub mod Counting

@@ -5,8 +5,11 @@ use Rattle.std.specs.Io.KnownBytes.{Appends, Consumes, IsAtEnd}
 use Rattle.std.specs.Option.{option_to_list}
 use Rattle.run_model.specs.declared.faults.Trouble.{Trouble}
 use Rattle.run_model.specs.declared.faults.Trouble.TheVariants.{Refused}
+use Rattle.run_model.specs.declared.answers.Answer.{Answer}
+use Rattle.run_model.specs.declared.answers.Reply.TheVariants as told
+use Rattle.run_model.specs.declared.refusals.Refusal.{Refusal}
 use Rattle.run_model.specs.declared.refusals.Refusal.TheVariants.{Broken}
-use Rattle.run_model.specs.Session.{Session}
+use Rattle.run_model.specs.Session.{Session, replied}
 use Rattle.run_state.specs.Lasting.{Stays}
 use Rattle.run_disk.specs.Disk.{DiskState}
 use Rattle.run_model.specs.declared.commands.Step.TheVariants as step
@@ -23,7 +26,8 @@ use Rattle.console_lines.specs.declared.strays.StrayLine.{StrayLine}
 use Rattle.console_lines.specs.Asked.{asked_of}
 use Rattle.console_lines.specs.Lines.{whole_lines, open_line, lines_of}
 use Rattle.console_lines.specs.Progress.{IsFront, WritesPart, kept}
-use Rattle.console_lines.specs.Replies.{reply_line}
+use Rattle.console_lines.specs.Replies.{reply_line, reply_text, step_text}
+use Rattle.console_lines.specs.Strict.{stray_of}
 use Rattle.console_lines.specs.Script.{after_asked, after_line, after_lines, closing, replies}
 use Rattle.console_lines.specs.Script.{replies_to, reply, script, steps_of}
 use Rattle.state_views.specs.Told.{Told}
@@ -225,6 +229,14 @@ pub record Does {D : Type 0} (state : D → DiskState) (a : Asked) (b c : BookVi
   pub saved : IsSaving a → IsSaved c
   pub sound : c.journal.broken ≡ false
   pub lasts : Lasts b.session c.session
+
+-- A command was obeyed or refused, and a reply tells the answer.
+pub record Obeys {D : Type 0} (state : D → DiskState) (a : Asked)
+    (answer : Result Answer Refusal) (b c : BookView D) : Type 0 where
+  pub reply : Reply
+  pub does : Does state a b c (reply ∷ [])
+  pub text : reply_text reply ≡ step_text (replied told.Answer answer)
+  pub strays : stray_of reply ≡ stray_of (said.Step (replied told.Answer answer))
 
 -- It was a flush or a checkpoint, and the store failed in it.
 pub record Fails {D : Type 0} (state : D → DiskState) (a : Asked) (why : Trouble)

@@ -4,16 +4,18 @@ ghost use Rattle.std.specs.Option.{option_to_list};
 ghost use Rattle.std.specs.Prelude.{◌≡◌, [], ◌∷◌, false, true, Err, IfErr, IfOk, OnErr, OnOk};
 ghost use Rattle.book_model.specs.Plays.{is_fault};
 ghost use Rattle.book_model.specs.Steps.{reply_of_save};
+ghost use Rattle.console_lines.specs.Asked.{asks_cancel};
 ghost use Rattle.console_lines.specs.declared.asked.Asked.TheVariants as asks;
 ghost use Rattle.console_lines.specs.Script.{group_reply, scope_reply, task_reply, value_reply};
 ghost use Rattle.console_lines.specs.declared.replies.Reply.TheVariants as said;
-ghost use Rattle.run_lines.specs.Progress.{Answers};
+ghost use Rattle.console_lines.specs.Words.{lent};
+ghost use Rattle.run_lines.specs.Progress.{Answers, Obeys};
 ghost use Rattle.run_lines.specs.SessionLines.{is_tally};
 
-use console_lines::{Asked, Reply};
+use console_lines::{Asked, Reply, read_cancel};
 use run_book::Book;
 use run_disk::RunDisk;
-use run_model::{Name, Refusal, Step, Trouble};
+use run_model::{Answer, Name, Refusal, Step, Trouble};
 use run_state::State;
 use std::alloc::Allocator;
 
@@ -49,6 +51,22 @@ pub fn step_reply<D: RunDisk, B: Allocator>(
     ensures { Answers D.state (asks.Step step.now) result book.old book.new }
 {
     told(book.step(step))
+}
+
+/// Cancels the scope of this name with this cause, and returns what the book answers, or why these
+/// can't be a name and a cause.
+pub fn cancel<D: RunDisk, B: Allocator>(
+    scope: &[u8],
+    cause: Option<&[u8]>,
+    book: &mut Book<D, B>,
+) -> Result<Answer, Refusal>
+    requires { book.old.journal.broken ≡ false }
+    ensures { Obeys D.state (asks_cancel scope.now (lent cause.entry)) result book.old book.new }
+{
+    match read_cancel(scope, cause) {
+        Ok(call) => book.command(&call),
+        Err(refusal) => Err(refusal),
+    }
 }
 
 /// What is said of a step's answer: a fault is a trouble.

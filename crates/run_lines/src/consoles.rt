@@ -4,25 +4,31 @@ ghost use Rattle.std.specs.Prelude.{◌≡◌, ◌∷◌, [], Err, List, ℕ, tr
 ghost use Rattle.std.specs.Prelude.{OnOk, IfErr, IfOk, IfSome};
 ghost use Rattle.std.specs.Option.{option_to_list};
 ghost use Rattle.book_model.specs.Books.{CarriesOn};
+ghost use Rattle.run_model.specs.Session.{replied};
+ghost use Rattle.run_model.specs.declared.answers.Reply.TheVariants as told;
 ghost use Rattle.run_model.specs.declared.commands.Step.TheVariants as step;
 ghost use Rattle.run_model.specs.declared.faults.Trouble.TheVariants.{Refused};
 ghost use Rattle.run_model.specs.declared.refusals.Refusal.TheVariants.{Broken};
-ghost use Rattle.console_lines.specs.Asked.{asked_of};
+ghost use Rattle.console_lines.specs.Asked.{asked_of, asks_cancel};
+ghost use Rattle.console_lines.specs.declared.replies.Reply.TheVariants as said;
 ghost use Rattle.console_lines.specs.Script.{closing};
-ghost use Rattle.console_lines.specs.Strict.{ends_in_return, stray_among, stray_at};
+ghost use Rattle.console_lines.specs.Strict.{ends_in_return, stray_among, stray_at, stray_of};
+ghost use Rattle.console_lines.specs.Words.{lent};
 ghost use Rattle.run_lines.specs.Looks.{IsAsked};
 ghost use Rattle.run_lines.specs.Progress.{Closes, Cut, EndStops, Lasts};
 ghost use Rattle.run_lines.specs.Progress.{LineRuns, LineStops, Ran};
 ghost use Rattle.run_lines.specs.Rows.{Tries};
 ghost use Rattle.run_lines.specs.SessionLines.{IsSaving, is_tally};
 
-use crate::answers::{reply_to, step_reply};
+use crate::answers::{cancel, reply_to, step_reply};
 use crate::tallies::gather_tally;
 use crate::writings::{gather_reply, stop};
-use console_lines::{Asked, Reply, RunFault, Stray, gather_scope, read_line, scope_word};
+use console_lines::{
+    Asked, Reply, RunFault, Stray, cancel_words, gather_answer, gather_scope, read_line, scope_word,
+};
 use run_book::Book;
 use run_disk::RunDisk;
-use run_model::{Refusal, Step, Trouble};
+use run_model::{Answer, Refusal, Step, Trouble};
 use run_state::{LookView, State};
 use state_views::{Gathered, make_room, write_gathered};
 use std::alloc::Allocator;
@@ -115,7 +121,47 @@ pub fn gather_line<A: Allocator + Copy, W: Write, D: RunDisk, B: Allocator>(
         gather_scope(done, deadline, gathered);
         return Ok(None);
     }
+    if let Some((scope, cause)) = cancel_words(bytes) {
+        return gather_cancel(scope, cause, gathered, output, book);
+    }
     gather_asked(alloc, bytes, gathered, output, book)
+}
+
+/// Runs a line of a cancel, and gathers its reply. It is apart, as [`gather_asked`] is.
+#[inline(never)]
+fn gather_cancel<W: Write, D: RunDisk, B: Allocator>(
+    scope: &[u8],
+    cause: Option<&[u8]>,
+    gathered: &mut Gathered,
+    output: &mut W,
+    book: &mut Book<D, B>,
+) -> Result<Option<Stray>, RunFault>
+    requires sound { book.old.journal.broken ≡ false }
+    ensures ran { (line : List ℕ) → asked_of line ≡ asks_cancel scope.now (lent cause.entry)
+        → OnOk result (Ran D.state (line ∷ []) book.old book.new
+        gathered.old.items gathered.new.items
+        (W.contents output.old) (W.contents output.new)) }
+    ensures cut { (line : List ℕ) → asked_of line ≡ asks_cancel scope.now (lent cause.entry)
+        → IfErr result (λ fault. Cut D.state fault (line ∷ []) book.old book.new
+        gathered.old.items (W.contents output.old) (W.contents output.new)) }
+    ensures strays { (line : List ℕ) → asked_of line ≡ asks_cancel scope.now (lent cause.entry)
+        → IfOk result (λ why. why ≡ stray_at book.old.session line) }
+    ensures sound { OnOk result (book.new.journal.broken ≡ false) }
+{
+    make_room(gathered, output)?;
+    let answer = cancel(scope, cause, book);
+    gather_answer(&answer, gathered);
+    Ok(refused(&answer))
+}
+
+/// Why a line of a command strays that is answered so, if it does.
+fn refused(answer: &Result<Answer, Refusal>) -> Option<Stray>
+    ensures { result ≡ stray_of (said.Step (replied told.Answer answer.now)) }
+{
+    match answer {
+        Ok(_) => None,
+        Err(refusal) => Some(Stray::Refused(*refusal)),
+    }
 }
 
 /// The same, of a line that is read whole. It is apart, since a function zeroes its stack as it

@@ -7,6 +7,9 @@ use Rattle.console_lines.specs.Asked.{asked_of}
 use Rattle.console_lines.specs.Script.{reply, scope_reply}
 use Rattle.console_lines.specs.Strict.{stray_among}
 use Rattle.state_views.proofs.Told.{told_more}
+use Rattle.console_lines.specs.Words.{lent}
+use Rattle.run_lines.specs.SessionLines.{IsSaving}
+use Rattle.run_lines.proofs.Cancels.{cancel_saves_none}
 use Rattle.run_lines.proofs.LineSteps.{line_obeyed, line_replies, line_strays}
 use Rattle.run_lines.proofs.LineSteps.{scope_strays}
 use Rattle.run_lines.proofs.Looks.{asked_reply, looks, view_line}
@@ -61,3 +64,22 @@ returns-in-Some-clause-strays g c = λ line e ends.
     ∙ sym (scope_strays p it.name line)
     ∙ line_strays b.session line line (asked.Scope it.name) said (stray_among said)
     (sym it.asks ∙ sym e) does.replied refl refl
+
+-- ---- a cancel
+
+pub returns-in-Some-cancel_words-clause-ran : goal.returns-in-Some-cancel_words-clause-ran
+returns-in-Some-cancel_words-clause-ran g c = λ line e.
+    c.gather_cancel.ensures.ran line (e ∙ c.in-Some-cancel_words.ensures.asks)
+
+pub returns-in-Some-cancel_words-clause-cut : goal.returns-in-Some-cancel_words-clause-cut
+returns-in-Some-cancel_words-clause-cut g c = λ line e.
+    c.gather_cancel.ensures.cut line (e ∙ c.in-Some-cancel_words.ensures.asks)
+
+pub returns-in-Some-cancel_words-clause-strays : goal.returns-in-Some-cancel_words-clause-strays
+returns-in-Some-cancel_words-clause-strays g c = λ line e ends.
+    c.gather_cancel.ensures.strays line (e ∙ c.in-Some-cancel_words.ensures.asks)
+
+pub returns-in-Some-cancel_words-clause-saved : goal.returns-in-Some-cancel_words-clause-saved
+returns-in-Some-cancel_words-clause-saved g c = λ saving.
+    absurd (cancel_saves_none c.in-Some-cancel_words.scope.now (lent c.in-Some-cancel_words.cause)
+    (subst IsSaving c.in-Some-cancel_words.ensures.asks saving))
