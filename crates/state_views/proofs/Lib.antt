@@ -1,4 +1,5 @@
 pub mod Adding
 pub mod Drawing
 pub mod EntryTexts
+pub mod SeenRows
 pub mod Told

@@ -3,7 +3,8 @@ use Rattle.std.proofs.Common.{ap, sym, ◌∙◌, arith}
 use Rattle.std.proofs.lemmas.List.{take_all}
 use Rattle.run_model.specs.Tasks.{is_admitted}
 use Rattle.console_lines.specs.Tallies.{tallies_of}
-use Rattle.run_lines.proofs.Counting.{few_counted, seen_row}
+use Rattle.run_lines.proofs.Counting.{few_counted}
+use Rattle.state_views.proofs.SeenRows.{seen_row}
 use Rattle.run_lines.proofs.tallies.count_tasks.Goals as goal
 
 pub loop-task-preserved : goal.loop-task-preserved

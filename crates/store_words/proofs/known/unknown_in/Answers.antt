@@ -1,6 +1,6 @@
 use Rattle.std.proofs.Common.{ap, sym, take, ◌∙◌}
 use Rattle.run_model.specs.Tasks.{is_admitted}
-use Rattle.run_lines.proofs.Counting.{seen_row}
+use Rattle.state_views.proofs.SeenRows.{seen_row}
 use Rattle.store_words.specs.Known.{unknown_in}
 use Rattle.store_words.proofs.KnownTasks.{is_seen}
 use Rattle.store_words.proofs.known.unknown_in.Goals as goal
