@@ -1,8 +1,11 @@
--- What a fault that ends a run prints.
+-- What ends a run, and what is printed of it.
 use Rattle.std.specs.Prelude.{ℕ, List, codes}
 use Rattle.console_lines.specs.declared.faults.RunFault.{RunFault}
 use Rattle.console_lines.specs.declared.faults.RunFault.TheVariants.{Input, Output, InputTooLong}
 use Rattle.console_lines.specs.declared.faults.RunFault.TheVariants.{Memory, Store}
+use Rattle.run_model.specs.declared.faults.Fault.{Fault}
+use Rattle.run_model.specs.declared.faults.Fault.TheVariants as of_store
+use Rattle.run_model.specs.declared.faults.Trouble.TheVariants.{Faulty}
 use Rattle.run_model.specs.Faults.{trouble_text}
 
 -- Why a run ended before its input did.
@@ -12,3 +15,8 @@ stop_text Output = codes "output"
 stop_text InputTooLong = codes "input too long"
 stop_text Memory = codes "fault 1 Memory"
 stop_text (Store why) = trouble_text why
+
+-- What a fault of a store is to a run: want of memory is kept apart from all else.
+abbrev pub stopped : Fault → RunFault
+stopped of_store.Memory = Memory
+stopped why = Store (Faulty why)

@@ -1,9 +1,9 @@
 //! What ends a run of the console before its input does.
 
-ghost use Rattle.std.specs.Prelude.{Some};
-ghost use Rattle.console_lines.specs.Faults.{stop_text};
+ghost use Rattle.std.specs.Prelude.{◌≡◌, Some};
+ghost use Rattle.console_lines.specs.Faults.{stop_text, stopped};
 
-use run_model::Trouble;
+use run_model::{Fault, Trouble};
 use std::error::Error;
 use std::fmt;
 
@@ -38,3 +38,13 @@ impl fmt::Display for RunFault {
 }
 
 impl Error for RunFault {}
+
+/// What a fault of a store is to a run: want of memory is kept apart from all else.
+pub fn stopped(fault: Fault) -> RunFault
+    ensures { result ≡ stopped fault }
+{
+    match fault {
+        Fault::Memory => RunFault::Memory,
+        _ => RunFault::Store(Trouble::Faulty(fault)),
+    }
+}

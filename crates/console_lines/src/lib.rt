@@ -47,7 +47,7 @@ mod words;
 pub use asked::Asked;
 pub use cancel_lines::{cancel_words, read_cancel};
 pub use entries::{Entry, LONGEST_ENTRY};
-pub use faults::RunFault;
+pub use faults::{RunFault, stopped};
 pub use gathers::{LONGEST_REPLY, gather_answer, gather_scope};
 pub use job_tallies::Tallies;
 pub use lines::{LONGEST_INPUT, LONGEST_LINE, read_line};

@@ -22,7 +22,8 @@ use Rattle.night_program.specs.Lasting.{Run, RunLeaves, RunsLeave, Scripting, St
 use Rattle.night_program.specs.Lasting.{Working, flushed_by}
 use Rattle.night_program.proofs.LastingLemmas.{crew_is_found}
 use Rattle.store_words.specs.Lasting.{FindsLeft, LeadsBy}
-use Rattle.store_words.proofs.WordLemmas.{IsLedBy, format_leaves, front_led, lies_read, lines_led}
+use Rattle.line_words.proofs.LineLemmas.{lines_led}
+use Rattle.store_words.proofs.WordLemmas.{IsLedBy, format_leaves, front_led, lies_read}
 use Rattle.store_words.proofs.WordLemmas.{made_lies, migrate_leaves, opened_led, renew_leaves}
 
 -- ---- what a night leads to

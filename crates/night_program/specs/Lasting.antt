@@ -21,7 +21,8 @@ use Rattle.console_lines.specs.declared.faults.RunFault.{RunFault}
 use Rattle.run_console.specs.Crews.{CrewEnds, StoresNight}
 use Rattle.night_program.specs.Crews.{IsOpen}
 use Rattle.store_words.specs.declared.renewals.Kept.{Kept}
-use Rattle.store_words.specs.Lasting.{CutsLines, CutsMaking, FindsLeft, IsReadAlone, LeadsBy}
+use Rattle.line_words.specs.Lasting.{CutsLines}
+use Rattle.store_words.specs.Lasting.{CutsMaking, FindsLeft, IsReadAlone, LeadsBy}
 use Rattle.store_words.specs.Stores.{FormatEnds, MigratesRead, Remakes}
 
 -- The bytes store this state, or what a restart of it and some first ones of a night's starts and

@@ -13,18 +13,19 @@ use Rattle.night_requests.specs.declared.asked.Asked.TheVariants.{Crew, Demo, Fo
 use Rattle.night_requests.specs.declared.asked.Asked.TheVariants.{Inspect, Migrate, Renew}
 use Rattle.night_requests.specs.declared.asked.Asked.TheVariants.{RenewInPlace, Script}
 use Rattle.night_requests.specs.declared.asked.WordsFault.{WordsFault}
+use Rattle.line_words.specs.Demos.{DemoEnds}
+use Rattle.line_words.specs.Scripts.{DoesScript, until_of}
+use Rattle.line_words.specs.Timed.{DoesTimed}
 use Rattle.night_program.specs.Crews.{AnswersCrew, IsLooked, IsOpen, StopsAt}
 use Rattle.store_words.specs.declared.endings.Done.{Done}
 use Rattle.store_words.specs.declared.endings.Ended.{Ended}
 use Rattle.store_words.specs.declared.failures.Failure.{Failure}
-use Rattle.store_words.specs.Demos.{DemoEnds}
 use Rattle.store_words.specs.Endings.{EndsBy, Refuses}
 use Rattle.store_words.specs.Failures.{AnswersAlone, AnswersStrict, HasNoFile, Names}
 use Rattle.store_words.specs.Hints.{Hints, reads_lines}
 use Rattle.store_words.specs.Replacements.{DoesRenewInPlace}
-use Rattle.store_words.specs.Stores.{DoesPrint, until_of}
-use Rattle.store_words.specs.Timed.{DoesTimed}
-use Rattle.store_words.specs.Words.{DoesFormat, DoesInspect, DoesMigrate, DoesRenew, DoesScript}
+use Rattle.store_words.specs.Stores.{DoesPrint}
+use Rattle.store_words.specs.Words.{DoesFormat, DoesInspect, DoesMigrate, DoesRenew}
 use Rattle.store_files.specs.Tells.{TellState}
 use Rattle.store_files.specs.Files.{FilesView, HoldsAlone, IsSettled}
 

@@ -5,11 +5,11 @@ ghost use Rattle.night_program.specs.Crews.{AnswersCrew, FindsUnknown};
 ghost use Rattle.store_words.specs.Failures.{Names};
 ghost use Rattle.night_program.specs.Programs.{DoesCrew};
 
-use console_lines::RunFault;
+use console_lines::{RunFault, stopped};
+use run_book::Book;
 use run_console::crew_over;
 use run_crew::{Job, OpenGate};
 use run_disk::RunDisk;
-use run_lines::{Book, stopped};
 use run_model::Fault;
 use std::alloc::Global;
 use std::io::Write;

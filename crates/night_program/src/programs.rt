@@ -5,6 +5,7 @@ ghost use Rattle.std.specs.String.{string_bytes};
 ghost use Rattle.night_program.specs.Programs.{Does, IsRefused, RunsWords, asks_crew};
 
 use crate::crews::crew_file;
+use line_words::{demo, script_file, timed_file, until_of};
 use night_requests::{Asked, WordsFault};
 use night_words::read_words;
 use run_crew::Job;
@@ -16,9 +17,8 @@ use std::sync::Wait;
 use std::thread::Threads;
 use store_files::{Files, Tell, Why};
 use store_words::{
-    Done, Ended, Failure, Streams, demo, done_alone, end, format_file, hint, inspect_file,
-    migrate_file, refuse, renew_file, renew_in_place, script_file, strict_alone, timed_file,
-    until_of,
+    Done, Ended, Failure, Streams, done_alone, end, format_file, hint, inspect_file, migrate_file,
+    refuse, renew_file, renew_in_place, strict_alone,
 };
 
 /// Does what the words ask for, the program's own name first. They come as the system gave them, or

@@ -32,7 +32,7 @@ use Rattle.console_lines.specs.declared.faults.RunFault.TheVariants.{Memory, Out
 use Rattle.console_lines.specs.declared.replies.Reply.TheVariants as said
 use Rattle.console_lines.specs.Progress.{WritesPart}
 use Rattle.console_lines.specs.Replies.{reply_line}
-use Rattle.run_lines.specs.Troubles.{stopped}
+use Rattle.console_lines.specs.Faults.{stopped}
 
 -- ---- what is printed
 

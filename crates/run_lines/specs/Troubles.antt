@@ -1,7 +1,5 @@
 -- Why the store stopped a run.
 use Rattle.std.specs.Prelude.{◌≡◌, ◌⊎◌, ◌<◌, ◌-◌, ◌^◌, true, false}
-use Rattle.run_model.specs.declared.faults.Fault.{Fault}
-use Rattle.run_model.specs.declared.faults.Fault.TheVariants as of_store
 use Rattle.run_model.specs.declared.faults.Fault.TheVariants.{DiskFailed, NumbersSpent}
 use Rattle.run_model.specs.declared.faults.Trouble.{Trouble}
 use Rattle.run_model.specs.declared.faults.Trouble.TheVariants.{Faulty}
@@ -9,11 +7,6 @@ use Rattle.run_disk.specs.Disk.{DiskState, last_moment}
 use Rattle.book_model.specs.Books.{BookView}
 use Rattle.console_lines.specs.declared.faults.RunFault.{RunFault}
 use Rattle.console_lines.specs.declared.faults.RunFault.TheVariants as fault
-
--- What a fault of a store is to a run: want of memory is kept apart from all else.
-abbrev pub stopped : Fault → RunFault
-stopped of_store.Memory = fault.Memory
-stopped why = fault.Store (Faulty why)
 
 -- A device call failed since, or the disk is spent.
 abbrev pub DeviceFails : {D : Type 0} → (D → DiskState) → BookView D → BookView D → Type 0

@@ -8,7 +8,6 @@
 
 mod answers;
 mod consoles;
-mod faults;
 mod inputs;
 pub mod laws;
 mod runs;
@@ -17,9 +16,8 @@ pub mod timed;
 mod untils;
 mod writings;
 
-pub use console_lines::{RunFault, Stray, StrayLine};
+pub use console_lines::{RunFault, Stray, StrayLine, stopped};
 pub use consoles::line;
-pub use faults::stopped;
 pub use run_book::Book;
 pub use runs::{run, run_strict, run_until};
 pub use timed::{MachineTime, TimedInput};

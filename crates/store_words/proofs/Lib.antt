@@ -1,6 +1,4 @@
-mod Begins
 mod EndLemmas
 pub mod FoundLemmas
 mod KnownTasks
-mod TimedLemmas
 pub mod WordLemmas

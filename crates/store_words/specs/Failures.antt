@@ -12,7 +12,7 @@ use Rattle.book_model.specs.declared.migrations.MigrateFault.TheVariants as of_t
 use Rattle.console_lines.specs.declared.faults.RunFault.{RunFault}
 use Rattle.console_lines.specs.declared.faults.RunFault.TheVariants.{Input, Memory, Output, Store}
 use Rattle.console_lines.specs.declared.strays.StrayLine.{StrayLine}
-use Rattle.run_lines.specs.Troubles.{stopped}
+use Rattle.console_lines.specs.Faults.{stopped}
 use Rattle.store_words.specs.declared.endings.Done.{Done}
 use Rattle.store_words.specs.declared.endings.Done.TheVariants.{Stray, Well}
 use Rattle.store_words.specs.declared.failures.Failure.{Failure}

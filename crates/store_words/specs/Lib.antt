@@ -1,4 +1,3 @@
-pub mod Demos
 pub mod Endings
 pub mod Failures
 pub mod Hints
@@ -8,5 +7,4 @@ pub mod Looks
 pub mod Replacements
 pub mod Sources
 pub mod Stores
-pub mod Timed
 pub mod Words

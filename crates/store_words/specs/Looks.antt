@@ -9,7 +9,7 @@ use Rattle.run_disk.specs.Disk.{Begins, DiskState}
 use Rattle.run_disk.specs.MemoryDisks.{state_of}
 use Rattle.run_disk.specs.Runs.{OnlyReads}
 use Rattle.console_lines.specs.declared.faults.RunFault.{RunFault}
-use Rattle.run_lines.specs.Troubles.{stopped}
+use Rattle.console_lines.specs.Faults.{stopped}
 use Rattle.night_requests.specs.declared.asked.View.{View}
 use Rattle.store_words.specs.declared.endings.Done.{Done}
 use Rattle.store_words.specs.declared.failures.Failure.{Failure}

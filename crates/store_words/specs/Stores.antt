@@ -1,31 +1,25 @@
 -- What each word does to a store, by what its disk was and what is left of it.
 use Rattle.std.specs.Prelude.{◌≡◌, ◌⊎◌, ◌++◌, ℕ, List, Option, Result, Ok, Err, codes}
-use Rattle.std.specs.Prelude.{⊤, Bool, true, false, length, option_map}
+use Rattle.std.specs.Prelude.{⊤, length, option_map}
 use Rattle.std.specs.Fmt.{decimal}
 use Rattle.std.specs.Io.KnownBytes.{Appends}
 use Rattle.run_model.specs.declared.faults.Fault.{Fault}
 use Rattle.run_model.specs.State.{State}
 use Rattle.run_disk.specs.Disk.{DiskState, IsAtRest}
-use Rattle.book_model.specs.Books.{CarriesOn, BookView}
-use Rattle.book_model.specs.Openings.{FormatsNot, HasFormatted, HasRecovered, Opens, RecoversNone}
+use Rattle.book_model.specs.Openings.{FormatsNot, HasFormatted, HasRecovered, RecoversNone}
 use Rattle.book_model.specs.declared.migrations.MigrateFault.{MigrateFault}
 use Rattle.book_model.specs.declared.migrations.MigrateFault.TheVariants as of_two
 use Rattle.book_model.specs.Migrations.{Migrates}
-use Rattle.run_model.specs.Session.{begun_at}
 use Rattle.run_book.specs.Renewals.{Renews}
 use Rattle.console_lines.specs.declared.faults.RunFault.{RunFault}
 use Rattle.console_lines.specs.declared.faults.RunFault.TheVariants.{Output}
-use Rattle.console_lines.specs.declared.strays.StrayLine.{StrayLine}
 use Rattle.console_lines.specs.Branches.{tree_text}
 use Rattle.console_lines.specs.Entries.{json_text}
 use Rattle.console_lines.specs.Inspected.{inspected}
 use Rattle.console_lines.specs.Listed.{listed}
 use Rattle.console_lines.specs.Progress.{WritesPart}
 use Rattle.console_lines.specs.Summaries.{summary_text}
-use Rattle.run_lines.specs.Progress.{BeginsScript, Lasts, RunEnds, RunStops}
-use Rattle.run_lines.specs.Troubles.{stopped}
-use Rattle.run_lines.specs.declared.untils.Until.{Until}
-use Rattle.run_lines.specs.declared.untils.Until.TheVariants.{End, FirstStray}
+use Rattle.console_lines.specs.Faults.{stopped}
 use Rattle.night_requests.specs.declared.asked.View.{View}
 use Rattle.night_requests.specs.declared.asked.View.TheVariants.{Json, Summary, Tasks, Tree, Whole}
 use Rattle.store_words.specs.Failures.{AnswersAlone, FailsOf}
@@ -56,49 +50,6 @@ FormatEnds state given answer left w0 w1 =
     × Prints (codes "formatted\n") answer w0 w1)
     ⊎ ((why : Fault) × (answer ≡ Err (stopped why)) × FormatsNot state given why left
     × (w1 ≡ w0))
-
--- ---- script
-
--- A strict run goes on up to the first line that strays, any other to the end of its input.
-abbrev pub until_of : (strict : Bool) → Until
-until_of true = FirstStray
-until_of false = End
-
--- The lines of the input were run until then, and at the end all events are durable; or a fault
--- stopped the run, and what was written of an input that was to be run whole begins its script.
-abbrev pub Runs : {D : Type 0} → (D → DiskState) → Until → Result (Option StrayLine) RunFault
-    → (r0 r1 w0 w1 : Option (List ℕ)) → BookView D → BookView D → Type 0
-Runs state until (Ok stray) r0 r1 w0 w1 b c = RunEnds state until stray b c r0 r1 w0 w1
-Runs state until (Err why) r0 r1 w0 w1 b c =
-    RunStops state until why b c r0 r1 w0 w1
-    × (until ≡ End → BeginsScript why b.session r0 r1 w0 w1)
-
--- A book was opened over the disk, the input was run over it so, and the disk is left as it held
--- it.
-pub record RunsOver {D : Type 0} (state : D → DiskState) (Ran : BookView D → BookView D → Type 0)
-    (given left : D) : Type 0 where
-  pub before : BookView D
-  pub after : BookView D
-  pub opened : Opens state given (Ok before)
-  pub begun : before.session ≡ begun_at before.session.start
-  pub runs : Ran before after
-  pub lasts : Lasts before.session after.session
-  pub carries_on : CarriesOn state before after
-  pub disk : left ≡ after.journal.disk
-
--- The store was opened, and the input run over it so. Or it was not opened, and nothing was read or
--- printed: the fault tells why.
-abbrev pub EndsOver : {T D : Type 0} → (D → DiskState) → (BookView D → BookView D → Type 0)
-    → (given : D) → Result T RunFault → (left : D) → (r0 r1 w0 w1 : Option (List ℕ)) → Type 0
-EndsOver state Ran given answer left r0 r1 w0 w1 =
-    RunsOver state Ran given left
-    ⊎ ((why : Fault) × (answer ≡ Err (stopped why)) × Opens state given (Err (why, left))
-    × (r1 ≡ r0) × (w1 ≡ w0))
-
-abbrev pub ScriptEnds : {D : Type 0} → (D → DiskState) → Until → (given : D)
-    → Result (Option StrayLine) RunFault → (left : D) → (r0 r1 w0 w1 : Option (List ℕ)) → Type 0
-ScriptEnds state until given answer left r0 r1 w0 w1 =
-    EndsOver state (Runs state until answer r0 r1 w0 w1) given answer left r0 r1 w0 w1
 
 -- ---- inspect
 

@@ -7,18 +7,17 @@ use Rattle.run_model.specs.Layouts.{layout_of}
 use Rattle.run_disk.specs.Disk.{DiskState}
 use Rattle.book_model.specs.declared.migrations.MigrateFault.{MigrateFault}
 use Rattle.console_lines.specs.declared.faults.RunFault.{RunFault}
-use Rattle.console_lines.specs.declared.strays.StrayLine.{StrayLine}
 use Rattle.night_requests.specs.declared.asked.View.{View}
-use Rattle.run_lines.specs.Troubles.{stopped}
+use Rattle.console_lines.specs.Faults.{stopped}
 use Rattle.store_files.specs.Files.{FilesView, Holds, HoldsAlone, IsNotMade, IsSettled, Makes}
 use Rattle.store_words.specs.declared.endings.Done.{Done}
 use Rattle.store_words.specs.declared.failures.Failure.{Failure}
-use Rattle.store_words.specs.Failures.{AnswersOver, AnswersStrict, FailsBy, HasNoFile, Names}
+use Rattle.store_words.specs.Failures.{AnswersOver, FailsBy, HasNoFile, Names}
 use Rattle.store_words.specs.Failures.{NamesSource}
 use Rattle.store_words.specs.Looks.{LookEnds}
 use Rattle.store_words.specs.Sources.{Serves, ServesNot, migrated_layout}
 use Rattle.store_words.specs.Stores.{AnswersMade, FormatEnds, InspectEnds, MigratesRead, Remakes}
-use Rattle.store_words.specs.Stores.{ScriptEnds, migrated_line, renewed_line, until_of}
+use Rattle.store_words.specs.Stores.{migrated_line, renewed_line}
 
 -- What became of a file after what it was made for: it is the disk that this left. But where that
 -- failed, a file that wasn't there before is taken away again.
@@ -48,26 +47,6 @@ module _ {F D : Type 0} (state : D → DiskState) (seen : FilesView F D) where
   DoesFormat store only_new answer f0 f1 w0 w1 =
       (HasNoFile store answer × IsNotMade seen store only_new f0 f1 × (w1 ≡ w0))
       ⊎ Formats store only_new answer f0 f1 w0 w1
-
-  -- ---- script
-
-  -- The file of this name was opened, and the input run over the store in it, all of it or, in a
-  -- strict run, up to the first line that strays; and it is the disk that the run left.
-  pub record Scripts (store : List ℕ) (strict : Bool) (answer : Result Done Failure)
-      (f0 f1 : F) (r0 r1 w0 w1 : Option (List ℕ)) : Type 0 where
-    pub given : D
-    pub left : D
-    pub held : HoldsAlone seen seen.opens store given left f0 f1
-    pub settled : IsSettled (state given)
-    pub done : Result (Option StrayLine) RunFault
-    pub runs : ScriptEnds state (until_of strict) given done left r0 r1 w0 w1
-    pub answers : AnswersStrict (Names store) done answer
-
-  abbrev pub DoesScript : List ℕ → (strict : Bool) → Result Done Failure → (f0 f1 : F)
-      → (r0 r1 w0 w1 : Option (List ℕ)) → Type 0
-  DoesScript store strict answer f0 f1 r0 r1 w0 w1 =
-      (HasNoFile store answer × (f1 ≡ f0) × (r1 ≡ r0) × (w1 ≡ w0))
-      ⊎ Scripts store strict answer f0 f1 r0 r1 w0 w1
 
   -- ---- inspect
 

@@ -10,9 +10,8 @@ ghost use Rattle.store_words.specs.Failures.{unmigrated};
 
 use crate::endings::Done;
 use crate::wrongs::Wrong;
-use console_lines::{RunFault, StrayLine};
+use console_lines::{RunFault, StrayLine, stopped};
 use run_book::MigrateFault;
-use run_lines::stopped;
 use run_model::{Fault, Layout, Trouble};
 use std::fmt;
 use store_files::{BESIDE, Reason, Why};

@@ -12,9 +12,8 @@ use crate::failures::{
     Failure, FileName, done_alone, failed_of, failed_over, no_file, not_had, not_put,
 };
 use crate::renewals::{print_sizes, renew};
-use console_lines::RunFault;
+use console_lines::{RunFault, stopped};
 use run_disk::RunDisk;
-use run_lines::stopped;
 use run_model::{Fault, Layout};
 use std::alloc::{AllocError, Global};
 use std::io::Write;

@@ -3,21 +3,21 @@
 ghost use Rattle.std.specs.Prelude.{◌≡◌, IfOk, OnErr};
 ghost use Rattle.store_files.specs.Files.{IsNotMade, Makes};
 ghost use Rattle.store_words.specs.Words.{DoesFormat, DoesInspect, DoesMigrate, DoesRenew};
-ghost use Rattle.store_words.specs.Words.{DoesScript, IsLeft};
+ghost use Rattle.store_words.specs.Words.{IsLeft};
 
 use crate::endings::Done;
-use crate::failures::{Failure, done_over, failed_source, no_file, strict_over};
+use crate::failures::{Failure, done_over, failed_source, no_file};
 use crate::looks::look;
 use crate::migrations::{migrate, migrated};
 use crate::renewals::{renew, renewed};
 use crate::sources::{migrated_layout, read_source};
-use crate::stores::{format, inspect, script, until_of};
+use crate::stores::{format, inspect};
+use console_lines::stopped;
 use night_requests::View;
 use run_disk::RunDisk;
-use run_lines::stopped;
 use run_model::Layout;
 use std::alloc::Global;
-use std::io::{Read, Write};
+use std::io::Write;
 use store_files::{Files, Made, Opened, Reason};
 
 /// Creates the file of this name or empties it, makes a large store of it, and prints `formatted`.
@@ -78,29 +78,6 @@ fn leave<F: Files>(
     } else {
         files.close(name, left);
     }
-}
-
-/// Opens the store in the file of this name, and runs the input over it; a strict run ends at the
-/// first line that strays. If the store isn't opened, nothing is read or printed.
-pub fn script_file<'a, F: Files, I: Read, O: Write>(
-    alloc: Global,
-    store: &'a str,
-    strict: bool,
-    files: &mut F,
-    input: &mut I,
-    output: &mut O,
-) -> Result<Done, Failure<'a>>
-    ensures { DoesScript F.Disk.state F.seen store.now strict result files.old files.new
-        (I.remaining input.old) (I.remaining input.new)
-        (O.contents output.old) (O.contents output.new) }
-{
-    let Opened { disk, why } = match files.open(store) {
-        Ok(opened) => opened,
-        Err(reason) => return Err(no_file(store, reason)),
-    };
-    let (done, left) = script(alloc, disk, until_of(strict), input, output);
-    files.close(store, left);
-    strict_over(done, store, &why)
 }
 
 /// Prints what the view shows of the store in the file of this name, also if another program has it

@@ -1,5 +1,5 @@
 use Rattle.std.proofs.Common.{◌∙◌, Err, ap, inl, inr, refl}
-use Rattle.run_lines.specs.Troubles.{stopped}
+use Rattle.console_lines.specs.Faults.{stopped}
 use Rattle.run_console.proofs.Nights.{acks_told, keeps_night}
 use Rattle.run_console.proofs.crews.crew_over.Goals as goal
 

@@ -1,0 +1,3 @@
+mod Begins
+pub mod LineLemmas
+mod TimedLemmas

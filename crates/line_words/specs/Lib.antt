@@ -1,0 +1,4 @@
+pub mod Demos
+pub mod Lasting
+pub mod Scripts
+pub mod Timed
