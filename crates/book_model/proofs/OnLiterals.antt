@@ -1,15 +1,17 @@
 -- What an example unfolds to read an image and records, byte by byte.
 use Rattle.std.specs.Prelude.{⊤}
-use Rattle.record_view.specs.Reading.{body_at, cancel_at, derive_at, event_at, kind_at, kind_by}
-use Rattle.record_view.specs.Reading.{limit_at, limit_by, moment_at, number_at, numbered_at}
-use Rattle.record_view.specs.Reading.{optional_at, optional_by, part_at, tested_at, text_at}
+use Rattle.row_view.specs.Fields.{kind_at, kind_by}
+use Rattle.record_view.specs.Reading.{body_at, cancel_at, derive_at, event_at}
+use Rattle.row_view.specs.Fields.{limit_at, limit_by, moment_at, number_at}
+use Rattle.record_view.specs.Reading.{numbered_at}
+use Rattle.row_view.specs.Fields.{optional_at, optional_by, part_at, tested_at, text_at}
 use Rattle.record_view.specs.Reading.{whole_body_at}
 use Rattle.record_view.specs.Records.{events_in, rest_in}
-use Rattle.record_view.specs.RowReading.{count_at, fewer_at, flag_at, flag_by, group_row_at}
-use Rattle.record_view.specs.RowReading.{head_at, hit_at, hit_by, hit_fields_at, link_at, link_by}
-use Rattle.record_view.specs.RowReading.{reason_at, reason_by, row_kind_at, scope_at, stage_at}
-use Rattle.record_view.specs.RowReading.{stage_by, task_at, version_at}
-use Rattle.record_view.specs.WorkRows.{work_at, work_rows_at}
+use Rattle.row_view.specs.RowReading.{count_at, fewer_at, flag_at, flag_by, group_row_at}
+use Rattle.row_view.specs.RowReading.{head_at, hit_at, hit_by, hit_fields_at, link_at, link_by}
+use Rattle.row_view.specs.RowReading.{reason_at, reason_by, row_kind_at, scope_at, stage_at}
+use Rattle.row_view.specs.RowReading.{stage_by, task_at, version_at}
+use Rattle.row_view.specs.WorkRows.{work_at, work_rows_at}
 use Rattle.scope_tree.specs.TreeRows.{tree_at}
 use Rattle.scope_tree.specs.Whole.{image_at}
 

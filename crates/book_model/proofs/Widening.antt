@@ -5,11 +5,11 @@ use Rattle.run_model.proofs.Common.{AreDeadlines, AreErrors, AreGroupScopes, Are
 use Rattle.run_model.proofs.Common.{AreNumbered, HasLayout, IsConsistent, Owns, State, and_from}
 use Rattle.run_model.specs.declared.groups.Group.{Group}
 use Rattle.run_model.specs.declared.layouts.Layout.TheVariants.{Small, Large}
-use Rattle.record_view.specs.declared.heads.ImageHead.{ImageHead}
-use Rattle.record_view.specs.declared.heads.ImageVersion.TheVariants.{Two}
-use Rattle.record_view.specs.Image.{head_of, image, is_kept_head}
-use Rattle.record_view.specs.Keeping.{IsImage, IsInRange}
-use Rattle.record_view.proofs.Codecs.{first_true, second_true}
+use Rattle.row_view.specs.declared.heads.ImageHead.{ImageHead}
+use Rattle.row_view.specs.declared.heads.ImageVersion.TheVariants.{Two}
+use Rattle.row_view.specs.Image.{head_of, image, is_kept_head}
+use Rattle.row_view.specs.Keeping.{IsImage, IsInRange}
+use Rattle.row_view.proofs.Codecs.{first_true, second_true}
 use Rattle.book_model.specs.Meanings.{MeansIn}
 use Rattle.book_model.specs.Migrations.{widened}
 use Rattle.book_model.proofs.Meaning.{fresh_means}

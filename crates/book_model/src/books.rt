@@ -9,7 +9,7 @@ ghost use Rattle.run_model.specs.Event.{Event};
 ghost use Rattle.run_model.specs.Layouts.{store_len};
 ghost use Rattle.run_model.specs.Session.{Session, accepted};
 ghost use Rattle.run_model.specs.State.{State};
-ghost use Rattle.record_view.specs.declared.heads.ImageVersion.TheVariants.{Two};
+ghost use Rattle.row_view.specs.declared.heads.ImageVersion.TheVariants.{Two};
 ghost use Rattle.record_view.specs.Records.{AreRecords};
 ghost use Rattle.run_disk.specs.Disk.{IsAtRest};
 ghost use Rattle.run_disk.specs.Runs.{LeavesOnly, OnlyReads, Passed};

@@ -7,7 +7,7 @@ ghost use Rattle.run_model.specs.declared.faults.Fault.TheVariants.{DiskFailed};
 ghost use Rattle.run_model.specs.declared.layouts.Layout.TheVariants.{Small, Large};
 ghost use Rattle.run_model.specs.Rules.{HasLayout, IsConsistent};
 ghost use Rattle.run_model.specs.State.{State};
-ghost use Rattle.record_view.specs.Image.{image};
+ghost use Rattle.row_view.specs.Image.{image};
 ghost use Rattle.run_disk.specs.Disk.{IsAtRest, last_moment};
 ghost use Rattle.book_model.specs.declared.migrations.MigrateFault.{MigrateFault as WhyNot};
 ghost use Rattle.book_model.specs.declared.migrations.MigrateFault.TheVariants as why;

@@ -8,7 +8,7 @@ ghost use Rattle.run_model.specs.declared.layouts.Layout.{Layout};
 ghost use Rattle.run_model.specs.Event.{Event};
 ghost use Rattle.run_model.specs.Layouts.{store_len};
 ghost use Rattle.run_model.specs.State.{State, formatted};
-ghost use Rattle.record_view.specs.Image.{image};
+ghost use Rattle.row_view.specs.Image.{image};
 ghost use Rattle.run_disk.specs.Disk.{last_moment};
 ghost use Rattle.run_disk.specs.Runs.{OnlyReads};
 ghost use Rattle.run_journal.specs.Pairs.{HasNoPairBut};

@@ -6,20 +6,16 @@ use Rattle.run_model.specs.declared.layouts.Layout.{Layout}
 use Rattle.run_model.specs.declared.scopes.Scope.{Scope}
 use Rattle.run_model.specs.declared.groups.Group.{Group}
 use Rattle.run_model.specs.declared.tasks.Task.{Task}
-use Rattle.record_view.specs.declared.heads.ImageHead.{ImageHead}
-use Rattle.record_view.specs.declared.heads.ImageVersion.{ImageVersion}
-use Rattle.record_view.specs.Reading.{◌>>=◌}
-use Rattle.record_view.specs.Image.{head_bytes, head_of, image_in, scope_bytes, group_bytes}
-use Rattle.record_view.specs.Image.{task_bytes}
-use Rattle.record_view.specs.Keeping.{IsInRange, IsImage}
-use Rattle.record_view.specs.RowReading.{head_at, scope_at, group_row_at, task_at}
-use Rattle.record_view.proofs.RowFields.{scope_row}
-use Rattle.record_view.proofs.RowCodecs.{group_row, task_row, head_field, rows_again, rows_at}
-
--- A list that begins with root is root and what is after it.
-pub rooted_list : (rows : List Scope) → slice_get rows 0 ≡ Some root → root ∷ drop 1 rows ≡ rows
-rooted_list [] e = absurd (none-some root e)
-rooted_list (row ∷ rows) e = ap (λ r. r ∷ rows) (sym (same_Some row root e))
+use Rattle.row_view.specs.declared.heads.ImageHead.{ImageHead}
+use Rattle.row_view.specs.declared.heads.ImageVersion.{ImageVersion}
+use Rattle.row_view.specs.Fields.{◌>>=◌}
+use Rattle.row_view.specs.Image.{head_bytes, head_of, image_in, scope_bytes, group_bytes}
+use Rattle.row_view.specs.Image.{task_bytes}
+use Rattle.row_view.specs.Keeping.{IsInRange, IsImage}
+use Rattle.row_view.specs.RowReading.{head_at, scope_at, group_row_at, task_at}
+use Rattle.row_view.proofs.Rooted.{rooted_list}
+use Rattle.row_view.proofs.RowFields.{scope_row}
+use Rattle.row_view.proofs.RowCodecs.{group_row, task_row, head_field, rows_again, rows_at}
 
 -- The state of a head and of the rows after it.
 abbrev state_made : Layout → ImageHead → List Scope → List Group → List Task → State

@@ -1,11 +1,4 @@
-pub mod Between
-pub mod Image
 pub mod ImageExamples
-pub mod Keeping
 pub mod Reading
 pub mod Records
-pub mod RowReading
-pub mod RowViews
 pub mod Views
-pub mod WorkRows
-pub mod Writing

@@ -9,40 +9,15 @@
 
 ghost use Rattle.std.specs.Prelude.{◌≡◌, ◌≤◌, ◌+◌, length, IfSome, IsTrue};
 ghost use Rattle.std.specs.Option.{option_map};
-ghost use Rattle.record_view.specs.declared.heads.ImageVersion.TheVariants.{Two};
-ghost use Rattle.record_view.specs.Image.{head_bytes, in_version, is_kept_head};
-ghost use Rattle.record_view.specs.RowReading.{count_at, fewer_at, head_at, version_at};
-ghost use Rattle.record_view.specs.Writing.{put_at};
+ghost use Rattle.row_view.specs.declared.heads.ImageVersion.TheVariants.{Two};
+ghost use Rattle.row_view.specs.Image.{head_bytes, in_version, is_kept_head};
+ghost use Rattle.row_view.specs.RowReading.{count_at, fewer_at, head_at, version_at};
+ghost use Rattle.row_view.specs.Writing.{put_at};
 
-use crate::numbers::{read_byte, read_moment, read_u16, read_u64};
-use crate::puts::{put_byte, put_u16, put_u64};
+use row_view::numbers::{read_byte, read_moment, read_u16, read_u64};
+use row_view::puts::{put_byte, put_u16, put_u64};
+use row_view::{ImageHead, ImageVersion};
 use run_model::{Layout, MOST_GROUPS};
-
-/// How an image is spelled. Both are read, and the second alone is written.
-#[derive(Clone, Copy, PartialEq, Eq)]
-pub enum ImageVersion {
-    /// Without links: no task is a retry.
-    One,
-    /// The row of each task ends with its link.
-    Two,
-}
-
-/// What stands in front of the rows of an image.
-#[derive(Clone, Copy, PartialEq, Eq)]
-pub struct ImageHead {
-    /// How the rows are spelled.
-    pub version: ImageVersion,
-    /// The clock, in whole seconds.
-    pub clock: u64,
-    /// The number of events so far.
-    pub count: u64,
-    /// The number of scopes beside root.
-    pub scopes: u16,
-    /// The number of groups.
-    pub groups: u16,
-    /// The number of tasks.
-    pub tasks: u16,
-}
 
 /// Returns the head that the bytes begin with, and the bytes after it; `None` exactly when they
 /// begin with no head whose rows are within the limits of this layout.
@@ -68,7 +43,7 @@ pub fn put_head(out: &mut [u8], at: usize, head: &ImageHead) -> usize
     put_u16(out, end, head.tasks)
 }
 
-#[tactic(auto, unfolding(crate::specs::RowReading::head_at))]
+#[tactic(auto, unfolding(row_view::specs::RowReading::head_at))]
 fn read_head_fields(bytes: &[u8], layout: Layout) -> Option<(ImageHead, &[u8])>
     ensures { option_map (λ x. (x.0, x.1.now)) result ≡ head_at layout bytes.now }
 {
@@ -90,7 +65,7 @@ fn read_head_fields(bytes: &[u8], layout: Layout) -> Option<(ImageHead, &[u8])>
 }
 
 /// Returns the version, and the bytes after it.
-#[tactic(auto, unfolding(crate::specs::RowReading::version_at))]
+#[tactic(auto, unfolding(row_view::specs::RowReading::version_at))]
 fn read_version(bytes: &[u8]) -> Option<(ImageVersion, &[u8])>
     ensures { option_map (λ x. (x.0, x.1.now)) result ≡ version_at bytes.now }
 {
@@ -103,7 +78,7 @@ fn read_version(bytes: &[u8]) -> Option<(ImageVersion, &[u8])>
 }
 
 /// Returns the count of events, and the bytes after it.
-#[tactic(auto, unfolding(crate::specs::RowReading::count_at))]
+#[tactic(auto, unfolding(row_view::specs::RowReading::count_at))]
 fn read_count(bytes: &[u8]) -> Option<(u64, &[u8])>
     ensures { option_map (λ x. (x.0, x.1.now)) result ≡ count_at bytes.now }
 {
@@ -115,7 +90,7 @@ fn read_count(bytes: &[u8]) -> Option<(u64, &[u8])>
 }
 
 /// Returns a number of rows, which is below the bound, and the bytes after it.
-#[tactic(auto, unfolding(crate::specs::RowReading::fewer_at))]
+#[tactic(auto, unfolding(row_view::specs::RowReading::fewer_at))]
 fn read_fewer(bytes: &[u8], bound: usize) -> Option<(u16, &[u8])>
     ensures { option_map (λ x. (x.0, x.1.now)) result ≡ fewer_at bound bytes.now }
 {

@@ -9,16 +9,16 @@ ghost use Rattle.run_model.specs.declared.groups.Group.{Group};
 ghost use Rattle.run_model.specs.declared.tasks.Task.{Task};
 ghost use Rattle.run_model.specs.Allowed.{run};
 ghost use Rattle.run_model.specs.State.{State, formatted};
-ghost use Rattle.record_view.specs.declared.heads.ImageHead.{ImageHead};
-ghost use Rattle.record_view.specs.declared.heads.ImageVersion.{ImageVersion};
-ghost use Rattle.record_view.specs.declared.heads.ImageVersion.TheVariants.{One, Two};
-ghost use Rattle.record_view.specs.Image.{image, image_in, greatest_image, head_bytes};
-ghost use Rattle.record_view.specs.Image.{scope_bytes, group_bytes, task_bytes, is_kept_head};
-ghost use Rattle.record_view.specs.Image.{is_kept_scope, is_kept_group, is_kept_task};
+ghost use Rattle.row_view.specs.declared.heads.ImageHead.{ImageHead};
+ghost use Rattle.row_view.specs.declared.heads.ImageVersion.{ImageVersion};
+ghost use Rattle.row_view.specs.declared.heads.ImageVersion.TheVariants.{One, Two};
+ghost use Rattle.row_view.specs.Image.{image, image_in, greatest_image, head_bytes};
+ghost use Rattle.row_view.specs.Image.{scope_bytes, group_bytes, task_bytes, is_kept_head};
+ghost use Rattle.row_view.specs.Image.{is_kept_scope, is_kept_group, is_kept_task};
 ghost use Rattle.record_view.specs.ImageExamples.{one_cancelled, one_cancelled_part, one_retried};
 ghost use Rattle.record_view.specs.ImageExamples.{retried_head, retried_group, retried_tasks};
-ghost use Rattle.record_view.specs.Keeping.{IsImage};
-ghost use Rattle.record_view.specs.RowReading.{head_at, scope_at, group_row_at, task_at};
+ghost use Rattle.row_view.specs.Keeping.{IsImage};
+ghost use Rattle.row_view.specs.RowReading.{head_at, scope_at, group_row_at, task_at};
 
 /// An image of 57 bytes, byte by byte, in both versions, and one with a retry.
 pub fn an_image_is_its_head_and_rows()

@@ -6,8 +6,8 @@
 ghost use Rattle.std.specs.Prelude.{◌≡◌, List, ℕ, Some};
 ghost use Rattle.run_model.specs.declared.layouts.Layout.{Layout};
 ghost use Rattle.run_model.specs.State.{WorkState};
-ghost use Rattle.record_view.specs.declared.heads.ImageHead.{ImageHead};
-ghost use Rattle.record_view.specs.WorkRows.{AreWorkRows, work_at};
+ghost use Rattle.row_view.specs.declared.heads.ImageHead.{ImageHead};
+ghost use Rattle.row_view.specs.WorkRows.{AreWorkRows, work_at};
 
 /// The rows of the work are read, and what is read is the rows of the work that keeps its rules.
 pub fn the_rows_of_the_work_are_read()

@@ -4,9 +4,9 @@ use Rattle.run_model.proofs.Common.{IfErr, OnErr, OnOk, Result, store_len, State
 use Rattle.run_model.specs.declared.faults.Fault.{Fault}
 use Rattle.run_model.specs.declared.faults.Fault.TheVariants as fault
 use Rattle.run_model.specs.declared.layouts.Layout.TheVariants.{Small, Large}
-use Rattle.record_view.specs.declared.heads.ImageVersion.TheVariants.{Two}
-use Rattle.record_view.specs.Image.{image}
-use Rattle.record_view.specs.Keeping.{IsImage}
+use Rattle.row_view.specs.declared.heads.ImageVersion.TheVariants.{Two}
+use Rattle.row_view.specs.Image.{image}
+use Rattle.row_view.specs.Keeping.{IsImage}
 use Rattle.run_disk.specs.Disk.{DiskState, IsAtRest, IsDisk, last_moment}
 use Rattle.run_disk.specs.Runs.{MakesCalls}
 use Rattle.run_disk.proofs.RunLemmas.{ran_passed}

@@ -5,9 +5,9 @@ ghost use Rattle.std.specs.Prelude.{◌≡◌, ◌≤◌, ◌<◌, ◌+◌, ◌^
 ghost use Rattle.std.specs.Prelude.{OnOk, OnErr};
 ghost use Rattle.run_model.specs.declared.faults.Fault.TheVariants.{DiskFailed};
 ghost use Rattle.run_model.specs.Layouts.{store_len};
-ghost use Rattle.record_view.specs.declared.heads.ImageVersion.TheVariants.{Two};
-ghost use Rattle.record_view.specs.Image.{greatest_image, image};
-ghost use Rattle.record_view.specs.Keeping.{IsImage};
+ghost use Rattle.row_view.specs.declared.heads.ImageVersion.TheVariants.{Two};
+ghost use Rattle.row_view.specs.Image.{greatest_image, image};
+ghost use Rattle.row_view.specs.Keeping.{IsImage};
 ghost use Rattle.state_renewal.specs.Marks.{AreMarks};
 ghost use Rattle.state_renewal.specs.Renewed.{fits_in, renewed, renewed_in};
 ghost use Rattle.book_model.specs.declared.migrations.MigrateFault.TheVariants as why;

@@ -7,21 +7,21 @@ use Rattle.run_model.proofs.Common.{le-leb, none-some, slice_get_within, most_sc
 use Rattle.run_model.proofs.Common.{root, IsConsistent, State, TreeState, WorkState, new_work}
 use Rattle.run_model.specs.declared.bounds.TheConstants.{MOST_GROUPS, GREATEST_MOMENT}
 use Rattle.run_model.specs.declared.layouts.Layout.{Layout}
-use Rattle.record_view.specs.declared.heads.ImageHead.{ImageHead}
-use Rattle.record_view.specs.declared.heads.ImageVersion.TheVariants.{Two}
-use Rattle.record_view.specs.Between.{fits_between}
-use Rattle.record_view.specs.Image.{group_bytes, head_bytes, head_of, image, is_kept_group}
-use Rattle.record_view.specs.Image.{is_kept_head, is_kept_scope, is_kept_task, scope_bytes}
-use Rattle.record_view.specs.Image.{task_bytes}
-use Rattle.record_view.specs.Keeping.{IsImage, Rows}
-use Rattle.record_view.specs.RowReading.{head_at}
-use Rattle.record_view.specs.WorkRows.{AreWorkRows}
-use Rattle.record_view.specs.Writing.{put_at}
-use Rattle.record_view.proofs.Joins.{put_then}
+use Rattle.row_view.specs.declared.heads.ImageHead.{ImageHead}
+use Rattle.row_view.specs.declared.heads.ImageVersion.TheVariants.{Two}
+use Rattle.row_view.specs.Between.{fits_between}
+use Rattle.row_view.specs.Image.{group_bytes, head_bytes, head_of, image, is_kept_group}
+use Rattle.row_view.specs.Image.{is_kept_head, is_kept_scope, is_kept_task, scope_bytes}
+use Rattle.row_view.specs.Image.{task_bytes}
+use Rattle.row_view.specs.Keeping.{IsImage, Rows}
+use Rattle.row_view.specs.RowReading.{head_at}
+use Rattle.row_view.specs.WorkRows.{AreWorkRows}
+use Rattle.row_view.specs.Writing.{put_at}
+use Rattle.row_view.proofs.Joins.{put_then}
 use Rattle.scope_tree.specs.TreeRows.{tree_at}
 use Rattle.scope_tree.specs.Whole.{image_at, whole}
 use Rattle.scope_tree.proofs.WholeReads.{image_again}
-use Rattle.record_view.proofs.WorkReads.{nothing_read, work_again}
+use Rattle.row_view.proofs.WorkReads.{nothing_read, work_again}
 use Rattle.run_model.proofs.Common.{and_from}
 
 -- ---- reading

@@ -6,10 +6,10 @@ ghost use Rattle.run_model.specs.declared.refusals.Refusal.TheVariants as refusa
 ghost use Rattle.run_model.specs.Allowed.{is_past_moments, tested};
 ghost use Rattle.run_model.specs.Records.{is_optional_text};
 ghost use Rattle.run_model.specs.Replies.{kind_made};
-ghost use Rattle.record_view.specs.Views.{kind_of};
+ghost use Rattle.row_view.specs.Views.{kind_of};
 ghost use Rattle.run_state.specs.Asked.{IsWished};
 
-use record_view::KindView;
+use row_view::KindView;
 use run_model::{GREATEST_MOMENT, Moment, Refusal, Text, Wish};
 
 /// The kind that a wish makes now. A timeout makes the deadline that it gives, or, if that is past

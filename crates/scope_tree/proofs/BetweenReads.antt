@@ -8,10 +8,10 @@ use Rattle.run_model.proofs.Common.{any_passes_from_place}
 use Rattle.run_model.specs.declared.scopes.Scope.{Scope}
 use Rattle.run_model.specs.declared.groups.Group.{Group}
 use Rattle.run_model.specs.RuleParts.{AreWorkRules, AreCrossRules}
-use Rattle.record_view.proofs.Codecs.{first_true, second_true}
-use Rattle.record_view.specs.Between.{belongs, fits_scope, lives_in, has_group, fits_between}
-use Rattle.record_view.proofs.Checked.{all_pass, pass_all}
-use Rattle.record_view.proofs.Linked.{or_right, or_from, not_so, some_at}
+use Rattle.row_view.proofs.Codecs.{first_true, second_true}
+use Rattle.row_view.specs.Between.{belongs, fits_scope, lives_in, has_group, fits_between}
+use Rattle.row_view.proofs.Checked.{all_pass, pass_all}
+use Rattle.row_view.proofs.Linked.{or_right, or_from, not_so, some_at}
 use Rattle.model_laws.proofs.RightHits.{own_hit_of}
 
 -- ---- one group and its scope

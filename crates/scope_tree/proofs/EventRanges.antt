@@ -21,7 +21,7 @@ use Rattle.run_model.specs.declared.tasks.Stage.{Stage}
 use Rattle.run_model.specs.declared.tasks.Stage.TheVariants as stage
 use Rattle.run_model.specs.declared.tasks.Task.{Task}
 use Rattle.run_model.specs.Event as event
-use Rattle.record_view.specs.Image.{is_kept_kind, is_kept_stage}
+use Rattle.row_view.specs.Image.{is_kept_kind, is_kept_stage}
 use Rattle.scope_tree.specs.Ranges.{has_ranges, HaveRanges}
 use Rattle.scope_tree.proofs.RowRanges.{IsTypedScope, IsTypedGroup, IsTypedTask, Each, each_pushed}
 use Rattle.scope_tree.proofs.RowRanges.{each_at, each_mapped, hit_typed, tick_typed, text_typed}

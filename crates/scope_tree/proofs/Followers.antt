@@ -16,12 +16,12 @@ use Rattle.run_model.specs.declared.scopes.Hit.{Hit}
 use Rattle.run_model.specs.declared.scopes.Scope.{Scope}
 use Rattle.run_model.specs.RuleParts.{HitFits, AreScopeRules}
 use Rattle.run_model.proofs.NameLemmas.{names_pushed, unpassed}
-use Rattle.record_view.specs.Image.{is_kept_kind, is_kept_scope, scope_bytes}
-use Rattle.record_view.specs.RowReading.{scope_at}
-use Rattle.record_view.proofs.Codecs.{first_true, second_true, through}
-use Rattle.record_view.proofs.RowFields.{scope_row}
+use Rattle.row_view.specs.Image.{is_kept_kind, is_kept_scope, scope_bytes}
+use Rattle.row_view.specs.RowReading.{scope_at}
+use Rattle.row_view.proofs.Codecs.{first_true, second_true, through}
+use Rattle.row_view.proofs.RowFields.{scope_row}
 use Rattle.scope_tree.specs.TreeRows.{can_follow, hit_fits, reason_fits, more_rows_at}
-use Rattle.record_view.proofs.Checked.{cond_some_by}
+use Rattle.row_view.proofs.Checked.{cond_some_by}
 
 -- ---- hits
 

@@ -3,11 +3,11 @@ use Rattle.run_model.proofs.Common.{◌≡◌, ◌≤◌, List, length, Some, re
 use Rattle.run_model.proofs.Common.{run, Event, HasLayout, IsConsistent, State, formatted}
 use Rattle.run_model.specs.declared.layouts.Layout.{Layout}
 use Rattle.run_model.specs.declared.layouts.Layout.TheVariants.{Small, Large}
-use Rattle.record_view.specs.declared.heads.ImageVersion.{ImageVersion}
-use Rattle.record_view.specs.declared.heads.ImageVersion.TheVariants.{Two}
-use Rattle.record_view.specs.Image.{image, head_of, is_kept_head, greatest_image}
-use Rattle.record_view.specs.Keeping.{IsInRange, IsImage}
-use Rattle.record_view.proofs.ImageLengths.{image_most}
+use Rattle.row_view.specs.declared.heads.ImageVersion.{ImageVersion}
+use Rattle.row_view.specs.declared.heads.ImageVersion.TheVariants.{Two}
+use Rattle.row_view.specs.Image.{image, head_of, is_kept_head, greatest_image}
+use Rattle.row_view.specs.Keeping.{IsInRange, IsImage}
+use Rattle.row_view.proofs.ImageLengths.{image_most}
 use Rattle.model_laws.proofs.LayoutStays.{layout_after, layout_run}
 use Rattle.model_laws.proofs.Starting.{formatted_consistent}
 use Rattle.model_laws.proofs.StateSteps.{event_keeps, run_keeps}

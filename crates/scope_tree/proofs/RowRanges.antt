@@ -15,7 +15,7 @@ use Rattle.run_model.specs.declared.scopes.Scope.{Scope}
 use Rattle.run_model.specs.declared.groups.Group.{Group}
 use Rattle.run_model.specs.declared.tasks.Stage.{Stage}
 use Rattle.run_model.specs.declared.tasks.Task.{Task}
-use Rattle.record_view.specs.Image.{is_kept_kind, is_kept_stage}
+use Rattle.row_view.specs.Image.{is_kept_kind, is_kept_stage}
 
 -- ---- one row
 

@@ -13,12 +13,12 @@ use Rattle.run_model.specs.declared.scopes.Hit.{Hit}
 use Rattle.run_model.specs.declared.scopes.Scope.{Scope}
 use Rattle.run_model.specs.declared.groups.Group.{Group}
 use Rattle.run_model.specs.declared.tasks.Task.{Task}
-use Rattle.record_view.specs.declared.heads.ImageVersion.{ImageVersion}
-use Rattle.record_view.specs.declared.heads.ImageVersion.TheVariants.{Two}
-use Rattle.record_view.specs.Image.{head_of, is_kept_head, is_kept_scope, is_kept_group}
-use Rattle.record_view.specs.Image.{is_kept_task, is_kept_hit, is_kept_link}
-use Rattle.record_view.specs.Keeping.{IsInRange}
-use Rattle.record_view.proofs.Codecs.{first_true, second_true}
+use Rattle.row_view.specs.declared.heads.ImageVersion.{ImageVersion}
+use Rattle.row_view.specs.declared.heads.ImageVersion.TheVariants.{Two}
+use Rattle.row_view.specs.Image.{head_of, is_kept_head, is_kept_scope, is_kept_group}
+use Rattle.row_view.specs.Image.{is_kept_task, is_kept_hit, is_kept_link}
+use Rattle.row_view.specs.Keeping.{IsInRange}
+use Rattle.row_view.proofs.Codecs.{first_true, second_true}
 use Rattle.model_laws.proofs.RightHits.{own_hit_of}
 use Rattle.scope_tree.proofs.RowRanges.{IsTypedScope, IsTypedGroup, IsTypedTask, Each}
 use Rattle.scope_tree.proofs.EventRanges.{IsTyped}

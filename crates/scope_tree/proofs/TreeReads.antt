@@ -14,18 +14,18 @@ use Rattle.run_model.specs.declared.scopes.Reason.{Reason}
 use Rattle.run_model.specs.declared.scopes.Reason.TheVariants.{Canceled, DeadlineExceeded}
 use Rattle.run_model.specs.declared.scopes.Scope.{Scope}
 use Rattle.run_model.specs.RuleParts.{AreScopeRules}
-use Rattle.record_view.specs.Reading.{one}
-use Rattle.record_view.specs.declared.heads.ImageHead.{ImageHead}
-use Rattle.record_view.specs.Image.{scope_bytes}
-use Rattle.record_view.proofs.Codecs.{through, first_true, second_true}
-use Rattle.record_view.proofs.WholeImages.{rooted_list}
+use Rattle.row_view.specs.Fields.{one}
+use Rattle.row_view.specs.declared.heads.ImageHead.{ImageHead}
+use Rattle.row_view.specs.Image.{scope_bytes}
+use Rattle.row_view.proofs.Codecs.{through, first_true, second_true}
+use Rattle.row_view.proofs.Rooted.{rooted_list}
 use Rattle.scope_tree.specs.Sound.{AreRooted, ArePastHits}
 use Rattle.scope_tree.specs.TreeRows.{AreWritable, more_rows_at, tree_at, tree_made, has_tree_room}
 use Rattle.scope_tree.specs.TreeRules.{AreTreeRows}
 use Rattle.scope_tree.proofs.Followers.{more_are, rules_at_first, more_again, AreAllKept}
 use Rattle.scope_tree.proofs.Sounding.{AreSound, tree_of}
-use Rattle.record_view.proofs.Checked.{cond_some_by}
-use Rattle.record_view.proofs.ImageLengths.{behind_first}
+use Rattle.row_view.proofs.Checked.{cond_some_by}
+use Rattle.row_view.proofs.ImageLengths.{behind_first}
 
 -- ---- writing
 

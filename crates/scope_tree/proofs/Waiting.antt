@@ -20,7 +20,7 @@ use Rattle.scope_tree.specs.Deadlines.{deadline_at, due_at, key, key_at, Among, 
 use Rattle.scope_tree.specs.Deadlines.{SameNumbers, AreWaiting}
 use Rattle.scope_tree.proofs.HeapSteps.{heap_least}
 use Rattle.scope_tree.proofs.Heaps.{among_push}
-use Rattle.record_view.proofs.Codecs.{first_true}
+use Rattle.row_view.proofs.Codecs.{first_true}
 
 -- ---- a scope's deadline
 

@@ -5,24 +5,24 @@ use Rattle.run_model.proofs.Common.{IsTrue, flat_map, eqb-true, append-nil, cond
 use Rattle.run_model.proofs.Common.{slice_get_within, root, State, TreeState, WorkState}
 use Rattle.std.proofs.lemmas.List.{nil_from_length}
 use Rattle.run_model.specs.declared.layouts.Layout.{Layout}
-use Rattle.record_view.specs.declared.heads.ImageHead.{ImageHead}
-use Rattle.record_view.specs.declared.heads.ImageVersion.{ImageVersion}
-use Rattle.record_view.specs.Reading.{◌>>=◌}
-use Rattle.record_view.specs.Image.{head_bytes, head_of, scope_bytes, group_bytes, task_bytes}
-use Rattle.record_view.specs.Image.{is_kept_head}
-use Rattle.record_view.specs.Keeping.{IsImage}
-use Rattle.record_view.specs.RowReading.{head_at}
-use Rattle.record_view.proofs.Codecs.{through, first_true, second_true}
-use Rattle.record_view.proofs.RowCodecs.{head_field}
+use Rattle.row_view.specs.declared.heads.ImageHead.{ImageHead}
+use Rattle.row_view.specs.declared.heads.ImageVersion.{ImageVersion}
+use Rattle.row_view.specs.Fields.{◌>>=◌}
+use Rattle.row_view.specs.Image.{head_bytes, head_of, scope_bytes, group_bytes, task_bytes}
+use Rattle.row_view.specs.Image.{is_kept_head}
+use Rattle.row_view.specs.Keeping.{IsImage}
+use Rattle.row_view.specs.RowReading.{head_at}
+use Rattle.row_view.proofs.Codecs.{through, first_true, second_true}
+use Rattle.row_view.proofs.RowCodecs.{head_field}
 use Rattle.scope_tree.specs.TreeRows.{tree_at}
 use Rattle.scope_tree.specs.TreeRules.{AreTreeRows}
 use Rattle.scope_tree.proofs.TreeReads.{tree_again, tree_takes}
-use Rattle.record_view.specs.Between.{fits_between}
+use Rattle.row_view.specs.Between.{fits_between}
 use Rattle.scope_tree.specs.Whole.{image_at, joined, whole}
-use Rattle.record_view.specs.WorkRows.{AreWorkRows, work_at}
+use Rattle.row_view.specs.WorkRows.{AreWorkRows, work_at}
 use Rattle.scope_tree.proofs.BetweenReads.{between_test, between_from}
 use Rattle.scope_tree.proofs.Parts.{tree_part, work_part, cross_part, all_parts}
-use Rattle.record_view.proofs.WorkReads.{work_again, work_takes}
+use Rattle.row_view.proofs.WorkReads.{work_again, work_takes}
 
 regrouped : (w x y z : List ℕ) → ((w ++ x) ++ y) ++ z ≡ w ++ (x ++ (y ++ (z ++ [])))
 regrouped w x y z =

@@ -16,9 +16,9 @@ use Rattle.run_model.specs.Rows.{root}
 use Rattle.run_model.specs.Rules.{can_be_hit}
 use Rattle.run_model.specs.Scopes.{is_root, own_deadline}
 use Rattle.run_model.specs.State.{TreeState}
-use Rattle.record_view.specs.Reading.{Reader, ◌>>=◌, one}
-use Rattle.record_view.specs.declared.heads.ImageHead.{ImageHead}
-use Rattle.record_view.specs.RowReading.{scope_at}
+use Rattle.row_view.specs.Fields.{Reader, ◌>>=◌, one}
+use Rattle.row_view.specs.declared.heads.ImageHead.{ImageHead}
+use Rattle.row_view.specs.RowReading.{scope_at}
 
 -- ---- what can be written
 

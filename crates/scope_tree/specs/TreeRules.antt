@@ -5,8 +5,8 @@ use Rattle.run_model.specs.declared.layouts.Layout.{Layout}
 use Rattle.run_model.specs.Records.{is_moment}
 use Rattle.run_model.specs.RuleParts.{AreTreeRules}
 use Rattle.run_model.specs.State.{TreeState}
-use Rattle.record_view.specs.declared.heads.ImageHead.{ImageHead}
-use Rattle.record_view.specs.Image.{scope_bytes, is_kept_scope}
+use Rattle.row_view.specs.declared.heads.ImageHead.{ImageHead}
+use Rattle.row_view.specs.Image.{scope_bytes, is_kept_scope}
 
 -- The bytes after a head begin with the rows of this tree, which has this layout and keeps the
 -- rules, and the rest stands after them.

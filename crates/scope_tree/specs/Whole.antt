@@ -2,13 +2,13 @@
 use Rattle.std.specs.Prelude.{ℕ, ◌==◌, ◌&&◌, if◌then◌else◌, List, length, Option, Some, None}
 use Rattle.run_model.specs.declared.layouts.Layout.{Layout}
 use Rattle.run_model.specs.State.{State, TreeState, WorkState}
-use Rattle.record_view.specs.declared.heads.ImageHead.{ImageHead}
-use Rattle.record_view.specs.declared.heads.ImageVersion.{ImageVersion}
-use Rattle.record_view.specs.Reading.{◌>>=◌}
-use Rattle.record_view.specs.RowReading.{head_at}
+use Rattle.row_view.specs.declared.heads.ImageHead.{ImageHead}
+use Rattle.row_view.specs.declared.heads.ImageVersion.{ImageVersion}
+use Rattle.row_view.specs.Fields.{◌>>=◌}
+use Rattle.row_view.specs.RowReading.{head_at}
 use Rattle.scope_tree.specs.TreeRows.{tree_at}
-use Rattle.record_view.specs.Between.{fits_between}
-use Rattle.record_view.specs.WorkRows.{work_at}
+use Rattle.row_view.specs.Between.{fits_between}
+use Rattle.row_view.specs.WorkRows.{work_at}
 
 -- The state of a head, a tree and the work.
 abbrev pub whole : ImageHead → TreeState → WorkState → State

@@ -12,10 +12,10 @@ ghost use Rattle.run_model.specs.Allowed.{after, run};
 ghost use Rattle.run_model.specs.Event.{Event};
 ghost use Rattle.run_model.specs.Rules.{HasLayout, IsConsistent};
 ghost use Rattle.run_model.specs.State.{State, formatted};
-ghost use Rattle.record_view.specs.declared.heads.ImageVersion.{ImageVersion};
-ghost use Rattle.record_view.specs.declared.heads.ImageVersion.TheVariants.{Two};
-ghost use Rattle.record_view.specs.Image.{image};
-ghost use Rattle.record_view.specs.Keeping.{IsInRange, IsImage};
+ghost use Rattle.row_view.specs.declared.heads.ImageVersion.{ImageVersion};
+ghost use Rattle.row_view.specs.declared.heads.ImageVersion.TheVariants.{Two};
+ghost use Rattle.row_view.specs.Image.{image};
+ghost use Rattle.row_view.specs.Keeping.{IsInRange, IsImage};
 ghost use Rattle.scope_tree.specs.Ranges.{has_ranges, HaveRanges};
 
 /// A state of a layout that keeps the seven rules, and whose fields are in range, has an image of

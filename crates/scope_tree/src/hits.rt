@@ -8,7 +8,7 @@ ghost use Rattle.run_model.specs.Scopes.{comes_before};
 ghost use Rattle.run_model.specs.TreeChanges.{with_hit, hit_due, tick, new_hit};
 ghost use Rattle.run_model.specs.declared.scopes.Reason.TheVariants.{Canceled, DeadlineExceeded};
 
-use record_view::copies::text_copy;
+use row_view::copies::text_copy;
 use run_model::{Hit, Kind, Moment, Reason, Scope, Text};
 
 /// Returns whether the hit of scope `s` comes before that of scope `t`: by event, then by moment,

@@ -8,9 +8,9 @@ ghost use Rattle.run_model.specs.declared.layouts.Layout.{Layout};
 ghost use Rattle.run_model.specs.RuleParts.{AreTreeRules, AreWorkRules, AreCrossRules};
 ghost use Rattle.run_model.specs.Rules.{IsConsistent};
 ghost use Rattle.run_model.specs.State.{State};
-ghost use Rattle.record_view.specs.declared.heads.ImageVersion.{ImageVersion};
-ghost use Rattle.record_view.specs.Keeping.{IsImage};
-ghost use Rattle.record_view.specs.Between.{fits_between};
+ghost use Rattle.row_view.specs.declared.heads.ImageVersion.{ImageVersion};
+ghost use Rattle.row_view.specs.Keeping.{IsImage};
+ghost use Rattle.row_view.specs.Between.{fits_between};
 ghost use Rattle.scope_tree.specs.Whole.{image_at};
 
 /// The seven rules are those of the tree, those of the work, and those between the two, in a state

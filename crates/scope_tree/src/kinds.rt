@@ -5,11 +5,11 @@ ghost use Rattle.std.specs.Prelude.{◌≡◌, ◌&&◌, IfSome, IsTrue, is_some
 ghost use Rattle.run_model.specs.Allowed.{is_cancellable, takes_cause};
 ghost use Rattle.run_model.specs.Scopes.{is_root, is_detached, own_deadline, text_under};
 ghost use Rattle.run_model.specs.Texts.{IsText};
-ghost use Rattle.record_view.specs.Views.{kind_of};
+ghost use Rattle.row_view.specs.Views.{kind_of};
 ghost use Rattle.scope_tree.specs.Checks.{is_derived_kind};
 
-use record_view::KindView;
-use record_view::copies::{moment_of, name_copy, optional_copy, text_copy};
+use row_view::KindView;
+use row_view::copies::{moment_of, name_copy, optional_copy, text_copy};
 use run_model::{Kind, Moment};
 
 /// Returns the kind that a view shows.

@@ -3,7 +3,7 @@
 ghost use Rattle.std.specs.Prelude.{◌≡◌, List, ℕ, Some};
 ghost use Rattle.run_model.specs.declared.layouts.Layout.{Layout};
 ghost use Rattle.run_model.specs.State.{TreeState};
-ghost use Rattle.record_view.specs.declared.heads.ImageHead.{ImageHead};
+ghost use Rattle.row_view.specs.declared.heads.ImageHead.{ImageHead};
 ghost use Rattle.scope_tree.specs.TreeRows.{tree_at};
 ghost use Rattle.scope_tree.specs.TreeRules.{AreTreeRows};
 

@@ -11,12 +11,12 @@ use Rattle.run_model.specs.declared.groups.Group.{Group}
 use Rattle.run_model.specs.declared.layouts.Layout.{Layout}
 use Rattle.run_model.specs.declared.scopes.Scope.{Scope}
 use Rattle.run_model.specs.declared.tasks.Task.{Task}
-use Rattle.record_view.specs.declared.heads.ImageVersion.{ImageVersion}
-use Rattle.record_view.specs.declared.heads.ImageVersion.TheVariants.{One, Two}
-use Rattle.record_view.specs.Image.{image, head_of, is_kept_head, is_kept_scope, is_kept_group}
-use Rattle.record_view.specs.Image.{is_kept_task, is_kept_kind, is_kept_hit, is_kept_stage}
-use Rattle.record_view.specs.Image.{is_kept_link}
-use Rattle.record_view.specs.Keeping.{IsImage}
+use Rattle.row_view.specs.declared.heads.ImageVersion.{ImageVersion}
+use Rattle.row_view.specs.declared.heads.ImageVersion.TheVariants.{One, Two}
+use Rattle.row_view.specs.Image.{image, head_of, is_kept_head, is_kept_scope, is_kept_group}
+use Rattle.row_view.specs.Image.{is_kept_task, is_kept_kind, is_kept_hit, is_kept_stage}
+use Rattle.row_view.specs.Image.{is_kept_link}
+use Rattle.row_view.specs.Keeping.{IsImage}
 use Rattle.model_laws.proofs.Tests.{all_four, all_five}
 use Rattle.state_renewal.specs.Renewed.{new_number, keeps_scope, keeps_group, keeps_task}
 use Rattle.state_renewal.specs.Renewed.{scope_told, group_told, task_told, renewed}

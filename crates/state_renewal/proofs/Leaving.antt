@@ -4,7 +4,7 @@ use Rattle.run_model.proofs.Common.{◌≡◌, ◌≤◌, ◌+◌, ◌*◌, ℕ,
 use Rattle.run_model.proofs.Common.{slice_get, sym, subst, arith, flat_map}
 use Rattle.run_model.proofs.Common.{AllByRecursion, IsTrue, length-map, get_or_from_slice_get}
 use Rattle.run_model.proofs.Common.{slice_get_within}
-use Rattle.record_view.specs.Writing.{put_at}
+use Rattle.row_view.specs.Writing.{put_at}
 use Rattle.state_renewal.specs.Marks.{is_flagged, rows_left}
 use Rattle.state_renewal.specs.Renewed.{kept, new_number}
 use Rattle.state_renewal.proofs.Numbering.{number_gone, number_kept}

@@ -14,10 +14,10 @@ use Rattle.run_model.specs.declared.bounds.TheConstants.{MOST_GROUPS, GREATEST_M
 use Rattle.run_model.specs.declared.layouts.Layout.{Layout}
 use Rattle.run_model.specs.declared.scopes.Scope.{Scope}
 use Rattle.run_model.specs.declared.tasks.Task.{Task}
-use Rattle.record_view.specs.declared.heads.ImageHead.{ImageHead}
-use Rattle.record_view.specs.declared.heads.ImageVersion.TheVariants.{Two}
-use Rattle.record_view.specs.Image.{head_of, image, is_kept_group, is_kept_scope, is_kept_task}
-use Rattle.record_view.specs.Keeping.{IsImage}
+use Rattle.row_view.specs.declared.heads.ImageHead.{ImageHead}
+use Rattle.row_view.specs.declared.heads.ImageVersion.TheVariants.{Two}
+use Rattle.row_view.specs.Image.{head_of, image, is_kept_group, is_kept_scope, is_kept_task}
+use Rattle.row_view.specs.Keeping.{IsImage}
 use Rattle.scope_tree.specs.TreeRows.{AreWritable}
 use Rattle.state_renewal.specs.Marks.{AreFlags, AreMarks, group_by, group_stays_at, is_flagged}
 use Rattle.state_renewal.specs.Marks.{rows_left, scope_by, task_by, task_stays_at, with_rows}

@@ -4,10 +4,10 @@ ghost use Rattle.std.specs.Prelude.{◌≡◌, ℕ, true, List};
 ghost use Rattle.run_model.specs.declared.layouts.Layout.{Layout};
 ghost use Rattle.run_model.specs.Rules.{IsConsistent};
 ghost use Rattle.run_model.specs.State.{State};
-ghost use Rattle.record_view.specs.declared.heads.ImageVersion.{ImageVersion};
-ghost use Rattle.record_view.specs.declared.heads.ImageVersion.TheVariants.{Two};
-ghost use Rattle.record_view.specs.Image.{image};
-ghost use Rattle.record_view.specs.Keeping.{IsImage};
+ghost use Rattle.row_view.specs.declared.heads.ImageVersion.{ImageVersion};
+ghost use Rattle.row_view.specs.declared.heads.ImageVersion.TheVariants.{Two};
+ghost use Rattle.row_view.specs.Image.{image};
+ghost use Rattle.row_view.specs.Keeping.{IsImage};
 ghost use Rattle.state_renewal.specs.Renewed.{fits_in, renewed, renewed_in};
 
 /// A renewed state meets the rules in each layout in which it fits, and its image is the same.

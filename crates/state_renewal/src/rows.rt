@@ -14,17 +14,17 @@ ghost use Rattle.run_model.specs.declared.scopes.Scope.{Scope as ScopeOf};
 ghost use Rattle.run_model.specs.declared.tasks.Task.{Task as TaskOf};
 ghost use Rattle.run_model.specs.Rules.{HasRow};
 ghost use Rattle.run_model.specs.Scopes.{is_root};
-ghost use Rattle.record_view.specs.declared.heads.ImageVersion.TheVariants.{Two};
-ghost use Rattle.record_view.specs.Image.{group_bytes, is_kept_group, is_kept_link, is_kept_scope};
-ghost use Rattle.record_view.specs.Image.{is_kept_task, scope_bytes, task_bytes};
-ghost use Rattle.record_view.specs.RowViews.{group_of, scope_of, task_of};
-ghost use Rattle.record_view.specs.Writing.{put_at};
+ghost use Rattle.row_view.specs.declared.heads.ImageVersion.TheVariants.{Two};
+ghost use Rattle.row_view.specs.Image.{group_bytes, is_kept_group, is_kept_link, is_kept_scope};
+ghost use Rattle.row_view.specs.Image.{is_kept_task, scope_bytes, task_bytes};
+ghost use Rattle.row_view.specs.RowViews.{group_of, scope_of, task_of};
+ghost use Rattle.row_view.specs.Writing.{put_at};
 ghost use Rattle.scope_tree.specs.TreeRows.{AreWritable};
 ghost use Rattle.state_renewal.specs.Marks.{group_by, is_flagged, rows_left, scope_by, task_by};
 ghost use Rattle.state_renewal.specs.Renewed.{new_number};
 
 use crate::marks::Marks;
-use record_view::{
+use row_view::{
     GroupRow, ScopeRow, TaskRow, group_row, put_group, put_scope, put_task, scope_row, task_row,
 };
 use run_model::{Group, Scope, Task};

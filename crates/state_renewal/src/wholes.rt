@@ -6,19 +6,20 @@ ghost use Rattle.std.specs.Prelude.{◌≡◌, ◌+◌, ◌*◌, ◌<◌, ◌≤
 ghost use Rattle.std.specs.Prelude.{IsTrue, MatchResult};
 ghost use Rattle.run_model.specs.declared.bounds.TheConstants.{GREATEST_MOMENT};
 ghost use Rattle.run_model.specs.declared.faults.Fault.TheVariants.{Memory};
-ghost use Rattle.record_view.specs.declared.heads.ImageVersion.TheVariants.{Two};
-ghost use Rattle.record_view.specs.Image.{greatest_image, group_bytes, head_of, image};
-ghost use Rattle.record_view.specs.Image.{is_kept_group, is_kept_scope, is_kept_task};
-ghost use Rattle.record_view.specs.Image.{scope_bytes, task_bytes};
-ghost use Rattle.record_view.specs.Keeping.{IsImage};
-ghost use Rattle.record_view.specs.Writing.{put_at};
+ghost use Rattle.row_view.specs.declared.heads.ImageVersion.TheVariants.{Two};
+ghost use Rattle.row_view.specs.Image.{greatest_image, group_bytes, head_of, image};
+ghost use Rattle.row_view.specs.Image.{is_kept_group, is_kept_scope, is_kept_task};
+ghost use Rattle.row_view.specs.Image.{scope_bytes, task_bytes};
+ghost use Rattle.row_view.specs.Keeping.{IsImage};
+ghost use Rattle.row_view.specs.Writing.{put_at};
 ghost use Rattle.state_renewal.specs.Marks.{AreMarks};
 ghost use Rattle.state_renewal.specs.Renewed.{fits_in, renewed, renewed_in};
 
 use crate::flags::{flag_groups, flag_scopes, flag_tasks};
 use crate::marks::Marks;
 use crate::rows::{put_groups, put_scopes, put_tasks};
-use record_view::{ImageHead, ImageVersion, put_head};
+use record_view::put_head;
+use row_view::{ImageHead, ImageVersion};
 use run_model::{Fault, Layout};
 use run_state::State;
 use std::alloc::{Allocator, Global};

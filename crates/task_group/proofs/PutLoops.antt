@@ -5,8 +5,8 @@ use Rattle.run_model.proofs.Common.{length-append, add-one, IsTrue, flat_map, Al
 use Rattle.run_model.proofs.Common.{flat_map-append, append-nil, take_all}
 use Rattle.std.proofs.Math.Nat.{mul-le-mul_left}
 use Rattle.std.proofs.Math.Seq.{take-suc}
-use Rattle.record_view.specs.Writing.{put_at}
-use Rattle.record_view.proofs.Joins.{put_then, put_nothing}
+use Rattle.row_view.specs.Writing.{put_at}
+use Rattle.row_view.proofs.Joins.{put_then, put_nothing}
 
 taken_few : {X : Type 0} (n : ℕ) (rows : List X) → length (take n rows) ≤ length rows
 taken_few zero rows = omega arith

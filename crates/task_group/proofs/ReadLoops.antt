@@ -1,8 +1,8 @@
 -- Rows that were read so far: what is left to read is what there was to read.
 use Rattle.std.proofs.Common.{◌≡◌, ◌<◌, ◌≤◌, ℕ, suc, ◌+◌, ◌-◌, Bool, true, false, List, [], ◌∷◌}
 use Rattle.std.proofs.Common.{◌++◌, length, Some, None, refl, sym, ap, ◌∙◌, arith, length-append}
-use Rattle.record_view.specs.Reading.{Reader}
-use Rattle.record_view.specs.WorkRows.{more_at}
+use Rattle.row_view.specs.Fields.{Reader}
+use Rattle.row_view.specs.WorkRows.{more_at}
 
 module _ {X : Type 0} (read : Reader X) (test : List X → X → Bool) where
   pub record ReadSoFar (many n : ℕ) (first rows : List X) (bytes rest : List ℕ) : Type 0 where

@@ -6,7 +6,7 @@ use Rattle.std.proofs.lemmas.List.{drop_all}
 use Rattle.run_model.proofs.Common.{not, ◌||◌, ◌==◌, unfinished_in, WorkState}
 use Rattle.run_model.specs.declared.groups.Group.{Group}
 use Rattle.run_model.specs.Rules.{has_task_error}
-use Rattle.record_view.specs.WorkRows.{both_or_neither, each_passes, is_settled}
+use Rattle.row_view.specs.WorkRows.{both_or_neither, each_passes, is_settled}
 use Rattle.task_group.proofs.Admits.{eqb_apart}
 use mathlib.Core.Bool.{beq}
 

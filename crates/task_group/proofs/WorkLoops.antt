@@ -7,12 +7,12 @@ use Rattle.run_model.specs.declared.groups.Group.{Group}
 use Rattle.run_model.specs.declared.layouts.Layout.{Layout}
 use Rattle.run_model.specs.declared.tasks.Task.{Task}
 use Rattle.run_model.specs.State.{WorkState, new_work}
-use Rattle.record_view.specs.declared.heads.ImageHead.{ImageHead}
-use Rattle.record_view.specs.RowReading.{group_row_at, task_at}
-use Rattle.record_view.specs.WorkRows.{AreWorkRows, can_come, each_passes, has_new_name}
-use Rattle.record_view.specs.WorkRows.{has_work_room, is_linked, is_settled, more_at, work_at}
-use Rattle.record_view.specs.WorkRows.{work_made, work_rows_at}
-use Rattle.record_view.proofs.WorkReads.{no_work_stands, work_takes}
+use Rattle.row_view.specs.declared.heads.ImageHead.{ImageHead}
+use Rattle.row_view.specs.RowReading.{group_row_at, task_at}
+use Rattle.row_view.specs.WorkRows.{AreWorkRows, can_come, each_passes, has_new_name}
+use Rattle.row_view.specs.WorkRows.{has_work_room, is_linked, is_settled, more_at, work_at}
+use Rattle.row_view.specs.WorkRows.{work_made, work_rows_at}
+use Rattle.row_view.proofs.WorkReads.{no_work_stands, work_takes}
 use Rattle.task_group.proofs.Admits.{running_unfinished}
 
 -- A task can come after the rows so far, of which the groups stay.

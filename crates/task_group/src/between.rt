@@ -3,8 +3,8 @@
 ghost use Rattle.std.specs.Prelude.{◌≡◌, IsTrue};
 ghost use Rattle.std.specs.List.{list_any};
 ghost use Rattle.run_model.specs.Scopes.{is_group_kind};
-ghost use Rattle.record_view.specs.Between.{belongs, fits_scope, has_group, lives_in};
-ghost use Rattle.record_view.specs.WorkRows.{each_passes};
+ghost use Rattle.row_view.specs.Between.{belongs, fits_scope, has_group, lives_in};
+ghost use Rattle.row_view.specs.WorkRows.{each_passes};
 
 use run_model::{Group, Kind, Scope};
 

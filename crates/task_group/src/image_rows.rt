@@ -8,17 +8,17 @@ ghost use Rattle.run_model.specs.declared.bounds.TheConstants.{MOST_GROUPS};
 ghost use Rattle.run_model.specs.declared.tasks.Task.{Task as TaskOf};
 ghost use Rattle.run_model.specs.Tasks.{is_fresh, ended_in_error};
 ghost use Rattle.run_model.specs.Texts.{IsName};
-ghost use Rattle.record_view.specs.declared.heads.ImageVersion.{ImageVersion as VersionOf};
-ghost use Rattle.record_view.specs.declared.heads.ImageVersion.TheVariants.{Two};
-ghost use Rattle.record_view.specs.Image.{group_bytes, task_bytes, is_kept_group, is_kept_task};
-ghost use Rattle.record_view.specs.Image.{is_kept_link, is_kept_stage};
-ghost use Rattle.record_view.specs.RowViews.{group_of, stage_of, task_of};
-ghost use Rattle.record_view.specs.WorkRows.{can_retry};
-ghost use Rattle.record_view.specs.Writing.{put_at};
+ghost use Rattle.row_view.specs.declared.heads.ImageVersion.{ImageVersion as VersionOf};
+ghost use Rattle.row_view.specs.declared.heads.ImageVersion.TheVariants.{Two};
+ghost use Rattle.row_view.specs.Image.{group_bytes, task_bytes, is_kept_group, is_kept_task};
+ghost use Rattle.row_view.specs.Image.{is_kept_link, is_kept_stage};
+ghost use Rattle.row_view.specs.RowViews.{group_of, stage_of, task_of};
+ghost use Rattle.row_view.specs.WorkRows.{can_retry};
+ghost use Rattle.row_view.specs.Writing.{put_at};
 
 use crate::rows::is_interrupted;
-use record_view::copies::{limit_of, name_copy, optional_copy, text_copy};
-use record_view::{GroupRow, StageView, TaskRow, group_row, put_group, put_task, task_row};
+use row_view::copies::{limit_of, name_copy, optional_copy, text_copy};
+use row_view::{GroupRow, StageView, TaskRow, group_row, put_group, put_task, task_row};
 use run_model::{Group, MOST_GROUPS, Stage, Task};
 
 /// Puts the rows of groups at a place, one after the other, and returns the place after them.

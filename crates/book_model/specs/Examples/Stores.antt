@@ -6,8 +6,8 @@ use Rattle.run_model.specs.Event.{Event}
 use Rattle.run_model.specs.Event as event
 use Rattle.run_model.specs.State.{State}
 use Rattle.run_model.specs.Step.{step}
-use Rattle.record_view.specs.declared.heads.ImageVersion.{ImageVersion}
-use Rattle.record_view.specs.Image.{image_in}
+use Rattle.row_view.specs.declared.heads.ImageVersion.{ImageVersion}
+use Rattle.row_view.specs.Image.{image_in}
 use Rattle.book_model.specs.Examples.Retries.{one_interrupted}
 use Rattle.book_model.specs.Examples.Plays.{after_three}
 

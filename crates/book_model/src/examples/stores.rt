@@ -6,7 +6,7 @@ ghost use Rattle.run_model.specs.declared.layouts.Layout.TheVariants.{Small};
 ghost use Rattle.run_model.specs.Event.{Retry};
 ghost use Rattle.run_model.specs.State.{formatted};
 ghost use Rattle.run_model.specs.Step.{step};
-ghost use Rattle.record_view.specs.declared.heads.ImageVersion.TheVariants.{One, Two};
+ghost use Rattle.row_view.specs.declared.heads.ImageVersion.TheVariants.{One, Two};
 ghost use Rattle.book_model.specs.Examples.Nights.{new_store};
 ghost use Rattle.book_model.specs.Examples.Retries.{one_interrupted};
 ghost use Rattle.book_model.specs.Meanings.{MeansIn, MeansNone};

@@ -2,7 +2,7 @@
 
 use crate::asserts::holds;
 use crate::bytes::images::{Counts, Head, image, is_kept, is_refused, push_all, read_again};
-use record_view::ImageVersion;
+use row_view::ImageVersion;
 use run_model::Layout;
 use std::alloc::Global;
 use std::process::Abort;

@@ -1,7 +1,7 @@
 //! Images put together from pieces, and what a new state makes of them.
 
 use crate::asserts::{done, holds};
-use record_view::ImageVersion;
+use row_view::ImageVersion;
 use run_model::{Fault, Layout};
 use run_state::State;
 use std::alloc::Global;

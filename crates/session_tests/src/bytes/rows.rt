@@ -2,9 +2,10 @@
 //! bytes that are none.
 
 use crate::asserts::{holds, same};
-use record_view::{
+use record_view::{put_head, read_head};
+use row_view::{
     GroupRow, HitView, ImageHead, ImageVersion, KindView, ScopeRow, StageView, TaskRow, put_group,
-    put_head, put_scope, put_task, read_group, read_head, read_scope, read_task,
+    put_scope, put_task, read_group, read_scope, read_task,
 };
 use run_model::{Layout, Reason};
 

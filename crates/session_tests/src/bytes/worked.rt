@@ -3,7 +3,7 @@
 
 use crate::asserts::holds;
 use crate::bytes::images::{Counts, Head, Pieces, image, is_read, is_refused, read, read_again};
-use record_view::ImageVersion;
+use row_view::ImageVersion;
 use run_model::Layout;
 use run_state::State;
 use std::alloc::Global;

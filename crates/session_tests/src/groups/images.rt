@@ -6,7 +6,7 @@ use crate::bytes::greatest::push_greatest_task;
 use crate::bytes::images::push_all;
 use crate::groups::steps::{At, Step, begun, play};
 use crate::values::{FIRST, SECOND};
-use record_view::{ImageHead, ImageVersion};
+use row_view::{ImageHead, ImageVersion};
 use run_model::{Fault, Layout};
 use std::alloc::Global;
 use std::process::Abort;

@@ -2,7 +2,8 @@
 
 use crate::sessions::steps::Step::{Appends, Count, Events, Log, Says};
 use crate::sessions::steps::{Step, play};
-use record_view::{EventView, KindView, OutcomeView};
+use record_view::{EventView, OutcomeView};
+use row_view::KindView;
 use run_model::Refusal;
 use test_fixtures::Call::{
     Advance, Bare, Cancel, Derive, Fail, Go, Group, Limit, Start, Succeed, Try, Wait,

@@ -3,7 +3,8 @@
 
 use crate::asserts::{done, holds_in};
 use crate::bytes::greatest::push_greatest_scope;
-use record_view::{ImageHead, ImageVersion, put_head, read_head};
+use record_view::{put_head, read_head};
+use row_view::{ImageHead, ImageVersion};
 use run_model::{Fault, Layout, Reason};
 use scope_tree::Tree;
 use std::alloc::Global;

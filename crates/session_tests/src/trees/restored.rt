@@ -8,7 +8,7 @@ use crate::runners::Runner;
 use crate::trees::plain::Plain;
 use crate::trees::shapes::{Pair, Shape};
 use crate::values::{moment, name, numbered};
-use record_view::{ImageHead, ImageVersion};
+use row_view::{ImageHead, ImageVersion};
 use run_model::{Hit, Kind, Layout, Reason, Scope};
 use std::alloc::Global;
 use std::process::Abort;

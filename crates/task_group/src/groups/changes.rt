@@ -31,7 +31,7 @@ use crate::rows::{
 };
 use crate::seats::{enter, leave, link, push_seats};
 use arrayvec::ArrayVec;
-use record_view::copies::name_copy;
+use row_view::copies::name_copy;
 use run_model::{Group, Limit, MOST_GROUPS, Name, Stage, Task};
 use std::alloc::Allocator;
 

@@ -13,13 +13,13 @@ ghost use Rattle.run_model.specs.Rules.{has_task_error};
 ghost use Rattle.run_model.specs.State.{new_work, WorkState};
 ghost use Rattle.run_model.specs.Tasks.{is_running, is_unfinished, admits, limit_of};
 ghost use Rattle.run_model.specs.Tasks.{unfinished_in};
-ghost use Rattle.record_view.specs.declared.heads.ImageVersion.TheVariants.{Two};
-ghost use Rattle.record_view.specs.Between.{fits_between};
-ghost use Rattle.record_view.specs.Image.{group_bytes, task_bytes, is_kept_group, is_kept_task};
-ghost use Rattle.record_view.specs.RowReading.{group_row_at, task_at};
-ghost use Rattle.record_view.specs.WorkRows.{AreWorkRows, can_come, each_passes, has_new_name};
-ghost use Rattle.record_view.specs.WorkRows.{has_work_room, is_linked, is_settled, more_at};
-ghost use Rattle.record_view.specs.Writing.{put_at};
+ghost use Rattle.row_view.specs.declared.heads.ImageVersion.TheVariants.{Two};
+ghost use Rattle.row_view.specs.Between.{fits_between};
+ghost use Rattle.row_view.specs.Image.{group_bytes, task_bytes, is_kept_group, is_kept_task};
+ghost use Rattle.row_view.specs.RowReading.{group_row_at, task_at};
+ghost use Rattle.row_view.specs.WorkRows.{AreWorkRows, can_come, each_passes, has_new_name};
+ghost use Rattle.row_view.specs.WorkRows.{has_work_room, is_linked, is_settled, more_at};
+ghost use Rattle.row_view.specs.Writing.{put_at};
 ghost use Rattle.task_group.specs.Rows.{HasPlace};
 
 use super::Groups;
@@ -30,7 +30,7 @@ use crate::image_rows::{
 };
 use crate::rows::{is_running, push_group, push_task};
 use crate::seats::{enter, push_none, push_seats};
-use record_view::{ImageHead, read_group, read_task};
+use row_view::{ImageHead, read_group, read_task};
 use run_model::{Fault, Group, Layout, MOST_GROUPS, Scope, Task};
 use std::alloc::Allocator;
 

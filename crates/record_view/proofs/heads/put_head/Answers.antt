@@ -1,5 +1,5 @@
 use Rattle.run_model.proofs.Common.{arith, [], ◌∷◌, to_be_bytes, w16, w64}
-use Rattle.record_view.proofs.RowJoins.{put_six}
+use Rattle.row_view.proofs.RowJoins.{put_six}
 use Rattle.record_view.proofs.heads.put_head.Goals as goal
 
 pub returns-clause-written : goal.returns-clause-written

@@ -1,5 +1,5 @@
-use Rattle.record_view.proofs.Codecs.{read_passes}
-use Rattle.record_view.proofs.RowCodecs.{head_field}
+use Rattle.row_view.proofs.Codecs.{read_passes}
+use Rattle.row_view.proofs.RowCodecs.{head_field}
 use Rattle.record_view.proofs.heads.read_head.Goals as goal
 
 pub returns-clause-kept : goal.returns-clause-kept

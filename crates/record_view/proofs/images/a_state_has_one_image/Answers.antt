@@ -1,5 +1,5 @@
 use Rattle.std.proofs.Common.{sym, ◌∙◌}
-use Rattle.record_view.proofs.ImageLengths.{image_most}
+use Rattle.row_view.proofs.ImageLengths.{image_most}
 use Rattle.record_view.proofs.images.a_state_has_one_image.Goals as goal
 
 pub returns : goal.returns

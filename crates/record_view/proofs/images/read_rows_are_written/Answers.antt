@@ -1,5 +1,5 @@
-use Rattle.record_view.proofs.RowFields.{scope_row}
-use Rattle.record_view.proofs.RowCodecs.{group_row, task_row, head_field}
+use Rattle.row_view.proofs.RowFields.{scope_row}
+use Rattle.row_view.proofs.RowCodecs.{group_row, task_row, head_field}
 use Rattle.record_view.proofs.images.read_rows_are_written.Goals as goal
 
 pub returns : goal.returns

@@ -1,4 +1,4 @@
-use Rattle.record_view.proofs.WorkReads.{one_work}
+use Rattle.row_view.proofs.WorkReads.{one_work}
 use Rattle.record_view.proofs.works.bytes_begin_with_one_work.Goals as goal
 
 pub returns : goal.returns

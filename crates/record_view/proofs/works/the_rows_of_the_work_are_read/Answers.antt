@@ -1,4 +1,4 @@
-use Rattle.record_view.proofs.WorkReads.{work_again, work_takes}
+use Rattle.row_view.proofs.WorkReads.{work_again, work_takes}
 use Rattle.record_view.proofs.works.the_rows_of_the_work_are_read.Goals as goal
 
 pub returns : goal.returns

@@ -1,8 +1,8 @@
 use Rattle.std.proofs.Common.{◌∙◌, arith, subst}
 use Rattle.std.proofs.lemmas.List.{drop-take}
-use Rattle.record_view.specs.declared.heads.ImageVersion.TheVariants.{Two}
-use Rattle.record_view.specs.Image.{image}
-use Rattle.record_view.specs.Keeping.{IsImage}
+use Rattle.row_view.specs.declared.heads.ImageVersion.TheVariants.{Two}
+use Rattle.row_view.specs.Image.{image}
+use Rattle.row_view.specs.Keeping.{IsImage}
 use Rattle.run_model.specs.declared.layouts.Layout.TheVariants.{Large}
 use Rattle.run_book.proofs.Migrating.{large_failed, large_written}
 use Rattle.run_book.proofs.Renewing.{fits_large}

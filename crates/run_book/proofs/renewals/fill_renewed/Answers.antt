@@ -1,7 +1,7 @@
 use Rattle.std.proofs.Common.{arith}
-use Rattle.record_view.specs.declared.heads.ImageVersion.TheVariants.{Two}
-use Rattle.record_view.specs.Image.{image}
-use Rattle.record_view.proofs.ImageLengths.{image_most}
+use Rattle.row_view.specs.declared.heads.ImageVersion.TheVariants.{Two}
+use Rattle.row_view.specs.Image.{image}
+use Rattle.row_view.proofs.ImageLengths.{image_most}
 use Rattle.state_renewal.specs.Renewed.{renewed, renewed_in}
 use Rattle.run_book.proofs.Filling.{filled}
 use Rattle.run_book.proofs.renewals.fill_renewed.Goals as goal

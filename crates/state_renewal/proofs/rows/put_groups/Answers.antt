@@ -1,7 +1,7 @@
 use Rattle.std.proofs.Common.{◌+◌, length, ap, ◌∙◌, arith}
-use Rattle.record_view.specs.Image.{group_bytes, is_kept_group}
-use Rattle.record_view.specs.Writing.{put_at}
-use Rattle.record_view.proofs.RowLengths.{group_len_most}
+use Rattle.row_view.specs.Image.{group_bytes, is_kept_group}
+use Rattle.row_view.specs.Writing.{put_at}
+use Rattle.row_view.proofs.RowLengths.{group_len_most}
 use Rattle.state_renewal.specs.Marks.{group_by}
 use Rattle.state_renewal.proofs.Leaving.{left_first, left_room, left_next, left_same, left_done}
 use Rattle.state_renewal.proofs.rows.put_groups.Goals.{then-flags-g, else-flags-g}

@@ -1,4 +1,4 @@
-use Rattle.record_view.specs.Image.{group_bytes, is_kept_group}
+use Rattle.row_view.specs.Image.{group_bytes, is_kept_group}
 use Rattle.state_renewal.specs.Marks.{group_by}
 use Rattle.state_renewal.proofs.Leaving.{LeftSoFar}
 use Rattle.state_renewal.proofs.rows.put_groups.Given as goal

@@ -1,7 +1,7 @@
 use Rattle.run_model.proofs.Common.{◌+◌, length, refl, ap, ◌∙◌, arith, slice_get_read}
-use Rattle.record_view.specs.Image.{scope_bytes, is_kept_scope}
-use Rattle.record_view.specs.Writing.{put_at}
-use Rattle.record_view.proofs.RowLengths.{scope_len_most}
+use Rattle.row_view.specs.Image.{scope_bytes, is_kept_scope}
+use Rattle.row_view.specs.Writing.{put_at}
+use Rattle.row_view.proofs.RowLengths.{scope_len_most}
 use Rattle.state_renewal.specs.Marks.{scope_by}
 use Rattle.state_renewal.proofs.Leaving.{left_first, left_room, left_next, left_same, left_done}
 use Rattle.state_renewal.proofs.rows.put_scopes.Goals.{then-flags-n, else-flags-n}

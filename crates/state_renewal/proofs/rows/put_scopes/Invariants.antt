@@ -1,4 +1,4 @@
-use Rattle.record_view.specs.Image.{scope_bytes, is_kept_scope}
+use Rattle.row_view.specs.Image.{scope_bytes, is_kept_scope}
 use Rattle.state_renewal.specs.Marks.{scope_by}
 use Rattle.state_renewal.proofs.Leaving.{LeftSoFar}
 use Rattle.state_renewal.proofs.rows.put_scopes.Given as goal

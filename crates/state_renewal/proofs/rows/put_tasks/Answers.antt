@@ -1,8 +1,8 @@
 use Rattle.std.proofs.Common.{◌+◌, length, sym, ap, ◌∙◌, arith}
-use Rattle.record_view.specs.declared.heads.ImageVersion.TheVariants.{Two}
-use Rattle.record_view.specs.Image.{task_bytes, is_kept_task}
-use Rattle.record_view.specs.Writing.{put_at}
-use Rattle.record_view.proofs.RowLengths.{task_len_most}
+use Rattle.row_view.specs.declared.heads.ImageVersion.TheVariants.{Two}
+use Rattle.row_view.specs.Image.{task_bytes, is_kept_task}
+use Rattle.row_view.specs.Writing.{put_at}
+use Rattle.row_view.proofs.RowLengths.{task_len_most}
 use Rattle.state_renewal.specs.Marks.{is_flagged, task_by}
 use Rattle.state_renewal.proofs.Leaving.{left_first, left_room, left_next, left_same, left_done}
 use Rattle.state_renewal.proofs.rows.put_tasks.Goals.{then-flags-n, else-flags-n}

@@ -1,5 +1,5 @@
-use Rattle.record_view.specs.declared.heads.ImageVersion.TheVariants.{Two}
-use Rattle.record_view.specs.Image.{task_bytes, is_kept_task}
+use Rattle.row_view.specs.declared.heads.ImageVersion.TheVariants.{Two}
+use Rattle.row_view.specs.Image.{task_bytes, is_kept_task}
 use Rattle.state_renewal.specs.Marks.{task_by}
 use Rattle.state_renewal.proofs.Leaving.{LeftSoFar}
 use Rattle.state_renewal.proofs.rows.put_tasks.Given as goal

@@ -1,6 +1,6 @@
 use Rattle.run_model.proofs.Common.{ℕ, Some, sym, ap, ◌∙◌, slice_get-get_or}
 use Rattle.run_model.specs.declared.groups.Group.{Group}
-use Rattle.record_view.specs.Between.{fits_scope}
+use Rattle.row_view.specs.Between.{fits_scope}
 use Rattle.task_group.proofs.Settling.{passes_on, fails_at, passes_end}
 use Rattle.task_group.proofs.between.fit_scopes.Goals as goal
 

@@ -1,6 +1,6 @@
 use Rattle.std.proofs.Common.{◌≡◌, drop}
-use Rattle.record_view.specs.Between.{fits_scope}
-use Rattle.record_view.specs.WorkRows.{each_passes}
+use Rattle.row_view.specs.Between.{fits_scope}
+use Rattle.row_view.specs.WorkRows.{each_passes}
 use Rattle.task_group.proofs.between.fit_scopes.Given as goal
 
 abbrev pub invariant-loop-group : goal.invariant-loop-group

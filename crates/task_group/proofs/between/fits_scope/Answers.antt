@@ -1,6 +1,6 @@
 use Rattle.run_model.proofs.Common.{◌||◌, refl}
 use Rattle.run_model.specs.declared.scopes.Scope.{Scope}
-use Rattle.record_view.specs.Between.{belongs}
+use Rattle.row_view.specs.Between.{belongs}
 use Rattle.task_group.proofs.RowReads.{test_found, test_missed}
 use Rattle.task_group.proofs.between.fits_scope.Goals as goal
 

@@ -1,6 +1,6 @@
 use Rattle.std.proofs.Common.{◌≡◌, drop}
-use Rattle.record_view.specs.Between.{has_group}
-use Rattle.record_view.specs.WorkRows.{each_passes}
+use Rattle.row_view.specs.Between.{has_group}
+use Rattle.row_view.specs.WorkRows.{each_passes}
 use Rattle.task_group.proofs.between.have_groups.Given as goal
 
 abbrev pub invariant-loop-s : goal.invariant-loop-s

@@ -1,7 +1,7 @@
 use Rattle.std.proofs.Common.{◌+◌, length, arith, ap, ◌∙◌}
-use Rattle.record_view.specs.Image.{group_bytes, is_kept_group}
-use Rattle.record_view.specs.Writing.{put_at}
-use Rattle.record_view.proofs.RowLengths.{group_len_most}
+use Rattle.row_view.specs.Image.{group_bytes, is_kept_group}
+use Rattle.row_view.specs.Writing.{put_at}
+use Rattle.row_view.proofs.RowLengths.{group_len_most}
 use Rattle.task_group.proofs.PutLoops.{put_first, put_next, put_done, row_room}
 use Rattle.task_group.proofs.image_rows.put_groups.Goals as goal
 

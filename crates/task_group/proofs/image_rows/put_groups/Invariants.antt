@@ -1,4 +1,4 @@
-use Rattle.record_view.specs.Image.{group_bytes, is_kept_group}
+use Rattle.row_view.specs.Image.{group_bytes, is_kept_group}
 use Rattle.task_group.proofs.PutLoops.{PutSoFar}
 use Rattle.task_group.proofs.image_rows.put_groups.Given as goal
 

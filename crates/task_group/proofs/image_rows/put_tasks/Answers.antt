@@ -1,10 +1,10 @@
 use Rattle.run_model.proofs.Common.{◌≡◌, ◌+◌, true, length, arith, refl, sym, ap, subst, ◌∙◌}
 use Rattle.run_model.proofs.Common.{slice_get_read}
 use Rattle.run_model.specs.declared.tasks.Task.{Task}
-use Rattle.record_view.specs.declared.heads.ImageVersion.TheVariants.{Two}
-use Rattle.record_view.specs.Image.{task_bytes, is_kept_task}
-use Rattle.record_view.specs.Writing.{put_at}
-use Rattle.record_view.proofs.RowLengths.{task_len_most}
+use Rattle.row_view.specs.declared.heads.ImageVersion.TheVariants.{Two}
+use Rattle.row_view.specs.Image.{task_bytes, is_kept_task}
+use Rattle.row_view.specs.Writing.{put_at}
+use Rattle.row_view.proofs.RowLengths.{task_len_most}
 use Rattle.task_group.proofs.PutLoops.{put_first, put_next, put_done, row_room}
 use Rattle.task_group.proofs.image_rows.put_tasks.Goals as goal
 

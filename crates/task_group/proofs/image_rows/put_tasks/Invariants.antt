@@ -1,5 +1,5 @@
-use Rattle.record_view.specs.declared.heads.ImageVersion.TheVariants.{Two}
-use Rattle.record_view.specs.Image.{task_bytes, is_kept_task}
+use Rattle.row_view.specs.declared.heads.ImageVersion.TheVariants.{Two}
+use Rattle.row_view.specs.Image.{task_bytes, is_kept_task}
 use Rattle.task_group.proofs.PutLoops.{PutSoFar}
 use Rattle.task_group.proofs.image_rows.put_tasks.Given as goal
 

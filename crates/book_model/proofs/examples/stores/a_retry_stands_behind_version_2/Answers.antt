@@ -1,6 +1,6 @@
 use Rattle.std.proofs.Common.{[], ◌∷◌, refl}
 use Rattle.run_model.specs.declared.layouts.Layout.TheVariants.{Small}
-use Rattle.record_view.specs.declared.heads.ImageVersion.TheVariants.{One, Two}
+use Rattle.row_view.specs.declared.heads.ImageVersion.TheVariants.{One, Two}
 use Rattle.book_model.specs.Examples.Retries.{one_interrupted}
 use Rattle.book_model.specs.Examples.Stores.{interrupted_image, retry_record}
 use Rattle.book_model.proofs.Meaning.{said}

@@ -1,6 +1,6 @@
 use Rattle.run_model.proofs.Common.{[], ◌∷◌, refl}
 use Rattle.run_model.specs.declared.layouts.Layout.TheVariants.{Small}
-use Rattle.record_view.specs.declared.heads.ImageVersion.TheVariants.{Two}
+use Rattle.row_view.specs.declared.heads.ImageVersion.TheVariants.{Two}
 use Rattle.book_model.specs.Examples.Nights.{new_store}
 use Rattle.book_model.specs.Examples.Stores.{cut_record, empty_image, rest_of_records, with_len}
 use Rattle.book_model.specs.Examples.Stores.{with_parent, with_tag}

@@ -1,6 +1,6 @@
 use Rattle.run_model.proofs.Common.{[], ◌∷◌, refl, formatted}
 use Rattle.run_model.specs.declared.layouts.Layout.TheVariants.{Small}
-use Rattle.record_view.specs.declared.heads.ImageVersion.TheVariants.{One, Two}
+use Rattle.row_view.specs.declared.heads.ImageVersion.TheVariants.{One, Two}
 use Rattle.book_model.specs.Examples.Nights.{new_store}
 use Rattle.book_model.specs.Examples.Stores.{empty_image, three_records, two_records}
 use Rattle.book_model.proofs.Meaning.{said}

@@ -1,8 +1,8 @@
 use Rattle.run_model.proofs.Common.{◌+◌, ◌*◌, ◌≤◌, ◌<◌, length, slice_get, sym, ap, subst, ◌∙◌}
 use Rattle.run_model.proofs.Common.{flat_map, AllByRecursion, IsTrue, WorkState}
 use Rattle.run_model.specs.declared.groups.Group.{Group}
-use Rattle.record_view.specs.Image.{group_bytes, is_kept_group}
-use Rattle.record_view.specs.Writing.{put_at}
+use Rattle.row_view.specs.Image.{group_bytes, is_kept_group}
+use Rattle.row_view.specs.Writing.{put_at}
 use Rattle.state_renewal.proofs.Renewing.{groups_lent}
 use Rattle.state_renewal.proofs.wholes.Renewal.put_renewed_groups.Goals as goal
 

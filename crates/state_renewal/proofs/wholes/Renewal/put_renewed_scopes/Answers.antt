@@ -2,8 +2,8 @@ use Rattle.run_model.proofs.Common.{◌≡◌, ◌+◌, ◌-◌, ◌*◌, ◌≤
 use Rattle.run_model.proofs.Common.{ap, subst, ◌∙◌, length-drop, flat_map, AllByRecursion, IsTrue}
 use Rattle.run_model.proofs.Common.{TreeState}
 use Rattle.run_model.specs.declared.scopes.Scope.{Scope}
-use Rattle.record_view.specs.Image.{is_kept_scope, scope_bytes}
-use Rattle.record_view.specs.Writing.{put_at}
+use Rattle.row_view.specs.Image.{is_kept_scope, scope_bytes}
+use Rattle.row_view.specs.Writing.{put_at}
 use Rattle.scope_tree.specs.TreeRows.{AreWritable}
 use Rattle.state_renewal.proofs.Renewing.{behind_known, behind_lent, behind_writable, scopes_lent}
 use Rattle.state_renewal.proofs.wholes.Renewal.put_renewed_scopes.Goals as goal

@@ -1,9 +1,9 @@
 use Rattle.run_model.proofs.Common.{◌+◌, ◌*◌, ◌≤◌, ◌<◌, length, slice_get, sym, ap, subst, ◌∙◌}
 use Rattle.run_model.proofs.Common.{arith, flat_map, AllByRecursion, IfSome, IsTrue, WorkState}
 use Rattle.run_model.specs.declared.tasks.Task.{Task}
-use Rattle.record_view.specs.declared.heads.ImageVersion.TheVariants.{Two}
-use Rattle.record_view.specs.Image.{is_kept_task, task_bytes}
-use Rattle.record_view.specs.Writing.{put_at}
+use Rattle.row_view.specs.declared.heads.ImageVersion.TheVariants.{Two}
+use Rattle.row_view.specs.Image.{is_kept_task, task_bytes}
+use Rattle.row_view.specs.Writing.{put_at}
 use Rattle.state_renewal.proofs.Renewing.{links_known, tasks_lent}
 use Rattle.state_renewal.proofs.wholes.Renewal.put_renewed_tasks.Goals as goal
 

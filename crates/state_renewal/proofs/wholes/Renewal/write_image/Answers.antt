@@ -1,9 +1,9 @@
 use Rattle.run_model.proofs.Common.{◌≡◌, ◌≤◌, ◌+◌, length, drop, ap, ◌∙◌, arith, flat_map}
-use Rattle.record_view.specs.declared.heads.ImageHead.{ImageHead}
-use Rattle.record_view.specs.declared.heads.ImageVersion.TheVariants.{Two}
-use Rattle.record_view.specs.Image.{group_bytes, head_bytes, in_version, scope_bytes, task_bytes}
-use Rattle.record_view.specs.Writing.{put_at}
-use Rattle.record_view.proofs.Joins.{put_then}
+use Rattle.row_view.specs.declared.heads.ImageHead.{ImageHead}
+use Rattle.row_view.specs.declared.heads.ImageVersion.TheVariants.{Two}
+use Rattle.row_view.specs.Image.{group_bytes, head_bytes, in_version, scope_bytes, task_bytes}
+use Rattle.row_view.specs.Writing.{put_at}
+use Rattle.row_view.proofs.Joins.{put_then}
 use Rattle.state_renewal.specs.Renewed.{renewed}
 use Rattle.run_state.proofs.Imaging.{written}
 use Rattle.state_renewal.proofs.Renewing.{renewed_image, room_there}

@@ -1,5 +1,5 @@
 use Rattle.run_model.proofs.Common.{◌<◌, ◌≤◌, length, sym, ◌∙◌, arith, row_there}
-use Rattle.record_view.specs.WorkRows.{is_settled}
+use Rattle.row_view.specs.WorkRows.{is_settled}
 use Rattle.task_group.proofs.Settling.{passes_on, fails_at, passes_end}
 use Rattle.task_group.proofs.groups.Groups.are_settled.Goals as goal
 

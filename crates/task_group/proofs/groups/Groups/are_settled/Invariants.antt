@@ -1,5 +1,5 @@
 use Rattle.std.proofs.Common.{◌≡◌, drop}
-use Rattle.record_view.specs.WorkRows.{each_passes, is_settled}
+use Rattle.row_view.specs.WorkRows.{each_passes, is_settled}
 use Rattle.task_group.proofs.groups.Groups.are_settled.Given as goal
 
 abbrev pub invariant-loop-g : goal.invariant-loop-g

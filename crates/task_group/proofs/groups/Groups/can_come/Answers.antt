@@ -1,5 +1,5 @@
 use Rattle.run_model.proofs.Common.{true, false, sym, refl, ◌∙◌}
-use Rattle.record_view.specs.WorkRows.{is_linked}
+use Rattle.row_view.specs.WorkRows.{is_linked}
 use Rattle.task_group.proofs.WorkLoops.{come_apart, come_by, seat_of}
 use Rattle.task_group.proofs.groups.Groups.can_come.Goals.{else-is_running-via-else-is_running}
 use Rattle.task_group.proofs.groups.Groups.can_come.Goals.{

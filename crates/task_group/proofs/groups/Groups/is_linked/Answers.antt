@@ -2,7 +2,7 @@ use Rattle.run_model.proofs.Common.{◌≡◌, ℕ, Bool, false, true, not, ◌&
 use Rattle.run_model.proofs.Common.{refl, sym, ap, ◌∙◌, list_any, option_map_or, is_retry_of}
 use Rattle.run_model.proofs.Common.{slice_get_within}
 use Rattle.run_model.specs.declared.tasks.Task.{Task}
-use Rattle.record_view.specs.WorkRows.{can_retry, is_linked}
+use Rattle.row_view.specs.WorkRows.{can_retry, is_linked}
 use Rattle.task_group.proofs.groups.Groups.is_linked.Goals as goal
 
 -- The link of a task that is a retry of task m.

@@ -2,7 +2,7 @@ use Rattle.run_model.proofs.Common.{◌≡◌, ◌<◌, ◌==◌, ◌||◌, not,
 use Rattle.run_model.proofs.Common.{Some, get_or, slice_get, slice_get_read, same_Some, or-true}
 use Rattle.run_model.proofs.Common.{refl, sym, ap, subst, ◌∙◌, arith, WorkState, unfinished_in}
 use Rattle.run_model.specs.declared.groups.Group.{Group}
-use Rattle.record_view.specs.WorkRows.{is_settled}
+use Rattle.row_view.specs.WorkRows.{is_settled}
 use Rattle.task_group.proofs.Settling.{busy_row, settled_row}
 use Rattle.task_group.proofs.groups.Groups.is_settled.Goals.{else-row-via-else-row}
 use Rattle.task_group.proofs.groups.Groups.is_settled.Goals.{

@@ -2,9 +2,9 @@ use Rattle.run_model.proofs.Common.{◌≡◌, ◌+◌, true, false, List, Some,
 use Rattle.run_model.proofs.Common.{is_none, WorkState}
 use Rattle.run_model.specs.declared.bounds.TheConstants.{MOST_GROUPS}
 use Rattle.run_model.specs.declared.groups.Group.{Group}
-use Rattle.record_view.specs.RowReading.{group_row_at}
-use Rattle.record_view.specs.RowViews.{group_of}
-use Rattle.record_view.specs.WorkRows.{has_new_name}
+use Rattle.row_view.specs.RowReading.{group_row_at}
+use Rattle.row_view.specs.RowViews.{group_of}
+use Rattle.row_view.specs.WorkRows.{has_new_name}
 use Rattle.task_group.proofs.ReadLoops.{ReadSoFar, read_all, read_first, read_next, read_no_row}
 use Rattle.task_group.proofs.ReadLoops.{read_room, read_stray_row}
 use Rattle.task_group.proofs.Settling.{is_new, is_old}

@@ -1,6 +1,6 @@
 use Rattle.std.proofs.Common.{◌≡◌}
-use Rattle.record_view.specs.RowReading.{group_row_at}
-use Rattle.record_view.specs.WorkRows.{has_new_name}
+use Rattle.row_view.specs.RowReading.{group_row_at}
+use Rattle.row_view.specs.WorkRows.{has_new_name}
 use Rattle.task_group.proofs.ReadLoops.{ReadSoFar}
 use Rattle.task_group.proofs.groups.Groups.read_groups.Given as goal
 

@@ -3,11 +3,11 @@ use Rattle.run_model.proofs.Common.{◌≡◌, true, and_parts, most_tasks, IsTr
 use Rattle.run_model.specs.Texts.{IsName}
 use borrow.Author.Count.{falls}
 use Rattle.run_model.specs.declared.tasks.Task.{Task}
-use Rattle.record_view.specs.declared.heads.ImageVersion.{ImageVersion}
-use Rattle.record_view.specs.Image.{is_kept_stage, is_kept_task}
-use Rattle.record_view.specs.RowReading.{task_at}
-use Rattle.record_view.specs.RowViews.{task_of}
-use Rattle.record_view.specs.WorkRows.{can_come}
+use Rattle.row_view.specs.declared.heads.ImageVersion.{ImageVersion}
+use Rattle.row_view.specs.Image.{is_kept_stage, is_kept_task}
+use Rattle.row_view.specs.RowReading.{task_at}
+use Rattle.row_view.specs.RowViews.{task_of}
+use Rattle.row_view.specs.WorkRows.{can_come}
 use Rattle.task_group.proofs.ReadLoops.{ReadSoFar, read_all, read_first, read_next, read_no_row}
 use Rattle.task_group.proofs.ReadLoops.{read_room, read_stray_row}
 use Rattle.task_group.proofs.WorkLoops.{come_as}

@@ -1,6 +1,6 @@
 use Rattle.std.proofs.Common.{◌≡◌}
-use Rattle.record_view.specs.RowReading.{task_at}
-use Rattle.record_view.specs.WorkRows.{can_come}
+use Rattle.row_view.specs.RowReading.{task_at}
+use Rattle.row_view.specs.WorkRows.{can_come}
 use Rattle.task_group.proofs.ReadLoops.{ReadSoFar}
 use Rattle.task_group.proofs.groups.Groups.read_tasks.Given as goal
 

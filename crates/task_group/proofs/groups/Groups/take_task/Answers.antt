@@ -8,7 +8,7 @@ use Rattle.run_model.specs.declared.layouts.Layout.{Layout}
 use Rattle.run_model.specs.declared.tasks.Stage.{Stage}
 use Rattle.run_model.specs.declared.tasks.Stage.TheVariants as stage
 use Rattle.run_model.specs.declared.tasks.Task.{Task}
-use Rattle.record_view.specs.WorkRows.{can_come, can_retry, is_linked, work_made}
+use Rattle.row_view.specs.WorkRows.{can_come, can_retry, is_linked, work_made}
 use Rattle.task_group.specs.Rows.{HasPlace}
 use Rattle.task_group.proofs.RowReads.{row_known}
 use Rattle.task_group.proofs.groups.Groups.take_task.Goals as goal

@@ -2,8 +2,8 @@ use Rattle.run_model.proofs.Common.{◌≡◌, ◌+◌, ℕ, List, length, ap, s
 use Rattle.run_model.proofs.Common.{slice_get, IsTrue, AllByRecursion, WorkState}
 use Rattle.run_model.specs.declared.groups.Group.{Group}
 use Rattle.run_model.specs.declared.tasks.Task.{Task}
-use Rattle.record_view.specs.declared.heads.ImageVersion.TheVariants.{Two}
-use Rattle.record_view.specs.Image.{group_bytes, task_bytes, is_kept_group, is_kept_task}
+use Rattle.row_view.specs.declared.heads.ImageVersion.TheVariants.{Two}
+use Rattle.row_view.specs.Image.{group_bytes, task_bytes, is_kept_group, is_kept_task}
 use Rattle.task_group.proofs.PutLoops.{put_both, put_end}
 use Rattle.task_group.proofs.Rooms.{links_kept}
 use Rattle.task_group.proofs.groups.Groups.write_rows.Goals as goal

@@ -1,0 +1,17 @@
+pub mod Checked
+pub mod Codecs
+pub mod Fields
+pub mod ImageLengths
+pub mod Joins
+pub mod KindCodecs
+pub mod Lengths
+pub mod Linked
+pub mod LongCodecs
+pub mod NumberLaws
+pub mod Readers
+pub mod Rooted
+pub mod RowCodecs
+pub mod RowFields
+pub mod RowJoins
+pub mod RowLengths
+pub mod WorkReads

@@ -1,0 +1,9 @@
+-- What readers of several forms unfold, by one name each.
+
+use Rattle.std.specs.Prelude.{⊤}
+use Rattle.row_view.specs.RowReading.{hit_at, hit_by, hit_fields_at}
+
+--- Of the failure that ended a scope.
+unfoldable pub hits : ⊤
+unfolding hit_at hit_by hit_fields_at
+hits = tt

@@ -1,0 +1,9 @@
+pub mod Between
+pub mod Fields
+pub mod Image
+pub mod Keeping
+pub mod RowReading
+pub mod RowViews
+pub mod Views
+pub mod WorkRows
+pub mod Writing

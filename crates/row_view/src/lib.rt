@@ -1,0 +1,26 @@
+//! Rows: the bytes of scopes, groups and tasks in an image; and the fields that rows share with
+//! records.
+//!
+//! A row is read as a view, which lends its names and texts from the bytes, and written from a
+//! view, each exactly by the grammar. What is kept of a view is copied by [`copies`]. No call takes
+//! memory. The grammar stands in `specs/Image.antt`, apart from the code. Fields are read by
+//! [`texts`], [`numbers`] and [`kinds`], and written by these and [`puts`]. The crate above,
+//! `record_view`, has records, an image's head, and the laws of both.
+#![tactic(auto)]
+
+pub mod copies;
+mod group_rows;
+mod heads;
+pub mod kinds;
+pub mod numbers;
+pub mod puts;
+mod scope_rows;
+mod task_rows;
+pub mod texts;
+mod views;
+
+pub use group_rows::{GroupRow, group_row, put_group, read_group};
+pub use heads::{ImageHead, ImageVersion};
+pub use scope_rows::{HitView, ScopeRow, put_scope, read_scope, scope_row};
+pub use task_rows::{StageView, TaskRow, put_task, read_task, task_row};
+pub use views::KindView;
