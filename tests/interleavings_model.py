@@ -205,7 +205,7 @@ BODIES: dict[Place, str] = {
     ("nights.rt", "shifts_of"): """
         let count = stations.len();
         let mut handles = Vec::with_capacity(alloc, count)?;
-        let mut shifts = Vec::with_capacity(alloc, count)?;
+        let shifts = Vec::with_capacity(alloc, count)?;
         let bell = Bell::new();
         let bell = &bell;
         let arrivals = Arrivals::new();
@@ -215,27 +215,42 @@ BODIES: dict[Place, str] = {
             rt,
             |scope| -> Result<Vec<Shift<S, F>>, AllocError> {
                 let flusher = scope.spawn(move || save_at(rt, shared, arrivals, bell))?;
-                for station in stations {
-                    match scope.spawn_with(
-                        GateOf { gate },
-                        move || -> Shift<S, F> { station.work(rt, shared, arrivals, bell, gate) },
-                    ) {
-                        Ok(handle) => handles.push_reserved(handle),
-                        Err(_) => {}
-                    }
-                }
-                for handle in handles {
-                    shifts.push_reserved(handle.join(rt));
-                }
+                start_each(
+                    scope,
+                    rt,
+                    shared,
+                    arrivals,
+                    bell,
+                    gate,
+                    stations,
+                    &mut handles,
+                );
+                let left = joined(rt, gate, handles, shifts, count);
                 bell.close(rt);
                 flusher.join(rt);
-                let _ = &gate;
-                if shifts.len() < count {
-                    return Err(AllocError);
-                }
-                Ok(shifts)
+                left
             },
         )
+        """,
+    ("nights.rt", "start_each"): """
+        for station in stations {
+            match scope.spawn_with(
+                GateOf { gate },
+                move || -> Shift<S, F> { station.work(rt, shared, arrivals, bell, gate) },
+            ) {
+                Ok(handle) => handles.push_reserved(handle),
+                Err(_) => {}
+            }
+        }
+        """,
+    ("nights.rt", "joined"): """
+        for handle in handles {
+            shifts.push_reserved(handle.join(rt));
+        }
+        if shifts.len() < count {
+            return Err(AllocError);
+        }
+        Ok(shifts)
         """,
     ("nights.rt", "run_night"): """
         let Ok(mut notes) = Vec::with_capacity(alloc, jobs.len()) else {
@@ -667,6 +682,8 @@ calls("nights.rt", "save_rings(rt, &mut watch)", "watches.rt", "save_rings")
 calls("nights.rt", "bell.close(rt)", "bells.rt", "close")
 calls("nights.rt", "let shifts = shifts_of(rt, alloc, shared, stations, gate)", "nights.rt",
       "shifts_of")
+calls("nights.rt", statements(BODIES["nights.rt", "shifts_of"])[9], "nights.rt", "start_each")
+calls("nights.rt", "let left = joined(rt, gate, handles, shifts, count)", "nights.rt", "joined")
 
 # Statements that change nothing of this. A thread that was spawned takes its first step whenever it
 # comes to that, so all are there from the beginning.
@@ -677,9 +694,8 @@ IDLE: dict[str, tuple[str, ...]] = {
     "courses.rt": ("return", "let task = started.info.task", "notes.note(Note)",
                    "floor.tell(task)", "Ok(_) => Some(started), Err(_) => None,"),
     "workers.rt": ("let Station = self", "let mut place = Workplace", "Shift"),
-    "nights.rt": ("let mut watch = Lookout", *statements(BODIES["nights.rt", "shifts_of"])[:12],
-                  "Ok(handle) => handles.push_reserved(handle), Err(_) =>",
-                  "for handle in handles", "let _ = &gate",
+    "nights.rt": ("let mut watch = Lookout", *statements(BODIES["nights.rt", "shifts_of"])[:9],
+                  "left", *statements(BODIES["nights.rt", "start_each"]), "for handle in handles",
                   "return Err(AllocError)", "Ok(shifts)", "return Err(Fault::Memory)",
                   "gather(seat, shifts, &mut notes)", "Ok((notes, last))"),
 }

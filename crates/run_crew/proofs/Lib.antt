@@ -3,4 +3,5 @@ pub mod Carrying
 pub mod Coursing
 pub mod Counting
 pub mod Permuting
+pub mod Rooms
 pub mod Strays

@@ -23,7 +23,7 @@ use std::alloc::{AllocError, Global};
 use std::sync::ledger::Ledger;
 use std::sync::{Mutex, Wait};
 use std::thread;
-use std::thread::Threads;
+use std::thread::{PromisedHandle, Scope, Threads};
 
 /// Works off the ready tasks of the book under the lock, by one thread for each list of jobs, and
 /// then flushes. Returns the notes of the workers, in the order of the lists, and the answer of the
@@ -120,7 +120,7 @@ fn shifts_of<
 {
     let count = stations.len();
     let mut handles = Vec::with_capacity(alloc, count)?;
-    let mut shifts = Vec::with_capacity(alloc, count)?;
+    let shifts = Vec::with_capacity(alloc, count)?;
     let bell = Bell::new();
     let bell = &bell;
     let arrivals = Arrivals::new();
@@ -137,32 +137,87 @@ fn shifts_of<
                 (IsGates (G.lets gate.entry.now) (G.told gate.entry.now)) shift.notes) v.items) }
         {
             let flusher = scope.spawn(move || save_at(rt, shared, arrivals, bell))?;
-            for station in stations {
-                match scope.spawn_with(
-                    GateOf { gate },
-                    move || -> Shift<S, F>
-                        ensures { IsOfShift (IsGates (G.lets gate.entry.now)
-                            (G.told gate.entry.now)) result.notes }
-                    { station.work(rt, shared, arrivals, bell, gate) },
-                ) {
-                    Ok(handle) => handles.push_reserved(handle),
-                    // a refused thread leaves no shift
-                    Err(_) => {}
-                }
-            }
-            for handle in handles {
-                shifts.push_reserved(handle.join(rt));
-            }
+            start_each(
+                scope,
+                rt,
+                shared,
+                arrivals,
+                bell,
+                gate,
+                stations,
+                &mut handles,
+            );
+            let left = joined(rt, gate, handles, shifts, count);
             bell.close(rt);
             flusher.join(rt);
-            // a clause above speaks of it
-            let _ = &gate;
-            if shifts.len() < count {
-                return Err(AllocError);
-            }
-            Ok(shifts)
+            left
         },
     )
+}
+
+/// Starts a thread for each station.
+fn start_each<
+    'g: 's,
+    's,
+    E: 's,
+    T: CountedPlace<S, F> + Send + 's,
+    S: Ledger + Send + Sync + 's,
+    F: Ledger + Send + Sync + 's,
+    G: Gate + Sync + 's,
+    R: Threads + Wait + Sync + 's,
+>(
+    scope: &Scope<'s, E>,
+    rt: &'s R,
+    shared: &'s Mutex<T>,
+    arrivals: &'s Arrivals,
+    bell: &'s Bell,
+    gate: &'g G,
+    stations: Vec<Station<S, F>>,
+    handles: &mut Vec<PromisedHandle<Shift<S, F>, GateOf<'g, G>>>,
+)
+    requires empty { vec_len handles.old ≡ 0 }
+    requires room { vec_len stations ≤ vec_capacity handles.old }
+    ensures few { vec_len handles.new ≤ vec_len stations }
+    ensures gate { All (λ h. h.promise.gate.now ≡ gate.now) handles.new.items }
+{
+    for station in stations {
+        match scope.spawn_with(
+            GateOf { gate },
+            move || -> Shift<S, F>
+                ensures { IsOfShift (IsGates (G.lets gate.entry.now)
+                    (G.told gate.entry.now)) result.notes }
+            { station.work(rt, shared, arrivals, bell, gate) },
+        ) {
+            Ok(handle) => handles.push_reserved(handle),
+            // a refused thread leaves no handle
+            Err(_) => {}
+        }
+    }
+}
+
+/// What the threads leave, if each of so many has left something.
+fn joined<S: Ledger, F: Ledger, G: Gate, R: Threads>(
+    rt: &R,
+    gate: &G,
+    handles: Vec<PromisedHandle<Shift<S, F>, GateOf<'_, G>>>,
+    mut shifts: Vec<Shift<S, F>>,
+    count: usize,
+) -> Result<Vec<Shift<S, F>>, AllocError>
+    requires empty { vec_len shifts ≡ 0 }
+    requires few { vec_len handles ≤ count }
+    requires room { count ≤ vec_capacity shifts }
+    requires gate { All (λ h. h.promise.gate.now ≡ gate.now) handles.items }
+    ensures len { IfOk result (λ v. vec_len v ≡ count) }
+    ensures gate { IfOk result (λ v. All (λ shift.
+        IsOfShift (IsGates (G.lets gate.now) (G.told gate.now)) shift.notes) v.items) }
+{
+    for handle in handles {
+        shifts.push_reserved(handle.join(rt));
+    }
+    if shifts.len() < count {
+        return Err(AllocError);
+    }
+    Ok(shifts)
 }
 
 /// Makes durable whatever the bell rings for, until it is closed.
