@@ -1,6 +1,6 @@
 -- An image has one version and one state, and its bytes are few.
-use Rattle.run_model.proofs.Common.{◌≡◌, ℕ, List, [], ◌∷◌, ◌++◌, drop, Option, Some, slice_get}
-use Rattle.run_model.proofs.Common.{sym, ap, ◌∙◌, append_assoc, flat_map, same_Some, none-some}
+use Rattle.run_model.proofs.Common.{◌≡◌, ℕ, List, [], ◌∷◌, ◌++◌, drop, Option, Some}
+use Rattle.run_model.proofs.Common.{sym, ap, ◌∙◌, append_assoc, flat_map, same_Some}
 use Rattle.run_model.proofs.Common.{append-nil, root, State}
 use Rattle.run_model.specs.declared.layouts.Layout.{Layout}
 use Rattle.run_model.specs.declared.scopes.Scope.{Scope}
