@@ -4,4 +4,5 @@ pub mod Coursing
 pub mod Counting
 pub mod Permuting
 pub mod Rooms
+pub mod Stepping
 pub mod Strays

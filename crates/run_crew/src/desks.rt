@@ -100,9 +100,10 @@ impl<D: RunDisk, S: Ledger, F: Ledger, O: Opening> Desk<D, S, F, O> {
         ensures seat { MatchResult result (λ _. seat.new ≡ one_start seat.old)
             (λ _. seat.new ≡ seat.old) }
     {
-        let started = self.book.start()?;
-        self.starts.add(&mut seat.starts, 1);
-        Ok(started)
+        let started = self.book.start();
+        self.starts
+            .add(&mut seat.starts, u64::from(started.is_ok()));
+        started
     }
 
     /// Ends a running task with this outcome, as [`Book::finish`] does. If it is accepted, the
@@ -124,9 +125,10 @@ impl<D: RunDisk, S: Ledger, F: Ledger, O: Opening> Desk<D, S, F, O> {
         ensures seat { MatchResult result (λ _. seat.new ≡ one_finish seat.old)
             (λ _. seat.new ≡ seat.old) }
     {
-        let number = self.book.finish(task, outcome)?;
-        self.finishes.add(&mut seat.finishes, 1);
-        Ok(number)
+        let number = self.book.finish(task, outcome);
+        self.finishes
+            .add(&mut seat.finishes, u64::from(number.is_ok()));
+        number
     }
 
     /// Makes all events so far durable by their records, as [`Book::flush`] does.
