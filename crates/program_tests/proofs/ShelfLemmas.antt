@@ -1,12 +1,16 @@
 -- What a shelf has under each name, once one of its places has changed.
 use Rattle.std.proofs.Common.{◌≡◌, ◌≢◌, ◌∙◌, ℕ, List, Bool, true, false, ap, inl, inr, refl}
-use Rattle.std.proofs.Common.{subst, sym}
-use Rattle.std.specs.Prelude.{nat_eq}
+use Rattle.std.proofs.Common.{arith, subst, sym}
+use Rattle.std.specs.Prelude.{◌+◌, length, nat_eq, slice_range, ⊤, Result, Ok, Err, OnOk}
+use Rattle.std.proofs.lemmas.List.{take_all}
 use Rattle.std.specs.Cmp.Lexicographic.{bytes_decides, pointwise, same_text}
 use Rattle.std.specs.String.{string_bytes}
+use Rattle.run_disk.specs.Calls.{Reads}
+use Rattle.run_disk.specs.Disk.{DiskState}
+use Rattle.run_disk.specs.declared.disks.DiskFailed.{DiskFailed}
 use Rattle.program_tests.specs.declared.shelves.Shelf.{Shelf}
 use Rattle.program_tests.specs.Shelves.{Gets, Held, IsElsewhereSame, Lies, Loses, Nothing, Spot}
-use Rattle.program_tests.specs.Shelves.{spot_at, spot_of, spot_of_two}
+use Rattle.program_tests.specs.Shelves.{Gives, spot_at, spot_of, spot_of_two}
 
 false_of : (xs ys : List ℕ) (r : Bool) → r ≡ pointwise nat_eq xs ys → xs ≢ ys → r ≡ false
 false_of xs ys true e n = absurd (n (same_text xs ys e))
@@ -170,3 +174,20 @@ held_there spot held none = cc
 
 pub same_bytes : (x y : List ℕ) → Lies x ≡ Lies y → x ≡ y
 same_bytes x y e = cc
+
+-- ---- a reading
+
+whole : (xs : List ℕ) (n : ℕ) → n ≡ length xs → slice_range xs 0 (0 + n) ≡ xs
+whole xs n e = take_all _ xs (omega (arith, e))
+
+-- A reading of all of a disk gives what reads give of it.
+pub gives_all : (given left : DiskState) (bytes : List ℕ) (size : ℕ) (r : Result ⊤ DiskFailed)
+    → size ≡ length given.now
+    → Reads given left
+    → OnOk r (bytes ≡ slice_range given.now 0 (0 + size))
+    → OnOk r (Gives given bytes left)
+gives_all given left bytes size (Ok x) e reads is = record {
+  bytes_are = is ∙ whole given.now size e;
+  same = reads.now;
+}
+gives_all given left bytes size (Err why) e reads is = tt
