@@ -1,4 +1,4 @@
-//! A line that cancels a scope: no command is asked for more often.
+//! A line that cancels a scope. Its words are lent, and its answer gathered by itself.
 
 ghost use Rattle.std.specs.Option.{option_map};
 ghost use Rattle.std.specs.Prelude.{◌≡◌, IfErr, IfOk, IfSome};

@@ -18,8 +18,8 @@ use run_model::Fault;
 use std::alloc::{Allocator, Global};
 
 /// A disk in memory. It is honest. A write or a sync fails if memory for it is refused: it is
-/// counted, and leaves the bytes and what a crash may leave as they were. A read looks at each write
-/// so far.
+/// counted, and leaves the bytes and what a crash may leave as they were. A read looks at each
+/// write so far.
 #[derive(Drop)]
 pub struct MemoryDisk<A: Allocator = Global> {
     history: History<A>,

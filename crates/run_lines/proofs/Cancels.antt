@@ -1,4 +1,4 @@
--- A line that cancels a scope: what it is answered, what is gathered of that, and whether it strays.
+-- A line that cancels a scope: what it is answered, what is gathered, and whether it strays.
 use Rattle.std.specs.Prelude.{◌≡◌, not, if◌then◌else◌, Bool, true, false, ℕ, List, [], ◌∷◌, ◌++◌}
 use Rattle.std.specs.Prelude.{Option, Some, None, Result, Ok, Err}
 use Rattle.std.specs.Option.{option_or, option_to_list}

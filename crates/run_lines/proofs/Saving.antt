@@ -26,8 +26,8 @@ use Rattle.run_lines.proofs.Accounting.{as_sound, row_sound, true_false}
 use Rattle.run_lines.proofs.Rows.{takes_one}
 
 -- An answer is no fault.
-pub no_fault : {X : Type 0} (f : X → Reply) (r : Result X Refusal) → ((x : X) → is_fault (f x) ≡ false)
-    → is_fault (replied f r) ≡ false
+pub no_fault : {X : Type 0} (f : X → Reply) (r : Result X Refusal)
+    → ((x : X) → is_fault (f x) ≡ false) → is_fault (replied f r) ≡ false
 no_fault f (Ok x) none = none x
 no_fault f (Err why) none = refl
 

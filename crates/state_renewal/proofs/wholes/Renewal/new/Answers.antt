@@ -2,7 +2,8 @@ use Rattle.run_model.proofs.Common.{◌≡◌, ℕ, Bool, length, sym, ap, subst
 use Rattle.std.proofs.Common.{Vec}
 use Rattle.run_model.proofs.Common.{AreOrdered, TreeState, WorkState, IfOk-from_err, arith}
 use Rattle.std.proofs.lemmas.Result.{IfOk-weaker}
-use Rattle.state_renewal.specs.Marks.{AreFlags, group_stays_at, is_flagged, task_stays_at, with_rows}
+use Rattle.state_renewal.specs.Marks.{AreFlags, group_stays_at, is_flagged, task_stays_at}
+use Rattle.state_renewal.specs.Marks.{with_rows}
 use Rattle.state_renewal.specs.Renewed.{keeps_scope}
 use Rattle.state_renewal.proofs.Renewing.{groups_known, marks_made, no_memory, of_marks}
 use Rattle.state_renewal.proofs.Renewing.{scopes_known}
