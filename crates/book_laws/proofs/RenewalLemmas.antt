@@ -19,7 +19,7 @@ use Rattle.book_model.specs.Openings.{RecoversNone}
 use Rattle.book_model.specs.Stores.{Stores, StoresNone}
 use Rattle.book_model.proofs.OpeningLemmas.{HasCause, recovers_cause, recovers_none, recovers_state}
 use Rattle.book_model.proofs.Storing.{stores_not_both, stores_one, stores_rules}
-use Rattle.run_book.specs.Renewals.{Renews, WritesNot}
+use Rattle.book_renewal.specs.Renewals.{Renews, WritesNot}
 use Rattle.book_laws.specs.Renewing.{AreStores}
 
 -- ---- faults

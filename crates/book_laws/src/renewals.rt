@@ -1,5 +1,5 @@
-//! Laws of a renewal, from the clause of `run_book::renew`: what it answers, by what the bytes of
-//! the old disk store; what it leaves of the old store; and which disk failed.
+//! Laws of a renewal, from the clause of `book_renewal::renew`: what it answers, by what the
+//! bytes of the old disk store; what it leaves of the old store; and which disk failed.
 
 ghost use Rattle.std.specs.Prelude.{◌≡◌, ◌⊎◌, ◌<◌, ◌^◌, ℕ, List, MatchResult, Result, false, true};
 ghost use Rattle.run_model.specs.declared.faults.Fault.{Fault as FaultOf};
@@ -10,7 +10,7 @@ ghost use Rattle.state_renewal.specs.Renewed.{fits_in, renewed, renewed_in};
 ghost use Rattle.book_model.specs.declared.migrations.MigrateFault.{MigrateFault as WhyNot};
 ghost use Rattle.book_model.specs.declared.migrations.MigrateFault.TheVariants as why;
 ghost use Rattle.book_model.specs.Stores.{Stores, StoresNone};
-ghost use Rattle.run_book.specs.Renewals.{Renews};
+ghost use Rattle.book_renewal.specs.Renewals.{Renews};
 ghost use Rattle.book_laws.specs.Renewing.{AreStores};
 
 use run_disk::RunDisk;

@@ -1,5 +1,6 @@
 pub mod Beginning
 pub mod Carrying
+pub mod Copying
 pub mod Ending
 pub mod Exits
 pub mod Filling
@@ -13,5 +14,4 @@ pub mod Rooting
 pub mod Saving
 pub mod Splitting
 pub mod Stepping
-pub mod Renewing
 pub mod Reading

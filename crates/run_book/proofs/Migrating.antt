@@ -1,11 +1,13 @@
 -- What a migration reads of the old disk, and what it makes of the new one.
-use Rattle.run_model.proofs.Common.{◌≡◌, ◌⊎◌, ◌<◌, ◌+◌, ℕ, List, [], Ok, Err, refl, sym, subst}
-use Rattle.run_model.proofs.Common.{IfErr, OnErr, OnOk, Result, store_len, State}
+use Rattle.run_model.proofs.Common.{◌≡◌, ◌⊎◌, ◌<◌, ◌≤◌, ◌+◌, ℕ, List, [], Ok, Err, length, take}
+use Rattle.run_model.proofs.Common.{refl, sym, subst, ap, arith, IfErr, OnErr, OnOk, Result}
+use Rattle.run_model.proofs.Common.{length-take-le, store_len, State}
+use Rattle.run_model.specs.declared.layouts.Layout.{Layout}
 use Rattle.run_model.specs.declared.faults.Fault.{Fault}
 use Rattle.run_model.specs.declared.faults.Fault.TheVariants as fault
 use Rattle.run_model.specs.declared.layouts.Layout.TheVariants.{Small, Large}
 use Rattle.row_view.specs.declared.heads.ImageVersion.TheVariants.{Two}
-use Rattle.row_view.specs.Image.{image}
+use Rattle.row_view.specs.Image.{greatest_image, image}
 use Rattle.row_view.specs.Keeping.{IsImage}
 use Rattle.run_disk.specs.Disk.{DiskState, IsAtRest, IsDisk, last_moment}
 use Rattle.run_disk.specs.Runs.{MakesCalls}
@@ -34,6 +36,15 @@ unread_not from to old read given (why.Old f) sized is = (sized, is, refl)
 unread_not from to old read given (why.New f) sized is = absurd is
 
 -- ---- the new disk
+
+-- A small image and its head fit into a slot of a large store.
+pub fits_large : (layout : Layout) (count : ℕ) (body : List ℕ) → layout ≡ Small
+    → count ≤ greatest_image Two layout → length body ≡ 12 + greatest_image Two Small
+    → length (take (12 + count) body) < (sizes_of Large).slot
+fits_large layout count body is most size =
+    let small = ap (greatest_image Two) is in
+    let len = length-take-le (12 + count) body (omega (arith, most, size, small)) in
+    omega (arith, len, most, small)
 
 module _ {E : Type 0} (to : E → DiskState) (old new : DiskState) (r : Result (Unit {0}) Fault)
     (p : State) (bytes : List ℕ) (disk : IsDisk new) (sized : old.size ≡ store_len Large)

@@ -3,5 +3,4 @@ pub mod Checkpoints
 pub mod Kept
 pub mod Migrating
 pub mod Views
-pub mod Renewals
 pub mod Readings

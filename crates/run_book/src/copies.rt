@@ -1,5 +1,6 @@
-//! What a migration and a renewal begin with, which both make a store from another one: room, and
-//! the state that the old disk stores.
+//! What a copy of a store begins with: a migration, and the renewal of the crate above, which both
+//! make a store from another one. [`make_rooms`] takes their room, and [`read_stored`] reads the
+//! state that the old disk stores.
 
 ghost use Rattle.std.specs.Prelude.{◌≡◌, ◌+◌, length, IfOk, IfErr};
 ghost use Rattle.run_model.specs.Layouts.{store_len};
@@ -11,6 +12,7 @@ ghost use Rattle.book_model.specs.declared.migrations.MigrateFault.TheVariants a
 ghost use Rattle.book_model.specs.Migrations.{HasReadStore, ReadsNot};
 ghost use Rattle.run_book.specs.Migrating.{of_old};
 
+pub use crate::images::HEAD;
 use crate::openings::{body_len, read_state};
 use book_model::MigrateFault;
 use run_disk::RunDisk;
@@ -18,14 +20,18 @@ use run_model::{Fault, Layout};
 use run_state::State;
 use std::alloc::Allocator;
 
-/// The room of a copy: for the old state, and an image of the new one.
+/// The room of a copy.
 #[derive(Drop)]
 pub struct Rooms<A: Allocator> {
+    /// A new state of the old store's layout.
     pub state: State<A>,
+    /// Zeros: room for the greatest image of the new store's layout, and before it, in [`HEAD`]
+    /// bytes, for the journal's head.
     pub body: Vec<u8, A>,
 }
 
-/// Takes the room of a copy, to a store of the second layout from one of the first.
+/// Takes the room of a copy, to a store of the second layout from one of the first; or the fault is
+/// `Memory`.
 pub fn make_rooms<A: Allocator + Copy>(
     alloc: A,
     from: Layout,
@@ -45,7 +51,12 @@ pub fn make_rooms<A: Allocator + Copy>(
     Ok(Rooms { state, body })
 }
 
-/// The state that a store holds, made in a new state of the store's layout.
+/// The state that a store holds, made in a new state of the store's layout, by three reads; nothing
+/// is written.
+///
+/// It reports the first of these faults that holds: `Memory`; the other faults of
+/// [`Book::recover`](crate::Book::recover) of a disk of a store's size, as `Old`; and
+/// `Old(NumbersSpent)` if there were 2^62 events or more.
 pub fn read_stored<D: RunDisk, A: Allocator + Copy>(
     alloc: A,
     old: &mut D,

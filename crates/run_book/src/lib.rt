@@ -7,15 +7,13 @@
 #![tactic(auto)]
 
 mod books;
-mod copies;
+pub mod copies;
 mod images;
 mod migrations;
 mod openings;
-mod renewals;
 mod replays;
 
 pub use book_model::MigrateFault;
 pub use books::Book;
 pub use migrations::migrate;
-pub use renewals::renew;
 pub use run_state::State;

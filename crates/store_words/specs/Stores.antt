@@ -10,7 +10,7 @@ use Rattle.book_model.specs.Openings.{FormatsNot, HasFormatted, HasRecovered, Re
 use Rattle.book_model.specs.declared.migrations.MigrateFault.{MigrateFault}
 use Rattle.book_model.specs.declared.migrations.MigrateFault.TheVariants as of_two
 use Rattle.book_model.specs.Migrations.{Migrates}
-use Rattle.run_book.specs.Renewals.{Renews}
+use Rattle.book_renewal.specs.Renewals.{Renews}
 use Rattle.console_lines.specs.declared.faults.RunFault.{RunFault}
 use Rattle.console_lines.specs.declared.faults.RunFault.TheVariants.{Output}
 use Rattle.console_lines.specs.Branches.{tree_text}

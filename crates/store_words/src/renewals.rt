@@ -53,7 +53,7 @@ pub fn renew<D: RunDisk, E: RunDisk>(
         Ok(before) => before,
         Err(fault) => return (Err(MigrateFault::Old(fault)), new),
     };
-    let mut made = match run_book::renew(alloc, old, new) {
+    let mut made = match book_renewal::renew(alloc, old, new) {
         Ok(made) => made,
         Err((fault, left)) => return (Err(fault), left),
     };

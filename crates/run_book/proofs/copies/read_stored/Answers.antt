@@ -1,7 +1,7 @@
 use Rattle.run_model.proofs.Common.{◌<◌, ◌≤◌, ◌^◌, sym, subst, HasLayout}
 use Rattle.book_model.specs.Migrations.{ReadsNot}
 use Rattle.book_model.proofs.Meaning.{means_layout}
-use Rattle.run_book.proofs.Renewing.{told_unread}
+use Rattle.run_book.proofs.Copying.{told_unread}
 use Rattle.run_book.proofs.copies.read_stored.Goals as goal
 
 pub returns-in-Err-clause-none : goal.returns-in-Err-clause-none

@@ -3,7 +3,7 @@ use Rattle.run_model.specs.declared.layouts.Layout.TheVariants.{Small}
 use Rattle.book_model.specs.Migrations.{MigratesNot}
 use Rattle.run_book.proofs.Exits.{passed_on}
 use Rattle.run_book.proofs.Migrating.{unread_not, written_done, written_not}
-use Rattle.run_book.proofs.Renewing.{new_size, new_state, no_memory}
+use Rattle.run_book.proofs.Copying.{new_size, new_state, no_memory}
 use Rattle.run_book.proofs.migrations.migrate_sized.Goals as goal
 
 pub read_stored-requires-clause-new : goal.read_stored-requires-clause-new

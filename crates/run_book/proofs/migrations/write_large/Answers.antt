@@ -4,8 +4,7 @@ use Rattle.row_view.specs.declared.heads.ImageVersion.TheVariants.{Two}
 use Rattle.row_view.specs.Image.{image}
 use Rattle.row_view.specs.Keeping.{IsImage}
 use Rattle.run_model.specs.declared.layouts.Layout.TheVariants.{Large}
-use Rattle.run_book.proofs.Migrating.{large_failed, large_written}
-use Rattle.run_book.proofs.Renewing.{fits_large}
+use Rattle.run_book.proofs.Migrating.{fits_large, large_failed, large_written}
 use Rattle.run_book.proofs.migrations.write_large.Goals as goal
 
 -- `format` is handed the image that stands after the journal's head. It was written as an image of

@@ -2,8 +2,9 @@ use Rattle.std.proofs.Common.{refl, sym, ◌∙◌, inl, inr}
 use Rattle.run_model.specs.declared.faults.Fault.TheVariants.{WrongSize}
 use Rattle.run_journal.proofs.LayoutLemmas.{len_found}
 use Rattle.book_model.specs.declared.migrations.MigrateFault.TheVariants as why
-use Rattle.run_book.proofs.Renewing.{no_size, renews, renews_not}
-use Rattle.run_book.proofs.renewals.renew.Goals as goal
+use Rattle.run_book.proofs.Copying.{no_size}
+use Rattle.book_renewal.proofs.Renewing.{renews, renews_not}
+use Rattle.book_renewal.proofs.renewals.renew.Goals as goal
 
 pub returns-in-Ok : goal.returns-in-Ok
 returns-in-Ok g c =

@@ -1,7 +1,7 @@
 use Rattle.std.proofs.Common.{◌∙◌}
 use Rattle.std.proofs.lemmas.List.{drop-take}
-use Rattle.run_book.proofs.Renewing.{fits_slot, renewed_failed, renewed_written}
-use Rattle.run_book.proofs.renewals.write_fitting.Goals as goal
+use Rattle.book_renewal.proofs.Renewing.{fits_slot, renewed_failed, renewed_written}
+use Rattle.book_renewal.proofs.renewals.write_fitting.Goals as goal
 
 pub format-requires-clause-whole : goal.format-requires-clause-whole
 format-requires-clause-whole g c = (

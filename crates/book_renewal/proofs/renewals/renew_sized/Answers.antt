@@ -1,9 +1,9 @@
 use Rattle.run_model.proofs.Common.{sym, subst, IfOk-from_err, IfErr}
-use Rattle.run_book.specs.Renewals.{RenewsNot}
+use Rattle.run_book.proofs.Copying.{new_size, new_state, no_memory}
 use Rattle.run_book.proofs.Exits.{passed_on}
-use Rattle.run_book.proofs.Renewing.{both_stores, new_size, new_state, no_memory, unread_not}
-use Rattle.run_book.proofs.Renewing.{written_done, written_not}
-use Rattle.run_book.proofs.renewals.renew_sized.Goals as goal
+use Rattle.book_renewal.specs.Renewals.{RenewsNot}
+use Rattle.book_renewal.proofs.Renewing.{both_stores, unread_not, written_done, written_not}
+use Rattle.book_renewal.proofs.renewals.renew_sized.Goals as goal
 
 pub read_stored-requires-clause-new : goal.read_stored-requires-clause-new
 read_stored-requires-clause-new g c = new_state c.args.from _ c.in_ok-state.ensures.state

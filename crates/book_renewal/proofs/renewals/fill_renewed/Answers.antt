@@ -4,7 +4,7 @@ use Rattle.row_view.specs.Image.{image}
 use Rattle.row_view.proofs.ImageLengths.{image_most}
 use Rattle.state_renewal.specs.Renewed.{renewed, renewed_in}
 use Rattle.run_book.proofs.Filling.{filled}
-use Rattle.run_book.proofs.renewals.fill_renewed.Goals as goal
+use Rattle.book_renewal.proofs.renewals.fill_renewed.Goals as goal
 
 pub returns-clause-most : goal.returns-clause-most
 returns-clause-most g c =

@@ -1,8 +1,8 @@
 -- What a renewal reads of the old disk, and what it makes of the new one.
-use Rattle.run_model.proofs.Common.{◌≡◌, ◌⊎◌, inl, inr, ◌<◌, ◌≤◌, ◌+◌, ℕ, List, [], Option, Some}
-use Rattle.run_model.proofs.Common.{None, Ok, Err, length, take, refl, sym, subst, ap, ◌∙◌, arith}
+use Rattle.run_model.proofs.Common.{◌≡◌, ◌⊎◌, inl, inr, ◌<◌, ◌≤◌, ◌+◌, ℕ, List, [], Ok, Err}
+use Rattle.run_model.proofs.Common.{length, take, refl, sym, subst, ap, ◌∙◌, arith, layout_of}
 use Rattle.run_model.proofs.Common.{IfErr, OnErr, OnOk, Result, length-take-le, same_Some}
-use Rattle.run_model.proofs.Common.{layout_of, store_len, opened, State}
+use Rattle.run_model.proofs.Common.{store_len, State}
 use Rattle.run_model.specs.declared.faults.Fault.{Fault}
 use Rattle.run_model.specs.declared.faults.Fault.TheVariants as fault
 use Rattle.run_model.specs.declared.layouts.Layout.{Layout}
@@ -27,21 +27,16 @@ use Rattle.book_model.proofs.Meaning.{fresh_means}
 use Rattle.book_model.proofs.OpeningLemmas.{fresh_stores, recovers_reads}
 use Rattle.book_model.proofs.Stopping.{stops_nothing, zeros_nothing}
 use Rattle.book_model.proofs.Storing.{stores_one}
-use Rattle.run_book.specs.Migrating.{of_old}
-use Rattle.run_book.specs.Renewals.{HasFailedRenewed, HasRenewed, HasWrittenRenewed, AreBothStores}
-use Rattle.run_book.specs.Renewals.{Renews, RenewsNot, StopsRenewal, WritesNot}
 use Rattle.run_book.proofs.Rooting.{root_rests}
+use Rattle.book_renewal.specs.Renewals.{AreBothStores, HasFailedRenewed, HasRenewed}
+use Rattle.book_renewal.specs.Renewals.{HasWrittenRenewed, Renews, RenewsNot, StopsRenewal}
+use Rattle.book_renewal.specs.Renewals.{WritesNot}
 
 -- ---- layouts
 
 same_layout : (size : ℕ) (a b : Layout) → size ≡ store_len a → size ≡ store_len b → a ≡ b
 same_layout size a b is_a is_b =
     same_Some a b (sym (layout_found a) ∙ ap (λ n. layout_of n) (sym is_a ∙ is_b) ∙ layout_found b)
-
--- A size of which no layout is found.
-pub no_size : (size found : ℕ) (o : Option Layout) → found ≡ size → o ≡ layout_of found
-    → o ≡ None → layout_of size ≡ None
-no_size size found o same is none = ap (λ n. layout_of n) (sym same) ∙ sym is ∙ none
 
 slot_room : (layout : Layout) → 12 + greatest_image Two layout < (sizes_of layout).slot
 slot_room Small = omega arith
@@ -56,40 +51,7 @@ fits_slot layout count body most size =
     let len = length-take-le (12 + count) body (omega (arith, most, size)) in
     omega (arith, len, room, most)
 
--- A small one and its head fit into a slot of a large store.
-pub fits_large : (layout : Layout) (count : ℕ) (body : List ℕ) → layout ≡ Small
-    → count ≤ greatest_image Two layout → length body ≡ 12 + greatest_image Two Small
-    → length (take (12 + count) body) < (sizes_of Large).slot
-fits_large layout count body is most size =
-    let small = ap (greatest_image Two) is in
-    let len = length-take-le (12 + count) body (omega (arith, most, size, small)) in
-    omega (arith, len, most, small)
-
-pub new_state : (layout : Layout) (p : State) → p ≡ (opened layout).state
-    → p ≡ (opened p.tree.layout).state
-new_state layout p is =
-    is ∙ ap (λ l. (opened l).state) (sym (ap (λ (q : State). q.tree.layout) is))
-
-pub new_size : (layout : Layout) (p : State) (size : ℕ) → p ≡ (opened layout).state
-    → size ≡ store_len layout → size ≡ store_len p.tree.layout
-new_size layout p size is sized =
-    sized ∙ ap store_len (sym (ap (λ (q : State). q.tree.layout) is))
-
 -- ---- the old disk
-
-no_layout : (o : Option Layout) (layout : Layout) → o ≡ Some layout → o ≡ None → ⊥
-no_layout o layout some none = cc
-
--- A fault of a recovery, as a migration or a renewal tells it.
-pub told_unread : {D : Type 0} (from : D → DiskState) (old read : D) (f : Fault) (layout : Layout)
-    → (from old).size ≡ store_len layout → RecoversNone from old f read
-    → ReadsNot from old (of_old f) read
-told_unread from old read fault.Memory layout sized none = none.1
-told_unread from old read fault.WrongSize layout sized none =
-    absurd (no_layout (layout_of (from old).size) layout
-    (ap (λ n. layout_of n) sized ∙ layout_found layout) none.0)
-told_unread from old read fault.NumbersSpent layout sized none = absurd none
-told_unread from old read f layout sized none = none
 
 module _ {D : Type 0} (from : D → DiskState) (old read : D) (disk : IsDisk (from old)) where
   old_told : (f : Fault) → ReadsNot from old (why.Old f) read
@@ -193,11 +155,6 @@ pub unread_not : {D E : Type 0} (from : D → DiskState) (to : E → DiskState) 
     (given : E) (w : MigrateFault) → AreBothStores (from old) (to given) → ReadsNot from old w read
     → RenewsNot from to old given w read given
 unread_not from to old read given w sized is = inr (inr (inl (sized, is, refl)))
-
--- And want of memory ends both before the old disk is called.
-pub no_memory : {D : Type 0} (from : D → DiskState) (old : D) (w : MigrateFault)
-    → w ≡ why.Memory → ReadsNot from old w old
-no_memory from old w is = subst (λ v. ReadsNot from old v old) (sym is) refl
 
 -- A store was read, and another one made of what is left of its state.
 pub written_done : (old read given new : DiskState) (r : Result (Unit {0}) MigrateFault)

@@ -1,8 +1,8 @@
 use Rattle.std.proofs.Common.{refl, sym, subst, ◌≡◌, ◌∙◌, IfErr, OnErr, OnOk}
 use Rattle.run_model.specs.declared.faults.Fault.TheVariants.{DiskFailed}
 use Rattle.book_model.specs.declared.migrations.MigrateFault.TheVariants as why
-use Rattle.run_book.specs.Renewals.{HasFailedRenewed, HasWrittenRenewed, WritesNot}
-use Rattle.run_book.proofs.renewals.write_left.Goals as goal
+use Rattle.book_renewal.specs.Renewals.{HasFailedRenewed, HasWrittenRenewed, WritesNot}
+use Rattle.book_renewal.proofs.renewals.write_left.Goals as goal
 
 pub returns-in_default-clause-written : goal.returns-in_default-clause-written
 returns-in_default-clause-written g c = tt

@@ -11,12 +11,11 @@ ghost use Rattle.row_view.specs.Keeping.{IsImage};
 ghost use Rattle.state_renewal.specs.Marks.{AreMarks};
 ghost use Rattle.state_renewal.specs.Renewed.{fits_in, renewed, renewed_in};
 ghost use Rattle.book_model.specs.declared.migrations.MigrateFault.TheVariants as why;
-ghost use Rattle.run_book.specs.Renewals.{HasFailedRenewed, HasRenewed, HasWrittenRenewed, Renews};
-ghost use Rattle.run_book.specs.Renewals.{RenewsNot, WritesNot};
+ghost use Rattle.book_renewal.specs.Renewals.{HasFailedRenewed, HasRenewed, HasWrittenRenewed};
+ghost use Rattle.book_renewal.specs.Renewals.{Renews, RenewsNot, WritesNot};
 
-use crate::copies::{Rooms, make_rooms, read_stored};
-use crate::images::HEAD;
 use book_model::MigrateFault;
+use run_book::copies::{HEAD, Rooms, make_rooms, read_stored};
 use run_disk::RunDisk;
 use run_journal::Journal;
 use run_model::{Fault, Layout};
@@ -32,7 +31,7 @@ use std::alloc::Allocator;
 ///
 /// It reports the first of these faults that holds: `Old(WrongSize)` if the old disk doesn't have a
 /// store's size; `New(WrongSize)` if the new one doesn't; `Memory`; the other faults of
-/// [`Book::recover`](crate::Book::recover), as `Old`; `Old(NumbersSpent)` if there were 2^62
+/// [`Book::recover`](run_book::Book::recover), as `Old`; `Old(NumbersSpent)` if there were 2^62
 /// events or more; `Memory` once more; `New(WrongSize)` if what is left doesn't fit in the new
 /// store; and `New(DiskFailed)` if a call of the new disk failed: then the new disk may hold no
 /// store. The new disk is handed back at each fault, and was called at the last one alone. If it
