@@ -2,7 +2,7 @@
 use Rattle.std.proofs.Common.{◌≡◌, ◌⊎◌, ◌≤◌, inl, inr, ◌∷◌, ◌||◌, ℕ, Bool, true, false, List, []}
 use Rattle.std.proofs.Common.{length, None, Ok, Err, Some, append-nil, refl, sym, ap, ◌∙◌, subst}
 use Rattle.std.proofs.Common.{arith, IfErr, Result}
-use Rattle.std.specs.List.{flat_map, list_any}
+use Rattle.std.specs.List.{list_any}
 use Rattle.run_model.specs.declared.answers.Reply.{Reply}
 use Rattle.run_model.specs.declared.commands.Step.{Step}
 use Rattle.run_model.specs.declared.faults.Fault.{Fault}
@@ -16,13 +16,11 @@ use Rattle.run_model.specs.Event.{Event}
 use Rattle.run_model.specs.Layouts.{layout_of, store_len}
 use Rattle.run_model.specs.Session.{Session, accepted, event_of_step, with_event, begun_at}
 use Rattle.run_model.specs.State.{State, formatted}
-use Rattle.run_model.specs.Spelling.{spelling}
 use Rattle.run_disk.specs.Disk.{DiskState, IsAtRest, IsDisk}
 use Rattle.run_disk.specs.Runs.{LeavesOnly}
 use Rattle.run_disk.proofs.RunLemmas.{leaves_only_more, only_weaker}
 use Rattle.run_journal.specs.Pairs.{AreZeros}
 use Rattle.run_journal.proofs.LayoutLemmas.{one_layout}
-use Rattle.run_session.specs.Replays.{Replays}
 use Rattle.model_laws.proofs.Interrupts.{restarted as interrupted}
 use Rattle.book_model.specs.Books.{CarriesOn, BookView, IsOpened, IsUnsaved, acked}
 use Rattle.book_model.specs.Nights.{opened_from}

@@ -1,25 +1,25 @@
 -- What renewals answer, fault by fault.
 use Rattle.std.proofs.Common.{◌≡◌, ◌⊎◌, inl, inr, ◌<◌, ◌^◌, ℕ, List, Bool, true, false, length}
-use Rattle.std.proofs.Common.{None, Ok, Err, refl, sym, ap, subst, ◌∙◌, arith}
+use Rattle.std.proofs.Common.{Ok, Err, refl, sym, ap, subst, ◌∙◌, arith}
 use Rattle.std.specs.Prelude.{MatchResult, Result}
 use Rattle.std.proofs.lemmas.Bool.{and_from, both_ways, le-leb, true≢false}
-use Rattle.std.proofs.lemmas.Option.{none-some, same_Some}
 use Rattle.run_model.specs.declared.faults.Fault.{Fault}
 use Rattle.run_model.specs.declared.faults.Fault.TheVariants as fault
 use Rattle.run_model.specs.declared.layouts.Layout.{Layout}
-use Rattle.run_model.specs.Layouts.{layout_of, most_scopes, most_tasks, store_len}
+use Rattle.run_model.specs.Layouts.{most_scopes, most_tasks, store_len}
 use Rattle.run_model.specs.State.{State}
 use Rattle.run_disk.specs.Disk.{DiskState, IsDisk}
-use Rattle.run_journal.proofs.LayoutLemmas.{layout_found}
+use Rattle.run_journal.proofs.LayoutLemmas.{one_layout}
 use Rattle.state_renewal.specs.Renewed.{fits_in, renewed, renewed_in}
 use Rattle.book_model.specs.declared.migrations.MigrateFault.{MigrateFault}
 use Rattle.book_model.specs.declared.migrations.MigrateFault.TheVariants as why
-use Rattle.book_model.specs.Migrations.{HasReadTooMany, ReadsNot}
-use Rattle.book_model.specs.Openings.{RecoversNone}
+use Rattle.book_model.specs.Migrations.{ReadsNot}
 use Rattle.book_model.specs.Stores.{Stores, StoresNone}
 use Rattle.book_model.proofs.OpeningLemmas.{HasCause, recovers_cause, recovers_none, recovers_state}
 use Rattle.book_model.proofs.Storing.{stores_not_both, stores_one, stores_rules}
+use Rattle.run_book.proofs.Copying.{no_layout}
 use Rattle.book_renewal.specs.Renewals.{Renews, WritesNot}
+use Rattle.book_renewal.proofs.Renewing.{old_told}
 use Rattle.book_laws.specs.Renewing.{AreStores}
 
 -- ---- faults
@@ -32,14 +32,6 @@ is_size w = false
 
 -- ---- sizes
 
-no_layout : (size : ℕ) (layout : Layout) → size ≡ store_len layout → layout_of size ≡ None → ⊥
-no_layout size layout sized none =
-    none-some layout (sym none ∙ ap (λ n. layout_of n) sized ∙ layout_found layout)
-
-same_layout : (size : ℕ) (a b : Layout) → size ≡ store_len a → size ≡ store_len b → a ≡ b
-same_layout size a b is_a is_b =
-    same_Some a b (sym (layout_found a) ∙ ap (λ n. layout_of n) (sym is_a ∙ is_b) ∙ layout_found b)
-
 -- A state that is stored in this layout has room there.
 stored_fits : (layout : Layout) (p : State) (x : List ℕ) → Stores x (renewed_in layout p)
     → fits_in layout (renewed p) ≡ true
@@ -50,15 +42,6 @@ stored_fits layout p x stores =
     (le-leb (length (renewed p).work.tasks) (most_tasks layout) rules.numbered.few_tasks)
 
 module _ {D : Type 0} (from : D → DiskState) (old read : D) (disk : IsDisk (from old)) where
-  -- What stops the reading of the old disk: too many events, or what stops a recovery.
-  old_told : (f : Fault) → ReadsNot from old (why.Old f) read
-      → ((f ≡ fault.NumbersSpent) × HasReadTooMany (from old) (from read))
-      ⊎ RecoversNone from old f read
-  old_told fault.WrongSize is = absurd is
-  old_told fault.Memory is = absurd is
-  old_told fault.NumbersSpent is = inl (refl, is)
-  old_told f is = inr is
-
   not_memory : (f : Fault) → ReadsNot from old (why.Old f) read → f ≡ fault.Memory → ⊥
   not_memory f is told = subst (λ g. ReadsNot from old (why.Old g) read) told is
 
@@ -68,7 +51,7 @@ module _ {D : Type 0} (from : D → DiskState) (old read : D) (disk : IsDisk (fr
       → (w ≡ why.Memory) ⊎ (w ≡ why.Old fault.DiskFailed)
   read_state why.Memory p honest stores few is = inl refl
   read_state (why.Old f) p honest stores few is =
-      elim (old_told f is) [
+      elim (old_told from old read disk f is) [
         | inl many ↦
             let same = ap (λ (q : State). q.count)
             (stores_one (from old).now many.1.state p (many.1.recovered.holds honest) stores) in
@@ -86,7 +69,7 @@ module _ {D : Type 0} (from : D → DiskState) (old read : D) (disk : IsDisk (fr
       → (w ≡ why.Old other) ⊎ (w ≡ why.Memory) ⊎ (w ≡ why.Old fault.DiskFailed)
   read_none why.Memory other honest none is = inr (inl refl)
   read_none (why.Old f) other honest none is =
-      elim (old_told f is) [
+      elim (old_told from old read disk f is) [
         | inl many ↦
             absurd (stores_not_both (from old).now many.1.state other
             (many.1.recovered.holds honest) none)
@@ -111,7 +94,7 @@ module _ {D E : Type 0} (from : D → DiskState) (to : E → DiskState) (old rea
       absurd (both_ways (fits_in layout (renewed p))
       (ap (λ r. fits_in layout (renewed r)) (sym same)
       ∙ ap (λ k. fits_in k (renewed q))
-      (same_layout (to given).size layout is.0.layout sized is.0.size)
+      (one_layout layout is.0.layout (sym sized ∙ is.0.size))
       ∙ is.0.full) fits)
   write_state (why.New fault.DiskFailed) new layout p q same sized fits is = inr refl
   write_state w new layout p q same sized fits is = absurd is
@@ -165,7 +148,7 @@ module _ {D E : Type 0} (from : D → DiskState) (to : E → DiskState) (old rea
       (ap (λ q. fits_in sized.to (renewed q))
       (stores_one (from old).now p done.state stores (done.found.recovered.holds honest))
       ∙ ap (λ k. fits_in k (renewed done.state))
-      (same_layout (to given).size sized.to done.layout sized.new_size done.size)
+      (one_layout sized.to done.layout (sym sized.new_size ∙ done.size))
       ∙ fits)
   renews_full (Err e) p disks honest sized is stores few full =
       elim is.answer [

@@ -1,8 +1,7 @@
 -- What a renewal reads of the old disk, and what it makes of the new one.
 use Rattle.run_model.proofs.Common.{◌≡◌, ◌⊎◌, inl, inr, ◌<◌, ◌≤◌, ◌+◌, ℕ, List, [], Ok, Err}
-use Rattle.run_model.proofs.Common.{length, take, refl, sym, subst, ap, ◌∙◌, arith, layout_of}
-use Rattle.run_model.proofs.Common.{IfErr, OnErr, OnOk, Result, length-take-le, same_Some}
-use Rattle.run_model.proofs.Common.{store_len, State}
+use Rattle.run_model.proofs.Common.{length, take, refl, sym, subst, ◌∙◌, arith, IfErr, OnErr, OnOk}
+use Rattle.run_model.proofs.Common.{Result, length-take-le, store_len, State}
 use Rattle.run_model.specs.declared.faults.Fault.{Fault}
 use Rattle.run_model.specs.declared.faults.Fault.TheVariants as fault
 use Rattle.run_model.specs.declared.layouts.Layout.{Layout}
@@ -15,7 +14,7 @@ use Rattle.run_disk.specs.Runs.{LeavesOnly, MakesCalls, OnlyReads}
 use Rattle.run_disk.proofs.RunLemmas.{ran_passed, reads_leave_only, reads_none}
 use Rattle.run_journal.specs.Pairs.{Formatted}
 use Rattle.run_journal.specs.Stores.{IsStored, sizes_of}
-use Rattle.run_journal.proofs.LayoutLemmas.{layout_found}
+use Rattle.run_journal.proofs.LayoutLemmas.{one_layout}
 use Rattle.state_renewal.specs.Renewed.{renewed, renewed_in}
 use Rattle.book_model.specs.declared.migrations.MigrateFault.{MigrateFault}
 use Rattle.book_model.specs.declared.migrations.MigrateFault.TheVariants as why
@@ -34,10 +33,6 @@ use Rattle.book_renewal.specs.Renewals.{WritesNot}
 
 -- ---- layouts
 
-same_layout : (size : ℕ) (a b : Layout) → size ≡ store_len a → size ≡ store_len b → a ≡ b
-same_layout size a b is_a is_b =
-    same_Some a b (sym (layout_found a) ∙ ap (λ n. layout_of n) (sym is_a ∙ is_b) ∙ layout_found b)
-
 slot_room : (layout : Layout) → 12 + greatest_image Two layout < (sizes_of layout).slot
 slot_room Small = omega arith
 slot_room Large = omega arith
@@ -54,7 +49,8 @@ fits_slot layout count body most size =
 -- ---- the old disk
 
 module _ {D : Type 0} (from : D → DiskState) (old read : D) (disk : IsDisk (from old)) where
-  old_told : (f : Fault) → ReadsNot from old (why.Old f) read
+  -- What stops the reading of the old disk: too many events, or what stops a recovery.
+  pub old_told : (f : Fault) → ReadsNot from old (why.Old f) read
       → ((f ≡ fault.NumbersSpent) × HasReadTooMany (from old) (from read))
       ⊎ RecoversNone from old f read
   old_told fault.WrongSize is = absurd is
@@ -98,7 +94,7 @@ module _ {E : Type 0} (to : E → DiskState) (old new : DiskState) (r : Result (
   stops : StopsRenewal p old new
   stops honest zeros l is_l =
       subst (λ k. LeavesOnly (StoresNothingOr (renewed_in k p)) old new)
-      (same_layout old.size layout l sized is_l)
+      (one_layout layout l (sym sized ∙ is_l))
       (stops_nothing layout (renewed_in layout p) (renewed_means layout p is) old new bytes disk
       sized (ran_passed old new r calls.ran) same formatted.any_moment honest zeros)
 
@@ -243,8 +239,7 @@ module _ {D E : Type 0} (from : D → DiskState) (to : E → DiskState) (old rea
     answer = is;
     reads = is.found.recovered.read.only;
     now = λ honest new_honest p stores layout sized x left.
-        subst (λ k. Stores x (renewed_in k p)) (same_layout (to given).size is.layout layout
-        is.size sized)
+        subst (λ k. Stores x (renewed_in k p)) (one_layout is.layout layout (sym is.size ∙ sized))
         (subst (λ q. Stores x (renewed_in is.layout q))
         (stores_one (from old).now is.state p (is.found.recovered.holds honest) stores)
         (is.written.stores new_honest x left));
