@@ -1,5 +1,5 @@
-"""A model of a crew's threads: the bodies of `crates/run_crew/src` that wait and wake, what each of
-their statements does, and every order in which the threads can take them.
+"""A model of a crew's threads: the bodies of `crates/crew_workers/src` that wait and wake, what
+each of their statements does, and every order in which the threads can take them.
 
 BODIES has the statements as the source has them, by file and function. A line `// .. is dropped`
 stands where a guard goes that no statement drops. EFFECTS says what a statement does; what isn't
@@ -252,7 +252,7 @@ BODIES: dict[Place, str] = {
         }
         Ok(shifts)
         """,
-    ("nights.rt", "run_night"): """
+    ("nights.rt", "work_night"): """
         let Ok(mut notes) = Vec::with_capacity(alloc, jobs.len()) else {
             return Err(Fault::Memory);
         };
@@ -820,7 +820,7 @@ def explore(bodies: dict[Place, str], crew: Crew, most: int) -> Found:
     - all have ended, the device didn't fail, and an event isn't durable.
     """
     worker = code_of(bodies, ("workers.rt", "work"))
-    others = [code_of(bodies, ("nights.rt", it)) for it in ("save_at", "run_night")]
+    others = [code_of(bodies, ("nights.rt", it)) for it in ("save_at", "work_night")]
     codes = [worker] * crew.workers + others
     ends = [len(it) for it in codes]
     night = Night(crew, ends)

@@ -7,7 +7,7 @@ use Rattle.run_disk.specs.Disk.{DiskState}
 use Rattle.book_model.specs.Openings.{HasRecovered, RecoversNone}
 use Rattle.console_lines.specs.declared.faults.RunFault.{RunFault}
 use Rattle.console_lines.specs.Faults.{stopped}
-use Rattle.run_crew.specs.Courses.{Call, IsGates}
+use Rattle.crew_workers.specs.Courses.{Call, IsGates}
 use Rattle.store_words.specs.declared.endings.Done.{Done}
 use Rattle.store_words.specs.declared.endings.Done.TheVariants.{Strayed, Unknown, Well}
 use Rattle.store_words.specs.declared.failures.Failure.{Failure}

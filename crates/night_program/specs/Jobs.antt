@@ -1,8 +1,8 @@
 -- What the jobs of the program's crews answer to a turn.
 use Rattle.std.specs.Prelude.{◌+◌, ◌-◌, ◌*◌, ◌&&◌, ℕ, Bool, true, false, List, [], ◌∷◌, length}
 use Rattle.std.specs.Prelude.{Option, Some, None, codes, nat_le, nat_lt, if◌then◌else◌}
-use Rattle.run_crew.specs.declared.jobs.Turn.{Turn}
-use Rattle.run_crew.specs.declared.jobs.Turn.TheVariants as turn
+use Rattle.crew_workers.specs.declared.jobs.Turn.{Turn}
+use Rattle.crew_workers.specs.declared.jobs.Turn.TheVariants as turn
 
 -- This byte is a digit, and may stand after this number: one of 4 digits ends.
 abbrev pub goes_on : ℕ → ℕ → Bool

@@ -2,7 +2,7 @@
 
 ghost use Rattle.std.specs.Prelude.{◌≡◌, bytes_eq, codes};
 ghost use Rattle.run_model.specs.Texts.{IsText};
-ghost use Rattle.run_crew.specs.declared.jobs.Turn.TheVariants as turn;
+ghost use Rattle.crew_workers.specs.declared.jobs.Turn.TheVariants as turn;
 ghost use Rattle.night_program.specs.Jobs.{goes_on, number_in, spin_turn};
 
 use run_crew::{Job, Turn};

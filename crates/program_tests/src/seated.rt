@@ -51,7 +51,7 @@ pub struct Seated<S: Ledger, F: Ledger> {
 
 impl<S: Ledger, F: Ledger> Model for Seated<S, F> {
     ghost use Rattle.std.specs.Prelude.{◌≡◌, ◌<◌};
-    ghost use Rattle.run_crew.specs.Seats.{SeatView};
+    ghost use Rattle.crew_workers.specs.Seats.{SeatView};
 
     ghost Value = { SeatView };
 

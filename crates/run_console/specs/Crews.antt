@@ -21,11 +21,11 @@ use Rattle.book_model.specs.Books.{Flushes, BookView, IsDurable}
 use Rattle.book_model.specs.Openings.{HasOpened, OpensNot}
 use Rattle.book_model.specs.Stores.{Stores, StoresFront, StoresOpened, restarted}
 use Rattle.run_crew.specs.declared.audits.Strayed.{Strayed}
-use Rattle.run_crew.specs.declared.notes.Note.{Note}
+use Rattle.crew_workers.specs.declared.notes.Note.{Note}
 use Rattle.run_crew.specs.Audits.{HasStrayed, IsComplete, made_at}
-use Rattle.run_crew.specs.Courses.{Call, IsOfShift}
+use Rattle.crew_workers.specs.Courses.{Call, IsOfShift}
 use Rattle.run_crew.specs.Desks.{DeskView, finishes_of, starts_of}
-use Rattle.run_crew.specs.Notes.{all_notes, noted}
+use Rattle.crew_workers.specs.Notes.{all_notes, noted}
 use Rattle.run_crew.specs.Openings.{Carries, From, Known, is_work, opened_of}
 use Rattle.console_lines.specs.declared.faults.RunFault.{RunFault}
 use Rattle.console_lines.specs.declared.faults.RunFault.TheVariants.{Memory, Output, Store}

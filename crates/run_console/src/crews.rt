@@ -5,7 +5,7 @@ ghost use Rattle.std.specs.Fmt.{decimal};
 ghost use Rattle.arrayvec.specs.ArrayVec.{array_vec_len};
 ghost use Rattle.run_model.specs.declared.faults.Fault.TheVariants.{Memory};
 ghost use Rattle.run_model.specs.Session.{begun_at};
-ghost use Rattle.run_crew.specs.Courses.{IsGates};
+ghost use Rattle.crew_workers.specs.Courses.{IsGates};
 ghost use Rattle.run_crew.specs.Openings.{Carries};
 ghost use Rattle.console_lines.specs.Gathers.{Gathers};
 ghost use Rattle.run_console.specs.Crews.{CrewEnds, IsTold, IsWorked, WasLeft, audit_line};

@@ -25,7 +25,7 @@ use Rattle.run_state.specs.Lasting.{Stays}
 use Rattle.book_model.specs.Books.{BookView, CarriesOn}
 use Rattle.book_model.specs.Steps.{AnswersStep}
 use Rattle.run_crew.specs.Desks.{DeskView, finishes_of, starts_of}
-use Rattle.run_crew.specs.Seats.{SeatView, one_finish, one_start}
+use Rattle.crew_workers.specs.Seats.{SeatView, one_finish, one_start}
 use Rattle.run_crew.specs.Steps.{TakesStep}
 
 pub takes_step :

@@ -8,9 +8,10 @@ use Rattle.run_model.specs.declared.tasks.Phase.TheVariants as phase
 use Rattle.run_model.specs.State.{WorkState}
 use Rattle.run_model.specs.Tasks.{phase_of}
 use Rattle.run_crew.specs.declared.audits.Strayed.{Strayed}
-use Rattle.run_crew.specs.declared.notes.Note.{Note}
+use Rattle.crew_workers.specs.declared.notes.Note.{Note}
 use Rattle.run_crew.specs.Desks.{DeskView}
-use Rattle.run_crew.specs.Notes.{all_notes, finishes_since, has}
+use Rattle.crew_workers.specs.Notes.{all_notes}
+use Rattle.run_crew.specs.Notes.{finishes_since, has}
 
 -- ---- notes
 

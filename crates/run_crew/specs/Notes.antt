@@ -1,23 +1,15 @@
--- The notes of workers, and the finishes that they should be of.
+-- Which notes are the same, and the finishes that they should be of.
 use Rattle.std.specs.Prelude.{ℕ, ◌+◌, ◌==◌, nat_lt, Bool, true, false, ◌&&◌, if◌then◌else◌}
-use Rattle.std.specs.Prelude.{List, [], ◌∷◌, ◌++◌, length, sum_by}
-use Rattle.std.specs.List.{list_any, flat_map}
+use Rattle.std.specs.Prelude.{List, [], ◌∷◌, ◌++◌}
+use Rattle.std.specs.List.{list_any}
 use Rattle.std.specs.Str.{bytes_eq}
 use Rattle.run_model.specs.declared.tasks.Outcome.{Outcome}
 use Rattle.run_model.specs.declared.tasks.Outcome.TheVariants.{Success, Failure}
 use Rattle.run_model.specs.Event.{Event}
 use Rattle.run_model.specs.Event as event
-use Rattle.run_crew.specs.declared.notes.Note.{Note}
+use Rattle.crew_workers.specs.declared.notes.Note.{Note}
 
 -- ---- notes
-
--- How many notes there are.
-abbrev pub noted : List (List Note) → ℕ
-noted lists = sum_by (λ notes. length notes) lists
-
--- The notes of all workers, one list after the other.
-abbrev pub all_notes : List (List Note) → List Note
-all_notes lists = flat_map (λ notes. notes) lists
 
 -- Both tasks ended without an error, or both with the same one.
 abbrev pub is_same_outcome : Outcome → Outcome → Bool

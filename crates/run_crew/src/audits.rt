@@ -6,12 +6,14 @@ ghost use Rattle.std.specs.List.Sorted.{IsPermutation};
 ghost use Rattle.run_crew.specs.Audits.{FirstStrayIn, HasStrayed, IsComplete, IsFirstLeft};
 ghost use Rattle.run_crew.specs.Audits.{IsFirstStray, NoStray, NoneLeft, is_left};
 ghost use Rattle.run_crew.specs.Audits.{is_stray, made_at};
-ghost use Rattle.run_crew.specs.Notes.{all_notes, has};
+ghost use Rattle.run_crew.specs.Notes.{has};
+ghost use Rattle.crew_workers.specs.Notes.{all_notes};
 
 use crate::desks::Desk;
 use crate::finishes::Finishes;
-use crate::notes::{Note, WorkerNotes, has_note, have_note};
+use crate::notes::{has_note, have_note};
 use crate::openings::Opening;
+use crew_workers::{Note, WorkerNotes};
 use run_book::State;
 use run_disk::RunDisk;
 use run_model::Phase;

@@ -13,12 +13,12 @@ ghost use Rattle.book_model.specs.Stores.{Stores};
 ghost use Rattle.run_book.specs.Views.{unless_broken, with_session};
 ghost use Rattle.run_crew.specs.Desks.{DeskView, finishes_of, is_done_for, starts_of};
 ghost use Rattle.run_crew.specs.Openings.{Carries};
-ghost use Rattle.run_crew.specs.Seats.{one_finish, one_start};
+ghost use Rattle.crew_workers.specs.Seats.{one_finish, one_start};
 ghost use Rattle.run_crew.specs.Steps.{TakesStep};
 
 use crate::counts::counts_of;
 use crate::openings::{AnyBook, Obeys, Opening};
-use crate::seats::Seat;
+use crew_workers::Seat;
 use run_book::Book;
 use run_disk::RunDisk;
 use run_model::{Answer, Command, Outcome, Refusal, Started, Trouble};
@@ -83,7 +83,11 @@ impl<D: RunDisk, S: Ledger, F: Ledger, O: Opening> Desk<D, S, F, O> {
             finishes: finish_total,
             opening: PhantomData,
         };
-        (desk, Seat::new(start_share, finish_share))
+        let seat = Seat {
+            starts: start_share,
+            finishes: finish_share,
+        };
+        (desk, seat)
     }
 
     /// Starts the ready task with the least number, as [`Book::start`] does. If it is accepted,

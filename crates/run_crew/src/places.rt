@@ -1,75 +1,17 @@
-//! What threads see of the value of the lock: the steps that move their seats, and no more of the
-//! book.
+//! A [`Desk`] as a place: what threads see of it.
 
-ghost use Rattle.std.specs.Prelude.{◌≡◌, ◌<◌, ℕ, Bool, Result, MatchResult};
-ghost use Rattle.run_model.specs.declared.answers.Started.{Started};
-ghost use Rattle.run_model.specs.declared.faults.Trouble.{Trouble};
-ghost use Rattle.run_model.specs.declared.refusals.Refusal.{Refusal};
-ghost use Rattle.run_model.specs.declared.tasks.Outcome.{Outcome};
+ghost use Rattle.std.specs.Prelude.{◌≡◌};
 ghost use Rattle.run_model.specs.Replies.{reply_finish, reply_start};
 ghost use Rattle.book_model.specs.Books.{Flushes, IsDurable};
 ghost use Rattle.run_book.specs.Views.{unless_broken};
 ghost use Rattle.run_crew.specs.Desks.{is_done_for};
-ghost use Rattle.run_crew.specs.Seats.{one_finish, one_start};
 
 use crate::desks::Desk;
 use crate::openings::Opening;
-use crate::seats::Seat;
+use crew_workers::{CountedPlace, Place, Seat};
 use run_disk::RunDisk;
 use run_model::{Outcome, Refusal, Started, Trouble};
 use std::sync::ledger::Ledger;
-
-/// The steps that move no seat, and what a turn is told.
-pub trait Place {
-    /// That so many events are durable.
-    ghost holds: { Self → ℕ → Type 0 };
-
-    /// What a flush may answer and leave.
-    ghost flushes: { Self → Result ℕ Trouble → Self → Type 0 };
-
-    /// What it may answer of the scope of a task.
-    ghost tells: { Self → ℕ → Bool → Type 0 };
-
-    /// How many events are durable.
-    fn durable(&self) -> u64
-        ensures { holds self.now result };
-
-    /// Makes all events so far durable.
-    fn flush(&mut self) -> Result<u64, Trouble>
-        ensures { flushes self.old result self.new };
-
-    /// Reports whether the scope that a task lives in is done.
-    fn is_done(&self, task: u16) -> bool
-        ensures { tells self.now task result };
-}
-
-/// Steps that are counted in the seat of the thread that makes them.
-pub trait CountedPlace<S: Ledger, F: Ledger>: Place {
-    /// What a start may answer and leave.
-    ghost starts: { Self → Result Started Refusal → Self → Type 0 };
-
-    /// What a finish of a task with an outcome may answer and leave.
-    ghost finishes: { Self → ℕ → Outcome → Result ℕ Refusal → Self → Type 0 };
-
-    /// Starts a task.
-    fn start_as(&mut self, seat: &mut Seat<S, F>) -> Result<Started, Refusal>
-        requires part { 0 < seat.old.start_parts }
-        ensures starts { starts self.old result self.new }
-        ensures seat { MatchResult result (λ _. seat.new ≡ one_start seat.old)
-            (λ _. seat.new ≡ seat.old) };
-
-    /// Ends a task.
-    fn finish_as(
-        &mut self,
-        seat: &mut Seat<S, F>,
-        task: u16,
-        outcome: &Outcome,
-    ) -> Result<u64, Refusal>
-        requires part { 0 < seat.old.finish_parts }
-        ensures finishes { finishes self.old task outcome.now result self.new }
-        ensures seat { MatchResult result (λ _. seat.new ≡ one_finish seat.old)
-            (λ _. seat.new ≡ seat.old) };
-}
 
 impl<D: RunDisk, S: Ledger, F: Ledger, O: Opening> Place for Desk<D, S, F, O> {
     ghost holds = { λ d n. (n ≡ d.book.durable) × IsDurable D.state d.book };

@@ -1,10 +1,10 @@
 use Rattle.std.proofs.Common.{◌∙◌, ap, subst, sym}
 use Rattle.std.specs.Prelude.{All}
 use Rattle.book_model.specs.Books.{BookView}
-use Rattle.run_crew.specs.Courses.{IsGates, IsOfShift}
+use Rattle.crew_workers.specs.Courses.{IsGates, IsOfShift}
 use Rattle.run_crew.specs.Desks.{DeskView}
-use Rattle.run_crew.specs.Notes.{noted}
-use Rattle.run_crew.specs.Seats.{SeatView}
+use Rattle.crew_workers.specs.Notes.{noted}
+use Rattle.crew_workers.specs.Seats.{SeatView}
 use Rattle.run_console.proofs.Working.{acknowledged, no_finishes, no_starts, shares_count}
 use Rattle.run_console.proofs.crews.work.Goals as goal
 

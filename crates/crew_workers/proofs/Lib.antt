@@ -1,0 +1,2 @@
+pub mod Coursing
+pub mod Rooms

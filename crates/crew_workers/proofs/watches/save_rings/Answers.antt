@@ -1,0 +1,16 @@
+use Rattle.crew_workers.proofs.Coursing.{ended_watch, next_save, no_save}
+use Rattle.crew_workers.proofs.watches.save_rings.Goals as goal
+
+pub loop-init : goal.loop-init
+loop-init g c = no_save g.W.Watch.step _
+
+pub returns-in_default : goal.returns-in_default
+returns-in_default g c = record {
+  calls = ended_watch g.W.Watch.step c.loop.heard c.wait.result _ _ _ c.in_default.is
+      c.loop.invariant c.wait.ensures.step;
+}
+
+pub loop-preserved : goal.loop-preserved
+loop-preserved g c =
+    next_save g.W.Watch.step c.loop.heard _ c.wait.result c.save.result _ _ _ _ c.in-Some-wait.is
+    c.wait.ensures.later c.loop.invariant c.wait.ensures.step c.save.ensures.step

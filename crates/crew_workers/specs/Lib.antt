@@ -1,0 +1,4 @@
+pub mod Courses
+pub mod Notes
+pub mod Seats
+pub mod Shifts
