@@ -1,16 +1,14 @@
 //! Kinds: one is made of its view, and what follows from it alone.
 
 ghost use Rattle.std.specs.Option.{option_copied};
-ghost use Rattle.std.specs.Prelude.{◌≡◌, ◌&&◌, IfSome, IsTrue, is_some, not};
+ghost use Rattle.std.specs.Prelude.{◌≡◌, ◌&&◌, IsTrue, is_some, not};
 ghost use Rattle.run_model.specs.Allowed.{is_cancellable, takes_cause};
-ghost use Rattle.run_model.specs.Scopes.{is_root, is_detached, own_deadline, text_under};
-ghost use Rattle.run_model.specs.Texts.{IsText};
 ghost use Rattle.row_view.specs.Views.{kind_of};
 ghost use Rattle.scope_tree.specs.Checks.{is_derived_kind};
 
 use row_view::KindView;
 use row_view::copies::{moment_of, name_copy, optional_copy, text_copy};
-use run_model::{Kind, Moment};
+use run_model::Kind;
 
 /// Returns the kind that a view shows.
 pub fn kind_copy(kind: KindView) -> Kind
@@ -29,20 +27,6 @@ pub fn kind_copy(kind: KindView) -> Kind
     }
 }
 
-/// Returns whether a scope of this kind has nothing above it.
-pub fn is_root(kind: &Kind) -> bool
-    ensures { result ≡ is_root kind.now }
-{
-    matches!(kind, Kind::Root)
-}
-
-/// Returns whether a scope of this kind is not done when its parent is.
-pub fn is_detached(kind: &Kind) -> bool
-    ensures { result ≡ is_detached kind.now }
-{
-    matches!(kind, Kind::Detached)
-}
-
 /// Returns whether a scope of this kind can be cancelled by command.
 pub fn is_cancellable(kind: &Kind) -> bool
     ensures { result ≡ is_cancellable kind.now }
@@ -55,25 +39,4 @@ pub fn refuses_cause(kind: &Kind, cause: Option<&[u8]>) -> bool
     ensures { result ≡ (is_some (option_copied cause.entry) && not (takes_cause kind.now)) }
 {
     cause.is_some() && !matches!(kind, Kind::Cause)
-}
-
-/// Returns the deadline that a scope of this kind has by itself.
-pub fn own_deadline(kind: &Kind) -> Option<Moment>
-    ensures { result ≡ own_deadline kind.now }
-{
-    match kind {
-        Kind::Deadline(moment, _) => Some(*moment),
-        _ => None,
-    }
-}
-
-/// Returns the text that a scope of this kind holds under this key.
-pub fn text_under<'a>(key: &[u8], kind: &'a Kind) -> Option<&'a [u8]>
-    ensures value { option_copied result ≡ text_under key.now kind.now }
-    ensures text { IfSome result (λ text. IsText text.now) }
-{
-    match kind {
-        Kind::Value(own, text) if key == own.as_bytes() => Some(text.as_bytes()),
-        _ => None,
-    }
 }

@@ -2,30 +2,23 @@
 
 ghost use Rattle.std.specs.List.{flat_map, AllByRecursion};
 ghost use Rattle.std.specs.Option.{option_map, option_map_or};
-ghost use Rattle.std.specs.Prelude.{◌≡◌, ◌≤◌, ◌+◌, ◌*◌, Some, None, length, vec_len, vec_capacity};
+ghost use Rattle.std.specs.Prelude.{◌≡◌, ◌≤◌, ◌+◌, ◌*◌, Some, None, length};
 ghost use Rattle.std.specs.Prelude.{[], ◌∷◌, IfSome, IfNone, IsTrue, nat_le, false};
-ghost use Rattle.run_model.specs.declared.bounds.TheConstants.{MOST_SCOPES};
 ghost use Rattle.run_model.specs.Layouts.{most_scopes};
 ghost use Rattle.run_model.specs.Rows.{root};
 ghost use Rattle.run_model.specs.Rules.{can_be_hit};
 ghost use Rattle.row_view.specs.Image.{scope_bytes, is_kept_scope, is_kept_hit};
 ghost use Rattle.row_view.specs.RowViews.{scope_of, hit_of};
 ghost use Rattle.row_view.specs.Writing.{put_at};
-ghost use Rattle.scope_tree.specs.Deadlines.{AreWaiting};
-ghost use Rattle.scope_tree.specs.Links.{AreFound};
-ghost use Rattle.scope_tree.specs.Names.{names_of, AreNamed};
 ghost use Rattle.scope_tree.specs.TreeRows.{AreWritable, can_follow, hit_fits, more_rows_at};
 ghost use Rattle.scope_tree.specs.TreeRows.{reason_fits, tree_at};
 
-use crate::chains::Chains;
-use crate::changes::push_row;
-use crate::kinds::{kind_copy, own_deadline};
-use crate::names::place_of;
-use arrayvec::ArrayVec;
+use crate::kinds::kind_copy;
 use row_view::copies::{moment_of, name_copy, text_copy};
 use row_view::{HitView, ImageHead, ScopeRow, put_scope, read_scope, scope_row};
-use run_model::{Hit, Kind, Layout, MOST_SCOPES, Moment, Reason, Scope};
+use run_model::{Hit, Kind, Layout, Moment, Reason, Scope};
 use std::alloc::Allocator;
+use tree_index::{Rows, own_deadline};
 
 /// Puts the rows at a place, one after the other, and returns the place after them.
 pub fn put_rows(rows: &[Scope], out: &mut [u8], at: usize) -> usize
@@ -47,87 +40,66 @@ pub fn put_rows(rows: &[Scope], out: &mut [u8], at: usize) -> usize
 /// its rows; `None` if the bytes begin with the rows of no such tree.
 pub fn read_behind_root<'a, A: Allocator>(
     layout: Layout,
-    scopes: &mut Vec<Scope, A>,
-    names: &mut Chains<A>,
-    links: &mut Chains<A>,
-    due: &mut ArrayVec<u16, MOST_SCOPES>,
+    rows: &mut Rows<A>,
     head: &ImageHead,
     bytes: &'a [u8],
 ) -> Option<(Moment, &'a [u8])>
-    requires room { vec_capacity scopes.old ≡ most_scopes layout }
-    requires root { scopes.old.items ≡ root ∷ [] }
-    requires found { AreFound scopes.old.items (vec_capacity scopes.old) names.old links.old }
-    requires waiting { AreWaiting scopes.old.items due.old.items }
+    requires room { rows.old.room ≡ most_scopes layout }
+    requires root { rows.old.rows ≡ root ∷ [] }
     ensures read { IfSome result (λ x. tree_at layout head.now bytes.now ≡ Some (
       record {
         layout = layout;
         clock = x.0;
-        scopes = scopes.new.items;
+        scopes = rows.new.rows;
       },
       x.1.now,
     )) }
     ensures none { IfNone result (tree_at layout head.now bytes.now ≡ None) }
-    ensures capacity { vec_capacity scopes.new ≡ vec_capacity scopes.old }
-    ensures found { AreFound scopes.new.items (vec_capacity scopes.new) names.new links.new }
-    ensures waiting { AreWaiting scopes.new.items due.new.items }
+    ensures capacity { rows.new.room ≡ rows.old.room }
 {
     let clock = Moment::new(head.clock)?;
     if layout.most_scopes() <= head.scopes as usize {
         return None;
     }
-    let rest = read_more(scopes, names, links, due, head, bytes)?;
+    let rest = read_more(rows, head, bytes)?;
     Some((clock, rest))
 }
 
 /// Reads so many rows after those that there are; `None` if the bytes don't begin with them, or one
 /// of them can't follow.
 fn read_more<'a, A: Allocator>(
-    scopes: &mut Vec<Scope, A>,
-    names: &mut Chains<A>,
-    links: &mut Chains<A>,
-    due: &mut ArrayVec<u16, MOST_SCOPES>,
+    rows: &mut Rows<A>,
     head: &ImageHead,
     bytes: &'a [u8],
 ) -> Option<&'a [u8]>
-    requires room { vec_len scopes.old + head.now.scopes ≤ vec_capacity scopes.old }
-    requires few { vec_capacity scopes.old ≤ MOST_SCOPES }
-    requires found { AreFound scopes.old.items (vec_capacity scopes.old) names.old links.old }
-    requires waiting { AreWaiting scopes.old.items due.old.items }
+    requires { length rows.old.rows + head.now.scopes ≤ rows.old.room }
     ensures read { IfSome result (λ rest.
-        more_rows_at head.now.count head.now.clock head.now.scopes scopes.old.items bytes.now
-        ≡ Some (scopes.new.items, rest.now)) }
+        more_rows_at head.now.count head.now.clock head.now.scopes rows.old.rows bytes.now
+        ≡ Some (rows.new.rows, rest.now)) }
     ensures none { IfNone result
-        (more_rows_at head.now.count head.now.clock head.now.scopes scopes.old.items bytes.now
+        (more_rows_at head.now.count head.now.clock head.now.scopes rows.old.rows bytes.now
         ≡ None) }
-    ensures capacity { vec_capacity scopes.new ≡ vec_capacity scopes.old }
-    ensures found { AreFound scopes.new.items (vec_capacity scopes.new) names.new links.new }
-    ensures waiting { AreWaiting scopes.new.items due.new.items }
+    ensures capacity { rows.new.room ≡ rows.old.room }
 {
     let mut rest = bytes;
     for n in 0..head.scopes {
         let (view, behind) = read_scope(rest)?;
         let row = row_copy(&view);
-        if !can_follow(scopes, names, head, &row) {
+        if !can_follow(rows, head, &row) {
             return None;
         }
-        push_row(scopes, names, links, due, row);
+        rows.push(row);
         rest = behind;
     }
     Some(rest)
 }
 
 /// Returns whether a row can follow these rows, in a state of this head.
-fn can_follow<A: Allocator>(
-    scopes: &[Scope],
-    names: &Chains<A>,
-    head: &ImageHead,
-    row: &Scope,
-) -> bool
-    requires { AreNamed (names_of scopes.now) names.now.keys }
-    ensures { result ≡ can_follow head.now.count head.now.clock scopes.now row.now }
+fn can_follow<A: Allocator>(rows: &Rows<A>, head: &ImageHead, row: &Scope) -> bool
+    ensures { result ≡ can_follow head.now.count head.now.clock rows.now.rows row.now }
 {
-    (row.parent as usize) < scopes.len()
-        && place_of(scopes, names, row.name.as_bytes()).is_none()
+    (row.parent as usize) < rows.len()
+        && rows.find(row.name.as_bytes()).is_none()
         && hit_fits(head, &row.kind, &row.hit)
 }
 

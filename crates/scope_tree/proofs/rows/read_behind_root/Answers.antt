@@ -14,13 +14,13 @@ returns-then-most_scopes-head-clause-none g c =
 
 pub returns-in_err-rest-clause-none : goal.returns-in_err-rest-clause-none
 returns-in_err-rest-clause-none g c =
-    let none = no_tree c.args.layout c.args.head.now c.args.scopes.now.items c.args.bytes.now
+    let none = no_tree c.args.layout c.args.head.now c.args.rows.now.rows c.args.bytes.now
     c.requires.root c.in_err-rest.ensures.none in
     search (rules, none)
 
 pub returns-clause-read : goal.returns-clause-read
 returns-clause-read g c =
-    tree_read c.args.layout c.args.head.now c.in_ok-clock.clock c.args.scopes.now.items
-    c.read_more.new.scopes.items c.args.bytes.now c.in_ok-rest.rest.now c.requires.root
+    tree_read c.args.layout c.args.head.now c.in_ok-clock.clock c.args.rows.now.rows
+    c.read_more.new.rows.rows c.args.bytes.now c.in_ok-rest.rest.now c.requires.root
     (omega (arith, c.if-most_scopes-head.false, c.most_scopes.ensures.value))
     c.in_ok-clock.ensures.0 c.in_ok-clock.ensures.1 c.in_ok-rest.ensures.read

@@ -5,7 +5,7 @@ use Rattle.scope_tree.proofs.trees.Tree.len.Goals as goal
 pub returns-clause-hits : goal.returns-clause-hits
 returns-clause-hits g c =
     rw (← c.self.view_is)
-    (hits_reach_down c.self.inside.clock c.self.inside.scopes.items c.self.invariant.hits)
+    (hits_reach_down c.self.inside.clock c.self.inside.rows.rows c.self.invariant.hits)
 
 pub returns-clause-len : goal.returns-clause-len
 returns-clause-len g c =

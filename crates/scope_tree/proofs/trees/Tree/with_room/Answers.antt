@@ -1,49 +1,37 @@
-use Rattle.run_model.proofs.Common.{◌≡◌, ◌∷◌, ◌++◌, [], true, is_none, None, refl, sym, subst, ap}
-use Rattle.run_model.proofs.Common.{◌∙◌, bytes_eq, root, AreOrdered}
+use Rattle.run_model.proofs.Common.{◌≡◌, ◌∷◌, length, [], true, is_none, refl, sym, subst, ap}
+use Rattle.run_model.proofs.Common.{◌∙◌, arith, bytes_eq, is_root, false≢true, root}
 use Rattle.std.specs.List.{position}
-use Rattle.scope_tree.specs.Links.{AreFound}
-use Rattle.scope_tree.specs.Reaches.{AreReached}
-use Rattle.scope_tree.proofs.Rooting.{none_found, none_wait, root_pushed, root_sound}
-use Rattle.scope_tree.proofs.Rooting.{root_marked_none}
-use Rattle.scope_tree.proofs.Sounding.{tree_of, sound_fields}
+use Rattle.run_model.specs.declared.scopes.Scope.{Scope}
+use Rattle.tree_index.specs.Rows.{Numbered}
+use Rattle.scope_tree.proofs.Rooting.{root_pushed, root_sound, one_fits}
+use Rattle.scope_tree.proofs.Sounding.{tree_of, sound_fields, rows_are, room_is}
 use Rattle.scope_tree.proofs.trees.Tree.with_room.Goals as goal
 
-pub push_row-requires-clause-free : goal.push_row-requires-clause-free
-push_row-requires-clause-free g c =
-    subst (λ l. is_none (position (λ r. bytes_eq c.new-root.result.name r.name) l) ≡ true)
-    (sym c.in-Ok.ensures.items) refl
+pub push-requires-clause-room : goal.push-requires-clause-room
+push-requires-clause-room g c =
+    omega (
+      arith,
+      ap (λ (r : Numbered). length r.rows) c.in-Ok.ensures,
+      ap (λ (r : Numbered). r.room) c.in-Ok.ensures,
+      c.most_scopes-room.ensures.value,
+      one_fits c.args.layout,
+    )
 
-pub push_row-requires-clause-found : goal.push_row-requires-clause-found
-push_row-requires-clause-found g c =
-    none_found c.most_scopes-room.result _ _ _ _ c.in-Ok.ensures.items c.in-Ok.ensures.exact
-    c.in-Ok-with_room.ensures c.in-Ok-with_room-2.ensures
+pub push-requires-clause-free : goal.push-requires-clause-free
+push-requires-clause-free g c =
+    subst (λ (r : Numbered). is_none (position (λ r. bytes_eq c.new-root.result.name r.name) r.rows)
+    ≡ true)
+    (sym c.in-Ok.ensures) refl
 
-pub push_row-requires-clause-waiting : goal.push_row-requires-clause-waiting
-push_row-requires-clause-waiting g c = none_wait _ _ c.in-Ok.ensures.items c.new-due.ensures
-
-pub reach_rest-requires-clause-ordered : goal.reach_rest-requires-clause-ordered
-reach_rest-requires-clause-ordered g c =
-    let rows = root_pushed _ _ _ _ c.push_row.ensures.rows c.in-Ok.ensures.items c.new-root.ensures
-    c.name_copy.ensures in
-    subst AreOrdered (sym (c.deref.ensures.value ∙ rows)) (root_sound c.args.layout 0).ordered
+pub push-requires-clause-parent : goal.push-requires-clause-parent
+push-requires-clause-parent g c below =
+    absurd (false≢true (sym below ∙ ap (λ (r : Scope). is_root r.kind) c.new-root.ensures))
 
 pub invariant_of-result : goal.invariant_of-result
 invariant_of-result g c =
-    let rows = root_pushed _ _ _ _ c.push_row.ensures.rows c.in-Ok.ensures.items c.new-root.ensures
-    c.name_copy.ensures in
-    let room = c.push_row.ensures.capacity ∙ c.in-Ok.ensures.exact
-    ∙ c.most_scopes-room.ensures.value in
-    sound_fields (tree_of c.args.layout c.moment_of.result (root ∷ [])) _ _ _ _ _ _ _ _ _ rows
+    let rows = root_pushed _ _ _ _ (rows_are _ _ c.push.ensures)
+    (ap (λ (r : Numbered). r.rows) c.in-Ok.ensures) c.new-root.ensures c.name_copy.ensures in
+    sound_fields (tree_of c.args.layout c.moment_of.result (root ∷ [])) _ _ rows
     (root_sound c.args.layout c.moment_of.result)
-    (root_marked_none _ _ rows
-    (c.push_reserved.ensures.items ∙ ap (λ l. l ++ None ∷ []) c.in-Ok-with_capacity.ensures.items))
-    (subst (λ n. AreFound c.push_row.new.scopes.items n c.push_row.new.names c.push_row.new.links)
-    room c.push_row.ensures.found)
-    c.push_row.ensures.waiting
-    (subst (λ l. AreReached l c.reach_rest.new.reaches.items) c.deref.ensures.value
-    c.reach_rest.ensures.reached)
-    room
-    (c.push_reserved.ensures.capacity ∙ c.in-Ok-with_capacity.ensures.exact
-    ∙ c.most_scopes-room.ensures.value)
-    (c.reach_rest.ensures.capacity ∙ c.in-Ok-with_capacity-2.ensures.exact
+    (room_is _ _ c.push.ensures ∙ ap (λ (r : Numbered). r.room) c.in-Ok.ensures
     ∙ c.most_scopes-room.ensures.value)

@@ -3,5 +3,5 @@ use Rattle.scope_tree.proofs.trees.Tree.write_rows.Goals as goal
 
 pub put_rows-requires-clause-rows : goal.put_rows-requires-clause-rows
 put_rows-requires-clause-rows g c =
-    lent_writable c.self.inside.clock c.self.inside.scopes.items c.deref.result.now
-    c.self.invariant.rooted c.self.invariant.hits c.deref.ensures.value
+    lent_writable c.self.inside.clock c.self.inside.rows.rows c.as_slice.result.now
+    c.self.invariant.rooted c.self.invariant.hits c.as_slice.ensures

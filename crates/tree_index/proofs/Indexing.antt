@@ -1,0 +1,177 @@
+-- Rows that change, and what stands beside them.
+use Rattle.run_model.proofs.Common.{◌≡◌, ◌<◌, ◌≤◌, ℕ, false, List, [], ◌∷◌, ◌++◌, length, take}
+use Rattle.run_model.proofs.Common.{Option, inl, inr, refl, sym, subst, ap, ◌∙◌, arith}
+use Rattle.run_model.proofs.Common.{none-some, length-append, cases_eq, slice_get_within, at_row}
+use Rattle.run_model.proofs.Common.{option_map, slice_get, is_root, with_hit, AreOrdered, length-at_row}
+use Rattle.run_model.proofs.Common.{slice_get-at_row_same, slice_get-at_row_other}
+use Rattle.run_model.proofs.Common.{slice_get-push_left}
+use Rattle.run_model.specs.declared.bounds.TheConstants.{MOST_SCOPES}
+use Rattle.run_model.specs.declared.scopes.Hit.{Hit}
+use Rattle.run_model.specs.declared.scopes.Scope.{Scope}
+use Rattle.tree_index.specs.Chains.{Places}
+use Rattle.tree_index.specs.Deadlines.{AreWaiting}
+use Rattle.tree_index.specs.Links.{AreFound}
+use Rattle.tree_index.specs.Marks.{AreMarked, IsMark}
+use Rattle.tree_index.specs.Reaches.{AreReached, AreReaches}
+use Rattle.tree_index.specs.Rows.{Numbered, IsIndexed}
+use Rattle.tree_index.specs.declared.reaches.Reach.{Reach}
+use Rattle.tree_index.proofs.Fronts.{given_back}
+use Rattle.tree_index.proofs.Growing.{ordered_pushed, marked_pushed}
+use Rattle.tree_index.proofs.Nearing.{AreAgain, reaches_again}
+use Rattle.tree_index.proofs.Waiting.{has_deadline}
+
+-- ---- no row
+
+none_found : (room : ℕ) → AreFound [] room (record { room = room; keys = [] })
+    (record { room = room; keys = [] })
+none_found room = record {
+  named = record { distinct = λ s t a b at other e. absurd (none-some a at); homes = refl };
+  linked = refl;
+  name_room = refl;
+  link_room = refl;
+}
+
+none_wait : AreWaiting [] []
+none_wait = record {
+  heap = record {
+    known = λ n among. absurd (omega (arith, among.1));
+    few = omega arith;
+    heap = λ p j parent less. absurd (omega (arith, less));
+  };
+  fits = omega arith;
+  dues = λ n among. absurd (omega (arith, among.1));
+  waits = λ n dated unhit. (let has = has_deadline [] n dated in
+      absurd (none-some has.row has.found));
+}
+
+none_indexed : (room : ℕ) → room ≤ MOST_SCOPES
+    → IsIndexed (record { room = room; rows = [] }) [] (record { room = room; keys = [] })
+    (record { room = room; keys = [] }) [] [] room room
+none_indexed room most = record {
+  few = omega arith;
+  most = most;
+  ordered = λ s row found below. absurd (none-some row found);
+  marked = record { same = refl; right = λ s less. absurd (omega (arith, less)) };
+  found = none_found room;
+  waiting = none_wait;
+  reached = record { same = refl; right = λ s reach found. absurd (none-some reach found) };
+  mark_room = refl;
+  reach_room = refl;
+}
+
+pub all_empty : (room : ℕ) (rows : List Scope) (capacity : ℕ) (marks : List (Option ℕ))
+    (names links : Places) (due : List ℕ) (reaches : List Reach) (m u : ℕ) → room ≤ MOST_SCOPES
+    → rows ≡ [] → capacity ≡ room → marks ≡ [] → names ≡ record { room = room; keys = [] }
+    → links ≡ record { room = room; keys = [] } → due ≡ [] → reaches ≡ [] → m ≡ room → u ≡ room
+    → IsIndexed (record { room = capacity; rows = rows }) marks names links due reaches m u
+all_empty room rows capacity marks names links due reaches m u most a b c d e f g h i =
+    rw (a, b, c, d, e, f, g, h, i) (none_indexed room most)
+
+-- ---- a row more
+
+pub again_pushed : (rows : List Scope) (row : Scope) → AreAgain rows (rows ++ row ∷ [])
+again_pushed rows row s at found = record {
+  to = at;
+  found = slice_get-push_left rows row s (slice_get_within rows s at found) ∙ found;
+  kind = refl;
+  parent = refl;
+}
+
+pub reaches_pushed_right : (rows : List Scope) (row : Scope) (reaches : List Reach)
+    → AreOrdered rows → (is_root row.kind ≡ false → row.parent < length rows)
+    → AreReached rows reaches → AreReaches (rows ++ row ∷ []) reaches
+reaches_pushed_right rows row reaches ordered known were =
+    reaches_again rows (rows ++ row ∷ []) reaches ordered (ordered_pushed rows row ordered known)
+    (again_pushed rows row) were
+
+pub indexed_pushed : (rows rows' : List Scope) (row : Scope) (room room' : ℕ)
+    (marks marks' : List (Option ℕ)) (mark : Option ℕ) (names links names' links' : Places)
+    (due due' : List ℕ) (reaches reaches' : List Reach) (m u m' u' : ℕ)
+    → IsIndexed (record { room = room; rows = rows }) marks names links due reaches m u
+    → length rows < room → (is_root row.kind ≡ false → row.parent < length rows)
+    → rows' ≡ rows ++ row ∷ [] → room' ≡ room
+    → IsMark (rows ++ row ∷ []) (length rows) mark → marks' ≡ marks ++ mark ∷ []
+    → AreFound rows' room' names' links' → AreWaiting rows' due' → AreReached rows' reaches'
+    → m' ≡ m → u' ≡ u
+    → IsIndexed (record { room = room'; rows = rows' }) marks' names' links' due' reaches' m' u'
+indexed_pushed rows rows' row room room' marks marks' mark names links names' links' due due'
+    reaches reaches' m u m' u' was more known pushed same right marks_are found waiting reached
+    m_is u_is =
+    let ordered = ordered_pushed rows row was.ordered known in
+    record {
+      few = omega (arith, more, same, ap length pushed, length-append rows (row ∷ []));
+      most = omega (arith, same, was.most);
+      ordered = subst AreOrdered (sym pushed) ordered;
+      marked = subst (λ l. AreMarked l marks') (sym pushed)
+          (subst (AreMarked (rows ++ row ∷ [])) (sym marks_are)
+          (marked_pushed rows row marks mark was.ordered ordered was.marked right));
+      found = found;
+      waiting = waiting;
+      reached = reached;
+      mark_room = m_is ∙ was.mark_room ∙ sym same;
+      reach_room = u_is ∙ was.reach_room ∙ sym same;
+    }
+
+-- ---- rows that change where they stand
+
+pub reached_hit : (hit : Hit) (s : ℕ) (rows : List Scope) (reaches : List Reach) → AreOrdered rows
+    → AreOrdered (at_row (with_hit hit) s rows) → AreReached rows reaches
+    → AreReached (at_row (with_hit hit) s rows) reaches
+reached_hit hit s rows reaches ordered ordered' were = record {
+  same = were.same ∙ sym (length-at_row (with_hit hit) s rows);
+  right = reaches_again rows (at_row (with_hit hit) s rows) reaches ordered ordered' again were;
+}
+  where
+    again : AreAgain rows (at_row (with_hit hit) s rows)
+    again n row found = elim (cases_eq n s) [
+      | inl here ↦ record {
+        to = with_hit hit row;
+        found = ap (slice_get (at_row (with_hit hit) s rows)) here
+            ∙ slice_get-at_row_same (with_hit hit) s rows
+            ∙ ap (option_map (with_hit hit)) (ap (slice_get rows) (sym here) ∙ found);
+        kind = refl;
+        parent = refl;
+      }
+      | inr other ↦ record {
+        to = row;
+        found = slice_get-at_row_other (with_hit hit) s n rows other ∙ found;
+        kind = refl;
+        parent = refl;
+      }
+    ]
+
+-- Where the rows and the marks were lent to change.
+pub indexed_given_back : (old new : Numbered) (scopes scope_rest : List Scope)
+    (marks marks' mark_rest : List (Option ℕ)) (names links : Places) (due due' : List ℕ)
+    (reaches : List Reach) (scope_len mark_len m u : ℕ)
+    → IsIndexed old marks names links due reaches m u → new.room ≡ old.room
+    → length new.rows ≡ length old.rows → AreOrdered new.rows → scopes ≡ new.rows
+    → AreMarked scopes marks' → AreFound new.rows old.room names links → AreWaiting new.rows due'
+    → AreReached new.rows reaches → scope_len ≡ length scopes → mark_len ≡ length marks'
+    → IsIndexed (record { room = old.room; rows = take scope_len (scopes ++ scope_rest) })
+    (take mark_len (marks' ++ mark_rest)) names links due' reaches m u
+indexed_given_back old new scopes scope_rest marks marks' mark_rest names links due due' reaches n k
+    m u was room size ordered same marked found waiting reached all_n all_k =
+    let rows_back = given_back n scopes scope_rest all_n ∙ same in
+    let marks_back = given_back k marks' mark_rest all_k in
+    rw (rows_back, marks_back) (record {
+      few = omega (arith, size, was.few);
+      most = was.most;
+      ordered = ordered;
+      marked = subst (λ l. AreMarked l marks') same marked;
+      found = found;
+      waiting = waiting;
+      reached = reached;
+      mark_room = was.mark_room;
+      reach_room = was.reach_room;
+    })
+
+-- ---- what a caller sees
+
+-- The rows of these fields.
+abbrev pub numbered : ℕ → List Scope → Numbered
+numbered room rows = record { room = room; rows = rows }
+
+pub same_numbered : (room room' : ℕ) (rows rows' : List Scope) → room' ≡ room → rows' ≡ rows
+    → numbered room' rows' ≡ numbered room rows
+same_numbered room room' rows rows' a b = rw (a, b) refl

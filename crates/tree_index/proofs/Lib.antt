@@ -1,0 +1,15 @@
+pub mod Chaining
+pub mod Expiring
+pub mod Fronts
+pub mod Growing
+pub mod HeapSteps
+pub mod Heaps
+pub mod Indexing
+pub mod Latest
+pub mod Marking
+pub mod Naming
+pub mod Nearing
+pub mod Searching
+pub mod Spread
+pub mod Striking
+pub mod Waiting

@@ -1,0 +1,80 @@
+use Rattle.std.proofs.Common.{◌≡◌, length, arith, ap, ◌∙◌, Some, ◌∷◌, ◌++◌, [], sym, subst}
+use Rattle.std.proofs.Common.{◌<◌, length-append, IfSome}
+use Rattle.tree_index.specs.declared.chains.TheConstants.{CHAINS}
+use Rattle.tree_index.specs.Deadlines.{IsDueHeap, Noted, AreWaiting}
+use Rattle.tree_index.specs.Names.{home}
+use Rattle.tree_index.proofs.Naming.{found_lengths, found_pushed, link_fits}
+use Rattle.tree_index.proofs.Waiting.{heap_over, deadline_pushed, waiting_pushed}
+use Rattle.tree_index.proofs.changes.push_row.Goals as goal
+
+pub push-requires-clause-room : goal.push-requires-clause-room
+push-requires-clause-room g c =
+    omega (
+      arith,
+      (found_lengths _ _ _ _ c.requires.found).0,
+      c.requires.found.name_room,
+      c.requires.room,
+    )
+
+pub push-requires-2-clause-room : goal.push-requires-2-clause-room
+push-requires-2-clause-room g c =
+    omega (
+      arith,
+      (found_lengths _ _ _ _ c.requires.found).1,
+      c.requires.found.link_room,
+      c.requires.room,
+    )
+
+pub returns-clause-found : goal.returns-clause-found
+returns-clause-found g c =
+    found_pushed _ _ _ _ c.args.row _ _ _ _ c.requires.found c.requires.free
+    c.push_reserved.ensures.items c.push_reserved.ensures.capacity
+    (c.push.ensures ∙ ap (λ h. record c.args.names.now {
+      keys =
+          c.args.names.now.keys ++ Some h ∷ [];
+    })
+    (c.home.ensures.home ∙ ap home c.as_bytes.ensures.value))
+    (c.push-2.ensures ∙ ap (λ l. record c.args.links.now {
+      keys =
+          c.args.links.now.keys ++ l ∷ [];
+    })
+    c.link_of.ensures)
+
+pub note-requires-clause-heap : goal.note-requires-clause-heap
+note-requires-clause-heap g c =
+    let rows = c.args.scopes.now.items in
+    subst (λ l. IsDueHeap l c.args.due.now.items)
+    (sym (c.deref.ensures.value ∙ c.push_reserved.ensures.items))
+    (heap_over rows (rows ++ c.args.row ∷ []) c.args.due.now.items c.requires.waiting.heap
+    (omega (arith, length-append rows (c.args.row ∷ [])))
+    (λ n less. deadline_pushed rows c.args.row n less))
+
+pub note-requires-clause-known : goal.note-requires-clause-known
+note-requires-clause-known g c =
+    let rows = c.args.scopes.now.items in
+    omega (
+      arith,
+      c.len-n.ensures,
+      ap length (c.deref.ensures.value ∙ c.push_reserved.ensures.items),
+      length-append rows (c.args.row ∷ []),
+    )
+
+pub note-requires-clause-room : goal.note-requires-clause-room
+note-requires-clause-room g c =
+    omega (arith, c.requires.waiting.fits, c.requires.room, c.requires.few)
+
+pub returns-clause-waiting : goal.returns-clause-waiting
+returns-clause-waiting g c =
+    let rows = c.args.scopes.now.items in
+    let due = c.args.due.now.items in
+    let pushed = c.push_reserved.ensures.items in
+    let n : c.len-n.result ≡ length rows = omega (arith, c.len-n.ensures) in
+    subst (λ l. AreWaiting l c.note.new.due.items) (sym pushed)
+    (waiting_pushed rows c.args.row due c.note.new.due.items c.requires.waiting
+    (subst (λ l. Noted l due (length rows) c.note.new.due.items) (c.deref.ensures.value ∙ pushed)
+    (subst (λ k. Noted c.deref.result.now due k c.note.new.due.items) n c.note.ensures)))
+
+pub push-requires-2-clause-key : goal.push-requires-2-clause-key
+push-requires-2-clause-key g c =
+    subst (λ l. IfSome l (λ k. k < CHAINS)) (sym c.link_of.ensures)
+    (link_fits c.args.row CHAINS c.requires.parent)

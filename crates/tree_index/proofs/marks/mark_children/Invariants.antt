@@ -1,0 +1,9 @@
+use Rattle.tree_index.proofs.Spread.{Walk, left}
+use Rattle.tree_index.proofs.marks.mark_children.Given as goal
+
+abbrev pub invariant-loop-child : goal.invariant-loop-child
+invariant-loop-child g l =
+    Walk l.links.keys l.fn.marks l.marks l.fn.work.items l.work.items l.s l.at l.child
+
+abbrev pub decreases-loop-child : goal.decreases-loop-child
+decreases-loop-child g l = left l.child

@@ -1,0 +1,105 @@
+//! Chains of places: each place has a key or none, and the places of one key are found without a
+//! pass over all places, the last one first.
+
+ghost use Rattle.std.specs.Prelude.{◌≡◌, ◌<◌, ◌≤◌, ℕ, [], ◌∷◌, ◌++◌, Some, length};
+ghost use Rattle.std.specs.Prelude.{IfSome, IfOk, None, replicate, slice_get, vec_capacity};
+ghost use Rattle.tree_index.specs.declared.chains.TheConstants.{CHAINS};
+ghost use Rattle.run_model.specs.declared.bounds.TheConstants.{MOST_SCOPES};
+ghost use Rattle.tree_index.specs.Chains.{IsLast, head_of, hung};
+
+use std::alloc::{AllocError, Allocator};
+use std::marker::Model;
+
+/// The number of chains: the keys are the numbers below it.
+pub const CHAINS: usize = 4_096;
+
+/// The keys of places that came one after another.
+#[derive(Drop)]
+pub struct Chains<A: Allocator> {
+    keys: Vec<Option<u16>, A>,
+    heads: Vec<Option<u16>, A>,
+    nexts: Vec<Option<u16>, A>,
+}
+
+impl<A: Allocator> Model for Chains<A> {
+    ghost use Rattle.std.specs.Prelude.{◌≡◌, vec_capacity};
+    ghost use Rattle.tree_index.specs.declared.chains.TheConstants.{CHAINS};
+    ghost use Rattle.tree_index.specs.Chains.{Places, IsChained};
+
+    ghost Value = { Places };
+
+    ghost view = { λ c. record { room = vec_capacity c.keys; keys = c.keys.items } };
+
+    ghost invariant = { λ c. IsChained
+        (record { room = vec_capacity c.keys; keys = c.keys.items })
+        c.heads.items c.nexts.items (vec_capacity c.nexts)
+        × (vec_capacity c.heads ≡ CHAINS) };
+}
+
+impl<A: Allocator + Copy> Chains<A> {
+    /// Makes chains without a place, with room for so many.
+    pub fn with_room(alloc: A, room: usize) -> Result<Chains<A>, AllocError>
+        requires { room ≤ MOST_SCOPES }
+        ensures { IfOk result (λ chains. chains ≡ record { room = room; keys = [] }) }
+    {
+        let keys = Vec::with_capacity(alloc, room)?;
+        let nexts = Vec::with_capacity(alloc, room)?;
+        let heads = no_heads(alloc)?;
+        Ok(Chains { keys, heads, nexts })
+    }
+}
+
+impl<A: Allocator> Chains<A> {
+    /// Adds one more place, with this key or none. Takes no memory.
+    pub fn push(&mut self, key: Option<u16>)
+        requires room { length self.old.keys < self.old.room }
+        requires key { IfSome key (λ k. k < CHAINS) }
+        ensures { self.new ≡ record self.old { keys = self.old.keys ++ key ∷ [] } }
+    {
+        let n = self.keys.len() as u16;
+        let next = hang(&mut self.heads, key, n);
+        self.keys.push_reserved(key);
+        self.nexts.push_reserved(next);
+    }
+
+    /// Returns the last place of this key.
+    pub fn last(&self, key: u16) -> Option<u16>
+        requires { key < CHAINS }
+        ensures { IsLast self.now.keys key (length self.now.keys) result }
+    {
+        self.heads[key as usize]
+    }
+
+    /// Returns the last place before place `n` that has its key.
+    pub fn before(&self, n: u16) -> Option<u16>
+        requires { n < length self.now.keys }
+        ensures { (key : ℕ) → slice_get self.now.keys n ≡ Some (Some key)
+            → IsLast self.now.keys key n result }
+    {
+        self.nexts[n as usize]
+    }
+}
+
+/// Makes the heads of chains without a place, with room for no more.
+fn no_heads<A: Allocator>(alloc: A) -> Result<Vec<Option<u16>, A>, AllocError>
+    ensures none { IfOk result (λ heads. heads.items ≡ replicate CHAINS None) }
+    ensures room { IfOk result (λ heads. vec_capacity heads ≡ CHAINS) }
+{
+    let mut heads = Vec::with_capacity(alloc, CHAINS)?;
+    while heads.len() < CHAINS {
+        heads.push_reserved(None);
+    }
+    Ok(heads)
+}
+
+/// Puts place `n` in front of its key's chain, and returns what stood there.
+fn hang(heads: &mut [Option<u16>], key: Option<u16>, n: u16) -> Option<u16>
+    requires { IfSome key (λ k. k < length heads.old) }
+    ensures head { result ≡ head_of heads.old key }
+    ensures hung { heads.new ≡ hung heads.old key n }
+{
+    let k = key? as usize;
+    let head = heads[k];
+    heads[k] = Some(n);
+    head
+}

@@ -1,0 +1,100 @@
+//! Changes of the rows, each with the names, links, marks and deadlines that belong to it.
+
+ghost use Rattle.std.specs.Prelude.{◌≡◌, ◌<◌, ◌≤◌, ◌++◌, ◌∷◌, [], length, map, vec_len};
+ghost use Rattle.std.specs.Prelude.{vec_capacity, is_none, position, IsTrue, false};
+ghost use Rattle.std.specs.Str.{bytes_eq};
+ghost use Rattle.run_model.specs.declared.bounds.TheConstants.{MOST_SCOPES};
+ghost use Rattle.run_model.specs.Rows.{at_row};
+ghost use Rattle.run_model.specs.Scopes.{AreOrdered, is_root};
+ghost use Rattle.run_model.specs.TreeChanges.{with_hit, tick};
+ghost use Rattle.model_laws.specs.Endings.{AreEarlier};
+ghost use Rattle.tree_index.specs.declared.chains.TheConstants.{CHAINS};
+ghost use Rattle.tree_index.specs.Deadlines.{AreWaiting};
+ghost use Rattle.tree_index.specs.Links.{links_of, AreFound};
+ghost use Rattle.tree_index.specs.Marks.{AreMarked, Struck};
+
+use crate::chains::Chains;
+use crate::deadlines::{note, pop_passed};
+use crate::hits::end_row;
+use crate::links::link_of;
+use crate::marks::mark_below;
+use crate::names::home;
+use arrayvec::ArrayVec;
+use run_model::{Hit, MOST_SCOPES, Moment, Scope};
+use std::alloc::Allocator;
+
+/// Adds one more row, with its name, which no row has, its link, and its deadline, if that waits.
+/// Takes no memory.
+pub fn push_row<A: Allocator>(
+    scopes: &mut Vec<Scope, A>,
+    names: &mut Chains<A>,
+    links: &mut Chains<A>,
+    due: &mut ArrayVec<u16, MOST_SCOPES>,
+    row: Scope,
+)
+    requires found { AreFound scopes.old.items (vec_capacity scopes.old) names.old links.old }
+    requires waiting { AreWaiting scopes.old.items due.old.items }
+    requires free { IsTrue (is_none
+        (position (λ r. bytes_eq row.name r.name) scopes.old.items)) }
+    requires parent { is_root row.kind ≡ false → row.parent < CHAINS }
+    requires room { vec_len scopes.old < vec_capacity scopes.old }
+    requires few { vec_capacity scopes.old ≤ MOST_SCOPES }
+    ensures rows { scopes.new.items ≡ scopes.old.items ++ row ∷ [] }
+    ensures capacity { vec_capacity scopes.new ≡ vec_capacity scopes.old }
+    ensures found { AreFound scopes.new.items (vec_capacity scopes.new) names.new links.new }
+    ensures waiting { AreWaiting scopes.new.items due.new.items }
+{
+    let n = scopes.len() as u16;
+    names.push(Some(home(row.name.as_bytes())));
+    links.push(link_of(&row));
+    scopes.push_reserved(row);
+    note(scopes, due, n);
+}
+
+/// Ends scope `s`, if nothing has ended it by its own hit, and marks the scopes that end with it.
+pub fn end_scope<A: Allocator>(
+    scopes: &mut [Scope],
+    links: &Chains<A>,
+    marks: &mut [Option<u16>],
+    s: u16,
+    hit: Hit,
+)
+    requires ordered { AreOrdered scopes.old }
+    requires few { length scopes.old ≤ MOST_SCOPES }
+    requires marked { AreMarked scopes.old marks.old }
+    requires linked { links.now.keys ≡ links_of scopes.old }
+    requires known { s < length scopes.old }
+    requires struck { Struck scopes.old s hit }
+    ensures rows { scopes.new ≡ at_row (with_hit hit) s scopes.old }
+    ensures marked { AreMarked scopes.new marks.new }
+{
+    if marks[s as usize].is_none() {
+        mark_below(links, marks, s);
+    }
+    end_row(scopes, s, hit);
+}
+
+/// Ends each scope whose deadline is at or before the clock, and that nothing has ended by its own
+/// hit, the soonest deadline first.
+pub fn expire_scopes<A: Allocator>(
+    scopes: &mut [Scope],
+    links: &Chains<A>,
+    marks: &mut [Option<u16>],
+    due: &mut ArrayVec<u16, MOST_SCOPES>,
+    event: u64,
+    clock: Moment,
+)
+    requires ordered { AreOrdered scopes.old }
+    requires few { length scopes.old ≤ MOST_SCOPES }
+    requires marked { AreMarked scopes.old marks.old }
+    requires linked { links.now.keys ≡ links_of scopes.old }
+    requires waiting { AreWaiting scopes.old due.old.items }
+    requires later { AreEarlier scopes.old event }
+    ensures rows { scopes.new ≡ map (tick event clock) scopes.old }
+    ensures marked { AreMarked scopes.new marks.new }
+    ensures waiting { AreWaiting scopes.new due.new.items }
+{
+    while let Some((s, hit)) = pop_passed(scopes, due, event, clock) {
+        end_scope(scopes, links, marks, s, hit);
+    }
+}
