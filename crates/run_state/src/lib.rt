@@ -8,6 +8,7 @@
 #![tactic(auto)]
 
 mod asking;
+mod changes;
 mod hits;
 mod outcomes;
 mod questions;
