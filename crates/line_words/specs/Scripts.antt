@@ -12,9 +12,9 @@ use Rattle.run_lines.specs.Progress.{BeginsScript, Lasts, RunEnds, RunStops}
 use Rattle.run_lines.specs.declared.untils.Until.{Until}
 use Rattle.run_lines.specs.declared.untils.Until.TheVariants.{End, FirstStray}
 use Rattle.store_files.specs.Files.{FilesView, HoldsAlone, IsSettled}
-use Rattle.store_words.specs.declared.endings.Done.{Done}
-use Rattle.store_words.specs.declared.failures.Failure.{Failure}
-use Rattle.store_words.specs.Failures.{AnswersStrict, HasNoFile, Names}
+use Rattle.word_endings.specs.declared.endings.Done.{Done}
+use Rattle.word_endings.specs.declared.failures.Failure.{Failure}
+use Rattle.word_endings.specs.Failures.{AnswersStrict, HasNoFile, Names}
 
 -- A strict run goes on up to the first line that strays, any other to the end of its input.
 abbrev pub until_of : (strict : Bool) → Until

@@ -7,9 +7,9 @@ use Rattle.console_lines.specs.declared.strays.StrayLine.{StrayLine}
 use Rattle.run_lines.specs.declared.untils.Until.{Until}
 use Rattle.run_lines.specs.Timed.{timed_known}
 use Rattle.line_words.specs.Scripts.{EndsOver, Runs, until_of}
-use Rattle.store_words.specs.declared.endings.Done.{Done}
-use Rattle.store_words.specs.declared.failures.Failure.{Failure}
-use Rattle.store_words.specs.Failures.{AnswersStrict, HasNoFile, Names}
+use Rattle.word_endings.specs.declared.endings.Done.{Done}
+use Rattle.word_endings.specs.declared.failures.Failure.{Failure}
+use Rattle.word_endings.specs.Failures.{AnswersStrict, HasNoFile, Names}
 use Rattle.store_files.specs.Files.{FilesView, HoldsAlone, IsSettled}
 
 -- The input was run so (Ran), with the time before its lines: the moments that the clock told, from

@@ -10,7 +10,7 @@ use run_lines::{Until, run_until};
 use std::alloc::Global;
 use std::io::{Read, Write};
 use store_files::{Files, Opened};
-use store_words::{Done, Failure, no_file, strict_over};
+use word_endings::{Done, Failure, no_file, strict_over};
 
 /// Opens the store in the file of this name, and runs the input over it; a strict run ends at the
 /// first line that strays. If the store isn't opened, nothing is read or printed.

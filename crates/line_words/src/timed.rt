@@ -14,7 +14,7 @@ use run_lines::{MachineTime, TimedInput, Until, run_until};
 use std::alloc::Global;
 use std::io::{Read, Write};
 use store_files::{Files, Opened};
-use store_words::{Done, Failure, no_file, strict_over};
+use word_endings::{Done, Failure, no_file, strict_over};
 
 /// Opens the store in the file of this name, and runs the input over it with the time before its
 /// lines; a strict run ends at the first line that strays.

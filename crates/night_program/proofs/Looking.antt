@@ -3,7 +3,7 @@ use Rattle.std.specs.Prelude.{◌≡◌, Bool, true, false, Option, None, Result
 use Rattle.std.proofs.Common.{subst, sym}
 use Rattle.run_model.specs.declared.faults.Fault.{Fault}
 use Rattle.run_disk.specs.Disk.{DiskState}
-use Rattle.store_words.specs.declared.known.UnknownJob.{UnknownJob}
+use Rattle.word_endings.specs.declared.endings.UnknownJob.{UnknownJob}
 use Rattle.night_program.specs.Crews.{FindsUnknown, IsLooked}
 
 module _ {D : Type 0} (state : D → DiskState) (given : D) where

@@ -8,11 +8,11 @@ use Rattle.book_model.specs.Openings.{HasRecovered, RecoversNone}
 use Rattle.console_lines.specs.declared.faults.RunFault.{RunFault}
 use Rattle.console_lines.specs.Faults.{stopped}
 use Rattle.crew_workers.specs.Courses.{Call, IsGates}
-use Rattle.store_words.specs.declared.endings.Done.{Done}
-use Rattle.store_words.specs.declared.endings.Done.TheVariants.{Strayed, Unknown, Well}
-use Rattle.store_words.specs.declared.failures.Failure.{Failure}
-use Rattle.store_words.specs.declared.known.UnknownJob.{UnknownJob}
-use Rattle.store_words.specs.Failures.{FailsBy, Names}
+use Rattle.word_endings.specs.declared.endings.Done.{Done}
+use Rattle.word_endings.specs.declared.endings.Done.TheVariants.{Strayed, Unknown, Well}
+use Rattle.word_endings.specs.declared.failures.Failure.{Failure}
+use Rattle.word_endings.specs.declared.endings.UnknownJob.{UnknownJob}
+use Rattle.word_endings.specs.Failures.{FailsBy, Names}
 use Rattle.store_words.specs.Known.{unknown_in}
 
 -- The gate of a night lets each turn pass.

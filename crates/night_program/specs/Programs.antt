@@ -17,12 +17,12 @@ use Rattle.line_words.specs.Demos.{DemoEnds}
 use Rattle.line_words.specs.Scripts.{DoesScript, until_of}
 use Rattle.line_words.specs.Timed.{DoesTimed}
 use Rattle.night_program.specs.Crews.{AnswersCrew, IsLooked, IsOpen, StopsAt}
-use Rattle.store_words.specs.declared.endings.Done.{Done}
-use Rattle.store_words.specs.declared.endings.Ended.{Ended}
-use Rattle.store_words.specs.declared.failures.Failure.{Failure}
-use Rattle.store_words.specs.Endings.{EndsBy, Refuses}
-use Rattle.store_words.specs.Failures.{AnswersAlone, AnswersStrict, HasNoFile, Names}
-use Rattle.store_words.specs.Hints.{Hints, reads_lines}
+use Rattle.word_endings.specs.declared.endings.Done.{Done}
+use Rattle.word_endings.specs.declared.endings.Ended.{Ended}
+use Rattle.word_endings.specs.declared.failures.Failure.{Failure}
+use Rattle.word_endings.specs.Endings.{EndsBy, Refuses}
+use Rattle.word_endings.specs.Failures.{AnswersAlone, AnswersStrict, HasNoFile, Names}
+use Rattle.word_endings.specs.Hints.{Hints, reads_lines}
 use Rattle.store_words.specs.Replacements.{DoesRenewInPlace}
 use Rattle.store_words.specs.Stores.{DoesPrint}
 use Rattle.store_words.specs.Words.{DoesFormat, DoesInspect, DoesMigrate, DoesRenew}

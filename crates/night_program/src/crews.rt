@@ -2,7 +2,7 @@
 
 ghost use Rattle.std.specs.Prelude.{◌≡◌, ◌≤◌, vec_len};
 ghost use Rattle.night_program.specs.Crews.{AnswersCrew, FindsUnknown};
-ghost use Rattle.store_words.specs.Failures.{Names};
+ghost use Rattle.word_endings.specs.Failures.{Names};
 ghost use Rattle.night_program.specs.Programs.{DoesCrew};
 
 use console_lines::{RunFault, stopped};
@@ -16,7 +16,8 @@ use std::io::Write;
 use std::sync::Wait;
 use std::thread::Threads;
 use store_files::{Files, Opened, Why};
-use store_words::{Done, Failure, UnknownJob, done_alone, failed_over, no_file, unknown_in};
+use store_words::unknown_in;
+use word_endings::{Done, Failure, UnknownJob, done_alone, failed_over, no_file};
 
 /// Opens the store in the file of this name, and works off its ready tasks with so many workers,
 /// who take the first of these lists of jobs. `Memory` if there are fewer lists. If the jobs are to

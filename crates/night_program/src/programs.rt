@@ -16,10 +16,8 @@ use std::io::{Read, Write};
 use std::sync::Wait;
 use std::thread::Threads;
 use store_files::{Files, Tell, Why};
-use store_words::{
-    Done, Ended, Failure, Streams, done_alone, end, format_file, hint, inspect_file, migrate_file,
-    refuse, renew_file, renew_in_place, strict_alone,
-};
+use store_words::{format_file, inspect_file, migrate_file, renew_file, renew_in_place};
+use word_endings::{Done, Ended, Failure, Streams, done_alone, end, hint, refuse, strict_alone};
 
 /// Does what the words ask for, the program's own name first. They come as the system gave them, or
 /// as why it gave none.

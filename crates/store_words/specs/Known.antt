@@ -6,7 +6,7 @@ use Rattle.run_model.specs.declared.tasks.Phase.{Phase}
 use Rattle.run_model.specs.declared.tasks.Phase.TheVariants as phase
 use Rattle.run_model.specs.declared.tasks.Task.{Task}
 use Rattle.run_model.specs.Tasks.{is_unfinished}
-use Rattle.store_words.specs.declared.known.UnknownJob.{UnknownJob}
+use Rattle.word_endings.specs.declared.endings.UnknownJob.{UnknownJob}
 
 -- The crews know these three jobs.
 abbrev pub is_known : List ℕ → Bool

@@ -1,6 +1,3 @@
-pub mod Endings
-pub mod Failures
-pub mod Hints
 pub mod Known
 pub mod Lasting
 pub mod Looks

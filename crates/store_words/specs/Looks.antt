@@ -11,9 +11,9 @@ use Rattle.run_disk.specs.Runs.{OnlyReads}
 use Rattle.console_lines.specs.declared.faults.RunFault.{RunFault}
 use Rattle.console_lines.specs.Faults.{stopped}
 use Rattle.night_requests.specs.declared.asked.View.{View}
-use Rattle.store_words.specs.declared.endings.Done.{Done}
-use Rattle.store_words.specs.declared.failures.Failure.{Failure}
-use Rattle.store_words.specs.Failures.{AnswersOver, FailsBy, HasNoFile, Names}
+use Rattle.word_endings.specs.declared.endings.Done.{Done}
+use Rattle.word_endings.specs.declared.failures.Failure.{Failure}
+use Rattle.word_endings.specs.Failures.{AnswersOver, FailsBy, HasNoFile, Names}
 use Rattle.store_files.specs.Files.{FilesView, IsReadTwice}
 use Rattle.store_words.specs.Stores.{InspectEnds}
 

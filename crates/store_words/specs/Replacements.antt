@@ -1,18 +1,28 @@
 -- What a renewal in place does: a store is made beside another one, of what isn't finished in it,
 -- and put in its place.
-use Rattle.std.specs.Prelude.{◌≡◌, ◌⊎◌, ℕ, true, List, Option, Some, ⊤, Result, Ok, Err}
+use Rattle.std.specs.Prelude.{◌≡◌, ◌⊎◌, ℕ, true, List, Option, None, Some, ⊤, Result, Ok, Err}
+use Rattle.run_model.specs.declared.faults.Fault.TheVariants.{WrongSize}
 use Rattle.run_model.specs.declared.layouts.Layout.{Layout}
 use Rattle.run_model.specs.Layouts.{layout_of}
 use Rattle.run_disk.specs.Disk.{DiskState}
 use Rattle.book_model.specs.declared.migrations.MigrateFault.{MigrateFault}
 use Rattle.console_lines.specs.declared.faults.RunFault.TheVariants.{Memory}
-use Rattle.store_words.specs.declared.endings.Done.{Done}
-use Rattle.store_words.specs.declared.failures.Failure.{Failure}
+use Rattle.console_lines.specs.Faults.{stopped}
+use Rattle.word_endings.specs.declared.endings.Done.{Done}
+use Rattle.word_endings.specs.declared.failures.Failure.{Failure}
 use Rattle.store_words.specs.declared.renewals.Kept.{Kept}
-use Rattle.store_words.specs.Failures.{AnswersAlone, FailsOf, HasNoFile, HasNoSize, IsUnput}
+use Rattle.word_endings.specs.Failures.{AnswersAlone, FailsBy, FailsOf, HasNoFile, IsUnput, Names}
 use Rattle.store_files.specs.Files.{FilesView, Holds, HoldsAlone, IsKept, IsNotMade, IsReplaced}
 use Rattle.store_files.specs.Files.{IsSettled, Makes, beside}
 use Rattle.store_words.specs.Stores.{DoesPrint, Remakes, renewed_line}
+
+-- The file of this name was opened so (IsOpened), and has not the size of a store.
+pub record HasNoSize {D : Type 0} (state : D → DiskState) (IsOpened : D → Type 0)
+    (store : List ℕ) (answer : Result Done Failure) : Type 0 where
+  pub source : D
+  pub opened : IsOpened source
+  pub none : layout_of (state source).size ≡ None
+  pub answers : FailsBy (Names store) (stopped WrongSize) answer
 
 module _ {F D : Type 0} (state : D → DiskState) (seen : FilesView F D) where
   -- The file of this name was had for this program alone, and taken away; or nothing was done.

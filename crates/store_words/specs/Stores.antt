@@ -22,9 +22,9 @@ use Rattle.console_lines.specs.Summaries.{summary_text}
 use Rattle.console_lines.specs.Faults.{stopped}
 use Rattle.night_requests.specs.declared.asked.View.{View}
 use Rattle.night_requests.specs.declared.asked.View.TheVariants.{Json, Summary, Tasks, Tree, Whole}
-use Rattle.store_words.specs.Failures.{AnswersAlone, FailsOf}
-use Rattle.store_words.specs.declared.endings.Done.{Done}
-use Rattle.store_words.specs.declared.failures.Failure.{Failure}
+use Rattle.word_endings.specs.Failures.{AnswersAlone, FailsOf}
+use Rattle.word_endings.specs.declared.endings.Done.{Done}
+use Rattle.word_endings.specs.declared.failures.Failure.{Failure}
 use Rattle.store_words.specs.declared.renewals.Kept.{Kept}
 use Rattle.store_words.specs.declared.renewals.Sizes.{Sizes}
 

@@ -10,10 +10,10 @@ use Rattle.console_lines.specs.declared.faults.RunFault.{RunFault}
 use Rattle.night_requests.specs.declared.asked.View.{View}
 use Rattle.console_lines.specs.Faults.{stopped}
 use Rattle.store_files.specs.Files.{FilesView, Holds, HoldsAlone, IsNotMade, IsSettled, Makes}
-use Rattle.store_words.specs.declared.endings.Done.{Done}
-use Rattle.store_words.specs.declared.failures.Failure.{Failure}
-use Rattle.store_words.specs.Failures.{AnswersOver, FailsBy, HasNoFile, Names}
-use Rattle.store_words.specs.Failures.{NamesSource}
+use Rattle.word_endings.specs.declared.endings.Done.{Done}
+use Rattle.word_endings.specs.declared.failures.Failure.{Failure}
+use Rattle.word_endings.specs.Failures.{AnswersOver, FailsBy, HasNoFile, Names}
+use Rattle.word_endings.specs.Failures.{NamesSource}
 use Rattle.store_words.specs.Looks.{LookEnds}
 use Rattle.store_words.specs.Sources.{Serves, ServesNot, migrated_layout}
 use Rattle.store_words.specs.Stores.{AnswersMade, FormatEnds, InspectEnds, MigratesRead, Remakes}

@@ -8,14 +8,7 @@ ghost use Rattle.store_words.specs.Known.{IsSeen, is_known, is_unended, unknown_
 use run_model::{Name, Phase, TaskLook};
 use run_state::State;
 use std::alloc::Allocator;
-
-/// The tasks of a store that aren't ended and whose jobs the crews don't know: the job of the one
-/// with the least number, and how many there are.
-#[derive(Drop)]
-pub struct UnknownJob {
-    pub job: Name,
-    pub tasks: u16,
-}
+use word_endings::UnknownJob;
 
 /// What is printed of the tasks of a state that aren't ended and whose jobs aren't known, if there
 /// are any.

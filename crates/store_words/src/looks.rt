@@ -5,8 +5,6 @@ ghost use Rattle.run_disk.specs.Runs.{OnlyReads};
 ghost use Rattle.store_files.specs.Files.{IsReadTwice};
 ghost use Rattle.store_words.specs.Looks.{IsCopy, IsUnread, LookEnds};
 
-use crate::endings::Done;
-use crate::failures::{Failure, done_over, failed_over, no_file};
 use crate::stores::inspect;
 use console_lines::stopped;
 use night_requests::View;
@@ -15,6 +13,7 @@ use run_model::{Fault, Layout};
 use std::alloc::Global;
 use std::io::Write;
 use store_files::{Files, Opened, Reason};
+use word_endings::{Done, Failure, done_over, failed_over, no_file};
 
 /// So many readings are made at most.
 const MOST_READINGS: usize = 100;

@@ -5,8 +5,6 @@ ghost use Rattle.arrayvec.specs.ArrayVec.{array_vec_len};
 ghost use Rattle.console_lines.specs.Gathers.{Gathers};
 ghost use Rattle.store_words.specs.Stores.{AnswersMade, MigratesRead, Prints, migrated_line};
 
-use crate::endings::Done;
-use crate::failures::{Failure, FileName, done_alone, failed_of};
 use crate::renewals::sizes_on;
 use arrayvec::ArrayVec;
 use console_lines::RunFault;
@@ -17,6 +15,7 @@ use state_views::write_whole;
 use std::alloc::Global;
 use std::io::Write;
 use store_files::Why;
+use word_endings::{Done, Failure, FileName, done_alone, failed_of};
 
 /// Makes a large store of `new`, a disk of its size, with the state that the small store on `old`
 /// holds, and reads how many events it has. The old disk is only read. The new one is handed back.

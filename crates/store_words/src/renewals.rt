@@ -8,8 +8,6 @@ ghost use Rattle.console_lines.specs.Gathers.{Gathers};
 ghost use Rattle.store_words.specs.Stores.{AnswersMade, HasSizes, Prints, Remakes, of_text};
 ghost use Rattle.store_words.specs.Stores.{renewed_line, sizes, sizes_line};
 
-use crate::endings::Done;
-use crate::failures::{Failure, FileName, done_alone, failed_of};
 use crate::migrations::push;
 use arrayvec::ArrayVec;
 use console_lines::RunFault;
@@ -22,6 +20,7 @@ use state_views::write_whole;
 use std::alloc::{Allocator, Global};
 use std::io::Write;
 use store_files::Why;
+use word_endings::{Done, Failure, FileName, done_alone, failed_of};
 
 /// How many events, scopes, groups and tasks a state has.
 #[derive(Clone, Copy)]

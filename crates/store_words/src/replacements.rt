@@ -7,10 +7,6 @@ ghost use Rattle.store_files.specs.Files.{IsReplaced, IsSettled, beside};
 ghost use Rattle.store_words.specs.Replacements.{DoesRenewInPlace, EndsInPlace, IsNotPut};
 ghost use Rattle.store_words.specs.Replacements.{LacksBeside, MakesBeside};
 
-use crate::endings::Done;
-use crate::failures::{
-    Failure, FileName, done_alone, failed_of, failed_over, no_file, not_had, not_put,
-};
 use crate::renewals::{print_sizes, renew};
 use console_lines::{RunFault, stopped};
 use run_disk::RunDisk;
@@ -18,6 +14,9 @@ use run_model::{Fault, Layout};
 use std::alloc::{AllocError, Global};
 use std::io::Write;
 use store_files::{BESIDE, Files, Made, Opened, Reason};
+use word_endings::{
+    Done, Failure, FileName, done_alone, failed_of, failed_over, no_file, not_had, not_put,
+};
 
 /// Opens the store in the file of this name for this program alone, makes a store of the same size
 /// beside it, of what isn't finished in it, puts that in its place, and prints how much is left.

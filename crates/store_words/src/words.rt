@@ -5,8 +5,6 @@ ghost use Rattle.store_files.specs.Files.{IsNotMade, Makes};
 ghost use Rattle.store_words.specs.Words.{DoesFormat, DoesInspect, DoesMigrate, DoesRenew};
 ghost use Rattle.store_words.specs.Words.{IsLeft};
 
-use crate::endings::Done;
-use crate::failures::{Failure, done_over, failed_source, no_file};
 use crate::looks::look;
 use crate::migrations::{migrate, migrated};
 use crate::renewals::{renew, renewed};
@@ -19,6 +17,7 @@ use run_model::Layout;
 use std::alloc::Global;
 use std::io::Write;
 use store_files::{Files, Made, Opened, Reason};
+use word_endings::{Done, Failure, done_over, failed_source, no_file};
 
 /// Creates the file of this name or empties it, makes a large store of it, and prints `formatted`.
 /// One that has to be new isn't emptied. A new one of which no store is made is taken away again.

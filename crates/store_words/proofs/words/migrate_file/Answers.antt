@@ -1,7 +1,7 @@
 use Rattle.std.proofs.Common.{◌≡◌, ◌∙◌, Option, ap, inl, inr, refl, subst, sym}
 use Rattle.run_model.specs.declared.layouts.Layout.{Layout}
 use Rattle.run_model.specs.Layouts.{layout_of}
-use Rattle.store_words.specs.Failures.{NamesSource}
+use Rattle.word_endings.specs.Failures.{NamesSource}
 use Rattle.store_words.specs.Sources.{ServesNot, migrated_layout}
 use Rattle.store_words.proofs.words.migrate_file.Goals as goal
 

@@ -3,15 +3,15 @@
 ghost use Rattle.std.specs.Prelude.{◌≡◌, None, Some};
 ghost use Rattle.run_model.specs.declared.faults.Trouble.{Trouble as TroubleOf};
 ghost use Rattle.console_lines.specs.declared.faults.RunFault.TheVariants.{Store};
-ghost use Rattle.store_words.specs.Failures.{AnswersAlone, AnswersOver, AnswersStrict};
-ghost use Rattle.store_words.specs.Failures.{IsNoFile, IsUnput, Names, NamesBy, NamesOf};
-ghost use Rattle.store_words.specs.Failures.{NamesSource, blamed, fault_of, name_text};
-ghost use Rattle.store_words.specs.Failures.{unmigrated};
+ghost use Rattle.word_endings.specs.Failures.{AnswersAlone, AnswersOver, AnswersStrict};
+ghost use Rattle.word_endings.specs.Failures.{IsNoFile, IsUnput, Names, NamesBy, NamesOf};
+ghost use Rattle.word_endings.specs.Failures.{NamesSource, blamed, fault_of, name_text};
+ghost use Rattle.word_endings.specs.Failures.{unmigrated};
 
 use crate::endings::Done;
 use crate::wrongs::Wrong;
+use book_model::MigrateFault;
 use console_lines::{RunFault, StrayLine, stopped};
-use run_book::MigrateFault;
 use run_model::{Fault, Layout, Trouble};
 use std::fmt;
 use store_files::{BESIDE, Reason, Why};

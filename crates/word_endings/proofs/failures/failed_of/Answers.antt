@@ -1,4 +1,4 @@
-use Rattle.store_words.proofs.failures.failed_of.Goals as goal
+use Rattle.word_endings.proofs.failures.failed_of.Goals as goal
 
 pub returns-in-Old-clause-file : goal.returns-in-Old-clause-file
 returns-in-Old-clause-file g c =

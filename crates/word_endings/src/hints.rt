@@ -1,7 +1,7 @@
 //! A hint for whoever types the lines.
 
 ghost use Rattle.std.specs.Prelude.{◌≡◌, ◌&&◌};
-ghost use Rattle.store_words.specs.Hints.{Hints, reads_lines};
+ghost use Rattle.word_endings.specs.Hints.{Hints, reads_lines};
 
 use night_requests::Asked;
 use store_files::Tell;

@@ -1,7 +1,7 @@
 //! [`Streams`] tell why calls of standard input and of standard output failed.
 
 ghost use Rattle.std.specs.Prelude.{IfSome};
-ghost use Rattle.store_words.specs.Failures.{IsStream};
+ghost use Rattle.word_endings.specs.Failures.{IsStream};
 
 use crate::failures::{FileFailure, FileName, of_call};
 use console_lines::RunFault;

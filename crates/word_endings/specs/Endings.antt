@@ -14,13 +14,13 @@ use Rattle.store_files.specs.Tells.{TellState, Tells}
 use Rattle.night_requests.specs.declared.asked.WordsFault.{WordsFault}
 use Rattle.night_requests.specs.declared.asked.WordsFault.TheVariants as words
 use Rattle.night_requests.specs.Faults.{fault_text}
-use Rattle.store_words.specs.declared.endings.Done.{Done}
-use Rattle.store_words.specs.declared.endings.Done.TheVariants.{Stray, Strayed, Unknown, Well}
-use Rattle.store_words.specs.declared.endings.Ended.{Ended}
-use Rattle.store_words.specs.declared.failures.Failure.{Failure}
-use Rattle.store_words.specs.declared.failures.FileFailure.{FileFailure}
-use Rattle.store_words.specs.declared.known.UnknownJob.{UnknownJob}
-use Rattle.store_words.specs.Failures.{IsStream, name_text, wrong_text}
+use Rattle.word_endings.specs.declared.endings.Done.{Done}
+use Rattle.word_endings.specs.declared.endings.Done.TheVariants.{Stray, Strayed, Unknown, Well}
+use Rattle.word_endings.specs.declared.endings.Ended.{Ended}
+use Rattle.word_endings.specs.declared.failures.Failure.{Failure}
+use Rattle.word_endings.specs.declared.failures.FileFailure.{FileFailure}
+use Rattle.word_endings.specs.declared.endings.UnknownJob.{UnknownJob}
+use Rattle.word_endings.specs.Failures.{IsStream, name_text, wrong_text}
 
 -- The exit status where a fault ended the program: want of memory is told from all else.
 abbrev pub fault_status : RunFault → ℕ

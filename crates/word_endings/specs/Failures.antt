@@ -2,27 +2,25 @@
 use Rattle.std.specs.Prelude.{◌≡◌, ◌⊎◌, ℕ, List, Option, Some, None, Result, Ok, Err, IfSome}
 use Rattle.std.specs.Prelude.{codes, option_map}
 use Rattle.run_model.specs.declared.faults.Fault.TheVariants as of_store
-use Rattle.run_model.specs.declared.faults.Fault.TheVariants.{DiskFailed, WrongSize}
+use Rattle.run_model.specs.declared.faults.Fault.TheVariants.{DiskFailed}
 use Rattle.run_model.specs.declared.faults.Trouble.TheVariants.{Faulty}
 use Rattle.run_model.specs.declared.layouts.Layout.{Layout}
-use Rattle.run_model.specs.Layouts.{layout_of}
-use Rattle.run_disk.specs.Disk.{DiskState}
 use Rattle.book_model.specs.declared.migrations.MigrateFault.{MigrateFault}
 use Rattle.book_model.specs.declared.migrations.MigrateFault.TheVariants as of_two
 use Rattle.console_lines.specs.declared.faults.RunFault.{RunFault}
 use Rattle.console_lines.specs.declared.faults.RunFault.TheVariants.{Input, Memory, Output, Store}
 use Rattle.console_lines.specs.declared.strays.StrayLine.{StrayLine}
 use Rattle.console_lines.specs.Faults.{stopped}
-use Rattle.store_words.specs.declared.endings.Done.{Done}
-use Rattle.store_words.specs.declared.endings.Done.TheVariants.{Stray, Well}
-use Rattle.store_words.specs.declared.failures.Failure.{Failure}
-use Rattle.store_words.specs.declared.failures.FileFailure.{FileFailure}
-use Rattle.store_words.specs.declared.failures.FileName.{FileName}
-use Rattle.store_words.specs.declared.failures.FileName.TheVariants.{Beside, Own}
-use Rattle.store_words.specs.declared.failures.FileName.TheVariants.{StandardInput}
-use Rattle.store_words.specs.declared.failures.FileName.TheVariants.{StandardOutput}
-use Rattle.store_words.specs.declared.wrongs.Wrong.{Wrong}
-use Rattle.store_words.specs.declared.wrongs.Wrong.TheVariants as of_file
+use Rattle.word_endings.specs.declared.endings.Done.{Done}
+use Rattle.word_endings.specs.declared.endings.Done.TheVariants.{Stray, Well}
+use Rattle.word_endings.specs.declared.failures.Failure.{Failure}
+use Rattle.word_endings.specs.declared.failures.FileFailure.{FileFailure}
+use Rattle.word_endings.specs.declared.failures.FileName.{FileName}
+use Rattle.word_endings.specs.declared.failures.FileName.TheVariants.{Beside, Own}
+use Rattle.word_endings.specs.declared.failures.FileName.TheVariants.{StandardInput}
+use Rattle.word_endings.specs.declared.failures.FileName.TheVariants.{StandardOutput}
+use Rattle.word_endings.specs.declared.wrongs.Wrong.{Wrong}
+use Rattle.word_endings.specs.declared.wrongs.Wrong.TheVariants as of_file
 use Rattle.store_files.specs.declared.reasons.Reason.{Reason}
 use Rattle.store_files.specs.declared.reasons.Reason.TheVariants.{InUse, NoMemory}
 use Rattle.store_files.specs.Files.{beside}
@@ -166,11 +164,3 @@ AnswersAlone done answer = AnswersOver (λ failure. failure.file ≡ None) done 
 -- The file of this name wasn't had, and that is answered.
 abbrev pub HasNoFile : List ℕ → Result Done Failure → Type 0
 HasNoFile name answer = (failure : Failure) × (answer ≡ Err failure) × IsNoFile name failure
-
--- The file of this name was opened so (IsOpened), and has not the size of a store.
-pub record HasNoSize {D : Type 0} (state : D → DiskState) (IsOpened : D → Type 0)
-    (store : List ℕ) (answer : Result Done Failure) : Type 0 where
-  pub source : D
-  pub opened : IsOpened source
-  pub none : layout_of (state source).size ≡ None
-  pub answers : FailsBy (Names store) (stopped WrongSize) answer

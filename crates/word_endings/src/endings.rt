@@ -1,17 +1,17 @@
 //! How the program ends: its exit status, and what it prints on standard error.
 
 ghost use Rattle.std.specs.Prelude.{◌≡◌};
-ghost use Rattle.store_words.specs.Endings.{EndsBy, Refuses, TellsDone, done_status};
-ghost use Rattle.store_words.specs.Endings.{blamed_line, failure_lines, fault_status, file_line};
-ghost use Rattle.store_words.specs.Endings.{return_line, stray_lines, unknown_line};
-ghost use Rattle.store_words.specs.Endings.{words_status};
+ghost use Rattle.word_endings.specs.Endings.{EndsBy, Refuses, TellsDone, done_status};
+ghost use Rattle.word_endings.specs.Endings.{blamed_line, failure_lines, fault_status, file_line};
+ghost use Rattle.word_endings.specs.Endings.{return_line, stray_lines, unknown_line};
+ghost use Rattle.word_endings.specs.Endings.{words_status};
 ghost use Rattle.store_files.specs.Tells.{Tells};
 
 use crate::failures::{Failure, FileFailure};
-use crate::known::UnknownJob;
 use crate::streams::Streams;
 use console_lines::{RunFault, Stray, StrayLine};
 use night_requests::WordsFault;
+use run_model::Name;
 use store_files::{Tell, Why};
 
 /// How the program ended.
@@ -37,6 +37,14 @@ pub enum Done {
     Stray(StrayLine),
     /// A crew doesn't know the jobs of some tasks, and nothing was begun.
     Unknown(UnknownJob),
+}
+
+/// The tasks of a store that aren't ended and whose jobs the crews don't know: the job of the one
+/// with the least number, and how many there are.
+#[derive(Drop)]
+pub struct UnknownJob {
+    pub job: Name,
+    pub tasks: u16,
 }
 
 /// Ends what the words asked for. A fault is printed in one line, as in `night: fault 3 NotAStore`,

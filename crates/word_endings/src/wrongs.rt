@@ -1,7 +1,7 @@
 //! A [`Wrong`] is what is wrong with a file.
 
 ghost use Rattle.std.specs.Prelude.{◌≡◌, Some};
-ghost use Rattle.store_words.specs.Failures.{source_wrong, wrong_of, wrong_text};
+ghost use Rattle.word_endings.specs.Failures.{source_wrong, wrong_of, wrong_text};
 
 use console_lines::RunFault;
 use run_model::{Fault, Layout, Trouble};
