@@ -221,8 +221,15 @@ fn with_command<'a>(
         → IfOk command.entry (λ command. app_of command ≡ added)
         → IfOk result (λ line. app_of line ≡ with_subcommand before added.top) }
 {
-    let command = command?;
-    line?.subcommand(command)
+    let Ok(command) = command else {
+        drop(line);
+        return Err(AllocError);
+    };
+    let Ok(line) = line else {
+        drop(command);
+        return Err(AllocError);
+    };
+    line.subcommand(command)
 }
 
 /// The command over a book in memory.
@@ -348,7 +355,11 @@ fn with_word<'a>(
         → IfOk command.entry (λ command. app_of command ≡ before)
         → IfOk result (λ command. app_of command ≡ with_rule before rule) }
 {
-    command?.arg(word)
+    let Ok(command) = command else {
+        drop(word);
+        return Err(AllocError);
+    };
+    command.arg(word)
 }
 
 /// An option with a value, which `readers` reads, and what help calls the value.

@@ -6,8 +6,8 @@ use Rattle.night_words.proofs.commands.with_command.Goals as goal
 
 pub returns : goal.returns
 returns c = λ before added is_plain line_is command_is.
-    let line = IfOk-at_ok (λ it. app_of it ≡ before) c.in_ok-line.was line_is in
-    let command = IfOk-at_ok (λ it. app_of it ≡ added) c.in_ok-command.was command_is in
+    let line = IfOk-at_ok (λ it. app_of it ≡ before) c.in-Ok-line.is line_is in
+    let command = IfOk-at_ok (λ it. app_of it ≡ added) c.in-Ok.is command_is in
     IfOk-weaker c.subcommand.result _ _ (λ it adds.
     adds.shape (third_is_false _ _ _ _ (ap (λ (a : App). a.top.is_plain) command ∙ is_plain))
     ∙ ap₂ with_subcommand line (ap (λ (a : App). a.top) command)) c.subcommand.ensures

@@ -5,6 +5,6 @@ use Rattle.night_words.proofs.commands.with_word.Goals as goal
 
 pub returns : goal.returns
 returns c = λ before rule local is was.
-    let command = IfOk-at_ok (λ it. app_of it ≡ before) c.in_ok-command.was was in
+    let command = IfOk-at_ok (λ it. app_of it ≡ before) c.in-Ok.is was in
     IfOk-weaker c.arg.result _ _ (λ it added. added.shape local ∙ ap₂ with_rule command is)
     c.arg.ensures
