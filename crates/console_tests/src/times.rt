@@ -4,10 +4,10 @@ use crate::asserts::{done, holds};
 use crate::books::{counts, fresh, ran, ran_strictly};
 use crate::readers::{Behind, PartReader};
 use run_console::{RunFault, Stray, StrayLine};
-use run_lines::TimedInput;
 use run_model::Moment;
 use std::alloc::Global;
 use std::process::Abort;
+use timed_lines::TimedInput;
 
 /// The moments that the clock tells, one for each line, what is typed, what is printed, and how
 /// many events there are then.

@@ -17,7 +17,7 @@ use Rattle.book_model.proofs.Stepping.{steps_left}
 use Rattle.console_lines.specs.declared.faults.RunFault.{RunFault}
 use Rattle.console_lines.specs.declared.strays.StrayLine.{StrayLine}
 use Rattle.run_lines.specs.Progress.{RunEnds, RunStops}
-use Rattle.run_lines.specs.Timed.{timed_known}
+use Rattle.timed_lines.specs.Timed.{timed_known}
 use Rattle.run_lines.specs.declared.untils.Until.{Until}
 use Rattle.run_lines.proofs.Fronts.{stops_begin}
 use Rattle.line_words.specs.Lasting.{CutsLines, IsRunOver, RunsLines}

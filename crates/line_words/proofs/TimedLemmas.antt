@@ -2,7 +2,7 @@
 use Rattle.std.specs.Prelude.{◌≡◌, ℕ, List, Option}
 use Rattle.std.proofs.Common.{ap, subst, ◌∙◌}
 use Rattle.book_model.specs.Books.{BookView}
-use Rattle.run_lines.specs.Timed.{timed_known}
+use Rattle.timed_lines.specs.Timed.{timed_known}
 use Rattle.line_words.specs.Timed.{RunsTimed}
 
 -- The input that was run is the given one with the time before its lines.

@@ -5,7 +5,7 @@ use Rattle.book_model.specs.Books.{BookView}
 use Rattle.console_lines.specs.declared.faults.RunFault.{RunFault}
 use Rattle.console_lines.specs.declared.strays.StrayLine.{StrayLine}
 use Rattle.run_lines.specs.declared.untils.Until.{Until}
-use Rattle.run_lines.specs.Timed.{timed_known}
+use Rattle.timed_lines.specs.Timed.{timed_known}
 use Rattle.line_words.specs.Scripts.{EndsOver, Runs, until_of}
 use Rattle.word_endings.specs.declared.endings.Done.{Done}
 use Rattle.word_endings.specs.declared.failures.Failure.{Failure}

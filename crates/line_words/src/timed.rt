@@ -10,10 +10,11 @@ use crate::scripts::until_of;
 use console_lines::{RunFault, StrayLine, stopped};
 use run_book::Book;
 use run_disk::RunDisk;
-use run_lines::{MachineTime, TimedInput, Until, run_until};
+use run_lines::{Until, run_until};
 use std::alloc::Global;
 use std::io::{Read, Write};
 use store_files::{Files, Opened};
+use timed_lines::{MachineTime, TimedInput};
 use word_endings::{Done, Failure, no_file, strict_over};
 
 /// Opens the store in the file of this name, and runs the input over it with the time before its

@@ -1,8 +1,8 @@
 //! A [`SystemClock`] tells the time of a system, as the moment that it is.
 
-use run_lines::MachineTime;
 use run_model::Moment;
 use std::time::{Clock, SystemTime, UNIX_EPOCH};
+use timed_lines::MachineTime;
 
 /// The clock of a system. Which moments it will tell isn't known; a time before 1970 or past the
 /// greatest moment is none.

@@ -9,7 +9,6 @@ use line_words::{demo, script_file, timed_file, until_of};
 use night_requests::{Asked, WordsFault};
 use night_words::read_words;
 use run_crew::Job;
-use run_lines::MachineTime;
 use state_views::write_whole;
 use std::alloc::Global;
 use std::io::{Read, Write};
@@ -17,6 +16,7 @@ use std::sync::Wait;
 use std::thread::Threads;
 use store_files::{Files, Tell, Why};
 use store_words::{format_file, inspect_file, migrate_file, renew_file, renew_in_place};
+use timed_lines::MachineTime;
 use word_endings::{Done, Ended, Failure, Streams, done_alone, end, hint, refuse, strict_alone};
 
 /// Does what the words ask for, the program's own name first. They come as the system gave them, or

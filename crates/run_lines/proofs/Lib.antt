@@ -1,7 +1,6 @@
 pub mod Accounting
 pub mod Cancels
 pub mod Carrying
-pub mod Clocks
 pub mod Counting
 pub mod Doing
 pub mod Ends
@@ -15,7 +14,4 @@ pub mod Quiet
 pub mod Rows
 pub mod RunLines
 pub mod Saving
-pub mod Taken
-pub mod Told
 pub mod Wholes
-pub mod Woven

@@ -1,10 +1,6 @@
-pub mod Forward
 pub mod Looks
 pub mod Progress
 pub mod Rows
 pub mod SessionLines
-pub mod Timed
-pub mod Times
 pub mod Troubles
 pub mod Until
-pub mod Weaving

@@ -2,8 +2,7 @@
 //!
 //! [`run`] runs a whole input, [`run_strict`] one up to the first line that strays, both by
 //! [`run_until`], and [`line`] one line. What is written for a whole input is its
-//! script, as `console_lines` defines it. A [`TimedInput`] is an input with the machine's time
-//! before its lines.
+//! script, as `console_lines` defines it.
 #![tactic(auto)]
 
 mod answers;
@@ -12,7 +11,6 @@ mod inputs;
 pub mod laws;
 mod runs;
 mod tallies;
-pub mod timed;
 mod untils;
 mod writings;
 
@@ -20,5 +18,4 @@ pub use console_lines::{RunFault, Stray, StrayLine, stopped};
 pub use consoles::line;
 pub use run_book::Book;
 pub use runs::{run, run_strict, run_until};
-pub use timed::{MachineTime, TimedInput};
 pub use untils::Until;

@@ -1,0 +1,4 @@
+pub mod Clocks
+pub mod Taken
+pub mod Told
+pub mod Woven

@@ -1,0 +1,4 @@
+pub mod Forward
+pub mod Timed
+pub mod Times
+pub mod Weaving
