@@ -28,8 +28,8 @@ use std::thread::{PromisedHandle, Scope, Threads};
 ///
 /// Each worker starts a task and makes the start durable, makes the turns by the first of its jobs
 /// that handles the task, finishes it and notes it, until its start or its finish is refused, its
-/// flush isn't done, or its notes are full. One more thread makes each finish durable. A flush is of
-/// all that is under way, so starts share it. No lock is held while a job or the gate runs.
+/// flush isn't done, or its notes are full. One more thread makes each finish durable. A flush is
+/// of all that is under way, so starts share it. No lock is held while a job or the gate runs.
 ///
 /// `Memory` if a growth or the start of a thread was refused. Then, too, every thread that was
 /// started has been joined; the seat may lack some parts.

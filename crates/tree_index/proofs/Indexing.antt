@@ -2,8 +2,8 @@
 use Rattle.run_model.proofs.Common.{◌≡◌, ◌<◌, ◌≤◌, ℕ, false, List, [], ◌∷◌, ◌++◌, length, take}
 use Rattle.run_model.proofs.Common.{Option, inl, inr, refl, sym, subst, ap, ◌∙◌, arith}
 use Rattle.run_model.proofs.Common.{none-some, length-append, cases_eq, slice_get_within, at_row}
-use Rattle.run_model.proofs.Common.{option_map, slice_get, is_root, with_hit, AreOrdered, length-at_row}
-use Rattle.run_model.proofs.Common.{slice_get-at_row_same, slice_get-at_row_other}
+use Rattle.run_model.proofs.Common.{option_map, slice_get, is_root, with_hit, AreOrdered}
+use Rattle.run_model.proofs.Common.{length-at_row, slice_get-at_row_same, slice_get-at_row_other}
 use Rattle.run_model.proofs.Common.{slice_get-push_left}
 use Rattle.run_model.specs.declared.bounds.TheConstants.{MOST_SCOPES}
 use Rattle.run_model.specs.declared.scopes.Hit.{Hit}

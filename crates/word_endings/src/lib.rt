@@ -1,8 +1,8 @@
 //! How a word of the command line of `night` ends: what it came to, its exit status, and what
 //! standard error is told.
 //!
-//! A word's answer is a [`Done`], or a [`Failure`]: the fault that ended it, and the file that is to
-//! blame. [`end`] prints what came of a word, and gives the exit status; [`refuse`] does so for
+//! A word's answer is a [`Done`], or a [`Failure`]: the fault that ended it, and the file that is
+//! to blame. [`end`] prints what came of a word, and gives the exit status; [`refuse`] does so for
 //! words that ask for nothing. No store is touched here.
 #![tactic(auto)]
 

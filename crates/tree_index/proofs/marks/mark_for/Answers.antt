@@ -1,4 +1,5 @@
-use Rattle.std.proofs.Common.{◌<◌, ◌++◌, ◌∷◌, [], true, false, length, IfSome, refl, sym, ◌∙◌, subst, arith}
+use Rattle.std.proofs.Common.{◌<◌, ◌++◌, ◌∷◌, [], true, false, length, IfSome, refl, sym, ◌∙◌}
+use Rattle.std.proofs.Common.{subst, arith}
 use Rattle.tree_index.specs.Marks.{IsMark}
 use Rattle.tree_index.proofs.Growing.{chosen_mark, detached_mark, mark_from_above}
 use Rattle.tree_index.proofs.Marking.{above_within}
