@@ -1,7 +1,7 @@
 -- The reach of a scope, from its parent's, and what no change of the rows takes from it.
 use Rattle.run_model.proofs.Common.{◌≡◌, ◌<◌, ℕ, zero, suc, Bool, true, false, cond, List, length}
 use Rattle.run_model.proofs.Common.{Option, Some, None, slice_get, get_or, refl, sym, ap, ◌∙◌}
-use Rattle.run_model.proofs.Common.{arith, [], ◌∷◌, ◌++◌, inl, inr, false≢true, none-some}
+use Rattle.run_model.proofs.Common.{arith, [], ◌∷◌, ◌++◌, inl, inr, false≢true}
 use Rattle.run_model.proofs.Common.{slice_get_within, slice_get-get_or, same_Some, slice_get_read}
 use Rattle.run_model.proofs.Common.{push_cases, root, is_root, is_detached, own_deadline}
 use Rattle.run_model.proofs.Common.{deadline_of, text_under, value_of, AreOrdered}
@@ -188,16 +188,3 @@ reached_follow e now old new reaches follows ordered ordered' size were = record
   same = were.same ∙ sym size;
   right = reaches_again old new reaches ordered ordered' (follows_again e now old new follows) were;
 }
-
--- Nor do rows after root take anything from root's.
-pub root_again : (old rows : List Scope) → old ≡ root ∷ [] → slice_get rows 0 ≡ Some root
-    → AreAgain old rows
-root_again old rows first found zero row at = record {
-  to = root;
-  found = found;
-  kind = ap (λ (r : Scope). r.kind) (same_Some root row (ap (λ l. slice_get l 0) (sym first) ∙ at));
-  parent =
-      ap (λ (r : Scope). r.parent) (same_Some root row (ap (λ l. slice_get l 0) (sym first) ∙ at));
-}
-root_again old rows first found (suc s) row at =
-    absurd (none-some row (ap (λ l. slice_get l (suc s)) (sym first) ∙ at))
