@@ -1,14 +1,13 @@
 """What the proof of each crate took when it was last done: how long, what work, what memory.
 
 The figures of this machine are kept in a file of the user's cache. Until a crate was proved here,
-its figures are those of the table in docs/build.md.
+its figures are those of figures.json beside this file, which is such a file of a quiet machine.
 """
 import json
 import os
-import re
 from dataclasses import asdict, dataclass
 
-ROW = re.compile(r"^\| `(\w+)` \| (\d+) \| (\d+\.\d) \|", re.M)
+FIRST = f"{os.path.dirname(os.path.realpath(__file__))}/figures.json"
 GB = 1_000_000_000
 
 
@@ -19,7 +18,7 @@ class Figure:
     memory: int  # bytes, with one job
 
 
-# Of a crate that no table knows.
+# Of a crate that no file knows.
 UNKNOWN = Figure(120, 120, 3 * GB)
 
 
@@ -30,15 +29,9 @@ def kept_file() -> str:
 
 
 class Figures:
-    def __init__(self, page: str, kept: str):
-        self.kept, self.known, self.own = kept, first_figures(page), {}
-        try:
-            with open(kept, encoding="utf-8") as file:
-                found = json.load(file)
-            self.own = {name: Figure(**row) for name, row in found.items()}
-        except (OSError, ValueError, TypeError, AttributeError):
-            pass  # none are kept, or not as this script keeps them
-        self.known.update(self.own)
+    def __init__(self, kept: str):
+        self.kept, self.own = kept, read(kept)
+        self.known = read(FIRST) | self.own
 
     def of(self, name: str) -> Figure:
         return self.known.get(name, UNKNOWN)
@@ -55,12 +48,10 @@ class Figures:
             pass
 
 
-def first_figures(page: str) -> dict[str, Figure]:
-    """Returns the figures of the page's table: processor seconds and GB, by crate."""
+def read(path: str) -> dict[str, Figure]:
+    """Returns the figures of a file: none where it isn't there, or isn't as `note` writes it."""
     try:
-        with open(page, encoding="utf-8") as file:
-            rows = ROW.findall(file.read())
-    except OSError:
+        with open(path, encoding="utf-8") as file:
+            return {name: Figure(**row) for name, row in json.load(file).items()}
+    except (OSError, ValueError, TypeError, AttributeError):
         return {}
-    return {name: Figure(float(spent), float(spent), int(float(memory) * GB))
-            for name, spent, memory in rows}
