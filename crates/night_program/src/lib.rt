@@ -13,7 +13,5 @@ mod programs;
 
 pub use jobs::{CopyJob, FailJob, SpinJob};
 pub use lasting::{a_store_lasts_from_run_to_run, many_runs_lose_nothing_acknowledged};
-pub use line_words::{Until, a_script_runs_lines, demo, script};
 pub use programs::night;
-pub use store_words::{Kept, format, inspect, migrate, renew};
 pub use word_endings::{Ended, Streams};

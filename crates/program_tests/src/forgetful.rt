@@ -6,7 +6,7 @@
 
 use crate::asserts::{done, holds_at};
 use crate::stores::{copied, formatted, kept};
-use night_program::{Until, script};
+use line_words::{Until, script};
 use run_book::Book;
 use run_disk::{Fuse, MemoryDisk, RunDisk};
 use run_model::Fault;

@@ -4,12 +4,12 @@ use crate::asserts::{done, holds};
 use crate::runs::{End, Printed, assert_run, run_words};
 use crate::shelves::Shelf;
 use crate::stores::{SIZES, copied, kept, left, scripted, shelved, typed, zeros};
-use night_program::migrate;
 use run_disk::MemoryDisk;
 use std::alloc::Global;
 use std::process::Abort;
 use std::sync::Wait;
 use std::thread::Threads;
+use store_words::migrate;
 
 /// What is typed before the stop, and what is printed: the first of two tasks runs.
 const STOPPED: (&str, &str) = (

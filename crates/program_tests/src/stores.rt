@@ -2,10 +2,11 @@
 
 use crate::asserts::done;
 use crate::shelves::Shelf;
-use night_program::{Until, format, script};
+use line_words::{Until, script};
 use run_disk::{MemoryDisk, Torn};
 use std::alloc::Global;
 use std::process::Abort;
+use store_words::format;
 
 /// How many bytes a small and a large store have.
 pub const SIZES: (usize, usize) = (1_572_864, 6_291_456);
