@@ -4,7 +4,8 @@ use Rattle.std.proofs.Common.{subst, sym}
 use Rattle.run_model.specs.declared.faults.Fault.{Fault}
 use Rattle.run_disk.specs.Disk.{DiskState}
 use Rattle.word_endings.specs.declared.endings.UnknownJob.{UnknownJob}
-use Rattle.night_program.specs.Crews.{FindsUnknown, IsLooked}
+use Rattle.store_words.specs.Known.{FindsUnknown}
+use Rattle.night_program.specs.Crews.{IsLooked}
 
 module _ {D : Type 0} (state : D → DiskState) (given : D) where
   -- What was found is what the look answered.

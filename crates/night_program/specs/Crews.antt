@@ -2,9 +2,7 @@
 use Rattle.std.specs.Prelude.{◌≡◌, ◌⊎◌, ℕ, Bool, true, false, List, Option, Some, None, Result, Ok}
 use Rattle.std.specs.Prelude.{Err, ⊤}
 use Rattle.run_model.specs.declared.faults.Fault.{Fault}
-use Rattle.run_model.specs.State.{State}
 use Rattle.run_disk.specs.Disk.{DiskState}
-use Rattle.book_model.specs.Openings.{HasRecovered, RecoversNone}
 use Rattle.console_lines.specs.declared.faults.RunFault.{RunFault}
 use Rattle.console_lines.specs.Faults.{stopped}
 use Rattle.crew_workers.specs.Courses.{Call, IsGates}
@@ -13,7 +11,7 @@ use Rattle.word_endings.specs.declared.endings.Done.TheVariants.{Strayed, Unknow
 use Rattle.word_endings.specs.declared.failures.Failure.{Failure}
 use Rattle.word_endings.specs.declared.endings.UnknownJob.{UnknownJob}
 use Rattle.word_endings.specs.Failures.{FailsBy, Names}
-use Rattle.store_words.specs.Known.{unknown_in}
+use Rattle.store_words.specs.Known.{FindsUnknown}
 
 -- The gate of a night lets each turn pass.
 abbrev pub IsOpen : Call → Type 0
@@ -26,14 +24,6 @@ abbrev pub AnswersCrew :
 AnswersCrew Of (Ok true) answer = answer ≡ Ok Well
 AnswersCrew Of (Ok false) answer = answer ≡ Ok Strayed
 AnswersCrew Of (Err why) answer = FailsBy Of why answer
-
--- The store on a disk was read alone, and these tasks of unknown jobs were found in its state; or
--- no state was, and the fault tells why.
-abbrev pub FindsUnknown :
-    {D : Type 0} → (D → DiskState) → D → Result (Option UnknownJob) Fault → D → Type 0
-FindsUnknown state old (Ok found) new =
-    (p : State) × HasRecovered p (state old) (state new) × (unknown_in p.work.tasks ≡ found)
-FindsUnknown state old (Err why) new = RecoversNone state old why new
 
 -- Before the night the disk wasn't looked at; or it was, and no task of an unknown job was found.
 abbrev pub IsLooked : {D : Type 0} → (D → DiskState) → (known : Bool) → (given begun : D) → Type 0

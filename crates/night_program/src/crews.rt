@@ -1,23 +1,20 @@
 //! A crew's night over the store in a file.
 
 ghost use Rattle.std.specs.Prelude.{◌≡◌, ◌≤◌, vec_len};
-ghost use Rattle.night_program.specs.Crews.{AnswersCrew, FindsUnknown};
+ghost use Rattle.night_program.specs.Crews.{AnswersCrew};
 ghost use Rattle.word_endings.specs.Failures.{Names};
 ghost use Rattle.night_program.specs.Programs.{DoesCrew};
 
 use console_lines::{RunFault, stopped};
-use run_book::Book;
 use run_console::crew_over;
 use run_crew::{Job, OpenGate};
-use run_disk::RunDisk;
-use run_model::Fault;
 use std::alloc::Global;
 use std::io::Write;
 use std::sync::Wait;
 use std::thread::Threads;
 use store_files::{Files, Opened, Why};
-use store_words::unknown_in;
-use word_endings::{Done, Failure, UnknownJob, done_alone, failed_over, no_file};
+use store_words::unknown_on;
+use word_endings::{Done, Failure, done_alone, failed_over, no_file};
 
 /// Opens the store in the file of this name, and works off its ready tasks with so many workers,
 /// who take the first of these lists of jobs. `Memory` if there are fewer lists. If the jobs are to
@@ -61,15 +58,6 @@ pub fn crew_file<'a, F: Files, O: Write, R: Threads + Wait + Sync>(
     let (done, left) = crew_over(rt, alloc, disk, jobs, &OpenGate, output);
     files.close(store, left);
     worked(done, store, &why)
-}
-
-/// The tasks of the store on a disk that aren't ended and whose jobs aren't known, if there are
-/// any. The disk is only read.
-fn unknown_on<D: RunDisk>(alloc: Global, disk: &mut D) -> Result<Option<UnknownJob>, Fault>
-    ensures { FindsUnknown D.state disk.old result disk.new }
-{
-    let state = Book::recover(alloc, disk)?;
-    Ok(unknown_in(&state))
 }
 
 /// What came of a crew's night over the store in the file of this name.

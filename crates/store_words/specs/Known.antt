@@ -1,11 +1,15 @@
 -- Which jobs the program's crews know, and which tasks of a store they don't.
 use Rattle.std.specs.Prelude.{◌≡◌, ◌+◌, ◌&&◌, ◌||◌, ℕ, Bool, true, false, not, List, [], ◌∷◌}
-use Rattle.std.specs.Prelude.{length, codes, filter, bytes_eq, Option, Some, None}
+use Rattle.std.specs.Prelude.{length, codes, filter, bytes_eq, Option, Some, None, Result, Ok, Err}
 use Rattle.run_model.specs.declared.answers.TaskLook.{TaskLook}
+use Rattle.run_model.specs.declared.faults.Fault.{Fault}
 use Rattle.run_model.specs.declared.tasks.Phase.{Phase}
 use Rattle.run_model.specs.declared.tasks.Phase.TheVariants as phase
 use Rattle.run_model.specs.declared.tasks.Task.{Task}
+use Rattle.run_model.specs.State.{State}
 use Rattle.run_model.specs.Tasks.{is_unfinished}
+use Rattle.run_disk.specs.Disk.{DiskState}
+use Rattle.book_model.specs.Openings.{HasRecovered, RecoversNone}
 use Rattle.word_endings.specs.declared.endings.UnknownJob.{UnknownJob}
 
 -- The crews know these three jobs.
@@ -25,6 +29,14 @@ told_of (task ∷ tasks) = Some (record { job = task.job; tasks = length tasks +
 -- What is told of these tasks.
 abbrev pub unknown_in : List Task → Option UnknownJob
 unknown_in tasks = told_of (filter is_strange tasks)
+
+-- The store on a disk was read alone, and these tasks of unknown jobs were found in its state; or
+-- no state was, and the fault tells why.
+abbrev pub FindsUnknown :
+    {D : Type 0} → (D → DiskState) → D → Result (Option UnknownJob) Fault → D → Type 0
+FindsUnknown state old (Ok found) new =
+    (p : State) × HasRecovered p (state old) (state new) × (unknown_in p.work.tasks ≡ found)
+FindsUnknown state old (Err why) new = RecoversNone state old why new
 
 -- ---- for private functions: no public contract cites what follows
 

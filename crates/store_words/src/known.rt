@@ -3,16 +3,27 @@
 ghost use Rattle.std.specs.Prelude.{◌≡◌, ◌<◌, ◌≤◌, ◌+◌, ◌++◌, ◌∷◌, [], ℕ, List};
 ghost use Rattle.std.specs.Prelude.{IfSome};
 ghost use Rattle.run_model.specs.declared.tasks.Task.{Task};
-ghost use Rattle.store_words.specs.Known.{IsSeen, is_known, is_unended, unknown_in};
+ghost use Rattle.store_words.specs.Known.{FindsUnknown, IsSeen, is_known, is_unended, unknown_in};
 
-use run_model::{Name, Phase, TaskLook};
+use run_book::Book;
+use run_disk::RunDisk;
+use run_model::{Fault, Name, Phase, TaskLook};
 use run_state::State;
-use std::alloc::Allocator;
+use std::alloc::{Allocator, Global};
 use word_endings::UnknownJob;
+
+/// The tasks of the store on a disk that aren't ended and whose jobs aren't known, if there are
+/// any; or the fault of its recovery. The disk is only read.
+pub fn unknown_on<D: RunDisk>(alloc: Global, disk: &mut D) -> Result<Option<UnknownJob>, Fault>
+    ensures { FindsUnknown D.state disk.old result disk.new }
+{
+    let state = Book::recover(alloc, disk)?;
+    Ok(unknown_in(&state))
+}
 
 /// What is printed of the tasks of a state that aren't ended and whose jobs aren't known, if there
 /// are any.
-pub fn unknown_in<B: Allocator>(state: &State<B>) -> Option<UnknownJob>
+fn unknown_in<B: Allocator>(state: &State<B>) -> Option<UnknownJob>
     ensures { result ≡ unknown_in state.now.work.tasks }
 {
     let mut found: Option<UnknownJob> = None;
@@ -46,7 +57,7 @@ fn with_task(found: Option<UnknownJob>, look: &TaskLook) -> Option<UnknownJob>
 }
 
 /// Returns whether the program's crews know this job.
-pub fn is_known(job: &Name) -> bool
+fn is_known(job: &Name) -> bool
     ensures { result ≡ is_known job.now }
 {
     let job = job.as_bytes();

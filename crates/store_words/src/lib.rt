@@ -2,7 +2,8 @@
 //!
 //! Over a disk: [`format`] and [`inspect`]; over two, [`migrate`] and [`renew`]. Over the files
 //! that words name: [`format_file`], [`inspect_file`], [`migrate_file`], [`renew_file`] and
-//! [`renew_in_place`]. What each comes to is of `word_endings`.
+//! [`renew_in_place`]. What each comes to is of `word_endings`. [`unknown_on`] looks at a store
+//! before a crew's night.
 #![tactic(auto)]
 
 mod known;
@@ -14,7 +15,7 @@ mod sources;
 mod stores;
 mod words;
 
-pub use known::unknown_in;
+pub use known::unknown_on;
 pub use migrations::migrate;
 pub use renewals::{Kept, renew};
 pub use replacements::renew_in_place;
