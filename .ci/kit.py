@@ -8,6 +8,8 @@ from types import ModuleType
 # What the scripts use of rt. A kit without one of them is too old, or too new, for them.
 USED = ("in_lanes", "share_work", "read_files", "processors", "free", "left_on_disk", "handles_of",
         "sweep", "FULL")
+# The file beside a library of statements alone that has its stamp.
+BRIEF = "brief"
 
 
 class NoKit(Exception):
@@ -57,6 +59,38 @@ def load_commands(shares: bool) -> ModuleType:
     rt.rtlib.Crate.__init__ = make
     if shares:
         rt.share_work(True)
+    return rt
+
+
+def load_brief() -> ModuleType:
+    """Returns rt such that a library keeps its statements alone, which those above it read in a
+    fifth of the time. They fit only the libraries that they were proved over, so the stamp has the
+    sums of these, too, and other commands, which go by a text alone, don't find such a library."""
+    rt = load_commands(shares=False)
+    rtlib = rt.rtlib
+    is_whole, build_whole = rtlib.Crate.is_built, rtlib.Crate.build_rlib
+
+    def stamp_of(crate) -> str:  # type: ignore[no-untyped-def]
+        return "".join([crate.stamp(), *(rtlib.sum_of(f"{it.rlib}/format") for it in crate.below())])
+
+    def is_built(crate) -> bool:  # type: ignore[no-untyped-def]
+        kept = rtlib.text_of(f"{crate.folder}/out/rlib/{BRIEF}")
+        return is_whole(crate) or os.path.isdir(crate.rlib) and kept == stamp_of(crate)
+
+    def build_rlib(crate, flags, anew) -> int:  # type: ignore[no-untyped-def]
+        if "--statements" not in rtlib.help_of("build"):  # (of an older kit)
+            return int(build_whole(crate, flags, anew))
+        stamp, folder = stamp_of(crate), f"{crate.folder}/out/rlib"
+        shutil.rmtree(folder, ignore_errors=True)
+        os.makedirs(folder)
+        words = [*crate.words(flags, keeps=False), "--statements", "-o", crate.rlib]
+        status = int(crate.call(rtlib.RATTLE, "build", *words))
+        if not status and stamp == stamp_of(crate):  # (else its text changed meanwhile)
+            with open(f"{folder}/{BRIEF}", "w", encoding="utf-8") as file:
+                file.write(stamp)
+        return status
+
+    rtlib.Crate.is_built, rtlib.Crate.build_rlib = is_built, build_rlib
     return rt
 
 
