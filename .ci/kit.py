@@ -71,7 +71,8 @@ def load_brief() -> ModuleType:
     is_whole, build_whole = rtlib.Crate.is_built, rtlib.Crate.build_rlib
 
     def stamp_of(crate) -> str:  # type: ignore[no-untyped-def]
-        return "".join([crate.stamp(), *(rtlib.sum_of(f"{it.rlib}/format") for it in crate.below())])
+        over = (rtlib.sum_of(f"{it.rlib}/format") for it in crate.below())
+        return "".join([crate.stamp(), *over])
 
     def is_built(crate) -> bool:  # type: ignore[no-untyped-def]
         kept = rtlib.text_of(f"{crate.folder}/out/rlib/{BRIEF}")
