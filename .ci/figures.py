@@ -1,7 +1,7 @@
 """What the proof of each crate took when it was last done: how long, what work, what memory.
 
 The figures of this machine are kept in a file of the user's cache. Until a crate was proved here,
-its figures are those of figures.json beside this file, which is such a file of a quiet machine.
+its figures are those of figures.json beside this file, which has the same form.
 """
 import json
 import os
