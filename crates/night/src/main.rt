@@ -16,7 +16,6 @@ use crate::clock::SystemClock;
 use night_program::{CopyJob, FailJob, SpinJob, Streams, night};
 use night_words::own_words;
 use run_crew::Job;
-use std::alloc::Global;
 use std::io::IsTerminal;
 use std::process::ExitCode;
 use std::thread::Builder;
@@ -37,9 +36,19 @@ fn main(rt: HostRuntime) -> ExitCode {
         // wanting.
         let mut jobs: Vec<Vec<Box<dyn Job + Send>>> = Vec::new(alloc);
         for _ in 0..MOST_WORKERS {
-            let Some(list) = list_of(alloc) else {
+            let Ok(spin) = Box::new(alloc, SpinJob) else {
                 break;
             };
+            let Ok(fail) = Box::new(alloc, FailJob) else {
+                break;
+            };
+            let Ok(copy) = Box::new(alloc, CopyJob) else {
+                break;
+            };
+            let mut list: Vec<Box<dyn Job + Send>> = Vec::new(alloc);
+            if list.push(spin).is_err() || list.push(fail).is_err() || list.push(copy).is_err() {
+                break;
+            }
             if jobs.push(list).is_err() {
                 break;
             }
@@ -75,22 +84,4 @@ fn main(rt: HostRuntime) -> ExitCode {
         Ok(thread) => thread.join(&rt),
         Err(_) => all(),
     })
-}
-
-/// A list of each job, if there is memory for it.
-fn list_of(alloc: Global) -> Option<Vec<Box<dyn Job + Send>>> {
-    let Ok(spin) = Box::new(alloc, SpinJob) else {
-        return None;
-    };
-    let Ok(fail) = Box::new(alloc, FailJob) else {
-        return None;
-    };
-    let Ok(copy) = Box::new(alloc, CopyJob) else {
-        return None;
-    };
-    let mut list: Vec<Box<dyn Job + Send>> = Vec::new(alloc);
-    if list.push(spin).is_err() || list.push(fail).is_err() || list.push(copy).is_err() {
-        return None;
-    }
-    Some(list)
 }
