@@ -81,6 +81,8 @@ def load_brief() -> ModuleType:
     def build_rlib(crate, flags, anew) -> int:  # type: ignore[no-untyped-def]
         if "--statements" not in rtlib.help_of("build"):  # (of an older kit)
             return int(build_whole(crate, flags, anew))
+        if not anew and crate.is_built():
+            return 0
         stamp, folder = stamp_of(crate), f"{crate.folder}/out/rlib"
         shutil.rmtree(folder, ignore_errors=True)
         os.makedirs(folder)
