@@ -66,8 +66,7 @@ def program() -> str:
     for it in (given, shutil.which("night"), f"{here}/crates/night/out/night"):
         if it and (found := shutil.which(it)):
             return found
-    raise Fault("no program `night`: `rt run` in crates/night makes it; put it on the path, or name"
-                " it by NIGHT")
+    raise Fault("no program `night`: ./build makes it; put it on the path, or name it by NIGHT")
 
 
 def ran(*words: str, seconds: float = WHOLE_SECONDS) -> str:
