@@ -260,7 +260,7 @@ def stopped_ok(tries: Shared) -> None:
     kill([run.pid], which=signal.SIGTERM)
     status, output = room.ended(run)
     tries.is_same(f"{kind}: by a signal", room.path, (status, output.splitlines()[-1]),
-                  (1, "1 commands: 1 left; 0 run now"))
+                  (1, "1 command: 1 left; 0 run now"))
     room = Room(tries, ["g: within 2s", f"g a {trap}"])
     status, output = room.run()
     tries.is_same(f"{kind}: by a deadline", room.path,
@@ -317,7 +317,7 @@ def clock_ahead_again(tries: Shared) -> None:
     room.write("go", "")
     os.remove(f"{room.path}/s.log")
     tries.is_same(kind, room.path, (room.last(), room.begun()),
-                  ((1, "1 commands: 1 failed; 1 run now"), {"g.a": 3}))
+                  ((1, "1 command: 1 failed; 1 run now"), {"g.a": 3}))
 
 
 def cancel_beside(tries: Shared) -> None:

@@ -314,7 +314,7 @@ def is_over(room: Room, kind: str, timeout: str) -> None:
     status, output = room.run("s", "JOBS", "--grace", "1")
     shown = [it.split(";")[0] for it in output.splitlines() if not it.startswith(" ")]
     room.tries.is_same(kind, room.path, (status, shown, room.begun()),
-                       (1, [f"g a: timeout {timeout}", "1 commands: 1 failed"], {"g.a": 2}))
+                       (1, [f"g a: timeout {timeout}", "1 command: 1 failed"], {"g.a": 2}))
     room.tries.holds(f"{kind}: nothing of it lives on", room.path, room.settle(5))
     room.write("over", "")
 
@@ -701,7 +701,7 @@ def format_is_killed(tries: Shared) -> None:
     """A signal ends the format of a new store, twice: it is made all the same."""
     kind = "a format is killed"
     room = Room(tries, [job("g", "a")], KILLED_FORMAT.format(night=tries.program))
-    tries.is_same(kind, room.path, room.run(), (0, "1 commands: 1 ok; 1 run now\n"))
+    tries.is_same(kind, room.path, room.run(), (0, "1 command: 1 ok; 1 run now\n"))
     tries.is_same(f"{kind}: so often", room.path, room.lines("formats"), ["format"] * 3)
     tries.is_same(f"{kind}: what it left", room.path, room.has("s.making"), False)
 

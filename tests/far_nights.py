@@ -47,7 +47,7 @@ AT_ONCE = 30
 KILLS = 14
 OTHERS = ("driver", "all", "client", "night", "SIGTERM")
 # What a driver prints last where the night has ended.
-LAST = re.compile(r"nothing to do: .*|\d+ commands: (?!.* left).*")
+LAST = re.compile(r"nothing to do: .*|\d+ commands?: (?!.* left).*")
 LONGEST = 900
 # How what was killed ends; and the failures of what a killed slurmctld has forgotten.
 OF_CLIENTS = re.compile(r"exit 255|signal 9")

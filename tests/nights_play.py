@@ -355,7 +355,8 @@ class Night:
         is_ok = all(phases.get(it) == "ok" for it in self.plan.commands)
         room.holds((status == 0) == is_ok, f"10: status {status}, and the commands are {phases}")
         count = sum(it == "ok" for it in phases.values())
-        wanted = f"{len(self.plan.commands)} commands: "
+        total = len(self.plan.commands)
+        wanted = f"{total} command{'' if total == 1 else 's'}: "
         told = output.splitlines()[-1:] or [""]
         room.holds(told[0].startswith(wanted) and (f"{count} ok" in told[0] or not count)
                    or "nothing to do" in output,

@@ -13,6 +13,7 @@ from .files import Files
 from .jobs import Jobs
 from .log import Line, Tried, text_of_line
 from .plan import CANCELLED, FAILED, NEVER, NOT_KNOWN, OK
+from .report_words import commands
 from .telling import tell
 
 # The counts of the last line, in order.
@@ -63,7 +64,7 @@ def changed(jobs: Jobs, report: rows.Report, lines: Mapping[Tried, Line]) -> lis
 def total(report: rows.Report, ran_now: int) -> str:
     found = collections.Counter(kind_of(it.phase) for it in report.rows)
     told = ", ".join(f"{found[it]} {it}" for it in KINDS if found[it])
-    return f"{len(report.rows)} commands: {told or 'none'}; {ran_now} run now"
+    return f"{commands(len(report.rows))}: {told or 'none'}; {ran_now} run now"
 
 
 def nothing_to_do(report: rows.Report, when: str) -> str:
