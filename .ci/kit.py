@@ -65,7 +65,8 @@ def load_commands(shares: bool) -> ModuleType:
 def load_brief() -> ModuleType:
     """Returns rt such that a library keeps its statements alone, which those above it read in a
     fifth of the time. They fit only the libraries that they were proved over, so the stamp has the
-    sums of these, too, and other commands, which go by a text alone, don't find such a library."""
+    sums of these, too, and other commands, which go by a text alone, don't find such a library. It
+    has the lengths of the library's own files, of which a power failure may leave empty ones."""
     rt = load_commands(shares=False)
     rtlib = rt.rtlib
     is_whole, build_whole = rtlib.Crate.is_built, rtlib.Crate.build_rlib
@@ -74,9 +75,13 @@ def load_brief() -> ModuleType:
         over = (rtlib.sum_of(f"{it.rlib}/format") for it in crate.below())
         return "".join([crate.stamp(), *over])
 
+    def lengths(crate) -> str:  # type: ignore[no-untyped-def]
+        found = [f"{at}/{it}" for at, _, names in os.walk(crate.rlib) for it in names]
+        return repr(sorted((os.path.relpath(it, crate.rlib), os.path.getsize(it)) for it in found))
+
     def is_built(crate) -> bool:  # type: ignore[no-untyped-def]
         kept = rtlib.text_of(f"{crate.folder}/out/rlib/{BRIEF}")
-        return is_whole(crate) or os.path.isdir(crate.rlib) and kept == stamp_of(crate)
+        return is_whole(crate) or kept == stamp_of(crate) + lengths(crate)
 
     def build_rlib(crate, flags, anew) -> int:  # type: ignore[no-untyped-def]
         if "--statements" not in rtlib.help_of("build"):  # (of an older kit)
@@ -90,7 +95,7 @@ def load_brief() -> ModuleType:
         status = int(crate.call(rtlib.RATTLE, "build", *words))
         if not status and stamp == stamp_of(crate):  # (else its text changed meanwhile)
             with open(f"{folder}/{BRIEF}", "w", encoding="utf-8") as file:
-                file.write(stamp)
+                file.write(stamp + lengths(crate))
         return status
 
     rtlib.Crate.is_built, rtlib.Crate.build_rlib = is_built, build_rlib
