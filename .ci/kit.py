@@ -81,7 +81,10 @@ def load_brief() -> ModuleType:
 
     def is_built(crate) -> bool:  # type: ignore[no-untyped-def]
         kept = rtlib.text_of(f"{crate.folder}/out/rlib/{BRIEF}")
-        return is_whole(crate) or kept == stamp_of(crate) + lengths(crate)
+        # (a whole one can't be read over statements)
+        stamps = (f"{it.folder}/out/rlib/stamp" for it in crate.below())
+        return is_whole(crate) and all(map(os.path.isfile, stamps)) or (
+            kept == stamp_of(crate) + lengths(crate))
 
     def build_rlib(crate, flags, anew) -> int:  # type: ignore[no-untyped-def]
         if "--statements" not in rtlib.help_of("build"):  # (of an older kit)
