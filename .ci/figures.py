@@ -52,6 +52,7 @@ def read(path: str) -> dict[str, Figure]:
     """Returns the figures of a file: none where it isn't there, or isn't as `note` writes it."""
     try:
         with open(path, encoding="utf-8") as file:
-            return {name: Figure(**row) for name, row in json.load(file).items()}
-    except (OSError, ValueError, TypeError, AttributeError):
+            return {name: Figure(float(row["clock"]), float(row["spent"]), int(row["memory"]))
+                    for name, row in json.load(file).items()}
+    except (OSError, ValueError, TypeError, AttributeError, LookupError):
         return {}
