@@ -9,7 +9,7 @@ from concurrent.futures import FIRST_COMPLETED, Future, ThreadPoolExecutor, wait
 from dataclasses import dataclass
 from typing import NamedTuple
 
-from schedule import behind
+from schedule import chains
 
 # So much of the longest chain is nearly the longest.
 NEARLY = 0.8
@@ -42,7 +42,7 @@ class Lanes:
         self.steps, self.lanes, self.memory = steps, lanes, memory
         self.left, self.well = set(steps), dict[str, bool]()
         self.running: dict[Future[bool], Running] = {}
-        self.long = behind({name: it.waits for name, it in steps.items()},
+        self.long = chains({name: it.waits for name, it in steps.items()},
                            {name: it.seconds for name, it in steps.items()})
 
     def run(self) -> dict[str, bool]:

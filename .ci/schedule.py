@@ -2,7 +2,7 @@
 from collections.abc import Mapping, Set
 
 
-def behind(waits: Mapping[str, Set[str]], seconds: Mapping[str, float]) -> dict[str, float]:
+def chains(waits: Mapping[str, Set[str]], seconds: Mapping[str, float]) -> dict[str, float]:
     """Returns, of each step, how long the longest chain takes that begins with it. A step waits for
     those that are named with it; those that no one knows are done."""
     above: dict[str, list[str]] = {name: [] for name in waits}
@@ -21,7 +21,7 @@ def behind(waits: Mapping[str, Set[str]], seconds: Mapping[str, float]) -> dict[
 
 def chain_of(waits: Mapping[str, Set[str]], seconds: Mapping[str, float]) -> list[str]:
     """Returns the longest chain, its first step first."""
-    long = behind(waits, seconds)
+    long = chains(waits, seconds)
     chain: list[str] = []
     ready = [name for name in waits if not waits[name] & waits.keys()]
     while ready:
@@ -32,7 +32,7 @@ def chain_of(waits: Mapping[str, Set[str]], seconds: Mapping[str, float]) -> lis
 
 def length(waits: Mapping[str, Set[str]], seconds: Mapping[str, float], lanes: int) -> float:
     """Returns how long the steps take, so many at a time, those of the longest chain first."""
-    long, ends, now = behind(waits, seconds), dict[str, float](), 0.0
+    long, ends, now = chains(waits, seconds), dict[str, float](), 0.0
     left = set(waits)
     while left or ends:
         ready = [it for it in left if not waits[it] & (left | ends.keys())]
