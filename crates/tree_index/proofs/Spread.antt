@@ -34,17 +34,13 @@ module _ (links : List (Option ℕ)) (old new : List (Option ℕ)) (at : ℕ) (w
     (here : Spreading links old new at work s k) where
   none_before : (o : Option ℕ) → mark_of old c ≡ o → mark_of new c ≡ None → mark_of old c ≡ None
   none_before None e h = e
-  none_before (Some n) e h = no_some n (mark_of new c) h (here.kept c n e)
+  none_before (Some n) e h = no_some n (mark_of new c) h (here.so_far.kept c n e)
 
   -- The child at hand needs no mark.
   pub step_skip : ((t : ℕ) → c < t → t < k → Child links t s → ⊥)
       → (Child links c s → is_some (mark_of new c) ≡ true) → Spreading links old new at work s c
   step_skip gap over = record {
-    same = here.same;
-    here = here.here;
-    kept = here.kept;
-    fresh = here.fresh;
-    below = here.below;
+    so_far = here.so_far;
     listed = here.listed;
     down = λ t p child since. elim (here.down t p child since) [
       | inl done ↦ inl done
@@ -69,31 +65,33 @@ module _ (links : List (Option ℕ)) (old new : List (Option ℕ)) (at : ℕ) (w
       → Child links c s → Since old new at s → mark_of new c ≡ None
       → Spreading links old (set new c (Some at)) at (work ++ c ∷ []) s c
   step_mark within gap child since none = record {
-    same = length-set new c (Some at) ∙ here.same;
-    here = stays at here.here;
-    kept = λ t n was. get_or-set_other new c t (Some at) None
-        (λ e. no_some n (mark_of new c) none (subst (λ (m : ℕ). mark_of new m ≡ Some n) e
-        (here.kept t n was))) ∙ here.kept t n was;
-    fresh = λ t was. elim (cases_eq t c) [
-      | inl e ↦ inr (subst (λ (n : ℕ). mark_of (set new c (Some at)) n ≡ Some at) (sym e) here_now)
-      | inr ne ↦ elim (here.fresh t was) [
-        | inl h ↦ inl (get_or-set_other new c t (Some at) None ne
-            ∙ h)
-        | inr h ↦ inr (get_or-set_other new c t (Some at) None ne ∙ h)
-      ]
-    ];
-    below = λ t now. elim (cases_eq t c) [
-      | inl e ↦ inr (s, subst (λ (n : ℕ). Child links n s) (sym e) child, grown s since)
-      | inr ne ↦ elim (here.below t (back t ne now)) [
-        | inl e ↦ inl e
-        | inr up ↦ inr
-            (up.0, up.1, grown up.0 up.2)
-      ]
-    ];
+    so_far = record {
+      same = length-set new c (Some at) ∙ here.so_far.same;
+      here = stays at here.so_far.here;
+      kept = λ t n was. get_or-set_other new c t (Some at) None
+          (λ e. no_some n (mark_of new c) none (subst (λ (m : ℕ). mark_of new m ≡ Some n) e
+          (here.so_far.kept t n was))) ∙ here.so_far.kept t n was;
+      fresh = λ t was. elim (cases_eq t c) [
+        | inl e ↦ inr (subst (λ (n : ℕ). mark_of (set new c (Some at)) n ≡ Some at) (sym e) here_now)
+        | inr ne ↦ elim (here.so_far.fresh t was) [
+          | inl h ↦ inl (get_or-set_other new c t (Some at) None ne
+              ∙ h)
+          | inr h ↦ inr (get_or-set_other new c t (Some at) None ne ∙ h)
+        ]
+      ];
+      below = λ t now. elim (cases_eq t c) [
+        | inl e ↦ inr (s, subst (λ (n : ℕ). Child links n s) (sym e) child, grown s since)
+        | inr ne ↦ elim (here.so_far.below t (back t ne now)) [
+          | inl e ↦ inl e
+          | inr up ↦ inr
+              (up.0, up.1, grown up.0 up.2)
+        ]
+      ];
+    };
     listed = λ p in-work. elim (in_push p work c in-work) [
       | inl before ↦ ((here.listed p before).0, grown p (here.listed p before).1)
       | inr e ↦ (
-        let size : length new ≡ length old = here.same in
+        let size : length new ≡ length old = here.so_far.same in
             omega (arith, e, within),
         subst (λ (n : ℕ). Since old (set new c (Some at)) at n) (sym e)
             (record { was = none_before (mark_of old c) refl none; is = here_now }),
@@ -151,11 +149,7 @@ pub step_end : (links : List (Option ℕ)) (old new : List (Option ℕ)) (at : �
     (s k : ℕ) → Spreading links old new at work s k → ((t : ℕ) → t < k → Child links t s → ⊥)
     → Spreading links old new at work 0 0
 step_end links old new at work s k here gap = record {
-  same = here.same;
-  here = here.here;
-  kept = here.kept;
-  fresh = here.fresh;
-  below = here.below;
+  so_far = here.so_far;
   listed = here.listed;
   down = λ t p child since. elim (here.down t p child since) [
     | inl done ↦ inl done
@@ -172,11 +166,7 @@ pub step_pop : (links : List (Option ℕ)) (old new : List (Option ℕ)) (at : �
     → ((t p : ℕ) → Child links t p → t < length links) → Spreading links old new at work s
     (length links)
 step_pop links old new at work s here within = record {
-  same = here.same;
-  here = here.here;
-  kept = here.kept;
-  fresh = here.fresh;
-  below = here.below;
+  so_far = here.so_far;
   listed = λ p in-work. here.listed p (in_left p work s in-work);
   down = λ t p child since. elim (here.down t p child since) [
     | inl done ↦ inl done

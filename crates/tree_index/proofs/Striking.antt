@@ -71,7 +71,7 @@ module _ (rows : List Scope) (old new : List (Option ℕ)) (at : ℕ) (hit : Hit
   -- What was marked since is not above the scope that was hit.
   since_above : (most t : ℕ) → t < most → t < length rows → Since old new at t → at ≤ t
   since_above zero t less known since = absurd (omega (arith, less))
-  since_above (suc most) t less known since = elim (spread.below t since) [
+  since_above (suc most) t less known since = elim (spread.so_far.below t since) [
     | inl same ↦ omega (arith, same)
     | inr higher ↦ (let row = row_at t known in
         let up = has_up row.0 higher.0 (child_of t higher.0 row.0 row.1 higher.1) in
@@ -110,9 +110,9 @@ module _ (rows : List Scope) (old new : List (Option ℕ)) (at : ℕ) (hit : Hit
 
     -- no new mark, but from above or by the hit itself
     no_mark : s ≢ at → ((p : ℕ) → HasUp row p → mark_of new p ≡ None) → mark_of new s ≡ None
-    no_mark other above_free = elim (spread.fresh s was) [
+    no_mark other above_free = elim (spread.so_far.fresh s was) [
       | inl none ↦ none
-      | inr marked ↦ elim (spread.below s (record { was = was; is = marked })) [
+      | inr marked ↦ elim (spread.so_far.below s (record { was = was; is = marked })) [
         | inl same ↦ absurd (other same)
         | inr higher ↦ (let up = has_up row higher.0 (child_of s higher.0 row found higher.1) in
             none_some (mark_of new higher.0) at (above_free higher.0 up) higher.2.is)
@@ -163,12 +163,12 @@ module _ (rows : List Scope) (old new : List (Option ℕ)) (at : ℕ) (hit : Hit
         let is = lesser row.parent less free in
         let first = first_joins up.joins other
         ∙ ap (λ b. cond b None (first_hit after row.parent)) up.below_root in
-        elim (spread.fresh row.parent free) [
+        elim (spread.so_far.fresh row.parent free) [
           | inl none ↦ unmarked_is
               (first ∙ first_none (first_hit after row.parent)
               (subst (IsMark after row.parent) none is))
               (no_mark other (λ p up'. ap (mark_of new) (sym up'.up) ∙ none))
-          | inr marked ↦ elim (spread.fresh s was) [
+          | inr marked ↦ elim (spread.so_far.fresh s was) [
             | inr here ↦ subst (IsMark after s) (sym here)
                 (from_parent (ap (option_map (λ a. a.1)) first)
                 (subst (IsMark after row.parent) marked is))
@@ -213,9 +213,9 @@ module _ (rows : List Scope) (old new : List (Option ℕ)) (at : ℕ) (hit : Hit
         )
       where
         marked_here : (m : Option ℕ) → mark_of new s ≡ m → mark_of new s ≡ Some at
-        marked_here m is = elim (spread.fresh s was) [
+        marked_here m is = elim (spread.so_far.fresh s was) [
           | inl none ↦ absurd (false≢true (sym (ap is_some (ap (mark_of new) (sym same) ∙ none))
-              ∙ spread.here))
+              ∙ spread.so_far.here))
           | inr marked ↦ marked
         ]
 
@@ -230,7 +230,7 @@ module _ (rows : List Scope) (old new : List (Option ℕ)) (at : ℕ) (hit : Hit
                 record { below_root = is; joins = joins; up = refl } in
                 let less = less_up s row.parent row found up in
                 let free = parent_free row.parent up in
-                elim (spread.fresh row.parent free) [
+                elim (spread.so_far.fresh row.parent free) [
                   | inl none ↦ first_none (first_hit after row.parent)
                       (subst (IsMark after row.parent) none (lesser row.parent less free))
                   | inr marked ↦ (let reached = since_above (suc row.parent) row.parent
@@ -278,7 +278,7 @@ module _ (rows : List Scope) (old new : List (Option ℕ)) (at : ℕ) (hit : Hit
   by_mark : (s : ℕ) → s < length rows
       → ((t : ℕ) → t < s → mark_of old t ≡ None → IsMark after t (mark_of new t))
       → (m : Option ℕ) → mark_of old s ≡ m → IsMark rows s m → IsMark after s (mark_of new s)
-  by_mark s known lesser (Some n) was is = subst (IsMark after s) (sym (spread.kept s n was))
+  by_mark s known lesser (Some n) was is = subst (IsMark after s) (sym (spread.so_far.kept s n was))
       (is.0, struck.stays s is.0 known is.1, own_stays n is.0 is.2)
   by_mark s known lesser None was is =
       let row = row_at s known in
@@ -293,7 +293,7 @@ module _ (rows : List Scope) (old new : List (Option ℕ)) (at : ℕ) (hit : Hit
 
   pub marked_struck : AreMarked after new
   marked_struck = record {
-    same = spread.same ∙ were.same ∙ sym (length-at_row (with_hit hit) at rows);
+    same = spread.so_far.same ∙ were.same ∙ sym (length-at_row (with_hit hit) at rows);
     right = λ s known. mark_right (suc s) s (omega arith)
         (omega (arith, known, length-at_row (with_hit hit) at rows));
   }
@@ -302,11 +302,13 @@ module _ (rows : List Scope) (old new : List (Option ℕ)) (at : ℕ) (hit : Hit
 pub no_spread : (links marks : List (Option ℕ)) (at : ℕ) → is_some (mark_of marks at) ≡ true
     → IsSpread links marks marks at
 no_spread links marks at here = record {
-  same = refl;
-  here = here;
-  kept = λ t n was. was;
-  fresh = λ t was. inl was;
-  below = λ t since. none_some (mark_of marks t) at since.was since.is;
+  so_far = record {
+    same = refl;
+    here = here;
+    kept = λ t n was. was;
+    fresh = λ t was. inl was;
+    below = λ t since. none_some (mark_of marks t) at since.was since.is;
+  };
   listed = λ p among. absurd among;
   down = λ t p child since. none_some (mark_of marks p) at since.was since.is;
 }

@@ -18,10 +18,9 @@ pub record Since (old new : List (Option ℕ)) (at s : ℕ) : Type 0 where
   pub was : mark_of old s ≡ None
   pub is : mark_of new s ≡ Some at
 
--- The marks on the way: the children of the listed scopes, and those of s below k, are still to be
--- marked.
-pub record Spreading (links old new : List (Option ℕ)) (at : ℕ) (work : List ℕ)
-    (s k : ℕ) : Type 0 where
+-- The marks so far: those that were there stay, and each new one is `at`, at scope `at` or below
+-- a scope that was marked since.
+pub record HaveSpread (links old new : List (Option ℕ)) (at : ℕ) : Type 0 where
   pub same : length new ≡ length old
   pub here : is_some (mark_of new at) ≡ true
   pub kept : (t n : ℕ) → mark_of old t ≡ Some n → mark_of new t ≡ Some n
@@ -29,6 +28,12 @@ pub record Spreading (links old new : List (Option ℕ)) (at : ℕ) (work : List
       → (mark_of new t ≡ None) ⊎ (mark_of new t ≡ Some at)
   pub below : (t : ℕ) → Since old new at t
       → (t ≡ at) ⊎ ((p : ℕ) × Child links t p × Since old new at p)
+
+-- The marks on the way: the children of the listed scopes, and those of s below k, are still to be
+-- marked.
+pub record Spreading (links old new : List (Option ℕ)) (at : ℕ) (work : List ℕ)
+    (s k : ℕ) : Type 0 where
+  pub so_far : HaveSpread links old new at
   pub listed : (p : ℕ) → In p work → (p < length old) × Since old new at p
   pub down : (t p : ℕ) → Child links t p → Since old new at p
       → (is_some (mark_of new t) ≡ true) ⊎ In p work ⊎ ((p ≡ s) × (t < k))
