@@ -1,5 +1,5 @@
 -- Chains that grow by a place.
-use Rattle.run_model.proofs.Common.{◌≡◌, ◌≢◌, ◌<◌, ◌≤◌, ℕ, List, [], ◌∷◌, ◌++◌, length, Option}
+use Rattle.run_model.proofs.Common.{◌≡◌, ◌≢◌, ◌+◌, ◌<◌, ◌≤◌, ℕ, List, [], ◌∷◌, ◌++◌, length, Option}
 use Rattle.run_model.proofs.Common.{Some, None, slice_get, get_or, set, inl, inr, refl, sym, subst}
 use Rattle.run_model.proofs.Common.{ap, ◌∙◌, arith, length-append, length-set, get_or-set_same}
 use Rattle.run_model.proofs.Common.{get_or-set_other, replicate, cases_lt, cases_eq}
@@ -11,6 +11,11 @@ use Rattle.std.proofs.lemmas.List.{get_or-replicate}
 use Rattle.run_model.specs.declared.bounds.TheConstants.{MOST_SCOPES}
 use Rattle.tree_index.specs.declared.chains.TheConstants.{CHAINS}
 use Rattle.tree_index.specs.Chains.{Places, IsLast, IsChained, head_of, hung}
+
+-- How many places a walk along a chain has before it at most.
+abbrev pub left : Option ℕ → ℕ
+left None = 0
+left (Some c) = c + 1
 
 -- A place more after place n changes nothing below it.
 last_below : (keys : List (Option ℕ)) (x : Option ℕ) (key n : ℕ) (o : Option ℕ) → n ≤ length keys

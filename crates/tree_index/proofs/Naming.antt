@@ -4,7 +4,7 @@ use Rattle.run_model.proofs.Common.{◌++◌, length, map, Option, Some, None, s
 use Rattle.run_model.proofs.Common.{inr, refl, sym, subst, ap, ◌∙◌, arith, nat_lt, is_none}
 use Rattle.run_model.proofs.Common.{option_map, option_map_or, bytes_eq, cases_lt, cases_eq}
 use Rattle.run_model.proofs.Common.{lt-ltb, le-ltb, length-map, same_Some, slice_get_within}
-use Rattle.run_model.proofs.Common.{slice_get-get_or, slice_get-map, get_or_from_slice_get}
+use Rattle.run_model.proofs.Common.{slice_get-get_or, slice_get-map, slice_get_read, get_or_from_slice_get}
 use Rattle.run_model.proofs.Common.{bytes_eq-Decides, at_row, with_hit, tick, hit_due}
 use Rattle.run_model.proofs.Common.{name_is_free, map_cases, map-append, IfSome, is_root}
 use Rattle.run_model.proofs.Common.{is_detached, ◌||◌}
@@ -105,11 +105,24 @@ walk_goes_on names keys name other n o named was at differ next = record {
   ];
 }
 
-pub walk_inside : (names : List (List ℕ)) (name : List ℕ) (n : ℕ) → Walking names name (Some n)
-    → n < length names
-walk_inside names name n was =
+-- The place of a walk is a row's, and the row that is read there stands there.
+pub walk_inside : (rows : List Scope) (name : List ℕ) (n : ℕ)
+    → Walking (names_of rows) name (Some n) → n < length rows
+walk_inside rows name n was =
+    let names = names_of rows in
     let within = slice_get_within (homes_of names) n (Some (home name)) was.last.1 in
-    omega (arith, within, length-map names (λ m. Some (home m)))
+    omega (
+      arith,
+      within,
+      length-map names (λ m. Some (home m)),
+      length-map rows (λ row. row.name),
+    )
+
+pub walk_reads : (rows : List Scope) (name : List ℕ) (n : ℕ) (row : Scope)
+    → Walking (names_of rows) name (Some n) → row ≡ get_or rows n row
+    → slice_get rows n ≡ Some row
+walk_reads rows name n row was is =
+    slice_get_read rows _ n row refl (walk_inside rows name n was) is
 
 -- ---- what is found
 
@@ -206,13 +219,18 @@ link_fits row n known = by_root (is_root row.kind) (is_detached row.kind) known
     by_root false true known = tt
     by_root false false known = known refl
 
--- There are as many of each as there are rows.
+-- There are as many names, and as many links, as there are rows.
+pub named_length : (rows : List Scope) (keys : List (Option ℕ)) → AreNamed (names_of rows) keys
+    → length keys ≡ length rows
+named_length rows keys named =
+    ap length named.homes ∙ length-map (names_of rows) (λ name. Some (home name))
+    ∙ length-map rows (λ row. row.name)
+
 pub found_lengths : (rows : List Scope) (room : ℕ) (names links : Places)
     → AreFound rows room names links
     → (length names.keys ≡ length rows) × (length links.keys ≡ length rows)
 found_lengths rows room names links found = (
-  ap length found.named.homes ∙ length-map (names_of rows) (λ name. Some (home name))
-      ∙ length-map rows (λ row. row.name),
+  named_length rows names.keys found.named,
   ap length found.linked ∙ length-map rows link_of,
 )
 

@@ -24,7 +24,7 @@ pub in_last : (p : ℕ) (xs : List ℕ) → In p (xs ++ p ∷ [])
 in_last p [] = inl refl
 in_last p (y ∷ xs) = inr (in_last p xs)
 
-no_some : {X : Type 0} (n : ℕ) (o : Option ℕ) → o ≡ None → o ≡ Some n → X
+pub no_some : {X : Type 0} (n : ℕ) (o : Option ℕ) → o ≡ None → o ≡ Some n → X
 no_some n o h k = absurd cc
 
 some_is : (o : Option ℕ) (n : ℕ) → o ≡ Some n → is_some o ≡ true
@@ -198,10 +198,6 @@ one_less marks c n within none = omega (
 )
 
 -- ---- the walk over the children of a scope
-
-abbrev pub left : Option ℕ → ℕ
-left None = 0
-left (Some c) = c + 1
 
 -- At a child, or after the last.
 pub record Walk (links : List (Option ℕ)) (marks marks' : List (Option ℕ)) (work work' : List ℕ)

@@ -15,10 +15,8 @@ use Rattle.tree_index.specs.Links.{link_of, links_of}
 use Rattle.tree_index.specs.Marks.{IsMark, AreMarked, Struck, mark_of}
 use Rattle.tree_index.specs.Spread.{Child, Since, IsSpread}
 use Rattle.tree_index.proofs.Growing.{first_none}
+use Rattle.tree_index.proofs.Spread.{no_some}
 use Rattle.model_laws.proofs.Levels.{ordered_hit}
-
-none_some : {X : Type 0} (m : Option ℕ) (n : ℕ) → m ≡ None → m ≡ Some n → X
-none_some m n none some = absurd (none-some n (sym none ∙ some))
 
 -- A join that is none is of none.
 joined_none : (up : Option (ℕ × Hit)) (s : ℕ) (own : Option Hit) → joined up s own ≡ None
@@ -65,15 +63,12 @@ module _ (rows : List Scope) (old new : List (Option ℕ)) (at : ℕ) (hit : Hit
   less_up s p row found up =
       subst (λ q. q < s) up.up (ordered s row found up.below_root)
 
-  row_at : (s : ℕ) → s < length rows → (row : Scope) × (slice_get rows s ≡ Some row)
-  row_at s known = row_there rows s known
-
   -- What was marked since is not above the scope that was hit.
   since_above : (most t : ℕ) → t < most → t < length rows → Since old new at t → at ≤ t
   since_above zero t less known since = absurd (omega (arith, less))
   since_above (suc most) t less known since = elim (spread.so_far.below t since) [
     | inl same ↦ omega (arith, same)
-    | inr higher ↦ (let row = row_at t known in
+    | inr higher ↦ (let row = row_there rows t known in
         let up = has_up row.0 higher.0 (child_of t higher.0 row.0 row.1 higher.1) in
         let below = less_up t higher.0 row.0 row.1 up in
         let reached = since_above most higher.0 (omega (arith, below, less))
@@ -115,7 +110,7 @@ module _ (rows : List Scope) (old new : List (Option ℕ)) (at : ℕ) (hit : Hit
       | inr marked ↦ elim (spread.so_far.below s (record { was = was; is = marked })) [
         | inl same ↦ absurd (other same)
         | inr higher ↦ (let up = has_up row higher.0 (child_of s higher.0 row found higher.1) in
-            none_some (mark_of new higher.0) at (above_free higher.0 up) higher.2.is)
+            no_some at (mark_of new higher.0) (above_free higher.0 up) higher.2.is)
       ]
     ]
 
@@ -281,7 +276,7 @@ module _ (rows : List Scope) (old new : List (Option ℕ)) (at : ℕ) (hit : Hit
   by_mark s known lesser (Some n) was is = subst (IsMark after s) (sym (spread.so_far.kept s n was))
       (is.0, struck.stays s is.0 known is.1, own_stays n is.0 is.2)
   by_mark s known lesser None was is =
-      let row = row_at s known in
+      let row = row_there rows s known in
       free_marked s row.0 row.1 was (first_none (first_hit rows s) is) lesser
 
   mark_right : (most s : ℕ) → s < most → s < length rows → IsMark after s (mark_of new s)
@@ -307,8 +302,8 @@ no_spread links marks at here = record {
     here = here;
     kept = λ t n was. was;
     fresh = λ t was. inl was;
-    below = λ t since. none_some (mark_of marks t) at since.was since.is;
+    below = λ t since. no_some at (mark_of marks t) since.was since.is;
   };
   listed = λ p among. absurd among;
-  down = λ t p child since. none_some (mark_of marks p) at since.was since.is;
+  down = λ t p child since. no_some at (mark_of marks p) since.was since.is;
 }

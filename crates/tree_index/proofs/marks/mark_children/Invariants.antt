@@ -1,4 +1,5 @@
-use Rattle.tree_index.proofs.Spread.{Walk, left}
+use Rattle.tree_index.proofs.Chaining.{left}
+use Rattle.tree_index.proofs.Spread.{Walk}
 use Rattle.tree_index.proofs.marks.mark_children.Given as goal
 
 abbrev pub invariant-loop-child : goal.invariant-loop-child
