@@ -78,7 +78,7 @@ reach_again : (old new : List Scope) (s : ℕ) (reach : Reach) → AreOrdered ol
 reach_again old new s reach ordered ordered' again within was =
     let above = was.above in
     record {
-      least = was.least
+      deadline = was.deadline
           ∙ deadline_again old new ordered ordered' again (suc s) s (omega arith) within;
       above = was.above;
       holds = λ row found.
@@ -127,33 +127,39 @@ deadline_below rows s row up ordered found below is =
     (cond b None (deadline_of rows row.parent)))) below
     ∙ ap (λ o. cond (is_detached row.kind) None (earlier (own_deadline row.kind) o)) (sym is))
 
--- Another scope has the lesser of its own deadline and its parent's, if it isn't detached, and
+-- A scope below root has the sooner of its own deadline and its parent's, if it isn't detached, and
 -- holds its values itself where it has one.
-pub new_reach_is : (rows : List Scope) (s : ℕ) (row : Scope) (up reach : Reach) (b d : Bool)
+pub new_reach_is : (rows : List Scope) (s : ℕ) (row : Scope) (up reach : Reach)
     → AreOrdered rows → slice_get rows s ≡ Some row → is_root row.kind ≡ false
-    → IsReach rows row.parent up → is_holder row.kind ≡ b → is_detached row.kind ≡ d
-    → reach.least ≡ cond d None (earlier (own_deadline row.kind) up.least)
-    → reach.holder ≡ cond b s up.holder → IsReach rows s reach
-new_reach_is rows s row up reach true d ordered found below over holds_is d_is least_is holder_is =
-    record {
-      least = least_is ∙ ap (λ d. cond d None (earlier (own_deadline row.kind) up.least)) (sym d_is)
-          ∙ deadline_below rows s row up.least ordered found below over.least;
+    → IsReach rows row.parent up
+    → reach.deadline ≡ cond (is_detached row.kind) None (earlier (own_deadline row.kind) up.deadline)
+    → reach.holder ≡ cond (is_holder row.kind) s up.holder → IsReach rows s reach
+new_reach_is rows s row up reach ordered found below over deadline_is =
+    by_holder (is_holder row.kind) refl
+  where
+    deadline : reach.deadline ≡ deadline_of rows s
+    deadline = deadline_is
+        ∙ deadline_below rows s row up.deadline ordered found below over.deadline
+
+    by_holder : (b : Bool) → is_holder row.kind ≡ b → reach.holder ≡ cond b s up.holder
+        → IsReach rows s reach
+    by_holder true holds holder_is = record {
+      deadline = deadline;
       above = omega (arith, holder_is);
-      holds = λ other at. holds_itself rows s row found holds_is other
+      holds = λ other at. holds_itself rows s row found holds other
           (ap (slice_get rows) (sym holder_is) ∙ at);
       values = λ key. ap (λ h. value_of rows h key) holder_is;
     }
-new_reach_is rows s row up reach false d ordered found below over holds_is d_is least_is holder_is =
-    let less : row.parent < s = ordered s row found below in
-    let above = over.above in
-    record {
-      least = least_is ∙ ap (λ d. cond d None (earlier (own_deadline row.kind) up.least)) (sym d_is)
-          ∙ deadline_below rows s row up.least ordered found below over.least;
-      above = omega (arith, holder_is, less, above);
-      holds = λ other at. over.holds other (ap (slice_get rows) (sym holder_is) ∙ at);
-      values = λ key. ap (λ h. value_of rows h key) holder_is ∙ over.values key
-          ∙ value_above rows s row key ordered found (no_text key row.kind holds_is) below;
-    }
+    by_holder false holds holder_is =
+        let less : row.parent < s = ordered s row found below in
+        let above = over.above in
+        record {
+          deadline = deadline;
+          above = omega (arith, holder_is, less, above);
+          holds = λ other at. over.holds other (ap (slice_get rows) (sym holder_is) ∙ at);
+          values = λ key. ap (λ h. value_of rows h key) holder_is ∙ over.values key
+              ∙ value_above rows s row key ordered found (no_text key row.kind holds) below;
+        }
 
 -- ---- the lists
 

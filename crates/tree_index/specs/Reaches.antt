@@ -12,10 +12,10 @@ is_holder kind.Root = true
 is_holder (kind.Value key text) = true
 is_holder _ = false
 
--- The least deadline is the scope's. The holder is a scope at or above it that holds a value, or
+-- The deadline is the scope's. The holder is a scope at or above it that holds a value, or
 -- root, and each key has the value there that it has here.
 pub record IsReach (rows : List Scope) (s : ℕ) (reach : Reach) : Type 0 where
-  pub least : reach.least ≡ deadline_of rows s
+  pub deadline : reach.deadline ≡ deadline_of rows s
   pub above : reach.holder ≤ s
   pub holds : (row : Scope) → slice_get rows reach.holder ≡ Some row
       → is_holder row.kind ≡ true

@@ -14,7 +14,7 @@ use std::alloc::Allocator;
 /// A scope's deadline, and the nearest scope at or above it that holds a value, otherwise root.
 #[derive(Clone, Copy)]
 pub struct Reach {
-    pub least: Option<Moment>,
+    pub deadline: Option<Moment>,
     pub holder: u16,
 }
 
@@ -45,22 +45,18 @@ fn new_reach(scopes: &[Scope], reaches: &[Reach], s: u16) -> Reach
     let row = &scopes[s as usize];
     if is_root(&row.kind) {
         return Reach {
-            least: None,
+            deadline: None,
             holder: s,
         };
     }
     let up = reaches[row.parent as usize];
     let holder = if is_holder(&row.kind) { s } else { up.holder };
-    if is_detached(&row.kind) {
-        return Reach {
-            least: None,
-            holder,
-        };
-    }
-    Reach {
-        least: sooner(own_deadline(&row.kind), up.least),
-        holder,
-    }
+    let deadline = if is_detached(&row.kind) {
+        None
+    } else {
+        sooner(own_deadline(&row.kind), up.deadline)
+    };
+    Reach { deadline, holder }
 }
 
 /// Returns whether a search for a value has to look at a scope of this kind, or ends there.

@@ -135,7 +135,7 @@ impl<A: Allocator> Rows<A> {
         requires { s < length self.now.rows }
         ensures { result ≡ deadline_of self.now.rows s }
     {
-        self.reaches[s as usize].least
+        self.reaches[s as usize].deadline
     }
 
     /// Returns the nearest value of a key, from scope `s` upwards, lent until the rows change.

@@ -12,7 +12,7 @@ pub returns : goal.returns
 returns g c =
     let rows = c.self.inside.scopes.items in
     let known : c.args.s < length rows = rw (← c.self.view_is) at c.requires in
-    subst (λ rows. c.index.result.now.least ≡ deadline_of rows c.args.s)
+    subst (λ rows. c.index.result.now.deadline ≡ deadline_of rows c.args.s)
     (ap (λ (r : Numbered). r.rows) c.self.view_is)
     (reach_at rows c.self.inside.reaches.items c.args.s c.index.result.now
-    c.self.invariant.reached known c.index.ensures).least
+    c.self.invariant.reached known c.index.ensures).deadline
