@@ -14,18 +14,15 @@ use Rattle.std.specs.declared.cmp.Ordering.TheVariants.{Less, Equal, Greater}
 use Rattle.run_model.specs.declared.bounds.TheConstants.{MOST_SCOPES}
 use Rattle.run_model.specs.declared.scopes.Hit.{Hit}
 use Rattle.run_model.specs.declared.scopes.Scope.{Scope}
-use Rattle.run_model.proofs.RowLemmas.{map-at_row}
 use Rattle.model_laws.specs.Endings.{AreEarlier}
 use Rattle.model_laws.proofs.Follows.{tick_follows}
 use Rattle.model_laws.proofs.Stays.{earlier_comes_before, later_comes_behind}
 use Rattle.tree_index.specs.Deadlines.{deadline_at, due_at, key, Among, TakesFirst, AreWaiting}
-use Rattle.tree_index.specs.Links.{link_of, links_of}
-use Rattle.tree_index.specs.Marks.{AreMarked, Struck}
+use Rattle.tree_index.specs.Marks.{AreKept, Struck}
 use Rattle.tree_index.proofs.Latest.{IsLatest, latest_stays}
 use Rattle.tree_index.proofs.Marking.{own_hit_within}
 use Rattle.tree_index.proofs.Waiting.{HasDeadline, HasCome, has_deadline, has_come, key_is, due_is}
 use Rattle.tree_index.proofs.Waiting.{undue, deadline_hit, own_cases, own_kept, heap_over}
-use Rattle.model_laws.proofs.Levels.{ordered_hit}
 use Rattle.model_laws.proofs.Interrupts.{hit_twice}
 
 -- The hits of this event come no later than the deadlines that wait.
@@ -111,25 +108,18 @@ rows_again hit (suc n) (row ∷ rows) x own = ap (λ l. row ∷ l) (rows_again h
 pub record Passing (start rows : List Scope) (links marks : List (Option ℕ)) (due : List ℕ)
     (event now : ℕ) : Type 0 where
   pub size : length rows ≡ length start
-  pub few : length rows ≤ MOST_SCOPES
-  pub ordered : AreOrdered rows
-  pub linked : links ≡ links_of rows
-  pub marked : AreMarked rows marks
+  pub kept : AreKept rows marks links
   pub waiting : AreWaiting rows due
   pub each : (s : ℕ) (row : Scope) → slice_get start s ≡ Some row
       → (slice_get rows s ≡ Some row) ⊎ (slice_get rows s ≡ Some (tick event now row))
   pub before : ComeBefore rows due event
 
 pub passing_starts : (rows : List Scope) (links marks : List (Option ℕ)) (due : List ℕ)
-    (event now : ℕ) → length rows ≤ MOST_SCOPES → AreOrdered rows → links ≡ links_of rows
-    → AreMarked rows marks → AreWaiting rows due → AreEarlier rows event
+    (event now : ℕ) → AreKept rows marks links → AreWaiting rows due → AreEarlier rows event
     → Passing rows rows links marks due event now
-passing_starts rows links marks due event now few ordered linked marked waiting later = record {
+passing_starts rows links marks due event now kept waiting later = record {
   size = refl;
-  few = few;
-  ordered = ordered;
-  linked = linked;
-  marked = marked;
+  kept = kept;
   waiting = waiting;
   each = λ s row found. inl found;
   before = λ t h own. inl (later t h own);
@@ -158,8 +148,8 @@ module _ (start rows : List Scope) (links marks : List (Option ℕ)) (due due' :
   stays : (o : Option Hit) → own_hit rows n ≡ o → (s : ℕ) (h : Hit) → s < length rows
       → ending rows s ≡ Some h → ending (at_row (with_hit hit) n rows) s ≡ Some h
   stays None own s h known ended =
-      latest_stays rows n hit was.ordered own
-      (latest_of rows due event n hit was.few was.before takes.among key_of_hit passing_known
+      latest_stays rows n hit was.kept.ordered own
+      (latest_of rows due event n hit was.kept.few was.before takes.among key_of_hit passing_known
       hit_is.event own) s h ended known
   stays (Some x) own s h known ended =
       ap (λ l. ending l s) (rows_again hit n rows x own) ∙ ended
@@ -253,13 +243,10 @@ module _ (start rows : List Scope) (links marks : List (Option ℕ)) (due due' :
           by_own (Some x) is = none-some x (sym is)
 
   pub passing_goes_on : (rows' : List Scope) (marks' : List (Option ℕ)) → rows' ≡ after
-      → AreMarked rows' marks' → Passing start rows' links marks' due' event now
-  passing_goes_on rows' marks' is marked = rw is (record {
+      → AreKept rows' marks' links → Passing start rows' links marks' due' event now
+  passing_goes_on rows' marks' is kept = rw is (record {
     size = length-at_row (with_hit hit) n rows ∙ was.size;
-    few = omega (arith, length-at_row (with_hit hit) n rows, was.few);
-    ordered = ordered_hit hit n rows was.ordered;
-    linked = was.linked ∙ sym (map-at_row link_of (with_hit hit) n rows (λ row. refl));
-    marked = subst (λ l. AreMarked l marks') is marked;
+    kept = subst (λ l. AreKept l marks' links) is kept;
     waiting = waiting_after;
     each = each_after;
     before = before_after;

@@ -11,7 +11,7 @@ use Rattle.run_model.specs.declared.scopes.Scope.{Scope}
 use Rattle.tree_index.specs.Chains.{Places}
 use Rattle.tree_index.specs.Deadlines.{AreWaiting}
 use Rattle.tree_index.specs.Links.{AreFound}
-use Rattle.tree_index.specs.Marks.{AreMarked, IsMark}
+use Rattle.tree_index.specs.Marks.{AreMarked, AreKept, IsMark}
 use Rattle.tree_index.specs.Reaches.{AreReached, AreReaches}
 use Rattle.tree_index.specs.Rows.{Numbered, IsIndexed}
 use Rattle.tree_index.specs.declared.reaches.Reach.{Reach}
@@ -140,25 +140,37 @@ reached_hit hit s rows reaches ordered ordered' were = record {
       }
     ]
 
--- Where the rows and the marks were lent to change.
-pub indexed_given_back : (old new : Numbered) (scopes scope_rest : List Scope)
+-- The rows and the marks are lent to change, and given back.
+pub kept_lent : (of : Numbered) (rows : List Scope) (marks marks' : List (Option ℕ))
+    (names links : Places) (due : List ℕ) (reaches : List Reach) (m u : ℕ)
+    → IsIndexed of marks names links due reaches m u → rows ≡ of.rows → marks' ≡ marks
+    → AreKept rows marks' links.keys
+kept_lent of rows marks marks' names links due reaches m u was rows_are marks_are =
+    rw (rows_are, marks_are) (record {
+      ordered = was.ordered;
+      few = omega (arith, was.few, was.most);
+      marked = was.marked;
+      linked = was.found.linked;
+    })
+
+pub indexed_given_back : (old : Numbered) (rows scopes scope_rest : List Scope)
     (marks marks' mark_rest : List (Option ℕ)) (names links : Places) (due due' : List ℕ)
     (reaches : List Reach) (scope_len mark_len m u : ℕ)
-    → IsIndexed old marks names links due reaches m u → new.room ≡ old.room
-    → length new.rows ≡ length old.rows → AreOrdered new.rows → scopes ≡ new.rows
-    → AreMarked scopes marks' → AreFound new.rows old.room names links → AreWaiting new.rows due'
-    → AreReached new.rows reaches → scope_len ≡ length scopes → mark_len ≡ length marks'
+    → IsIndexed old marks names links due reaches m u → length rows ≡ length old.rows
+    → scopes ≡ rows → AreKept scopes marks' links.keys → AreFound rows old.room names links
+    → AreWaiting rows due' → AreReached rows reaches → scope_len ≡ length scopes
+    → mark_len ≡ length marks'
     → IsIndexed (record { room = old.room; rows = take scope_len (scopes ++ scope_rest) })
     (take mark_len (marks' ++ mark_rest)) names links due' reaches m u
-indexed_given_back old new scopes scope_rest marks marks' mark_rest names links due due' reaches n k
-    m u was room size ordered same marked found waiting reached all_n all_k =
+indexed_given_back old rows scopes scope_rest marks marks' mark_rest names links due due' reaches n k
+    m u was size same kept found waiting reached all_n all_k =
     let rows_back = given_back n scopes scope_rest all_n ∙ same in
     let marks_back = given_back k marks' mark_rest all_k in
     rw (rows_back, marks_back) (record {
       few = omega (arith, size, was.few);
       most = was.most;
-      ordered = ordered;
-      marked = subst (λ l. AreMarked l marks') same marked;
+      ordered = subst AreOrdered same kept.ordered;
+      marked = subst (λ l. AreMarked l marks') same kept.marked;
       found = found;
       waiting = waiting;
       reached = reached;

@@ -9,10 +9,11 @@ use Rattle.run_model.proofs.Common.{length-at_row, slice_get-at_row_same, slice_
 use Rattle.run_model.proofs.Common.{row_there}
 use Rattle.run_model.specs.declared.scopes.Hit.{Hit}
 use Rattle.run_model.specs.declared.scopes.Scope.{Scope}
+use Rattle.run_model.proofs.RowLemmas.{map-at_row}
 use Rattle.model_laws.specs.Searches.{above, joined}
 use Rattle.model_laws.proofs.Lines.{first_hit_up}
 use Rattle.tree_index.specs.Links.{link_of, links_of}
-use Rattle.tree_index.specs.Marks.{IsMark, AreMarked, Struck, mark_of}
+use Rattle.tree_index.specs.Marks.{IsMark, AreMarked, AreKept, Struck, mark_of}
 use Rattle.tree_index.specs.Spread.{Child, Since, IsSpread}
 use Rattle.tree_index.proofs.Growing.{first_none}
 use Rattle.tree_index.proofs.Spread.{no_some}
@@ -286,12 +287,24 @@ module _ (rows : List Scope) (old new : List (Option ℕ)) (at : ℕ) (hit : Hit
       (omega (arith, below, known)))
       (mark_of old s) refl (were.right s known)
 
-  pub marked_struck : AreMarked after new
+  marked_struck : AreMarked after new
   marked_struck = record {
     same = spread.so_far.same ∙ were.same ∙ sym (length-at_row (with_hit hit) at rows);
     right = λ s known. mark_right (suc s) s (omega arith)
         (omega (arith, known, length-at_row (with_hit hit) at rows));
   }
+
+-- So what is kept beside the rows stays right.
+pub kept_struck : (rows : List Scope) (old new links : List (Option ℕ)) (at : ℕ) (hit : Hit)
+    → AreKept rows old links → Struck rows at hit → IsSpread links old new at
+    → AreKept (at_row (with_hit hit) at rows) new links
+kept_struck rows old new links at hit were struck spread = record {
+  ordered = ordered_hit hit at rows were.ordered;
+  few = omega (arith, were.few, length-at_row (with_hit hit) at rows);
+  marked = marked_struck rows old new at hit were.ordered struck were.marked
+      (subst (λ l. IsSpread l old new at) were.linked spread);
+  linked = were.linked ∙ sym (map-at_row link_of (with_hit hit) at rows (λ row. refl));
+}
 
 -- Where the scope was marked before, no mark goes down.
 pub no_spread : (links marks : List (Option ℕ)) (at : ℕ) → is_some (mark_of marks at) ≡ true

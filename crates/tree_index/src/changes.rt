@@ -5,13 +5,13 @@ ghost use Rattle.std.specs.Prelude.{vec_capacity, is_none, position, IsTrue, fal
 ghost use Rattle.std.specs.Str.{bytes_eq};
 ghost use Rattle.run_model.specs.declared.bounds.TheConstants.{MOST_SCOPES};
 ghost use Rattle.run_model.specs.Rows.{at_row};
-ghost use Rattle.run_model.specs.Scopes.{AreOrdered, is_root};
+ghost use Rattle.run_model.specs.Scopes.{is_root};
 ghost use Rattle.run_model.specs.TreeChanges.{with_hit, tick};
 ghost use Rattle.model_laws.specs.Endings.{AreEarlier};
 ghost use Rattle.tree_index.specs.declared.chains.TheConstants.{CHAINS};
 ghost use Rattle.tree_index.specs.Deadlines.{AreWaiting};
-ghost use Rattle.tree_index.specs.Links.{links_of, AreFound};
-ghost use Rattle.tree_index.specs.Marks.{AreMarked, Struck};
+ghost use Rattle.tree_index.specs.Links.{AreFound};
+ghost use Rattle.tree_index.specs.Marks.{AreKept, Struck};
 
 use crate::chains::Chains;
 use crate::deadlines::{note, pop_passed};
@@ -59,14 +59,11 @@ pub fn end_scope<A: Allocator>(
     s: u16,
     hit: Hit,
 )
-    requires ordered { AreOrdered scopes.old }
-    requires few { length scopes.old ≤ MOST_SCOPES }
-    requires marked { AreMarked scopes.old marks.old }
-    requires linked { links.now.keys ≡ links_of scopes.old }
+    requires kept { AreKept scopes.old marks.old links.now.keys }
     requires known { s < length scopes.old }
     requires struck { Struck scopes.old s hit }
     ensures rows { scopes.new ≡ at_row (with_hit hit) s scopes.old }
-    ensures marked { AreMarked scopes.new marks.new }
+    ensures kept { AreKept scopes.new marks.new links.now.keys }
 {
     if marks[s as usize].is_none() {
         mark_below(links, marks, s);
@@ -84,14 +81,11 @@ pub fn expire_scopes<A: Allocator>(
     event: u64,
     clock: Moment,
 )
-    requires ordered { AreOrdered scopes.old }
-    requires few { length scopes.old ≤ MOST_SCOPES }
-    requires marked { AreMarked scopes.old marks.old }
-    requires linked { links.now.keys ≡ links_of scopes.old }
+    requires kept { AreKept scopes.old marks.old links.now.keys }
     requires waiting { AreWaiting scopes.old due.old.items }
     requires later { AreEarlier scopes.old event }
     ensures rows { scopes.new ≡ map (tick event clock) scopes.old }
-    ensures marked { AreMarked scopes.new marks.new }
+    ensures kept { AreKept scopes.new marks.new links.now.keys }
     ensures waiting { AreWaiting scopes.new due.new.items }
 {
     while let Some((s, hit)) = pop_passed(scopes, due, event, clock) {

@@ -5,8 +5,7 @@ use Rattle.tree_index.proofs.changes.expire_scopes.Goals as goal
 pub loop-s-init : goal.loop-s-init
 loop-s-init g c =
     passing_starts c.args.scopes.now c.args.links.now.keys c.args.marks.now c.args.due.now.items
-    c.args.event c.args.clock c.requires.few c.requires.ordered c.requires.linked c.requires.marked
-    c.requires.waiting c.requires.later
+    c.args.event c.args.clock c.requires.kept c.requires.waiting c.requires.later
 
 pub end_scope-requires-clause-known : goal.end_scope-requires-clause-known
 end_scope-requires-clause-known g c =
@@ -26,7 +25,7 @@ loop-s-preserved g c =
     c.loop-s.due.items c.pop_passed.new.due.items c.args.event c.args.clock c.in-Some.s
     c.in-Some.hit c.loop-s.invariant c.in-Some.ensures.0 c.in-Some.ensures.1
     c.end_scope.new.scopes c.end_scope.new.marks c.end_scope.ensures.rows
-    c.end_scope.ensures.marked
+    c.end_scope.ensures.kept
 
 pub returns-clause-rows : goal.returns-clause-rows
 returns-clause-rows g c =

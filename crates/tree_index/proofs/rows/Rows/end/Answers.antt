@@ -1,36 +1,18 @@
 use Rattle.run_model.proofs.Common.{refl, length, sym, subst, ap, ◌∙◌, arith, with_hit, at_row}
-use Rattle.run_model.proofs.Common.{AreOrdered, length-at_row}
+use Rattle.run_model.proofs.Common.{length-at_row}
 use Rattle.model_laws.proofs.Levels.{ordered_hit}
-use Rattle.tree_index.specs.Links.{links_of}
-use Rattle.tree_index.specs.Marks.{AreMarked, Struck}
+use Rattle.tree_index.specs.Marks.{Struck}
 use Rattle.tree_index.proofs.Fronts.{given_back}
-use Rattle.tree_index.proofs.Indexing.{indexed_given_back, numbered, reached_hit, same_numbered}
+use Rattle.tree_index.proofs.Indexing.{indexed_given_back, kept_lent, numbered, reached_hit}
+use Rattle.tree_index.proofs.Indexing.{same_numbered}
 use Rattle.tree_index.proofs.Naming.{found_hit}
 use Rattle.tree_index.proofs.Waiting.{waiting_hit}
 use Rattle.tree_index.proofs.rows.Rows.end.Goals as goal
 
-pub end_scope-requires-clause-ordered : goal.end_scope-requires-clause-ordered
-end_scope-requires-clause-ordered g c =
-    subst AreOrdered (sym c.deref_mut.ensures.value) c.self.invariant.ordered
-
-pub end_scope-requires-clause-few : goal.end_scope-requires-clause-few
-end_scope-requires-clause-few g c =
-    omega (
-      arith,
-      ap length c.deref_mut.ensures.value,
-      c.self.invariant.few,
-      c.self.invariant.most,
-    )
-
-pub end_scope-requires-clause-marked : goal.end_scope-requires-clause-marked
-end_scope-requires-clause-marked g c =
-    subst (λ l. AreMarked l c.deref_mut-2.result.now) (sym c.deref_mut.ensures.value)
-    (subst (AreMarked c.self.inside.scopes.items) (sym c.deref_mut-2.ensures.value)
-    c.self.invariant.marked)
-
-pub end_scope-requires-clause-linked : goal.end_scope-requires-clause-linked
-end_scope-requires-clause-linked g c =
-    c.self.invariant.found.linked ∙ ap links_of (sym c.deref_mut.ensures.value)
+pub end_scope-requires-clause-kept : goal.end_scope-requires-clause-kept
+end_scope-requires-clause-kept g c =
+    kept_lent _ _ _ _ _ _ _ _ _ _ c.self.invariant c.deref_mut.ensures.value
+    c.deref_mut-2.ensures.value
 
 pub end_scope-requires-clause-known : goal.end_scope-requires-clause-known
 end_scope-requires-clause-known g c =
@@ -49,13 +31,12 @@ invariant_of-self g c =
     let hit = c.args.hit in
     let rows = old.scopes.items in
     let ordered = ordered_hit hit s rows c.self.invariant.ordered in
-    indexed_given_back (numbered old.scopes.cap rows)
-    (numbered old.scopes.cap (at_row (with_hit hit) s rows)) c.end_scope.new.scopes _
-    old.marks.items c.end_scope.new.marks _ old.names old.links old.due.items old.due.items
-    old.reaches.items old.scopes.len old.marks.len old.marks.cap old.reaches.cap
-    c.self.invariant refl (length-at_row (with_hit hit) s rows) ordered
+    indexed_given_back (numbered old.scopes.cap rows) (at_row (with_hit hit) s rows)
+    c.end_scope.new.scopes _ old.marks.items c.end_scope.new.marks _ old.names old.links
+    old.due.items old.due.items old.reaches.items old.scopes.len old.marks.len old.marks.cap
+    old.reaches.cap c.self.invariant (length-at_row (with_hit hit) s rows)
     (c.end_scope.ensures.rows ∙ ap (at_row (with_hit hit) s) c.deref_mut.ensures.value)
-    c.end_scope.ensures.marked (found_hit hit s rows _ _ _ c.self.invariant.found)
+    c.end_scope.ensures.kept (found_hit hit s rows _ _ _ c.self.invariant.found)
     (waiting_hit hit s rows _ c.self.invariant.waiting)
     (reached_hit hit s rows _ c.self.invariant.ordered ordered c.self.invariant.reached)
     (omega (arith, ap length c.deref_mut.ensures.value))

@@ -1,39 +1,19 @@
 use Rattle.run_model.proofs.Common.{refl, length, map, sym, subst, ap, ◌∙◌, arith, length-map}
-use Rattle.run_model.proofs.Common.{tick, AreOrdered}
+use Rattle.run_model.proofs.Common.{tick}
 use Rattle.model_laws.specs.Endings.{AreEarlier}
 use Rattle.model_laws.proofs.Follows.{ticked}
 use Rattle.model_laws.proofs.WellFormed.{ordered_follow}
 use Rattle.tree_index.specs.Deadlines.{AreWaiting}
-use Rattle.tree_index.specs.Links.{links_of}
-use Rattle.tree_index.specs.Marks.{AreMarked}
 use Rattle.tree_index.proofs.Fronts.{given_back}
-use Rattle.tree_index.proofs.Indexing.{indexed_given_back, numbered, same_numbered}
+use Rattle.tree_index.proofs.Indexing.{indexed_given_back, kept_lent, numbered, same_numbered}
 use Rattle.tree_index.proofs.Naming.{found_ticked}
 use Rattle.tree_index.proofs.Nearing.{reached_follow}
 use Rattle.tree_index.proofs.rows.Rows.expire.Goals as goal
 
-pub expire_scopes-requires-clause-ordered : goal.expire_scopes-requires-clause-ordered
-expire_scopes-requires-clause-ordered g c =
-    subst AreOrdered (sym c.deref_mut.ensures.value) c.self.invariant.ordered
-
-pub expire_scopes-requires-clause-few : goal.expire_scopes-requires-clause-few
-expire_scopes-requires-clause-few g c =
-    omega (
-      arith,
-      ap length c.deref_mut.ensures.value,
-      c.self.invariant.few,
-      c.self.invariant.most,
-    )
-
-pub expire_scopes-requires-clause-marked : goal.expire_scopes-requires-clause-marked
-expire_scopes-requires-clause-marked g c =
-    subst (λ l. AreMarked l c.deref_mut-2.result.now) (sym c.deref_mut.ensures.value)
-    (subst (AreMarked c.self.inside.scopes.items) (sym c.deref_mut-2.ensures.value)
-    c.self.invariant.marked)
-
-pub expire_scopes-requires-clause-linked : goal.expire_scopes-requires-clause-linked
-expire_scopes-requires-clause-linked g c =
-    c.self.invariant.found.linked ∙ ap links_of (sym c.deref_mut.ensures.value)
+pub expire_scopes-requires-clause-kept : goal.expire_scopes-requires-clause-kept
+expire_scopes-requires-clause-kept g c =
+    kept_lent _ _ _ _ _ _ _ _ _ _ c.self.invariant c.deref_mut.ensures.value
+    c.deref_mut-2.ensures.value
 
 pub expire_scopes-requires-clause-waiting : goal.expire_scopes-requires-clause-waiting
 expire_scopes-requires-clause-waiting g c =
@@ -56,11 +36,10 @@ invariant_of-self g c =
     let size = length-map rows (tick e now) in
     let ordered = ordered_follow e now rows (map (tick e now) rows) follows
     c.self.invariant.ordered in
-    indexed_given_back (numbered old.scopes.cap rows)
-    (numbered old.scopes.cap (map (tick e now) rows)) c.expire_scopes.new.scopes _
-    old.marks.items c.expire_scopes.new.marks _ old.names old.links old.due.items
-    c.expire_scopes.new.due.items old.reaches.items old.scopes.len old.marks.len old.marks.cap
-    old.reaches.cap c.self.invariant refl size ordered same c.expire_scopes.ensures.marked
+    indexed_given_back (numbered old.scopes.cap rows) (map (tick e now) rows)
+    c.expire_scopes.new.scopes _ old.marks.items c.expire_scopes.new.marks _ old.names old.links
+    old.due.items c.expire_scopes.new.due.items old.reaches.items old.scopes.len old.marks.len
+    old.marks.cap old.reaches.cap c.self.invariant size same c.expire_scopes.ensures.kept
     (found_ticked e now rows _ _ _ c.self.invariant.found)
     (subst (λ l. AreWaiting l c.expire_scopes.new.due.items) same
     c.expire_scopes.ensures.waiting)
