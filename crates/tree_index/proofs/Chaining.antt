@@ -5,12 +5,13 @@ use Rattle.run_model.proofs.Common.{ap, ◌∙◌, arith, length-append, length-
 use Rattle.run_model.proofs.Common.{get_or-set_other, replicate, cases_lt, cases_eq}
 use Rattle.run_model.proofs.Common.{get_or_append_left, get_or_push, get_or_past, length-replicate}
 use Rattle.run_model.proofs.Common.{none-some, same_Some, slice_get_within, slice_get-push_left}
-use Rattle.run_model.proofs.Common.{slice_get-push_last, push_cases}
+use Rattle.run_model.proofs.Common.{slice_get-push_last, push_cases, take}
 use Rattle.std.specs.Prelude.{IfSome}
 use Rattle.std.proofs.lemmas.List.{get_or-replicate}
 use Rattle.run_model.specs.declared.bounds.TheConstants.{MOST_SCOPES}
 use Rattle.tree_index.specs.declared.chains.TheConstants.{CHAINS}
 use Rattle.tree_index.specs.Chains.{Places, IsLast, IsChained, head_of, hung}
+use Rattle.tree_index.proofs.Fronts.{given_back}
 
 -- How many places a walk along a chain has before it at most.
 abbrev pub left : Option ℕ → ℕ
@@ -53,10 +54,18 @@ last_new keys key = (
   λ t more less at. absurd (omega (arith, more, less, length-append keys (Some key ∷ []))),
 )
 
-pub heads_fixed : (heads : List (Option ℕ)) (key : Option ℕ) (n : ℕ)
+heads_fixed : (heads : List (Option ℕ)) (key : Option ℕ) (n : ℕ)
     → length (hung heads key n) ≡ length heads
 heads_fixed heads None n = refl
 heads_fixed heads (Some k) n = length-set heads k (Some n)
+
+-- The heads were lent, and are given back with a place hung.
+pub heads_back : (heads lent new rest : List (Option ℕ)) (key : Option ℕ) (n n' len : ℕ)
+    → lent ≡ heads → new ≡ hung lent key n' → n' ≡ n → len ≡ length heads
+    → take len (new ++ rest) ≡ hung heads key n
+heads_back heads lent new rest key n n' len is hung_is same size =
+    let now : new ≡ hung heads key n = rw (← is, ← same) hung_is in
+    given_back len new rest (omega (arith, size, ap length now, heads_fixed heads key n)) ∙ now
 
 heads_push : (keys heads : List (Option ℕ)) (x : Option ℕ) (key : ℕ)
     → IfSome x (λ k. k < length heads)
@@ -144,12 +153,12 @@ chained_none room keys heads nexts next_room keys_are nexts_are heads_are few sa
 }
 
 pub chained_pushed : (places : Places) (room' next_room next_room' : ℕ)
-    (heads nexts keys' heads' nexts' : List (Option ℕ)) (x : Option ℕ)
+    (heads nexts keys' heads' nexts' : List (Option ℕ)) (x head : Option ℕ)
     → IsChained places heads nexts next_room → length places.keys < places.room
     → IfSome x (λ k. k < CHAINS) → room' ≡ places.room → next_room' ≡ next_room
     → keys' ≡ places.keys ++ x ∷ [] → heads' ≡ hung heads x (length places.keys)
-    → nexts' ≡ nexts ++ head_of heads x ∷ []
+    → nexts' ≡ nexts ++ head ∷ [] → head ≡ head_of heads x
     → IsChained (record { room = room'; keys = keys' }) heads' nexts' next_room'
-chained_pushed places room' next_room next_room' heads nexts keys' heads' nexts' x was less
-    within same next_same k h n =
-    rw (same, next_same, k, h, n) (chained_push places heads nexts next_room x was less within)
+chained_pushed places room' next_room next_room' heads nexts keys' heads' nexts' x head was less
+    within same next_same k h n is =
+    rw (same, next_same, k, h, n, is) (chained_push places heads nexts next_room x was less within)
