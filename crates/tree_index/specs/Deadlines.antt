@@ -12,7 +12,7 @@ use Rattle.run_model.specs.TreeChanges.{hit_due}
 abbrev pub deadline_at : List Scope → ℕ → Option ℕ
 deadline_at rows n = option_and_then (λ row. own_deadline row.kind) (slice_get rows n)
 
--- The hit that event e makes of scope n, if its deadline has come.
+-- The hit that scope n gets by event e, if its deadline has come.
 abbrev pub due_at : ℕ → ℕ → List Scope → ℕ → Option Hit
 due_at e clock rows n = option_and_then (λ row. hit_due e clock row.kind) (slice_get rows n)
 
@@ -24,7 +24,7 @@ key rows n = unwrap_or (deadline_at rows n) 0 * MOST_SCOPES + n
 abbrev pub key_at : List Scope → List ℕ → ℕ → ℕ
 key_at rows due i = key rows (slice_index due i)
 
--- The number is among these.
+-- The number is one of these.
 abbrev pub Among : ℕ → List ℕ → Type 0
 Among n due = (i : ℕ) × (i < length due) × (slice_index due i ≡ n)
 

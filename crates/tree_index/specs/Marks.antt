@@ -36,7 +36,7 @@ pub record AreKept (rows : List Scope) (marks links : List (Option ℕ)) : Type 
 abbrev pub marked_hit : List Scope → Option ℕ → Option (ℕ × Hit)
 marked_hit rows mark = option_and_then (λ n. option_map (λ hit. (n, hit)) (own_hit rows n)) mark
 
--- One more hit stands on a scope that is done with those above it, and what ended a scope stays.
+-- Scope `at` isn't detached, and what ended a scope before still does if `at` gets this hit.
 pub record Struck (rows : List Scope) (at : ℕ) (hit : Hit) : Type 0 where
   pub joins : (row : Scope) → slice_get rows at ≡ Some row → is_detached row.kind ≡ false
   pub stays : (s : ℕ) (h : Hit) → s < length rows → ending rows s ≡ Some h

@@ -16,8 +16,11 @@ pub const CHAINS: usize = 4_096;
 /// The keys of places that came one after another.
 #[derive(Drop)]
 pub struct Chains<A: Allocator> {
+    /// One for each place.
     keys: Vec<Option<u16>, A>,
+    /// One for each key that there can be: the last place that has it.
     heads: Vec<Option<u16>, A>,
+    /// One for each place: the last place before it that has its key.
     nexts: Vec<Option<u16>, A>,
 }
 
@@ -37,7 +40,7 @@ impl<A: Allocator> Model for Chains<A> {
 }
 
 impl<A: Allocator + Copy> Chains<A> {
-    /// Makes chains without a place, with room for so many.
+    /// Makes [`Chains`] without a place, with room for `room` of them.
     pub fn with_room(alloc: A, room: usize) -> Result<Chains<A>, AllocError>
         requires { room ≤ MOST_SCOPES }
         ensures { IfOk result (λ chains. chains ≡ record { room = room; keys = [] }) }
@@ -62,7 +65,7 @@ impl<A: Allocator> Chains<A> {
         self.nexts.push_reserved(next);
     }
 
-    /// Returns the last place of this key.
+    /// Returns the last place of this key; `None` if no place has it.
     pub fn last(&self, key: u16) -> Option<u16>
         requires { key < CHAINS }
         ensures { IsLast self.now.keys key (length self.now.keys) result }

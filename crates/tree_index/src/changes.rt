@@ -23,7 +23,7 @@ use arrayvec::ArrayVec;
 use run_model::{Hit, MOST_SCOPES, Moment, Scope};
 use std::alloc::Allocator;
 
-/// Adds one more row, with its name, which no row has, its link, and its deadline, if that waits.
+/// Adds a row, whose name no other has, with its name, its link, and its deadline, if that waits.
 /// Takes no memory.
 pub fn push_row<A: Allocator>(
     scopes: &mut Vec<Scope, A>,
@@ -51,7 +51,8 @@ pub fn push_row<A: Allocator>(
     note(scopes, due, n);
 }
 
-/// Ends scope `s`, if nothing has ended it by its own hit, and marks the scopes that end with it.
+/// Gives scope `s` this hit, unless it has one of its own. If nothing has ended the scope, marks it
+/// and those that end with it.
 pub fn end_scope<A: Allocator>(
     scopes: &mut [Scope],
     links: &Chains<A>,
@@ -71,8 +72,8 @@ pub fn end_scope<A: Allocator>(
     end_row(scopes, s, hit);
 }
 
-/// Ends each scope whose deadline is at or before the clock, and that nothing has ended by its own
-/// hit, the soonest deadline first.
+/// Gives each scope whose deadline is at or before the clock the hit of that deadline, the soonest
+/// first, unless it has a hit of its own.
 pub fn expire_scopes<A: Allocator>(
     scopes: &mut [Scope],
     links: &Chains<A>,

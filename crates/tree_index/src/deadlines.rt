@@ -65,7 +65,7 @@ fn first_hit(scopes: &[Scope], due: &[u16], event: u64, clock: Moment) -> Option
     hit_due(event, clock, &scopes[due[0] as usize].kind)
 }
 
-/// Adds a number.
+/// Puts scope `n` in.
 fn push(scopes: &[Scope], due: &mut ArrayVec<u16, MOST_SCOPES>, n: u16)
     requires heap { IsDueHeap scopes.now due.old.items }
     requires known { n < length scopes.now }
@@ -78,7 +78,7 @@ fn push(scopes: &[Scope], due: &mut ArrayVec<u16, MOST_SCOPES>, n: u16)
     sift_up(scopes, due, last);
 }
 
-/// Takes the first number off.
+/// Takes the first scope off, and returns it.
 fn take_first(scopes: &[Scope], due: &mut ArrayVec<u16, MOST_SCOPES>) -> u16
     requires heap { IsDueHeap scopes.now due.old.items }
     requires some { 0 < array_vec_len due.old }
@@ -91,7 +91,7 @@ fn take_first(scopes: &[Scope], due: &mut ArrayVec<u16, MOST_SCOPES>) -> u16
     first
 }
 
-/// Lets the number at place `i` rise to its place.
+/// Lets the scope at place `i` rise to where it belongs.
 fn sift_up(scopes: &[Scope], due: &mut [u16], i: usize)
     requires known { AreKnown scopes.now due.old }
     requires inside { i < length due.old }
@@ -110,7 +110,7 @@ fn sift_up(scopes: &[Scope], due: &mut [u16], i: usize)
     }
 }
 
-/// Lets the first number sink to its place.
+/// Lets the first scope sink to where it belongs.
 fn sift_down(scopes: &[Scope], due: &mut [u16])
     requires known { AreKnown scopes.now due.old }
     requires inside { 0 < length due.old }
@@ -149,7 +149,7 @@ fn lesser_child(scopes: &[Scope], due: &[u16], i: usize) -> usize
     }
 }
 
-/// By deadline, and then by number.
+/// Returns the key of scope `n`: keys go by deadline, and then by number.
 fn key(scopes: &[Scope], n: u16) -> u64
     requires { n < length scopes.now }
     ensures { result ≡ key_of scopes.now n }

@@ -10,18 +10,6 @@ ghost use Rattle.run_model.specs.declared.scopes.Reason.TheVariants.{Canceled, D
 
 use run_model::{Hit, Kind, Moment, Reason, Scope, Text};
 
-/// Returns whether the hit of scope `s` comes before that of scope `t`: by event, then by moment,
-/// then by number.
-pub fn is_before(s: u16, a: &Hit, t: u16, b: &Hit) -> bool
-    ensures { result ≡ comes_before (s, a.now) (t, b.now) }
-{
-    let by_moment = a.moment.get().cmp(&b.moment.get());
-    a.event
-        .cmp(&b.event)
-        .then(by_moment.then(s.cmp(&t)))
-        .is_lt()
-}
-
 /// Returns the hit of a cancellation by this event, at this clock. Its cause is the one given,
 /// otherwise the reason's text.
 pub fn cancelled(event: u64, clock: Moment, cause: Option<Text>) -> Hit
@@ -35,24 +23,21 @@ pub fn cancelled(event: u64, clock: Moment, cause: Option<Text>) -> Hit
     }
 }
 
-/// Returns the hit that a deadline at or before the clock gets; other kinds get none.
+/// Returns the hit that a scope of this kind gets by this event; `None` unless it has a deadline at
+/// or before the clock.
 pub fn hit_due(event: u64, clock: Moment, kind: &Kind) -> Option<Hit>
     ensures { result ≡ hit_due event clock kind.now }
 {
     match kind {
-        Kind::Deadline(moment, cause) => {
-            if moment.get() <= clock.get() {
-                Some(expired(event, *moment, cause.as_ref().map(|text| text.copy())))
-            } else {
-                None
-            }
+        Kind::Deadline(moment, cause) if moment.get() <= clock.get() => {
+            Some(expired(event, *moment, cause.as_ref().map(|text| text.copy())))
         }
         _ => None,
     }
 }
 
-/// Ends a row whose deadline is at or before the clock, by this event, unless it was hit. The hit's
-/// moment is the deadline.
+/// Gives a row whose deadline is at or before the clock the hit of that deadline by this event,
+/// unless it has a hit. The hit's moment is the deadline.
 pub fn expire(row: &mut Scope, event: u64, clock: Moment)
     ensures { row.new ≡ tick event clock row.old }
 {
@@ -61,12 +46,24 @@ pub fn expire(row: &mut Scope, event: u64, clock: Moment)
     }
 }
 
-/// Ends the row of scope `s`, if nothing has ended it.
+/// Gives scope `s` this hit, unless it has one of its own.
 pub fn end_row(scopes: &mut [Scope], s: u16, hit: Hit)
     requires { s < length scopes.old }
     ensures { scopes.new ≡ at_row (with_hit hit) s scopes.old }
 {
     end(&mut scopes[s as usize], hit);
+}
+
+/// Returns whether the hit of scope `s` comes before that of scope `t`: by event, then by moment,
+/// then by number.
+pub fn is_before(s: u16, a: &Hit, t: u16, b: &Hit) -> bool
+    ensures { result ≡ comes_before (s, a.now) (t, b.now) }
+{
+    let by_moment = a.moment.get().cmp(&b.moment.get());
+    a.event
+        .cmp(&b.event)
+        .then(by_moment.then(s.cmp(&t)))
+        .is_lt()
 }
 
 /// Returns the cause that was given, otherwise the reason's text.
@@ -91,7 +88,7 @@ fn expired(event: u64, deadline: Moment, cause: Option<Text>) -> Hit
     }
 }
 
-/// Ends a row that nothing has ended.
+/// Gives a row this hit, unless it has one.
 fn end(row: &mut Scope, hit: Hit)
     ensures { row.new ≡ with_hit hit row.old }
 {

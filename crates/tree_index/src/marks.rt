@@ -21,7 +21,7 @@ use arrayvec::ArrayVec;
 use run_model::{Hit, MOST_SCOPES, Scope};
 use std::alloc::Allocator;
 
-/// Returns the hit that ended scope `s`.
+/// Returns the hit that ended scope `s`; `None` while the scope is live.
 pub fn ending_hit<'a>(scopes: &'a [Scope], marks: &[Option<u16>], s: u16) -> Option<&'a Hit>
     requires marked { AreMarked scopes.now marks.now }
     requires known { s < length scopes.now }
@@ -31,7 +31,7 @@ pub fn ending_hit<'a>(scopes: &'a [Scope], marks: &[Option<u16>], s: u16) -> Opt
     scopes[n as usize].hit.as_ref()
 }
 
-/// Returns the mark that a row gets as the next one.
+/// Returns the mark that a row gets if it is added.
 pub fn mark_for(scopes: &[Scope], marks: &[Option<u16>], row: &Scope) -> Option<u16>
     requires ordered { AreOrdered scopes.now }
     requires few { length scopes.now < MOST_SCOPES }

@@ -14,7 +14,7 @@ use std::alloc::Allocator;
 /// Spreads neighbouring names over the chains: 2 to the 32nd divided by the golden ratio, and odd.
 const FACTOR: u32 = 2_654_435_761;
 
-/// How far a mixed name reaches.
+/// Mixed names are the numbers below it: 2 to the 32nd.
 const SPAN: u64 = 4_294_967_296;
 
 /// Returns the chain of a name.
@@ -29,7 +29,7 @@ pub fn home(name: &[u8]) -> u16
     (sum as u64 / (SPAN / CHAINS as u64)) as u16
 }
 
-/// Returns the number of the scope of this name.
+/// Returns the number of the scope of this name; `None` if no scope has it.
 pub fn place_of<A: Allocator>(scopes: &[Scope], names: &Chains<A>, name: &[u8]) -> Option<u16>
     requires { AreNamed (names_of scopes.now) names.now.keys }
     ensures { result ≡ position (λ row. bytes_eq name.now row.name) scopes.now }

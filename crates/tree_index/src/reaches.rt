@@ -1,5 +1,5 @@
 //! Reaches: a tree keeps for each scope its deadline, and the nearest scope from which its values
-//! come. A scope's kind and parent never change, so each is made once, as the scope is.
+//! come. A scope's kind and parent never change, so its reach is made once, when the scope is.
 
 ghost use Rattle.std.specs.Prelude.{◌≡◌, ◌<◌, ◌≤◌, length, vec_len, vec_capacity};
 ghost use Rattle.run_model.specs.declared.bounds.TheConstants.{MOST_SCOPES};

@@ -1,5 +1,5 @@
-//! [`Rows`] are those of a tree's scopes, in order of number, each with its names, links, mark,
-//! deadline and reach.
+//! [`Rows`] are those of a tree's scopes, in order of number, with the names, links, marks, waiting
+//! deadlines and reaches that belong to them.
 
 ghost use Rattle.std.specs.Option.{option_copied};
 ghost use Rattle.std.specs.Prelude.{◌≡◌, ◌<◌, ◌≤◌, ◌++◌, ◌∷◌, [], length, map, position, is_none};
@@ -24,15 +24,24 @@ use run_model::{Hit, MOST_SCOPES, Moment, Scope};
 use std::alloc::{AllocError, Allocator};
 use std::marker::Model;
 
-/// Rows of scopes, each of which is found by its name, and is asked what it has from those above
-/// it, without a pass over all of them. Parents have lesser numbers, and no two scopes one name.
+/// Rows of scopes in order of number: parents have lesser numbers, and no two scopes one name. They
+/// have room for a fixed number, so no call but [`Rows::with_room`] takes memory.
+///
+/// A call takes as many steps as it ends scopes, or looks at names of one hash, or at scopes that
+/// hold a value; beside a deadline, as many more as the number of those that wait has binary
+/// digits.
 #[derive(Drop)]
 pub struct Rows<A: Allocator> {
     scopes: Vec<Scope, A>,
+    /// One for each scope: the scope whose own hit ended it.
     marks: Vec<Option<u16>, A>,
+    /// A place for each scope: its name's hash is the key.
     names: Chains<A>,
+    /// A place for each scope: the scope that ends it is the key.
     links: Chains<A>,
+    /// The deadlines that wait, as a heap.
     due: ArrayVec<u16, MOST_SCOPES>,
+    /// One for each scope.
     reaches: Vec<Reach, A>,
 }
 
@@ -51,7 +60,8 @@ impl<A: Allocator> Model for Rows<A> {
 }
 
 impl<A: Allocator + Copy> Rows<A> {
-    /// Makes rows of no scope, with room for so many. No other call takes memory.
+    /// Makes [`Rows`] without a scope, with room for `room` of them. `AllocError` if the memory for
+    /// that is refused.
     pub fn with_room(alloc: A, room: usize) -> Result<Rows<A>, AllocError>
         requires { room ≤ MOST_SCOPES }
         ensures { IfOk result (λ rows. rows ≡ record { room = room; rows = [] }) }
@@ -74,8 +84,8 @@ impl<A: Allocator + Copy> Rows<A> {
 }
 
 impl<A: Allocator> Rows<A> {
-    /// Adds a row of a name that no other has, under a parent that is there; root has none above
-    /// it.
+    /// Adds a row, as the scope of the next number. No other has its name, and its parent is there;
+    /// root has none. It can have a hit of its own.
     pub fn push(&mut self, row: Scope)
         requires room { length self.old.rows < self.old.room }
         requires free { IsTrue (is_none
@@ -95,8 +105,9 @@ impl<A: Allocator> Rows<A> {
         reach_rest(&self.scopes, &mut self.reaches);
     }
 
-    /// Ends scope `s` by this hit, if nothing has ended it by its own, and with it those that end
-    /// with it. What ended a scope before has to stay the first that did.
+    /// Gives scope `s` this hit, unless it has one of its own. The scope is then done, and so are
+    /// those that end with it. `struck` holds if the scope isn't detached and the hit comes later
+    /// than all others: what ended a scope before still does.
     pub fn end(&mut self, s: u16, hit: Hit)
         requires known { s < length self.old.rows }
         requires struck { Struck self.old.rows s hit }
@@ -105,8 +116,9 @@ impl<A: Allocator> Rows<A> {
         end_scope(&mut self.scopes, &self.links, &mut self.marks, s, hit);
     }
 
-    /// Ends each scope whose deadline is at or before the clock, and that nothing has ended by its
-    /// own hit, with event `event`, which is later than each that ended one.
+    /// Gives each scope whose deadline is at or before `clock` the hit of that deadline, unless it
+    /// has one of its own; even a scope that is done by one above it. The event is later than those
+    /// of all hits before.
     pub fn expire(&mut self, event: u64, clock: Moment)
         requires { AreEarlier self.old.rows event }
         ensures { self.new ≡ record self.old { rows = map (tick event clock) self.old.rows } }
@@ -121,8 +133,8 @@ impl<A: Allocator> Rows<A> {
         );
     }
 
-    /// Returns the hit that ended scope `s`, its own or that of one above it; `None` while the
-    /// scope is live.
+    /// Returns the hit that ended scope `s`, its own or that of one above it, lent until the rows
+    /// change; `None` while the scope is live.
     pub fn ending(&self, s: u16) -> Option<&Hit>
         requires { s < length self.now.rows }
         ensures { option_copied result ≡ ending self.now.rows s }
@@ -138,7 +150,8 @@ impl<A: Allocator> Rows<A> {
         self.reaches[s as usize].deadline
     }
 
-    /// Returns the nearest value of a key, from scope `s` upwards, lent until the rows change.
+    /// Returns the value of a key at scope `s`, lent until the rows change: the nearest from the
+    /// scope upwards, through detached scopes too. `None` if there is none.
     pub fn value(&self, s: u16, key: &[u8]) -> Option<&[u8]>
         requires { s < length self.now.rows }
         ensures value { option_copied result ≡ value_of self.now.rows s key.now }
@@ -147,7 +160,7 @@ impl<A: Allocator> Rows<A> {
         nearest_value(&self.scopes, &self.reaches, s, key)
     }
 
-    /// Returns the number of the scope of this name.
+    /// Returns the number of the scope of this name; `None` if no scope has it.
     pub fn find(&self, name: &[u8]) -> Option<u16>
         ensures { result ≡ position (λ row. bytes_eq name.now row.name) self.now.rows }
     {
@@ -161,7 +174,7 @@ impl<A: Allocator> Rows<A> {
         self.scopes.len()
     }
 
-    /// Returns the rows, lent until they change.
+    /// Returns the rows in order of number, lent until they change.
     pub fn as_slice(&self) -> &[Scope]
         ensures { result.now ≡ self.now.rows }
     {
