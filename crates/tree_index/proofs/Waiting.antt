@@ -297,14 +297,20 @@ module _ (rows : List Scope) (old : List ℕ) (n : ℕ) (row : Scope)
         (none_is row.hit (sym (ap (option_and_then (λ r. r.hit)) found) ∙ none))));
   }
 
-pub deadline_pushed : (rows : List Scope) (row : Scope) (n : ℕ) → n < length rows
+deadline_pushed : (rows : List Scope) (row : Scope) (n : ℕ) → n < length rows
     → deadline_at (rows ++ row ∷ []) n ≡ deadline_at rows n
 deadline_pushed rows row n less =
     ap (option_and_then (λ r. own_deadline r.kind)) (slice_get-push_left rows row n less)
 
-pub waiting_pushed : (rows : List Scope) (row : Scope) (due due' : List ℕ) → AreWaiting rows due
+pub heap_pushed : (rows rows' : List Scope) (row : Scope) (due : List ℕ) → IsDueHeap rows due
+    → rows' ≡ rows ++ row ∷ [] → IsDueHeap rows' due
+heap_pushed rows rows' row due was pushed =
+    rw pushed (heap_over rows (rows ++ row ∷ []) due was
+    (omega (arith, length-append rows (row ∷ []))) (deadline_pushed rows row))
+
+noted_waits : (rows : List Scope) (row : Scope) (due due' : List ℕ) → AreWaiting rows due
     → Noted (rows ++ row ∷ []) due (length rows) due' → AreWaiting (rows ++ row ∷ []) due'
-waiting_pushed rows row due due' was noted = record {
+noted_waits rows row due due' was noted = record {
   heap = noted.heap;
   fits = omega (arith, noted.size, was.fits, length-append rows (row ∷ []));
   dues = λ n among. elim (noted.only n among) [
@@ -324,3 +330,9 @@ waiting_pushed rows row due due' was noted = record {
         (subst (λ k. own_hit (rows ++ row ∷ []) k ≡ None) last none)))
   ];
 }
+
+pub waiting_pushed : (rows rows' lent : List Scope) (row : Scope) (due due' : List ℕ) (n : ℕ)
+    → AreWaiting rows due → rows' ≡ rows ++ row ∷ [] → lent ≡ rows' → n ≡ length rows
+    → Noted lent due n due' → AreWaiting rows' due'
+waiting_pushed rows rows' lent row due due' n was pushed is last noted =
+    rw pushed (noted_waits rows row due due' was (rw (← last, ← pushed, ← is) noted))

@@ -1,10 +1,9 @@
 use Rattle.std.proofs.Common.{◌≡◌, length, arith, ap, ◌∙◌, Some, ◌∷◌, ◌++◌, [], sym, subst}
 use Rattle.std.proofs.Common.{◌<◌, length-append, IfSome}
 use Rattle.tree_index.specs.declared.chains.TheConstants.{CHAINS}
-use Rattle.tree_index.specs.Deadlines.{IsDueHeap, Noted, AreWaiting}
 use Rattle.tree_index.specs.Names.{home}
 use Rattle.tree_index.proofs.Naming.{found_lengths, found_pushed, link_fits}
-use Rattle.tree_index.proofs.Waiting.{heap_over, deadline_pushed, waiting_pushed}
+use Rattle.tree_index.proofs.Waiting.{heap_pushed, waiting_pushed}
 use Rattle.tree_index.proofs.changes.push_row.Goals as goal
 
 pub push-requires-clause-room : goal.push-requires-clause-room
@@ -42,12 +41,8 @@ returns-clause-found g c =
 
 pub note-requires-clause-heap : goal.note-requires-clause-heap
 note-requires-clause-heap g c =
-    let rows = c.args.scopes.now.items in
-    subst (λ l. IsDueHeap l c.args.due.now.items)
-    (sym (c.deref.ensures.value ∙ c.push_reserved.ensures.items))
-    (heap_over rows (rows ++ c.args.row ∷ []) c.args.due.now.items c.requires.waiting.heap
-    (omega (arith, length-append rows (c.args.row ∷ [])))
-    (λ n less. deadline_pushed rows c.args.row n less))
+    heap_pushed c.args.scopes.now.items _ c.args.row _ c.requires.waiting.heap
+    (c.deref.ensures.value ∙ c.push_reserved.ensures.items)
 
 pub note-requires-clause-known : goal.note-requires-clause-known
 note-requires-clause-known g c =
@@ -65,14 +60,9 @@ note-requires-clause-room g c =
 
 pub returns-clause-waiting : goal.returns-clause-waiting
 returns-clause-waiting g c =
-    let rows = c.args.scopes.now.items in
-    let due = c.args.due.now.items in
-    let pushed = c.push_reserved.ensures.items in
-    let n : c.len-n.result ≡ length rows = omega (arith, c.len-n.ensures) in
-    subst (λ l. AreWaiting l c.note.new.due.items) (sym pushed)
-    (waiting_pushed rows c.args.row due c.note.new.due.items c.requires.waiting
-    (subst (λ l. Noted l due (length rows) c.note.new.due.items) (c.deref.ensures.value ∙ pushed)
-    (subst (λ k. Noted c.deref.result.now due k c.note.new.due.items) n c.note.ensures)))
+    waiting_pushed c.args.scopes.now.items _ _ c.args.row _ _ _ c.requires.waiting
+    c.push_reserved.ensures.items c.deref.ensures.value (omega (arith, c.len-n.ensures))
+    c.note.ensures
 
 pub push-requires-2-clause-key : goal.push-requires-2-clause-key
 push-requires-2-clause-key g c =
