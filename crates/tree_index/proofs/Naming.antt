@@ -5,7 +5,7 @@ use Rattle.run_model.proofs.Common.{inr, refl, sym, subst, ap, ◌∙◌, arith,
 use Rattle.run_model.proofs.Common.{option_map, option_map_or, bytes_eq, cases_lt, cases_eq}
 use Rattle.run_model.proofs.Common.{lt-ltb, le-ltb, length-map, same_Some, slice_get_within}
 use Rattle.run_model.proofs.Common.{slice_get-get_or, slice_get-map, slice_get_read, get_or_from_slice_get}
-use Rattle.run_model.proofs.Common.{bytes_eq-Decides, at_row, with_hit, tick, hit_due}
+use Rattle.run_model.proofs.Common.{bytes_eq-Decides, false≢true, at_row, with_hit, tick, hit_due}
 use Rattle.run_model.proofs.Common.{name_is_free, map_cases, map-append, IfSome, is_root}
 use Rattle.run_model.proofs.Common.{is_detached, ◌||◌}
 use Rattle.std.specs.List.{position}
@@ -21,7 +21,7 @@ use Rattle.model_laws.proofs.Making.{ticked_name}
 
 -- ---- the first that passes
 
-pub position_is : {X : Type 0} (p : X → Bool) (xs : List X) (i : ℕ) (x : X)
+position_is : {X : Type 0} (p : X → Bool) (xs : List X) (i : ℕ) (x : X)
     → slice_get xs i ≡ Some x → p x ≡ true
     → ((k : ℕ) (y : X) → k < i → slice_get xs k ≡ Some y → p y ≡ false)
     → position p xs ≡ Some i
@@ -33,7 +33,7 @@ position_is p xs i x found passes before =
     ap (λ j. cond (nat_lt j (length xs)) (Some j) None) at
     ∙ ap (λ b. cond b (Some i) None) (lt-ltb i (length xs) within)
 
-pub position_none : {X : Type 0} (p : X → Bool) (xs : List X)
+position_none : {X : Type 0} (p : X → Bool) (xs : List X)
     → ((k : ℕ) (y : X) → slice_get xs k ≡ Some y → p y ≡ false) → position p xs ≡ None
 position_none p [] fails = refl
 position_none p (x ∷ xs) fails =
@@ -46,7 +46,7 @@ position_none p (x ∷ xs) fails =
 
 -- ---- names
 
-pub differs : (a b : List ℕ) → a ≢ b → bytes_eq a b ≡ false
+differs : (a b : List ℕ) → a ≢ b → bytes_eq a b ≡ false
 differs a b other = by_test (bytes_eq a b) (bytes_eq-Decides a b).0
   where
     by_test : (test : Bool) → (test ≡ true → a ≡ b) → test ≡ false
@@ -54,10 +54,17 @@ differs a b other = by_test (bytes_eq a b) (bytes_eq-Decides a b).0
     by_test false is = refl
 
 -- The name of a row that is there.
-pub name_at : (rows : List Scope) (n : ℕ) (row : Scope) → slice_get rows n ≡ Some row
+name_at : (rows : List Scope) (n : ℕ) (row : Scope) → slice_get rows n ≡ Some row
     → slice_get (names_of rows) n ≡ Some row.name
 name_at rows n row found =
     slice_get-map (λ r. r.name) rows n ∙ ap (option_map (λ r. r.name)) found
+
+-- There are as many names as there are rows.
+named_length : (rows : List Scope) (keys : List (Option ℕ)) → AreNamed (names_of rows) keys
+    → length keys ≡ length rows
+named_length rows keys named =
+    ap length named.homes ∙ length-map (names_of rows) (λ name. Some (home name))
+    ∙ length-map rows (λ row. row.name)
 
 -- A walk along a chain: no place from k on has the name, and the rest of its chain is below k.
 pub record Walking (names : List (List ℕ)) (name : List ℕ) (o : Option ℕ) : Type 0 where
@@ -86,45 +93,71 @@ home_at : (names : List (List ℕ)) (t : ℕ) (name : List ℕ) → slice_get na
 home_at names t name at =
     slice_get-map (λ n. Some (home n)) names t ∙ ap (option_map (λ n. Some (home n))) at
 
--- Another name stands at n.
-pub walk_goes_on : (names : List (List ℕ)) (keys : List (Option ℕ)) (name other : List ℕ) (n : ℕ)
-    (o : Option ℕ) → AreNamed names keys → Walking names name (Some n)
-    → slice_get names n ≡ Some other → name ≢ other
-    → ((key : ℕ) → slice_get keys n ≡ Some (Some key) → IsLast keys key n o)
-    → Walking names name o
-walk_goes_on names keys name other n o named was at differ next = record {
-  k = n;
-  last = subst (λ l. IsLast l (home name) n o) named.homes
-      (next (home name) (ap (λ l. slice_get l n) named.homes ∙ was.last.1));
-  rest = λ t more found. elim (cases_lt t was.k) [
-    | inr past ↦ was.rest t past found
-    | inl below ↦ elim (cases_eq t n) [
-      | inl same ↦ differ (same_Some name other (sym found ∙ ap (slice_get names) same ∙ at))
-      | inr apart ↦ was.last.2 t (omega (arith, more, apart)) below (home_at names t name found)
-    ]
-  ];
-}
+-- A walk that is at place n reads the row there.
+module _ (rows : List Scope) (keys : List (Option ℕ)) (name : List ℕ) (o : Option ℕ) (n : ℕ)
+    (named : AreNamed (names_of rows) keys) (walk : Walking (names_of rows) name o)
+    (is : o ≡ Some n) where
+  here : Walking (names_of rows) name (Some n)
+  here = subst (Walking (names_of rows) name) is walk
 
--- The place of a walk is a row's, and the row that is read there stands there.
-pub walk_inside : (rows : List Scope) (name : List ℕ) (n : ℕ)
-    → Walking (names_of rows) name (Some n) → n < length rows
-walk_inside rows name n was =
-    let names = names_of rows in
-    let within = slice_get_within (homes_of names) n (Some (home name)) was.last.1 in
-    omega (
-      arith,
-      within,
-      length-map names (λ m. Some (home m)),
-      length-map rows (λ row. row.name),
-    )
+  pub walk_inside : n < length rows
+  walk_inside =
+      let names = names_of rows in
+      let within = slice_get_within (homes_of names) n (Some (home name)) here.last.1 in
+      omega (
+        arith,
+        within,
+        length-map names (λ m. Some (home m)),
+        length-map rows (λ row. row.name),
+      )
 
-pub walk_reads : (rows : List Scope) (name : List ℕ) (n : ℕ) (row : Scope)
-    → Walking (names_of rows) name (Some n) → row ≡ get_or rows n row
-    → slice_get rows n ≡ Some row
-walk_reads rows name n row was is =
-    slice_get_read rows _ n row refl (walk_inside rows name n was) is
+  pub walk_linked : n < length keys
+  walk_linked = omega (arith, walk_inside, named_length rows keys named)
 
--- ---- what is found
+  module _ (row : Scope) (bytes : List ℕ) (read : row ≡ get_or rows n row)
+      (bytes_are : bytes ≡ (get_or rows n row).name) where
+    found : slice_get rows n ≡ Some row
+    found = slice_get_read rows _ n row refl walk_inside read
+
+    name_is : bytes ≡ row.name
+    name_is = bytes_are ∙ ap (λ r. r.name) (sym read)
+
+    -- It has the name.
+    pub walk_finds : true ≡ bytes_eq name bytes
+        → Some n ≡ position (λ row. bytes_eq name row.name) rows
+    walk_finds spelled =
+        let same : name ≡ row.name =
+        (bytes_eq-Decides name bytes).0 (sym spelled) ∙ name_is in
+        sym (position_is (λ row. bytes_eq name row.name) rows n row found
+        ((bytes_eq-Decides name row.name).1 same)
+        (λ k other less at. differs name other.name (λ e. absurd (omega (
+          arith,
+          less,
+          named.distinct k n other.name row.name (name_at rows k other at)
+              (name_at rows n row found) (sym e ∙ same),
+        )))))
+
+    -- It has another.
+    pub walk_goes_on : false ≡ bytes_eq name bytes → (next : Option ℕ)
+        → ((key : ℕ) → slice_get keys n ≡ Some (Some key) → IsLast keys key n next)
+        → Walking (names_of rows) name next
+    walk_goes_on other next before = record {
+      k = n;
+      last = subst (λ l. IsLast l (home name) n next) named.homes
+          (before (home name) (ap (λ l. slice_get l n) named.homes ∙ here.last.1));
+      rest = λ t more at. elim (cases_lt t here.k) [
+        | inr past ↦ here.rest t past at
+        | inl below ↦ elim (cases_eq t n) [
+          | inl same ↦ differ (same_Some name row.name
+              (sym at ∙ ap (slice_get (names_of rows)) same ∙ name_at rows n row found))
+          | inr apart ↦ here.last.2 t (omega (arith, more, apart)) below
+              (home_at (names_of rows) t name at)
+        ]
+      ];
+    }
+      where
+        differ : name ≡ row.name → ⊥
+        differ same = false≢true (other ∙ (bytes_eq-Decides name bytes).1 (same ∙ sym name_is))
 
 pub no_place : (rows : List Scope) (name : List ℕ) → Walking (names_of rows) name None
     → position (λ row. bytes_eq name row.name) rows ≡ None
@@ -138,22 +171,9 @@ no_place rows name was = position_none (λ row. bytes_eq name row.name) rows
       | inr past ↦ was.rest t past at
     ]
 
-pub the_place : (rows : List Scope) (keys : List (Option ℕ)) (name : List ℕ) (n : ℕ) (row : Scope)
-    → AreNamed (names_of rows) keys → slice_get rows n ≡ Some row → name ≡ row.name
-    → position (λ row. bytes_eq name row.name) rows ≡ Some n
-the_place rows keys name n row named found is =
-    position_is (λ row. bytes_eq name row.name) rows n row found
-    ((bytes_eq-Decides name row.name).1 is)
-    (λ k other less at. differs name other.name (λ e. absurd (omega (
-      arith,
-      less,
-      named.distinct k n other.name row.name (name_at rows k other at) (name_at rows n row found)
-          (sym e ∙ is),
-    ))))
-
 -- ---- a name more
 
-pub named_push : (rows : List Scope) (keys keys' : List (Option ℕ)) (row : Scope)
+named_push : (rows : List Scope) (keys keys' : List (Option ℕ)) (row : Scope)
     → AreNamed (names_of rows) keys
     → is_none (position (λ r. bytes_eq row.name r.name) rows) ≡ true
     → keys' ≡ keys ++ Some (home row.name) ∷ []
@@ -176,11 +196,11 @@ named_push rows keys keys' row named free pushed =
 
 -- ---- changes that leave the names
 
-pub names_hit : (hit : Hit) (s : ℕ) (rows : List Scope)
+names_hit : (hit : Hit) (s : ℕ) (rows : List Scope)
     → names_of (at_row (with_hit hit) s rows) ≡ names_of rows
 names_hit hit s rows = map-at_row (λ r. r.name) (with_hit hit) s rows (λ row. refl)
 
-pub parent_ticked : (e now : ℕ) (row : Scope) → (tick e now row).parent ≡ row.parent
+parent_ticked : (e now : ℕ) (row : Scope) → (tick e now row).parent ≡ row.parent
 parent_ticked e now row = by_due (hit_due e now row.kind)
   where
     by_due : (due : Option Hit) → (option_map_or (λ hit. with_hit hit row) due row).parent
@@ -188,14 +208,14 @@ parent_ticked e now row = by_due (hit_due e now row.kind)
     by_due None = refl
     by_due (Some hit) = refl
 
-pub names_ticked : (e now : ℕ) (rows : List Scope)
+names_ticked : (e now : ℕ) (rows : List Scope)
     → names_of (map (tick e now) rows) ≡ names_of rows
 names_ticked e now [] = refl
 names_ticked e now (row ∷ rows) =
     ap (λ n. n ∷ names_of (map (tick e now) rows)) (ticked_name e now row)
     ∙ ap (λ l. row.name ∷ l) (names_ticked e now rows)
 
-pub links_ticked : (e now : ℕ) (rows : List Scope)
+links_ticked : (e now : ℕ) (rows : List Scope)
     → links_of (map (tick e now) rows) ≡ links_of rows
 links_ticked e now [] = refl
 links_ticked e now (row ∷ rows) =
@@ -220,12 +240,6 @@ link_fits row n known = by_root (is_root row.kind) (is_detached row.kind) known
     by_root false false known = known refl
 
 -- There are as many names, and as many links, as there are rows.
-pub named_length : (rows : List Scope) (keys : List (Option ℕ)) → AreNamed (names_of rows) keys
-    → length keys ≡ length rows
-named_length rows keys named =
-    ap length named.homes ∙ length-map (names_of rows) (λ name. Some (home name))
-    ∙ length-map rows (λ row. row.name)
-
 pub found_lengths : (rows : List Scope) (room : ℕ) (names links : Places)
     → AreFound rows room names links
     → (length names.keys ≡ length rows) × (length links.keys ≡ length rows)
