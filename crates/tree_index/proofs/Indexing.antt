@@ -187,3 +187,11 @@ numbered room rows = record { room = room; rows = rows }
 pub same_numbered : (room room' : ℕ) (rows rows' : List Scope) → room' ≡ room → rows' ≡ rows
     → numbered room' rows' ≡ numbered room rows
 same_numbered room room' rows rows' a b = rw (a, b) refl
+
+-- Rows that are lent, changed and given back are the changed ones.
+pub numbered_back : (change : List Scope → List Scope) (room : ℕ)
+    (rows lent changed rest : List Scope) (len : ℕ) → lent ≡ rows → changed ≡ change lent
+    → len ≡ length changed → numbered room (take len (changed ++ rest)) ≡ numbered room (change rows)
+numbered_back change room rows lent changed rest len lent_is is size =
+    same_numbered room room (change rows) (take len (changed ++ rest)) refl
+    (given_back len changed rest size ∙ is ∙ ap change lent_is)

@@ -2,9 +2,8 @@ use Rattle.run_model.proofs.Common.{refl, length, sym, subst, ap, ◌∙◌, ari
 use Rattle.run_model.proofs.Common.{length-at_row}
 use Rattle.model_laws.proofs.Levels.{ordered_hit}
 use Rattle.tree_index.specs.Marks.{Struck}
-use Rattle.tree_index.proofs.Fronts.{given_back}
 use Rattle.tree_index.proofs.Indexing.{indexed_given_back, kept_lent, numbered, reached_hit}
-use Rattle.tree_index.proofs.Indexing.{same_numbered}
+use Rattle.tree_index.proofs.Indexing.{numbered_back}
 use Rattle.tree_index.proofs.Naming.{found_hit}
 use Rattle.tree_index.proofs.Waiting.{waiting_hit}
 use Rattle.tree_index.proofs.rows.Rows.end.Goals as goal
@@ -44,9 +43,7 @@ invariant_of-self g c =
 
 pub returns : goal.returns
 returns g c =
-    let back = given_back c.self.inside.scopes.len c.end_scope.new.scopes _
-    (omega (arith, ap length c.deref_mut.ensures.value)) in
     rw (← c.self.view_is)
-    (same_numbered c.self.inside.scopes.cap _ _ _ refl
-    (back ∙ c.end_scope.ensures.rows
-    ∙ ap (at_row (with_hit c.args.hit) c.args.s) c.deref_mut.ensures.value))
+    (numbered_back (at_row (with_hit c.args.hit) c.args.s) _ _ _ c.end_scope.new.scopes _ _
+    c.deref_mut.ensures.value c.end_scope.ensures.rows
+    (omega (arith, ap length c.deref_mut.ensures.value)))

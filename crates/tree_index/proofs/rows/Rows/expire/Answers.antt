@@ -4,8 +4,7 @@ use Rattle.model_laws.specs.Endings.{AreEarlier}
 use Rattle.model_laws.proofs.Follows.{ticked}
 use Rattle.model_laws.proofs.WellFormed.{ordered_follow}
 use Rattle.tree_index.specs.Deadlines.{AreWaiting}
-use Rattle.tree_index.proofs.Fronts.{given_back}
-use Rattle.tree_index.proofs.Indexing.{indexed_given_back, kept_lent, numbered, same_numbered}
+use Rattle.tree_index.proofs.Indexing.{indexed_given_back, kept_lent, numbered, numbered_back}
 use Rattle.tree_index.proofs.Naming.{found_ticked}
 use Rattle.tree_index.proofs.Nearing.{reached_follow}
 use Rattle.tree_index.proofs.rows.Rows.expire.Goals as goal
@@ -50,9 +49,7 @@ invariant_of-self g c =
 
 pub returns : goal.returns
 returns g c =
-    let back = given_back c.self.inside.scopes.len c.expire_scopes.new.scopes _
-    (omega (arith, ap length c.deref_mut.ensures.value)) in
     rw (← c.self.view_is)
-    (same_numbered c.self.inside.scopes.cap _ _ _ refl
-    (back ∙ c.expire_scopes.ensures.rows
-    ∙ ap (map (tick c.args.event c.args.clock)) c.deref_mut.ensures.value))
+    (numbered_back (map (tick c.args.event c.args.clock)) _ _ _ c.expire_scopes.new.scopes _ _
+    c.deref_mut.ensures.value c.expire_scopes.ensures.rows
+    (omega (arith, ap length c.deref_mut.ensures.value)))
