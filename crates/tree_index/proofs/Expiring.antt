@@ -5,7 +5,7 @@ use Rattle.run_model.proofs.Common.{unwrap_or, inl, inr, refl, sym, ap, ◌∙�
 use Rattle.run_model.proofs.Common.{option_and_then, option_map, option_map_or, option_or}
 use Rattle.run_model.proofs.Common.{cases_lt, cases_eq, length-map, none-some, same_Some}
 use Rattle.run_model.proofs.Common.{slice_get_within, at_row, own_hit, own_deadline, is_detached}
-use Rattle.run_model.proofs.Common.{comes_before, ending, AreOrdered, with_hit, tick, hit_due}
+use Rattle.run_model.proofs.Common.{comes_before, ending, with_hit, tick, hit_due}
 use Rattle.run_model.proofs.Common.{length-at_row, slice_get-at_row_same, map_cases}
 use Rattle.run_model.proofs.Common.{slice_get-at_row_other}
 use Rattle.std.specs.Option.{IsSome}

@@ -200,14 +200,6 @@ names_hit : (hit : Hit) (s : ℕ) (rows : List Scope)
     → names_of (at_row (with_hit hit) s rows) ≡ names_of rows
 names_hit hit s rows = map-at_row (λ r. r.name) (with_hit hit) s rows (λ row. refl)
 
-parent_ticked : (e now : ℕ) (row : Scope) → (tick e now row).parent ≡ row.parent
-parent_ticked e now row = by_due (hit_due e now row.kind)
-  where
-    by_due : (due : Option Hit) → (option_map_or (λ hit. with_hit hit row) due row).parent
-        ≡ row.parent
-    by_due None = refl
-    by_due (Some hit) = refl
-
 names_ticked : (e now : ℕ) (rows : List Scope)
     → names_of (map (tick e now) rows) ≡ names_of rows
 names_ticked e now [] = refl

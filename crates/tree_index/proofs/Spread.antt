@@ -160,7 +160,7 @@ step_end links old new at work s k here gap = record {
   ];
 }
 
--- A scope is taken off the list.
+-- The last of the list is taken off, and its children are still to be marked.
 pub step_pop : (links : List (Option ℕ)) (old new : List (Option ℕ)) (at : ℕ) (work : List ℕ)
     (s : ℕ) → Spreading links old new at (work ++ s ∷ []) 0 0
     → ((t p : ℕ) → Child links t p → t < length links) → Spreading links old new at work s
@@ -279,10 +279,14 @@ pub record Turns (links : List (Option ℕ)) (marks marks' : List (Option ℕ)) 
   pub spread : Spreading links marks marks' at work 0 0
   pub room : length work + unmarked marks' ≤ unmarked marks
 
-module _ (links : List (Option ℕ)) (marks marks' : List (Option ℕ)) (work : List ℕ) (at s : ℕ)
-    (turns : Turns links marks marks' (work ++ s ∷ []) at) where
-  pub popped_known : (s < length marks) × (mark_of marks s ≡ None) × (mark_of marks' s ≡ Some at)
-  popped_known = let two = turns.spread.listed s (in_last s work) in (two.0, two.1.was, two.1.is)
+-- A scope is taken off the list.
+module _ (links : List (Option ℕ)) (marks marks' : List (Option ℕ)) (all work : List ℕ)
+    (at s : ℕ) (before : Turns links marks marks' all at) (last : all ≡ work ++ s ∷ []) where
+  turns : Turns links marks marks' (work ++ s ∷ []) at
+  turns = subst (λ l. Turns links marks marks' l at) last before
+
+  pub popped : (s < length marks) × Since marks marks' at s
+  popped = turns.spread.listed s (in_last s work)
 
   pub turns_go_on : (marks'' : List (Option ℕ)) (work'' : List ℕ)
       → length work'' + unmarked marks'' ≡ length work + unmarked marks'
@@ -290,7 +294,7 @@ module _ (links : List (Option ℕ)) (marks marks' : List (Option ℕ)) (work : 
       → Spreading links before marks' at work s (length links)
       → Spreading links before marks'' at work'' 0 0) → Turns links marks marks'' work'' at
   turns_go_on marks'' work'' room spread = record {
-    spread = spread marks (turns.spread.listed s (in_last s work)).1.was
+    spread = spread marks popped.1.was
         (step_pop links marks marks' at work s turns.spread
         (λ t p child. slice_get_within links t (Some p) child));
     room = omega (arith, room, turns.room, length-append work (s ∷ []));

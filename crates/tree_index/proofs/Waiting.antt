@@ -8,7 +8,7 @@ use Rattle.run_model.proofs.Common.{false≢true, leb-false, lt-leb, get_or_appe
 use Rattle.run_model.proofs.Common.{none-some, same_Some, cond_some, slice_get_within, at_row}
 use Rattle.run_model.proofs.Common.{own_deadline, own_hit, is_detached, with_hit, hit_due, new_hit}
 use Rattle.run_model.proofs.Common.{length-at_row, slice_get-at_row_same, slice_get-at_row_other}
-use Rattle.run_model.proofs.Common.{slice_get-push_left, and_from, and_parts}
+use Rattle.run_model.proofs.Common.{slice_get-push_left, slice_get_read, and_from, and_parts}
 use Rattle.std.specs.Option.{IsSome}
 use Rattle.run_model.specs.declared.bounds.TheConstants.{MOST_SCOPES}
 use Rattle.run_model.specs.declared.scopes.Hit.{Hit}
@@ -255,12 +255,16 @@ waits_still row = is_some (own_deadline row.kind) && is_none row.hit
 none_is : {X : Type 0} (o : Option X) → o ≡ None → is_none o ≡ true
 none_is o none = ap is_none none
 
-module _ (rows : List Scope) (old : List ℕ) (n : ℕ) (row : Scope)
-    (found : slice_get rows n ≡ Some row) where
+-- The row at n is read.
+module _ (rows : List Scope) (old : List ℕ) (n : ℕ) (row : Scope) (known : n < length rows)
+    (read : row ≡ get_or rows n row) where
+  found : slice_get rows n ≡ Some row
+  found = slice_get_read rows _ n row refl known read
+
   deadline_is : deadline_at rows n ≡ own_deadline row.kind
   deadline_is = ap (option_and_then (λ r. own_deadline r.kind)) found
 
-  pub noted_pushed : (new : List ℕ) → waits_still row ≡ true → IsDueHeap rows new
+  pub noted_pushed : (new : List ℕ) → true ≡ waits_still row → IsDueHeap rows new
       → SameNumbers (old ++ n ∷ []) new → Noted rows old n new
   noted_pushed new waits heap same = record {
     heap = heap;
@@ -275,7 +279,7 @@ module _ (rows : List Scope) (old : List ℕ) (n : ℕ) (row : Scope)
       | inr is ↦ inr (
         is,
         subst IsSome (sym deadline_is)
-            (and_parts (is_some (own_deadline row.kind)) (is_none row.hit) waits).0,
+            (and_parts (is_some (own_deadline row.kind)) (is_none row.hit) (sym waits)).0,
       )
     ];
     waits = λ some none. same.there n (
@@ -285,13 +289,13 @@ module _ (rows : List Scope) (old : List ℕ) (n : ℕ) (row : Scope)
     );
   }
 
-  pub noted_same : waits_still row ≡ false → IsDueHeap rows old → Noted rows old n old
+  pub noted_same : false ≡ waits_still row → IsDueHeap rows old → Noted rows old n old
   noted_same waits heap = record {
     heap = heap;
     size = omega arith;
     kept = λ m among. among;
     only = λ m among. inl among;
-    waits = λ some none. absurd (false≢true (sym waits
+    waits = λ some none. absurd (false≢true (waits
         ∙ and_from (is_some (own_deadline row.kind)) (is_none row.hit)
         (subst IsSome deadline_is some)
         (none_is row.hit (sym (ap (option_and_then (λ r. r.hit)) found) ∙ none))));

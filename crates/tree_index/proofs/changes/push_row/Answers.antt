@@ -1,4 +1,4 @@
-use Rattle.std.proofs.Common.{◌≡◌, length, arith, ap, ◌∙◌, Some, ◌∷◌, ◌++◌, [], sym, subst}
+use Rattle.std.proofs.Common.{length, arith, ap, ◌∙◌, Some, ◌∷◌, ◌++◌, [], sym, subst}
 use Rattle.std.proofs.Common.{◌<◌, length-append, IfSome}
 use Rattle.tree_index.specs.declared.chains.TheConstants.{CHAINS}
 use Rattle.tree_index.specs.Names.{home}

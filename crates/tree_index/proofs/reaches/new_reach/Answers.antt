@@ -1,4 +1,4 @@
-use Rattle.run_model.proofs.Common.{◌≡◌, ◌<◌, None, false, cond, Some, slice_get, refl, sym, ap, ◌∙◌}
+use Rattle.run_model.proofs.Common.{◌≡◌, ◌<◌, false, Some, slice_get, refl, sym, ap, ◌∙◌}
 use Rattle.run_model.proofs.Common.{arith, slice_get_read, is_root}
 use Rattle.model_laws.specs.Searches.{earlier}
 use Rattle.tree_index.specs.Reaches.{IsReach}

@@ -1,4 +1,4 @@
-use Rattle.run_model.proofs.Common.{refl, length, sym, subst, ap, ◌∙◌, arith, with_hit, at_row}
+use Rattle.run_model.proofs.Common.{length, sym, subst, ap, ◌∙◌, arith, with_hit, at_row}
 use Rattle.run_model.proofs.Common.{length-at_row}
 use Rattle.model_laws.proofs.Levels.{ordered_hit}
 use Rattle.tree_index.specs.Marks.{Struck}

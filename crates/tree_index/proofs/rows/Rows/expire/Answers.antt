@@ -1,4 +1,4 @@
-use Rattle.run_model.proofs.Common.{refl, length, map, sym, subst, ap, ◌∙◌, arith, length-map}
+use Rattle.run_model.proofs.Common.{length, map, sym, subst, ap, ◌∙◌, arith, length-map}
 use Rattle.run_model.proofs.Common.{tick}
 use Rattle.model_laws.specs.Endings.{AreEarlier}
 use Rattle.model_laws.proofs.Follows.{ticked}
