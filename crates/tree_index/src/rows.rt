@@ -27,9 +27,10 @@ use std::marker::Model;
 /// Rows of scopes in order of number: parents have lesser numbers, and no two scopes one name. They
 /// have room for a fixed number, so no call but [`Rows::with_room`] takes memory.
 ///
-/// A call takes as many steps as it ends scopes, or looks at names of one hash, or at scopes that
-/// hold a value; beside a deadline, as many more as the number of those that wait has binary
-/// digits.
+/// [`Rows::end`] and [`Rows::expire`] look at the scopes that they end, [`Rows::value`] at those
+/// upwards that hold a value, [`Rows::find`] at those whose names have one hash, and the other calls
+/// at a few. A deadline that is added or passes takes as many steps as the number of those that
+/// wait has binary digits.
 #[derive(Drop)]
 pub struct Rows<A: Allocator> {
     scopes: Vec<Scope, A>,
