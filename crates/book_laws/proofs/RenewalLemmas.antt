@@ -1,6 +1,6 @@
 -- What renewals answer, fault by fault.
 use Rattle.std.proofs.Common.{◌≡◌, ◌⊎◌, inl, inr, ◌<◌, ◌^◌, ℕ, List, Bool, true, false, length}
-use Rattle.std.proofs.Common.{Ok, Err, refl, sym, ap, subst, ◌∙◌, arith}
+use Rattle.std.proofs.Common.{Ok, Err, refl, sym, ap, subst, ◌∙◌}
 use Rattle.std.specs.Prelude.{MatchResult, Result}
 use Rattle.std.proofs.lemmas.Bool.{and_from, both_ways, le-leb, true≢false}
 use Rattle.run_model.specs.declared.faults.Fault.{Fault}
@@ -15,12 +15,11 @@ use Rattle.book_model.specs.declared.migrations.MigrateFault.{MigrateFault}
 use Rattle.book_model.specs.declared.migrations.MigrateFault.TheVariants as why
 use Rattle.book_model.specs.Migrations.{ReadsNot}
 use Rattle.book_model.specs.Stores.{Stores, StoresNone}
-use Rattle.book_model.proofs.OpeningLemmas.{HasCause, recovers_cause, recovers_none, recovers_state}
+use Rattle.book_model.proofs.CopyLemmas.{unread_cause, unread_none, unread_state}
+use Rattle.book_model.proofs.OpeningLemmas.{HasCause}
 use Rattle.book_model.proofs.Storing.{stores_not_both, stores_one, stores_rules}
 use Rattle.run_book.proofs.Copying.{no_layout}
-use Rattle.book_renewal.specs.Renewals.{Renews, WritesNot}
-use Rattle.book_renewal.proofs.Renewing.{old_told}
-use Rattle.book_laws.specs.Renewing.{AreStores}
+use Rattle.book_renewal.specs.Renewals.{AreStores, Renews, WritesNot}
 
 -- ---- faults
 
@@ -40,46 +39,6 @@ stored_fits layout p x stores =
     and_from _ _ (le-leb (length (renewed p).tree.scopes) (most_scopes layout)
     rules.numbered.few_scopes)
     (le-leb (length (renewed p).work.tasks) (most_tasks layout) rules.numbered.few_tasks)
-
-module _ {D : Type 0} (from : D → DiskState) (old read : D) (disk : IsDisk (from old)) where
-  not_memory : (f : Fault) → ReadsNot from old (why.Old f) read → f ≡ fault.Memory → ⊥
-  not_memory f is told = subst (λ g. ReadsNot from old (why.Old g) read) told is
-
-  -- A state that the old disk stores is read, but for memory and the device.
-  read_state : (w : MigrateFault) (p : State) → (from old).honest → Stores (from old).now p
-      → p.count < 2 ^ 62 → ReadsNot from old w read
-      → (w ≡ why.Memory) ⊎ (w ≡ why.Old fault.DiskFailed)
-  read_state why.Memory p honest stores few is = inl refl
-  read_state (why.Old f) p honest stores few is =
-      elim (old_told from old read disk f is) [
-        | inl many ↦
-            let same = ap (λ (q : State). q.count)
-            (stores_one (from old).now many.1.state p (many.1.recovered.holds honest) stores) in
-            absurd (omega (arith, same, few, many.1.many))
-        | inr none ↦ elim (recovers_state from old read (Err f) p disk honest none stores) [
-          | inl memory ↦ absurd (not_memory f is memory)
-          | inr failed ↦ inr (ap (λ g. why.Old g) failed)
-        ]
-      ]
-  read_state (why.New f) p honest stores few is = absurd is
-
-  -- Why it stores none is told, but for memory and the device.
-  read_none : (w : MigrateFault) (other : Fault) → (from old).honest
-      → StoresNone (from old).now other → ReadsNot from old w read
-      → (w ≡ why.Old other) ⊎ (w ≡ why.Memory) ⊎ (w ≡ why.Old fault.DiskFailed)
-  read_none why.Memory other honest none is = inr (inl refl)
-  read_none (why.Old f) other honest none is =
-      elim (old_told from old read disk f is) [
-        | inl many ↦
-            absurd (stores_not_both (from old).now many.1.state other
-            (many.1.recovered.holds honest) none)
-        | inr stops ↦ elim (recovers_none from old read (Err f) other disk honest stops none) [
-          | inl same ↦ inl (ap (λ g. why.Old g) same)
-          | inr (inl memory) ↦ absurd (not_memory f is memory)
-          | inr (inr failed) ↦ inr (inr (ap (λ g. why.Old g) failed))
-        ]
-      ]
-  read_none (why.New f) other honest none is = absurd is
 
 module _ {D E : Type 0} (from : D → DiskState) (to : E → DiskState) (old read : D) (given : E)
     (disk : IsDisk (from old)) where
@@ -122,7 +81,7 @@ module _ {D E : Type 0} (from : D → DiskState) (to : E → DiskState) (old rea
         | inl wrong ↦ absurd (no_layout (from old).size sized.from sized.old_size wrong.1)
         | inr (inl wrong) ↦ absurd (no_layout (to given).size sized.to sized.new_size wrong.2)
         | inr (inr (inl none)) ↦
-            elim (read_state from old read disk e.0 p honest stores few none.1)
+            elim (unread_state from old read disk e.0 p honest stores few none.1)
             [ inl memory ↦ inl memory | inr failed ↦ inr (inl failed) ]
         | inr (inr (inr none)) ↦
             elim (write_state e.0 e.1 sized.to p none.1.state
@@ -155,7 +114,7 @@ module _ {D E : Type 0} (from : D → DiskState) (to : E → DiskState) (old rea
         | inl wrong ↦ absurd (no_layout (from old).size sized.from sized.old_size wrong.1)
         | inr (inl wrong) ↦ absurd (no_layout (to given).size sized.to sized.new_size wrong.2)
         | inr (inr (inl none)) ↦
-            elim (read_state from old read disk e.0 p honest stores few none.1)
+            elim (unread_state from old read disk e.0 p honest stores few none.1)
             [ inl memory ↦ inl memory | inr failed ↦ inr (inl failed) ]
         | inr (inr (inr none)) ↦
             elim (write_full e.0 e.1 none.1.state none.1.none) [
@@ -166,12 +125,6 @@ module _ {D E : Type 0} (from : D → DiskState) (to : E → DiskState) (old rea
       ]
 
   -- ---- causes
-
-  old_read_cause : (w : MigrateFault) → w ≡ why.Old fault.DiskFailed → ReadsNot from old w read
-      → HasCause (from old) (from read)
-  old_read_cause w told is =
-      recovers_cause from old read (Err fault.DiskFailed)
-      (subst (λ v. ReadsNot from old v read) told is) refl
 
   unwritten_old : (w : MigrateFault) (new : E) (q : State) → w ≡ why.Old fault.DiskFailed
       → WritesNot to q given w new → ⊥
@@ -186,14 +139,14 @@ module _ {D E : Type 0} (from : D → DiskState) (to : E → DiskState) (old rea
       elim is.answer [
         | inl wrong ↦ absurd (true≢false (ap is_size (sym wrong.0 ∙ told)))
         | inr (inl wrong) ↦ absurd (true≢false (ap is_size (sym wrong.0 ∙ told)))
-        | inr (inr (inl unread)) ↦ old_read_cause e.0 told unread.1
+        | inr (inr (inl unread)) ↦ unread_cause from old read e.0 told unread.1
         | inr (inr (inr unwritten)) ↦
             absurd (unwritten_old e.0 e.1 unwritten.1.state told unwritten.1.none)
       ]
 
   new_write_cause : (w : MigrateFault) (new : E) (q : State) → w ≡ why.New fault.DiskFailed
       → WritesNot to q given w new → HasCause (to given) (to new)
-  new_write_cause w new q told is = (subst (λ v. WritesNot to q given v new) told is).cause
+  new_write_cause w new q told is = (subst (λ v. WritesNot to q given v new) told is).failed.cause
 
   unread_new : (w : MigrateFault) → w ≡ why.New fault.DiskFailed → ReadsNot from old w read → ⊥
   unread_new w told is = subst (λ v. ReadsNot from old v read) told is
@@ -226,7 +179,7 @@ module _ {D E : Type 0} (from : D → DiskState) (to : E → DiskState) (old rea
       elim is.answer [
         | inl wrong ↦ absurd (no_layout (from old).size sized.from sized.old_size wrong.1)
         | inr (inl wrong) ↦ absurd (no_layout (to given).size sized.to sized.new_size wrong.2)
-        | inr (inr (inl unread)) ↦ read_none from old read disk e.0 other honest none unread.1
+        | inr (inr (inl unread)) ↦ unread_none from old read disk e.0 other honest none unread.1
         | inr (inr (inr unwritten)) ↦
             absurd (stores_not_both (from old).now unwritten.1.state other
             (unwritten.1.found.recovered.holds honest) none)

@@ -10,8 +10,7 @@ ghost use Rattle.state_renewal.specs.Renewed.{fits_in, renewed, renewed_in};
 ghost use Rattle.book_model.specs.declared.migrations.MigrateFault.{MigrateFault as WhyNot};
 ghost use Rattle.book_model.specs.declared.migrations.MigrateFault.TheVariants as why;
 ghost use Rattle.book_model.specs.Stores.{Stores, StoresNone};
-ghost use Rattle.book_renewal.specs.Renewals.{Renews};
-ghost use Rattle.book_laws.specs.Renewing.{AreStores};
+ghost use Rattle.book_renewal.specs.Renewals.{AreStores, Renews};
 
 use run_disk::RunDisk;
 

@@ -65,28 +65,34 @@ ReadsNot from old (why.New fault) read = ⊥
 -- ---- the new disk, which is written
 
 -- If the new disk held zeros, as did whatever a crash could have left of it, a crash at any moment
--- since leaves a disk that stores nothing, or the widened state.
-abbrev pub StopsMigration : State → DiskState → DiskState → Type 0
-StopsMigration p given new =
+-- since leaves a disk that stores nothing, or this state.
+abbrev pub StopsWriting : State → DiskState → DiskState → Type 0
+StopsWriting p given new =
     given.honest → ((x : List ℕ) → given.images x → AreZeros x)
-    → LeavesOnly (StoresNothingOr (widened p)) given new
+    → LeavesOnly (StoresNothingOr p) given new
 
--- The large store was made, by eight calls of which none failed: every crash now leaves a fresh
--- store of the widened state, in generation 0; and the disk is at rest if it was so before.
-pub record HasWritten (p : State) (given new : DiskState) : Type 0 where
+-- A store of this state was made, by eight calls of which none failed: every crash now leaves a
+-- fresh store of it, in generation 0; and the disk is at rest if it was so before.
+pub record HasWritten (layout : Layout) (p : State) (given new : DiskState) : Type 0 where
   pub made : Made 8 given new
   pub passed : Passed given new
-  pub stores : given.honest → (x : List ℕ) → new.images x → Stores x (widened p)
-  pub fresh : given.honest → (x : List ℕ) → new.images x → StoresFresh Large 0 (widened p) x
+  pub stores : given.honest → (x : List ℕ) → new.images x → Stores x p
+  pub fresh : given.honest → (x : List ℕ) → new.images x → StoresFresh layout 0 p x
   pub rest : given.honest → IsAtRest given → IsAtRest new
-  pub stops : StopsMigration p given new
+  pub stops : StopsWriting p given new
 
 -- A call failed, or the disk is spent: the disk may hold no store.
 pub record HasFailedWrite (p : State) (given new : DiskState) : Type 0 where
   pub most : new.clock ≤ given.clock + 8
   pub cause : (given.failures < new.failures) ⊎ (new.clock ≡ last_moment)
   pub passed : Passed given new
-  pub stops : StopsMigration p given new
+  pub stops : StopsWriting p given new
+
+-- The store was made, if there was no fault.
+abbrev pub Writes : {F : Type 0} → Layout → State → DiskState → Result (Unit {0}) F → DiskState
+    → Type 0
+Writes layout p given result new =
+    MatchResult result (λ _. HasWritten layout p given new) (λ _. HasFailedWrite p given new)
 
 -- ---- a migration
 
@@ -95,14 +101,14 @@ pub record HasMigrated (old read given new : DiskState) : Type 0 where
   pub sized : AreSized old given
   pub state : State
   pub found : HasReadStore state old read
-  pub written : HasWritten state given new
+  pub written : HasWritten Large (widened state) given new
 
 -- The small store was read, but a call of the new disk failed, or the new disk is spent.
 pub record HasStopped (old read given new : DiskState) : Type 0 where
   pub sized : AreSized old given
   pub state : State
   pub found : HasReadStore state old read
-  pub failed : HasFailedWrite state given new
+  pub failed : HasFailedWrite (widened state) given new
 
 -- Neither disk was called.
 abbrev pub AreUncalled : {D E : Type 0} → D → E → D → E → Type 0
@@ -145,4 +151,4 @@ pub record Migrates {D E : Type 0} (from : D → DiskState) (to : E → DiskStat
   pub now : (from old).honest → (to given).honest → (p : State) → Stores (from old).now p
       → IfOk result (λ new. (x : List ℕ) → (to new).images x → Stores x (widened p))
   pub any_moment : (from old).honest → (p : State) → Stores (from old).now p
-      → StopsMigration p (to given) (to (new_disk result))
+      → StopsWriting (widened p) (to given) (to (new_disk result))

@@ -6,22 +6,27 @@
 -- recovery of the old disk, from DiskFailed on, as Old; Old(NumbersSpent), if 2^62 events or
 -- more were found; Memory, for the marks of what is kept; New(WrongSize), if a store of the new
 -- disk's size has no room for what is kept; New(DiskFailed).
-use Rattle.std.specs.Prelude.{◌≡◌, ◌⊎◌, ◌<◌, ◌≤◌, ◌+◌, ℕ, false, List, None, Result, IfOk}
-use Rattle.std.specs.Prelude.{MatchResult}
+use Rattle.std.specs.Prelude.{◌≡◌, ◌⊎◌, ℕ, false, List, None, Result, IfOk, MatchResult}
 use Rattle.run_model.specs.declared.faults.Fault.TheVariants.{DiskFailed, WrongSize}
 use Rattle.run_model.specs.declared.layouts.Layout.{Layout}
 use Rattle.run_model.specs.Layouts.{layout_of, store_len}
 use Rattle.run_model.specs.State.{State}
-use Rattle.run_disk.specs.Disk.{DiskState, IsAtRest, last_moment}
-use Rattle.run_disk.specs.Runs.{LeavesOnly, OnlyReads, Passed}
-use Rattle.run_journal.specs.Pairs.{AreZeros}
-use Rattle.run_journal.specs.Recoveries.{Made}
+use Rattle.run_disk.specs.Disk.{DiskState}
+use Rattle.run_disk.specs.Runs.{OnlyReads}
 use Rattle.state_renewal.specs.Renewed.{fits_in, renewed, renewed_in}
 use Rattle.book_model.specs.declared.migrations.MigrateFault.{MigrateFault}
 use Rattle.book_model.specs.declared.migrations.MigrateFault.TheVariants as why
-use Rattle.book_model.specs.Migrations.{AreUncalled, HasReadStore, ReadsNot, new_disk}
+use Rattle.book_model.specs.Migrations.{AreUncalled, HasFailedWrite, HasReadStore, HasWritten}
+use Rattle.book_model.specs.Migrations.{ReadsNot, StopsWriting, new_disk}
 use Rattle.book_model.specs.Openings.{HasStoreSize}
-use Rattle.book_model.specs.Stores.{Stores, StoresFresh, StoresNothingOr}
+use Rattle.book_model.specs.Stores.{Stores}
+
+-- The old disk has a store's size, and so does the new one.
+pub record AreStores (old given : DiskState) : Type 0 where
+  pub from : Layout
+  pub to : Layout
+  pub old_size : old.size ≡ store_len from
+  pub new_size : given.size ≡ store_len to
 
 -- ---- the new disk, which is written
 
@@ -29,27 +34,14 @@ use Rattle.book_model.specs.Stores.{Stores, StoresFresh, StoresNothingOr}
 -- since leaves a disk that stores nothing, or the renewed state in the layout of its size.
 abbrev pub StopsRenewal : State → DiskState → DiskState → Type 0
 StopsRenewal p given new =
-    given.honest → ((x : List ℕ) → given.images x → AreZeros x) → (layout : Layout)
-    → given.size ≡ store_len layout
-    → LeavesOnly (StoresNothingOr (renewed_in layout p)) given new
-
--- The new store was made, by eight calls of which none failed: every crash now leaves a fresh store
--- of the renewed state, in generation 0; and the disk is at rest if it was so before.
-pub record HasWrittenRenewed (layout : Layout) (p : State) (given new : DiskState) : Type 0 where
-  pub made : Made 8 given new
-  pub passed : Passed given new
-  pub stores : given.honest → (x : List ℕ) → new.images x → Stores x (renewed_in layout p)
-  pub fresh : given.honest → (x : List ℕ) → new.images x
-      → StoresFresh layout 0 (renewed_in layout p) x
-  pub rest : given.honest → IsAtRest given → IsAtRest new
-  pub stops : StopsRenewal p given new
+    (layout : Layout) → given.size ≡ store_len layout
+    → StopsWriting (renewed_in layout p) given new
 
 -- A call failed, or the disk is spent: the disk may hold no store.
 pub record HasFailedRenewed (p : State) (given new : DiskState) : Type 0 where
-  pub most : new.clock ≤ given.clock + 8
-  pub cause : (given.failures < new.failures) ⊎ (new.clock ≡ last_moment)
-  pub passed : Passed given new
-  pub stops : StopsRenewal p given new
+  pub layout : Layout
+  pub size : given.size ≡ store_len layout
+  pub failed : HasFailedWrite (renewed_in layout p) given new
 
 -- What is kept of the state doesn't fit in a store of the new disk's size.
 pub record HasNoRoom (p : State) (given : DiskState) : Type 0 where
@@ -72,7 +64,7 @@ pub record HasRenewed (old read given new : DiskState) : Type 0 where
   pub size : given.size ≡ store_len layout
   pub state : State
   pub found : HasReadStore state old read
-  pub written : HasWrittenRenewed layout state given new
+  pub written : HasWritten layout (renewed_in layout state) given new
 
 -- The old store was read, and no new one is made of its state.
 pub record HasNotRenewed
@@ -81,11 +73,6 @@ pub record HasNotRenewed
   pub state : State
   pub found : HasReadStore state old read
   pub none : WritesNot to state given fault new
-
--- Both disks have a store's size.
-pub record AreBothStores (old given : DiskState) : Type 0 where
-  pub first : HasStoreSize old
-  pub second : HasStoreSize given
 
 -- Why no store was made, by the fault that reports it, and what is left of the two disks: the old
 -- one doesn't have a store's size, or else the new one doesn't, and neither was called; or both do,
@@ -97,8 +84,8 @@ RenewsNot from to old given fault read new =
     × AreUncalled old given read new)
     ⊎ ((fault ≡ why.New WrongSize) × HasStoreSize (from old)
     × (layout_of (to given).size ≡ None) × AreUncalled old given read new)
-    ⊎ (AreBothStores (from old) (to given) × ReadsNot from old fault read × (new ≡ given))
-    ⊎ (AreBothStores (from old) (to given)
+    ⊎ (AreStores (from old) (to given) × ReadsNot from old fault read × (new ≡ given))
+    ⊎ (AreStores (from old) (to given)
     × HasNotRenewed to (from old) (from read) given fault new)
 
 -- The answer of a renewal: the new disk, and at a fault the fault too.

@@ -2,7 +2,7 @@
 //! makes the new one.
 
 ghost use Rattle.std.specs.Prelude.{◌≡◌, ◌≤◌, ◌<◌, ◌+◌, ◌^◌, drop, length, take, true, IfOk, IfErr};
-ghost use Rattle.std.specs.Prelude.{OnOk, OnErr};
+ghost use Rattle.std.specs.Prelude.{OnOk};
 ghost use Rattle.run_model.specs.declared.faults.Fault.TheVariants.{DiskFailed};
 ghost use Rattle.run_model.specs.Layouts.{store_len};
 ghost use Rattle.row_view.specs.declared.heads.ImageVersion.TheVariants.{Two};
@@ -11,8 +11,8 @@ ghost use Rattle.row_view.specs.Keeping.{IsImage};
 ghost use Rattle.state_renewal.specs.Marks.{AreMarks};
 ghost use Rattle.state_renewal.specs.Renewed.{fits_in, renewed, renewed_in};
 ghost use Rattle.book_model.specs.declared.migrations.MigrateFault.TheVariants as why;
-ghost use Rattle.book_renewal.specs.Renewals.{HasFailedRenewed, HasRenewed, HasWrittenRenewed};
-ghost use Rattle.book_renewal.specs.Renewals.{Renews, RenewsNot, WritesNot};
+ghost use Rattle.book_model.specs.Migrations.{HasWritten, Writes};
+ghost use Rattle.book_renewal.specs.Renewals.{HasRenewed, Renews, RenewsNot, WritesNot};
 
 use book_model::MigrateFault;
 use run_book::copies::{HEAD, Rooms, make_rooms, read_stored};
@@ -90,7 +90,7 @@ fn write_left<E: RunDisk, A: Allocator + Copy>(
     requires size { (E.state new.old).size ≡ store_len to }
     requires few { state.now.count < 2 ^ 62 }
     requires room { length body.old ≡ 12 + greatest_image Two to }
-    ensures written { OnOk result (HasWrittenRenewed to state.now (E.state new.old)
+    ensures written { OnOk result (HasWritten to (renewed_in to state.now) (E.state new.old)
         (E.state new.new)) }
     ensures not { IfErr result (λ fault. WritesNot E.state state.now new.old fault new.new) }
 {
@@ -122,9 +122,8 @@ fn write_fitting<E: RunDisk, A: Allocator>(
     requires few { state.now.count < 2 ^ 62 }
     requires fits { fits_in to (renewed state.now) ≡ true }
     requires room { length body.old ≡ 12 + greatest_image Two to }
-    ensures written { OnOk result (HasWrittenRenewed to state.now (E.state new.old)
-        (E.state new.new)) }
-    ensures failed { OnErr result (HasFailedRenewed state.now (E.state new.old) (E.state new.new)) }
+    ensures writes { Writes to (renewed_in to state.now) (E.state new.old) result
+        (E.state new.new) }
     ensures fault { IfErr result (λ fault. fault ≡ DiskFailed) }
 {
     let count = fill_renewed(state, renewal, to, body);

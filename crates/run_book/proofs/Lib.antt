@@ -4,6 +4,7 @@ pub mod Copying
 pub mod Ending
 pub mod Exits
 pub mod Filling
+pub mod Making
 pub mod Migrating
 pub mod Outcomes
 pub mod Playing

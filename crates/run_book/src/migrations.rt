@@ -1,7 +1,7 @@
 //! A migration: a small store becomes a large one. [`migrate`] reads the one, and makes the other
 //! from the state that it stores.
 
-ghost use Rattle.std.specs.Prelude.{◌≡◌, ◌<◌, ◌+◌, ◌^◌, length, IfOk, IfErr, OnOk, OnErr};
+ghost use Rattle.std.specs.Prelude.{◌≡◌, ◌<◌, ◌+◌, ◌^◌, length, IfErr, OnOk};
 ghost use Rattle.run_model.specs.declared.faults.Fault.TheVariants.{DiskFailed};
 ghost use Rattle.run_model.specs.declared.layouts.Layout.TheVariants.{Small, Large};
 ghost use Rattle.run_model.specs.Layouts.{store_len};
@@ -9,8 +9,8 @@ ghost use Rattle.run_model.specs.Rules.{HasLayout};
 ghost use Rattle.row_view.specs.declared.heads.ImageVersion.TheVariants.{Two};
 ghost use Rattle.row_view.specs.Image.{greatest_image};
 ghost use Rattle.book_model.specs.declared.migrations.MigrateFault.TheVariants as why;
-ghost use Rattle.book_model.specs.Migrations.{AreSized, HasFailedWrite, HasMigrated};
-ghost use Rattle.book_model.specs.Migrations.{HasWritten, Migrates, MigratesNot};
+ghost use Rattle.book_model.specs.Migrations.{AreSized, HasMigrated, Migrates, MigratesNot};
+ghost use Rattle.book_model.specs.Migrations.{Writes, widened};
 
 use crate::copies::{Rooms, make_rooms, read_stored};
 use crate::images::{HEAD, fill};
@@ -82,8 +82,7 @@ fn write_large<E: RunDisk, A: Allocator>(
     requires layout { HasLayout state.now Small }
     requires few { state.now.count < 2 ^ 62 }
     requires room { length body.old ≡ 12 + greatest_image Two Small }
-    ensures written { OnOk result (HasWritten state.now (E.state new.old) (E.state new.new)) }
-    ensures failed { OnErr result (HasFailedWrite state.now (E.state new.old) (E.state new.new)) }
+    ensures writes { Writes Large (widened state.now) (E.state new.old) result (E.state new.new) }
     ensures fault { IfErr result (λ fault. fault ≡ why.New DiskFailed) }
 {
     // that the image fits into the buffer

@@ -1,6 +1,8 @@
 use Rattle.std.proofs.Common.{◌∙◌}
 use Rattle.std.proofs.lemmas.List.{drop-take}
-use Rattle.book_renewal.proofs.Renewing.{fits_slot, renewed_failed, renewed_written}
+use Rattle.state_renewal.specs.Renewed.{renewed_in}
+use Rattle.run_book.proofs.Making.{store_made}
+use Rattle.book_renewal.proofs.Renewing.{fits_slot, renewed_means}
 use Rattle.book_renewal.proofs.renewals.write_fitting.Goals as goal
 
 pub format-requires-clause-whole : goal.format-requires-clause-whole
@@ -12,22 +14,12 @@ format-requires-clause-whole g c = (
 )
 
 -- `format` is handed the image that stands after the journal's head.
-pub returns-clause-written : goal.returns-clause-written
-returns-clause-written g c =
+pub returns-clause-writes : goal.returns-clause-writes
+returns-clause-writes g c =
     let state = g.E.RunDisk.state in
-    let e = c.format.ensures in
     let filled = c.fill_renewed-count in
-    renewed_written state (state c.args.new.now) (state c.format.new.disk) c.format.result
-    c.args.state.now _ c.args.to (g.met.E.RunDisk.is_disk c.format.new.disk) c.requires.size
-    filled.ensures.is_image (drop-take 12 filled.result filled.new.body ∙ filled.ensures.image)
-    e.calls e.formatted
-
-pub returns-clause-failed : goal.returns-clause-failed
-returns-clause-failed g c =
-    let state = g.E.RunDisk.state in
-    let e = c.format.ensures in
-    let filled = c.fill_renewed-count in
-    renewed_failed state (state c.args.new.now) (state c.format.new.disk) c.format.result
-    c.args.state.now _ c.args.to (g.met.E.RunDisk.is_disk c.format.new.disk) c.requires.size
-    filled.ensures.is_image (drop-take 12 filled.result filled.new.body ∙ filled.ensures.image)
-    e.calls e.formatted
+    store_made state (state c.args.new.now) (state c.format.new.disk) c.args.to
+    (renewed_in c.args.to c.args.state.now) _ (g.met.E.RunDisk.is_disk c.format.new.disk)
+    c.requires.size (renewed_means c.args.to c.args.state.now filled.ensures.is_image)
+    (drop-take 12 filled.result filled.new.body ∙ filled.ensures.image) c.format.result
+    c.format.ensures.calls c.format.ensures.formatted

@@ -1,7 +1,9 @@
-use Rattle.std.proofs.Common.{refl, sym, subst, ◌≡◌, ◌∙◌, IfErr, OnErr, OnOk}
+use Rattle.std.proofs.Common.{refl, sym, subst, ◌≡◌, ◌∙◌, IfErr}
 use Rattle.run_model.specs.declared.faults.Fault.TheVariants.{DiskFailed}
 use Rattle.book_model.specs.declared.migrations.MigrateFault.TheVariants as why
-use Rattle.book_renewal.specs.Renewals.{HasFailedRenewed, HasWrittenRenewed, WritesNot}
+use Rattle.state_renewal.specs.Renewed.{renewed_in}
+use Rattle.book_model.specs.Migrations.{Writes}
+use Rattle.book_renewal.specs.Renewals.{WritesNot}
 use Rattle.book_renewal.proofs.renewals.write_left.Goals as goal
 
 pub returns-in_default-clause-written : goal.returns-in_default-clause-written
@@ -44,9 +46,9 @@ write_fitting-written-requires-clause-room g c = c.requires.room
 pub returns-in-Ok-written-clause-written : goal.returns-in-Ok-written-clause-written
 returns-in-Ok-written-clause-written g c =
     let state = g.E.RunDisk.state in
-    subst (λ r. OnOk r (HasWrittenRenewed c.args.to c.args.state.now (state c.args.new.now)
-    (state c.write_fitting-written.new.new))) c.in-Ok-written.is
-    c.write_fitting-written.ensures.written
+    subst (λ r. Writes c.args.to (renewed_in c.args.to c.args.state.now) (state c.args.new.now) r
+    (state c.write_fitting-written.new.new)) c.in-Ok-written.is
+    c.write_fitting-written.ensures.writes
 
 pub returns-in-Ok-written-clause-not : goal.returns-in-Ok-written-clause-not
 returns-in-Ok-written-clause-not g c = tt
@@ -62,6 +64,9 @@ returns-in-Err-clause-not g c =
     let new = c.write_fitting-written.new.new in
     let told : c.in-Err.fault ≡ DiskFailed =
     subst (λ r. IfErr r (λ f. f ≡ DiskFailed)) c.in-Err.is c.write_fitting-written.ensures.fault in
-    subst (λ f. WritesNot to p given (why.New f) new) (sym told)
-    (subst (λ r. OnErr r (HasFailedRenewed p (to given) (to new))) c.in-Err.is
-    c.write_fitting-written.ensures.failed)
+    subst (λ f. WritesNot to p given (why.New f) new) (sym told) (record {
+      layout = c.args.to;
+      size = c.requires.size;
+      failed = subst (λ r. Writes c.args.to (renewed_in c.args.to p) (to given) r (to new))
+          c.in-Err.is c.write_fitting-written.ensures.writes;
+    })

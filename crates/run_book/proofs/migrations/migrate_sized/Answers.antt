@@ -30,14 +30,14 @@ returns-clause-migrated g c =
     written_done (g.D.RunDisk.state c.args.old.now) (g.D.RunDisk.state c.read_stored.new.old)
     (g.E.RunDisk.state c.args.new.now) (g.E.RunDisk.state c.write_large-written.new.new)
     c.write_large-written.result c.in_ok-stored.stored c.requires.sized c.in_ok-stored.ensures.found
-    c.write_large-written.ensures.written
+    c.write_large-written.ensures.writes
 
 pub returns-clause-not : goal.returns-clause-not
 returns-clause-not g c =
     written_not g.D.RunDisk.state g.E.RunDisk.state c.args.old.now c.read_stored.new.old
     c.args.new.now c.write_large-written.new.new c.write_large-written.result c.in_ok-stored.stored
     c.requires.sized c.in_ok-stored.ensures.found c.write_large-written.ensures.fault
-    c.write_large-written.ensures.failed
+    c.write_large-written.ensures.writes
 
 pub returns-in_err-state-clause-migrated : goal.returns-in_err-state-clause-migrated
 returns-in_err-state-clause-migrated g c =
