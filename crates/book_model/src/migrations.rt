@@ -17,14 +17,16 @@ ghost use Rattle.book_model.specs.Stores.{Stores, StoresNone};
 use run_disk::RunDisk;
 use run_model::Fault;
 
-/// Why a small store was not made a large one.
+/// Why a migration, or a renewal, made no store of another one.
 #[derive(Clone, Copy, Debug, PartialEq, Eq)]
 pub enum MigrateFault {
     /// The memory that was needed was refused.
     Memory,
-    /// The old disk doesn't have a small store's size, or what it stores can't be read.
+    /// The old disk: `WrongSize`, if it doesn't have the size that the call takes; else why no
+    /// state was read from it.
     Old(Fault),
-    /// The new disk doesn't have a large store's size, or a call of it failed.
+    /// The new disk: `WrongSize`, if it doesn't have the size that the call takes, or what a
+    /// renewal keeps doesn't fit in it; `DiskFailed`, if a call of it failed.
     New(Fault),
 }
 

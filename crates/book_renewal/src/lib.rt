@@ -1,8 +1,7 @@
-//! The renewal of a book: a store is made of what isn't finished in another one.
+//! Renews a store: makes another one of what isn't finished in it.
 //!
-//! A store's rows and names are never free again. [`renew`] reads a store, and makes another one
-//! of what `state_renewal` leaves of its state. It stands beside [`run_book`], which needs nothing
-//! of it.
+//! A store never frees a row or a name, so in time it is full. [`renew`] reads it, and makes a new
+//! store of what a [`Renewal`](state_renewal::Renewal) keeps of its state.
 #![tactic(auto)]
 
 mod renewals;

@@ -23,17 +23,18 @@ use run_state::State;
 use state_renewal::Renewal;
 use std::alloc::Allocator;
 
-/// Makes a store of what isn't finished in another one, and of what that stands on. The new disk
-/// has a store's size, and is given back with what a renewal leaves of the state that the old disk
-/// stores, its number of events and its running tasks included. Either may be small or large, if
-/// what is left fits in the new one. No restart is applied. The old disk is read by three calls,
-/// and nothing is written to it; the new one takes the eight calls of a format.
+/// Makes a store of what isn't finished in another one, and of what that stands on. The new disk is
+/// given back with the renewed state: what a [`Renewal`] keeps of the state that the old disk
+/// stores, with that state's clock and number of events. Running tasks stay running: no restart is
+/// applied. Either store may be small or large, if what is kept fits in the new one. The old disk
+/// is read by three calls, and not written; the new one takes the eight calls of a format.
 ///
 /// It reports the first of these faults that holds: `Old(WrongSize)` if the old disk doesn't have a
-/// store's size; `New(WrongSize)` if the new one doesn't; `Memory`; the other faults of
-/// [`Book::recover`](run_book::Book::recover), as `Old`; `Old(NumbersSpent)` if there were 2^62
-/// events or more; `Memory` once more; `New(WrongSize)` if what is left doesn't fit in the new
-/// store; and `New(DiskFailed)` if a call of the new disk failed: then the new disk may hold no
+/// store's size; `New(WrongSize)` if the new one doesn't; `Memory` if a state or an image is
+/// refused its room; the other faults of [`Book::recover`](run_book::Book::recover), as `Old`;
+/// `Old(NumbersSpent)` if the old store has 2^62 events or more; `Memory` if the marks of what is
+/// kept are refused theirs, two bytes a row; `New(WrongSize)` if what is kept doesn't fit in the
+/// new store; and `New(DiskFailed)` if a call of the new disk failed: then the new disk may hold no
 /// store. The new disk is handed back at each fault, and was called at the last one alone. If it
 /// held zeros, a renewal that stops leaves nothing stored in it, or the new store.
 pub fn renew<D: RunDisk, E: RunDisk, A: Allocator + Copy>(
