@@ -236,7 +236,7 @@ module _ {D : Type 0} (state : D → DiskState) (disk : (d : D) → IsDisk (stat
       → LeavesOnly (StoresNothingOr (renewed_in layout p)) (state made) (state left)
   renew_leaves looked made read left p layout (Ok kept) lies honest zeros sized has =
       let seen = recovered_lies has.before.0 p looked has.seen lies has.before.1 in
-      let leaves = has.renewed.any_moment seen.honest p seen.stores honest zeros layout sized in
+      let leaves = has.renewed.any_moment seen.honest p seen.stores layout sized honest zeros in
       then_read (StoresNothingOr (renewed_in layout p)) made has.made left leaves
       (has.behind.1.read.only (has.renewed.answer.written.passed.honest honest))
   renew_leaves looked made read left p layout (Err fault) lies honest zeros sized
@@ -246,10 +246,10 @@ module _ {D : Type 0} (state : D → DiskState) (disk : (d : D) → IsDisk (stat
   renew_leaves looked made read left p layout (Err fault) lies honest zeros sized
       (inr (q, seen, recovered, inl renews)) =
       let old = recovered_lies q p looked seen lies recovered in
-      renews.any_moment old.honest p old.stores honest zeros layout sized
+      renews.any_moment old.honest p old.stores layout sized honest zeros
   renew_leaves looked made read left p layout (Err fault) lies honest zeros sized
       (inr (q, seen, recovered, inr (new, why, told, renews, none))) =
       let old = recovered_lies q p looked seen lies recovered in
-      let leaves = renews.any_moment old.honest p old.stores honest zeros layout sized in
+      let leaves = renews.any_moment old.honest p old.stores layout sized honest zeros in
       then_read (StoresNothingOr (renewed_in layout p)) made new left leaves
       ((none_alone why new left none).reads (renews.answer.written.passed.honest honest))
